@@ -1,26 +1,26 @@
 -- Runs, one after another, and what a run's steps come to.
-use Rattle.std.proofs.Common.{rules, ◌≡◌, ℕ, Bool, List, [], ◌∷◌, ◌++◌, Option, Result, Ok, Err, refl, ap, sym, ◌∙◌, subst, inl, append_assoc, append-nil, flat_map, filter_map}
+use Rattle.std.proofs.Common.{rules, ◌≡◌, ℕ, Bool, List, [], ◌∷◌, ◌++◌, Option, Result, Ok, Err, refl, ap, sym, ◌∙◌, subst, append_assoc, append-nil, flat_map, filter_map}
 use Rattle.std.proofs.lemmas.Grind.{flat_map-append}
 use Rattle.std.proofs.lemmas.List.Elements.{filter_map-append}
-use Rattle.sum_sources.specs.Contents.{IfKnown, SourceState}
-use Rattle.sum_sources.proofs.KnownLemmas.{IfKnown-map}
+use Rattle.sum_sources.specs.Contents.{SourceState}
 use Rattle.digest_kinds.specs.Limits.{one_more}
-use Rattle.sum_engine.specs.Execution.{Stop, Memory, Write, StreamsState, KnownState, known_world, known_state, Happened, PerformsSteps, Performs}
+use Rattle.sum_engine.specs.Execution.{Stop, Memory, Write, StreamsState, WorldState, in_world, InSomeWorld, AskedMore, Happened, PerformsSteps, Performs}
 use Rattle.sum_engine.specs.Behavior.{World, Event, Step, Behavior, trace, events_of, single_step}
 use Rattle.sum_engine.specs.check.CheckerSteps.{step_then}
 use Rattle.sum_engine.specs.check.CheckerLaws.{EventsExtend}
 use Rattle.sum_engine.specs.refinement.FlushedWrites.{WritesAndFlushesBoth}
-use Rattle.sum_engine.proofs.ExecutionLemmas.{Asks, Writing, answered, step_performed, names-by, err-by, out-by, did_nothing, did_both, came_by, known_refused}
+use Rattle.sum_engine.proofs.ExecutionLemmas.{Asks, Writing, answered, step_performed, names-by, err-by, out-by, did_nothing, did_both, came_by, refused_in}
+use Rattle.sum_engine.proofs.WorldLemmas.{InSomeWorld-map}
 
 -- ---- a behavior after a step, and one behavior after another
 
 -- both happened
-pub behavior_then-did : {a b c : KnownState} (r s : List Step) → Happened a b (trace r) → Happened b c (trace s)
+pub behavior_then-did : {a b c : WorldState} (r s : List Step) → Happened a b (trace r) → Happened b c (trace s)
     → Happened a c (trace (r ++ s))
 behavior_then-did r s h k = rw (flat_map-append events_of r s) (did_both (trace r) (trace s) h k)
 
 -- the first happened, and the second stopped
-pub behavior_then-second : {A B : Type 0} {a b : KnownState} (c : KnownState) (x : A) (y : B) (r s : List Step)
+pub behavior_then-second : {A B : Type 0} {a b : WorldState} (c : WorldState) (x : A) (y : B) (r s : List Step)
     (stop : Stop)
     → Happened a b (trace r) → PerformsSteps s y b c (Err stop) → PerformsSteps (r ++ s) x a c (Err stop)
 behavior_then-second c x y r s Write h k =
@@ -36,13 +36,13 @@ behavior_then-second c x y r s Memory h k = record {
 }
 
 -- the first stopped
-pub behavior_then-first : {A B : Type 0} (a b : KnownState) (x : A) (y : B) (r s : List Step) (stop : Stop)
+pub behavior_then-first : {A B : Type 0} (a b : WorldState) (x : A) (y : B) (r s : List Step) (stop : Stop)
     → PerformsSteps r y a b (Err stop) → PerformsSteps (r ++ s) x a b (Err stop)
 behavior_then-first a b x y r s Write h = (h.0, (h.1.0 ++ trace s, search (rules, flat_map-append, append_assoc)), h.2)
 behavior_then-first a b x y r s Memory h = search (rules, append_assoc)
 
 -- a behavior after its first step, which happened
-pub behind_step : {A : Type 0} {a b : KnownState} (c : KnownState) (x : A) (s : Step) (r : List Step)
+pub behind_step : {A : Type 0} {a b : WorldState} (c : WorldState) (x : A) (s : Step) (r : List Step)
     (y : Result A Stop)
     → Happened a b (events_of s) → PerformsSteps r x b c y → PerformsSteps (s ∷ r) x a c y
 behind_step c x s r (Ok good) h k = (k.0, did_both (events_of s) (trace r) h k.1)
@@ -51,14 +51,14 @@ behind_step c x s r (Err stop) h k = behavior_then-second c x x (s ∷ []) r sto
 -- ---- along a run
 
 -- of the whole run all happened but what is left
-pub record Along (whole left : Behavior) (a b : KnownState) : Type 0 where
+pub record Along (whole left : Behavior) (a b : WorldState) : Type 0 where
   pub done : List Step
   pub steps : whole.steps ≡ done ++ left.steps
   pub good : left.good ≡ whole.good
   pub did : Happened a b (trace done)
 
 -- one step more happened
-pub along_more : {a b c : KnownState} {whole left : Behavior} (step : Step) (later : Behavior) → Along whole left a b
+pub along_more : {a b c : WorldState} {whole left : Behavior} (step : Step) (later : Behavior) → Along whole left a b
     → left ≡ step_then step later → Happened b c (trace (step ∷ [])) → Along whole later a c
 along_more step later h is k = record {
   done = h.done ++ step ∷ [];
@@ -68,12 +68,12 @@ along_more step later h is k = record {
 }
 
 -- no step is left: all happened
-pub along_end : {a b : KnownState} {whole left : Behavior} → Along whole left a b → left.steps ≡ []
+pub along_end : {a b : WorldState} {whole left : Behavior} → Along whole left a b → left.steps ≡ []
     → (left.good ≡ whole.good) × Happened a b (trace whole.steps)
 along_end h none = (h.good, rw (h.steps, none, append-nil h.done) h.did)
 
 -- the next step stopped
-pub along_stops : {A B : Type 0} {a b : KnownState} {whole left : Behavior} (c : KnownState) (x : A) (y : B)
+pub along_stops : {A B : Type 0} {a b : WorldState} {whole left : Behavior} (c : WorldState) (x : A) (y : B)
     (step : Step) (later : Behavior) (stop : Stop) → Along whole left a b → left ≡ step_then step later
     → PerformsSteps (step ∷ []) y b c (Err stop) → PerformsSteps whole.steps x a c (Err stop)
 along_stops {a = a} {b = b} c x y step later stop h is k =
@@ -87,36 +87,34 @@ along_stops {a = a} {b = b} c x y step later stop h is k =
 -- the step was done, or a prefix of it
 pub once : {S A : Type 0} (state : S → SourceState) (run : World → Behavior) (names : List (List ℕ)) (err out : List ℕ)
     (good : Bool) (answer : Bool → A) (a b : StreamsState S) {P : World → World → Type 0} (x : Writing)
-    → IfKnown (known_world state a.inputs) (known_world state b.inputs) P
+    → InSomeWorld state a.inputs b.inputs P
     → ((w v : World) → P w v → (run w ≡ single_step names err out good)
-    × Asks (known_state state a w) (known_state state b v) names)
+    × Asks (in_world state a w) (in_world state b v) names)
     → WritesAndFlushesBoth a.outputs b.outputs err out x
     → Performs state run answer a b (answered x (answer good))
-once state run names err out good answer a b x h is wrote = λ flushed.
-    IfKnown-map (known_world state a.inputs) (known_world state b.inputs) (λ w v p. rw (is w v p).0
-    (step_performed (answer good) (known_state state a w) (known_state state b v) _ x
-    (came_by _ _ names err out x (is w v p).1 (wrote.1 flushed).1))) h
+once state run names err out good answer a b x h is wrote = λ flushed. InSomeWorld-map h (λ w v p.
+    rw (is w v p).0 (step_performed (answer good) (in_world state a w) (in_world state b v) _ x
+    (came_by _ _ names err out x (is w v p).1 (wrote.1 flushed).1)))
 
 -- the source had no memory to open the first step's name
 pub unasked : {S A : Type 0} (state : S → SourceState) (run : World → Behavior) (answer : Bool → A)
     (a b : StreamsState S)
     → ((w : World) → (s : Step) × (rest : List Step) × ((run w).steps ≡ s ∷ rest))
-    → IfKnown (known_world state a.inputs) (known_world state b.inputs) (λ w v. v ≡ w)
-    → b.inputs.stdin_taken ≡ a.inputs.stdin_taken → b.outputs ≡ a.outputs
-    → (state b.inputs.source).refusals ≡ one_more (state a.inputs.source).refusals
+    → InSomeWorld state a.inputs b.inputs (λ w v. v ≡ w)
+    → AskedMore (state a.inputs.source) (state b.inputs.source) [] → b.inputs.stdin_taken ≡ a.inputs.stdin_taken
+    → b.outputs ≡ a.outputs → (state b.inputs.source).refusals ≡ one_more (state a.inputs.source).refusals
     → Performs state run answer a b (Err Memory)
-unasked state run answer a b first same taken outputs refusals = λ flushed.
-    IfKnown-map (known_world state a.inputs) (known_world state b.inputs) (λ w v refused.
+unasked state run answer a b first same asked taken outputs refusals = λ flushed. InSomeWorld-map same (λ w v is.
     let next = first w in
     record {
       done = [];
       next = next.0;
       later = next.1;
-      between = known_state state a w;
+      between = in_world state a w;
       are = next.2;
-      happened = did_nothing (known_state state a w);
-      refused = inl refused;
-    }) (known_refused state a b same taken outputs refusals)
+      happened = did_nothing (in_world state a w);
+      refused = refused_in state a b w v next.0 is asked taken outputs refusals;
+    })
 
 -- ---- what a run's events come to
 

@@ -1,28 +1,28 @@
 -- `check_one`: a new checker that runs to its end, by induction on its steps, after its manifest was opened.
-use Rattle.std.proofs.Common.{rules, ◌++◌, ◌≡◌, ℕ, Bool, true, false, List, [], ◌∷◌, Option, None, Some, Result, Ok, Err, cond, refl, ap, sym, ◌∙◌, subst, codes, option_map, IfSome}
+use Rattle.std.proofs.Common.{rules, ◌++◌, ◌+◌, ◌<◌, ◌≡◌, ◌||◌, ℕ, Bool, true, false, List, [], ◌∷◌, length, Option, None, Some, Result, Ok, Err, cond, refl, ap, sym, ◌∙◌, subst, codes, option_map, IfSome, MatchOption, arith}
+use Rattle.std.proofs.KnownBytes.{Appends-nil}
 use Rattle.std.proofs.Math.Bool.{or-false}
 use Rattle.sum_engine.specs.Behavior.{Fault, World, is_dash, reply, after, Step, Behavior, events_of}
 use Rattle.sum_sources.specs.declared.sources.source.OpenFault.{OpenFault}
-use Rattle.sum_sources.specs.Contents.{Content, InputState, IfKnown, clip, SourceState, Reply, closed_state}
+use Rattle.sum_sources.specs.Contents.{Content, InputState, IfKnown, OpenOf, clip, limit, SourceState, Reply, closed_state}
 use Rattle.digest_kinds.specs.Limits.{one_more}
 use Rattle.sum_lines.specs.Escape.{present}
-use Rattle.sum_engine.specs.check.CheckerSteps.{Progress, Going, Ended, CheckState, initial_state, IsAtStart, StepIs, PerformsStep, step_then, progress_before, remaining_behavior, CursorValue, state_at, check_state}
-use Rattle.sum_sources.specs.LineReaders.{remaining_content}
-use Rattle.sum_lines.specs.grammar.LineParts.{◌>>=◌}
+use Rattle.sum_engine.specs.check.CheckerSteps.{Progress, Going, Ended, CheckState, initial_state, IsAtStart, StepIs, PerformsStep, step_then, progress_before, remaining_behavior, CursorValue, state_at, InSomeCheck}
+use Rattle.sum_sources.specs.LineReaders.{MayRemain, Bounded, consumed}
+use Rattle.sum_sources.proofs.ContentLemmas.{clip-short, limit-value}
 use Rattle.sum_engine.specs.check.CheckerLaws.{ManifestPerforms}
 use Rattle.sum_engine.specs.check.Verdicts.{Rules, all_verdicts}
-use Rattle.sum_engine.specs.Execution.{Phase, Reading, Stop, Memory, InputsState, OutputsState, StreamsState, KeepsStdin, IsFlushed, KnownState, known_world, known_state, IfWorldKnown, Happened, PerformsSteps, Performs}
+use Rattle.sum_engine.specs.Execution.{Phase, Reading, Stop, Memory, InputsState, OutputsState, StreamsState, KeepsStdin, IsFlushed, WorldState, in_world, InSomeWorld, AskedMore, Happened, PerformsSteps, Performs}
 use Rattle.sum_sources.specs.LineReaders.{IsReadSoFar}
 use Rattle.sum_engine.specs.refinement.FlushedWrites.{WritesAndFlushesBoth}
 use Rattle.sum_engine.specs.Generation.{fault_line}
 use Rattle.sum_engine.specs.check.Reports.{LabelsValue}
 use Rattle.sum_engine.proofs.CountLemmas.{counts_then-none}
 use Rattle.sum_engine.specs.check.Checking.{CheckSettings, rules_of, labels_of, content_behavior, check_behavior_by, check_behavior}
-use Rattle.sum_engine.proofs.ExecutionLemmas.{Writing, answered, did_nothing, same_known, names-by}
-use Rattle.sum_sources.proofs.KnownLemmas.{IfKnown-map, IfKnown-then}
-use Rattle.sum_engine.specs.refinement.Openings.{stdin_taken_from, Opens}
-use Rattle.sum_engine.proofs.ReadToEndLemmas.{known-closed}
-use Rattle.sum_engine.proofs.StepLemmas.{known_world-made}
+use Rattle.sum_engine.proofs.ExecutionLemmas.{Writing, answered, did_nothing, did_by, IsKept, kept_performs}
+use Rattle.sum_engine.specs.refinement.Openings.{stdin_taken_from}
+use Rattle.sum_engine.proofs.StepLemmas.{InSomeCheck-map, InSomeCheck-then, some_remains}
+use Rattle.sum_engine.proofs.WorldLemmas.{asked_none, dash_asked, file_asked, opened_file, opened_fault, opened_nothing, stdin_given, may-closed}
 use Rattle.sum_engine.proofs.BehaviorLemmas.{once, unasked, Along, along_more, along_end, along_stops, behind_step}
 use Rattle.sum_sources.specs.declared.sources.source.OpenFault.TheVariants as open_faults
 
@@ -45,7 +45,7 @@ ends (Err stop) = Err stop
 
 -- a step of a manifest that goes on: it happened, and the others remain
 along_going : (r : Rules) (labels : LabelsValue) (vector : List ℕ) (b d : CheckState) {whole : Behavior}
-    {s t : KnownState} (z : KnownState) → Along whole (remaining_behavior r labels b) s t
+    {s t : WorldState} (z : WorldState) → Along whole (remaining_behavior r labels b) s t
     → StepIs r labels vector b d t z (Ok Going) → Along whole (remaining_behavior r labels d) s z
 along_going r labels vector b d {whole = whole} {s = s} z h step = subst (λ later. Along whole later s z)
     (step.going refl).0 (along_more step.step step.later h step.is step.performs.1)
@@ -57,7 +57,7 @@ none_left [] all good h = search rules
 none_left (s ∷ steps) all good h = cc
 
 -- the last step was performed: the whole behavior, if all before it was
-pub along_last : {whole left : Behavior} {a b : KnownState} (c : KnownState) (step : Step) (later : Behavior)
+pub along_last : {whole left : Behavior} {a b : WorldState} (c : WorldState) (step : Step) (later : Behavior)
     (x : Result Bool Stop) → Along whole left a b → left ≡ step_then step later
     → PerformsSteps (step ∷ []) (progress_before later) b c (ends x)
     → PerformsSteps whole.steps whole.good a c x
@@ -72,75 +72,98 @@ along_last {whole} c step later (Err stop) h is k =
 abbrev pub manifest_behavior : Rules → LabelsValue → Content → World → Behavior
 manifest_behavior r labels c w = content_behavior r labels c (all_verdicts r w c)
 
+-- what may remain at the start is what counts of some content, the known one if it is known
+whole_content : {I : Type 0} (input : I → InputState) (p : CursorValue I) (manifest : I) (c : Content)
+    → IsAtStart input p manifest → MayRemain input p.reader c
+    → (k : Content) × IfSome (input manifest).content (λ d. k ≡ d) × (clip k ≡ c)
+whole_content input p manifest c start may = by (input manifest).content (rw start.remaining at may)
+  where
+    by : (known : Option Content)
+        → MatchOption (option_map clip known) (consumed p.reader + length c.bytes < limit) (λ d. c ≡ d)
+        → (k : Content) × IfSome known (λ d. k ≡ d) × (clip k ≡ c)
+    by None few = (c, tt, clip-short c (omega (arith, few, limit-value)))
+    by (Some k) is = (k, refl, sym is)
+
 -- by these rules and labels, from the place p and the streams m
 module _ {I S : Type 0} (input : I → InputState) (state : S → SourceState) (r : Rules) (labels : LabelsValue)
     (p : CursorValue I) (m : StreamsState S) where
-  -- P holds between the state there and that at another place and streams, if both outputs were flushed and all is known
+  -- P holds between the state there and that at another place and streams, if both outputs were flushed
   abbrev Leads : CursorValue I → StreamsState S → (CheckState → CheckState → Type 0) → Type 0
-  Leads q n P = IsFlushed m.outputs → IfKnown (check_state input p (known_world state m.inputs))
-      (check_state input q (known_world state n.inputs)) P
+  Leads q n P = IsFlushed m.outputs → InSomeCheck input state p q m.inputs n.inputs P
 
   -- the check came so far
   abbrev pub Comes : CursorValue I → StreamsState S → Type 0
   Comes q n = Leads q n (λ a b. Along (remaining_behavior r labels a) (remaining_behavior r labels b)
-      (known_state state m a.world) (known_state state n b.world))
+      (in_world state m a.world) (in_world state n b.world))
 
   -- it begins so
   pub comes_none : Comes p m
-  comes_none = λ flushed. let here = check_state input p (known_world state m.inputs) in
-      IfKnown-map here here (λ a b same. rw same (record {
+  comes_none = λ flushed. record {
+    before = λ d v may fits. (
+      d,
+      v,
+      may,
+      fits,
+      record {
         done = [];
         steps = refl;
         good = refl;
-        did = did_nothing (known_state state m a.world);
-      })) (same_known here)
+        did = did_nothing (in_world state m v);
+      },
+    );
+  }
 
   -- a step by the same rules and labels that goes on comes one line further
   pub comes_more : (own : LabelsValue) (q next : CursorValue I) (n o : StreamsState S) (vector : List ℕ) → q.rules ≡ r
       → own ≡ labels → Comes q n → (IsFlushed m.outputs → IsFlushed n.outputs)
       → PerformsStep input state vector own q next n o (Ok Going) → Comes next o
-  comes_more own q next n o vector is same h kept step = λ flushed. IfKnown-then
-      (check_state input p (known_world state m.inputs)) (check_state input q (known_world state n.inputs))
-      (check_state input next (known_world state o.inputs))
-      (λ a b d along step. along_going r labels vector b d (known_state state o d.world) along step)
-      (h flushed) (rw (is, same) at (step (kept flushed)))
+  comes_more own q next n o vector is same h kept step = λ flushed.
+      let more : InSomeCheck input state q next n.inputs o.inputs (λ b d.
+      StepIs r labels vector b d (in_world state n b.world) (in_world state o d.world) (Ok Going)) =
+      InSomeCheck-map (step (kept flushed)) (λ b d w v one. rw (is, same) at one) in
+      InSomeCheck-then (h flushed) more
+      (λ a b d along step. along_going r labels vector b d (in_world state o d.world) along step)
 
   -- the whole behavior of a place at the start is that of its manifest
   whole_manifest : (manifest : I) (q : CursorValue I) (o : StreamsState S) (x : Result Bool Stop)
-      → IsAtStart input p manifest → Leads q o (λ a b. let all = remaining_behavior r labels a in
-      PerformsSteps all.steps all.good (known_state state m a.world) (known_state state o b.world) x)
-      → ManifestPerforms state r labels (option_map clip (input manifest).content) m o x
-  whole_manifest manifest q o x start h = rw (← start.remaining) (by (remaining_content input p.reader) refl)
+      → IsAtStart input p manifest → Bounded q.reader → Leads q o (λ a b. let all = remaining_behavior r labels a in
+      PerformsSteps all.steps all.good (in_world state m a.world) (in_world state o b.world) x)
+      → ManifestPerforms state r labels (input manifest).content m o x
+  whole_manifest manifest q o x start bounds h = λ flushed. record {
+    before = λ v fits.
+        let left = some_remains input q.reader bounds in
+        let some = (h flushed).before left.0 v left.1 fits in
+        let whole = whole_content input p manifest some.0 start some.2 in (
+          some.1,
+          some.3,
+          (
+            whole.0,
+            whole.1,
+            subst (λ c. let all = manifest_behavior r labels c some.1 in
+                PerformsSteps all.steps all.good (in_world state m some.1) (in_world state o v) x) (sym whole.2)
+                (subst (λ (all : Behavior). PerformsSteps all.steps all.good (in_world state m some.1) (in_world state o v) x)
+                (initial some.0 some.1) some.4),
+          ),
+        );
+  }
     where
       initial : (c : Content) (w : World) → remaining_behavior r labels (state_at p c w) ≡ manifest_behavior r labels c w
-      initial c w = search (rules, remaining-initial)
-
-      known_by : (c : Content) (w : Option World) → IfKnown (w >>= λ w. Some (state_at p c w))
-          (check_state input q (known_world state o.inputs)) (λ a b. let all = remaining_behavior r labels a in
-          PerformsSteps all.steps all.good (known_state state m a.world) (known_state state o b.world) x)
-          → IfKnown w (known_world state o.inputs) (λ w z. let all = manifest_behavior r labels c w in
-          PerformsSteps all.steps all.good (known_state state m w) (known_state state o z) x)
-      known_by c None h = tt
-      known_by c (Some w) h = known_world-made input q (known_world state o.inputs) (state_at p c w) w _ _ h
-          (λ d z done. subst (λ (all : Behavior).
-          PerformsSteps all.steps all.good (known_state state m w) (known_state state o z) x) (initial c w) done)
-
-      by : (c : Option Content) → remaining_content input p.reader ≡ c → ManifestPerforms state r labels c m o x
-      by None is = tt
-      by (Some c) is = λ flushed. known_by c (known_world state m.inputs) (rw is at (h flushed))
+      initial c w = search (rules, start, remaining-initial)
 
   -- the step that ends completes the manifest's behavior; one that stops leaves a prefix of it after a write fault, and
   -- whole steps if memory ran out
   pub comes_last : (own : LabelsValue) (manifest : I) (q last : CursorValue I) (n o : StreamsState S) (vector : List ℕ)
       (x : Result Bool Stop) → IsAtStart input p manifest → q.rules ≡ r → own ≡ labels → Comes q n
-      → (IsFlushed m.outputs → IsFlushed n.outputs) → PerformsStep input state vector own q last n o (ends x)
-      → ManifestPerforms state r labels (option_map clip (input manifest).content) m o x
-  comes_last own manifest q last n o vector x start is same h kept step =
-      whole_manifest manifest last o x start (λ flushed. IfKnown-then
-      (check_state input p (known_world state m.inputs)) (check_state input q (known_world state n.inputs))
-      (check_state input last (known_world state o.inputs))
-      (λ a b d along step. along_last (known_state state o d.world) step.step step.later x along step.is step.performs)
-      (h flushed) (rw (is, same) at (step (kept flushed))))
+      → (IsFlushed m.outputs → IsFlushed n.outputs) → Bounded last.reader
+      → PerformsStep input state vector own q last n o (ends x)
+      → ManifestPerforms state r labels (input manifest).content m o x
+  comes_last own manifest q last n o vector x start is same h kept bounds step =
+      whole_manifest manifest last o x start bounds (λ flushed.
+      let ended : InSomeCheck input state q last n.inputs o.inputs (λ b d.
+      StepIs r labels vector b d (in_world state n b.world) (in_world state o d.world) (ends x)) =
+      InSomeCheck-map (step (kept flushed)) (λ b d w v one. rw (is, same) at one) in
+      InSomeCheck-then (h flushed) ended
+      (λ a b d along step. along_last (in_world state o d.world) step.step step.later x along step.is step.performs))
 
 -- ---- a manifest that was opened
 
@@ -166,96 +189,107 @@ module _ {S : Type 0} (state : S → SourceState) (settings : CheckSettings) (to
     abbrev from_inputs : InputsState S → StreamsState S
     from_inputs inputs = record a { inputs = inputs }
 
-    -- the name was asked, which has that content, and nothing else was done
-    abbrev IsOpened : Option Content → KnownState → KnownState → Type 0
-    IsOpened c s t =
-        (d : Content) × (c ≡ Some d) × (reply s.world name ≡ Ok d) × Happened s t (events_of (opening name))
+    -- the name was asked, and nothing else was done
+    record IsAsked (m : InputsState S) : Type 0 where
+      pub asked : AskedMore (state a.inputs.source) (state m.source) (name ∷ [])
+      pub taken : m.stdin_taken ≡ a.inputs.stdin_taken || is_dash name
+      pub refusals : (state m.source).refusals ≡ (state a.inputs.source).refusals
 
-    -- after that, what the checker does is what the call does, if source, standard input and manifest are known; of the
-    -- last state the same is known as of the checker's
-    opened : (dash : Bool) (c : Option Content) (inputs : InputsState S) (b last : StreamsState S) (x : Result Bool Stop)
-        → is_dash name ≡ dash
-        → known_world state last.inputs ≡ known_world state b.inputs
-        → ((w : World) → known_state state last w ≡ known_state state b w)
-        → IfWorldKnown state a (from_inputs inputs) (IsOpened c)
-        → ManifestPerforms state (rules_if dash) (labels_if dash) (option_map clip c) (from_inputs inputs) b x → Performed last x
-    opened dash c inputs b last x is world same h run = λ flushed. rw world
-        (by (known_world state a.inputs) (known_world state inputs) (known_world state b.inputs) h
-        (apply c run flushed))
-      where
-        -- the checker's run, as both outputs are flushed
-        apply : (c : Option Content)
-            → ManifestPerforms state (rules_if dash) (labels_if dash) (option_map clip c) (from_inputs inputs) b x
-            → IsFlushed a.outputs → IfSome (option_map clip c) (λ c. IfWorldKnown state (from_inputs inputs) b (λ t z.
-            let all = manifest_behavior (rules_if dash) (labels_if dash) c t.world in
-            PerformsSteps all.steps all.good t z x))
-        apply None run flushed = tt
-        apply (Some c) run flushed = run flushed
+    -- inputs after a file was closed, or standard input put back
+    record IsClosed (b n : InputsState S) : Type 0 where
+      pub world : InSomeWorld state b n (λ w v. v ≡ w)
+      pub known : (state n.source).known ≡ (state b.source).known
+      pub refusals : (state n.source).refusals ≡ (state b.source).refusals
+      pub taken : n.stdin_taken ≡ b.stdin_taken
 
-        by : (s t z : Option World)
-            → IfKnown s t (λ w v. IsOpened c (known_state state a w) (known_state state (from_inputs inputs) v))
-            → IfSome (option_map clip c) (λ c. IfKnown t z (λ v z.
-            let all = manifest_behavior (rules_if dash) (labels_if dash) c v in
-            PerformsSteps all.steps all.good (known_state state (from_inputs inputs) v) (known_state state b z) x))
-            → IfKnown s z (λ w z. let all = check_behavior settings tool w name in
-            PerformsSteps all.steps all.good (known_state state a w) (known_state state last z) x)
-        by None t z h run = tt
-        by (Some w) None z h run = absurd h
-        by (Some w) (Some v) None h run = absurd (rw h.1 at run)
-        by (Some w) (Some v) (Some z) h run =
-            let of : World → Behavior = manifest_behavior (rules_of settings name) (labels_of settings tool name)
-            (clip h.0) in
-            let later : World = after w (name ∷ []) in
-            let end = known_state state b z in
-            let world : v ≡ later = rw (names-by (name ∷ []) [] []) at h.3.world in
-            let rest = subst (λ w. PerformsSteps (of w).steps (of w).good (known_state state (from_inputs inputs) v) end x) world
-            (rw (← is, h.1) at run) in
-            let all = check_behavior settings tool w name in
-            subst (λ end. PerformsSteps all.steps all.good (known_state state a w) end x) (sym (same z)) (
-            rw h.2 (behind_step end (of later).good (opening name) (of later).steps x h.3 rest))
+    -- after that, what the checker does is what the call does, in some world
+    opened : (dash : Bool) (known : Option Content) (m : InputsState S) (b : StreamsState S) (n : InputsState S)
+        (x : Result Bool Stop) → is_dash name ≡ dash
+        → ((c : Content) → IfSome known (λ d. c ≡ d)
+        → InSomeWorld state a.inputs m (λ w v. (v ≡ after w (name ∷ [])) × (reply w name ≡ Ok c)))
+        → IsAsked m → ManifestPerforms state (rules_if dash) (labels_if dash) known (from_inputs m) b x
+        → IsClosed b.inputs n → Performed (record b { inputs = n }) x
+    opened dash known m b n x is answer asked run closed = λ flushed. record {
+      before = λ v fits.
+          let end = closed.world.before v fits in
+          let ran = (run flushed).before end.0 end.1 in
+          let c = ran.2.0 in
+          let first = (answer c ran.2.1).before ran.0 ran.1 in
+          let w = first.0 in
+          let of : World → Behavior = manifest_behavior (rules_of settings name) (labels_of settings tool name) (clip c) in
+          let all = check_behavior settings tool w name in
+          let last = in_world state (record b { inputs = n }) v in
+          let kept : IsKept (in_world state b end.0) last = record {
+            world = end.2;
+            known = closed.known;
+            refusals = closed.refusals;
+            taken = closed.taken;
+            outputs = refl;
+          } in
+          let ended = kept_performs (of ran.0).steps (of ran.0).good (in_world state (from_inputs m) ran.0)
+          (in_world state b end.0) last x kept (rw (← is) at ran.2.2) in
+          let did : Happened (in_world state a w) (in_world state (from_inputs m) ran.0) (events_of (opening name)) =
+          did_by (name ∷ []) [] [] (search (rules, or-false, asked, first.2.0)) (Appends-nil _) (Appends-nil _) in (
+            w,
+            first.1,
+            rw (first.2.1, ← first.2.0) (behind_step last (of ran.0).good (opening name) (of ran.0).steps x did
+                ended),
+          );
+    }
 
     -- the manifest is standard input, which is taken, and put back
     pub check_dash : (b : StreamsState S) (p : Option Phase) (x : Result Bool Stop) → is_dash name ≡ true
-        → ManifestPerforms state (rules_if true) (labels_if true) (option_map clip a.inputs.input)
+        → ManifestPerforms state (rules_if true) (labels_if true) a.inputs.input
         (from_inputs (stdin_taken_from a.inputs)) b x
         → Performed (record b { inputs = record b.inputs { stdin_phase = p } }) x
     check_dash b p x dash run = opened true a.inputs.input (stdin_taken_from a.inputs) b
-        (record b { inputs = record b.inputs { stdin_phase = p } }) x dash refl (λ w. refl) (search rules) run
+        (record b.inputs { stdin_phase = p }) x dash (stdin_given state a.inputs name dash)
+        (record { asked = search (rules, dash_asked); taken = search rules; refusals = refl }) run (record {
+          world = record { before = λ v fits. (v, fits, refl) };
+          known = refl;
+          refusals = refl;
+          taken = refl;
+        })
 
     -- the source was asked to open the manifest
     module _ {F : Type 0} (content : F → InputState) (m : InputsState S) (kept : KeepsStdin a.inputs m) where
       abbrev IsAnswer : Result F OpenFault → Type 0
-      IsAnswer x = IfKnown (known_world state a.inputs) (known_world state m) (λ w v. Opens content w v name x)
+      IsAnswer x = IfKnown (state a.inputs.source).known (state m.source).known (λ s t. OpenOf content s t name x)
 
       -- it is a file, which is closed
       pub check_file : (b : StreamsState S) (n : InputsState S) (p : Phase) (file : F) (x : Result Bool Stop)
           → is_dash name ≡ false → IsAnswer (Ok file) → (state m.source).refusals ≡ (state a.inputs.source).refusals
-          → ManifestPerforms state (rules_if false) (labels_if false) (option_map clip (content file).content)
-          (from_inputs m) b x
+          → ManifestPerforms state (rules_if false) (labels_if false) (content file).content (from_inputs m) b x
           → KeepsStdin b.inputs n → state n.source ≡ closed_state (state b.inputs.source) p
           → Performed (record b { inputs = n }) x
-      check_file b n p file x dash h refusals run stays closed =
-          let same = known-closed state b.inputs n p stays closed in
-          let taken = ap (λ (m : InputsState S). m.stdin_taken) stays in
-          opened false (content file).content m b (record b { inputs = n }) x dash same.0
-          (λ w. rw (same.1, taken) refl) (search rules) run
+      check_file b n p file x is_file h refusals run stays closed =
+          opened false (content file).content m b n x is_file
+          (λ c may. opened_file state a.inputs m kept content name file c is_file may h)
+          (record { asked = search (rules, file_asked); taken = search (rules, or-false); refusals = refusals }) run (record {
+            world = may-closed state b.inputs n p stays closed;
+            known = search rules;
+            refusals = search rules;
+            taken = ap (λ (m : InputsState S). m.stdin_taken) stays;
+          })
 
       -- it could not be opened, and the line of its fault was written, or a prefix of it
       pub refused : (f : Fault) (outputs : OutputsState) (x : Writing) → is_dash name ≡ false
           → IsAnswer (Err (open_faults.Fault f)) → (state m.source).refusals ≡ (state a.inputs.source).refusals
           → WritesAndFlushesBoth a.outputs outputs (fault_line present tool name f) [] x
           → Performed (record a { inputs = m; outputs = outputs }) (answered x false)
-      refused f outputs x dash h refusals writes =
+      refused f outputs x is_file h refusals writes =
           once state (λ w. check_behavior settings tool w name) (name ∷ []) (fault_line present tool name f) [] false
-          (λ g. g) a (record a { inputs = m; outputs = outputs }) x h
-          (λ w v is. (rw (dash, is.1) refl, search (rules, or-false))) writes
+          (λ g. g) a (record a { inputs = m; outputs = outputs }) x
+          (opened_fault state a.inputs m kept content name f is_file h)
+          (λ w v is. (rw (is.1, is_file) refl, search (rules, or-false, file_asked))) writes
 
       -- there was no memory to open it
       pub no_room : IsAnswer (Err open_faults.Memory)
           → (state m.source).refusals ≡ one_more (state a.inputs.source).refusals → Performed (from_inputs m) (Err Memory)
       no_room h refused =
           unasked state (λ w. check_behavior settings tool w name) (λ g. g) a (from_inputs m)
-          (λ w. begins (after w (name ∷ [])) (reply w name)) h (ap (λ (m : InputsState S). m.stdin_taken) kept) refl refused
+          (λ w. begins (after w (name ∷ [])) (reply w name)) (opened_nothing state a.inputs m kept h)
+          (search (rules, asked_none)) (ap (λ (m : InputsState S). m.stdin_taken) kept) refl refused
         where
           -- checking begins with a step
           begins : (w : World) (reply : Reply) → (next : Step) × (rest : List Step) × ((check_behavior_by

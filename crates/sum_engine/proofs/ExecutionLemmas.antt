@@ -1,4 +1,4 @@
--- What happened from one state to another, one event after another; and states of streams that are known or not.
+-- What happened from one state to another, one event after another.
 use Rattle.std.proofs.Common.{rules, ◌≡◌, ℕ, ◌||◌, List, [], ◌∷◌, ◌++◌, map, Option, None, Some, Result, Ok, Err, refl, ap, ◌∙◌, inl, inr, append_assoc, append-nil, filter_map}
 use Rattle.std.specs.List.{list_any}
 use Rattle.std.specs.Io.KnownBytes.{Appends}
@@ -7,13 +7,13 @@ use Rattle.std.proofs.Math.Bool.{or_assoc}
 use Rattle.std.proofs.lemmas.List.{map-append}
 use Rattle.std.proofs.lemmas.List.Elements.{filter_map-append}
 use Rattle.std.proofs.lemmas.List.Folds.{list_any-append}
-use Rattle.sum_sources.specs.Contents.{IfKnown, SourceState}
+use Rattle.sum_sources.specs.Contents.{SourceState}
 use Rattle.digest_kinds.specs.Limits.{one_more}
 use Rattle.sum_lines.specs.refinement.SinkStates.{AppendsPrefix}
-use Rattle.sum_engine.specs.Behavior.{is_dash, after, Event, Step, events_of, open_name, write_err, write_out, name_in, err_in, out_in}
+use Rattle.sum_engine.specs.Behavior.{World, is_dash, after, Event, Step, events_of, open_name, write_err, write_out, name_in, err_in, out_in}
 use Rattle.sum_engine.specs.refinement.FlushedWrites.{WritesBoth}
-use Rattle.sum_engine.specs.Execution.{InputsState, StreamsState, KeepsStdin, KnownState, known_world, IfWorldKnown, Stop, Write, Happened, PrefixHappened, PerformsSteps}
-use Rattle.sum_engine.proofs.WorldLemmas.{after-append}
+use Rattle.sum_engine.specs.Execution.{InputsState, StreamsState, KeepsStdin, WorldState, in_world, AskedMore, Stop, Memory, Write, Happened, PrefixHappened, RefusedAt, PerformsSteps}
+use Rattle.sum_engine.proofs.WorldLemmas.{after-append, asked_none, asked_both}
 
 -- ---- what of a step's events is of each kind
 
@@ -48,38 +48,40 @@ out-by names err out = search (rules, filter_map-append, kind-all, kind-none)
 -- ---- what happened
 
 -- these names were asked, whatever was written
-pub record Asks (a b : KnownState) (names : List (List ℕ)) : Type 0 where
+pub record Asks (a b : WorldState) (names : List (List ℕ)) : Type 0 where
   pub world : b.world ≡ after a.world names
+  pub asked : AskedMore a.source b.source names
   pub taken : b.stdin_taken ≡ a.stdin_taken || list_any is_dash names
-  pub refusals : b.refusals ≡ a.refusals
+  pub refusals : b.source.refusals ≡ a.source.refusals
 
 -- no name was
-pub asks_none : {a b : KnownState} → b.world ≡ a.world → b.stdin_taken ≡ a.stdin_taken → b.refusals ≡ a.refusals
-    → Asks a b []
-asks_none {a} world taken refusals = search rules
+pub asks_none : {a b : WorldState} → b.world ≡ a.world → AskedMore a.source b.source []
+    → b.stdin_taken ≡ a.stdin_taken → b.source.refusals ≡ a.source.refusals → Asks a b []
+asks_none {a} world asked taken refusals = search rules
 
 -- so it is if they were opened, and nothing was written
-pub asks_by : {a b : KnownState} (names : List (List ℕ)) → Happened a b (map open_name names) → Asks a b names
+pub asks_by : {a b : WorldState} (names : List (List ℕ)) → Happened a b (map open_name names) → Asks a b names
 asks_by names h = search (rules, kind-all)
 
 -- these names were asked and these texts written
-pub did_by : {a b : KnownState} (names : List (List ℕ)) (err out : List ℕ) → Asks a b names
+pub did_by : {a b : WorldState} (names : List (List ℕ)) (err out : List ℕ) → Asks a b names
     → Appends a.outputs.err.written b.outputs.err.written err → Appends a.outputs.out.written b.outputs.out.written out
     → Happened a b (events_by names err out)
 did_by names err out h p q = search (rules, names-by, err-by, out-by)
 
 -- nothing
-pub did_nothing : (a : KnownState) → Happened a a []
-did_nothing a = search rules
+pub did_nothing : (a : WorldState) → Happened a a []
+did_nothing a = search (rules, asked_none)
 
 -- one thing after another
-pub did_both : {a b c : KnownState} (p q : List Event) → Happened a b p → Happened b c q → Happened a c (p ++ q)
-did_both p q h k = search (rules, after-append, filter_map-append, list_any-append, or_assoc, Appends-trans)
+pub did_both : {a b c : WorldState} (p q : List Event) → Happened a b p → Happened b c q → Happened a c (p ++ q)
+did_both {a} {b} {c} p q h k =
+    search (rules, after-append, asked_both, filter_map-append, list_any-append, or_assoc, Appends-trans)
 
 -- ---- a prefix of it
 
 -- the names were asked, and of the text on standard error a prefix was written
-pub prefix_err : {a b : KnownState} (names : List (List ℕ)) (err out : List ℕ) → Asks a b names
+pub prefix_err : {a b : WorldState} (names : List (List ℕ)) (err out : List ℕ) → Asks a b names
     → AppendsPrefix a.outputs.err.written b.outputs.err.written err → b.outputs.out.written ≡ a.outputs.out.written
     → PrefixHappened a b (events_by names err out)
 prefix_err {a} names err out asked h same =
@@ -88,7 +90,7 @@ prefix_err {a} names err out asked h same =
     (events_by names h.0 [], (rest, search (rules, map-append, append_assoc)), did)
 
 -- all of it was, and a prefix of the text on standard output
-pub prefix_out : {a b : KnownState} (names : List (List ℕ)) (err out : List ℕ) → Asks a b names
+pub prefix_out : {a b : WorldState} (names : List (List ℕ)) (err out : List ℕ) → Asks a b names
     → Appends a.outputs.err.written b.outputs.err.written err → AppendsPrefix a.outputs.out.written b.outputs.out.written out
     → PrefixHappened a b (events_by names err out)
 prefix_out names err out asked all h =
@@ -100,12 +102,12 @@ abbrev pub Writing : Type 0
 Writing = Result (Unit {0}) (Unit {0})
 
 -- what it wrote happened, or a prefix of it if it failed
-abbrev pub Came : Writing → KnownState → KnownState → List Event → Type 0
+abbrev pub Came : Writing → WorldState → WorldState → List Event → Type 0
 Came (Ok u) a b es = Happened a b es
 Came (Err e) a b es = PrefixHappened a b es
 
 -- the names were asked, and the two texts or a prefix of them were written
-pub came_by : (a b : KnownState) (names : List (List ℕ)) (err out : List ℕ) (x : Writing) → Asks a b names
+pub came_by : (a b : WorldState) (names : List (List ℕ)) (err out : List ℕ) (x : Writing) → Asks a b names
     → WritesBoth a.outputs b.outputs err out x → Came x a b (events_by names err out)
 came_by a b names err out (Ok u) asked h = did_by names err out asked h.0 h.1
 came_by a b names err out (Err e) asked (inl h) = prefix_err names err out asked h.0 h.1
@@ -117,25 +119,56 @@ answered (Ok u) x = Ok x
 answered (Err e) x = Err Write
 
 -- one step was performed, by what came of its events
-pub step_performed : {A : Type 0} (answer : A) (a b : KnownState) (step : Step) (x : Writing)
+pub step_performed : {A : Type 0} (answer : A) (a b : WorldState) (step : Step) (x : Writing)
     → Came x a b (events_of step) → PerformsSteps (step ∷ []) answer a b (answered x answer)
 step_performed answer a b step (Ok u) came = rw (append-nil (events_of step)) (refl, came)
 step_performed answer a b step (Err e) came = rw (append-nil (events_of step)) came
 
--- ---- states that are known or not
+-- ---- what stays
 
 -- standard input stayed over one call and another
 pub KeepsStdin-trans : {S : Type 0} (a b c : InputsState S) → KeepsStdin a b → KeepsStdin b c → KeepsStdin a c
 KeepsStdin-trans {S} a b c h k = k ∙ ap (λ (m : InputsState S). record m { source = c.source }) h
 
--- a value that stayed
-pub same_known : {A : Type 0} (x : Option A) → IfKnown x x (λ a b. b ≡ a)
-same_known x = search rules
-
 -- the source was refused memory, and nothing else was done
-pub known_refused : {S : Type 0} (state : S → SourceState) (a b : StreamsState S)
-    → IfKnown (known_world state a.inputs) (known_world state b.inputs) (λ w v. v ≡ w)
-    → b.inputs.stdin_taken ≡ a.inputs.stdin_taken → b.outputs ≡ a.outputs
-    → (state b.inputs.source).refusals ≡ one_more (state a.inputs.source).refusals
-    → IfWorldKnown state a b (λ s t. t ≡ record s { refusals = one_more s.refusals })
-known_refused state a b world taken outputs refused = search rules
+pub refused_in : {S : Type 0} (state : S → SourceState) (a b : StreamsState S) (w v : World) (step : Step) → v ≡ w
+    → AskedMore (state a.inputs.source) (state b.inputs.source) [] → b.inputs.stdin_taken ≡ a.inputs.stdin_taken
+    → b.outputs ≡ a.outputs → (state b.inputs.source).refusals ≡ one_more (state a.inputs.source).refusals
+    → RefusedAt step (in_world state a w) (in_world state b v)
+refused_in state a b w v step world asked taken outputs refused = search rules
+
+-- ---- a state after which a file was closed, or standard input put back
+
+-- what is the same of such a state
+pub record IsKept (b c : WorldState) : Type 0 where
+  pub world : c.world ≡ b.world
+  pub known : c.source.known ≡ b.source.known
+  pub refusals : c.source.refusals ≡ b.source.refusals
+  pub taken : c.stdin_taken ≡ b.stdin_taken
+  pub outputs : c.outputs ≡ b.outputs
+
+-- all but the source
+source_kept : (b c : WorldState) → IsKept b c → c ≡ record b { source = c.source }
+source_kept b c h = rw (← h.world, ← h.taken, ← h.outputs) refl
+
+kept_happened : (a b c : WorldState) (es : List Event) → IsKept b c → Happened a b es → Happened a c es
+kept_happened a b c es h did = search rules
+
+-- what was performed up to the one was performed up to the other
+pub kept_performs : {A : Type 0} (steps : List Step) (x : A) (a b c : WorldState) (r : Result A Stop) → IsKept b c
+    → PerformsSteps steps x a b r → PerformsSteps steps x a c r
+kept_performs steps x a b c (Ok answer) h did = (did.0, kept_happened a b c _ h did.1)
+kept_performs steps x a b c (Err Write) h did = (did.0, did.1, kept_happened a b c did.0 h did.2)
+kept_performs steps x a b c (Err Memory) h did = record {
+  done = did.done;
+  next = did.next;
+  later = did.later;
+  between = did.between;
+  are = did.are;
+  happened = did.happened;
+  refused = (
+    source_kept b c h ∙ ap (λ (s : WorldState). record s { source = c.source }) did.refused.0,
+    rw h.known did.refused.1,
+    rw h.refusals did.refused.2,
+  );
+}

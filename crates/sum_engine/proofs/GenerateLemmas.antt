@@ -2,11 +2,11 @@
 use Rattle.std.proofs.Common.{rules, ◌≡◌, ℕ, ◌||◌, Bool, List, [], ◌∷◌, Some, Result, Ok, Err, refl}
 use Rattle.std.proofs.Math.Bool.{or-false}
 use Rattle.digest_kinds.specs.Kinds.{KindValue}
-use Rattle.sum_engine.specs.Behavior.{Fault, is_dash, digest_or_fault, Step, single_step}
-use Rattle.sum_sources.specs.Contents.{Reply, SourceState, IfKnown}
+use Rattle.sum_engine.specs.Behavior.{Fault, World, is_dash, digest_or_fault, Step, single_step}
+use Rattle.sum_sources.specs.Contents.{Reply, SourceState}
 use Rattle.sum_engine.specs.refinement.HashName.{HashOutcome, digest_of_outcome, HashesName, IsHashOutcome}
 use Rattle.sum_engine.specs.Generation.{Settings, generate_behavior, generate_behavior_by}
-use Rattle.sum_engine.specs.Execution.{StreamsState, known_world, Performs}
+use Rattle.sum_engine.specs.Execution.{StreamsState, InSomeWorld, AskedMore, Performs}
 use Rattle.sum_engine.specs.refinement.FlushedWrites.{WritesAndFlushesBoth}
 use Rattle.sum_engine.proofs.ExecutionLemmas.{Writing, answered}
 use Rattle.sum_engine.proofs.BehaviorLemmas.{once}
@@ -19,17 +19,17 @@ digest_or_fault-is kind r a h = search rules
 -- the name was asked, with this digest or fault, and the line of that was written, or a prefix of it
 pub generate-performed : {S : Type 0} (state : S → SourceState) (settings : Settings) (tool name err out : List ℕ)
     (good : Bool) (a b : StreamsState S) (outcome : HashOutcome) (found : Result (List ℕ) Fault) (x : Writing)
-    → IfKnown (known_world state a.inputs) (known_world state b.inputs)
-    (λ w v. HashesName settings.kind w v name (Some outcome))
+    → InSomeWorld state a.inputs b.inputs (λ w v. HashesName settings.kind w v name (Some outcome))
+    → AskedMore (state a.inputs.source) (state b.inputs.source) (name ∷ [])
     → b.inputs.stdin_taken ≡ a.inputs.stdin_taken || is_dash name
     → (state b.inputs.source).refusals ≡ (state a.inputs.source).refusals
     → found ≡ digest_of_outcome outcome
     → generate_behavior_by settings tool name found ≡ single_step (name ∷ []) err out good
     → WritesAndFlushesBoth a.outputs b.outputs err out x
     → Performs state (λ w. generate_behavior settings tool w name) (λ g. g) a b (answered x good)
-generate-performed state settings tool name err out good a b outcome found x h taken refusals same is writes =
+generate-performed state settings tool name err out good a b outcome found x h asked taken refusals same is writes =
     once state (λ w. generate_behavior settings tool w name) (name ∷ []) err out good (λ g. g) a b x h
-    (λ w v asked. (search (rules, digest_or_fault-is), search (rules, or-false))) writes
+    (λ w v hashed. (search (rules, digest_or_fault-is), search (rules, or-false))) writes
 
 -- generation is one step
 pub one_step : (settings : Settings) (tool name : List ℕ) (x : Result (List ℕ) Fault)

@@ -9,7 +9,7 @@ use Rattle.sum_engine.specs.check.Verdicts.{Algos, Form, Right, Rules, LineVerdi
 use Rattle.sum_lines.specs.Escape.{present, escape}
 use Rattle.sum_lines.specs.grammar.Entries.{IsEntry, form}
 use Rattle.sum_engine.specs.Behavior.{Whole, World, reply, after, Behavior, out_text, err_text}
-use Rattle.sum_sources.specs.Contents.{Content, limit}
+use Rattle.sum_sources.specs.Contents.{Content, Reply, limit}
 use Rattle.sum_sources.proofs.ContentLemmas.{limit-value, clip-short}
 use Rattle.sum_engine.specs.check.CheckerSteps.{step_then}
 use Rattle.sum_lines.specs.grammar.ParsedLines.{parse_line}
@@ -17,6 +17,7 @@ use Rattle.sum_sources.specs.ManifestLines.{past_line}
 use Rattle.sum_engine.specs.check.Checking.{CheckSettings, line_steps, rules_of, labels_of, content_behavior, check_behavior_by, check_behavior}
 use Rattle.sum_lines.proofs.ParsedLineLemmas.{parse_is_grammar}
 use Rattle.sum_engine.proofs.ListedEntryLemmas.{Item, written_text, Listed, prefix, spelled_for, ReadableSoFar, back, whole, lines-are}
+use Rattle.sum_engine.proofs.WorldLemmas.{after-steady}
 use Rattle.sum_engine.proofs.CheckOneLemmas.{opening}
 
 -- ---- each verdict is Right
@@ -26,9 +27,10 @@ abbrev now : Rules → Rules
 now r = record r { profile = present }
 
 -- an item's file, read by the kind that its line spells, has the digest that its line spells
-verdict-right : (r : Rules) (w : World) (i : Item) → Listed r.algo w.answer i
-    → verdict_of r w (spelled_for i) ≡ Right
-verdict-right r w i h = search (rules, clip-short, limit-value, and-false, bytes_eq-Decides)
+verdict-right : (r : Rules) (files : List ℕ → Reply) (w : World) (i : Item) → w.answer ≡ (λ asked. files)
+    → Listed r.algo files i → verdict_of r w (spelled_for i) ≡ Right
+verdict-right r files w i steady h =
+    rw steady (search (rules, clip-short, limit-value, and-false, bytes_eq-Decides))
 
 -- the verdict of an item on line n
 abbrev right : ℕ → Item → LineVerdictValue
@@ -40,25 +42,26 @@ rights n [] = []
 rights n (i ∷ is) = right (n + 1) i ∷ rights (n + 1) is
 
 -- a written line is judged so
-judged : (r : Rules) (w : World) (n : ℕ) (f : Form) (i : Item) → Listed r.algo w.answer i
+judged : (r : Rules) (files : List ℕ → Reply) (w : World) (n : ℕ) (f : Form) (i : Item)
+    → w.answer ≡ (λ asked. files) → Listed r.algo files i
     → IsEntry escape r.algo f (prefix i) (spelled_for i)
     → judge r w n (parse_line present r.algo f (prefix i)) ≡ right n i
-judged r w n f i h e =
+judged r files w n f i steady h e =
     let is = parse_is_grammar present r.algo f (prefix i) in
-    rw ((is.when_entry (spelled_for i)).1 (e.0, e), verdict-right r w i h) refl
+    rw ((is.when_entry (spelled_for i)).1 (e.0, e), verdict-right r files w i steady h) refl
 
 -- and all of them, each in the world that those before it leave
-right-verdicts : (r : Rules) (before : List (List ℕ)) (is : List Item) (w : World) (n : ℕ)
-    → ReadableSoFar r.algo before → All (Listed r.algo w.answer) is
+right-verdicts : (r : Rules) (files : List ℕ → Reply) (before : List (List ℕ)) (is : List Item) (w : World) (n : ℕ)
+    → w.answer ≡ (λ asked. files) → ReadableSoFar r.algo before → All (Listed r.algo files) is
     → verdicts (now r) (form r.algo (before ++ map prefix is)) w n (map prefix is) ≡ rights n is
-right-verdicts r before [] w n u all = refl
-right-verdicts r before (i ∷ is) w n u all =
+right-verdicts r files before [] w n steady u all = refl
+right-verdicts r files before (i ∷ is) w n steady u all =
     let algos : Algos = r.algo in
-    let h : Listed algos w.answer i = All-head (Listed algos w.answer) i is all in
-    let b = back algos w.answer before (map prefix is) i h u in
-    let rest = right-verdicts r (before ++ (prefix i ∷ [])) is (after w (i.name ∷ [])) (n + 1) b.2
-    (All-tail (Listed algos w.answer) i is all) in
-    rw (judged r w (n + 1) _ i h b.1) (ap (λ js. right (n + 1) i ∷ js) (rw append_assoc at rest))
+    let h : Listed algos files i = All-head (Listed algos files) i is all in
+    let b = back algos files before (map prefix is) i h u in
+    let rest = right-verdicts r files (before ++ (prefix i ∷ [])) is (after w (i.name ∷ [])) (n + 1)
+    (after-steady files w (i.name ∷ []) steady) b.2 (All-tail (Listed algos files) i is all) in
+    rw (judged r files w (n + 1) _ i steady h b.1) (ap (λ js. right (n + 1) i ∷ js) (rw append_assoc at rest))
 
 -- ---- what is reported, and the end
 
@@ -117,17 +120,18 @@ pub record Found (check : CheckSettings) (tool : List ℕ) (w : World) (manifest
   pub err : err_text (check_behavior check tool w manifest) ≡ []
 
 -- the verdicts of its lines
-all-right : (r : Rules) (w : World) (is : List Item) → All (Listed r.algo w.answer) is
-    → all_verdicts (now r) w (whole is) ≡ rights 0 is
-all-right r w is all = rw (lines-are r.algo w.answer is all) (right-verdicts r [] is w 0 (inl refl) all)
+all-right : (r : Rules) (files : List ℕ → Reply) (w : World) (is : List Item) → w.answer ≡ (λ asked. files)
+    → All (Listed r.algo files) is → all_verdicts (now r) w (whole is) ≡ rights 0 is
+all-right r files w is steady all =
+    rw (lines-are r.algo files is all) (right-verdicts r files [] is w 0 steady (inl refl) all)
 
 -- the behavior, by these verdicts
-check_behavior-is : (check : CheckSettings) (tool manifest : List ℕ) (w : World) (is : List Item)
-    → All (Listed check.algo w.answer) is → length (flat_map written_text is) < limit
+check_behavior-is : (check : CheckSettings) (tool manifest : List ℕ) (files : List ℕ → Reply) (w : World)
+    (is : List Item) → w.answer ≡ (λ asked. files) → All (Listed check.algo files) is → length (flat_map written_text is) < limit
     → reply w manifest ≡ Ok (whole is)
     → check_behavior check tool w manifest ≡ step_then (opening manifest)
     (content_behavior (rules_of check manifest) (labels_of check tool manifest) (whole is) (rights 0 is))
-check_behavior-is check tool manifest w is all fits given =
+check_behavior-is check tool manifest files w is steady all fits given =
     let r : Rules = rules_of check manifest in
     let labels : LabelsValue = labels_of check tool manifest in
     let next : World = after w (manifest ∷ []) in
@@ -135,17 +139,17 @@ check_behavior-is check tool manifest w is all fits given =
     λ c js. step_then (opening manifest) (content_behavior r labels c js) in
     ap (check_behavior_by r labels manifest next) given
     ∙ ap (λ c. of c (all_verdicts r next c)) (clip-short (whole is) (rw limit-value at fits))
-    ∙ ap (of (whole is)) (all-right r next is all)
+    ∙ ap (of (whole is)) (all-right r files next is (after-steady files w (manifest ∷ []) steady) all)
 
 -- a manifest with at least one line is good, and each of its names is reported as right
-pub manifest_good : (check : CheckSettings) (tool manifest : List ℕ) (w : World) (is : List Item)
-    → All (Listed check.algo w.answer) is → 0 < length is → length (flat_map written_text is) < limit
+pub manifest_good : (check : CheckSettings) (tool manifest : List ℕ) (files : List ℕ → Reply) (w : World)
+    (is : List Item) → w.answer ≡ (λ asked. files) → All (Listed check.algo files) is → 0 < length is → length (flat_map written_text is) < limit
     → reply w manifest ≡ Ok (whole is) → Found check tool w manifest is
-manifest_good check tool manifest w [] all some fits given = absurd (omega arith)
-manifest_good check tool manifest w (i ∷ is) all some fits given =
+manifest_good check tool manifest files w [] steady all some fits given = absurd (omega arith)
+manifest_good check tool manifest files w (i ∷ is) steady all some fits given =
     let r : Rules = rules_of check manifest in
     let labels : LabelsValue = labels_of check tool manifest in
-    let here = check_behavior-is check tool manifest w (i ∷ is) all fits given in
+    let here = check_behavior-is check tool manifest files w (i ∷ is) steady all fits given in
     let js = rights 0 (i ∷ is) in
     let c : counts_of js ≡ right_counts (suc (length is)) = counts-are 0 (i ∷ is) in
     let end = end_text r labels Whole (counts_of js) in

@@ -8,12 +8,11 @@ use Rattle.sum_lines.specs.grammar.ParsedLines.{parse_line}
 use Rattle.sum_engine.specs.Behavior.{World, after, Behavior, trace, events_of, out_text, err_text, asks}
 use Rattle.sum_engine.specs.check.Reports.{LabelsValue, out_of, err_of, counts_of, end_text}
 use Rattle.sum_engine.specs.check.Checking.{line_steps, content_behavior}
-use Rattle.sum_engine.specs.Execution.{Write, KnownState, Happened}
+use Rattle.sum_engine.specs.Execution.{Write, WorldState, Happened}
 use Rattle.sum_engine.specs.check.CheckerSteps.{Going, Ended, CheckState, StepIs, step_then, progress_before, counts_then, remaining_verdicts, remaining_behavior, initial_state}
 use Rattle.sum_engine.specs.check.CheckerLaws.{StepsGoing, StepsJoin, EndsManifest}
 use Rattle.sum_engine.proofs.RestLemmas.{past_next}
 use Rattle.sum_engine.proofs.ExecutionLemmas.{did_nothing, err-by, out-by, names-by}
-use Rattle.sum_engine.proofs.WorldLemmas.{after-none}
 use Rattle.sum_engine.proofs.BehaviorLemmas.{Along, along_stops, behavior_then-did, events_extend}
 use Rattle.sum_engine.proofs.CheckOneLemmas.{remaining-initial, none_left, along_last}
 
@@ -59,7 +58,7 @@ drop_next (suc k) (x ∷ xs) ys y h = search (rules, drop_next k xs ys y h)
 
 -- ---- k steps of a new checker
 
-module _ (r : Rules) (labels : LabelsValue) (c : Content) (s : KnownState) where
+module _ (r : Rules) (labels : LabelsValue) (c : Content) (s : WorldState) where
   -- the manifest's verdicts and its behavior
   abbrev js : List LineVerdictValue
   js = all_verdicts r s.world c
@@ -71,7 +70,7 @@ module _ (r : Rules) (labels : LabelsValue) (c : Content) (s : KnownState) where
   end = end_text r labels c.ending (counts_of js)
 
   -- exactly the first k steps happened, and the others remain; the bytes consumed are those up to the end of line k
-  pub record After (b : CheckState) (t : KnownState) (k : ℕ) : Type 0 where
+  pub record After (b : CheckState) (t : WorldState) (k : ℕ) : Type 0 where
     pub rest : b.rest ≡ past_lines k c
     pub lines : lines_by r.profile b.rest ≡ drop k (lines_by r.profile c)
     pub consumed : b.consumed + length (past_lines k c).bytes ≡ length c.bytes
@@ -85,7 +84,7 @@ module _ (r : Rules) (labels : LabelsValue) (c : Content) (s : KnownState) where
   after_none = search (rules, remaining-initial, did_nothing)
 
   -- one more
-  after_more : {b d : CheckState} {t z : KnownState} {v : List ℕ} {k : ℕ} → After b t k
+  after_more : {b d : CheckState} {t z : WorldState} {v : List ℕ} {k : ℕ} → After b t k
       → StepIs r labels v b d t z (Ok Going) → After d z (suc k)
   after_more {b} {d} {t} {z} {v} {k} h step =
       let moves = (step.going refl).1 in
@@ -106,7 +105,7 @@ module _ (r : Rules) (labels : LabelsValue) (c : Content) (s : KnownState) where
       }
 
   -- all, one after another
-  after_all : (a b : CheckState) (m t : KnownState) (i : ℕ) (vectors : List (List ℕ)) → After a m i
+  after_all : (a b : CheckState) (m t : WorldState) (i : ℕ) (vectors : List (List ℕ)) → After a m i
       → StepsGoing r labels a b m t vectors → After b t (i + length vectors)
   after_all a b m t i [] h is = let none : i + 0 ≡ i = omega arith in rw (is.0, is.1, none) h
   after_all a b m t i (v ∷ vectors) h more =
@@ -114,11 +113,11 @@ module _ (r : Rules) (labels : LabelsValue) (c : Content) (s : KnownState) where
       rw next (after_all more.0 b more.1 t (suc i) vectors (after_more h more.2) more.3)
 
   -- the whole behavior is what was done and what remains
-  along : {b : CheckState} {t : KnownState} {k : ℕ} → After b t k → Along whole (remaining_behavior r labels b) s t
+  along : {b : CheckState} {t : WorldState} {k : ℕ} → After b t k → Along whole (remaining_behavior r labels b) s t
   along h = search (rules, take-append-drop)
 
   -- a step is left after k steps only if k is at most the number of lines
-  few : {b : CheckState} {t : KnownState} {k : ℕ} → After b t k → k ≤ length js
+  few : {b : CheckState} {t : WorldState} {k : ℕ} → After b t k → k ≤ length js
   few {b} {t} {k} h =
       let ks = remaining_verdicts r b in
       let text = end_text r labels b.rest.ending (counts_then b.counts (counts_of ks)) in
@@ -126,8 +125,8 @@ module _ (r : Rules) (labels : LabelsValue) (c : Content) (s : KnownState) where
       omega (arith, left, length_steps r labels text b.rest ks, length_steps r labels end c js)
 
   -- the step that ends
-  ends : {b : CheckState} {t : KnownState} {k : ℕ} → After b t k → (answer : Bool) (vector : List ℕ) (d : CheckState)
-      (z : KnownState) → StepIs r labels vector b d t z (Ok (Ended answer)) → EndsManifest r labels c js k t z answer
+  ends : {b : CheckState} {t : WorldState} {k : ℕ} → After b t k → (answer : Bool) (vector : List ℕ) (d : CheckState)
+      (z : WorldState) → StepIs r labels vector b d t z (Ok (Ended answer)) → EndsManifest r labels c js k t z answer
   ends {b} {t} {k} h answer vector d z e =
       let none = none_left e.later.steps e.later.good answer e.performs.0 in
       let last = sym h.remaining ∙ ap (λ (q : Behavior). q.steps) e.is ∙ ap (λ steps. e.step ∷ steps) none.0 in
@@ -138,10 +137,10 @@ module _ (r : Rules) (labels : LabelsValue) (c : Content) (s : KnownState) where
       search (rules, last, number, step.1) in
       let did = rw (append-nil (events_of e.step), is) at e.performs.1 in
       let all = along_last z e.step e.later (Ok answer) (along h) e.is e.performs in
-      search (rules, number, length_verdicts, all.0, did, err-by, out-by, names-by, after-none)
+      search (rules, number, length_verdicts, all.0, did, err-by, out-by, names-by)
 
 -- no vector is longer than its line
-vectors_fit : (r : Rules) (labels : LabelsValue) (a b : CheckState) (s t : KnownState) (vectors : List (List ℕ))
+vectors_fit : (r : Rules) (labels : LabelsValue) (a b : CheckState) (s t : WorldState) (vectors : List (List ℕ))
     → StepsGoing r labels a b s t vectors → (i : ℕ)
     → length (slice_index_or vectors i []) ≤ length (slice_index_or (lines_by r.profile a.rest) i [])
 vectors_fit r labels a b s t [] is i = omega arith
@@ -165,9 +164,10 @@ steps_join r labels c b s t vectors going =
     let texts = events_extend some s t h.done in
     let by = reports r labels (end_text r labels c.ending (counts_of js)) c js k (few r labels c s h) in
     record {
-      err = rw by.1 at texts.1;
-      out = rw by.0 at texts.2;
+      err = rw by.1 at texts.2;
+      out = rw by.0 at texts.3;
       world = rw by.2 at texts.0;
+      asked = rw by.2 at texts.1;
       taken = omega (arith, h.taken, h.consumed);
       vector_lens = vectors_fit r labels (initial_state c s.world) b s t vectors going;
       end = ends r labels c s h;

@@ -1,4 +1,5 @@
 pub mod WorldLemmas
+pub mod HashNameLemmas
 pub mod ExecutionLemmas
 pub mod ReadToEndLemmas
 pub mod GenerateLemmas

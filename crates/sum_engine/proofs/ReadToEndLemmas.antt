@@ -3,7 +3,8 @@ use Rattle.std.proofs.Common.{rules, ◌≡◌, ◌⊎◌, ℕ, zero, suc, ◌+�
 use Rattle.std.specs.Option.{option_or}
 use Rattle.sum_sources.specs.Contents.{InputState, SourceState, given_state, closed_state}
 use Rattle.digest_kinds.specs.Limits.{one_more}
-use Rattle.sum_engine.specs.Execution.{InputsState, Phase, Reading, Ended, raised, IsStdinWhole, KeepsStdin, ReadToEnd, known_world}
+use Rattle.sum_engine.specs.Execution.{InputsState, Phase, Reading, Ended, raised, IsStdinWhole, KeepsStdin, ReadToEnd}
+use Rattle.sum_engine.specs.refinement.HashName.{HashOutcome, UnlessBroken}
 use Rattle.sum_engine.specs.refinement.Openings.{stdin_taken_from, phase_of}
 
 -- so many more, and then so many more
@@ -37,6 +38,17 @@ put_back-whole input a c taken given phase kept ends whole = search rules
 
 -- ---- files
 
+-- a file was opened, and closed at its end
+pub ReadToEnd-file : {S : Type 0} (state : S → SourceState) (a b : InputsState S) (between : S) (p : Phase)
+    → (state between).opened ≡ one_more (state a.source).opened → (state between).ended ≡ (state a.source).ended
+    → state b.source ≡ closed_state (state between) p → p ≡ Ended
+    → b.stdin_taken ≡ a.stdin_taken → b.stdin_phase ≡ a.stdin_phase → ReadToEnd state a b
+ReadToEnd-file state a b between p opened ended closed at_end taken phase = search rules
+
+-- unless reading failed, what follows holds
+pub UnlessBroken-map : (o : HashOutcome) {P Q : Type 0} → (P → Q) → UnlessBroken (Some o) P → UnlessBroken (Some o) Q
+UnlessBroken-map o f h = search rules
+
 -- a file was opened; others were read to the end; and it was closed at its end
 pub ReadToEnd-around : {S : Type 0} (state : S → SourceState) (a m n b : InputsState S) (p : Phase) → KeepsStdin a m
     → (state m.source).opened ≡ one_more (state a.source).opened → (state m.source).ended ≡ (state a.source).ended
@@ -51,11 +63,3 @@ ReadToEnd-around {S} state a m n b p first opened ended h last closed at_end =
       stdin = λ whole. subst (λ (m : InputsState S). IsStdinWhole m) (sym last)
           (h.stdin (subst (λ (m : InputsState S). IsStdinWhole m) (sym first) whole));
     }
-
--- ---- the world that is known
-
--- it doesn't change if a file is closed; that refuses no memory
-pub known-closed : {S : Type 0} (state : S → SourceState) (a b : InputsState S) (p : Phase) → KeepsStdin a b
-    → state b.source ≡ closed_state (state a.source) p
-    → (known_world state b ≡ known_world state a) × ((state b.source).refusals ≡ (state a.source).refusals)
-known-closed state a b p kept closed = search rules

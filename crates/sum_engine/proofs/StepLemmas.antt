@@ -1,17 +1,19 @@
 -- One step of a checker, by the verdict that it found: `CheckCursor::next` from `next_verdict` and what is written.
-use Rattle.std.proofs.Common.{◌≡◌, ℕ, ◌+◌, ◌≤◌, Bool, List, [], ◌∷◌, length, Option, Some, Ok, Err, refl, ap, sym, ◌∙◌, rules, arith}
+use Rattle.std.proofs.Common.{◌≡◌, ℕ, ◌+◌, ◌<◌, ◌≤◌, Bool, List, [], ◌∷◌, length, Option, None, Some, MatchOption, Ok, Err, inl, inr, ◌⊎◌, refl, ap, sym, ◌∙◌, rules, arith}
 use Rattle.sum_sources.specs.declared.line_reader.Next.TheVariants.{Line}
 use Rattle.sum_sources.specs.declared.line_reader.LineReader.{LineReader}
-use Rattle.sum_engine.specs.Behavior.{Ending, World, Step, Behavior, events_of}
-use Rattle.sum_sources.specs.Contents.{Content, InputState, IfKnown, SourceState}
+use Rattle.digest_kinds.specs.Limits.{LIMIT}
+use Rattle.sum_sources.proofs.ContentLemmas.{limit-value}
+use Rattle.sum_engine.specs.Behavior.{Ending, Broken, Fault, World, Step, Behavior, events_of}
+use Rattle.sum_sources.specs.Contents.{Content, InputState, SourceState, empty_content, limit}
 use Rattle.sum_sources.specs.ManifestLines.{NextLineIs, lines}
-use Rattle.sum_sources.specs.LineReaders.{remaining_content, consumed}
+use Rattle.sum_sources.specs.LineReaders.{remaining_content, MayRemain, Bounded, consumed}
 use Rattle.sum_lines.specs.Escape.{Profile, present}
 use Rattle.sum_engine.specs.check.Reports.{Report, LabelsValue, err_by, out_by, end_text, good}
 use Rattle.sum_engine.specs.check.Verdicts.{Ignored, lines_by, Rules, asks_of}
-use Rattle.sum_engine.specs.check.CheckerSteps.{CursorValue, state_at, check_state, Progress, Going, Ended, CheckState, counts_with, step_then, progress_before, LineHandled, StepIs, PerformsStep, MemoryStopHasCause, next_judged, remaining_verdicts, remaining_behavior}
-use Rattle.sum_engine.specs.Execution.{Memory, StreamsState, KnownState, known_world, known_state}
-use Rattle.sum_engine.specs.check.NextVerdict.{LineVerdict, VerdictResult, line_verdict_value, FindsVerdict, NoVerdictLeft, taken_after}
+use Rattle.sum_engine.specs.check.CheckerSteps.{CursorValue, state_at, InSomeCheck, Progress, Going, Ended, CheckState, counts_with, step_then, progress_before, LineHandled, StepIs, PerformsStep, MemoryStopHasCause, next_judged, remaining_verdicts, remaining_behavior}
+use Rattle.sum_engine.specs.Execution.{Memory, InputsState, StreamsState, WorldState, MayBeIn, InSomeWorld, in_world, AskedMore}
+use Rattle.sum_engine.specs.check.NextVerdict.{LineVerdict, VerdictResult, line_verdict_value, FindsVerdict, NoVerdictLeft, names_of_result, taken_after}
 use Rattle.sum_engine.specs.refinement.Judging.{TakesLine}
 use Rattle.sum_engine.specs.refinement.FlushedWrites.{WritesAndFlushesBoth}
 use Rattle.sum_engine.proofs.ExecutionLemmas.{Asks, asks_none, Writing, Came, answered, step_performed, did_nothing, came_by}
@@ -19,37 +21,70 @@ use Rattle.sum_engine.proofs.CountLemmas.{counts_then-nil}
 use Rattle.sum_engine.proofs.RestLemmas.{line_step, behavior_by, first_step, found_first, going-before}
 use Rattle.sum_sources.specs.declared.line_reader.LineStop.TheVariants as line_stops
 
--- ---- the state of a check that may not be known
+-- ---- the states of a check, in some world
 
--- what follows of two places from facts of their contents and of the worlds, if these are known
-pub check_state-made : {I : Type 0} (state : I → InputState) (p q : CursorValue I) (w v : Option World)
-    {P : Content → Content → Type 0} {Q : World → World → Type 0} (R : CheckState → CheckState → Type 0)
-    → IfKnown (remaining_content state p.reader) (remaining_content state q.reader) P → IfKnown w v Q
-    → ((c d : Content) (w v : World) → P c d → Q w v → R (state_at p c w) (state_at q d v))
-    → IfKnown (check_state state p w) (check_state state q v) R
-check_state-made state p q w v R h k f = search rules
+module _ {I S : Type 0} {input : I → InputState} {source : S → SourceState} {p q : CursorValue I} {a b : InputsState S}
+  where
+    -- what follows of two places from facts of their contents and of the worlds
+    pub InSomeCheck-made : {P : Content → Content → Type 0} {Q : World → World → Type 0}
+        {R : CheckState → CheckState → Type 0}
+        → ((d : Content) → MayRemain input q.reader d → (c : Content) × MayRemain input p.reader c × P c d)
+        → InSomeWorld source a b Q
+        → ((c d : Content) (w v : World) → P c d → Q w v → R (state_at p c w) (state_at q d v))
+        → InSomeCheck input source p q a b R
+    InSomeCheck-made reads h f = record {
+      before = λ d v may fits.
+          let left = reads d may in
+          let some = h.before v fits in
+          (left.0, some.0, left.1, some.1, f left.0 d some.0 v left.2 some.2);
+    }
 
--- what follows of them from another fact of theirs
-pub check_state-map : {I : Type 0} (state : I → InputState) (p q : CursorValue I) (w v : Option World)
-    (P R : CheckState → CheckState → Type 0) → IfKnown (check_state state p w) (check_state state q v) P
-    → ((c d : Content) (w v : World) → P (state_at p c w) (state_at q d v) → R (state_at p c w) (state_at q d v))
-    → IfKnown (check_state state p w) (check_state state q v) R
-check_state-map state p q w v P R is to = search rules
+    -- and from another fact of theirs
+    pub InSomeCheck-map : {P R : CheckState → CheckState → Type 0} → InSomeCheck input source p q a b P
+        → ((c d : Content) (w v : World) → P (state_at p c w) (state_at q d v) → R (state_at p c w) (state_at q d v))
+        → InSomeCheck input source p q a b R
+    InSomeCheck-map h f = record {
+      before = λ d v may fits.
+          let some = h.before d v may fits in
+          (some.0, some.1, some.2, some.3, f some.0 d some.1 v some.4);
+    }
 
--- what follows of the world from a fact of the whole state
-pub known_world-made : {I : Type 0} (state : I → InputState) (q : CursorValue I) (z : Option World) (a : CheckState)
-    (w : World) (P : CheckState → CheckState → Type 0) (R : World → World → Type 0)
-    → IfKnown (Some a) (check_state state q z) P
-    → ((d : Content) (z : World) → P a (state_at q d z) → R w z) → IfKnown (Some w) z R
-known_world-made state q z a w P R h f = search rules
+    -- over one step and another
+    pub InSomeCheck-then : {r : CursorValue I} {c : InputsState S} {P Q R : CheckState → CheckState → Type 0}
+        → InSomeCheck input source p q a b P → InSomeCheck input source q r b c Q
+        → ((x y z : CheckState) → P x y → Q y z → R x z) → InSomeCheck input source p r a c R
+    InSomeCheck-then {r = r} h k f = record {
+      before = λ d v may fits.
+          let later = k.before d v may fits in
+          let some = h.before later.0 later.1 later.2 later.3 in (
+            some.0,
+            some.1,
+            some.2,
+            some.3,
+            f (state_at p some.0 some.1) (state_at q later.0 later.1) (state_at r d v)
+                some.4 later.4,
+          );
+    }
+
+-- something may remain after each call of a reader
+pub some_remains : {I : Type 0} (state : I → InputState) (r : LineReader I) → Bounded r
+    → (d : Content) × MayRemain state r d
+some_remains state r bounds = by (remaining_content state r) refl bounds.under
+  where
+    by : (x : Option Content) → remaining_content state r ≡ x
+        → (r.taken < LIMIT) ⊎ ((f : Fault) × (r.final_answer ≡ Some (Err (line_stops.Fault f))))
+        → (d : Content) × MatchOption x (consumed r + length d.bytes < limit) (λ c. d ≡ c)
+    by None is (inl under) = (empty_content, rw limit-value (omega (arith, under)))
+    by None is (inr stop) = let none : Some (record { bytes = []; ending = Broken stop.0 }) ≡ None = rw stop.1 at is in cc
+    by (Some c) is under = (c, refl)
 
 -- ---- a step, by what the reader returned
 
 -- the reader of a place became this one, which has read a line more
 pub record ReadsLine {I : Type 0} (state : I → InputState) (p : CursorValue I) (reader : LineReader I) (line : List ℕ)
     : Type 0 where
-  pub next : IfKnown (remaining_content state p.reader) (remaining_content state reader)
-      (λ c d. NextLineIs c d (Ok Line) line × (consumed reader + length d.bytes ≡ consumed p.reader + length c.bytes))
+  pub next : (d : Content) → MayRemain state reader d → (c : Content) × MayRemain state p.reader c
+      × (NextLineIs c d (Ok Line) line × (consumed reader + length d.bytes ≡ consumed p.reader + length c.bytes))
   pub number : reader.lines ≡ p.reader.lines + 1
   pub ahead : length reader.ahead ≤ 8192
   pub profile : p.rules.profile ≡ present
@@ -80,7 +115,7 @@ line_handled state p q reader c d w v line vector reads took takes few counted =
 -- ---- a step, by the verdict that was found
 
 -- a step of these events, or a prefix of them, by what remains after it
-step_by : (r : Rules) (labels : LabelsValue) (a b : CheckState) (s t : KnownState) (vector : List ℕ) (step : Step)
+step_by : (r : Rules) (labels : LabelsValue) (a b : CheckState) (s t : WorldState) (vector : List ℕ) (step : Step)
     (later : Behavior) (progress : Progress) (x : Writing) → remaining_behavior r labels a ≡ step_then step later
     → progress_before later ≡ progress → Came x s t (events_of step)
     → (progress ≡ Going → (later ≡ remaining_behavior r labels b) × LineHandled r a b vector)
@@ -110,31 +145,33 @@ module _ {I S : Type 0} (input : I → InputState) (state : S → SourceState) (
 
     -- a line was found, and its report was written, or a prefix of it
     pub step_found : (labels : LabelsValue) (vector : List ℕ) (v : LineVerdict) (x : Writing)
-        → Found vector (Ok (Some v)) → b.inputs.stdin_taken ≡ taken_after a.inputs.stdin_taken vector (Ok (Some v))
+        → Found vector (Ok (Some v))
+        → AskedMore (state a.inputs.source) (state b.inputs.source) (names_of_result vector (Ok (Some v)))
+        → b.inputs.stdin_taken ≡ taken_after a.inputs.stdin_taken vector (Ok (Some v))
         → (state b.inputs.source).refusals ≡ (state a.inputs.source).refusals
         → WritesAndFlushesBoth a.outputs b.outputs
         (err_by p.rules labels v.number v.verdict (line_verdict_value vector v).name)
         (out_by p.rules.profile labels.report v.verdict (line_verdict_value vector v).name) x
         → PerformsStep input state vector labels p q a b (answered x Going)
-    step_found labels vector v x found taken refusals writes = λ flushed.
-        check_state-map input p q _ _ _ _ found (λ c d w v' f.
+    step_found labels vector v x found asked taken refusals writes = λ flushed.
+        InSomeCheck-map found (λ c d w v' f.
         let j = line_verdict_value vector v in
         let first = state_at p c w in
         let next = state_at q d v' in
-        let asks : Asks (known_state state a w) (known_state state b v') (asks_of j) =
-        record { world = f.0.world; taken = taken; refusals = refusals } in
-        step_by p.rules labels first next (known_state state a w) (known_state state b v') vector
+        let asks : Asks (in_world state a w) (in_world state b v') (asks_of j) =
+        record { world = f.0.world; asked = asked; taken = taken; refusals = refusals } in
+        step_by p.rules labels first next (in_world state a w) (in_world state b v') vector
         (line_step p.rules labels (length c.bytes) j) (remaining_behavior p.rules labels next) Going x
         (found_first p.rules labels first next j f.0.first f.0.counts f.1.rest) (going-before p.rules labels next)
         (came_by _ _ (asks_of j) _ _ x asks (writes.1 flushed).1) (λ is. (refl, f.1)))
 
     -- memory ran out, and both outputs stayed
     pub step_refused : (labels : LabelsValue) (vector : List ℕ) → Found vector (Err line_stops.Memory)
-        → b.inputs.stdin_taken ≡ a.inputs.stdin_taken
+        → AskedMore (state a.inputs.source) (state b.inputs.source) [] → b.inputs.stdin_taken ≡ a.inputs.stdin_taken
         → MemoryStopHasCause (state a.inputs.source) (state b.inputs.source) (remaining_content input p.reader)
         (Err Memory) → b.outputs ≡ a.outputs → PerformsStep input state vector labels p q a b (Err Memory)
-    step_refused labels vector found taken cause outputs = λ flushed.
-        check_state-map input p q _ _ _ _ found (λ c d w v f.
+    step_refused labels vector found asked taken cause outputs = λ flushed.
+        InSomeCheck-map found (λ c d w v f.
         let first = first_step p.rules labels c.ending p.counts c (remaining_verdicts p.rules (state_at p c w)) in
         record {
           step = first.0;
@@ -144,9 +181,9 @@ module _ {I S : Type 0} (input : I → InputState) (state : S → SourceState) (
             done = [];
             next = first.0;
             later = [];
-            between = known_state state a w;
+            between = in_world state a w;
             are = refl;
-            happened = did_nothing (known_state state a w);
+            happened = did_nothing (in_world state a w);
             refused = search rules;
           };
           going = λ h. cc;
@@ -154,22 +191,22 @@ module _ {I S : Type 0} (input : I → InputState) (state : S → SourceState) (
 
     -- the end was found, and its text was written, or a prefix of it
     pub step_end : (labels : LabelsValue) (vector : List ℕ) (e : Ending) (answer : Bool) (x : Writing)
-        → IfKnown (check_state input p (known_world state a.inputs)) (check_state input q (known_world state b.inputs))
-        (NoVerdictLeft p.rules e) → b.inputs.stdin_taken ≡ a.inputs.stdin_taken
+        → InSomeCheck input state p q a.inputs b.inputs (NoVerdictLeft p.rules e)
+        → AskedMore (state a.inputs.source) (state b.inputs.source) [] → b.inputs.stdin_taken ≡ a.inputs.stdin_taken
         → (state b.inputs.source).refusals ≡ (state a.inputs.source).refusals → q.rules ≡ p.rules
         → answer ≡ good q.rules e q.counts
         → WritesAndFlushesBoth a.outputs b.outputs (end_text q.rules labels e q.counts) [] x
         → PerformsStep input state vector labels p q a b (answered x (Ended answer))
-    step_end labels vector e answer x found taken refusals same sum writes = λ flushed.
-        check_state-map input p q _ _ _ _ found (λ c d w v f.
+    step_end labels vector e answer x found asked taken refusals same sum writes = λ flushed.
+        InSomeCheck-map found (λ c d w v f.
         let r = p.rules in
         let said = rw (same, f.counts) at (writes.1 flushed).1 in
         let step : Step =
         record { names = []; err = end_text r labels e p.counts; out = []; remaining = length c.bytes } in
         let last : Behavior = record { steps = []; good = answer } in
-        let asks = asks_none f.world taken refusals in
-        step_by r labels (state_at p c w) (state_at q d v) (known_state state a w) (known_state state b v) vector step
+        let asks = asks_none f.world asked taken refusals in
+        step_by r labels (state_at p c w) (state_at q d v) (in_world state a w) (in_world state b v) vector step
         last (Ended answer) x
         (ap (behavior_by r labels c.ending p.counts c) f.none
         ∙ rw (counts_then-nil p.counts, f.ending, sum, same, f.counts) refl) refl
-        (came_by (known_state state a w) (known_state state b v) [] _ [] x asks said) (λ h. cc))
+        (came_by (in_world state a w) (in_world state b v) [] _ [] x asks said) (λ h. cc))

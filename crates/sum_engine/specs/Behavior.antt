@@ -8,10 +8,9 @@ pub use Rattle.sum_sources.specs.declared.fault.Ending.{Ending}
 pub use Rattle.sum_sources.specs.declared.fault.Ending.TheVariants.{Whole, Broken}
 use Rattle.sum_sources.specs.Contents.{Content, clip, Reply, empty_content}
 
--- the source's answer to each name, the names asked so far, and what standard input has left
+-- each name's answer, by the names asked before it (a file may change in between); what standard input has left
 pub record World : Type 0 where
-  pub answer : List ℕ → Reply
-  pub asked : List (List ℕ)
+  pub answer : List (List ℕ) → List ℕ → Reply
   pub input : Content
 
 -- the name of standard input
@@ -20,13 +19,17 @@ is_dash name = bytes_eq name (codes "-")
 
 -- what opening a name gives: what standard input has left, or the source's answer
 abbrev pub reply : World → List ℕ → Reply
-reply w name = if is_dash name then Ok w.input else w.answer name
+reply w name = if is_dash name then Ok w.input else w.answer [] name
 
--- the world after these names were asked: standard input is given once, and is empty from then on
+-- the world once this name was opened: standard input is given once, and is empty from then on
+abbrev pub after_one : World → List ℕ → World
+after_one w name = if is_dash name then record w { input = empty_content }
+    else record w { answer = λ asked. w.answer (name ∷ asked) }
+
+-- the world after these names were asked, one after another
 abbrev pub after : World → List (List ℕ) → World
-after w names =
-    let input = if list_any is_dash names then empty_content else w.input in
-    record w { asked = w.asked ++ filter (λ n. not (is_dash n)) names; input = input }
+after w [] = w
+after w (name ∷ names) = after (after_one w name) names
 
 -- what reading a reply gives: the digest of all its bytes, or the fault of opening or reading it
 abbrev pub digest_or_fault : KindValue → Reply → Result (List ℕ) Fault

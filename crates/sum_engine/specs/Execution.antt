@@ -1,5 +1,5 @@
 -- The state of a call's streams, and what a call performs of a behavior: the form of the headline.
-use Rattle.std.specs.Prelude.{ℕ, ◌≡◌, ◌⊎◌, zero, suc, Bool, true, false, [], Option, Some, Result, Err, ◌<◌, ◌||◌, List, ◌∷◌, ◌++◌, filter_map, Ok}
+use Rattle.std.specs.Prelude.{ℕ, ◌≡◌, ◌⊎◌, zero, suc, Bool, true, false, [], Option, Some, IfSome, Result, Err, ◌<◌, ◌||◌, List, ◌∷◌, ◌++◌, filter, not, filter_map, Ok}
 use Rattle.std.specs.List.{list_any}
 use Rattle.std.specs.Io.KnownBytes.{Appends}
 use Rattle.digest_kinds.specs.Limits.{one_more}
@@ -7,7 +7,6 @@ use Rattle.sum_sources.specs.Contents.{Content, SourceState, IfKnown}
 pub use Rattle.sum_sources.specs.declared.inputs.phase.Phase.{Phase}
 pub use Rattle.sum_sources.specs.declared.inputs.phase.Phase.TheVariants.{Reading, Ended}
 use Rattle.sum_lines.specs.sinks.Sinks.{SinkState, IsPrefix}
-use Rattle.sum_lines.specs.grammar.LineParts.{◌>>=◌}
 pub use Rattle.sum_engine.specs.declared.streams.Streams.{Streams}
 pub use Rattle.sum_engine.specs.declared.stop.Stop.{Stop}
 pub use Rattle.sum_engine.specs.declared.stop.Stop.TheVariants.{Memory, Write}
@@ -24,12 +23,10 @@ pub record InputsState (S : Type 0) : Type 0 where
 abbrev pub KeepsStdin : {S : Type 0} → InputsState S → InputsState S → Type 0
 KeepsStdin a b = b ≡ record a { source = b.source }
 
--- both outputs
 pub record OutputsState : Type 0 where
   pub out : SinkState
   pub err : SinkState
 
--- inputs and outputs
 abbrev pub StreamsState : Type 0 → Type 0
 StreamsState S = Streams (InputsState S) OutputsState
 
@@ -92,66 +89,68 @@ pub record ReadToEnd {S : Type 0} (state : S → SourceState) (a b : InputsState
   pub ended : (state b.source).ended ≡ raised number (state a.source).ended
   pub stdin : IsStdinWhole a → IsStdinWhole b
 
--- the world of these inputs, if the source and standard input are known
-abbrev pub known_world : {S : Type 0} → (S → SourceState) → InputsState S → Option World
-known_world state m = do
-  source ← (state m.source).known
-  input ← m.input
-  Some (record { answer = source.answer; asked = source.asked; input = input })
+-- a world that these inputs may be in: of the source and of standard input what is known
+abbrev pub MayBeIn : {S : Type 0} → (S → SourceState) → InputsState S → World → Type 0
+MayBeIn state m w = IfSome (state m.source).known (λ s. w.answer ≡ (λ asked. s.answer))
+    × IfSome m.input (λ c. w.input ≡ c)
 
--- a state whose world is known
-pub record KnownState : Type 0 where
+-- P holds between worlds before and after: whatever the one after may be, there is one before
+pub record InSomeWorld {S : Type 0} (state : S → SourceState) (a b : InputsState S) (P : World → World → Type 0)
+    : Type 0 where
+  pub before : (v : World) → MayBeIn state b v → (w : World) × MayBeIn state a w × P w v
+
+-- a state of streams in a world
+pub record WorldState : Type 0 where
   pub world : World
-  pub refusals : ℕ  -- how often the source was refused memory
+  pub source : SourceState
   pub stdin_taken : Bool
   pub outputs : OutputsState
 
--- that of these streams, in a world
-abbrev pub known_state : {S : Type 0} → (S → SourceState) → StreamsState S → World → KnownState
-known_state state m w = let refusals = (state m.inputs.source).refusals in
-    record { world = w; refusals = refusals; stdin_taken = m.inputs.stdin_taken; outputs = m.outputs }
+abbrev pub in_world : {S : Type 0} → (S → SourceState) → StreamsState S → World → WorldState
+in_world state m w = let source = state m.inputs.source in
+    record { world = w; source = source; stdin_taken = m.inputs.stdin_taken; outputs = m.outputs }
 
--- P holds between two states of these streams, if their worlds are known
-abbrev pub IfWorldKnown : {S : Type 0} → (S → SourceState) → StreamsState S → StreamsState S
-    → (KnownState → KnownState → Type 0) → Type 0
-IfWorldKnown state a b P = IfKnown (known_world state a.inputs) (known_world state b.inputs)
-    (λ w v. P (known_state state a w) (known_state state b v))
+-- a source was asked these names, but for that of standard input, if what it was asked is known
+abbrev pub AskedMore : SourceState → SourceState → List (List ℕ) → Type 0
+AskedMore a b names = IfKnown a.known b.known (λ s t. t.asked ≡ s.asked ++ filter (λ name. not (is_dash name)) names)
 
 -- these events happened: the names were asked, and the bytes written; the source was refused no memory
-pub record Happened (a b : KnownState) (es : List Event) : Type 0 where
+pub record Happened (a b : WorldState) (es : List Event) : Type 0 where
   pub world : b.world ≡ after a.world (filter_map name_in es)
+  pub asked : AskedMore a.source b.source (filter_map name_in es)
   pub stdin_taken : b.stdin_taken ≡ a.stdin_taken || list_any is_dash (filter_map name_in es)
   pub err : Appends a.outputs.err.written b.outputs.err.written (filter_map err_in es)
   pub out : Appends a.outputs.out.written b.outputs.out.written (filter_map out_in es)
-  pub refusals : b.refusals ≡ a.refusals
+  pub refusals : b.source.refusals ≡ a.source.refusals
 
 -- a prefix of these events happened
-abbrev pub PrefixHappened : KnownState → KnownState → List Event → Type 0
+abbrev pub PrefixHappened : WorldState → WorldState → List Event → Type 0
 PrefixHappened a b es = (prefix : List Event) × IsPrefix prefix es × Happened a b prefix
 
 -- out of memory at a step, of which nothing happened: the source was refused it, or bytes of the manifest remained
-abbrev pub RefusedAt : Step → KnownState → KnownState → Type 0
-RefusedAt s a b = (b ≡ record a { refusals = one_more a.refusals }) ⊎ ((b ≡ a) × (0 < s.remaining))
+abbrev pub RefusedAt : Step → WorldState → WorldState → Type 0
+RefusedAt s a b = (b ≡ record a { source = b.source }) × AskedMore a.source b.source []
+    × (OneMore a.source.refusals b.source.refusals ⊎ ((b.source.refusals ≡ a.source.refusals) × (0 < s.remaining)))
 
 -- out of memory: the steps before the next one happened, and nothing of it
-pub record OutOfMemory (steps : List Step) (a b : KnownState) : Type 0 where
+pub record OutOfMemory (steps : List Step) (a b : WorldState) : Type 0 where
   pub done : List Step
   pub next : Step
   pub later : List Step
-  pub between : KnownState
+  pub between : WorldState
   pub are : steps ≡ done ++ next ∷ later
   pub happened : Happened a between (trace done)
   pub refused : RefusedAt next between b
 
 -- THE HEADLINE, for a call that is to answer x: it answers x, and the whole trace happened; or a write failed after a
 -- prefix of the trace; or memory ran out at a step, and exactly the steps before it happened
-abbrev pub PerformsSteps : {A : Type 0} → List Step → A → KnownState → KnownState → Result A Stop → Type 0
+abbrev pub PerformsSteps : {A : Type 0} → List Step → A → WorldState → WorldState → Result A Stop → Type 0
 PerformsSteps steps x a b (Ok answer) = (answer ≡ x) × Happened a b (trace steps)
 PerformsSteps steps x a b (Err Write) = PrefixHappened a b (trace steps)
 PerformsSteps steps x a b (Err Memory) = OutOfMemory steps a b
 
--- the same of a behavior, if its world is known and both outputs are flushed; what is returned depends on its `good`
+-- the same of a behavior in some world, if both outputs are flushed; what is returned depends on its `good`
 abbrev pub Performs : {S A : Type 0} → (S → SourceState) → (World → Behavior) → (Bool → A) → StreamsState S
     → StreamsState S → Result A Stop → Type 0
-Performs state behavior answer a b r = IsFlushed a.outputs → IfWorldKnown state a b
-    (λ s t. PerformsSteps (behavior s.world).steps (answer (behavior s.world).good) s t r)
+Performs state behavior answer a b r = IsFlushed a.outputs → InSomeWorld state a.inputs b.inputs (λ w v.
+    PerformsSteps (behavior w).steps (answer (behavior w).good) (in_world state a w) (in_world state b v) r)

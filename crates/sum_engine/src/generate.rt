@@ -28,7 +28,7 @@ pub fn generate_one<I: Input + Drop, S: Source, O: Sink, E: Sink>(
     name: &[u8],
     streams: &mut Streams<Inputs<I, S>, Outputs<O, E>>,
 ) -> Result<bool, Stop>
-    // If the source and standard input are known, and both outputs flushed: the behavior of hashing that name.
+    // If both outputs are flushed: the behavior of hashing that name in some world, the known one if it is known.
     ensures behavior { Performs S.state (λ w. generate_behavior settings.now tool.now w name.now) (λ good. good)
         streams.old streams.new result }
     ensures flushed { IsFlushed streams.old.outputs → IsFlushed streams.new.outputs }

@@ -1,6 +1,6 @@
 //! Hashing one name.
 ghost use Rattle.std.specs.Prelude.{◌≡◌, ◌||◌, [], false, IfNone, IfSome};
-ghost use Rattle.sum_sources.specs.Contents.{IfKnown};
+ghost use Rattle.sum_sources.specs.Contents.{Content};
 ghost use Rattle.sum_engine.specs.Behavior.{is_dash};
 
 use crate::inputs::Inputs;
@@ -38,8 +38,8 @@ pub(crate) fn is_dash(name: &[u8]) -> bool
 }
 
 ghost use Rattle.sum_engine.specs.refinement.HashName.{HashesName, IsRead, RefusedUnless, UnlessBroken};
-ghost use Rattle.sum_engine.specs.refinement.HashName.{HasKindLen, digest_of_outcome};
-ghost use Rattle.sum_engine.specs.Execution.{known_world, KeepsStdin, ReadToEnd, Reading, Ended};
+ghost use Rattle.sum_engine.specs.refinement.HashName.{HasKindLen, asked_by, digest_of_outcome};
+ghost use Rattle.sum_engine.specs.Execution.{InSomeWorld, AskedMore, KeepsStdin, ReadToEnd, Reading, Ended};
 
 /// Opens the name (`-` is standard input) and hashes it, through the buffer. `None` if the source is out of memory; the
 /// name is then not recorded as asked.
@@ -49,8 +49,8 @@ pub(crate) fn hash_name<I: Input + Drop, S: Source>(
     inputs: &mut Inputs<I, S>,
     buffer: &mut [u8; PIECE],
 ) -> Option<HashOutcome>
-    ensures outcome { IfKnown (known_world S.state inputs.old) (known_world S.state inputs.new)
-        (λ w v. HashesName kind w v name.now result) }
+    ensures outcome { InSomeWorld S.state inputs.old inputs.new (λ w v. HashesName kind w v name.now result) }
+    ensures asked { AskedMore (S.state inputs.old.source) (S.state inputs.new.source) (asked_by name.now result) }
     ensures stdin_taken { inputs.new.stdin_taken ≡ inputs.old.stdin_taken || is_dash name.now }
     ensures other_name { is_dash name.now ≡ false → KeepsStdin inputs.old inputs.new }
     ensures stdin_kept { IfNone result (KeepsStdin inputs.old inputs.new) }
@@ -82,7 +82,8 @@ fn read_digest<F: Input, H: Hasher + Drop>(
     buffer: &mut [u8; PIECE],
 ) -> HashOutcome
     requires { H.holds hasher [] }
-    ensures outcome { IfSome (F.state file.old).content (λ c. IsRead (H.kind_of hasher) c result) }
+    ensures outcome { (c : Content) × IfSome (F.state file.old).content (λ d. c ≡ d)
+        × IsRead (H.kind_of hasher) c result }
     ensures phase { UnlessBroken (Some result) ((F.state file.old).phase ≡ Reading → (F.state file.new).phase ≡ Ended) }
     ensures digest_len { HasKindLen (H.kind_of hasher) (Some result) }
 {

@@ -1,9 +1,9 @@
 //! Where a call opens and reads.
 ghost use Rattle.std.specs.Prelude.{◌≡◌, false, true, Some, IfOk};
 ghost use Rattle.std.specs.Option.{option_or};
-ghost use Rattle.sum_sources.specs.Contents.{IfKnown, given_state, refusals_after, opened_after, closed_state};
-ghost use Rattle.sum_engine.specs.Execution.{known_world, KeepsStdin, Reading};
-ghost use Rattle.sum_engine.specs.refinement.Openings.{stdin_taken_from, phase_of, Opens};
+ghost use Rattle.sum_sources.specs.Contents.{IfKnown, OpenOf, given_state, refusals_after, opened_after, closed_state};
+ghost use Rattle.sum_engine.specs.Execution.{KeepsStdin, Reading};
+ghost use Rattle.sum_engine.specs.refinement.Openings.{stdin_taken_from, phase_of};
 
 use std::marker::Model;
 use sum_sources::{Given, Input, OpenFault, Source, Stdin};
@@ -52,8 +52,8 @@ impl<I: Input + Drop, S: Source> Inputs<I, S> {
 
     /// Opens the file of this name, as the source does.
     pub(crate) fn open_file(&mut self, name: &[u8]) -> Result<S::File, OpenFault>
-        ensures answer { IfKnown (known_world S.state self.old) (known_world S.state self.new)
-            (λ w v. Opens S.File.state w v name.now result) }
+        ensures answer { IfKnown (S.state self.old.source).known (S.state self.new.source).known
+            (λ s t. OpenOf S.File.state s t name.now result) }
         ensures stdin { KeepsStdin self.old self.new }
         ensures refusals { (S.state self.new.source).refusals
             ≡ refusals_after (S.state self.old.source).refusals result }

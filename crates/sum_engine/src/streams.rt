@@ -24,8 +24,7 @@ impl<O: Sink, E: Sink> Model for Outputs<O, E> {
     ghost view = { λ outputs. record { out = O.state outputs.out; err = E.state outputs.err } };
 }
 
-/// What a call reads from and writes to. What contracts say of bytes assumes outputs that are flushed at the call, and
-/// holds if the source and standard input are known.
+/// What a call reads from and writes to. What contracts say of bytes assumes outputs that are flushed at the call.
 #[derive(Drop)]
 pub struct Streams<In, Out> {
     /// Where it opens and reads: [`Inputs`].

@@ -3,12 +3,12 @@ use Rattle.std.specs.Prelude.{ℕ, ◌≡◌, ◌+◌, ◌≤◌, ◌↔◌, Boo
 use Rattle.std.specs.Io.KnownBytes.{Appends}
 use Rattle.digest_kinds.specs.Kinds.{KindValue}
 use Rattle.sum_sources.specs.declared.line_reader.LineStop.TheVariants.{Fault}
-use Rattle.sum_sources.specs.Contents.{Content, SourceState}
+use Rattle.sum_sources.specs.Contents.{Content, SourceState, clip}
 use Rattle.sum_sources.specs.ManifestLines.{past_lines}
 use Rattle.sum_lines.specs.Escape.{escape}
 use Rattle.sum_lines.specs.grammar.Shapes.{Plain}
 use Rattle.sum_lines.specs.grammar.Entries.{EntryValue, IsEntry, form}
-use Rattle.sum_engine.specs.Execution.{Stop, Write, StreamsState, KnownState, Happened, PrefixHappened, Performs}
+use Rattle.sum_engine.specs.Execution.{Stop, Write, StreamsState, WorldState, IsFlushed, InSomeWorld, in_world, AskedMore, Happened, PrefixHappened, PerformsSteps}
 use Rattle.sum_engine.specs.Behavior.{after, Behavior, trace, out_text, err_text, asks, Ending, Whole, Broken, World}
 use Rattle.sum_engine.specs.check.Verdicts.{lines_by, Rules, LineVerdictValue, asks_of, all_verdicts, verdicts}
 use Rattle.sum_engine.specs.check.Reports.{LabelsValue, out_of, err_of, counts_of, end_text, good}
@@ -16,54 +16,59 @@ use Rattle.sum_engine.specs.check.Checking.{content_behavior}
 use Rattle.sum_engine.specs.check.CheckerSteps.{Going, Ended, CheckState, StepIs, initial_state}
 use Rattle.sum_engine.specs.check.NextVerdict.{LineStop, LineVerdict, NoVerdictLeft, NextVerdictIs}
 
--- a new checker ran to its end: the behavior of its manifest, if that is known
+-- a new checker ran to its end: in some world the behavior of its manifest, of which this is known
 abbrev pub ManifestPerforms : {S : Type 0} → (S → SourceState) → Rules → LabelsValue → Option Content → StreamsState S
     → StreamsState S → Result Bool Stop → Type 0
-ManifestPerforms state r labels c a b x = IfSome c
-    (λ c. Performs state (λ w. content_behavior r labels c (all_verdicts r w c)) (λ good. good) a b x)
+ManifestPerforms state r labels known a b x = IsFlushed a.outputs → InSomeWorld state a.inputs b.inputs (λ w v.
+    (c : Content) × IfSome known (λ d. c ≡ d)
+    × let all = content_behavior r labels (clip c) (all_verdicts r w (clip c)) in
+    PerformsSteps all.steps all.good (in_world state a w) (in_world state b v) x)
 
 -- ---- the laws
 
 -- if a behavior's trace happened, each output grew by its text, and its names were asked
 abbrev pub EventsExtend : Type 0
-EventsExtend = (r : Behavior) (a b : KnownState) → Happened a b (trace r.steps)
-    → (b.world ≡ after a.world (asks r)) × Appends a.outputs.err.written b.outputs.err.written (err_text r)
+EventsExtend = (r : Behavior) (a b : WorldState) → Happened a b (trace r.steps)
+    → (b.world ≡ after a.world (asks r)) × AskedMore a.source b.source (asks r)
+    × Appends a.outputs.err.written b.outputs.err.written (err_text r)
     × Appends a.outputs.out.written b.outputs.out.written (out_text r)
 
 -- steps that each answered Going, one after another; the line's vector then held these
-abbrev pub StepsGoing : Rules → LabelsValue → CheckState → CheckState → KnownState → KnownState → List (List ℕ) → Type 0
+abbrev pub StepsGoing : Rules → LabelsValue → CheckState → CheckState → WorldState → WorldState → List (List ℕ) → Type 0
 StepsGoing r labels a b s t [] = (b ≡ a) × (t ≡ s)
-StepsGoing r labels a b s t (vector ∷ vectors) = (m : CheckState) × (between : KnownState)
+StepsGoing r labels a b s t (vector ∷ vectors) = (m : CheckState) × (between : WorldState)
     × StepIs r labels vector a m s between (Ok Going) × StepsGoing r labels m b between t vectors
 
 -- the step that ends a manifest comes after all k lines, and writes exactly the summary or the fault line
 pub record EndsManifest (r : Rules) (labels : LabelsValue) (c : Content) (js : List LineVerdictValue) (k : ℕ)
-    (a b : KnownState) (answer : Bool) : Type 0 where
+    (a b : WorldState) (answer : Bool) : Type 0 where
   pub lines : k ≡ length (lines_by r.profile c)
   pub good : answer ≡ good r c.ending (counts_of js)
   pub err : Appends a.outputs.err.written b.outputs.err.written (end_text r labels c.ending (counts_of js))
   pub out : Appends a.outputs.out.written b.outputs.out.written []
   pub world : b.world ≡ a.world
+  pub asked : AskedMore a.source b.source []
 
 -- STEP BY STEP, for a manifest c that has these verdicts, once k steps answered Going
 pub record AfterSteps (r : Rules) (labels : LabelsValue) (c : Content) (js : List LineVerdictValue) (k : ℕ)
-    (vectors : List (List ℕ)) (b : CheckState) (s t : KnownState) : Type 0 where
+    (vectors : List (List ℕ)) (b : CheckState) (s t : WorldState) : Type 0 where
   -- both outputs grew by exactly the reports of the first k lines, whose names were asked
   pub err : Appends s.outputs.err.written t.outputs.err.written (flat_map (err_of r labels) (take k js))
   pub out : Appends s.outputs.out.written t.outputs.out.written (flat_map (out_of r labels) (take k js))
   pub world : t.world ≡ after s.world (flat_map asks_of (take k js))
+  pub asked : AskedMore s.source t.source (flat_map asks_of (take k js))
   -- what the input gave goes at most 8192 bytes beyond the end of line k
   pub taken : b.taken + length (past_lines k c).bytes ≤ length c.bytes + 8192
   -- each vector holds at most as many bytes as its line
   pub vector_lens : (i : ℕ) → length (slice_index_or vectors i []) ≤ length (slice_index_or (lines_by r.profile c) i [])
-  pub end : (answer : Bool) (vector : List ℕ) (d : CheckState) (z : KnownState)
+  pub end : (answer : Bool) (vector : List ℕ) (d : CheckState) (z : WorldState)
       → StepIs r labels vector b d t z (Ok (Ended answer)) → EndsManifest r labels c js k t z answer
   -- if the next step fails to write, a prefix of the manifest's whole trace happened
-  pub cut : (vector : List ℕ) (d : CheckState) (z : KnownState) → StepIs r labels vector b d t z (Err Write)
+  pub cut : (vector : List ℕ) (d : CheckState) (z : WorldState) → StepIs r labels vector b d t z (Err Write)
       → PrefixHappened s z (trace (content_behavior r labels c js).steps)
 
 abbrev pub StepsJoin : Type 0
-StepsJoin = (r : Rules) (labels : LabelsValue) (c : Content) (b : CheckState) (s t : KnownState)
+StepsJoin = (r : Rules) (labels : LabelsValue) (c : Content) (b : CheckState) (s t : WorldState)
     (vectors : List (List ℕ)) → StepsGoing r labels (initial_state c s.world) b s t vectors
     → AfterSteps r labels c (all_verdicts r s.world c) (length vectors) vectors b s t
 

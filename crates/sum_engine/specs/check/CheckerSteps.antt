@@ -5,15 +5,14 @@ use Rattle.sum_sources.specs.declared.line_reader.LineReader.{LineReader}
 use Rattle.sum_sources.specs.Contents.{Content, IfKnown, SourceState, InputState, clip}
 use Rattle.sum_sources.specs.ManifestLines.{past_line, NoNewline}
 use Rattle.sum_sources.specs.declared.line_reader.Next.TheVariants.{NoMore}
-use Rattle.sum_sources.specs.LineReaders.{remaining_content, consumed, Bounded, IsReadSoFar}
+use Rattle.sum_sources.specs.LineReaders.{remaining_content, MayRemain, consumed, Bounded, IsReadSoFar}
 use Rattle.sum_lines.specs.declared.reading.read_line.Form.TheVariants.{Undecided}
 use Rattle.sum_lines.specs.grammar.Entries.{form_then, line_form, form}
-use Rattle.sum_lines.specs.grammar.LineParts.{◌>>=◌}
 use Rattle.sum_lines.specs.grammar.ParsedLines.{parse_line}
 pub use Rattle.sum_engine.specs.declared.check.progress.Progress.{Progress}
 pub use Rattle.sum_engine.specs.declared.check.progress.Progress.TheVariants.{Going, Ended}
 use Rattle.sum_engine.specs.check.Verdicts.{Form, Verdict, Ignored, Bad, Right, Wrong, Missing, Unread, lines_by, Rules, LineVerdictValue, judge, verdicts}
-use Rattle.sum_engine.specs.Execution.{Stop, Memory, Write, KnownState, PerformsSteps, InputsState, StreamsState, KeepsStdin, IsFlushed, FailuresMatch, NoOutputOnMemory, ReadToEnd, known_world, known_state}
+use Rattle.sum_engine.specs.Execution.{Stop, Memory, Write, WorldState, PerformsSteps, InputsState, StreamsState, KeepsStdin, IsFlushed, FailuresMatch, NoOutputOnMemory, ReadToEnd, MayBeIn, in_world}
 use Rattle.sum_engine.specs.check.Reports.{LabelsValue, CountsValue, counts_of, end_text, good}
 use Rattle.sum_engine.specs.Behavior.{World, Step, Behavior}
 use Rattle.sum_engine.specs.check.Checking.{line_steps}
@@ -107,7 +106,7 @@ progress_before r = elim r.steps [ [] ↦ Ended r.good | steps ↦ Going ]
 
 -- what a step does from a to b, and of the streams from s to t: it performs the first step of the behavior that
 -- remained; if it answers Going, a line was handled, and the others remain
-pub record StepIs (r : Rules) (labels : LabelsValue) (vector : List ℕ) (a b : CheckState) (s t : KnownState)
+pub record StepIs (r : Rules) (labels : LabelsValue) (vector : List ℕ) (a b : CheckState) (s t : WorldState)
     (x : Result Progress Stop) : Type 0 where
   pub step : Step
   pub later : Behavior
@@ -152,9 +151,12 @@ state_at p c w = record {
   world = w;
 }
 
--- that, if both are known
-abbrev pub check_state : {I : Type 0} → (I → InputState) → CursorValue I → Option World → Option CheckState
-check_state state p known = remaining_content state p.reader >>= λ c. known >>= λ w. Some (state_at p c w)
+-- P holds between the check's states at two places and inputs: whatever remains after, in whatever world, there is a state
+-- before
+pub record InSomeCheck {I S : Type 0} (input : I → InputState) (source : S → SourceState) (p q : CursorValue I)
+    (a b : InputsState S) (P : CheckState → CheckState → Type 0) : Type 0 where
+  pub before : (d : Content) (v : World) → MayRemain input q.reader d → MayBeIn source b v
+      → (c : Content) × (w : World) × MayRemain input p.reader c × MayBeIn source a w × P (state_at p c w) (state_at q d v)
 
 -- it is at the first line of that input; nothing of it was read
 pub record IsAtStart {I : Type 0} (state : I → InputState) (p : CursorValue I) (input : I) : Type 0 where
@@ -201,9 +203,8 @@ pub record AdvancesChecker {I S : Type 0} (input : I → InputState) (source : S
   pub failures : FailuresMatch a.outputs b.outputs x
   pub no_output_on_memory : NoOutputOnMemory a.outputs b.outputs x
 
--- a step, if both outputs are flushed at the call, and manifest and streams are known
+-- a step in some world, if both outputs are flushed at the call
 abbrev pub PerformsStep : {I S : Type 0} → (I → InputState) → (S → SourceState) → List ℕ → LabelsValue → CursorValue I
     → CursorValue I → StreamsState S → StreamsState S → Result Progress Stop → Type 0
-PerformsStep input source vector labels p q a b x = IsFlushed a.outputs → IfKnown
-    (check_state input p (known_world source a.inputs)) (check_state input q (known_world source b.inputs))
-    (λ c d. StepIs p.rules labels vector c d (known_state source a c.world) (known_state source b d.world) x)
+PerformsStep input source vector labels p q a b x = IsFlushed a.outputs → InSomeCheck input source p q a.inputs b.inputs
+    (λ c d. StepIs p.rules labels vector c d (in_world source a c.world) (in_world source b d.world) x)

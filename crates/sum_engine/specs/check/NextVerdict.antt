@@ -4,10 +4,10 @@ use Rattle.std.specs.List.{list_any}
 use Rattle.sum_engine.specs.Behavior.{Ending, Whole, Broken, is_dash, after}
 pub use Rattle.sum_sources.specs.declared.line_reader.LineStop.{LineStop}
 use Rattle.sum_sources.specs.declared.line_reader.LineStop.TheVariants.{Fault, Memory}
-use Rattle.sum_sources.specs.Contents.{InputState, IfKnown, SourceState}
+use Rattle.sum_sources.specs.Contents.{InputState, SourceState}
 use Rattle.sum_sources.specs.LineReaders.{remaining_content}
-use Rattle.sum_engine.specs.Execution.{InputsState, Stop, ReadToEnd, known_world}
-use Rattle.sum_engine.specs.check.CheckerSteps.{Progress, Going, Ended, CheckState, CursorValue, counts_with, LineHandled, remaining_verdicts, check_state, AdvancesCursor, MemoryStopHasCause}
+use Rattle.sum_engine.specs.Execution.{InputsState, Stop, ReadToEnd, AskedMore}
+use Rattle.sum_engine.specs.check.CheckerSteps.{Progress, Going, Ended, CheckState, CursorValue, counts_with, LineHandled, remaining_verdicts, InSomeCheck, AdvancesCursor, MemoryStopHasCause}
 pub use Rattle.sum_engine.specs.declared.check.judge.LineVerdict.{LineVerdict}
 use Rattle.sum_engine.specs.check.Verdicts.{Rules, LineVerdictValue, asks_of}
 use Rattle.sum_engine.specs.check.Reports.{CountsValue, is_unread}
@@ -48,11 +48,10 @@ NextVerdictIs r vector a b (Ok None) = NoVerdictLeft r Whole a b
 NextVerdictIs r vector a b (Err (Fault f)) = NoVerdictLeft r (Broken f) a b
 NextVerdictIs r vector a b (Err Memory) = (b.world ≡ a.world) × (0 < length a.rest.bytes)
 
--- the same between two places and inputs, if manifest, source and standard input are known
+-- the same between two places and inputs, in some world
 abbrev pub FindsVerdict : {I S : Type 0} → (I → InputState) → (S → SourceState) → List ℕ → CursorValue I → CursorValue I
     → InputsState S → InputsState S → VerdictResult → Type 0
-FindsVerdict input source vector p q a b x = IfKnown (check_state input p (known_world source a))
-    (check_state input q (known_world source b)) (λ c d. NextVerdictIs p.rules vector c d x)
+FindsVerdict input source vector p q a b x = InSomeCheck input source p q a b (λ c d. NextVerdictIs p.rules vector c d x)
 
 -- the progress of a checker that finds this: a line, the end, or out of memory
 abbrev pub progress_of : VerdictResult → Result Progress Stop
@@ -91,6 +90,11 @@ abbrev pub taken_after : Bool → List ℕ → VerdictResult → Bool
 taken_after taken vector (Ok (Some v)) = taken || list_any is_dash (asks_of (line_verdict_value vector v))
 taken_after taken vector x = taken
 
+-- the names that such a call asks
+abbrev pub names_of_result : List ℕ → VerdictResult → List (List ℕ)
+names_of_result vector (Ok (Some v)) = asks_of (line_verdict_value vector v)
+names_of_result vector x = []
+
 -- what a call for the next verdict does, known or not
 pub record AdvancesVerdicts {I S : Type 0} (input : I → InputState) (source : S → SourceState) (vector : List ℕ)
     (p q : VerdictsValue I) (a b : InputsState S) (x : VerdictResult) : Type 0 where
@@ -101,4 +105,5 @@ pub record AdvancesVerdicts {I S : Type 0} (input : I → InputState) (source : 
       (progress_of x)
   -- Right and Wrong only if the file that was opened was read to its end
   pub read_to_end : UnlessUnread x (ReadToEnd source a b)
+  pub asked : AskedMore (source a.source) (source b.source) (names_of_result vector x)
   pub stdin_taken : b.stdin_taken ≡ taken_after a.stdin_taken vector x

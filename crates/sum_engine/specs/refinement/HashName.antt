@@ -30,6 +30,11 @@ abbrev pub HashesName : KindValue → World → World → List ℕ → Option Ha
 HashesName kind w v name None = v ≡ w
 HashesName kind w v name (Some a) = (v ≡ after w (name ∷ [])) × IsHashOutcome kind (reply w name) a
 
+-- the names that this asks: none without memory
+abbrev pub asked_by : List ℕ → Option HashOutcome → List (List ℕ)
+asked_by name None = []
+asked_by name (Some a) = name ∷ []
+
 -- P, unless reading the file failed
 abbrev pub UnlessBroken : Option HashOutcome → Type 0 → Type 0
 UnlessBroken (Some (asked.Broken f)) P = ⊤

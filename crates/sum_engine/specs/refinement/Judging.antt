@@ -64,6 +64,11 @@ abbrev pub found_of : Option LineVerdict → VerdictResult
 found_of None = Err Memory
 found_of (Some v) = Ok (Some v)
 
+-- the names that this verdict asks: none without memory
+abbrev pub names_of_verdict : List ℕ → Option Verdict → List (List ℕ)
+names_of_verdict name None = []
+names_of_verdict name (Some v) = asks_by v name
+
 -- P, unless the file could not be read
 abbrev pub UnlessUnreadVerdict : Option Verdict → Type 0 → Type 0
 UnlessUnreadVerdict (Some v) P = is_unread v ≡ false → P

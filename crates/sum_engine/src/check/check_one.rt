@@ -1,6 +1,4 @@
 //! Checking one manifest.
-ghost use Rattle.std.specs.Option.{option_map};
-ghost use Rattle.sum_sources.specs.Contents.{clip};
 ghost use Rattle.sum_engine.specs.check.Checking.{check_behavior};
 ghost use Rattle.sum_engine.specs.Execution.{IsFlushed, FailuresMatch, OneMoreAtMost, RefusalsMatch, StopHasCause};
 ghost use Rattle.sum_engine.specs.Execution.{Performs, KeepsStdin, ReadToEnd, Reading, Ended};
@@ -36,7 +34,7 @@ pub fn check_one<A: Allocator + Copy, J: Input + Drop, S: Source, O: Sink, E: Si
     name: &[u8],
     streams: &mut Streams<Inputs<J, S>, Outputs<O, E>>,
 ) -> Result<bool, Stop>
-    // If the source and standard input are known, and both outputs flushed: the behavior of checking that name.
+    // If both outputs are flushed: the behavior of checking that name in some world, the known one if it is known.
     ensures behavior { Performs S.state (λ w. check_behavior settings tool.now w name.now) (λ good. good)
         streams.old streams.new result }
     ensures flushed { IsFlushed streams.old.outputs → IsFlushed streams.new.outputs }
@@ -87,7 +85,7 @@ fn check_input<'a, A: Allocator, I: Input, J: Input + Drop, S: Source, O: Sink, 
     streams: &mut Streams<Inputs<J, S>, Outputs<O, E>>,
 ) -> (Result<bool, Stop>, I)
     ensures behavior { ManifestPerforms S.state (rules_in rules) (labels_in labels.entry)
-        (option_map clip (I.state input).content) streams.old streams.new result.0 }
+        (I.state input).content streams.old streams.new result.0 }
     ensures cause { StopHasCause S.state OneMoreAtMost streams.old streams.new result.0 }
     ensures read_to_end { result.0 ≡ Ok true → ReadToEnd S.state streams.old.inputs streams.new.inputs }
     ensures stdin { rules.from_stdin ≡ true → KeepsStdin streams.old.inputs streams.new.inputs }
@@ -108,7 +106,7 @@ fn check_lines<'a, A: Allocator, I: Input, J: Input + Drop, S: Source, O: Sink, 
     requires start { IsAtStart I.state checker.old.cursor checker.old.cursor.reader.input }
     requires final_answer { checker.old.final_answer ≡ None }
     ensures behavior { ManifestPerforms S.state checker.old.cursor.rules checker.old.labels
-        (option_map clip (I.state checker.old.cursor.reader.input).content) streams.old streams.new result }
+        (I.state checker.old.cursor.reader.input).content streams.old streams.new result }
     ensures cause { StopHasCause S.state OneMoreAtMost streams.old streams.new result }
     ensures read_to_end { result ≡ Ok true → ReadToEnd S.state streams.old.inputs streams.new.inputs }
     ensures stdin { checker.old.cursor.rules.from_stdin ≡ true → KeepsStdin streams.old.inputs streams.new.inputs }

@@ -116,7 +116,7 @@ impl<'a, I: Input> Checker<'a, I> {
         // A final answer is returned again; checker and streams stay as they are.
         ensures repeats { IfSome self.old.final_answer
             (λ r. (result ≡ r) × (self.new ≡ self.old) × (streams.new ≡ streams.old)) }
-        // If manifest, source and standard input are known, and both outputs flushed: the next step of the behavior.
+        // If both outputs are flushed: the next step of the behavior, in some world, the known one if it is known.
         ensures step { self.old.final_answer ≡ None → PerformsStep I.state S.state line.new.items self.old.labels
             self.old.cursor self.new.cursor streams.old streams.new result }
         // Known or not: how far the manifest was read, the cause of a stop, and which answers are final.

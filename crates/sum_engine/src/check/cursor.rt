@@ -31,17 +31,16 @@ pub(crate) struct CheckCursor<I> {
 }
 
 impl<I: Input> CheckCursor<I> {
-    ghost use Rattle.sum_sources.specs.Contents.{IfKnown};
     ghost use Rattle.sum_sources.specs.LineReaders.{remaining_content};
-    ghost use Rattle.sum_engine.specs.Execution.{known_world, KeepsStdin, IsFlushed, FailuresMatch, NoOutputOnMemory};
-    ghost use Rattle.sum_engine.specs.Execution.{ReadToEnd};
+    ghost use Rattle.sum_engine.specs.Execution.{KeepsStdin, IsFlushed, FailuresMatch, NoOutputOnMemory};
+    ghost use Rattle.sum_engine.specs.Execution.{ReadToEnd, InSomeWorld, AskedMore};
     ghost use Rattle.sum_engine.specs.check.CheckerSteps.{MemoryStopHasCause, IsAtStart};
     ghost use Rattle.sum_engine.specs.check.CheckerSteps.{PerformsStep, AdvancesCursor, ReadsListedFile};
     ghost use Rattle.sum_sources.specs.declared.fault.Ending.TheVariants.{Whole};
     ghost use Rattle.sum_engine.specs.check.Reports.{good, is_unread};
     ghost use Rattle.sum_engine.specs.refinement.HashName.{RefusedUnless};
     ghost use Rattle.sum_engine.specs.check.NextVerdict.{HasNameRange, FindsVerdict, progress_of};
-    ghost use Rattle.sum_engine.specs.check.NextVerdict.{counts_after, taken_after, UnlessUnread};
+    ghost use Rattle.sum_engine.specs.check.NextVerdict.{counts_after, taken_after, names_of_result, UnlessUnread};
     ghost use Rattle.sum_engine.specs.refinement.Judging.{TakesLine, JudgeLineOf, found_of};
     ghost use Rattle.sum_engine.specs.refinement.Cursors.{rules_in, labels_in, cursor_value};
 
@@ -132,6 +131,8 @@ impl<I: Input> CheckCursor<I> {
     ) -> Result<Option<LineVerdict>, LineStop>
         ensures verdict { FindsVerdict I.state S.state line.new.items (cursor_value self.old)
             (cursor_value self.new) inputs.old inputs.new result }
+        ensures asked { AskedMore (S.state inputs.old.source) (S.state inputs.new.source)
+            (names_of_result line.new.items result) }
         ensures name_range { IfOk result (λ found. IfSome found (λ v. HasNameRange line.new.items v)) }
         ensures out_of_memory { MemoryStopHasCause (S.state inputs.old.source) (S.state inputs.new.source)
             (remaining_content I.state self.old.reader) (progress_of result) }
@@ -159,9 +160,10 @@ impl<I: Input> CheckCursor<I> {
     ) -> Option<LineVerdict>
         requires few { total (counts_value self.old.counts) < self.old.reader.lines }
         requires lines { self.old.reader.lines ≤ LIMIT }
-        ensures verdict { IfKnown (known_world S.state inputs.old) (known_world S.state inputs.new)
-            (λ w v. JudgeLineOf (cursor_value self.old) line.old.items (counts_value self.new.counts)
-            line.new.items w v result) }
+        ensures verdict { InSomeWorld S.state inputs.old inputs.new (λ w v. JudgeLineOf (cursor_value self.old)
+            line.old.items (counts_value self.new.counts) line.new.items w v result) }
+        ensures asked { AskedMore (S.state inputs.old.source) (S.state inputs.new.source)
+            (names_of_result line.new.items (found_of result)) }
         ensures stdin_taken { inputs.new.stdin_taken
             ≡ taken_after inputs.old.stdin_taken line.new.items (found_of result) }
         ensures name_range { IfSome result (λ v. HasNameRange line.new.items v) }

@@ -40,9 +40,8 @@ pub struct LineVerdict {
 }
 
 ghost use Rattle.sum_engine.specs.refinement.Cursors.{rules_in};
-ghost use Rattle.sum_sources.specs.Contents.{IfKnown};
-ghost use Rattle.sum_engine.specs.refinement.Judging.{JudgeOf, UnlessUnreadVerdict, verdict_of_outcome, listed_entry};
-ghost use Rattle.sum_engine.specs.Execution.{known_world, KeepsStdin, ReadToEnd};
+ghost use Rattle.sum_engine.specs.refinement.Judging.{JudgeOf, UnlessUnreadVerdict, names_of_verdict, verdict_of_outcome, listed_entry};
+ghost use Rattle.sum_engine.specs.Execution.{InSomeWorld, AskedMore, KeepsStdin, ReadToEnd};
 
 /// An entry of a manifest: the digest of a file, with its kind, and the file's name.
 #[derive(Clone, Copy)]
@@ -59,8 +58,10 @@ pub(crate) fn judge<I: Input + Drop, S: Source>(
     inputs: &mut Inputs<I, S>,
     buffer: &mut [u8; PIECE],
 ) -> Option<Verdict>
-    ensures verdict { IfKnown (known_world S.state inputs.old) (known_world S.state inputs.new)
+    ensures verdict { InSomeWorld S.state inputs.old inputs.new
         (λ w v. JudgeOf (rules_in rules) w v (entry (listed_entry listed.now)) result) }
+    ensures asked { AskedMore (S.state inputs.old.source) (S.state inputs.new.source)
+        (names_of_verdict listed.now.name.now result) }
     ensures stdin_taken { MatchOption result (KeepsStdin inputs.old inputs.new)
         (λ v. inputs.new.stdin_taken ≡ inputs.old.stdin_taken || list_any is_dash (asks_by v listed.now.name.now)) }
     ensures stdin_kept { rules.from_stdin ≡ true → KeepsStdin inputs.old inputs.new }

@@ -89,7 +89,7 @@ impl<I: Input> Verdicts<I> {
         // A final answer is returned again; all but `line` stays as it is.
         ensures repeats { IfSome self.old.final_answer
             (λ r. (result ≡ r) × (self.new ≡ self.old) × (inputs.new ≡ inputs.old)) }
-        // If manifest, source and standard input are known: the first of the verdicts that remained.
+        // In some world, the known one if it is known: the first of the verdicts that remained.
         ensures verdict { self.old.final_answer ≡ None → FindsVerdict I.state S.state line.new.items
             self.old.cursor self.new.cursor inputs.old inputs.new result }
         ensures name_range { IfOk result (λ found. IfSome found (λ v. HasNameRange line.new.items v)) }

@@ -16,8 +16,8 @@ returns-in-None-clause-behavior g c =
     let kept = ap (λ (m : InputsState g.row.S.Denot). m.stdin_taken) c.in-None.ensures.stdin_kept in
     unasked g.S.Source.state (λ w. generate_behavior settings tool w name) (λ g. g) c.args.streams.now
     (record c.args.streams.now { inputs = c.hash_name.new.inputs })
-    (λ w. one_step settings tool name (digest_or_fault settings.kind (reply w name))) c.in-None.ensures.outcome kept refl
-    c.in-None.ensures.refusals
+    (λ w. one_step settings tool name (digest_or_fault settings.kind (reply w name))) c.in-None.ensures.outcome
+    c.in-None.ensures.asked kept refl c.in-None.ensures.refusals
 
 -- the name was read, and writing its line failed
 pub returns-in_err-put_line_flushed-in-Ok-clause-behavior :
@@ -26,7 +26,7 @@ returns-in_err-put_line_flushed-in-Ok-clause-behavior g c =
     let stop = err_from_is_err_and c.from_residual.result c.from_residual.ensures.1 in
     let done = c.in-Some.ensures in
     rw (stop.1, stop.2) (generate-performed g.S.Source.state _ _ c.args.name.now _ _ _ c.args.streams.now
-    (record { inputs = c.hash_name.new.inputs; outputs = _ }) _ (Ok _) (Err tt) done.outcome done.stdin_taken
+    (record { inputs = c.hash_name.new.inputs; outputs = _ }) _ (Ok _) (Err tt) done.outcome done.asked done.stdin_taken
     done.refusals c.in-Ok.ensures refl c.in_err-put_line_flushed-in-Ok.ensures)
 
 -- its line was written
@@ -35,7 +35,7 @@ pub returns-in_ok-put_line_flushed-in-Ok-clause-behavior :
 returns-in_ok-put_line_flushed-in-Ok-clause-behavior g c =
     let done = c.in-Some.ensures in
     generate-performed g.S.Source.state _ _ c.args.name.now _ _ _ c.args.streams.now
-    (record { inputs = c.hash_name.new.inputs; outputs = _ }) _ (Ok _) (Ok tt) done.outcome done.stdin_taken
+    (record { inputs = c.hash_name.new.inputs; outputs = _ }) _ (Ok _) (Ok tt) done.outcome done.asked done.stdin_taken
     done.refusals c.in-Ok.ensures refl c.in_ok-put_line_flushed-in-Ok.ensures
 
 -- the name could not be opened or read, and writing the line of its fault failed
@@ -46,7 +46,7 @@ returns-in_err-put_fault_line-in-Err-clause-behavior g c =
     let stop = err_from_is_err_and back.result back.ensures.1 in
     let done = c.in-Some.ensures in
     rw (stop.1, stop.2) (generate-performed g.S.Source.state _ _ c.args.name.now _ _ _ c.args.streams.now
-    (record { inputs = c.hash_name.new.inputs; outputs = _ }) _ (Err _) (Err tt) done.outcome done.stdin_taken
+    (record { inputs = c.hash_name.new.inputs; outputs = _ }) _ (Err _) (Err tt) done.outcome done.asked done.stdin_taken
     done.refusals c.in-Err.ensures refl c.in_err-put_fault_line-in-Err.ensures)
 
 -- that line was written
@@ -55,5 +55,5 @@ pub returns-in_ok-put_fault_line-in-Err-clause-behavior :
 returns-in_ok-put_fault_line-in-Err-clause-behavior g c =
     let done = c.in-Some.ensures in
     generate-performed g.S.Source.state _ _ c.args.name.now _ _ _ c.args.streams.now
-    (record { inputs = c.hash_name.new.inputs; outputs = _ }) _ (Err _) (Ok tt) done.outcome done.stdin_taken
+    (record { inputs = c.hash_name.new.inputs; outputs = _ }) _ (Err _) (Ok tt) done.outcome done.asked done.stdin_taken
     done.refusals c.in-Err.ensures refl c.in_ok-put_fault_line-in-Err.ensures

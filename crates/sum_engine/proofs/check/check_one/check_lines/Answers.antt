@@ -16,7 +16,8 @@ returns-in-Err-clause-behavior g c =
     comes_last g.I.Input.state g.S.Source.state first.cursor.rules first.labels first.cursor c.args.streams.now
     c.lines.checker.labels first.cursor.reader.input c.lines.checker.cursor c.step.new.self.cursor c.lines.streams
     c.step.new.streams c.step.new.line.items (Err c.in-Err.stop) c.requires.start so_far.rules so_far.labels
-    so_far.comes so_far.so_far.flushed (c.in-Err.ensures.step so_far.going)
+    so_far.comes so_far.so_far.flushed (c.in-Err.ensures.advances so_far.going).cursor.bounds
+    (c.in-Err.ensures.step so_far.going)
 
 -- the end was handled
 pub returns-in-Ok-Ended-clause-behavior : goal.returns-in-Ok-Ended-clause-behavior
@@ -27,7 +28,7 @@ returns-in-Ok-Ended-clause-behavior g c =
     comes_last g.I.Input.state g.S.Source.state first.cursor.rules first.labels first.cursor c.args.streams.now
     c.lines.checker.labels first.cursor.reader.input c.lines.checker.cursor c.step.new.self.cursor c.lines.streams
     c.step.new.streams c.step.new.line.items (Ok c.in-Ok-Ended.good) c.requires.start so_far.rules so_far.labels
-    so_far.comes so_far.so_far.flushed step
+    so_far.comes so_far.so_far.flushed (c.in-Ok-Ended.ensures.advances so_far.going).cursor.bounds step
 
 -- a good manifest has no file that could not be read
 pub returns-in-Ok-Ended-clause-read_to_end : goal.returns-in-Ok-Ended-clause-read_to_end

@@ -3,7 +3,8 @@ use Rattle.sum_lines.specs.grammar.Entries.{EntryValue}
 use Rattle.sum_engine.specs.Behavior.{is_dash}
 use Rattle.sum_engine.specs.refinement.Judging.{listed_entry}
 use Rattle.sum_engine.specs.refinement.Cursors.{rules_in}
-use Rattle.sum_engine.proofs.VerdictLemmas.{judged_entry}
+use Rattle.sum_engine.proofs.WorldLemmas.{InSomeWorld-map}
+use Rattle.sum_engine.proofs.VerdictLemmas.{judged_entry, entry_asks}
 use Rattle.sum_engine.proofs.check.judge.judge.Goals.{else-rules-via-then-rules+else-is_dash, else-rules-via-else-rules}
 use Rattle.sum_engine.proofs.check.judge.judge.Goals as goal
 
@@ -16,5 +17,10 @@ returns-clause-verdict g c =
       | else-rules-via-else-rules
           w ↦ search rules
     ] in
-    judged_entry (rules_in c.args.rules) _ _ s c.in_ok-outcome.outcome _ dash c.in_ok-outcome.ensures.outcome
-    c.compare.ensures
+    InSomeWorld-map c.in_ok-outcome.ensures.outcome (λ w v hashed.
+    judged_entry (rules_in c.args.rules) w v s c.in_ok-outcome.outcome _ dash hashed c.compare.ensures)
+
+pub returns-clause-asked : goal.returns-clause-asked
+returns-clause-asked g c =
+    let s : EntryValue = listed_entry c.args.listed.now in
+    rw (entry_asks (rules_in c.args.rules) s c.in_ok-outcome.outcome _ c.compare.ensures) c.in_ok-outcome.ensures.asked

@@ -18,7 +18,7 @@ returns-in-Err-Memory-clause-step g c =
     step_refused g.I.Input.state g.S.Source.state (cursor_value c.args.self.now)
     (cursor_value c.next_verdict.new.self) c.args.streams.now
     (record { inputs = c.next_verdict.new.inputs; outputs = _ }) (labels_in c.args.labels.now)
-    c.next_verdict.new.line.items (rw is at done.verdict) done.stdin_taken (rw is at done.out_of_memory) refl
+    c.next_verdict.new.line.items (rw is at done.verdict) done.asked done.stdin_taken (rw is at done.out_of_memory) refl
 
 -- the line of the manifest's fault was written
 pub returns-in_ok-put_fault_line-in-Err-Fault-clause-step :
@@ -30,7 +30,7 @@ returns-in_ok-put_fault_line-in-Err-Fault-clause-step g c =
     step_end g.I.Input.state g.S.Source.state _ _ c.args.streams.now
     (record { inputs = c.next_verdict.new.inputs; outputs = _ }) (labels_in c.args.labels.now)
     c.next_verdict.new.line.items (Broken c.in-Err-Fault.fault) false (Ok tt) (rw is at done.verdict)
-    done.stdin_taken (rw is at done.out_of_memory) done.cursor.rules refl written
+    done.asked done.stdin_taken (rw is at done.out_of_memory) done.cursor.rules refl written
 
 -- it was cut off
 pub returns-in_err-put_fault_line-in-Err-Fault-clause-step :
@@ -43,7 +43,7 @@ returns-in_err-put_fault_line-in-Err-Fault-clause-step g c =
     rw (stop.1, stop.2) (step_end g.I.Input.state g.S.Source.state _ _ c.args.streams.now
     (record { inputs = c.next_verdict.new.inputs; outputs = _ }) (labels_in c.args.labels.now)
     c.next_verdict.new.line.items (Broken c.in-Err-Fault.fault) false (Err tt) (rw is at done.verdict)
-    done.stdin_taken (rw is at done.out_of_memory) done.cursor.rules refl cut)
+    done.asked done.stdin_taken (rw is at done.out_of_memory) done.cursor.rules refl cut)
 
 -- the summary was written
 pub returns-in_ok-put_summary-in-Ok-None-clause-step : goal.returns-in_ok-put_summary-in-Ok-None-clause-step
@@ -52,7 +52,7 @@ returns-in_ok-put_summary-in-Ok-None-clause-step g c =
     let is = c.in-Ok-None.field-0-is in
     step_end g.I.Input.state g.S.Source.state _ _ c.args.streams.now
     (record { inputs = c.next_verdict.new.inputs; outputs = _ }) (labels_in c.args.labels.now)
-    c.next_verdict.new.line.items Whole _ (Ok tt) (rw is at done.verdict) (rw is at done.stdin_taken)
+    c.next_verdict.new.line.items Whole _ (Ok tt) (rw is at done.verdict) (rw is at done.asked) (rw is at done.stdin_taken)
     (rw is at done.out_of_memory) done.cursor.rules c.is_good.ensures c.in_ok-put_summary-in-Ok-None.ensures
 
 -- it was cut off
@@ -64,7 +64,7 @@ returns-in_err-put_summary-in-Ok-None-clause-step g c =
     let stop = err_from_is_err_and back.result back.ensures.1 in
     rw (stop.1, stop.2) (step_end g.I.Input.state g.S.Source.state _ _ c.args.streams.now
     (record { inputs = c.next_verdict.new.inputs; outputs = _ }) (labels_in c.args.labels.now)
-    c.next_verdict.new.line.items Whole _ (Err tt) (rw is at done.verdict) (rw is at done.stdin_taken)
+    c.next_verdict.new.line.items Whole _ (Err tt) (rw is at done.verdict) (rw is at done.asked) (rw is at done.stdin_taken)
     (rw is at done.out_of_memory) done.cursor.rules refl c.in_err-put_summary-in-Ok-None.ensures)
 
 -- an ignored line was found, of which nothing is reported
@@ -75,7 +75,7 @@ returns-in-Ignored-clause-step g c =
     step_found g.I.Input.state g.S.Source.state (cursor_value c.args.self.now)
     (cursor_value c.next_verdict.new.self) c.args.streams.now
     (record { inputs = c.next_verdict.new.inputs; outputs = _ }) (labels_in c.args.labels.now) _ c.in-Ok-Some.found
-    (Ok tt) (rw is at done.verdict) (rw is at done.stdin_taken) (rw is at done.out_of_memory)
+    (Ok tt) (rw is at done.verdict) (rw is at done.asked) (rw is at done.stdin_taken) (rw is at done.out_of_memory)
     (rw (c.in-Ignored.is, out_by-ignored present c.args.labels.now.report _)
     ((refl, refl), λ flushed. (flushed, (Appends-nil _, Appends-nil _))))
 
@@ -88,7 +88,7 @@ returns-in_ok-put_report-in-Ok-Some-clause-step g c =
     step_found g.I.Input.state g.S.Source.state (cursor_value c.args.self.now)
     (cursor_value c.next_verdict.new.self) c.args.streams.now
     (record { inputs = c.next_verdict.new.inputs; outputs = _ }) (labels_in c.args.labels.now) _ c.in-Ok-Some.found
-    (Ok tt) (rw is at done.verdict) (rw is at done.stdin_taken) (rw is at done.out_of_memory) texts
+    (Ok tt) (rw is at done.verdict) (rw is at done.asked) (rw is at done.stdin_taken) (rw is at done.out_of_memory) texts
 
 -- it was cut off
 pub returns-in_err-put_report-in-Ok-Some-clause-step : goal.returns-in_err-put_report-in-Ok-Some-clause-step
@@ -101,7 +101,7 @@ returns-in_err-put_report-in-Ok-Some-clause-step g c =
     rw (stop.1, stop.2) (step_found g.I.Input.state g.S.Source.state (cursor_value c.args.self.now)
     (cursor_value c.next_verdict.new.self) c.args.streams.now (record { inputs = c.next_verdict.new.inputs; outputs = _ })
     (labels_in c.args.labels.now) _ c.in-Ok-Some.found
-    (Err tt) (rw is at done.verdict) (rw is at done.stdin_taken) (rw is at done.out_of_memory) texts)
+    (Err tt) (rw is at done.verdict) (rw is at done.asked) (rw is at done.stdin_taken) (rw is at done.out_of_memory) texts)
 
 -- how far the line's file was read
 pub returns-in_ok-put_report-in-Ok-Some-clause-files : goal.returns-in_ok-put_report-in-Ok-Some-clause-files

@@ -1,6 +1,6 @@
 use Rattle.std.proofs.Common.{rules, refl}
 use Rattle.sum_engine.specs.refinement.Cursors.{cursor_value}
-use Rattle.sum_engine.proofs.NextVerdictLemmas.{next_verdict-line, next_verdict-refused, cursor-advanced}
+use Rattle.sum_engine.proofs.NextVerdictLemmas.{next_verdict-line, next_verdict-refused, next_verdict-end, next_verdict-stopped, stop_cause, cursor-advanced}
 use Rattle.sum_engine.proofs.check.cursor.CheckCursor.next_verdict.Goals as goal
 
 -- a line was judged
@@ -9,15 +9,15 @@ returns-in-Some-clause-verdict g c =
     let gives = rw c.in-Ok-Line.field-0-is at c.in-Ok-Line.ensures.line in
     let number = rw c.in-Ok-Line.field-0-is at c.in-Ok-Line.ensures.reader.lines in
     let done = c.in-Some.ensures in
-    next_verdict-line g.I.Input.state (cursor_value c.args.self.now) _ c.next_line.new.self _ _
-    c.next_line.new.line.items c.judge_line.new.line.items c.in-Some.verdict
+    next_verdict-line g.I.Input.state g.S.Source.state (cursor_value c.args.self.now) _ c.next_line.new.self _ _
+    c.next_line.new.line.items c.judge_line.new.line.items
     (record {
-      next = gives;
+      next = λ d may. let some = gives d may in (some.0, some.1, (some.2, some.3));
       number = number;
       ahead = c.in-Ok-Line.ensures.bounds.ahead;
       profile = refl;
     })
-    done.cursor done.len done.verdict
+    c.in-Some.verdict done.cursor done.len done.verdict
 
 -- no memory to open the line's file
 pub returns-in-None-clause-verdict : goal.returns-in-None-clause-verdict
@@ -25,10 +25,11 @@ returns-in-None-clause-verdict g c =
     let gives = rw c.in-Ok-Line.field-0-is at c.in-Ok-Line.ensures.line in
     let number = rw c.in-Ok-Line.field-0-is at c.in-Ok-Line.ensures.reader.lines in
     let done = c.in-None.ensures in
-    next_verdict-refused g.I.Input.state (cursor_value c.args.self.now) (cursor_value c.judge_line.new.self)
-    c.next_line.new.self _ _ c.next_line.new.line.items c.judge_line.new.line.items
+    next_verdict-refused g.I.Input.state g.S.Source.state (cursor_value c.args.self.now)
+    (cursor_value c.judge_line.new.self) c.next_line.new.self _ _ c.next_line.new.line.items
+    c.judge_line.new.line.items
     (record {
-      next = gives;
+      next = λ d may. let some = gives d may in (some.0, some.1, (some.2, some.3));
       number = number;
       ahead = c.in-Ok-Line.ensures.bounds.ahead;
       profile = refl;
@@ -42,3 +43,28 @@ returns-in-Some-clause-cursor g c = search (rules, cursor-advanced)
 -- or to one whose file could not be opened
 pub returns-in-None-clause-cursor : goal.returns-in-None-clause-cursor
 returns-in-None-clause-cursor g c = search (rules, cursor-advanced)
+
+-- no line remained
+pub returns-in-Ok-NoMore-clause-verdict : goal.returns-in-Ok-NoMore-clause-verdict
+returns-in-Ok-NoMore-clause-verdict g c =
+    let read = c.in-Ok-NoMore.ensures in
+    let is = c.in-Ok-NoMore.field-0-is in
+    next_verdict-end g.I.Input.state g.S.Source.state (cursor_value c.args.self.now) _ _ c.next_line.new.line.items
+    c.next_line.new.line.items refl refl (rw is at read.line) (rw is at read.reader.final_answer)
+
+pub returns-in-Ok-NoMore-clause-cursor : goal.returns-in-Ok-NoMore-clause-cursor
+returns-in-Ok-NoMore-clause-cursor g c = search (rules, cursor-advanced)
+
+-- a fault, or no memory for the line
+pub returns-in-Err-clause-verdict : goal.returns-in-Err-clause-verdict
+returns-in-Err-clause-verdict g c =
+    let read = c.in-Err.ensures in
+    next_verdict-stopped g.I.Input.state g.S.Source.state (cursor_value c.args.self.now) _ _ c.next_line.new.line.items
+    c.next_line.new.line.items refl refl c.in-Err.stop read.line read.reader.final_answer
+
+pub returns-in-Err-clause-out_of_memory : goal.returns-in-Err-clause-out_of_memory
+returns-in-Err-clause-out_of_memory g c =
+    let read = c.in-Err.ensures in
+    stop_cause g.I.Input.state g.S.Source.state (cursor_value c.args.self.now)
+    (record (cursor_value c.args.self.now) { reader = c.next_line.new.self }) c.args.inputs.now
+    c.next_line.new.line.items c.next_line.new.line.items refl refl c.in-Err.stop read.line read.bounds
