@@ -2,6 +2,8 @@
 use Rattle.std.proofs.Common.{rules, arith, ◌≡◌, Bool, true, false, not, List, [], ◌∷◌, ◌++◌, map, find, codes, None, Some, Ok, refl, ap, sym, ◌∙◌, bytes_eq}
 use Rattle.std.proofs.lemmas.Grind.{common_steps}
 use Rattle.std.specs.List.{list_all}
+use Rattle.std.specs.Str.{chars, is_utf8}
+use lib.Utf8.{encode}
 use Rattle.std.proofs.lemmas.Bool.{and_parts}
 use Rattle.sum_engine.specs.declared.settings.CheckSettings.{CheckSettings}
 use Rattle.sum_words.specs.Request.{Report, request, request_of_items}
@@ -26,8 +28,10 @@ named = search rules
 abbrev IsLong : Flag → Type 0
 IsLong flag = (takes_value flag ≡ false) × (name_part (full_name flag) ≡ full_name flag)
     × (value_part (full_name flag) ≡ None) × (bytes_eq (codes "--" ++ full_name flag) (codes "--") ≡ false)
+    × (is_utf8 (codes "--" ++ full_name flag) ≡ true)
 
 is-long : (flag : Flag) → takes_none flag ≡ true → IsLong flag
+unfolding chars encode is_utf8
 is-long = search rules
 
 long_name : (t : Tool) (flag : Flag) → takes_none flag ≡ true → name_or_fault t (full_name flag) ≡ Ok flag
@@ -39,7 +43,7 @@ long_word : (t : Tool) (flag : Flag) (more : List ByteString) → takes_none fla
     → items_from t a_word ((codes "--" ++ full_name flag) ∷ more) ≡ option flag ∷ items_from t a_word more
 long_word t flag more h =
     let long = is-long flag h in
-    rw (long.3, long.1, long.2, long_name t flag h, long.0) refl
+    rw (long.3, long.4, long.1, long.2, long_name t flag h, long.0) refl
 
 long_words : (t : Tool) (fs : List Flag) (more : List ByteString) → list_all takes_none fs ≡ true
     → items_from t a_word (map (λ f. codes "--" ++ full_name f) fs ++ more) ≡ map option fs ++ items_from t a_word more

@@ -1,7 +1,7 @@
 -- Worked command lines: both texts, the names that are asked and whether all is good, as the meaning has them.
 use Rattle.std.proofs.Common.{◌≡◌, ◌++◌, Bool, List, [], ◌∷◌, refl, codes, true, false, flat_map, if◌then◌else◌, bytes_eq, Ok, Err}
 use Rattle.std.specs.Prelude.{⊤}
-use Rattle.std.specs.Str.{chars}
+use Rattle.std.specs.Str.{chars, is_utf8}
 use Rattle.std.specs.List.{concat}
 use Rattle.std.specs.Path.{rsplit_once}
 use lib.Utf8.{encode}
@@ -23,8 +23,8 @@ use Rattle.digests.specs.Meaning.{meaning}
 
 -- what a row unfolds, so that its texts are computed
 unfoldable meaning_on_literals : ⊤
-unfolding chars encode name_or_fault option_of_letter limit raw_lines entry_of plain_parts tagged_parts rsplit_once
-    encode_with decode_pairs digits md5_words md5_rounds md5_compress md5_after md5_bytes md5
+unfolding chars encode is_utf8 name_or_fault option_of_letter limit raw_lines entry_of plain_parts tagged_parts
+    rsplit_once encode_with decode_pairs digits md5_words md5_rounds md5_compress md5_after md5_bytes md5
     mix round start compress blocks blake2b
 meaning_on_literals = tt
 
@@ -50,7 +50,7 @@ list_of lines = whole (flat_map (λ line. line ++ codes "\n") lines)
 
 -- the world of these files
 abbrev world : Content → Content → World
-world l input = record { answer = answer_with l; asked = []; input = input }
+world l input = record { answer = λ asked. answer_with l; input = input }
 
 -- both texts of a run, the names that it asks, and whether all is good
 record Comes : Type 0 where

@@ -2,9 +2,10 @@
 use Rattle.std.proofs.Common.{rules, ℕ, Bool, [], Result, Ok, Err, refl}
 use Rattle.sum_sources.specs.Contents.{SourceState}
 use Rattle.sum_engine.specs.Behavior.{single_step}
-use Rattle.sum_engine.specs.Execution.{OutputsState, StreamsState, known_world, Performs, StopHasCause}
+use Rattle.sum_engine.specs.Execution.{OutputsState, StreamsState, Performs, StopHasCause}
 use Rattle.sum_engine.specs.refinement.FlushedWrites.{WritesAndFlushesBoth}
-use Rattle.sum_engine.proofs.ExecutionLemmas.{same_known, asks_none}
+use Rattle.sum_engine.proofs.ExecutionLemmas.{asks_none}
+use Rattle.sum_engine.proofs.WorldLemmas.{InSomeWorld-none, asked_none}
 use Rattle.sum_engine.proofs.BehaviorLemmas.{once}
 use Rattle.sum_words.specs.Items.{ByteString}
 use Rattle.digests.specs.Meaning.{status_of}
@@ -17,10 +18,10 @@ pub texts_performed : {S E : Type 0} (state : S → SourceState) (a : StreamsSta
     (status_after_write r (status_of good))
 texts_performed state a outputs err out good (Ok u) h =
     once state (λ w. single_step [] err out good) [] err out good status_of a (record a { outputs = outputs }) (Ok u)
-    (same_known (known_world state a.inputs)) (λ w v same. (refl, asks_none same refl refl)) h
+    (InSomeWorld-none state a.inputs) (λ w v same. (refl, asks_none same (asked_none (state a.inputs.source)) refl refl)) h
 texts_performed state a outputs err out good (Err e) h =
     once state (λ w. single_step [] err out good) [] err out good status_of a (record a { outputs = outputs }) (Err tt)
-    (same_known (known_world state a.inputs)) (λ w v same. (refl, asks_none same refl refl)) h
+    (InSomeWorld-none state a.inputs) (λ w v same. (refl, asks_none same (asked_none (state a.inputs.source)) refl refl)) h
 
 -- a call that writes them accounts for its stop
 pub texts_cause : {S E : Type 0} (state : S → SourceState) (Changes : ℕ → ℕ → Type 0) (a : StreamsState S)

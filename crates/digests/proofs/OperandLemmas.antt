@@ -2,11 +2,11 @@
 use Rattle.std.proofs.Common.{rules, ◌≡◌, ℕ, Bool, true, false, List, [], ◌∷◌, Option, Result, Ok, Err, None, Some, refl, ap, sym, ◌∙◌, subst, append_assoc, ◌&&◌}
 use Rattle.std.proofs.Math.Bool.{and_assoc, and-true}
 use Rattle.std.proofs.lemmas.List.{append-nil}
-use Rattle.sum_sources.specs.Contents.{IfKnown, SourceState}
-use Rattle.sum_sources.proofs.KnownLemmas.{IfKnown-map, IfKnown-then}
+use Rattle.sum_sources.specs.Contents.{SourceState}
+use Rattle.sum_engine.proofs.WorldLemmas.{InSomeWorld-map, InSomeWorld-then}
 use Rattle.sum_engine.specs.declared.stop.Stop.{Stop}
 use Rattle.sum_engine.specs.Behavior.{World, after, Behavior, behavior_then, trace, asks}
-use Rattle.sum_engine.specs.Execution.{InputsState, StreamsState, IsFlushed, known_world, known_state, Happened, Performs, PerformsSteps, ReadToEnd}
+use Rattle.sum_engine.specs.Execution.{InputsState, StreamsState, IsFlushed, InSomeWorld, in_world, Happened, Performs, PerformsSteps, ReadToEnd}
 use Rattle.sum_engine.proofs.ExecutionLemmas.{did_nothing}
 use Rattle.sum_engine.proofs.ReadToEndLemmas.{ReadToEnd-trans}
 use Rattle.sum_engine.proofs.BehaviorLemmas.{behavior_then-did, behavior_then-first, behavior_then-second, events_extend}
@@ -15,7 +15,7 @@ use Rattle.sum_words.specs.declared.tool.Tool.{Tool}
 use Rattle.sum_words.specs.Tools.{name_of}
 use Rattle.digests.specs.Meaning.{operands_behavior, or_dash, status_of}
 use Rattle.digests.specs.declared.run.Job.{Job}
-use Rattle.digests.specs.refinement.Operands.{OperandsDone, OperandsDoneIfKnown, operand_behavior}
+use Rattle.digests.specs.refinement.Operands.{OperandsDone, operand_behavior}
 
 -- ---- behaviors, one after another
 
@@ -45,31 +45,32 @@ operands_of job tool names = record { one = operand_behavior job (name_of tool);
 module _ {S : Type 0} (state : S → SourceState) (o : Operands) where
   -- the operands before the rest were done, from x to y, if both outputs were flushed
   abbrev pub Reached : List ByteString → StreamsState S → StreamsState S → Bool → Type 0
-  Reached rest x y good = IsFlushed x.outputs → OperandsDoneIfKnown state o.one o.names rest x y good
+  Reached rest x y good = IsFlushed x.outputs → InSomeWorld state x.inputs y.inputs
+      (λ w v. OperandsDone o.one o.names rest (in_world state x w) (in_world state y v) good)
 
   -- before the first operand nothing happened
   pub operands_done_start : (rest : List ByteString) (a : StreamsState S) → o.names ≡ rest → Reached rest a a true
-  operands_done_start rest a is = λ flushed. started (known_world state a.inputs)
-    where
-      started : (s : Option World) → IfKnown s s
-          (λ w v. OperandsDone o.one o.names rest (known_state state a w) (known_state state a v) true)
-      started None = tt
-      started (Some w) = record {
+  operands_done_start rest a is = λ flushed. record {
+    before = λ v fits. (
+      v,
+      fits,
+      record {
         done = nothing;
-        total = ap (operands_behavior o.one w) is;
-        happened = did_nothing (known_state state a w);
+        total = ap (operands_behavior o.one v) is;
+        happened = did_nothing (in_world state a v);
         is = refl;
-      }
+      },
+    );
+  }
 
   -- one operand more happened
   pub operands_done_step : (good this : Bool) (name : ByteString) (rest : List ByteString) (x y z : StreamsState S)
       → Reached (name ∷ rest) x y good → (IsFlushed x.outputs → IsFlushed y.outputs)
       → Performs state (λ w. o.one w name) (λ g. g) y z (Ok this) → Reached rest x z (good && this)
   operands_done_step good this name rest x y z h kept k = λ flushed.
-      IfKnown-then (known_world state x.inputs) (known_world state y.inputs) (known_world state z.inputs)
-      (λ u v w p q.
-      let b = known_state state y v in
-      let c = known_state state z w in
+      InSomeWorld-then (h flushed) (k (kept flushed)) (λ u v w p q.
+      let b = in_world state y v in
+      let c = in_world state z w in
       let run = o.one v name in
       let world : w ≡ after v (asks run) = (events_extend run b c q.1).0 in
       record {
@@ -78,17 +79,16 @@ module _ {S : Type 0} (state : S → SourceState) (o : Operands) where
             ∙ ap (λ w. behavior_then (behavior_then p.done run) (operands_behavior o.one w rest)) (sym world);
         happened = behavior_then-did p.done.steps run.steps p.happened q.1;
         is = ap (λ g. g && this) p.is ∙ ap (λ g. p.done.good && g) q.0;
-      }) (h flushed) (k (kept flushed))
+      })
 
   -- no operand is left
   pub operands_done_end : (good : Bool) (x y : StreamsState S) → Reached [] x y good
       → Performs state (λ w. operands_behavior o.one w o.names) status_of x y (Ok (status_of good))
-  operands_done_end good x y h = λ flushed.
-      IfKnown-map (known_world state x.inputs) (known_world state y.inputs) (λ w v p.
+  operands_done_end good x y h = λ flushed. InSomeWorld-map (h flushed) (λ w v p.
       let total = p.total ∙ behavior_then-nothing p.done in (
         ap status_of (p.is ∙ ap (λ (r : Behavior). r.good) (sym total)),
         subst (λ (r : Behavior). Happened _ _ (trace r.steps)) (sym total) p.happened,
-      )) (h flushed)
+      ))
 
   -- the next operand stopped the run
   pub operands_done_stop : (stop : Stop) (good : Bool) (name : ByteString) (rest : List ByteString)
@@ -96,20 +96,18 @@ module _ {S : Type 0} (state : S → SourceState) (o : Operands) where
       → Performs state (λ w. o.one w name) (λ g. g) y z (Err stop)
       → Performs state (λ w. operands_behavior o.one w o.names) status_of x z (Err stop)
   operands_done_stop stop good name rest x y z h kept k = λ flushed.
-      IfKnown-then (known_world state x.inputs) (known_world state y.inputs) (known_world state z.inputs)
-      (λ u v w p q.
-      let a = known_state state x u in
-      let b = known_state state y v in
-      let c = known_state state z w in
+      InSomeWorld-then (h flushed) (k (kept flushed)) (λ u v w p q.
+      let a = in_world state x u in
+      let b = in_world state y v in
+      let c = in_world state z w in
       let run = o.one v name in
       let later = operands_behavior o.one (after v (asks run)) rest in
       let status = status_of (behavior_then p.done (behavior_then run later)).good in
       let next = behavior_then-first b c status run.good run.steps later.steps stop q in
       let all = behavior_then-second c status status p.done.steps (behavior_then run later).steps stop p.happened next in
       subst (λ (r : Behavior). PerformsSteps r.steps (status_of r.good) a c (Err stop)) (sym p.total) all)
-      (h flushed) (k (kept flushed))
 
--- ---- read to the end, known or not
+-- ---- read to the end
 
 -- the operands before were, if they were good, and this one, if it was
 pub read_step : {S : Type 0} (state : S → SourceState) (good this : Bool) (x y z : InputsState S)

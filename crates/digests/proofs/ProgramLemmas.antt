@@ -1,11 +1,11 @@
 -- A run and its end, joined: what the whole program does.
 use Rattle.std.proofs.Common.{rules, ℕ, List, [], Option, None, Some, Result, Ok, Err, sym, inl, inr, refl, ◌⊎◌, subst, IfSome, append-nil}
 use Rattle.sum_sources.specs.Contents.{SourceState}
-use Rattle.sum_sources.proofs.KnownLemmas.{IfKnown-map}
+use Rattle.sum_engine.proofs.WorldLemmas.{InSomeWorld-map}
 use Rattle.sum_engine.specs.declared.stop.Stop.{Stop}
 use Rattle.sum_engine.specs.declared.stop.Stop.TheVariants.{Memory, Write}
 use Rattle.sum_engine.specs.Behavior.{World, Event, Behavior, trace}
-use Rattle.sum_engine.specs.Execution.{OutputsState, StreamsState, KnownState, known_world, NoneFailed, OneFailed, FailuresMatch, Happened, Performs}
+use Rattle.sum_engine.specs.Execution.{OutputsState, StreamsState, WorldState, NoneFailed, OneFailed, FailuresMatch, Happened, Performs}
 use Rattle.sum_words.specs.Items.{ByteString}
 use Rattle.sum_words.specs.CommandLines.{CommandLineValue, command_line, NeedsMemory}
 use Rattle.sum_words.specs.refinement.Arguments.{IsCommandLine, MayBeUnread}
@@ -25,7 +25,7 @@ none_since : (a b c : OutputsState) (x y : ℕ) → FailuresMatch a b (Ok x) →
 none_since = search rules
 
 -- nothing more was done
-did_kept : {a b : KnownState} (es : List Event) (outputs : OutputsState) → Happened a b es
+did_kept : {a b : WorldState} (es : List Event) (outputs : OutputsState) → Happened a b es
     → KeepsBoth b.outputs outputs → Happened a (record b { outputs = outputs }) es
 did_kept {a} {b} es outputs h kept = search rules
 
@@ -34,15 +34,13 @@ performs-kept : {S : Type 0} (state : S → SourceState) (run : World → Behavi
     (outputs : OutputsState) (x : ℕ) → Performs state run status_of a b (Ok x) → KeepsBoth b.outputs outputs
     → Performs state run status_of a (record b { outputs = outputs }) (Ok x)
 performs-kept state run a b outputs x ran kept = λ flushed.
-    IfKnown-map (known_world state a.inputs) (known_world state b.inputs)
-    (λ w v p. (p.0, did_kept (trace (run w).steps) outputs p.1 kept)) (ran flushed)
+    InSomeWorld-map (ran flushed) (λ w v p. (p.0, did_kept (trace (run w).steps) outputs p.1 kept))
 
 -- or it failed after all events
 performs-failed : {S : Type 0} (state : S → SourceState) (run : World → Behavior) (a b : StreamsState S) (x : ℕ)
     → Performs state run status_of a b (Ok x) → Performs state run status_of a b (Err Write)
 performs-failed state run a b x ran = λ flushed.
-    IfKnown-map (known_world state a.inputs) (known_world state b.inputs)
-    (λ w v p. (trace (run w).steps, ([], sym (append-nil (trace (run w).steps))), p.1)) (ran flushed)
+    InSomeWorld-map (ran flushed) (λ w v p. (trace (run w).steps, ([], sym (append-nil (trace (run w).steps))), p.1))
 
 -- a run and its end, by the run's answer and what the flushes returned; b is how things stood between
 pub program_ends : {S : Type 0} (state : S → SourceState) (status : ℕ) (line : Option CommandLineValue)

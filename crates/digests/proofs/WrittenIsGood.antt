@@ -16,12 +16,13 @@ use Rattle.sum_engine.specs.declared.settings.CheckSettings.{CheckSettings}
 use Rattle.sum_engine.specs.Generation.{generate_behavior}
 use Rattle.sum_engine.proofs.ListedEntryLemmas.{Item, written_text, Listed}
 use Rattle.sum_engine.proofs.GoodLemmas.{manifest_good}
+use Rattle.sum_engine.proofs.WorldLemmas.{after-steady}
 use Rattle.sum_words.specs.declared.tool.Tool.{Tool}
 use Rattle.sum_words.specs.Tools.{name_of, algos_of}
 use Rattle.sum_words.specs.Items.{ByteString}
 use Rattle.digests.specs.Meaning.{operands_behavior}
 use Rattle.digests.proofs.CheckWords.{request-check_words}
-use Rattle.digests.specs.GenerationRuns.{Listable, GenerationRun, generation_output, names_of, Checkable, ReportsAllOk, WrittenIsGood, JoinedIsGood}
+use Rattle.digests.specs.GenerationRuns.{Listable, GenerationRun, generation_output, names_of, Checkable, HasFiles, ReportsAllOk, WrittenIsGood, JoinedIsGood}
 
 -- ---- the lines of a run
 
@@ -39,25 +40,28 @@ abbrev items : (ByteString → Reply) → GenerationRun → List Item
 items answer g = map (item answer g.settings) g.names
 
 -- a file that can be listed is read to its end
-read-is : (w : World) (s : Settings) (name : ByteString) → Listable w.answer name
-    → digest_or_fault s.kind (reply w name) ≡ Ok (digest s.kind (bytes_of (w.answer name)))
-read-is w s name h = search rules
+read-is : (files : ByteString → Reply) (w : World) (s : Settings) (name : ByteString) → HasFiles w files
+    → Listable files name → digest_or_fault s.kind (reply w name) ≡ Ok (digest s.kind (bytes_of (files name)))
+read-is files w s name has h = rw has (search rules)
 
 -- so one line is written for it
-line-is : (w : World) (s : Settings) (tool name : ByteString) → s.style.zero ≡ false → Listable w.answer name
-    → out_text (generate_behavior s tool w name) ≡ written_text (item w.answer s name)
-line-is w s tool name newlines h = rw (read-is w s name h, newlines, append-nil) refl
+line-is : (files : ByteString → Reply) (w : World) (s : Settings) (tool name : ByteString) → HasFiles w files
+    → s.style.zero ≡ false → Listable files name
+    → out_text (generate_behavior s tool w name) ≡ written_text (item files s name)
+line-is files w s tool name has newlines h = rw (read-is files w s name has h, newlines, append-nil) refl
 
--- and for all names their lines, one after another; the reply to a name doesn't depend on what was asked before
-lines-are : (s : Settings) (tool : ByteString) (names : List ByteString) (w : World)
-    → s.style.zero ≡ false → All (Listable w.answer) names
+-- and for all names their lines, one after another
+lines-are : (files : ByteString → Reply) (s : Settings) (tool : ByteString) (names : List ByteString) (w : World)
+    → HasFiles w files → s.style.zero ≡ false → All (Listable files) names
     → out_text (operands_behavior (generate_behavior s tool) w names) ≡ flat_map written_text
-    (map (item w.answer s) names)
-lines-are s tool [] w newlines all = refl
-lines-are s tool (name ∷ names) w newlines all =
+    (map (item files s) names)
+lines-are files s tool [] w has newlines all = refl
+lines-are files s tool (name ∷ names) w has newlines all =
     let next : World = after w (asks (generate_behavior s tool w name)) in
-    let first = line-is w s tool name newlines (All-head (Listable w.answer) name names all) in
-    let others = lines-are s tool names next newlines (All-tail (Listable w.answer) name names all) in
+    let first = line-is files w s tool name has newlines (All-head (Listable files) name names all) in
+    let others = lines-are files s tool names next
+    (after-steady files w (asks (generate_behavior s tool w name)) has) newlines
+    (All-tail (Listable files) name names all) in
     flat_map-append (λ st. st.out) (generate_behavior s tool w name).steps (operands_behavior (generate_behavior s tool)
     next names).steps
     ∙ rw (first, others) refl
@@ -65,35 +69,34 @@ lines-are s tool (name ∷ names) w newlines all =
 -- ---- they are read back, and their files are the same
 
 -- one line
-item-listed : (algos : Algos) (w v : World) (g : GenerationRun) (name : ByteString)
-    → Checkable algos w v g → Listable w.answer name → v.answer name ≡ w.answer name
-    → Listed algos v.answer (item w.answer g.settings name)
-item-listed algos w v g name c h same = search rules
+item-listed : (algos : Algos) (files later : ByteString → Reply) (g : GenerationRun) (name : ByteString)
+    → Checkable algos files later g → Listable files name → later name ≡ files name
+    → Listed algos later (item files g.settings name)
+item-listed algos files later g name c h same = search rules
 
 -- all lines of a run
-run-listed : (algos : Algos) (w v : World) (g : GenerationRun) → Checkable algos w v g
-    → All (Listed algos v.answer) (items w.answer g)
-run-listed algos w v g c =
-    let Is : ByteString → Type 0 = λ name. Listed algos v.answer (item w.answer g.settings name) in
+run-listed : (algos : Algos) (files later : ByteString → Reply) (g : GenerationRun) → Checkable algos files later g
+    → All (Listed algos later) (items files g)
+run-listed algos files later g c =
+    let Is : ByteString → Type 0 = λ name. Listed algos later (item files g.settings name) in
     let is : (name : ByteString) → Contains g.names name → Is name = λ name one.
-    item-listed algos w v g name c (All-contains (Listable w.answer) g.names name c.listable one)
-    (All-contains (λ n. v.answer n ≡ w.answer n) g.names name c.same one) in
-    All-map (Listed algos v.answer) (item w.answer g.settings) g.names
+    item-listed algos files later g name c (All-contains (Listable files) g.names name c.listable one)
+    (All-contains (λ n. later n ≡ files n) g.names name c.same one) in
+    All-map (Listed algos later) (item files g.settings) g.names
     (All-weaker (Contains g.names) Is is g.names (All-contains_itself g.names))
 
 -- ---- a manifest of such lines
 
 -- a manifest that holds the lines for some names is good
-lines-good : (t : Tool) (check : CheckSettings) (manifest : ByteString) (v : World) (xs : List Item)
-    (names : List ByteString)
-    (text : ByteString) → check.algo ≡ algos_of t
-    → All (Listed check.algo v.answer) xs → map (λ i. i.name) xs ≡ names → flat_map written_text xs ≡ text
+lines-good : (t : Tool) (check : CheckSettings) (manifest : ByteString) (later : ByteString → Reply) (v : World)
+    (xs : List Item) (names : List ByteString) (text : ByteString) → HasFiles v later → check.algo ≡ algos_of t
+    → All (Listed check.algo later) xs → map (λ i. i.name) xs ≡ names → flat_map written_text xs ≡ text
     → 0 < length names → length text < limit
     → reply v manifest ≡ Ok (record { bytes = text; ending = Whole })
     → ReportsAllOk t check v manifest names
-lines-good t check manifest v xs names text by all is same some fits given =
+lines-good t check manifest later v xs names text has by all is same some fits given =
     let count : length xs ≡ length names = sym (length-map xs (λ i. i.name)) ∙ ap length is in
-    let f = manifest_good check (name_of t) manifest v xs all (rw count some) (rw same fits) (rw same given) in
+    let f = manifest_good check (name_of t) manifest later v xs has all (rw count some) (rw same fits) (rw same given) in
     let reported = f.out ∙ sym (flat_map-map (out_by present check.report Right) (λ i. i.name) xs) in
     let asked = request-check_words t check manifest by in
     record {
@@ -105,9 +108,9 @@ lines-good t check manifest v xs names text by all is same some fits given =
 -- ---- one run
 
 -- what it wrote is its lines
-run-text : (algos : Algos) (w v : World) (g : GenerationRun) → Checkable algos w v g
-    → flat_map written_text (items w.answer g) ≡ generation_output w g
-run-text algos w v g c = sym (lines-are g.settings g.tool g.names w c.newlines c.listable)
+run-text : (algos : Algos) (files later : ByteString → Reply) (w : World) (g : GenerationRun) → HasFiles w files
+    → Checkable algos files later g → flat_map written_text (items files g) ≡ generation_output w g
+run-text algos files later w g has c = sym (lines-are files g.settings g.tool g.names w has c.newlines c.listable)
 
 -- and these are for its names
 names-are : (answer : ByteString → Reply) (s : Settings) (names : List ByteString)
@@ -117,28 +120,30 @@ names-are answer s (name ∷ names) = ap (λ l. name ∷ l) (names-are answer s 
 
 -- the law of one run
 pub written_is_good : WrittenIsGood
-written_is_good t check manifest w v g by c =
-    lines-good t check manifest v (items w.answer g) g.names (generation_output w g) by (run-listed check.algo w v g c)
-    (names-are w.answer g.settings g.names) (run-text check.algo w v g c)
+written_is_good t check manifest files later w v g has same by c =
+    lines-good t check manifest later v (items files g) g.names (generation_output w g) same by
+    (run-listed check.algo files later g c) (names-are files g.settings g.names)
+    (run-text check.algo files later w g has c)
 
 -- ---- several runs: the same of each, one after another
 
 -- their lines are read back
-runs-listed : (algos : Algos) (w v : World) (gs : List GenerationRun) → All (Checkable algos w v) gs
-    → All (Listed algos v.answer) (flat_map (items w.answer) gs)
-runs-listed algos w v [] all = All-nil (Listed algos v.answer)
-runs-listed algos w v (g ∷ gs) all =
-    All-append (Listed algos v.answer) (items w.answer g) (flat_map (items w.answer) gs)
-    (run-listed algos w v g (All-head (Checkable algos w v) g gs all))
-    (runs-listed algos w v gs (All-tail (Checkable algos w v) g gs all))
+runs-listed : (algos : Algos) (files later : ByteString → Reply) (gs : List GenerationRun)
+    → All (Checkable algos files later) gs → All (Listed algos later) (flat_map (items files) gs)
+runs-listed algos files later [] all = All-nil (Listed algos later)
+runs-listed algos files later (g ∷ gs) all =
+    All-append (Listed algos later) (items files g) (flat_map (items files) gs)
+    (run-listed algos files later g (All-head (Checkable algos files later) g gs all))
+    (runs-listed algos files later gs (All-tail (Checkable algos files later) g gs all))
 
 -- what they wrote is their lines
-runs-text : (algos : Algos) (w v : World) (gs : List GenerationRun) → All (Checkable algos w v) gs
-    → flat_map written_text (flat_map (items w.answer) gs) ≡ flat_map (generation_output w) gs
-runs-text algos w v [] all = refl
-runs-text algos w v (g ∷ gs) all =
-    let first = run-text algos w v g (All-head (Checkable algos w v) g gs all) in
-    let others = runs-text algos w v gs (All-tail (Checkable algos w v) g gs all) in
+runs-text : (algos : Algos) (files later : ByteString → Reply) (w : World) (gs : List GenerationRun) → HasFiles w files
+    → All (Checkable algos files later) gs
+    → flat_map written_text (flat_map (items files) gs) ≡ flat_map (generation_output w) gs
+runs-text algos files later w [] has all = refl
+runs-text algos files later w (g ∷ gs) has all =
+    let first = run-text algos files later w g has (All-head (Checkable algos files later) g gs all) in
+    let others = runs-text algos files later w gs has (All-tail (Checkable algos files later) g gs all) in
     rw (flat_map-append, first, others) refl
 
 -- and these are for all of their names
@@ -149,7 +154,7 @@ runs-names answer (g ∷ gs) = rw (map-append, names-are answer g.settings g.nam
 
 -- the law of several runs
 pub joined_is_good : JoinedIsGood
-joined_is_good t check manifest w v gs by all =
-    lines-good t check manifest v (flat_map (items w.answer) gs) (flat_map names_of gs)
-    (flat_map (generation_output w) gs) by (runs-listed check.algo w v gs all) (runs-names w.answer gs)
-    (runs-text check.algo w v gs all)
+joined_is_good t check manifest files later w v gs has same by all =
+    lines-good t check manifest later v (flat_map (items files) gs) (flat_map names_of gs)
+    (flat_map (generation_output w) gs) same by (runs-listed check.algo files later gs all) (runs-names files gs)
+    (runs-text check.algo files later w gs has all)

@@ -41,14 +41,18 @@ generation_output w g = out_text (operands_behavior (generate_behavior g.setting
 abbrev pub names_of : GenerationRun → List ByteString
 names_of g = g.names
 
--- what a run wrote in the world w can be checked in the world v: its lines end with newlines; the checking tool reads
--- them, as the tool itself does in every style, and `anysum` if they are tagged; and its files are the same in both
-pub record Checkable (algos : Algos) (w v : World) (g : GenerationRun) : Type 0 where
+-- what a run wrote of these files can be checked later: its lines end with newlines; the checking tool reads them, as
+-- the tool itself does in every style, and `anysum` if they are tagged; and its files are then the same
+pub record Checkable (algos : Algos) (files later : ByteString → Reply) (g : GenerationRun) : Type 0 where
   pub newlines : g.settings.style.zero ≡ false
   pub has : IsTrue (has_len g.settings.kind.algo g.settings.kind.len)
   pub read_by : ReadBy algos g.settings.style.mode g.settings.kind.algo
-  pub listable : All (Listable w.answer) g.names
-  pub same : All (λ name. v.answer name ≡ w.answer name) g.names
+  pub listable : All (Listable files) g.names
+  pub same : All (λ name. later name ≡ files name) g.names
+
+-- a world in which these are the files, whatever was asked
+abbrev pub HasFiles : World → (ByteString → Reply) → Type 0
+HasFiles w files = w.answer ≡ (λ asked. files)
 
 -- the options that ask for a check with these settings
 abbrev pub check_options : CheckSettings → List Flag
@@ -71,16 +75,18 @@ pub record ReportsAllOk (t : Tool) (check : CheckSettings) (v : World) (manifest
 
 -- what generation wrote for one name or more is good as a manifest, if it isn't too long
 abbrev pub WrittenIsGood : Type 0
-WrittenIsGood = (t : Tool) (check : CheckSettings) (manifest : ByteString) (w v : World) (g : GenerationRun)
-    → check.algo ≡ algos_of t → Checkable check.algo w v g → 0 < length g.names
+WrittenIsGood = (t : Tool) (check : CheckSettings) (manifest : ByteString) (files later : ByteString → Reply) (w v : World)
+    (g : GenerationRun) → HasFiles w files → HasFiles v later → check.algo ≡ algos_of t
+    → Checkable check.algo files later g → 0 < length g.names
     → length (generation_output w g) < limit
     → reply v manifest ≡ Ok (record { bytes = generation_output w g; ending = Whole })
     → ReportsAllOk t check v manifest g.names
 
 -- so is what several runs wrote, one after another
 abbrev pub JoinedIsGood : Type 0
-JoinedIsGood = (t : Tool) (check : CheckSettings) (manifest : ByteString) (w v : World) (gs : List GenerationRun)
-    → check.algo ≡ algos_of t → All (Checkable check.algo w v) gs → 0 < length (flat_map names_of gs)
+JoinedIsGood = (t : Tool) (check : CheckSettings) (manifest : ByteString) (files later : ByteString → Reply) (w v : World)
+    (gs : List GenerationRun) → HasFiles w files → HasFiles v later → check.algo ≡ algos_of t
+    → All (Checkable check.algo files later) gs → 0 < length (flat_map names_of gs)
     → length (flat_map (generation_output w) gs) < limit
     → reply v manifest ≡ Ok (record { bytes = flat_map (generation_output w) gs; ending = Whole })
     → ReportsAllOk t check v manifest (flat_map names_of gs)

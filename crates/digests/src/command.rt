@@ -27,7 +27,7 @@ pub fn command<A: Allocator + Copy, G: Arguments, I: Input + Drop, S: Source, O:
     arguments: &G,
     streams: &mut Streams<Inputs<I, S>, Outputs<O, E>>,
 ) -> u8
-    // If arguments, source and standard input are known and both outputs flushed: the behavior of the arguments.
+    // If the arguments are known and both outputs flushed: their behavior in some world, the known one if it is known.
     ensures behavior { ProgramPerforms S.state (G.known arguments.now) streams.old streams.new result }
     ensures flushed { IsFlushed streams.old.outputs → IsFlushed streams.new.outputs }
     // Known or not: status 0 only if no call of either output failed.

@@ -29,7 +29,7 @@ pub fn run<A: Allocator + Copy, I: Input + Drop, S: Source, O: Sink, E: Sink>(
     words: &Words<A>,
     streams: &mut Streams<Inputs<I, S>, Outputs<O, E>>,
 ) -> Result<u8, Stop>
-    // If the source and standard input are known and both outputs flushed: the behavior that the words mean.
+    // If both outputs are flushed: the behavior that the words mean in some world, the known one if it is known.
     ensures behavior { Performs S.state (meaning tool words.now) status_of streams.old streams.new result }
     ensures flushed { IsFlushed streams.old.outputs → IsFlushed streams.new.outputs }
     // Known or not, a stop has its cause: refusals as the request allows, or one failure more of one output.

@@ -1,10 +1,9 @@
 -- Relates the calls of a run to its operands.
 use Rattle.std.specs.Prelude.{ℕ, ◌≡◌, Bool, List, Result, Ok, Err}
-use Rattle.sum_sources.specs.Contents.{SourceState}
 use Rattle.sum_engine.specs.declared.stop.Stop.{Stop}
 use Rattle.sum_engine.specs.declared.stop.Stop.TheVariants.{Write}
 use Rattle.sum_engine.specs.Behavior.{World, Behavior, behavior_then, trace}
-use Rattle.sum_engine.specs.Execution.{StreamsState, KnownState, IfWorldKnown, Happened, OneMore, OneMoreAtMost}
+use Rattle.sum_engine.specs.Execution.{WorldState, Happened, OneMore, OneMoreAtMost}
 use Rattle.sum_engine.specs.Generation.{generate_behavior}
 use Rattle.sum_engine.specs.check.Checking.{check_behavior}
 use Rattle.sum_words.specs.Items.{ByteString}
@@ -23,18 +22,12 @@ RefusalsOfJob (Generate settings) = OneMore
 RefusalsOfJob (Check settings) = OneMoreAtMost
 
 -- the behavior of the operands before the rest happened, and was good or not
-pub record OperandsDone (one : World → ByteString → Behavior) (names rest : List ByteString) (a b : KnownState)
+pub record OperandsDone (one : World → ByteString → Behavior) (names rest : List ByteString) (a b : WorldState)
     (good : Bool) : Type 0 where
   pub done : Behavior
   pub total : operands_behavior one a.world names ≡ behavior_then done (operands_behavior one b.world rest)
   pub happened : Happened a b (trace done.steps)
   pub is : good ≡ done.good
-
--- the same, if the world is known
-abbrev pub OperandsDoneIfKnown : {S : Type 0} → (S → SourceState) → (World → ByteString → Behavior)
-    → List ByteString → List ByteString → StreamsState S → StreamsState S → Bool → Type 0
-OperandsDoneIfKnown state one names rest a b good =
-    IfWorldKnown state a b (λ s t. OperandsDone one names rest s t good)
 
 -- the status after a text was written
 abbrev pub status_after_write : {U E : Type 0} → Result U E → ℕ → Result ℕ Stop

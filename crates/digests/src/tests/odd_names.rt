@@ -160,6 +160,17 @@ fn assert_missing(rt: &(impl Abort + AllocGlobal), first: &[u8], name: &[u8]) ->
     )
 }
 
+// That a tool refuses a word, which follows another, by a fault of this text.
+fn assert_refused(
+    rt: &(impl Abort + AllocGlobal),
+    (tool, text): (&[u8], &[u8]),
+    first: &[u8],
+    word: &[u8],
+) -> Result<(), Fail> {
+    let fault = word_fault(rt.alloc(), tool, text, word)?;
+    assert_row(rt, (&[tool, first, word, b"e"], b"", &fault, 1))
+}
+
 // Each byte as a word, but those of names that are there or have an escape; each that begins no text after `--`, after
 // one dash and two, as a length, and in the word of one.
 #[test]
@@ -173,20 +184,10 @@ fn each_byte(rt: HostRuntime) -> Result<(), Fail> {
             continue;
         }
         assert_missing(&rt, b"--", &[b'-', byte])?;
-        let fault = word_fault(rt.alloc(), b"md5sum", unrecognized, &[b'-', byte])?;
-        assert_row(&rt, (&[b"md5sum", &[b'-', byte], b"a"], b"", &fault, 1))?;
-        let fault = word_fault(rt.alloc(), b"md5sum", unrecognized, &[b'-', b'-', byte])?;
-        assert_row(
-            &rt,
-            (&[b"md5sum", b"a", &[b'-', b'-', byte]], b"", &fault, 1),
-        )?;
-        let fault = word_fault(rt.alloc(), b"b2sum", unrecognized, &[b'-', b'l', byte])?;
-        assert_row(
-            &rt,
-            (&[b"b2sum", &[b'-', b'l', byte], b"e"], b"", &fault, 1),
-        )?;
-        let fault = word_fault(rt.alloc(), b"b2sum", b": invalid length: '", &[byte])?;
-        assert_row(&rt, (&[b"b2sum", b"-l", &[byte], b"e"], b"", &fault, 1))?;
+        assert_refused(&rt, (b"md5sum", unrecognized), b"a", &[b'-', byte])?;
+        assert_refused(&rt, (b"md5sum", unrecognized), b"a", &[b'-', b'-', byte])?;
+        assert_refused(&rt, (b"b2sum", unrecognized), b"a", &[b'-', b'l', byte])?;
+        assert_refused(&rt, (b"b2sum", b": invalid length: '"), b"-l", &[byte])?;
     }
     Ok(())
 }
