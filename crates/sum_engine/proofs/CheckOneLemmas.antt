@@ -1,5 +1,5 @@
 -- `check_one`: a new checker that runs to its end, by induction on its steps, after its manifest was opened.
-use Rattle.std.proofs.Common.{rules, ◌++◌, ◌+◌, ◌<◌, ◌≡◌, ◌||◌, ℕ, Bool, true, false, List, [], ◌∷◌, length, Option, None, Some, Result, Ok, Err, cond, refl, ap, sym, ◌∙◌, subst, codes, option_map, IfSome, MatchOption, arith}
+use Rattle.std.proofs.Common.{rules, ◌+◌, ◌<◌, ◌≡◌, ◌||◌, ℕ, Bool, true, false, List, [], ◌∷◌, length, Option, None, Some, Result, Ok, Err, cond, refl, ap, sym, ◌∙◌, subst, codes, option_map, IfSome, MatchOption, arith}
 use Rattle.std.proofs.KnownBytes.{Appends-nil}
 use Rattle.std.proofs.Math.Bool.{or-false}
 use Rattle.sum_engine.specs.Behavior.{Fault, World, is_dash, reply, after, Step, Behavior, events_of}

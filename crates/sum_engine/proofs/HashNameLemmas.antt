@@ -1,14 +1,14 @@
 -- `hash_name`: the outcome of hashing one name, in some world.
-use Rattle.std.proofs.Common.{rules, ◌≡◌, ◌∙◌, ℕ, true, false, List, [], ◌∷◌, Option, Some, IfSome, Ok, Err}
+use Rattle.std.proofs.Common.{rules, ◌≡◌, ◌∙◌, ℕ, true, false, List, Option, Some, IfSome, Ok, Err}
 use Rattle.digest_kinds.specs.Kinds.{KindValue}
 use Rattle.sum_sources.specs.Contents.{Content, IfKnown, InputState, SourceState, OpenOf, closed_state}
 use Rattle.sum_sources.specs.declared.sources.source.OpenFault.TheVariants as faults
-use Rattle.sum_engine.specs.Behavior.{Fault, World, is_dash}
+use Rattle.sum_engine.specs.Behavior.{Fault, is_dash}
 use Rattle.sum_engine.specs.Execution.{InputsState, Phase, KeepsStdin, InSomeWorld}
 use Rattle.sum_engine.specs.refinement.HashName.{HashOutcome, IsHashOutcome, IsRead, HashesName}
 use Rattle.sum_engine.specs.refinement.Openings.{stdin_taken_from}
 use Rattle.sum_engine.specs.declared.hash_name.HashOutcome.TheVariants as outcomes
-use Rattle.sum_engine.proofs.WorldLemmas.{InSomeWorld-map, InSomeWorld-then, opened_file, opened_fault, stdin_given, may-closed}
+use Rattle.sum_engine.proofs.WorldLemmas.{InSomeWorld-then, opened_file, opened_fault, stdin_given, may-closed}
 
 -- the outcome of reading a content is that of a name whose content this is
 read-outcome : (kind : KindValue) (c : Content) (a : HashOutcome) → IsRead kind c a → IsHashOutcome kind (Ok c) a

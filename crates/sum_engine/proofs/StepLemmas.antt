@@ -12,7 +12,7 @@ use Rattle.sum_lines.specs.Escape.{Profile, present}
 use Rattle.sum_engine.specs.check.Reports.{Report, LabelsValue, err_by, out_by, end_text, good}
 use Rattle.sum_engine.specs.check.Verdicts.{Ignored, lines_by, Rules, asks_of}
 use Rattle.sum_engine.specs.check.CheckerSteps.{CursorValue, state_at, InSomeCheck, Progress, Going, Ended, CheckState, counts_with, step_then, progress_before, LineHandled, StepIs, PerformsStep, MemoryStopHasCause, next_judged, remaining_verdicts, remaining_behavior}
-use Rattle.sum_engine.specs.Execution.{Memory, InputsState, StreamsState, WorldState, MayBeIn, InSomeWorld, in_world, AskedMore}
+use Rattle.sum_engine.specs.Execution.{Memory, InputsState, StreamsState, WorldState, InSomeWorld, in_world, AskedMore}
 use Rattle.sum_engine.specs.check.NextVerdict.{LineVerdict, VerdictResult, line_verdict_value, FindsVerdict, NoVerdictLeft, names_of_result, taken_after}
 use Rattle.sum_engine.specs.refinement.Judging.{TakesLine}
 use Rattle.sum_engine.specs.refinement.FlushedWrites.{WritesAndFlushesBoth}

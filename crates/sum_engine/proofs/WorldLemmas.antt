@@ -1,13 +1,12 @@
 -- Asking names one after another, and worlds before and after.
 use Rattle.std.proofs.Common.{rules, ◌≡◌, ◌∙◌, ap, sym, refl, ℕ, Bool, true, false, if◌then◌else◌, List, [], ◌∷◌, ◌++◌, Option, None, Some, IfSome, Result, Ok, Err, append_assoc, append-nil}
 use Rattle.std.proofs.lemmas.List.Elements.{filter-append}
-use Rattle.digest_kinds.specs.Kinds.{KindValue}
 use Rattle.sum_sources.specs.Contents.{Content, empty_content, IfKnown, InputState, KnownSource, Reply, SourceState, OpenOf, closed_state}
 use Rattle.sum_sources.specs.declared.sources.source.OpenFault.{OpenFault}
 use Rattle.sum_sources.specs.declared.sources.source.OpenFault.TheVariants as faults
 use Rattle.sum_sources.proofs.KnownLemmas.{IfKnown-then}
 use Rattle.sum_engine.specs.Behavior.{Fault, World, is_dash, reply, after_one, after}
-use Rattle.sum_engine.specs.Execution.{InputsState, Phase, KeepsStdin, MayBeIn, InSomeWorld, AskedMore}
+use Rattle.sum_engine.specs.Execution.{InputsState, Phase, KeepsStdin, InSomeWorld, AskedMore}
 use Rattle.sum_engine.specs.refinement.Openings.{stdin_taken_from}
 
 -- ---- names asked

@@ -1,5 +1,4 @@
-use Rattle.std.proofs.Common.{rules, ◌≡◌, ◌∙◌, ◌+◌, ◌<◌, ℕ, [], length, Option, None, Some, IfSome, MatchOption, Ok, Err, ap, sym, subst, refl, arith}
-use Rattle.std.proofs.lemmas.Result.{err_from_is_err_and}
+use Rattle.std.proofs.Common.{rules, ◌≡◌, ◌∙◌, ◌+◌, ◌<◌, [], length, Option, None, Some, IfSome, MatchOption, ap, sym, subst, refl, arith}
 use Rattle.sum_sources.specs.Contents.{Content, InputState, limit}
 use Rattle.sum_sources.specs.declared.fault.Ending.TheVariants.{Whole, Broken}
 use Rattle.sum_sources.specs.LineReaders.{MayRemain, remaining_content, consumed}

@@ -1,4 +1,4 @@
-use Rattle.std.proofs.Common.{rules, ◌≡◌, true, false, Some, refl}
+use Rattle.std.proofs.Common.{rules, ◌≡◌, true, false, refl}
 use Rattle.sum_engine.specs.Behavior.{is_dash}
 use Rattle.sum_engine.proofs.HashNameLemmas.{hashed_stdin, hashed_file, not_hashed}
 use Rattle.sum_engine.proofs.ReadToEndLemmas.{ReadToEnd-file, UnlessBroken-map}

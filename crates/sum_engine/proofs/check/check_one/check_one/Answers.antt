@@ -1,4 +1,4 @@
-use Rattle.std.proofs.Common.{◌≡◌, ◌∙◌, true, false, Ok, Err, ap, rules}
+use Rattle.std.proofs.Common.{◌≡◌, true, false, Ok, Err, ap, rules}
 use Rattle.std.proofs.lemmas.Result.{err_from_is_err_and}
 use Rattle.std.specs.Option.{option_or}
 use Rattle.sum_engine.specs.Behavior.{is_dash}
