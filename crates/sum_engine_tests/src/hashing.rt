@@ -154,8 +154,9 @@ fn missing_file(rt: HostRuntime) -> Result<(), Fail> {
 fn output_stops(rt: HostRuntime) -> Result<(), Fail> {
     let mut source = ToldSource::new(rt.alloc(), 1);
     source.add(b"a", Answer::Content(b"abc", Ending::Whole))?;
-    let mut streams = known(Told::new(b"", Ending::Whole, 1), source);
-    streams.outputs.out = ToldSink::new(10);
+    let stdin = Stdin::new(Told::new(b"", Ending::Whole, 1));
+    let (out, err) = (ToldSink::<10>::new(10), ToldSink::<200>::new(200));
+    let mut streams = Streams::new(stdin, source, out, err);
     let settings = Settings {
         kind: Kind::of(Algo::Md5),
         style: TEXT,
