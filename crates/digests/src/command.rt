@@ -19,9 +19,10 @@ use sum_words::{Arguments, CommandLine, NotRead, Tool, read_command_line};
 /// outputs are flushed once more at the end.
 ///
 /// If memory for the words is refused, it writes `digests: words not read` to standard error, and the status is 1; so
-/// never if the arguments need none. If there is no such tool, it writes `digests: unknown tool`, and the status is 1. After a stop of a tool's run, or if that last flush
-/// fails, it writes `TOOL: memory exhausted` or `TOOL: write error`, as far as standard error accepts it, and the
-/// status is 1. What the clauses say of bytes holds if both outputs are flushed at the call.
+/// never if the arguments need none. If there is no such tool, it writes `digests: unknown tool`, and the status is 1.
+/// After a stop of a tool's run, or if that last flush fails, it writes `TOOL: memory exhausted` or
+/// `TOOL: write error`, as far as standard error accepts it, and the status is 1. What the clauses say of bytes holds
+/// if both outputs are flushed at the call.
 pub fn command<A: Allocator + Copy, G: Arguments, I: Input + Drop, S: Source, O: Sink, E: Sink>(
     alloc: A,
     arguments: &G,

@@ -190,7 +190,7 @@ module _ {S : Type 0} (state : S → SourceState) (settings : CheckSettings) (to
     from_inputs inputs = record a { inputs = inputs }
 
     -- the name was asked, and nothing else was done
-    record IsAsked (m : InputsState S) : Type 0 where
+    record NameAsked (m : InputsState S) : Type 0 where
       pub asked : AskedMore (state a.inputs.source) (state m.source) (name ∷ [])
       pub taken : m.stdin_taken ≡ a.inputs.stdin_taken || is_dash name
       pub refusals : (state m.source).refusals ≡ (state a.inputs.source).refusals
@@ -207,7 +207,7 @@ module _ {S : Type 0} (state : S → SourceState) (settings : CheckSettings) (to
         (x : Result Bool Stop) → is_dash name ≡ dash
         → ((c : Content) → IfSome known (λ d. c ≡ d)
         → InSomeWorld state a.inputs m (λ w v. (v ≡ after w (name ∷ [])) × (reply w name ≡ Ok c)))
-        → IsAsked m → ManifestPerforms state (rules_if dash) (labels_if dash) known (from_inputs m) b x
+        → NameAsked m → ManifestPerforms state (rules_if dash) (labels_if dash) known (from_inputs m) b x
         → IsClosed b.inputs n → Performed (record b { inputs = n }) x
     opened dash known m b n x is answer asked run closed = λ flushed. record {
       before = λ v fits.

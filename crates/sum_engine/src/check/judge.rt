@@ -40,7 +40,8 @@ pub struct LineVerdict {
 }
 
 ghost use Rattle.sum_engine.specs.refinement.Cursors.{rules_in};
-ghost use Rattle.sum_engine.specs.refinement.Judging.{JudgeOf, UnlessUnreadVerdict, names_of_verdict, verdict_of_outcome, listed_entry};
+ghost use Rattle.sum_engine.specs.refinement.Judging.{JudgeOf, UnlessUnreadVerdict, names_of_verdict};
+ghost use Rattle.sum_engine.specs.refinement.Judging.{verdict_of_outcome, listed_entry};
 ghost use Rattle.sum_engine.specs.Execution.{InSomeWorld, AskedMore, KeepsStdin, ReadToEnd};
 
 /// An entry of a manifest: the digest of a file, with its kind, and the file's name.

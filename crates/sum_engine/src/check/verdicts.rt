@@ -76,8 +76,8 @@ impl<I: Input> Verdicts<I> {
 
     /// Reads the next line, and finds its verdict; `None` if none is left and the manifest ended whole. `line` is grown
     /// for the line, and then contains the name of its entry, at the range in the result; its content before is of no
-    /// matter. `inputs` is where files are opened, and standard input, which the name `-` means in a manifest that didn't
-    /// come from there.
+    /// matter. `inputs` is where files are opened, and standard input, which the name `-` means in a manifest that
+    /// didn't come from there.
     ///
     /// `LineStop::Fault` if that fault broke the manifest. `LineStop::Memory` if there is no memory for the line or to
     /// open the file that it names. After either, and after `None`, each call returns the same and does nothing.
