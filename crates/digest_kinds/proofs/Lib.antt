@@ -1,3 +1,4 @@
 pub mod DigestLemmas
 pub mod DigitLemmas
+pub mod KindLemmas
 pub mod TagLemmas

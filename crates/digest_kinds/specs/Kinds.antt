@@ -7,6 +7,7 @@ use Rattle.sha2.specs.Sha256.{sha224, sha256}
 use Rattle.sha2.specs.Sha512.{sha384, sha512}
 use Rattle.hex.specs.Hex.{is_hex_digit}
 use Rattle.blake2b_core.specs.Digest.{blake2b}
+use Rattle.digest_kinds.specs.Basics.{ByteString}
 pub use Rattle.digest_kinds.specs.declared.algo.Algo.{Algo}
 pub use Rattle.digest_kinds.specs.declared.algo.Algo.TheVariants.{Md5, Sha1, Sha224, Sha256, Sha384, Sha512, Blake2b}
 pub use Rattle.digest_kinds.specs.declared.kind.LengthFault.{LengthFault}
@@ -17,23 +18,30 @@ pub use Rattle.digest_kinds.specs.declared.algo.Algos.{Algos}
 abbrev pub all_algos : List Algo
 all_algos = Md5 ∷ Sha1 ∷ Sha224 ∷ Sha256 ∷ Sha384 ∷ Sha512 ∷ Blake2b ∷ []
 
--- of an algorithm the full digest's length in bytes, the tag in lines, and the digest, whose length BLAKE2b alone reads
-abbrev pub about : Algo → ℕ × List ℕ × (ℕ → List ℕ → List ℕ)
-about Md5 = (16, codes "MD5", λ n m. md5 m)
-about Sha1 = (20, codes "SHA1", λ n m. sha1 m)
-about Sha224 = (28, codes "SHA224", λ n m. sha224 m)
-about Sha256 = (32, codes "SHA256", λ n m. sha256 m)
-about Sha384 = (48, codes "SHA384", λ n m. sha384 m)
-about Sha512 = (64, codes "SHA512", λ n m. sha512 m)
-about Blake2b = (64, codes "BLAKE2b", λ n m. blake2b n m)
+-- what is known of an algorithm: the full digest's length in bytes, the tag in lines, and the digest, whose length
+-- BLAKE2b alone reads
+pub record AlgoFacts : Type 0 where
+  pub full_len : ℕ
+  pub tag : ByteString
+  pub digest : ℕ → ByteString → ByteString
+
+-- the facts of each
+abbrev pub about : Algo → AlgoFacts
+about Md5 = record { full_len = 16; tag = codes "MD5"; digest = λ n m. md5 m }
+about Sha1 = record { full_len = 20; tag = codes "SHA1"; digest = λ n m. sha1 m }
+about Sha224 = record { full_len = 28; tag = codes "SHA224"; digest = λ n m. sha224 m }
+about Sha256 = record { full_len = 32; tag = codes "SHA256"; digest = λ n m. sha256 m }
+about Sha384 = record { full_len = 48; tag = codes "SHA384"; digest = λ n m. sha384 m }
+about Sha512 = record { full_len = 64; tag = codes "SHA512"; digest = λ n m. sha512 m }
+about Blake2b = record { full_len = 64; tag = codes "BLAKE2b"; digest = blake2b }
 
 -- the number of bytes of the full digest
 abbrev pub full_len : Algo → ℕ
-full_len a = (about a).0
+full_len a = (about a).full_len
 
 -- the tag
-abbrev pub tag : Algo → List ℕ
-tag a = (about a).1
+abbrev pub tag : Algo → ByteString
+tag a = (about a).tag
 
 -- whether the algorithm has digests of n bytes: BLAKE2b has those of 1 to 64 (RFC 7693, 2.1), any other its full one
 abbrev pub has_len : Algo → ℕ → Bool
@@ -54,8 +62,8 @@ abbrev pub blake2b_kind : ℕ → KindValue
 blake2b_kind n = record { algo = Blake2b; len = n }
 
 -- the digest of a message by a kind
-abbrev pub digest : KindValue → List ℕ → List ℕ
-digest k m = (about k.algo).2 k.len m
+abbrev pub digest : KindValue → ByteString → ByteString
+digest k m = (about k.algo).digest k.len m
 
 -- the kind of so many bits, 0 for the full 512; more than 512 are TooLong, any others that aren't whole bytes NotBytes
 abbrev pub blake2b_of_bits : ℕ → Result KindValue LengthFault
@@ -65,15 +73,15 @@ blake2b_of_bits bits = if nat_lt 512 bits then Err TooLong
     else Err NotBytes
 
 -- the algorithm's tag is a prefix of the bytes
-abbrev pub BeginsWithTag : List ℕ → Algo → Type 0
-BeginsWithTag bytes a = (rest : List ℕ) × (bytes ≡ tag a ++ rest)
+abbrev pub BeginsWithTag : ByteString → Algo → Type 0
+BeginsWithTag bytes a = (rest : ByteString) × (bytes ≡ tag a ++ rest)
 
 -- no tag is a prefix of another
 abbrev pub TagsApart : Type 0
 TagsApart = (a b : Algo) → BeginsWithTag (tag b) a → a ≡ b
 
 -- the text is 2 to 128 hexadecimal digits of an even count, each of either case
-pub record IsDigits (text : List ℕ) : Type 0 where
+pub record IsDigits (text : ByteString) : Type 0 where
   pub some : 2 ≤ length text
   pub few : length text ≤ 128
   pub even : length text % 2 ≡ 0

@@ -1,3 +1,4 @@
+pub mod Basics
 pub mod Kinds
 pub mod Limits
 pub mod refinement

@@ -1,7 +1,12 @@
 //! The algorithms and their tags.
 
-ghost use Rattle.std.specs.Prelude.{◌≡◌, Some, IfSome};
+ghost use Rattle.std.specs.Prelude.{◌≡◌, Some, IfSome, Ok, IfOk};
+ghost use Rattle.std.specs.Fmt.{styled_text};
 ghost use Rattle.digest_kinds.specs.Kinds.{full_len, tag, BeginsWithTag};
+
+use std::fmt;
+use std::str::FromStr;
+use thiserror::Error;
 
 /// A digest algorithm.
 #[derive(Clone, Copy, Debug, PartialEq, Eq)]
@@ -59,28 +64,62 @@ impl Algo {
     pub fn tag(self) -> &'static str
         ensures { result.now ≡ tag self }
     {
-        match self {
-            Algo::Md5 => "MD5",
-            Algo::Sha1 => "SHA1",
-            Algo::Sha224 => "SHA224",
-            Algo::Sha256 => "SHA256",
-            Algo::Sha384 => "SHA384",
-            Algo::Sha512 => "SHA512",
-            Algo::Blake2b => "BLAKE2b",
-        }
+        self.facts().0
     }
 
     /// The number of bytes of the full digest.
     pub(crate) fn full_len(self) -> usize
         ensures { result ≡ full_len self }
     {
+        self.facts().1
+    }
+
+    // The tag, and the number of bytes of the full digest.
+    fn facts(self) -> (&'static str, usize)
+        ensures tag { result.0.now ≡ tag self }
+        ensures full_len { result.1 ≡ full_len self }
+    {
         match self {
-            Algo::Md5 => 16,
-            Algo::Sha1 => 20,
-            Algo::Sha224 => 28,
-            Algo::Sha256 => 32,
-            Algo::Sha384 => 48,
-            Algo::Sha512 | Algo::Blake2b => 64,
+            Algo::Md5 => ("MD5", 16),
+            Algo::Sha1 => ("SHA1", 20),
+            Algo::Sha224 => ("SHA224", 28),
+            Algo::Sha256 => ("SHA256", 32),
+            Algo::Sha384 => ("SHA384", 48),
+            Algo::Sha512 => ("SHA512", 64),
+            Algo::Blake2b => ("BLAKE2b", 64),
         }
+    }
+}
+
+/// A text that isn't the tag of an algorithm.
+#[derive(Clone, Copy, Debug, PartialEq, Eq, Error)]
+#[error("not the tag of an algorithm")]
+pub struct UnknownTag;
+
+impl FromStr for Algo {
+    ghost use Rattle.digest_kinds.specs.declared.algo.Algo.{Algo};
+
+    type Err = UnknownTag;
+
+    // The text is the tag of the algorithm that is returned, and of each tag its algorithm is returned.
+    ghost from_str_gives = { λ s r. IfOk r (λ a. s ≡ tag a) × ((a : Algo) → s ≡ tag a → r ≡ Ok a) };
+
+    /// The algorithm with this tag.
+    fn from_str(s: &str) -> Result<Algo, UnknownTag> {
+        match Algo::of_tag_prefix(s.as_bytes()) {
+            Some(algo) if algo.tag() == s => Ok(algo),
+            _ => Err(UnknownTag),
+        }
+    }
+}
+
+impl fmt::Display for Algo {
+    ghost output = { λ a. Some (tag a) };
+
+    ghost styled_output = { λ a spec. Some (styled_text spec (tag a)) };
+
+    /// Writes the tag, padded as a text is.
+    fn fmt<W: fmt::Write>(&self, f: &mut fmt::Formatter<W>) -> fmt::Result {
+        f.pad(self.tag())
     }
 }

@@ -1,11 +1,13 @@
 //! A digest.
 
-ghost use Rattle.std.specs.Prelude.{◌≡◌, ◌*◌, ◌++◌, ◌≤◌, ◌↔◌, IsTrue, drop, length, IsSome, IfSome, Ok};
+ghost use Rattle.std.specs.Prelude.{◌≡◌, ◌*◌, ◌++◌, ◌≤◌, ◌↔◌, IsTrue, drop, length, IsSome, IfSome, Ok, IsOk, IfOk};
 ghost use Rattle.digest_kinds.specs.Kinds.{IsDigits};
 ghost use Rattle.hex.specs.Hex.{decode_of, encode_lower};
 
 use std::marker::Model;
+use std::str::FromStr;
 use std::{fmt, str};
+use thiserror::Error;
 
 /// A digest, of 1 to 64 bytes.
 #[derive(Clone, Debug, Drop)]
@@ -83,6 +85,22 @@ impl Digest {
     }
 }
 
+/// A text that isn't 2 to 128 hexadecimal digits of an even count.
+#[derive(Clone, Copy, Debug, PartialEq, Eq, Error)]
+#[error("not 2 to 128 hexadecimal digits of an even count")]
+pub struct NotDigits;
+
+impl FromStr for Digest {
+    type Err = NotDigits;
+
+    ghost from_str_gives = { λ s r. IfOk r (λ digest. decode_of s ≡ Ok digest) × (IsOk r ↔ IsDigits s) };
+
+    /// The digest that the digits spell, as [`Digest::from_hex`].
+    fn from_str(s: &str) -> Result<Digest, NotDigits> {
+        Digest::from_hex(s.as_bytes()).ok_or(NotDigits)
+    }
+}
+
 impl PartialEq for Digest {
     ghost use Rattle.std.specs.Prelude.{◌==◌};
     ghost use Rattle.std.specs.Cmp.Lexicographic.{pointwise};
@@ -107,8 +125,11 @@ impl Eq for Digest {
 
 impl fmt::Display for Digest {
     ghost use Rattle.std.specs.Prelude.{Some};
+    ghost use Rattle.std.specs.Fmt.{styled_text};
 
     ghost output = { λ d. Some (encode_lower d) };
+
+    ghost styled_output = { λ d spec. Some (styled_text spec (encode_lower d)) };
 
     /// Writes the digits, in lower case, padded as a text is.
     fn fmt<W: fmt::Write>(&self, f: &mut fmt::Formatter<W>) -> fmt::Result {

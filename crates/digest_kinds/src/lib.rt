@@ -19,8 +19,8 @@ pub mod laws;
 #[cfg(test)]
 mod tests;
 
-pub use algo::{Algo, Algos};
-pub use digest::Digest;
+pub use algo::{Algo, Algos, UnknownTag};
+pub use digest::{Digest, NotDigits};
 pub use hashers::any_hasher::AnyHasher;
 pub use hashers::hasher::{Hasher, LIMIT};
 pub use hashers::kit_hashers::{

@@ -1,45 +1,36 @@
--- Joins `new`, `update` and `finish` of `AnyHasher`: its message, kind and count are those of the hasher in it.
-use Rattle.std.specs.Prelude.{◌≡◌, ℕ, List, length}
+-- What contracts see of an `AnyHasher`: what they see of the hasher in it.
+use Rattle.std.specs.Prelude.{◌≡◌, ℕ, length}
 use Rattle.md5.specs.Md5.{Holds as HoldsMd5}
 use Rattle.sha1.specs.Sha1.{Holds as HoldsSha1}
 use Rattle.sha2.specs.Hashers.{Holds224, Holds256, Holds384, Holds512}
 use Rattle.blake2b_core.specs.refinement.Holding.{Holds as HoldsBlake2b, digest_len, taken as taken_blake2b}
-use Rattle.digest_kinds.specs.Kinds.{KindValue, blake2b_kind, full_kind}
+use Rattle.digest_kinds.specs.Basics.{ByteString}
+use Rattle.digest_kinds.specs.Kinds.{Algo, KindValue, blake2b_kind, full_kind}
 use Rattle.digest_kinds.specs.declared.hashers.any_hasher.AnyHasher.{AnyHasher}
 use Rattle.digest_kinds.specs.declared.hashers.any_hasher.AnyHasher.TheVariants.{Md5, Sha1, Sha224, Sha256, Sha384, Sha512, Blake2b}
 use Rattle.digest_kinds.specs.declared.algo.Algo.TheVariants as algos
 
--- it has taken this message
-abbrev pub HasherHolds : AnyHasher → List ℕ → Type 0
-HasherHolds (Md5 h) m = HoldsMd5 h.inner m × (h.taken ≡ length m)
-HasherHolds (Sha1 h) m = HoldsSha1 h.inner m × (h.taken ≡ length m)
-HasherHolds (Sha224 h) m = Holds224 h.inner m × (h.taken ≡ length m)
-HasherHolds (Sha256 h) m = Holds256 h.inner m × (h.taken ≡ length m)
-HasherHolds (Sha384 h) m = Holds384 h.inner m × (h.taken ≡ length m)
-HasherHolds (Sha512 h) m = Holds512 h.inner m × (h.taken ≡ length m)
-HasherHolds (Blake2b h) m = HoldsBlake2b h m
+-- the messages that a hasher may have taken, the kind of its digest, and how many bytes it has taken
+pub record HasherValue : Type 1 where
+  pub holds : ByteString → Type 0
+  pub kind : KindValue
+  pub taken : ℕ
 
--- the kind of its digest
-abbrev pub hasher_kind : AnyHasher → KindValue
-hasher_kind (Md5 h) = full_kind algos.Md5
-hasher_kind (Sha1 h) = full_kind algos.Sha1
-hasher_kind (Sha224 h) = full_kind algos.Sha224
-hasher_kind (Sha256 h) = full_kind algos.Sha256
-hasher_kind (Sha384 h) = full_kind algos.Sha384
-hasher_kind (Sha512 h) = full_kind algos.Sha512
-hasher_kind (Blake2b h) = blake2b_kind (digest_len h)
+-- a hasher over a digest of the kit, which counts the bytes
+abbrev over_kit : Algo → (ByteString → Type 0) → ℕ → HasherValue
+over_kit a holds n = record { holds = λ m. holds m × (n ≡ length m); kind = full_kind a; taken = n }
 
--- how many bytes it has taken
-abbrev pub taken_of : AnyHasher → ℕ
-taken_of (Md5 h) = h.taken
-taken_of (Sha1 h) = h.taken
-taken_of (Sha224 h) = h.taken
-taken_of (Sha256 h) = h.taken
-taken_of (Sha384 h) = h.taken
-taken_of (Sha512 h) = h.taken
-taken_of (Blake2b h) = taken_blake2b h
+-- the hasher in it
+abbrev pub hasher_in : AnyHasher → HasherValue
+hasher_in (Md5 h) = over_kit algos.Md5 (HoldsMd5 h.inner) h.taken
+hasher_in (Sha1 h) = over_kit algos.Sha1 (HoldsSha1 h.inner) h.taken
+hasher_in (Sha224 h) = over_kit algos.Sha224 (Holds224 h.inner) h.taken
+hasher_in (Sha256 h) = over_kit algos.Sha256 (Holds256 h.inner) h.taken
+hasher_in (Sha384 h) = over_kit algos.Sha384 (Holds384 h.inner) h.taken
+hasher_in (Sha512 h) = over_kit algos.Sha512 (Holds512 h.inner) h.taken
+hasher_in (Blake2b h) = record { holds = HoldsBlake2b h; kind = blake2b_kind (digest_len h); taken = taken_blake2b h }
 
 -- it has taken as many bytes as its message has
-pub taken_of-length : (h : AnyHasher) (m : List ℕ) → HasherHolds h m → taken_of h ≡ length m
-taken_of-length (Blake2b h) m held = held.so_far.taken
-taken_of-length h m held = held.1
+pub taken-length : (h : AnyHasher) (m : ByteString) → (hasher_in h).holds m → (hasher_in h).taken ≡ length m
+taken-length (Blake2b h) m held = held.so_far.taken
+taken-length h m held = held.1

@@ -30,6 +30,21 @@ pub enum AnyHasher {
     Blake2b(Blake2b),
 }
 
+// The same of whichever hasher it is.
+macro_rules! each {
+    ($any:expr, $hasher:ident => $result:expr) => {
+        match $any {
+            AnyHasher::Md5($hasher) => $result,
+            AnyHasher::Sha1($hasher) => $result,
+            AnyHasher::Sha224($hasher) => $result,
+            AnyHasher::Sha256($hasher) => $result,
+            AnyHasher::Sha384($hasher) => $result,
+            AnyHasher::Sha512($hasher) => $result,
+            AnyHasher::Blake2b($hasher) => $result,
+        }
+    };
+}
+
 impl AnyHasher {
     /// A hasher of the empty message for digests of this kind.
     pub fn new(kind: Kind) -> AnyHasher
@@ -50,61 +65,29 @@ impl AnyHasher {
 }
 
 impl Hasher for AnyHasher {
-    ghost use Rattle.digest_kinds.specs.refinement.AnyHasherState.{HasherHolds, hasher_kind, taken_of, taken_of-length};
+    ghost use Rattle.digest_kinds.specs.refinement.AnyHasherState.{hasher_in, taken-length};
 
-    ghost holds = { HasherHolds };
+    ghost holds = { λ h. (hasher_in h).holds };
 
-    ghost kind_of = { hasher_kind };
+    ghost kind_of = { λ h. (hasher_in h).kind };
 
-    ghost taken_of = { taken_of };
+    ghost taken_of = { λ h. (hasher_in h).taken };
 
-    ghost counts = { taken_of-length };
+    ghost counts = { taken-length };
 
     fn kind(&self) -> Kind {
-        match self {
-            AnyHasher::Md5(hasher) => hasher.kind(),
-            AnyHasher::Sha1(hasher) => hasher.kind(),
-            AnyHasher::Sha224(hasher) => hasher.kind(),
-            AnyHasher::Sha256(hasher) => hasher.kind(),
-            AnyHasher::Sha384(hasher) => hasher.kind(),
-            AnyHasher::Sha512(hasher) => hasher.kind(),
-            AnyHasher::Blake2b(hasher) => hasher.kind(),
-        }
+        each!(self, hasher => Hasher::kind(hasher))
     }
 
     fn taken(&self) -> u64 {
-        match self {
-            AnyHasher::Md5(hasher) => hasher.taken(),
-            AnyHasher::Sha1(hasher) => hasher.taken(),
-            AnyHasher::Sha224(hasher) => hasher.taken(),
-            AnyHasher::Sha256(hasher) => hasher.taken(),
-            AnyHasher::Sha384(hasher) => hasher.taken(),
-            AnyHasher::Sha512(hasher) => hasher.taken(),
-            AnyHasher::Blake2b(hasher) => hasher.taken(),
-        }
+        each!(self, hasher => Hasher::taken(hasher))
     }
 
     fn update(&mut self, piece: &[u8]) {
-        match self {
-            AnyHasher::Md5(hasher) => hasher.update(piece),
-            AnyHasher::Sha1(hasher) => hasher.update(piece),
-            AnyHasher::Sha224(hasher) => hasher.update(piece),
-            AnyHasher::Sha256(hasher) => hasher.update(piece),
-            AnyHasher::Sha384(hasher) => hasher.update(piece),
-            AnyHasher::Sha512(hasher) => hasher.update(piece),
-            AnyHasher::Blake2b(hasher) => hasher.update(piece),
-        }
+        each!(self, hasher => Hasher::update(hasher, piece))
     }
 
     fn finish(self) -> Digest {
-        match self {
-            AnyHasher::Md5(hasher) => hasher.finish(),
-            AnyHasher::Sha1(hasher) => hasher.finish(),
-            AnyHasher::Sha224(hasher) => hasher.finish(),
-            AnyHasher::Sha256(hasher) => hasher.finish(),
-            AnyHasher::Sha384(hasher) => hasher.finish(),
-            AnyHasher::Sha512(hasher) => hasher.finish(),
-            AnyHasher::Blake2b(hasher) => Hasher::finish(hasher),
-        }
+        each!(self, hasher => Hasher::finish(hasher))
     }
 }

@@ -1,6 +1,7 @@
 //! The trait of a hasher.
 
 ghost use Rattle.std.specs.Prelude.{◌≡◌, ℕ, ◌+◌, ◌<◌, List, ◌++◌, length};
+ghost use Rattle.digest_kinds.specs.Basics.{ByteString};
 ghost use Rattle.digest_kinds.specs.Kinds.{KindValue, digest};
 
 use crate::digest::Digest;
@@ -10,7 +11,7 @@ pub use blake2b_core::LIMIT;
 /// Takes a message piece by piece, and returns its digest.
 pub trait Hasher {
     // The hasher has taken this message. A hasher need not store it, so this is a relation.
-    ghost holds: { Self → List ℕ → Type 0 };
+    ghost holds: { Self → ByteString → Type 0 };
 
     // The kind of its digest.
     ghost kind_of: { Self → KindValue };
@@ -30,15 +31,15 @@ pub trait Hasher {
     fn update(&mut self, piece: &[u8])
         requires { taken_of self.old + length piece.now < LIMIT }
         // For each message that it may have taken: it has then taken that and the piece.
-        ensures holds { (m : List ℕ) → holds self.old m → holds self.new (m ++ piece.now) }
+        ensures holds { (m : ByteString) → holds self.old m → holds self.new (m ++ piece.now) }
         ensures taken { taken_of self.new ≡ taken_of self.old + length piece.now }
         ensures kind { kind_of self.new ≡ kind_of self.old };
 
     /// The digest of the message that was taken, of the kind's length.
     fn finish(self) -> Digest
-        ensures value { (m : List ℕ) → holds self m → result ≡ digest (kind_of self) m }
+        ensures value { (m : ByteString) → holds self m → result ≡ digest (kind_of self) m }
         ensures len { length result ≡ (kind_of self).len };
 
     // It has taken as many bytes as its message has.
-    ghost counts: { (h : Self) (m : List ℕ) → holds h m → taken_of h ≡ length m };
+    ghost counts: { (h : Self) (m : ByteString) → holds h m → taken_of h ≡ length m };
 }

@@ -1,11 +1,11 @@
 //! Digests and their digits.
-use crate::Digest;
+use crate::{Digest, NotDigits};
 use std::test::Fail;
 
 #[test]
 fn digits(rt: HostRuntime) {
     for text in [b"".as_slice(), b"0", b"0g", b"0aF", &[b'0'; 130]] {
-        assert!(rt; Digest::from_hex(text).is_none());
+        assert!(rt; Digest::from_hex(text).is_none(), "{}", text.escape_ascii());
     }
     match (
         Digest::from_hex(b"0aFf"),
@@ -27,8 +27,12 @@ fn shown(rt: HostRuntime) -> Result<(), Fail> {
     let digest = Digest::from_hex(b"0AfF").ok_or("no digest")?;
     let text = format!(in rt.alloc(); "{digest}")?;
     assert_eq!(rt; text.as_str(), "0aff");
+    assert_eq!(rt; text.parse::<Digest>(), Ok(digest.clone()?));
     let text = format!(in rt.alloc(); "{digest:>6}")?;
     assert_eq!(rt; text.as_str(), "  0aff");
+    for text in ["", "0", "0g"] {
+        assert_eq!(rt; text.parse::<Digest>(), Err(NotDigits), "{text}");
+    }
     Ok(())
 }
 
@@ -38,7 +42,8 @@ fn compared(rt: HostRuntime) -> Result<(), Fail> {
     let copy = digest.clone()?;
     assert_eq!(rt; copy, digest);
     for text in [b"0afe".as_slice(), b"0a", b"0aff00"] {
-        assert_ne!(rt; Digest::from_hex(text).ok_or("no digest")?, digest);
+        let other = Digest::from_hex(text).ok_or("no digest")?;
+        assert_ne!(rt; other, digest, "{}", text.escape_ascii());
     }
     Ok(())
 }

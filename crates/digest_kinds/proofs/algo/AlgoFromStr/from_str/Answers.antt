@@ -1,0 +1,11 @@
+use Rattle.std.proofs.Common.{[], sym, ◌∙◌, append-nil}
+use Rattle.digest_kinds.specs.Kinds.{tag}
+use Rattle.digest_kinds.proofs.algo.AlgoFromStr.from_str.Goals as goal
+
+-- a tag begins itself, so there is none
+pub returns-in_default-2 : goal.returns-in_default-2
+returns-in_default-2 c = (
+  tt,
+  λ a same.
+      let none = c.in_default.ensures.found a ([], c.as_bytes.ensures.value ∙ same ∙ sym (append-nil (tag a))) in cc,
+)
