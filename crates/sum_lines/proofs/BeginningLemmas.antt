@@ -18,6 +18,7 @@ use Rattle.std.proofs.lemmas.Slice.Eq.{starts_is}
 use Rattle.hex.specs.Hex.{decode_of, is_hex_digit}
 use Rattle.hex.proofs.HexLemmas.{decode_of-ok}
 use Rattle.digest_kinds.specs.Kinds.{KindValue, full_len, has_len, tag, IsDigits}
+use Rattle.digest_kinds.proofs.KindLemmas.{has_len-full}
 use Rattle.digest_kinds.specs.declared.algo.Algo.TheVariants.{Blake2b}
 use Rattle.sum_lines.specs.refinement.Beginnings.{Cut, EndsAt, EndsDigits, LeadsTo}
 use Rattle.sum_lines.proofs.PrefixLemmas.{none_of, text}
@@ -62,7 +63,10 @@ tag-within {a} s is h = let found = tag_in-some {algos = One a} {s = s} h in rw 
 
 -- an algorithm other than BLAKE2b has digests of one length, so a line's digits are as many
 pub fixed-len : (a : Algo) (s : List ℕ) (n : ℕ) → (a ≡ Blake2b → ⊥) → n ≡ 2 * full_len a → EndsAt a s n
-fixed-len a s n other is = grind (arith, cut-size)
+fixed-len a s n other is = λ d cut.
+    let one = has_len-full a (length d) other cut.has in
+    let size = cut-size cut in
+    omega (arith, is, one, size.0)
 
 -- if no blank is found among the first bytes, the line isn't plain
 pub search-none : (a : Algo) (s : List ℕ) {n : ℕ} (r : Option ℕ) → n ≡ min (length s) 129

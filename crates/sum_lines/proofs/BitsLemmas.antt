@@ -9,18 +9,11 @@ use Rattle.std.proofs.lemmas.List.Elements.{All-cons, All-head, All-tail, All-ni
 use Rattle.std.proofs.lemmas.Option.{cond_some}
 use Rattle.std.proofs.lemmas.Slice.Eq.{bytes_eq-Decides}
 use Rattle.std.proofs.lemmas.Str.Parse.{IsDigitsTest, IsNumeralModel, digits_value_short, numerals_by_value}
-use Rattle.digest_kinds.specs.Kinds.{KindValue, blake2b_kind, has_len, blake2b_of_bits}
+use Rattle.digest_kinds.specs.Kinds.{KindValue, blake2b_kind, blake2b_of_bits}
 use Rattle.sum_lines.specs.grammar.LineParts.{kind_at}
 use Rattle.sum_lines.specs.refinement.LinePartRanges.{number_of}
 use Rattle.sum_lines.proofs.PrefixLemmas.{map_some, none_of}
-use Rattle.digest_kinds.specs.declared.algo.Algo.{Algo}
 use Rattle.std.specs.Str.Parse.{digits_value}
-
--- ---- lengths
-
--- each digest has 1 to 64 bytes
-pub has_len-range : (a : Algo) (n : ℕ) → has_len a n ≡ true → (0 < n) × (n ≤ 64)
-has_len-range a n h = grind arith
 
 -- ---- the one number in a range that passes
 

@@ -2,11 +2,12 @@
 use Rattle.std.proofs.Common.{◌≡◌, ℕ, Bool, false, List, Option, None, Some, refl, ap, sym, ◌∙◌, inl, inr, arith}
 use Rattle.std.specs.Option.{option_or}
 use Rattle.std.proofs.lemmas.Option.{same_Some}
+use Rattle.digest_kinds.specs.Basics.{◌>>=◌}
 use Rattle.digest_kinds.specs.Kinds.{KindValue}
 use Rattle.sum_lines.specs.grammar.Shapes.{Algos, Plain}
 use Rattle.sum_lines.specs.grammar.Entries.{Form, Undecided, Standard, Reversed, EntryValue, IsEntry, RawOf, is_ignored_by}
 use Rattle.sum_lines.specs.Escape.{Profile, present, escape_by}
-use Rattle.sum_lines.specs.grammar.LineParts.{◌>>=◌, LinePartsValue, tagged_parts, plain_parts}
+use Rattle.sum_lines.specs.grammar.LineParts.{LinePartsValue, tagged_parts, plain_parts}
 use Rattle.sum_lines.specs.grammar.ParsedLines.{with_raw, entry_of_parts, entry_of, ParsedLine, parse_line}
 use Rattle.sum_lines.specs.grammar.LineLaws.{OneEntry, ParseMatches, ParseIsGrammar}
 use Rattle.sum_lines.proofs.PrefixLemmas.{bind_some, none_of}

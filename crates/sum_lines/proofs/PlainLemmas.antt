@@ -9,6 +9,7 @@ use Rattle.std.proofs.lemmas.List.Sums.{split_at_first, passes_at_first}
 use Rattle.hex.specs.Hex.{decode_of, is_hex_digit}
 use Rattle.hex.proofs.HexLemmas.{decode_of-ok}
 use Rattle.digest_kinds.specs.Kinds.{KindValue, tag}
+use Rattle.digest_kinds.proofs.KindLemmas.{no_digits}
 use Rattle.sum_lines.specs.grammar.Shapes.{Algo, Algos, One, Any, is_blank, Plain, Tagged}
 use Rattle.sum_lines.specs.grammar.LineParts.{LinePartsValue, after_while, plain_parts}
 use Rattle.sum_lines.specs.refinement.Beginnings.{Cut}
@@ -117,12 +118,7 @@ plain_is_read p t =
 
 -- ---- one shape
 
--- no two digits begin a tag
-no_digits : (a : Algo) (x y : ℕ) (xs rest : List ℕ) → is_hex_digit x ≡ true → is_hex_digit y ≡ true
-    → x ∷ y ∷ xs ≡ tag a ++ rest → ⊥
-no_digits a x y xs rest h k e = grind arith
-
--- so a plain line's digits begin none
+-- a plain line's digits begin no tag
 pub no_prefix : (a : Algo) (ds s rest : List ℕ) → AllPass is_hex_digit ds → 2 ≤ length ds → ds ++ s ≡ tag a ++ rest → ⊥
 no_prefix a (x ∷ y ∷ xs) s rest all two e =
     no_digits a x y (xs ++ s) rest (All-head Hex x (y ∷ xs) all) (All-head Hex y xs (All-tail Hex x (y ∷ xs) all)) e

@@ -12,7 +12,8 @@ use Rattle.std.proofs.lemmas.List.Sums.{take_while-cons}
 use Rattle.std.proofs.lemmas.List.Elements.{All-cons, All-get_or, All-head, All-tail, All-nil}
 use Rattle.std.proofs.lemmas.Option.{same_Some}
 use Rattle.std.proofs.lemmas.Slice.Eq.{starts_is}
-use Rattle.sum_lines.specs.grammar.LineParts.{◌>>=◌, after_while, strip_prefix, mark_and_rest}
+use Rattle.digest_kinds.specs.Basics.{◌>>=◌}
+use Rattle.sum_lines.specs.grammar.LineParts.{after_while, strip_prefix, mark_and_rest}
 use Rattle.sum_lines.specs.grammar.Shapes.{is_blank, mark, optional}
 use Rattle.std.proofs.lemmas.Grind.{common_steps}
 

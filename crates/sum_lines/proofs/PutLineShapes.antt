@@ -11,7 +11,8 @@ use Rattle.sum_lines.specs.grammar.Shapes.{mark, Width, is_blank, Allows, Plain,
 use Rattle.digest_kinds.specs.declared.algo.Algo.TheVariants.{Blake2b}
 use Rattle.sum_lines.specs.Escape.{present, escape, escape_of, escape_differs}
 use Rattle.std.specs.Char.{is_ascii_digit}
-use Rattle.sum_lines.proofs.BitsLemmas.{decimal-digits, has_len-range}
+use Rattle.sum_lines.proofs.BitsLemmas.{decimal-digits}
+use Rattle.digest_kinds.proofs.KindLemmas.{has_len-range}
 use Rattle.std.proofs.lemmas.Slice.Eq.{bytes_eq-Decides}
 use Rattle.hex.specs.Hex.{encode_lower, is_hex_digit}
 use Rattle.hex.proofs.HexLemmas.{decode_of-encode_lower}

@@ -1,14 +1,17 @@
 -- What the functions that scan a line return, step by step.
-use Rattle.std.proofs.Common.{ℕ, ◌≡◌, ◌≢◌, ◌+◌, ◌-◌, ◌*◌, ◌<◌, ◌≤◌, List, [], ◌∷◌, ◌++◌, length, take, drop, slice_range, Option, None, Some, MatchOption, Ok, Bor, refl, sym, arith, append_assoc, take_while, option_copied}
+use Rattle.std.proofs.Common.{ℕ, ◌≡◌, ◌≢◌, ◌+◌, ◌-◌, ◌*◌, ◌<◌, ◌≤◌, List, [], ◌∷◌, ◌++◌, length, take, drop, slice_range, Option, None, Some, MatchOption, Result, Ok, Bor, refl, sym, arith, append_assoc, take_while, option_copied, eq-eqb, ◌==◌, ◌&&◌, nat_lt, if◌then◌else◌}
 use Rattle.std.specs.Option.{option_or}
 use Rattle.std.specs.Path.{rsplit_once}
+use Rattle.std.specs.Result.{result_ok}
+use Rattle.std.proofs.lemmas.Bool.{lt-ltb}
 use Rattle.memchr.specs.Find.{Nowhere, Passes, IsLastByte, is_byte}
 use Rattle.hex.specs.Hex.{decode_of}
 use Rattle.hex.proofs.HexLemmas.{decode_of-ok}
+use Rattle.digest_kinds.specs.Basics.{◌>>=◌}
 use Rattle.digest_kinds.specs.Kinds.{KindValue, tag, IsDigits}
 use Rattle.sum_lines.specs.grammar.Shapes.{Algo, One, is_blank, mark, optional}
 use Rattle.std.proofs.lemmas.List.{take-append-drop}
-use Rattle.sum_lines.specs.grammar.LineParts.{after_while, strip_prefix, tag_in, width_at, tagged_parts}
+use Rattle.sum_lines.specs.grammar.LineParts.{LinePartsValue, after_while, strip_prefix, tag_in, width_at, tagged_parts}
 use Rattle.sum_lines.specs.refinement.LinePartRanges.{EndsIn}
 use Rattle.sum_lines.proofs.PrefixLemmas.{none_of, text, strip_prefix-some, strip_prefix-append, prefix-and-rest, opened-some, rfind-at, rfind-none, mark_and_rest-is, rsplit-some}
 use Rattle.sum_lines.proofs.TaggedLemmas.{width_at-some}
@@ -93,7 +96,13 @@ pub tail-place : {line tail : List ℕ} → EndsIn line tail
     → slice_range line (length line - length tail) (length line) ≡ tail
 tail-place ends = grind (arith, common_steps)
 
--- what was read step by step after the tag
+-- parts whose digest has to have n bytes, of digits that spell none of n
+none_of_size : {E : Type 0} (r : Result (List ℕ) E) (n m : ℕ) (p : List ℕ → LinePartsValue)
+    → ((d : List ℕ) → r ≡ Ok d → length d ≢ n)
+    → None ≡ (result_ok r >>= λ d. if length d == n && nat_lt 0 m then Some (p d) else None)
+none_of_size r n m p none = grind arith
+
+-- what was read step by step after the tag; no step looks which algorithm it is
 module _ {w : KindValue × List ℕ} {inner digits : List ℕ} {name : List ℕ × List ℕ} (a : Algo) (line : List ℕ)
     (found : tag_in (One a) (text line).1 ≡ Some a)
     (width : Some w ≡ width_at a (drop (length (tag a)) (text line).1))
@@ -105,10 +114,21 @@ module _ {w : KindValue × List ℕ} {inner digits : List ℕ} {name : List ℕ 
       → 0 < length name.0
       → Some (record { escaped = (text line).0; kind = w.0; digest = d; text = name.0 }) ≡ tagged_parts (One a) line
   unfolding tagged_parts
-  tagged-read spelled size some = grind arith
+  tagged-read {d} spelled size some =
+      rw (
+        found,
+        ← width,
+        ← opened,
+        ← split,
+        ← sign,
+        spelled,
+        eq-eqb (length d) w.0.len size,
+        lt-ltb 0 (length name.0) some,
+      ) refl
 
   -- digits that spell no digest of the kind's length give no parts
   pub tagged-none : ((d : List ℕ) → decode_of (after_while is_blank digits) ≡ Ok d → length d ≢ w.0.len)
       → None ≡ tagged_parts (One a) line
   unfolding tagged_parts
-  tagged-none none = grind arith
+  tagged-none none = rw (found, ← width, ← opened, ← split, ← sign)
+      (none_of_size (decode_of (after_while is_blank digits)) w.0.len (length name.0) _ none)

@@ -11,14 +11,14 @@ use Rattle.std.proofs.lemmas.Bool.{eqb-true, ltb-true, and_from, and_parts, le-l
 use Rattle.std.proofs.lemmas.Bool.Decides.{Decides-eqb, eqb_tells}
 use Rattle.std.proofs.lemmas.List.Prefix.{front_rest}
 use Rattle.std.proofs.lemmas.Slice.Eq.{starts_is}
-use Rattle.std.proofs.lemmas.Option.{cond_some}
+use Rattle.std.proofs.lemmas.Option.{cond_some, same_Some}
 use Rattle.hex.specs.Hex.{decode_of, is_hex_digit}
 use Rattle.digest_kinds.specs.Kinds.{KindValue, all_algos, full_kind, has_len, tag}
-use Rattle.digest_kinds.proofs.TagLemmas.{IfSome-find-begins}
+use Rattle.digest_kinds.proofs.TagLemmas.{IfSome-find-begins, find-begins}
 use Rattle.sum_lines.specs.grammar.Shapes.{Algo, Algos, One, Any, is_blank, Width, Allows, Tagged, mark, optional}
 use Rattle.digest_kinds.specs.declared.algo.Algo.TheVariants.{Blake2b}
 use Rattle.sum_lines.specs.grammar.LineParts.{LinePartsValue, after_while, strip_prefix, mark_and_rest, tag_in, kind_at, width_at, tagged_parts}
-use Rattle.sum_lines.proofs.PrefixLemmas.{text, bind_some, map_some, ok_some, prefix_passes, prefix-and-rest, mark_and_rest-is, strip_prefix-some, opened-some, rsplit-some, parts-at, prefix_len-all, opened-at, rsplit-at}
+use Rattle.sum_lines.proofs.PrefixLemmas.{text, bind_some, map_some, ok_some, prefix_passes, prefix-and-rest, mark_and_rest-is, strip_prefix-some, opened-some, rsplit-some, parts-at, prefix_len-all, opened-at, rsplit-at, starts-append}
 use Rattle.sum_lines.proofs.BitsLemmas.{kind_at-some, kind_at-bits, decimal-digits}
 use Rattle.std.proofs.lemmas.List.{drop_at}
 use Rattle.std.proofs.lemmas.List.Elements.{All-cons, All-head, All-append, All-weaker}
@@ -51,7 +51,8 @@ pub record Wide (a : Algo) (s : List ℕ) (w : KindValue × List ℕ) : Type 0 w
 
 -- nothing, for the full length
 wide-none : (a : Algo) (s : List ℕ) (w : KindValue × List ℕ) → Some (full_kind a, s) ≡ Some w → Wide a s w
-wide-none a s w h = grind arith
+wide-none a s w h = rw (← same_Some (full_kind a, s) w h)
+    (record { is_algo = refl; width = []; is_width = inl (refl, refl); whole = refl })
 
 -- the bits of BLAKE2b
 wide-bits : (s : List ℕ) (w : KindValue × List ℕ)
@@ -186,7 +187,8 @@ width_at-of kind w g s h = search (rules, digits-end, decimal-digits, kind_at-bi
 
 -- the tag there is found
 pub tag_in-tag : (algos : Algos) (a : Algo) (s : List ℕ) → Allows algos a → tag_in algos (tag a ++ s) ≡ Some a
-tag_in-tag algos a s allowed = grind arith
+tag_in-tag (One b) a s allowed = rw (← allowed, starts-append (tag a) s) refl
+tag_in-tag Any a s allowed = find-begins a s
 
 -- ---- blanks, digits and the parenthesis
 

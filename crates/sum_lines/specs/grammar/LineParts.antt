@@ -1,20 +1,16 @@
 -- The parts of a line of either shape, computed. They need not be believed: by the law `parse_is_grammar` the entry
 -- that is made of them is the line grammar's.
-use Rattle.std.specs.Prelude.{ℕ, ◌*◌, ◌==◌, ◌&&◌, nat_lt, Bool, true, false, List, ◌∷◌, length, drop, bytes_eq, codes, decimal, Option, None, Some, option_map, if◌then◌else◌, option_and_then, take_while, find}
+use Rattle.std.specs.Prelude.{ℕ, ◌*◌, ◌==◌, ◌&&◌, nat_lt, Bool, true, false, List, ◌∷◌, length, drop, bytes_eq, codes, decimal, Option, None, Some, option_map, if◌then◌else◌, take_while, find}
 use Rattle.std.specs.Char.{is_ascii_digit}
 use Rattle.std.specs.Option.{option_or}
 use Rattle.std.specs.Result.{result_ok}
 use Rattle.std.specs.List.{prefix_len, range_with_len, starts_with, before_first, after_first}
 use Rattle.std.specs.Path.{rsplit_once}
 use Rattle.hex.specs.Hex.{decode_of}
+use Rattle.digest_kinds.specs.Basics.{◌>>=◌}
 use Rattle.digest_kinds.specs.Kinds.{KindValue, all_algos, full_kind, blake2b_kind, has_len, tag}
 use Rattle.sum_lines.specs.grammar.Shapes.{Algo, Algos, One, Any, is_blank}
 use Rattle.digest_kinds.specs.declared.algo.Algo.TheVariants.{Blake2b}
-
--- o >>= f: the next step f on what o has, if it has something
-infixl 10 ◌>>=◌
-abbrev pub ◌>>=◌ : {A B : Type 0} → Option A → (A → Option B) → Option B
-o >>= f = option_and_then f o
 
 -- the parts of a line; the text is the raw name of a tagged line, the tail of a plain one
 pub record LinePartsValue : Type 0 where
