@@ -96,7 +96,9 @@ use Step::{Asked, Failed, Flush, Lens, Offer};
 // Does one step.
 fn take(rt: &impl Abort, buffer: &mut Buffered<Recorder>, step: Step) {
     match step {
-        Offer(piece, answer) => assert_eq!(rt; offer(buffer, piece), answer),
+        Offer(piece, answer) => {
+            assert_eq!(rt; offer(buffer, piece), answer, "{}", piece.escape_ascii())
+        }
         Flush(answer) => assert_eq!(rt; flush(buffer), answer),
         Asked(asked) => assert_eq!(rt; buffer.sink().asked.bytes(), asked),
         Lens(lens, end) => check_lens(rt, buffer, lens, end),

@@ -20,7 +20,7 @@ const E: &[u8] = b"d41d8cd98f00b204e9800998ecf8427e";
 const B: &[u8] = b"0e5751c026e543b2e8ab2eb06099daa1d1e5df47778f7787faab45cdf12fe3a8";
 
 // What a line is to say: an entry with its name and the name's range.
-#[derive(Clone, Copy)]
+#[derive(Clone, Copy, Debug, PartialEq)]
 enum Want<'a> {
     Ignored,
     Bad,
@@ -37,37 +37,41 @@ fn said(algos: Algos, form: Form, line: &mut Vec<u8>) -> (Reading, Form) {
     read_line(algos, form, line)
 }
 
-// Reads the row's line in a manifest of that form, and returns the form with it.
+// What was read of the line.
+fn found<'a>(reading: &Reading, line: &'a [u8]) -> Want<'a> {
+    match reading {
+        Reading::Ignored => Ignored,
+        Reading::Bad => Bad,
+        Reading::Entry { start, stop, .. } => {
+            Entry(line.get(*start..*stop).unwrap_or(b""), *start, *stop)
+        }
+    }
+}
+
+// Reads the row's line, which is that text, in a manifest of that form, and returns the form with it.
 fn check_line(
     rt: &impl Abort,
-    algos: Algos,
-    kind: Kind,
+    (algos, kind): (Algos, Kind),
     form: Form,
     line: &mut Vec<u8>,
+    text: &str,
     row: Row,
 ) -> Form {
     let (_, digits, _, want, after) = row;
     let before = line.len();
     let (reading, form) = said(algos, form, line);
-    assert_eq!(rt; form, after);
-    assert!(rt; line.len() <= before);
+    assert_eq!(rt; (found(&reading, line), form), (want, after), "{text}");
+    assert!(rt; line.len() <= before, "{text}");
     match reading {
-        Reading::Ignored => assert!(rt; matches!(want, Ignored) && line.len() == before),
-        Reading::Bad => assert!(rt; matches!(want, Bad)),
+        Reading::Ignored => assert_eq!(rt; line.len(), before, "{text}"),
+        Reading::Bad => {}
         Reading::Entry {
-            kind: found,
+            kind: named,
             digest,
-            start,
-            stop,
+            ..
         } => {
-            assert!(rt; found.algo() == kind.algo() && found.len() == kind.len());
-            let digits = Digest::from_hex(digits).expect(rt, "digits");
-            assert!(rt; digest.same(&digits));
-            let Entry(name, from, to) = want else {
-                panic!(rt; "no entry is wanted");
-            };
-            assert_eq!(rt; (start, stop), (from, to));
-            assert_eq!(rt; line.get(start..stop), Some(name));
+            assert_eq!(rt; named, kind, "{text}");
+            assert_eq!(rt; Some(digest), Digest::from_hex(digits), "{text}");
         }
     }
     form
@@ -86,7 +90,8 @@ fn check_manifest(
         let mut line = row.0.to_vec(alloc)?;
         line.extend_from_slice(row.1)?;
         line.extend_from_slice(row.2)?;
-        form = check_line(rt, algos, kind, form, &mut line, *row);
+        let text = String::from_utf8_lossy(alloc, &line)?;
+        form = check_line(rt, (algos, kind), form, &mut line, text.as_str(), *row);
     }
     Ok(())
 }

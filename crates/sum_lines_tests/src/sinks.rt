@@ -73,7 +73,7 @@ type Turn<'a> = (&'a [u8], Result<usize, SinkFault>);
 // The sink's writes of these pieces, in turn, return this.
 fn check_turns(rt: &impl Abort, sink: &mut impl Sink, turns: &[Turn]) {
     for (piece, answer) in turns {
-        assert_eq!(rt; offer(sink, piece), *answer);
+        assert_eq!(rt; offer(sink, piece), *answer, "{}", piece.escape_ascii());
     }
 }
 

@@ -64,8 +64,9 @@ fn check_row(rt: &impl Abort, row: &Row) {
         let mut sink: ToldSink<256> = known(stop);
         let answer = put_row(rt, &mut sink, row);
         let whole = stop == want.len();
-        assert_eq!(rt; answer, if whole { Ok(()) } else { Err(SinkFault) });
-        assert_eq!(rt; sink.bytes(), &want[..stop]);
+        let wanted = if whole { Ok(()) } else { Err(SinkFault) };
+        assert_eq!(rt; answer, wanted, "{}, up to {stop}", want.escape_ascii());
+        assert_eq!(rt; sink.bytes(), &want[..stop], "{}", want.escape_ascii());
     }
 }
 
@@ -143,11 +144,16 @@ fn check_read_back(
 ) -> Result<(), Fail> {
     let mut line = bytes.to_vec(rt.alloc())?;
     assert!(rt; line.len() >= 1);
-    assert_eq!(rt; unescape_in(&mut line, 1), want.is_some());
+    assert_eq!(rt;
+        unescape_in(&mut line, 1),
+        want.is_some(),
+        "{}",
+        bytes.escape_ascii()
+    );
     if let Some(name) = want {
-        assert_eq!(rt; line.as_slice(), name);
+        assert_eq!(rt; line.as_slice(), name, "{}", bytes.escape_ascii());
     }
-    assert_eq!(rt; line.first(), Some(&b'x'));
+    assert_eq!(rt; line.first(), Some(&b'x'), "{}", bytes.escape_ascii());
     Ok(())
 }
 
@@ -172,7 +178,7 @@ fn escaped_names_are_read_back(rt: HostRuntime) -> Result<(), Fail> {
 #[test]
 fn names_that_are_escaped(rt: HostRuntime) {
     for name in [b"a\\", b"a\n", b"a\r"] {
-        assert!(rt; needs_escape(name));
+        assert!(rt; needs_escape(name), "{}", name.escape_ascii());
     }
     assert!(rt; !needs_escape(b"a b\tn\0\x7f"));
     assert!(rt; !needs_escape(b""));

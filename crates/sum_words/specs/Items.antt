@@ -4,6 +4,7 @@ use Rattle.std.specs.Prelude.{ℕ, ◌+◌, ◌==◌, ◌&&◌, ◌||◌, not, B
 use Rattle.std.specs.List.{starts_with, before_first}
 use Rattle.std.specs.Option.{option_map_or}
 use Rattle.std.specs.Str.{byte, is_utf8}
+pub use Rattle.digest_kinds.specs.Basics.{ByteString}
 use Rattle.sum_words.specs.declared.tool.Tool.{Tool}
 pub use Rattle.sum_words.specs.declared.parsing.options.Flag.{Flag}
 use Rattle.sum_words.specs.contracts.tool.Tool.{the_type as tool_type}
@@ -13,10 +14,6 @@ pub use Rattle.sum_words.specs.declared.parsing.options.Spelling.TheVariants.{Lo
 use Rattle.sum_words.specs.WordFaults.{WordFaultValue, unknown_long, ambiguous_long, value_not_allowed, value_missing, unknown_short, not_text}
 use Rattle.sum_words.specs.declared.tool.Tool.TheVariants as tools
 use Rattle.sum_words.specs.declared.parsing.options.Flag.TheVariants as flags
-
--- a list of bytes
-abbrev pub ByteString : Type 0
-ByteString = List ℕ
 
 -- an item; the value of an option that takes one is an item of its own
 pub data ItemValue : Type 0 where
