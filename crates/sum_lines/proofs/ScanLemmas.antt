@@ -1,5 +1,5 @@
 -- What the functions that scan a line return, step by step.
-use Rattle.std.proofs.Common.{ℕ, ◌≡◌, ◌≢◌, ◌+◌, ◌-◌, ◌*◌, ◌<◌, ◌≤◌, List, [], ◌∷◌, ◌++◌, length, take, drop, slice_range, Option, None, Some, MatchOption, Result, Ok, Bor, refl, sym, arith, append_assoc, take_while, option_copied, eq-eqb, ◌==◌, ◌&&◌, nat_lt, if◌then◌else◌}
+use Rattle.std.proofs.Common.{ℕ, ◌≡◌, ◌≢◌, ◌+◌, ◌-◌, ◌*◌, ◌<◌, ◌≤◌, List, [], ◌∷◌, ◌++◌, length, take, drop, slice_range, Option, None, Some, MatchOption, Result, Ok, Bor, refl, sym, arith, append_assoc, option_copied, eq-eqb, ◌==◌, ◌&&◌, nat_lt, if◌then◌else◌}
 use Rattle.std.specs.Option.{option_or}
 use Rattle.std.specs.Path.{rsplit_once}
 use Rattle.std.specs.Result.{result_ok}
@@ -9,11 +9,11 @@ use Rattle.hex.specs.Hex.{decode_of}
 use Rattle.hex.proofs.HexLemmas.{decode_of-ok}
 use Rattle.digest_kinds.specs.Basics.{◌>>=◌}
 use Rattle.digest_kinds.specs.Kinds.{KindValue, tag, IsDigits}
-use Rattle.sum_lines.specs.grammar.Shapes.{Algo, One, is_blank, mark, optional}
+use Rattle.sum_lines.specs.grammar.Shapes.{Algo, One, is_blank, optional}
 use Rattle.std.proofs.lemmas.List.{take-append-drop}
 use Rattle.sum_lines.specs.grammar.LineParts.{LinePartsValue, after_while, strip_prefix, tag_in, width_at, tagged_parts}
 use Rattle.sum_lines.specs.refinement.LinePartRanges.{EndsIn}
-use Rattle.sum_lines.proofs.PrefixLemmas.{none_of, text, strip_prefix-some, strip_prefix-append, prefix-and-rest, opened-some, rfind-at, rfind-none, mark_and_rest-is, rsplit-some}
+use Rattle.sum_lines.proofs.PrefixLemmas.{none_of, text, strip_prefix-some, strip_prefix-append, opened-some, rfind-at, rfind-none, rsplit-some}
 use Rattle.sum_lines.proofs.TaggedLemmas.{width_at-some}
 use Rattle.std.proofs.lemmas.Grind.{common_steps}
 
@@ -58,14 +58,7 @@ digest_none s d n some few none spelled = grind (arith, decoded-digits)
 
 -- ---- the places of the parts in the line
 
--- after its blanks and its backslash the line ends in its text
-pub text_ends : (line : List ℕ) → EndsIn line (text line).1
-text_ends line =
-    let whole = prefix-and-rest is_blank line in
-    let marked = mark_and_rest-is (after_while is_blank line) in
-    (take_while is_blank line ++ mark (text line).0, grind (arith, append_assoc))
-
--- and so in what follows any part of that
+-- a line that ends in some bytes ends in what follows any part of them
 pub ends-after : {line s : List ℕ} (xs rest : List ℕ) → EndsIn line s → s ≡ xs ++ rest → EndsIn line rest
 ends-after xs rest ends is = (ends.0 ++ xs, grind (arith, append_assoc))
 

@@ -3,8 +3,9 @@
 ghost use Rattle.std.specs.Prelude.{◌≡◌, ℕ, List, IfNone, IfSome, None};
 ghost use Rattle.sum_lines.specs.grammar.LineParts.{plain_parts, tag_in, tagged_parts};
 ghost use Rattle.sum_lines.specs.refinement.Beginnings.{Cut, LeadsTo, EndsAt, EndsDigits};
+ghost use Rattle.sum_lines.specs.refinement.LinePartRanges.{IsFront};
 
-use crate::reading::line_parts::{is_blank, text_in};
+use crate::reading::line_parts::{Front, is_blank, text_of};
 use digest_kinds::{Algo, Algos, Kind};
 use memchr::memchr2;
 
@@ -24,12 +25,13 @@ pub(crate) enum Beginning {
 /// that an ignored line needs no room for it.
 #[inline(never)]
 #[tactic(auto, using(crate::proofs::BeginningLemmas::no_tag), unfolding(crate::specs::grammar::LineParts::plain_parts))]
-pub(crate) fn find_beginning(algos: Algos, line: &[u8]) -> Option<Beginning>
+pub(crate) fn find_beginning(algos: Algos, line: &[u8], front: Front) -> Option<Beginning>
+    requires { IsFront line.now front }
     ensures tagged { IfNone result (None ≡ tagged_parts algos line.now) }
     ensures plain { IfNone result (None ≡ plain_parts algos line.now) }
     ensures leads { IfSome result (LeadsTo algos line.now) }
 {
-    let (_, text) = text_in(line);
+    let text = text_of(line, front);
     if let Some(algo) = tag_in(algos, text) {
         return Some(Beginning::Tag(algo));
     }

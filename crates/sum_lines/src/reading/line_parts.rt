@@ -6,7 +6,7 @@ ghost use Rattle.std.specs.Option.{option_copied, option_map};
 ghost use Rattle.std.specs.Path.{rsplit_once};
 ghost use Rattle.sum_lines.specs.grammar.LineParts.{after_while, strip_prefix, mark_and_rest};
 ghost use Rattle.sum_lines.specs.grammar.Shapes.{is_blank};
-ghost use Rattle.sum_lines.specs.refinement.LinePartRanges.{EndsIn};
+ghost use Rattle.sum_lines.specs.refinement.LinePartRanges.{EndsIn, IsFront};
 
 use digest_kinds::{Digest, Kind};
 use memchr::memrchr;
@@ -29,13 +29,39 @@ pub(crate) fn is_blank(byte: u8) -> bool
     matches!(byte, b' ' | b'\t')
 }
 
-/// The line after leading blanks and an optional backslash, and whether there is one.
-pub(crate) fn text_in(line: &[u8]) -> (bool, &[u8])
-    ensures mark { result.0 ≡ (mark_and_rest (after_while is_blank line.now)).0 }
-    ensures text { result.1.now ≡ (mark_and_rest (after_while is_blank line.now)).1 }
-    ensures ends { EndsIn line.now result.1.now }
+/// What precedes a line's text: leading blanks and an optional backslash.
+#[derive(Clone, Copy)]
+pub(crate) struct Front {
+    /// Whether there is a backslash.
+    pub(crate) escaped: bool,
+    /// The place of the text.
+    pub(crate) start: usize,
+}
+
+/// What precedes the line's text.
+pub(crate) fn front_of(line: &[u8]) -> Front
+    ensures { IsFront line.now result }
 {
-    unmark(skip_blanks(line))
+    let start = blanks(line);
+    match &line[start..] {
+        [b'\\', ..] => Front {
+            escaped: true,
+            start: start + 1,
+        },
+        _ => Front {
+            escaped: false,
+            start,
+        },
+    }
+}
+
+/// The line's text.
+pub(crate) fn text_of(line: &[u8], front: Front) -> &[u8]
+    requires { IsFront line.now front }
+    ensures text { result.now ≡ (mark_and_rest (after_while is_blank line.now)).1 }
+    ensures ends { EndsIn line.now result.now }
+{
+    &line[front.start..]
 }
 
 /// What follows the leading blanks.
@@ -51,17 +77,6 @@ fn blanks(s: &[u8]) -> usize
     ensures within { result ≤ length s.now }
 {
     s.iter().take_while(|byte| is_blank(**byte)).count()
-}
-
-// Whether a backslash begins the bytes, and what follows it.
-fn unmark(s: &[u8]) -> (bool, &[u8])
-    ensures mark { result.0 ≡ (mark_and_rest s.now).0 }
-    ensures rest { result.1.now ≡ (mark_and_rest s.now).1 }
-{
-    match s {
-        [b'\\', rest @ ..] => (true, rest),
-        _ => (false, s),
-    }
 }
 
 /// What follows the text, if it begins the bytes.

@@ -6,26 +6,27 @@ ghost use Rattle.digest_kinds.specs.Kinds.{has_len};
 ghost use Rattle.sum_lines.specs.grammar.Shapes.{is_blank};
 ghost use Rattle.sum_lines.specs.grammar.LineParts.{after_while, mark_and_rest, plain_parts};
 ghost use Rattle.sum_lines.specs.refinement.Beginnings.{EndsDigits};
-ghost use Rattle.sum_lines.specs.refinement.LinePartRanges.{line_parts};
+ghost use Rattle.sum_lines.specs.refinement.LinePartRanges.{IsFront, line_parts};
 
-use crate::reading::line_parts::{LineParts, text_in};
+use crate::reading::line_parts::{Front, LineParts, text_of};
 use digest_kinds::{Algo, Algos, Digest, Kind};
 
 /// Reads a plain line of that algorithm; the place `at` of its text has the blank after its digits. `None` if the line
 /// isn't plain.
-pub(crate) fn plain(algo: Algo, line: &[u8], at: usize) -> Option<LineParts>
-    requires { EndsDigits algo (mark_and_rest (after_while is_blank line.now)).1 at }
+pub(crate) fn plain(algo: Algo, line: &[u8], front: Front, at: usize) -> Option<LineParts>
+    requires front { IsFront line.now front }
+    requires ends { EndsDigits algo (mark_and_rest (after_while is_blank line.now)).1 at }
     ensures parts { option_map (line_parts line.now) result ≡ plain_parts (Algos.One algo) line.now }
     ensures range { IfSome result (λ p. (p.start ≤ p.stop) × (p.stop ≤ length line.now)) }
     ensures size { IfSome result (λ p. length p.digest ≡ p.kind.len) }
 {
-    let (escaped, text) = text_in(line);
+    let text = text_of(line, front);
     let kind = kind_of_len(algo, at / 2)?;
     // Last, since it costs the most.
     let digest = Digest::from_hex(&text[..at])?;
     let tail = &text[at + 1..];
     Some(LineParts {
-        escaped,
+        escaped: front.escaped,
         kind,
         digest,
         start: line.len() - tail.len(),

@@ -9,11 +9,11 @@ ghost use Rattle.sum_lines.specs.grammar.ParsedLines.{bad, entry, entry_of, entr
 ghost use Rattle.sum_lines.specs.grammar.ParsedLines.{with_raw, Within, parsed_line_by};
 ghost use Rattle.sum_lines.specs.Escape.{present};
 ghost use Rattle.sum_lines.specs.refinement.Beginnings.{LeadsTo};
-ghost use Rattle.sum_lines.specs.refinement.LinePartRanges.{line_parts};
+ghost use Rattle.sum_lines.specs.refinement.LinePartRanges.{IsFront, line_parts};
 
 use crate::escape::unescape_in;
 use crate::reading::beginnings::{Beginning, find_beginning};
-use crate::reading::line_parts::LineParts;
+use crate::reading::line_parts::{Front, LineParts, front_of};
 use crate::reading::plain::plain;
 use crate::reading::tagged::tagged;
 use digest_kinds::{Algos, Digest, Kind};
@@ -79,8 +79,9 @@ pub fn read_line<A: Allocator>(algos: Algos, form: Form, line: &mut Vec<u8, A>) 
     if is_ignored(line) {
         return (Reading::Ignored, form);
     }
-    match find_beginning(algos, line) {
-        Some(beginning) => read_begun(algos, form, line, beginning),
+    let front = front_of(line);
+    match find_beginning(algos, line, front) {
+        Some(beginning) => read_begun(algos, form, line, front, beginning),
         None => (Reading::Bad, form),
     }
 }
@@ -93,9 +94,11 @@ fn read_begun<A: Allocator>(
     algos: Algos,
     form: Form,
     line: &mut Vec<u8, A>,
+    front: Front,
     beginning: Beginning,
 ) -> (Reading, Form)
-    requires { LeadsTo algos line.old.items beginning }
+    requires front { IsFront line.old.items front }
+    requires leads { LeadsTo algos line.old.items beginning }
     ensures form { result.1 ≡ form_then form (line_form algos line.old.items) }
     ensures parsed { parsed_line_by line.new.items result.0
         ≡ option_map_or entry (entry_of present algos result.1 line.old.items) bad }
@@ -103,11 +106,11 @@ fn read_begun<A: Allocator>(
     ensures len { vec_len line.new ≤ vec_len line.old }
 {
     match beginning {
-        Beginning::Tag(algo) => match tagged(algo, line) {
+        Beginning::Tag(algo) => match tagged(algo, line, front) {
             Some(found) => (read_name(line, found), form),
             None => (Reading::Bad, form),
         },
-        Beginning::Digits(algo, at) => match plain(algo, line, at) {
+        Beginning::Digits(algo, at) => match plain(algo, line, front, at) {
             Some(found) => read_tail(form, line, found),
             None => (Reading::Bad, form),
         },

@@ -8,20 +8,23 @@ ghost use Rattle.digest_kinds.specs.Kinds.{tag};
 ghost use Rattle.sum_lines.specs.grammar.Shapes.{is_blank};
 ghost use Rattle.sum_lines.specs.grammar.LineParts.{after_while, mark_and_rest, strip_prefix, tag_in};
 ghost use Rattle.sum_lines.specs.grammar.LineParts.{kind_at, tagged_parts, width_at};
-ghost use Rattle.sum_lines.specs.refinement.LinePartRanges.{line_parts, number_of};
+ghost use Rattle.sum_lines.specs.refinement.LinePartRanges.{IsFront, line_parts, number_of};
 
-use crate::reading::line_parts::{LineParts, past_text, skip_blanks, split_at_last, text_in};
+use crate::reading::line_parts::{
+    Front, LineParts, past_text, skip_blanks, split_at_last, text_of,
+};
 use digest_kinds::{Algo, Algos, Digest, Kind};
 
 /// Reads a line whose text begins with that algorithm's tag. `None` if the line isn't tagged.
 #[tactic(auto, unfolding(crate::specs::grammar::LineParts::tagged_parts))]
-pub(crate) fn tagged(algo: Algo, line: &[u8]) -> Option<LineParts>
-    requires { tag_in (Algos.One algo) (mark_and_rest (after_while is_blank line.now)).1 ≡ Some algo }
+pub(crate) fn tagged(algo: Algo, line: &[u8], front: Front) -> Option<LineParts>
+    requires front { IsFront line.now front }
+    requires tag { tag_in (Algos.One algo) (mark_and_rest (after_while is_blank line.now)).1 ≡ Some algo }
     ensures parts { option_map (line_parts line.now) result ≡ tagged_parts (Algos.One algo) line.now }
     ensures range { IfSome result (λ t. (t.start ≤ t.stop) × (t.stop ≤ length line.now)) }
     ensures size { IfSome result (λ t. length t.digest ≡ t.kind.len) }
 {
-    let (escaped, text) = text_in(line);
+    let text = text_of(line, front);
     // Not by `?`, which the borrow checker doesn't cover for a struct with a reference.
     let Some(width) = width(algo, text) else {
         return None;
@@ -41,7 +44,7 @@ pub(crate) fn tagged(algo: Algo, line: &[u8]) -> Option<LineParts>
     }
     let start = line.len() - inner.len();
     Some(LineParts {
-        escaped,
+        escaped: front.escaped,
         kind,
         digest,
         start,

@@ -8,23 +8,23 @@ use Rattle.sum_lines.proofs.reading.plain.plain.Goals as goal
 -- no digest has that length
 pub returns-in_err-kind-clause-parts : goal.returns-in_err-kind-clause-parts
 returns-in_err-kind-clause-parts c =
-    rw c.from_residual.ensures (uncut _ (kind-none c.requires c.in_err-kind.ensures))
+    rw c.from_residual.ensures (uncut _ (kind-none c.requires.ends c.in_err-kind.ensures))
 
 -- what precedes it spells no digest
 pub returns-in_err-digest-clause-parts : goal.returns-in_err-digest-clause-parts
 returns-in_err-digest-clause-parts c =
-    rw c.from_residual-in_err-digest.ensures (uncut _ (digits-none c.requires (λ digits.
-    let bad = c.in_err-digest.ensures.found.1 (rw c.text_in-escaped.ensures.text digits) in cc)))
+    rw c.from_residual-in_err-digest.ensures (uncut _ (digits-none c.requires.ends (λ digits.
+    let bad = c.in_err-digest.ensures.found.1 (rw c.text_of-text.ensures.text digits) in cc)))
 
 -- the parts that were found are the line's
 pub returns-clause-parts : goal.returns-clause-parts
 returns-clause-parts c =
-    let s = c.text_in-escaped.result.1.now in
+    let s = c.text_of-text.result.now in
     let n = c.args.at + 1 in
-    let text = c.text_in-escaped.ensures.text in
-    let tail = ends-after (take n s) (drop n s) c.text_in-escaped.ensures.ends (sym (take-append-drop n s)) in
-    rw (take_rest s n, tail-place tail, c.text_in-escaped.ensures.mark, text)
-    (plain-read _ _ c.in_ok-kind.kind c.requires (rw text at c.in_ok-digest.ensures.value) c.in_ok-kind.ensures)
+    let text = c.text_of-text.ensures.text in
+    let tail = ends-after (take n s) (drop n s) c.text_of-text.ensures.ends (sym (take-append-drop n s)) in
+    rw (take_rest s n, tail-place tail, c.requires.front.mark, text)
+    (plain-read _ _ c.in_ok-kind.kind c.requires.ends (rw text at c.in_ok-digest.ensures.value) c.in_ok-kind.ensures)
 
 -- the digest is as long as the kind says
 pub returns-clause-size : goal.returns-clause-size

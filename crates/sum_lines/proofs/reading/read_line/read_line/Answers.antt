@@ -10,8 +10,8 @@ unfolding entry_of
 returns-in-None-clause-parsed g c =
     let heard : is_ignored c.args.line.now.items ≡ false =
     rw c.deref.ensures.value at (sym c.is_ignored.ensures ∙ c.if-is_ignored.false) in
-    let tagged = rw c.deref-2.ensures.value at c.in-None.ensures.tagged in
-    let plain = rw c.deref-2.ensures.value at c.in-None.ensures.plain in
+    let tagged = rw c.deref-3.ensures.value at c.in-None.ensures.tagged in
+    let plain = rw c.deref-3.ensures.value at c.in-None.ensures.plain in
     rw (heard, ← tagged, ← plain) refl
 
 -- the grammar says of a line what is computed of it
