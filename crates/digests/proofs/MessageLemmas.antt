@@ -6,7 +6,7 @@ use Rattle.sum_engine.specs.Execution.{OutputsState, StreamsState, Performs, Sto
 use Rattle.sum_engine.specs.refinement.FlushedWrites.{WritesAndFlushesBoth}
 use Rattle.sum_engine.proofs.ExecutionLemmas.{asks_none}
 use Rattle.sum_engine.proofs.WorldLemmas.{InSomeWorld-none, asked_none}
-use Rattle.sum_engine.proofs.BehaviorLemmas.{once}
+use Rattle.sum_engine.proofs.BehaviorLemmas.{Performs-step}
 use Rattle.sum_words.specs.Items.{ByteString}
 use Rattle.digests.specs.Meaning.{status_of}
 use Rattle.digests.specs.refinement.Operands.{status_after_write}
@@ -17,10 +17,10 @@ pub texts_performed : {S E : Type 0} (state : S → SourceState) (a : StreamsSta
     → Performs state (λ w. single_step [] err out good) status_of a (record a { outputs = outputs })
     (status_after_write r (status_of good))
 texts_performed state a outputs err out good (Ok u) h =
-    once state (λ w. single_step [] err out good) [] err out good status_of a (record a { outputs = outputs }) (Ok u)
+    Performs-step state (λ w. single_step [] err out good) [] err out good status_of a (record a { outputs = outputs }) (Ok u)
     (InSomeWorld-none state a.inputs) (λ w v same. (refl, asks_none same (asked_none (state a.inputs.source)) refl refl)) h
 texts_performed state a outputs err out good (Err e) h =
-    once state (λ w. single_step [] err out good) [] err out good status_of a (record a { outputs = outputs }) (Err tt)
+    Performs-step state (λ w. single_step [] err out good) [] err out good status_of a (record a { outputs = outputs }) (Err tt)
     (InSomeWorld-none state a.inputs) (λ w v same. (refl, asks_none same (asked_none (state a.inputs.source)) refl refl)) h
 
 -- a call that writes them accounts for its stop

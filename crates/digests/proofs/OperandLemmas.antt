@@ -7,9 +7,9 @@ use Rattle.sum_engine.proofs.WorldLemmas.{InSomeWorld-map, InSomeWorld-then}
 use Rattle.sum_engine.specs.declared.stop.Stop.{Stop}
 use Rattle.sum_engine.specs.Behavior.{World, after, Behavior, behavior_then, trace, asks}
 use Rattle.sum_engine.specs.Execution.{InputsState, StreamsState, IsFlushed, InSomeWorld, in_world, Happened, Performs, PerformsSteps, ReadToEnd}
-use Rattle.sum_engine.proofs.ExecutionLemmas.{did_nothing}
+use Rattle.sum_engine.proofs.ExecutionLemmas.{Happened-none}
 use Rattle.sum_engine.proofs.ReadToEndLemmas.{ReadToEnd-trans}
-use Rattle.sum_engine.proofs.BehaviorLemmas.{behavior_then-did, behavior_then-first, behavior_then-second, events_extend}
+use Rattle.sum_engine.proofs.BehaviorLemmas.{behavior_then-happened, behavior_then-first, behavior_then-second, events_extend}
 use Rattle.sum_words.specs.Items.{ByteString}
 use Rattle.sum_words.specs.declared.tool.Tool.{Tool}
 use Rattle.sum_words.specs.Tools.{name_of}
@@ -57,7 +57,7 @@ module _ {S : Type 0} (state : S → SourceState) (o : Operands) where
       record {
         done = nothing;
         total = ap (operands_behavior o.one v) is;
-        happened = did_nothing (in_world state a v);
+        happened = Happened-none (in_world state a v);
         is = refl;
       },
     );
@@ -77,7 +77,7 @@ module _ {S : Type 0} (state : S → SourceState) (o : Operands) where
         done = behavior_then p.done run;
         total = p.total ∙ sym (behavior_then-assoc p.done run (operands_behavior o.one (after v (asks run)) rest))
             ∙ ap (λ w. behavior_then (behavior_then p.done run) (operands_behavior o.one w rest)) (sym world);
-        happened = behavior_then-did p.done.steps run.steps p.happened q.1;
+        happened = behavior_then-happened p.done.steps run.steps p.happened q.1;
         is = ap (λ g. g && this) p.is ∙ ap (λ g. p.done.good && g) q.0;
       })
 

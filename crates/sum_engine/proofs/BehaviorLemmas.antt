@@ -9,29 +9,29 @@ use Rattle.sum_engine.specs.Behavior.{World, Event, Step, Behavior, trace, event
 use Rattle.sum_engine.specs.check.CheckerSteps.{step_then}
 use Rattle.sum_engine.specs.check.CheckerLaws.{EventsExtend}
 use Rattle.sum_engine.specs.refinement.FlushedWrites.{WritesAndFlushesBoth}
-use Rattle.sum_engine.proofs.ExecutionLemmas.{Asks, Writing, answered, step_performed, names-by, err-by, out-by, did_nothing, did_both, came_by, refused_in}
+use Rattle.sum_engine.proofs.ExecutionLemmas.{Asks, Writing, returned, step_performed, names-by, err-by, out-by, Happened-none, Happened-then, HappenedOrPrefix-by, refused_in}
 use Rattle.sum_engine.proofs.WorldLemmas.{InSomeWorld-map}
 
 -- ---- a behavior after a step, and one behavior after another
 
 -- both happened
-pub behavior_then-did : {a b c : WorldState} (r s : List Step) → Happened a b (trace r) → Happened b c (trace s)
+pub behavior_then-happened : {a b c : WorldState} (r s : List Step) → Happened a b (trace r) → Happened b c (trace s)
     → Happened a c (trace (r ++ s))
-behavior_then-did r s h k = rw (flat_map-append events_of r s) (did_both (trace r) (trace s) h k)
+behavior_then-happened r s h k = rw (flat_map-append events_of r s) (Happened-then (trace r) (trace s) h k)
 
 -- the first happened, and the second stopped
 pub behavior_then-second : {A B : Type 0} {a b : WorldState} (c : WorldState) (x : A) (y : B) (r s : List Step)
     (stop : Stop)
     → Happened a b (trace r) → PerformsSteps s y b c (Err stop) → PerformsSteps (r ++ s) x a c (Err stop)
 behavior_then-second c x y r s Write h k =
-    (trace r ++ k.0, (k.1.0, search (rules, flat_map-append, append_assoc)), did_both (trace r) k.0 h k.2)
+    (trace r ++ k.0, (k.1.0, search (rules, flat_map-append, append_assoc)), Happened-then (trace r) k.0 h k.2)
 behavior_then-second c x y r s Memory h k = record {
   done = r ++ k.done;
   next = k.next;
   later = k.later;
   between = k.between;
   are = search (rules, append_assoc);
-  happened = search (rules, flat_map-append, did_both);
+  happened = search (rules, flat_map-append, Happened-then);
   refused = k.refused;
 }
 
@@ -45,7 +45,7 @@ behavior_then-first a b x y r s Memory h = search (rules, append_assoc)
 pub behind_step : {A : Type 0} {a b : WorldState} (c : WorldState) (x : A) (s : Step) (r : List Step)
     (y : Result A Stop)
     → Happened a b (events_of s) → PerformsSteps r x b c y → PerformsSteps (s ∷ r) x a c y
-behind_step c x s r (Ok good) h k = (k.0, did_both (events_of s) (trace r) h k.1)
+behind_step c x s r (Ok good) h k = (k.0, Happened-then (events_of s) (trace r) h k.1)
 behind_step c x s r (Err stop) h k = behavior_then-second c x x (s ∷ []) r stop (rw (append-nil (events_of s)) h) k
 
 -- ---- along a run
@@ -55,7 +55,7 @@ pub record Along (whole left : Behavior) (a b : WorldState) : Type 0 where
   pub done : List Step
   pub steps : whole.steps ≡ done ++ left.steps
   pub good : left.good ≡ whole.good
-  pub did : Happened a b (trace done)
+  pub happened : Happened a b (trace done)
 
 -- one step more happened
 pub along_more : {a b c : WorldState} {whole left : Behavior} (step : Step) (later : Behavior) → Along whole left a b
@@ -64,13 +64,13 @@ along_more step later h is k = record {
   done = h.done ++ step ∷ [];
   steps = search (rules, append_assoc);
   good = search rules;
-  did = behavior_then-did h.done (step ∷ []) h.did k;
+  happened = behavior_then-happened h.done (step ∷ []) h.happened k;
 }
 
 -- no step is left: all happened
 pub along_end : {a b : WorldState} {whole left : Behavior} → Along whole left a b → left.steps ≡ []
     → (left.good ≡ whole.good) × Happened a b (trace whole.steps)
-along_end h none = (h.good, rw (h.steps, none, append-nil h.done) h.did)
+along_end h none = (h.good, rw (h.steps, none, append-nil h.done) h.happened)
 
 -- the next step stopped
 pub along_stops : {A B : Type 0} {a b : WorldState} {whole left : Behavior} (c : WorldState) (x : A) (y : B)
@@ -79,32 +79,33 @@ pub along_stops : {A B : Type 0} {a b : WorldState} {whole left : Behavior} (c :
 along_stops {a = a} {b = b} c x y step later stop h is k =
     let all = h.steps ∙ ap (λ (r : Behavior). h.done ++ r.steps) is in
     subst (λ steps. PerformsSteps steps x a c (Err stop)) (sym all)
-    (behavior_then-second c x y h.done (step ∷ later.steps) stop h.did
+    (behavior_then-second c x y h.done (step ∷ later.steps) stop h.happened
     (behavior_then-first b c y y (step ∷ []) later.steps stop k))
 
 -- ---- a run of one step
 
 -- the step was done, or a prefix of it
-pub once : {S A : Type 0} (state : S → SourceState) (run : World → Behavior) (names : List (List ℕ)) (err out : List ℕ)
-    (good : Bool) (answer : Bool → A) (a b : StreamsState S) {P : World → World → Type 0} (x : Writing)
-    → InSomeWorld state a.inputs b.inputs P
+pub Performs-step : {S A : Type 0} (state : S → SourceState) (run : World → Behavior) (names : List (List ℕ))
+    (err out : List ℕ) (good : Bool) (outcome : Bool → A) (a b : StreamsState S) (x : Writing)
+    {P : World → World → Type 0} → InSomeWorld state a.inputs b.inputs P
     → ((w v : World) → P w v → (run w ≡ single_step names err out good)
     × Asks (in_world state a w) (in_world state b v) names)
     → WritesAndFlushesBoth a.outputs b.outputs err out x
-    → Performs state run answer a b (answered x (answer good))
-once state run names err out good answer a b x h is wrote = λ flushed. InSomeWorld-map h (λ w v p.
-    rw (is w v p).0 (step_performed (answer good) (in_world state a w) (in_world state b v) _ x
-    (came_by _ _ names err out x (is w v p).1 (wrote.1 flushed).1)))
+    → Performs state run outcome a b (returned x (outcome good))
+Performs-step state run names err out good outcome a b x h is wrote = λ flushed. InSomeWorld-map h (λ w v p.
+    rw (is w v p).0 (step_performed (outcome good) (in_world state a w) (in_world state b v) _ x
+    (HappenedOrPrefix-by _ _ names err out x (is w v p).1 (wrote.1 flushed).1)))
 
 -- the source had no memory to open the first step's name
-pub unasked : {S A : Type 0} (state : S → SourceState) (run : World → Behavior) (answer : Bool → A)
+pub Performs-refused : {S A : Type 0} (state : S → SourceState) (run : World → Behavior) (outcome : Bool → A)
     (a b : StreamsState S)
     → ((w : World) → (s : Step) × (rest : List Step) × ((run w).steps ≡ s ∷ rest))
     → InSomeWorld state a.inputs b.inputs (λ w v. v ≡ w)
     → AskedMore (state a.inputs.source) (state b.inputs.source) [] → b.inputs.stdin_taken ≡ a.inputs.stdin_taken
     → b.outputs ≡ a.outputs → (state b.inputs.source).refusals ≡ one_more (state a.inputs.source).refusals
-    → Performs state run answer a b (Err Memory)
-unasked state run answer a b first same asked taken outputs refusals = λ flushed. InSomeWorld-map same (λ w v is.
+    → Performs state run outcome a b (Err Memory)
+Performs-refused state run outcome a b first same asked taken outputs refusals = λ flushed.
+    InSomeWorld-map same (λ w v is.
     let next = first w in
     record {
       done = [];
@@ -112,7 +113,7 @@ unasked state run answer a b first same asked taken outputs refusals = λ flushe
       later = next.1;
       between = in_world state a w;
       are = next.2;
-      happened = did_nothing (in_world state a w);
+      happened = Happened-none (in_world state a w);
       refused = refused_in state a b w v next.0 is asked taken outputs refusals;
     })
 

@@ -7,7 +7,7 @@ use Rattle.sum_sources.specs.declared.sources.source.OpenFault.{OpenFault}
 use Rattle.sum_sources.specs.Contents.{Content, InputState, IfKnown, OpenOf, clip, limit, SourceState, Reply, closed_state}
 use Rattle.digest_kinds.specs.Limits.{one_more}
 use Rattle.sum_lines.specs.Escape.{present}
-use Rattle.sum_engine.specs.check.CheckerSteps.{Progress, Going, Ended, CheckState, initial_state, IsAtStart, StepIs, PerformsStep, step_then, progress_before, remaining_behavior, CursorValue, state_at, InSomeCheck}
+use Rattle.sum_engine.specs.check.CheckerSteps.{Progress, Going, Ended, CheckState, initial_state, IsAtStart, StepIs, TakesStep, step_then, progress_before, remaining_behavior, CursorValue, state_at, InSomeCheck}
 use Rattle.sum_sources.specs.LineReaders.{MayRemain, Bounded, consumed}
 use Rattle.sum_sources.proofs.ContentLemmas.{clip-short, limit-value}
 use Rattle.sum_engine.specs.check.CheckerLaws.{ManifestPerforms}
@@ -19,11 +19,11 @@ use Rattle.sum_engine.specs.Generation.{fault_line}
 use Rattle.sum_engine.specs.check.Reports.{LabelsValue}
 use Rattle.sum_engine.proofs.CountLemmas.{counts_then-none}
 use Rattle.sum_engine.specs.check.Checking.{CheckSettings, rules_of, labels_of, content_behavior, check_behavior_by, check_behavior}
-use Rattle.sum_engine.proofs.ExecutionLemmas.{Writing, answered, did_nothing, did_by, IsKept, kept_performs}
+use Rattle.sum_engine.proofs.ExecutionLemmas.{Writing, returned, Happened-none, Happened-by, IsKept, kept_performs}
 use Rattle.sum_engine.specs.refinement.Openings.{stdin_taken_from}
 use Rattle.sum_engine.proofs.StepLemmas.{InSomeCheck-map, InSomeCheck-then, some_remains}
 use Rattle.sum_engine.proofs.WorldLemmas.{asked_none, dash_asked, file_asked, opened_file, opened_fault, opened_nothing, stdin_given, may-closed}
-use Rattle.sum_engine.proofs.BehaviorLemmas.{once, unasked, Along, along_more, along_end, along_stops, behind_step}
+use Rattle.sum_engine.proofs.BehaviorLemmas.{Performs-step, Performs-refused, Along, along_more, along_end, along_stops, behind_step}
 use Rattle.sum_sources.specs.declared.sources.source.OpenFault.TheVariants as open_faults
 
 -- ---- a new checker, run to its end
@@ -92,13 +92,13 @@ module _ {I S : Type 0} (input : I → InputState) (state : S → SourceState) (
   Leads q n P = IsFlushed m.outputs → InSomeCheck input state p q m.inputs n.inputs P
 
   -- the check came so far
-  abbrev pub Comes : CursorValue I → StreamsState S → Type 0
-  Comes q n = Leads q n (λ a b. Along (remaining_behavior r labels a) (remaining_behavior r labels b)
+  abbrev pub IsAlong : CursorValue I → StreamsState S → Type 0
+  IsAlong q n = Leads q n (λ a b. Along (remaining_behavior r labels a) (remaining_behavior r labels b)
       (in_world state m a.world) (in_world state n b.world))
 
   -- it begins so
-  pub comes_none : Comes p m
-  comes_none = λ flushed. record {
+  pub IsAlong-none : IsAlong p m
+  IsAlong-none = λ flushed. record {
     before = λ d v may fits. (
       d,
       v,
@@ -108,16 +108,16 @@ module _ {I S : Type 0} (input : I → InputState) (state : S → SourceState) (
         done = [];
         steps = refl;
         good = refl;
-        did = did_nothing (in_world state m v);
+        happened = Happened-none (in_world state m v);
       },
     );
   }
 
   -- a step by the same rules and labels that goes on comes one line further
-  pub comes_more : (own : LabelsValue) (q next : CursorValue I) (n o : StreamsState S) (vector : List ℕ) → q.rules ≡ r
-      → own ≡ labels → Comes q n → (IsFlushed m.outputs → IsFlushed n.outputs)
-      → PerformsStep input state vector own q next n o (Ok Going) → Comes next o
-  comes_more own q next n o vector is same h kept step = λ flushed.
+  pub IsAlong-more : (own : LabelsValue) (q next : CursorValue I) (n o : StreamsState S) (vector : List ℕ) → q.rules ≡ r
+      → own ≡ labels → IsAlong q n → (IsFlushed m.outputs → IsFlushed n.outputs)
+      → TakesStep input state vector own q next n o (Ok Going) → IsAlong next o
+  IsAlong-more own q next n o vector is same h kept step = λ flushed.
       let more : InSomeCheck input state q next n.inputs o.inputs (λ b d.
       StepIs r labels vector b d (in_world state n b.world) (in_world state o d.world) (Ok Going)) =
       InSomeCheck-map (step (kept flushed)) (λ b d w v one. rw (is, same) at one) in
@@ -152,12 +152,12 @@ module _ {I S : Type 0} (input : I → InputState) (state : S → SourceState) (
 
   -- the step that ends completes the manifest's behavior; one that stops leaves a prefix of it after a write fault, and
   -- whole steps if memory ran out
-  pub comes_last : (own : LabelsValue) (manifest : I) (q last : CursorValue I) (n o : StreamsState S) (vector : List ℕ)
-      (x : Result Bool Stop) → IsAtStart input p manifest → q.rules ≡ r → own ≡ labels → Comes q n
+  pub IsAlong-last : (own : LabelsValue) (manifest : I) (q last : CursorValue I) (n o : StreamsState S) (vector : List ℕ)
+      (x : Result Bool Stop) → IsAtStart input p manifest → q.rules ≡ r → own ≡ labels → IsAlong q n
       → (IsFlushed m.outputs → IsFlushed n.outputs) → Bounded last.reader
-      → PerformsStep input state vector own q last n o (ends x)
+      → TakesStep input state vector own q last n o (ends x)
       → ManifestPerforms state r labels (input manifest).content m o x
-  comes_last own manifest q last n o vector x start is same h kept bounds step =
+  IsAlong-last own manifest q last n o vector x start is same h kept bounds step =
       whole_manifest manifest last o x start bounds (λ flushed.
       let ended : InSomeCheck input state q last n.inputs o.inputs (λ b d.
       StepIs r labels vector b d (in_world state n b.world) (in_world state o d.world) (ends x)) =
@@ -183,7 +183,7 @@ module _ {S : Type 0} (state : S → SourceState) (settings : CheckSettings) (to
     rules_if dash = record (rules_of settings name) { from_stdin = dash }
 
     abbrev labels_if : Bool → LabelsValue
-    labels_if dash = record (labels_of settings tool name) { list = cond dash (codes "standard input") name }
+    labels_if dash = record (labels_of settings tool name) { manifest = cond dash (codes "standard input") name }
 
     -- the same streams with other inputs
     abbrev from_inputs : InputsState S → StreamsState S
@@ -229,7 +229,7 @@ module _ {S : Type 0} (state : S → SourceState) (settings : CheckSettings) (to
           let ended = kept_performs (of ran.0).steps (of ran.0).good (in_world state (from_inputs m) ran.0)
           (in_world state b end.0) last x kept (rw (← is) at ran.2.2) in
           let did : Happened (in_world state a w) (in_world state (from_inputs m) ran.0) (events_of (opening name)) =
-          did_by (name ∷ []) [] [] (search (rules, or-false, asked, first.2.0)) (Appends-nil _) (Appends-nil _) in (
+          Happened-by (name ∷ []) [] [] (search (rules, or-false, asked, first.2.0)) (Appends-nil _) (Appends-nil _) in (
             w,
             first.1,
             rw (first.2.1, ← first.2.0) (behind_step last (of ran.0).good (opening name) (of ran.0).steps x did
@@ -276,9 +276,9 @@ module _ {S : Type 0} (state : S → SourceState) (settings : CheckSettings) (to
       pub refused : (f : Fault) (outputs : OutputsState) (x : Writing) → is_dash name ≡ false
           → IsAnswer (Err (open_faults.Fault f)) → (state m.source).refusals ≡ (state a.inputs.source).refusals
           → WritesAndFlushesBoth a.outputs outputs (fault_line present tool name f) [] x
-          → Performed (record a { inputs = m; outputs = outputs }) (answered x false)
+          → Performed (record a { inputs = m; outputs = outputs }) (returned x false)
       refused f outputs x is_file h refusals writes =
-          once state (λ w. check_behavior settings tool w name) (name ∷ []) (fault_line present tool name f) [] false
+          Performs-step state (λ w. check_behavior settings tool w name) (name ∷ []) (fault_line present tool name f) [] false
           (λ g. g) a (record a { inputs = m; outputs = outputs }) x
           (opened_fault state a.inputs m kept content name f is_file h)
           (λ w v is. (rw (is.1, is_file) refl, search (rules, or-false, file_asked))) writes
@@ -287,7 +287,7 @@ module _ {S : Type 0} (state : S → SourceState) (settings : CheckSettings) (to
       pub no_room : IsAnswer (Err open_faults.Memory)
           → (state m.source).refusals ≡ one_more (state a.inputs.source).refusals → Performed (from_inputs m) (Err Memory)
       no_room h refused =
-          unasked state (λ w. check_behavior settings tool w name) (λ g. g) a (from_inputs m)
+          Performs-refused state (λ w. check_behavior settings tool w name) (λ g. g) a (from_inputs m)
           (λ w. begins (after w (name ∷ [])) (reply w name)) (opened_nothing state a.inputs m kept h)
           (search (rules, asked_none)) (ap (λ (m : InputsState S). m.stdin_taken) kept) refl refused
         where

@@ -64,18 +64,18 @@ pub asks_by : {a b : WorldState} (names : List (List ℕ)) → Happened a b (map
 asks_by names h = search (rules, kind-all)
 
 -- these names were asked and these texts written
-pub did_by : {a b : WorldState} (names : List (List ℕ)) (err out : List ℕ) → Asks a b names
+pub Happened-by : {a b : WorldState} (names : List (List ℕ)) (err out : List ℕ) → Asks a b names
     → Appends a.outputs.err.written b.outputs.err.written err → Appends a.outputs.out.written b.outputs.out.written out
     → Happened a b (events_by names err out)
-did_by names err out h p q = search (rules, names-by, err-by, out-by)
+Happened-by names err out h p q = search (rules, names-by, err-by, out-by)
 
 -- nothing
-pub did_nothing : (a : WorldState) → Happened a a []
-did_nothing a = search (rules, asked_none)
+pub Happened-none : (a : WorldState) → Happened a a []
+Happened-none a = search (rules, asked_none)
 
 -- one thing after another
-pub did_both : {a b c : WorldState} (p q : List Event) → Happened a b p → Happened b c q → Happened a c (p ++ q)
-did_both {a} {b} {c} p q h k =
+pub Happened-then : {a b c : WorldState} (p q : List Event) → Happened a b p → Happened b c q → Happened a c (p ++ q)
+Happened-then {a} {b} {c} p q h k =
     search (rules, after-append, asked_both, filter_map-append, list_any-append, or_assoc, Appends-trans)
 
 -- ---- a prefix of it
@@ -86,7 +86,7 @@ pub prefix_err : {a b : WorldState} (names : List (List ℕ)) (err out : List �
     → PrefixHappened a b (events_by names err out)
 prefix_err {a} names err out asked h same =
     let rest : List Event = map write_err h.1.0 ++ map write_out out in
-    let did = did_by names h.0 [] asked h.2 (rw same (Appends-nil a.outputs.out.written)) in
+    let did = Happened-by names h.0 [] asked h.2 (rw same (Appends-nil a.outputs.out.written)) in
     (events_by names h.0 [], (rest, search (rules, map-append, append_assoc)), did)
 
 -- all of it was, and a prefix of the text on standard output
@@ -95,34 +95,34 @@ pub prefix_out : {a b : WorldState} (names : List (List ℕ)) (err out : List �
     → PrefixHappened a b (events_by names err out)
 prefix_out names err out asked all h =
     let rest : List Event = map write_out h.1.0 in
-    (events_by names err h.0, (rest, search (rules, map-append, append_assoc)), did_by names err h.0 asked all h.2)
+    (events_by names err h.0, (rest, search (rules, map-append, append_assoc)), Happened-by names err h.0 asked all h.2)
 
 -- whether a call that writes did all of it, or failed
 abbrev pub Writing : Type 0
 Writing = Result (Unit {0}) (Unit {0})
 
 -- what it wrote happened, or a prefix of it if it failed
-abbrev pub Came : Writing → WorldState → WorldState → List Event → Type 0
-Came (Ok u) a b es = Happened a b es
-Came (Err e) a b es = PrefixHappened a b es
+abbrev pub HappenedOrPrefix : Writing → WorldState → WorldState → List Event → Type 0
+HappenedOrPrefix (Ok u) a b es = Happened a b es
+HappenedOrPrefix (Err e) a b es = PrefixHappened a b es
 
 -- the names were asked, and the two texts or a prefix of them were written
-pub came_by : (a b : WorldState) (names : List (List ℕ)) (err out : List ℕ) (x : Writing) → Asks a b names
-    → WritesBoth a.outputs b.outputs err out x → Came x a b (events_by names err out)
-came_by a b names err out (Ok u) asked h = did_by names err out asked h.0 h.1
-came_by a b names err out (Err e) asked (inl h) = prefix_err names err out asked h.0 h.1
-came_by a b names err out (Err e) asked (inr h) = prefix_out names err out asked h.0 h.1
+pub HappenedOrPrefix-by : (a b : WorldState) (names : List (List ℕ)) (err out : List ℕ) (x : Writing) → Asks a b names
+    → WritesBoth a.outputs b.outputs err out x → HappenedOrPrefix x a b (events_by names err out)
+HappenedOrPrefix-by a b names err out (Ok u) asked h = Happened-by names err out asked h.0 h.1
+HappenedOrPrefix-by a b names err out (Err e) asked (inl h) = prefix_err names err out asked h.0 h.1
+HappenedOrPrefix-by a b names err out (Err e) asked (inr h) = prefix_out names err out asked h.0 h.1
 
--- what a call answers that writes and then answers so
-abbrev pub answered : {A : Type 0} → Writing → A → Result A Stop
-answered (Ok u) x = Ok x
-answered (Err e) x = Err Write
+-- what a call returns that writes and then returns so
+abbrev pub returned : {A : Type 0} → Writing → A → Result A Stop
+returned (Ok u) x = Ok x
+returned (Err e) x = Err Write
 
 -- one step was performed, by what came of its events
-pub step_performed : {A : Type 0} (answer : A) (a b : WorldState) (step : Step) (x : Writing)
-    → Came x a b (events_of step) → PerformsSteps (step ∷ []) answer a b (answered x answer)
-step_performed answer a b step (Ok u) came = rw (append-nil (events_of step)) (refl, came)
-step_performed answer a b step (Err e) came = rw (append-nil (events_of step)) came
+pub step_performed : {A : Type 0} (outcome : A) (a b : WorldState) (step : Step) (x : Writing)
+    → HappenedOrPrefix x a b (events_of step) → PerformsSteps (step ∷ []) outcome a b (returned x outcome)
+step_performed outcome a b step (Ok u) came = rw (append-nil (events_of step)) (refl, came)
+step_performed outcome a b step (Err e) came = rw (append-nil (events_of step)) came
 
 -- ---- what stays
 
@@ -157,7 +157,7 @@ kept_happened a b c es h did = search rules
 -- what was performed up to the one was performed up to the other
 pub kept_performs : {A : Type 0} (steps : List Step) (x : A) (a b c : WorldState) (r : Result A Stop) → IsKept b c
     → PerformsSteps steps x a b r → PerformsSteps steps x a c r
-kept_performs steps x a b c (Ok answer) h did = (did.0, kept_happened a b c _ h did.1)
+kept_performs steps x a b c (Ok outcome) h did = (did.0, kept_happened a b c _ h did.1)
 kept_performs steps x a b c (Err Write) h did = (did.0, did.1, kept_happened a b c did.0 h did.2)
 kept_performs steps x a b c (Err Memory) h did = record {
   done = did.done;

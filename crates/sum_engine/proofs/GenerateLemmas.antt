@@ -8,8 +8,8 @@ use Rattle.sum_engine.specs.refinement.HashName.{HashOutcome, digest_of_outcome,
 use Rattle.sum_engine.specs.Generation.{Settings, generate_behavior, generate_behavior_by}
 use Rattle.sum_engine.specs.Execution.{StreamsState, InSomeWorld, AskedMore, Performs}
 use Rattle.sum_engine.specs.refinement.FlushedWrites.{WritesAndFlushesBoth}
-use Rattle.sum_engine.proofs.ExecutionLemmas.{Writing, answered}
-use Rattle.sum_engine.proofs.BehaviorLemmas.{once}
+use Rattle.sum_engine.proofs.ExecutionLemmas.{Writing, returned}
+use Rattle.sum_engine.proofs.BehaviorLemmas.{Performs-step}
 
 -- the outcome is what the definitions say of the reply
 digest_or_fault-is : (kind : KindValue) (r : Reply) (a : HashOutcome) → IsHashOutcome kind r a
@@ -26,9 +26,9 @@ pub generate-performed : {S : Type 0} (state : S → SourceState) (settings : Se
     → found ≡ digest_of_outcome outcome
     → generate_behavior_by settings tool name found ≡ single_step (name ∷ []) err out good
     → WritesAndFlushesBoth a.outputs b.outputs err out x
-    → Performs state (λ w. generate_behavior settings tool w name) (λ g. g) a b (answered x good)
+    → Performs state (λ w. generate_behavior settings tool w name) (λ g. g) a b (returned x good)
 generate-performed state settings tool name err out good a b outcome found x h asked taken refusals same is writes =
-    once state (λ w. generate_behavior settings tool w name) (name ∷ []) err out good (λ g. g) a b x h
+    Performs-step state (λ w. generate_behavior settings tool w name) (name ∷ []) err out good (λ g. g) a b x h
     (λ w v hashed. (search (rules, digest_or_fault-is), search (rules, or-false))) writes
 
 -- generation is one step

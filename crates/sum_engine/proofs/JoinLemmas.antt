@@ -12,8 +12,8 @@ use Rattle.sum_engine.specs.Execution.{Write, WorldState, Happened}
 use Rattle.sum_engine.specs.check.CheckerSteps.{Going, Ended, CheckState, StepIs, step_then, progress_before, counts_then, remaining_verdicts, remaining_behavior, initial_state}
 use Rattle.sum_engine.specs.check.CheckerLaws.{StepsGoing, StepsJoin, EndsManifest}
 use Rattle.sum_engine.proofs.RestLemmas.{past_next}
-use Rattle.sum_engine.proofs.ExecutionLemmas.{did_nothing, err-by, out-by, names-by}
-use Rattle.sum_engine.proofs.BehaviorLemmas.{Along, along_stops, behavior_then-did, events_extend}
+use Rattle.sum_engine.proofs.ExecutionLemmas.{Happened-none, err-by, out-by, names-by}
+use Rattle.sum_engine.proofs.BehaviorLemmas.{Along, along_stops, behavior_then-happened, events_extend}
 use Rattle.sum_engine.proofs.CheckOneLemmas.{remaining-initial, none_left, along_last}
 
 -- ---- the reports of the first steps
@@ -81,7 +81,7 @@ module _ (r : Rules) (labels : LabelsValue) (c : Content) (s : WorldState) where
 
   -- no step yet
   after_none : After (initial_state c s.world) s 0
-  after_none = search (rules, remaining-initial, did_nothing)
+  after_none = search (rules, remaining-initial, Happened-none)
 
   -- one more
   after_more : {b d : CheckState} {t z : WorldState} {v : List ℕ} {k : ℕ} → After b t k
@@ -99,7 +99,7 @@ module _ (r : Rules) (labels : LabelsValue) (c : Content) (s : WorldState) where
         lines = sym line.0;
         consumed = search (rules, rest);
         taken = moves.taken;
-        done = rw remaining.1 (behavior_then-did (take k whole.steps) (step.step ∷ []) h.done step.performs.1);
+        done = rw remaining.1 (behavior_then-happened (take k whole.steps) (step.step ∷ []) h.done step.performs.1);
         remaining = sym remaining.0;
         good = sym (ap (λ (q : Behavior). q.good) is) ∙ h.good;
       }
@@ -125,10 +125,10 @@ module _ (r : Rules) (labels : LabelsValue) (c : Content) (s : WorldState) where
       omega (arith, left, length_steps r labels text b.rest ks, length_steps r labels end c js)
 
   -- the step that ends
-  ends : {b : CheckState} {t : WorldState} {k : ℕ} → After b t k → (answer : Bool) (vector : List ℕ) (d : CheckState)
-      (z : WorldState) → StepIs r labels vector b d t z (Ok (Ended answer)) → EndsManifest r labels c js k t z answer
-  ends {b} {t} {k} h answer vector d z e =
-      let none = none_left e.later.steps e.later.good answer e.performs.0 in
+  ends : {b : CheckState} {t : WorldState} {k : ℕ} → After b t k → (outcome : Bool) (vector : List ℕ) (d : CheckState)
+      (z : WorldState) → StepIs r labels vector b d t z (Ok (Ended outcome)) → EndsManifest r labels c js k t z outcome
+  ends {b} {t} {k} h outcome vector d z e =
+      let none = none_left e.later.steps e.later.good outcome e.performs.0 in
       let last = sym h.remaining ∙ ap (λ (q : Behavior). q.steps) e.is ∙ ap (λ steps. e.step ∷ steps) none.0 in
       let one : length whole.steps - k ≡ 1 = sym (length-drop k whole.steps) ∙ ap length last in
       let number : k ≡ length js = omega (arith, one, length_steps r labels end c js) in
@@ -136,7 +136,7 @@ module _ (r : Rules) (labels : LabelsValue) (c : Content) (s : WorldState) where
       let is : e.step ≡ record { names = []; err = end; out = []; remaining = step.0 } =
       search (rules, last, number, step.1) in
       let did = rw (append-nil (events_of e.step), is) at e.performs.1 in
-      let all = along_last z e.step e.later (Ok answer) (along h) e.is e.performs in
+      let all = along_last z e.step e.later (Ok outcome) (along h) e.is e.performs in
       search (rules, number, length_verdicts, all.0, did, err-by, out-by, names-by)
 
 -- no vector is longer than its line

@@ -93,19 +93,19 @@ all_same f g same [] all = refl
 all_same f g same (j ∷ js) all = search (rules, All-head, all_same f g same js (All-tail CleanName j js all))
 
 -- what a line of the manifest adds to standard error
-err_same : (r : Rules) (labels : LabelsValue) (n : ℕ) (v : Verdict) (name : List ℕ) → NoReturn labels.list
+err_same : (r : Rules) (labels : LabelsValue) (n : ℕ) (v : Verdict) (name : List ℕ) → NoReturn labels.manifest
     → NoReturn name → err_by (rules_under older r) labels n v name ≡ err_by (rules_under present r) labels n v name
 err_same r labels n v name own free = search (rules, same_escape)
 
 -- the text at its end
-end_same : (r : Rules) (labels : LabelsValue) (e : Ending) (c : CountsValue) → NoReturn labels.list
+end_same : (r : Rules) (labels : LabelsValue) (e : Ending) (c : CountsValue) → NoReturn labels.manifest
     → end_text (rules_under older r) labels e c ≡ end_text (rules_under present r) labels e c
 end_same r labels Whole c own = by labels.report
   where
     by : (report : Report) → let shown : LabelsValue = record labels { report = report } in
         end_text (rules_under older r) shown Whole c ≡ end_text (rules_under present r) shown Whole c
-    by reports.Status = rw (same_escape labels.list own) refl
-    by report = rw (same_escape labels.list own) refl
+    by reports.Status = rw (same_escape labels.manifest own) refl
+    by report = rw (same_escape labels.manifest own) refl
 end_same r labels (Broken f) c own = search (rules, same_escape)
 
 -- ---- the law
@@ -134,7 +134,7 @@ old_verdicts r labels w c h =
 
 -- the steps are the same
 steps_same : (r : Rules) (labels : LabelsValue) (end : List ℕ) (c : Content) (js : List LineVerdictValue)
-    → NoReturn labels.list → All CleanName js
+    → NoReturn labels.manifest → All CleanName js
     → line_steps (rules_under older r) labels end c js ≡ line_steps (rules_under present r) labels end c js
 steps_same r labels end c [] own all = refl
 steps_same r labels end c (j ∷ js) own all =

@@ -11,12 +11,12 @@ use Rattle.sum_sources.specs.LineReaders.{remaining_content, MayRemain, Bounded,
 use Rattle.sum_lines.specs.Escape.{Profile, present}
 use Rattle.sum_engine.specs.check.Reports.{Report, LabelsValue, err_by, out_by, end_text, good}
 use Rattle.sum_engine.specs.check.Verdicts.{Ignored, lines_by, Rules, asks_of}
-use Rattle.sum_engine.specs.check.CheckerSteps.{CursorValue, state_at, InSomeCheck, Progress, Going, Ended, CheckState, counts_with, step_then, progress_before, LineHandled, StepIs, PerformsStep, MemoryStopHasCause, next_judged, remaining_verdicts, remaining_behavior}
+use Rattle.sum_engine.specs.check.CheckerSteps.{CursorValue, state_at, InSomeCheck, Progress, Going, Ended, CheckState, counts_with, step_then, progress_before, LineHandled, StepIs, TakesStep, MemoryStopHasCause, next_judged, remaining_verdicts, remaining_behavior}
 use Rattle.sum_engine.specs.Execution.{Memory, InputsState, StreamsState, WorldState, InSomeWorld, in_world, AskedMore}
 use Rattle.sum_engine.specs.check.NextVerdict.{LineVerdict, VerdictResult, line_verdict_value, FindsVerdict, NoVerdictLeft, names_of_result, taken_after}
 use Rattle.sum_engine.specs.refinement.Judging.{TakesLine}
 use Rattle.sum_engine.specs.refinement.FlushedWrites.{WritesAndFlushesBoth}
-use Rattle.sum_engine.proofs.ExecutionLemmas.{Asks, asks_none, Writing, Came, answered, step_performed, did_nothing, came_by}
+use Rattle.sum_engine.proofs.ExecutionLemmas.{Asks, asks_none, Writing, HappenedOrPrefix, returned, step_performed, Happened-none, HappenedOrPrefix-by}
 use Rattle.sum_engine.proofs.CountLemmas.{counts_then-nil}
 use Rattle.sum_engine.proofs.RestLemmas.{line_step, behavior_by, first_step, found_first, going-before}
 use Rattle.sum_sources.specs.declared.line_reader.LineStop.TheVariants as line_stops
@@ -100,11 +100,11 @@ abbrev pub line_handled : {I : Type 0} (state : I → InputState) (p q : CursorV
     → TakesLine (record p { reader = reader }) q line → length vector ≤ length line
     → q.counts ≡ counts_with p.counts (next_judged p.rules (state_at p c w) line).verdict
     → LineHandled p.rules (state_at p c w) (state_at (record q { reader = reader }) d v) vector
-line_handled state p q reader c d w v line vector reads took takes few counted = record {
+line_handled state p q reader c d w v line vector reads read takes few counted = record {
   line = line;
-  lines = lines_now p.rules c reads.profile ∙ took.0.0 ∙ ap (λ l. line ∷ l) (sym (lines_now p.rules d reads.profile));
-  rest = took.0.1;
-  consumed = took.1;
+  lines = lines_now p.rules c reads.profile ∙ read.0.0 ∙ ap (λ l. line ∷ l) (sym (lines_now p.rules d reads.profile));
+  rest = read.0.1;
+  consumed = read.1;
   taken = omega (arith, reads.ahead);
   number = reads.number;
   form = takes.form;
@@ -117,20 +117,20 @@ line_handled state p q reader c d w v line vector reads took takes few counted =
 -- a step of these events, or a prefix of them, by what remains after it
 step_by : (r : Rules) (labels : LabelsValue) (a b : CheckState) (s t : WorldState) (vector : List ℕ) (step : Step)
     (later : Behavior) (progress : Progress) (x : Writing) → remaining_behavior r labels a ≡ step_then step later
-    → progress_before later ≡ progress → Came x s t (events_of step)
+    → progress_before later ≡ progress → HappenedOrPrefix x s t (events_of step)
     → (progress ≡ Going → (later ≡ remaining_behavior r labels b) × LineHandled r a b vector)
-    → StepIs r labels vector a b s t (answered x progress)
+    → StepIs r labels vector a b s t (returned x progress)
 step_by r labels a b s t vector step later progress x is next came going = record {
   step = step;
   later = later;
   is = is;
   performs = rw next (step_performed progress s t step x came);
-  going = λ h. going (answer_of x h);
+  going = λ h. going (going_of x h);
 }
   where
-    answer_of : (x : Writing) → answered x progress ≡ Ok Going → progress ≡ Going
-    answer_of (Ok u) h = cc
-    answer_of (Err e) h = cc
+    going_of : (x : Writing) → returned x progress ≡ Ok Going → progress ≡ Going
+    going_of (Ok u) h = cc
+    going_of (Err e) h = cc
 
 -- of an ignored line nothing is reported
 pub out_by-ignored : (p : Profile) (report : Report) (name : List ℕ) → out_by p report Ignored name ≡ []
@@ -152,7 +152,7 @@ module _ {I S : Type 0} (input : I → InputState) (state : S → SourceState) (
         → WritesAndFlushesBoth a.outputs b.outputs
         (err_by p.rules labels v.number v.verdict (line_verdict_value vector v).name)
         (out_by p.rules.profile labels.report v.verdict (line_verdict_value vector v).name) x
-        → PerformsStep input state vector labels p q a b (answered x Going)
+        → TakesStep input state vector labels p q a b (returned x Going)
     step_found labels vector v x found asked taken refusals writes = λ flushed.
         InSomeCheck-map found (λ c d w v' f.
         let j = line_verdict_value vector v in
@@ -163,13 +163,13 @@ module _ {I S : Type 0} (input : I → InputState) (state : S → SourceState) (
         step_by p.rules labels first next (in_world state a w) (in_world state b v') vector
         (line_step p.rules labels (length c.bytes) j) (remaining_behavior p.rules labels next) Going x
         (found_first p.rules labels first next j f.0.first f.0.counts f.1.rest) (going-before p.rules labels next)
-        (came_by _ _ (asks_of j) _ _ x asks (writes.1 flushed).1) (λ is. (refl, f.1)))
+        (HappenedOrPrefix-by _ _ (asks_of j) _ _ x asks (writes.1 flushed).1) (λ is. (refl, f.1)))
 
     -- memory ran out, and both outputs stayed
     pub step_refused : (labels : LabelsValue) (vector : List ℕ) → Found vector (Err line_stops.Memory)
         → AskedMore (state a.inputs.source) (state b.inputs.source) [] → b.inputs.stdin_taken ≡ a.inputs.stdin_taken
         → MemoryStopHasCause (state a.inputs.source) (state b.inputs.source) (remaining_content input p.reader)
-        (Err Memory) → b.outputs ≡ a.outputs → PerformsStep input state vector labels p q a b (Err Memory)
+        (Err Memory) → b.outputs ≡ a.outputs → TakesStep input state vector labels p q a b (Err Memory)
     step_refused labels vector found asked taken cause outputs = λ flushed.
         InSomeCheck-map found (λ c d w v f.
         let first = first_step p.rules labels c.ending p.counts c (remaining_verdicts p.rules (state_at p c w)) in
@@ -183,30 +183,30 @@ module _ {I S : Type 0} (input : I → InputState) (state : S → SourceState) (
             later = [];
             between = in_world state a w;
             are = refl;
-            happened = did_nothing (in_world state a w);
+            happened = Happened-none (in_world state a w);
             refused = search rules;
           };
           going = λ h. cc;
         })
 
     -- the end was found, and its text was written, or a prefix of it
-    pub step_end : (labels : LabelsValue) (vector : List ℕ) (e : Ending) (answer : Bool) (x : Writing)
+    pub step_end : (labels : LabelsValue) (vector : List ℕ) (e : Ending) (outcome : Bool) (x : Writing)
         → InSomeCheck input state p q a.inputs b.inputs (NoVerdictLeft p.rules e)
         → AskedMore (state a.inputs.source) (state b.inputs.source) [] → b.inputs.stdin_taken ≡ a.inputs.stdin_taken
         → (state b.inputs.source).refusals ≡ (state a.inputs.source).refusals → q.rules ≡ p.rules
-        → answer ≡ good q.rules e q.counts
+        → outcome ≡ good q.rules e q.counts
         → WritesAndFlushesBoth a.outputs b.outputs (end_text q.rules labels e q.counts) [] x
-        → PerformsStep input state vector labels p q a b (answered x (Ended answer))
-    step_end labels vector e answer x found asked taken refusals same sum writes = λ flushed.
+        → TakesStep input state vector labels p q a b (returned x (Ended outcome))
+    step_end labels vector e outcome x found asked taken refusals same sum writes = λ flushed.
         InSomeCheck-map found (λ c d w v f.
         let r = p.rules in
         let said = rw (same, f.counts) at (writes.1 flushed).1 in
         let step : Step =
         record { names = []; err = end_text r labels e p.counts; out = []; remaining = length c.bytes } in
-        let last : Behavior = record { steps = []; good = answer } in
+        let last : Behavior = record { steps = []; good = outcome } in
         let asks = asks_none f.world asked taken refusals in
         step_by r labels (state_at p c w) (state_at q d v) (in_world state a w) (in_world state b v) vector step
-        last (Ended answer) x
+        last (Ended outcome) x
         (ap (behavior_by r labels c.ending p.counts c) f.none
         ∙ rw (counts_then-nil p.counts, f.ending, sum, same, f.counts) refl) refl
-        (came_by (in_world state a w) (in_world state b v) [] _ [] x asks said) (λ h. cc))
+        (HappenedOrPrefix-by (in_world state a w) (in_world state b v) [] _ [] x asks said) (λ h. cc))

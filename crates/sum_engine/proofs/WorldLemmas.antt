@@ -102,12 +102,12 @@ answered_by (Some s) (Some t) name r v file h is =
 
 module _ {S : Type 0} (state : S → SourceState) (a b : InputsState S) (kept : KeepsStdin a b) where
   -- opening it gives this
-  abbrev Gives : List ℕ → Reply → Type 0
-  Gives name r = InSomeWorld state a b (λ w v. (v ≡ after w (name ∷ [])) × (reply w name ≡ r))
+  abbrev Replies : List ℕ → Reply → Type 0
+  Replies name r = InSomeWorld state a b (λ w v. (v ≡ after w (name ∷ [])) × (reply w name ≡ r))
 
   opened : (name : List ℕ) (r : Reply) → is_dash name ≡ false
       → IfKnown (state a.source).known (state b.source).known
-      (λ s t. (t ≡ record s { asked = s.asked ++ name ∷ [] }) × (s.answer name ≡ r)) → Gives name r
+      (λ s t. (t ≡ record s { asked = s.asked ++ name ∷ [] }) × (s.answer name ≡ r)) → Replies name r
   opened name r file h = record {
     before = λ v fits.
         let some = answered_by (state a.source).known (state b.source).known name r v file h fits.0 in
@@ -118,13 +118,13 @@ module _ {S : Type 0} (state : S → SourceState) (a b : InputsState S) (kept : 
     -- a content that the file may have
     pub opened_file : (file : F) (c : Content) → is_dash name ≡ false → IfSome (content file).content (λ d. c ≡ d)
         → IfKnown (state a.source).known (state b.source).known (λ s t. OpenOf content s t name (Ok file))
-        → Gives name (Ok c)
+        → Replies name (Ok c)
     opened_file file c is_file may h = opened name (Ok c) is_file (search rules)
 
     -- the fault of opening
     pub opened_fault : (f : Fault) → is_dash name ≡ false
         → IfKnown (state a.source).known (state b.source).known
-        (λ s t. OpenOf content s t name (Err (faults.Fault f))) → Gives name (Err f)
+        (λ s t. OpenOf content s t name (Err (faults.Fault f))) → Replies name (Err f)
     opened_fault f is_file h = opened name (Err f) is_file (search rules)
 
   -- without memory nothing was asked

@@ -42,7 +42,7 @@ abbrev pub OneFailed : OutputsState → OutputsState → Type 0
 OneFailed a b = ((b.out.failures ≡ one_more a.out.failures) × (b.err.failures ≡ a.err.failures))
     ⊎ ((b.out.failures ≡ a.out.failures) × (b.err.failures ≡ one_more a.err.failures))
 
--- a write fault has one failure more, of one output, and any other answer none
+-- a write fault has one failure more, of one output, and any other result none
 abbrev pub FailuresMatch : {A : Type 0} → OutputsState → OutputsState → Result A Stop → Type 0
 FailuresMatch a b (Err Write) = OneFailed a b
 FailuresMatch a b r = NoneFailed a b
@@ -54,7 +54,7 @@ OneMore n m = m ≡ one_more n
 abbrev pub OneMoreAtMost : ℕ → ℕ → Type 0
 OneMoreAtMost n m = (m ≡ n) ⊎ OneMore n m
 
--- out of memory changes the count so, and any other answer leaves it
+-- out of memory changes the count so, and any other result leaves it
 abbrev pub RefusalsMatch : {S A : Type 0} → (S → SourceState) → (ℕ → ℕ → Type 0) → InputsState S → InputsState S
     → Result A Stop → Type 0
 RefusalsMatch state Changes a b (Err Memory) = Changes (state a.source).refusals (state b.source).refusals
@@ -142,15 +142,15 @@ pub record OutOfMemory (steps : List Step) (a b : WorldState) : Type 0 where
   pub happened : Happened a between (trace done)
   pub refused : RefusedAt next between b
 
--- THE HEADLINE, for a call that is to answer x: it answers x, and the whole trace happened; or a write failed after a
+-- THE HEADLINE, for a call that is to return x: it returns x, and the whole trace happened; or a write failed after a
 -- prefix of the trace; or memory ran out at a step, and exactly the steps before it happened
 abbrev pub PerformsSteps : {A : Type 0} → List Step → A → WorldState → WorldState → Result A Stop → Type 0
-PerformsSteps steps x a b (Ok answer) = (answer ≡ x) × Happened a b (trace steps)
+PerformsSteps steps x a b (Ok outcome) = (outcome ≡ x) × Happened a b (trace steps)
 PerformsSteps steps x a b (Err Write) = PrefixHappened a b (trace steps)
 PerformsSteps steps x a b (Err Memory) = OutOfMemory steps a b
 
 -- the same of a behavior in some world, if both outputs are flushed; what is returned depends on its `good`
 abbrev pub Performs : {S A : Type 0} → (S → SourceState) → (World → Behavior) → (Bool → A) → StreamsState S
     → StreamsState S → Result A Stop → Type 0
-Performs state behavior answer a b r = IsFlushed a.outputs → InSomeWorld state a.inputs b.inputs (λ w v.
-    PerformsSteps (behavior w).steps (answer (behavior w).good) (in_world state a w) (in_world state b v) r)
+Performs state behavior outcome a b r = IsFlushed a.outputs → InSomeWorld state a.inputs b.inputs (λ w v.
+    PerformsSteps (behavior w).steps (outcome (behavior w).good) (in_world state a w) (in_world state b v) r)

@@ -21,10 +21,10 @@ pub record LineSoFar {I : Type 0} (state : I → InputState) (old s : LineReader
   pub sum : consumed s ≡ consumed old + length line
 
 -- bytes that were ahead are read, too
-took : {I : Type 0} {state : I → InputState} {old s s' : LineReaderValue I} {line : List ℕ} (prefix : List ℕ)
+LineSoFar-read : {I : Type 0} {state : I → InputState} {old s s' : LineReaderValue I} {line : List ℕ} (prefix : List ℕ)
     → LineSoFar state old s line → s' ≡ record s { ahead = s'.ahead } → s.ahead ≡ prefix ++ s'.ahead
     → IfKnown (remaining_content state old) (remaining_content state s') (λ c d. Gave c d (line ++ prefix))
-took prefix h same ahead = grind (arith, common_steps)
+LineSoFar-read prefix h same ahead = grind (arith, common_steps)
 
 -- the whole buffer joins the line if it has no newline
 pub LineSoFar-piece : {I : Type 0} {state : I → InputState} {old s s' : LineReaderValue I} {line line' : List ℕ}
@@ -46,7 +46,7 @@ ends_line {I = I} {state = state} {old = old} {s = s} {s' = s'} {line = line} {l
     let going : s'.final_answer ≡ None = search rules in
     let none : NoNewline line' = rw is (All-append (λ b. (b == 10) ≡ false) line piece h.plain plain) in
     let read : IfKnown (remaining_content state old) (remaining_content state s') (λ c d. Gave c d (line' ++ 10 ∷ [])) =
-    rw (is, append_assoc) (took (piece ++ 10 ∷ []) h same (rw append_assoc cut)) in
+    rw (is, append_assoc) (LineSoFar-read (piece ++ 10 ∷ []) h same (rw append_assoc cut)) in
     let more = length-append line' (10 ∷ []) in
     some_line _ (remaining_content state old) (remaining_content state s') (Ok Line) (strip_carriage_return line')
     (line' ++ 10 ∷ []) (consumed old) (consumed s') d d read may

@@ -34,7 +34,7 @@ pub enum LineStop {
 #[derive(Clone, Copy, Debug, PartialEq, Eq)]
 enum ReaderState {
     Active,
-    Ended,
+    Done,
     Stopped(LineStop),
 }
 
@@ -204,7 +204,7 @@ impl<I: Input> LineReader<I> {
             match self.fill() {
                 Ok(true) => {}
                 Ok(false) => {
-                    self.state = ReaderState::Ended;
+                    self.state = ReaderState::Done;
                     if line.is_empty() {
                         return Ok(Next::NoMore);
                     }
@@ -234,7 +234,7 @@ impl<I: Input> LineReader<I> {
         ensures bounds { Bounded self.new }
     {
         match self.state {
-            ReaderState::Ended => return Ok(Next::NoMore),
+            ReaderState::Done => return Ok(Next::NoMore),
             ReaderState::Stopped(stop) => return Err(stop),
             ReaderState::Active => {}
         }

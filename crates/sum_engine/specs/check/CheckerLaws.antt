@@ -33,7 +33,7 @@ EventsExtend = (r : Behavior) (a b : WorldState) → Happened a b (trace r.steps
     × Appends a.outputs.err.written b.outputs.err.written (err_text r)
     × Appends a.outputs.out.written b.outputs.out.written (out_text r)
 
--- steps that each answered Going, one after another; the line's vector then held these
+-- steps that each returned Going, one after another; the line's vector then held these
 abbrev pub StepsGoing : Rules → LabelsValue → CheckState → CheckState → WorldState → WorldState → List (List ℕ) → Type 0
 StepsGoing r labels a b s t [] = (b ≡ a) × (t ≡ s)
 StepsGoing r labels a b s t (vector ∷ vectors) = (m : CheckState) × (between : WorldState)
@@ -41,15 +41,15 @@ StepsGoing r labels a b s t (vector ∷ vectors) = (m : CheckState) × (between 
 
 -- the step that ends a manifest comes after all k lines, and writes exactly the summary or the fault line
 pub record EndsManifest (r : Rules) (labels : LabelsValue) (c : Content) (js : List LineVerdictValue) (k : ℕ)
-    (a b : WorldState) (answer : Bool) : Type 0 where
+    (a b : WorldState) (outcome : Bool) : Type 0 where
   pub lines : k ≡ length (lines_by r.profile c)
-  pub good : answer ≡ good r c.ending (counts_of js)
+  pub good : outcome ≡ good r c.ending (counts_of js)
   pub err : Appends a.outputs.err.written b.outputs.err.written (end_text r labels c.ending (counts_of js))
   pub out : Appends a.outputs.out.written b.outputs.out.written []
   pub world : b.world ≡ a.world
   pub asked : AskedMore a.source b.source []
 
--- STEP BY STEP, for a manifest c that has these verdicts, once k steps answered Going
+-- STEP BY STEP, for a manifest c that has these verdicts, once k steps returned Going
 pub record AfterSteps (r : Rules) (labels : LabelsValue) (c : Content) (js : List LineVerdictValue) (k : ℕ)
     (vectors : List (List ℕ)) (b : CheckState) (s t : WorldState) : Type 0 where
   -- both outputs grew by exactly the reports of the first k lines, whose names were asked
@@ -61,8 +61,8 @@ pub record AfterSteps (r : Rules) (labels : LabelsValue) (c : Content) (js : Lis
   pub taken : b.taken + length (past_lines k c).bytes ≤ length c.bytes + 8192
   -- each vector holds at most as many bytes as its line
   pub vector_lens : (i : ℕ) → length (slice_index_or vectors i []) ≤ length (slice_index_or (lines_by r.profile c) i [])
-  pub end : (answer : Bool) (vector : List ℕ) (d : CheckState) (z : WorldState)
-      → StepIs r labels vector b d t z (Ok (Ended answer)) → EndsManifest r labels c js k t z answer
+  pub end : (outcome : Bool) (vector : List ℕ) (d : CheckState) (z : WorldState)
+      → StepIs r labels vector b d t z (Ok (Ended outcome)) → EndsManifest r labels c js k t z outcome
   -- if the next step fails to write, a prefix of the manifest's whole trace happened
   pub cut : (vector : List ℕ) (d : CheckState) (z : WorldState) → StepIs r labels vector b d t z (Err Write)
       → PrefixHappened s z (trace (content_behavior r labels c js).steps)

@@ -100,12 +100,12 @@ pub record LineHandled (r : Rules) (a b : CheckState) (vector : List ℕ) : Type
   pub counts : b.counts ≡ counts_with a.counts (next_judged r a line).verdict
   pub vector_len : length vector ≤ length line
 
--- what a step answers before this: Going, if steps remain, and otherwise whether all is good
+-- what a step returns before this: Going, if steps remain, and otherwise whether all is good
 abbrev pub progress_before : Behavior → Progress
 progress_before r = elim r.steps [ [] ↦ Ended r.good | steps ↦ Going ]
 
 -- what a step does from a to b, and of the streams from s to t: it performs the first step of the behavior that
--- remained; if it answers Going, a line was handled, and the others remain
+-- remained; if it returns Going, a line was handled, and the others remain
 pub record StepIs (r : Rules) (labels : LabelsValue) (vector : List ℕ) (a b : CheckState) (s t : WorldState)
     (x : Result Progress Stop) : Type 0 where
   pub step : Step
@@ -204,7 +204,7 @@ pub record AdvancesChecker {I S : Type 0} (input : I → InputState) (source : S
   pub no_output_on_memory : NoOutputOnMemory a.outputs b.outputs x
 
 -- a step in some world, if both outputs are flushed at the call
-abbrev pub PerformsStep : {I S : Type 0} → (I → InputState) → (S → SourceState) → List ℕ → LabelsValue → CursorValue I
+abbrev pub TakesStep : {I S : Type 0} → (I → InputState) → (S → SourceState) → List ℕ → LabelsValue → CursorValue I
     → CursorValue I → StreamsState S → StreamsState S → Result Progress Stop → Type 0
-PerformsStep input source vector labels p q a b x = IsFlushed a.outputs → InSomeCheck input source p q a.inputs b.inputs
+TakesStep input source vector labels p q a b x = IsFlushed a.outputs → InSomeCheck input source p q a.inputs b.inputs
     (λ c d. StepIs p.rules labels vector c d (in_world source a c.world) (in_world source b d.world) x)

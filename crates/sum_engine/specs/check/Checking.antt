@@ -17,7 +17,7 @@ rules_of s name = let dash = is_dash name in
 -- what the tool's reports of a manifest of that name show
 abbrev pub labels_of : CheckSettings → List ℕ → List ℕ → LabelsValue
 labels_of settings tool name =
-    record { tool = tool; list = if is_dash name then codes "standard input" else name; report = settings.report }
+    record { tool = tool; manifest = if is_dash name then codes "standard input" else name; report = settings.report }
 
 -- a step for each line of the content, by these verdicts, and one for the end, which has that text
 abbrev pub line_steps : Rules → LabelsValue → List ℕ → Content → List LineVerdictValue → List Step
@@ -34,7 +34,7 @@ content_behavior r labels c js = let counts = counts_of js in
 -- a manifest of that name, opened with this reply, in the world after that
 abbrev pub check_behavior_by : Rules → LabelsValue → List ℕ → World → Reply → Behavior
 check_behavior_by r labels name w (Err f) =
-    single_step (name ∷ []) (fault_line r.profile labels.tool labels.list f) [] false
+    single_step (name ∷ []) (fault_line r.profile labels.tool labels.manifest f) [] false
 check_behavior_by r labels name w (Ok c) = behavior_then (single_step (name ∷ []) [] [] true)
     (content_behavior r labels (clip c) (all_verdicts r w (clip c)))
 

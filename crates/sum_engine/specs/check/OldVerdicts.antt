@@ -29,7 +29,7 @@ NamesNoReturn algos f line = (s : EntryValue) → IsEntry escape algos f line s 
 -- a manifest without a carriage return, neither in its own name nor as a byte nor as the escape `\r` in a name, and
 -- without an empty line
 pub record IsOldManifest (r : Rules) (labels : LabelsValue) (c : Content) : Type 0 where
-  pub own_name : NoReturn labels.list
+  pub own_name : NoReturn labels.manifest
   pub no_byte : NoReturn c.bytes
   pub no_escape : All (NamesNoReturn r.algo (form r.algo (raw_lines c))) (raw_lines c)
   pub no_empty : All (λ line. 0 < length line) (raw_lines c)
@@ -51,7 +51,7 @@ OldVerdicts = (r : Rules) (labels : LabelsValue) (w : World) (c : Content) → I
 
 -- so its whole behavior is the same, also if the manifest can't be opened
 abbrev pub OldOutcomes : Type 0
-OldOutcomes = (r : Rules) (labels : LabelsValue) (name : List ℕ) (w : World) (reply : Reply) → NoReturn labels.list
+OldOutcomes = (r : Rules) (labels : LabelsValue) (name : List ℕ) (w : World) (reply : Reply) → NoReturn labels.manifest
     → ((c : Content) → reply ≡ Ok c → IsOldManifest r labels (clip c))
     → check_behavior_by (rules_under older r) labels name w reply
     ≡ check_behavior_by (rules_under present r) labels name w reply

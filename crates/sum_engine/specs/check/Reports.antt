@@ -15,7 +15,7 @@ use Rattle.sum_engine.specs.Generation.{tool_line, fault_line}
 -- what the reports of a manifest show: the tool's name, the manifest's, and which lines
 pub record LabelsValue : Type 0 where
   pub tool : List ℕ
-  pub list : List ℕ
+  pub manifest : List ℕ
   pub report : Report
 
 -- NAME: TEXT, after a backslash if the name's escape differs from it
@@ -43,9 +43,9 @@ abbrev pub tag_word : Algos → List ℕ
 tag_word (One a) = tag a
 tag_word Any = codes "tagged"
 
--- TOOL: LIST: N: improperly formatted TAG checksum line
+-- TOOL: MANIFEST: N: improperly formatted TAG checksum line
 abbrev pub bad_line : Rules → LabelsValue → ℕ → List ℕ
-bad_line r labels n = concat (labels.tool ∷ codes ": " ∷ escape_by r.profile labels.list ∷ codes ": " ∷ decimal n
+bad_line r labels n = concat (labels.tool ∷ codes ": " ∷ escape_by r.profile labels.manifest ∷ codes ": " ∷ decimal n
     ∷ codes ": improperly formatted " ∷ tag_word r.algo ∷ codes " checksum line\n" ∷ [])
 
 -- a line's report on standard error: one that is improperly formatted is named under `Warn` alone
@@ -90,7 +90,7 @@ warning tool n one many = if n == 0 then []
 -- the line that no file was verified, with `--ignore-missing`
 abbrev pub unverified_line : Rules → LabelsValue → CountsValue → List ℕ
 unverified_line r labels c = if r.ignore_missing && (c.right == 0)
-    then tool_line r.profile labels.tool labels.list (codes "no file was verified") else []
+    then tool_line r.profile labels.tool labels.manifest (codes "no file was verified") else []
 
 -- the warnings at a manifest's end
 abbrev pub warnings : Rules → LabelsValue → CountsValue → List ℕ
@@ -103,9 +103,9 @@ warnings r labels c = let tool = labels.tool in
 -- the end of a manifest on standard error: its summary, or the line of the fault that broke it
 abbrev pub end_text : Rules → LabelsValue → Ending → CountsValue → List ℕ
 end_text r labels Whole c = if entries c == 0
-    then tool_line r.profile labels.tool labels.list (codes "no properly formatted checksum lines found")
+    then tool_line r.profile labels.tool labels.manifest (codes "no properly formatted checksum lines found")
     else elim labels.report [ Status ↦ [] | report ↦ warnings r labels c ]
-end_text r labels (Broken f) c = fault_line r.profile labels.tool labels.list f
+end_text r labels (Broken f) c = fault_line r.profile labels.tool labels.manifest f
 
 -- good: it was read whole, a line is Right, none is Wrong or Unread, and under the strict setting none is Bad
 abbrev pub good : Rules → Ending → CountsValue → Bool

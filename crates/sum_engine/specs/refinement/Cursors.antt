@@ -18,7 +18,7 @@ rules_in r = record {
 }
 
 abbrev pub labels_in : Labels → LabelsValue
-labels_in l = record { tool = l.tool.now; list = l.list.now; report = l.report }
+labels_in l = record { tool = l.tool.now; manifest = l.manifest.now; report = l.report }
 
 abbrev pub cursor_value : {I : Type 0} → CheckCursor I → CursorValue I
 cursor_value p =

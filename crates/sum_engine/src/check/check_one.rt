@@ -49,7 +49,7 @@ pub fn check_one<A: Allocator + Copy, J: Input + Drop, S: Source, O: Sink, E: Si
         let rules = CheckRules::new(settings, true);
         let labels = Labels {
             tool,
-            list: b"standard input",
+            manifest: b"standard input",
             report: settings.report,
         };
         let (result, input) = check_input(alloc, rules, labels, input, streams);
@@ -66,7 +66,7 @@ pub fn check_one<A: Allocator + Copy, J: Input + Drop, S: Source, O: Sink, E: Si
             let rules = CheckRules::new(settings, false);
             let labels = Labels {
                 tool,
-                list: name,
+                manifest: name,
                 report: settings.report,
             };
             let (result, file) = check_input(alloc, rules, labels, file, streams);

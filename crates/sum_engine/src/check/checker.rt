@@ -40,16 +40,16 @@ impl<'a, I> Model for Checker<'a, I> {
 
 impl<'a, I: Input> Checker<'a, I> {
     ghost use Rattle.sum_engine.specs.Execution.{IsFlushed};
-    ghost use Rattle.sum_engine.specs.check.CheckerSteps.{IsAtStart, PerformsStep, AdvancesChecker};
+    ghost use Rattle.sum_engine.specs.check.CheckerSteps.{IsAtStart, TakesStep, AdvancesChecker};
     ghost use Rattle.sum_engine.specs.refinement.Cursors.{rules_in, labels_in};
 
-    /// A checker of the manifest that `input` gives. Its diagnostics begin with `tool`, as with `md5sum`, and call the
-    /// manifest `shown`; `from_stdin` says whether it came from standard input, where a line that names `-` is
+    /// A checker of the manifest that `input` gives. Its diagnostics begin with `tool`, as with `md5sum`, and show the
+    /// name `manifest`; `from_stdin` says whether it came from standard input, where a line that names `-` is
     /// improperly formatted. In any other manifest `-` is the standard input of the streams.
     pub fn new(
         settings: CheckSettings,
         tool: &'a str,
-        shown: &'a [u8],
+        manifest: &'a [u8],
         from_stdin: bool,
         input: I,
     ) -> Self
@@ -61,13 +61,13 @@ impl<'a, I: Input> Checker<'a, I> {
           from_stdin = from_stdin;
         } }
         ensures labels { result.labels
-            ≡ record { tool = tool.entry.now; list = shown.entry.now; report = settings.report } }
+            ≡ record { tool = tool.entry.now; manifest = manifest.entry.now; report = settings.report } }
         ensures start { IsAtStart I.state result.cursor input }
         ensures final_answer { result.final_answer ≡ None }
     {
         let labels = Labels {
             tool,
-            list: shown,
+            manifest,
             report: settings.report,
         };
         Checker::over(CheckRules::new(settings, from_stdin), labels, input)
@@ -117,7 +117,7 @@ impl<'a, I: Input> Checker<'a, I> {
         ensures repeats { IfSome self.old.final_answer
             (λ r. (result ≡ r) × (self.new ≡ self.old) × (streams.new ≡ streams.old)) }
         // If both outputs are flushed: the next step of the behavior, in some world, the known one if it is known.
-        ensures step { self.old.final_answer ≡ None → PerformsStep I.state S.state line.new.items self.old.labels
+        ensures step { self.old.final_answer ≡ None → TakesStep I.state S.state line.new.items self.old.labels
             self.old.cursor self.new.cursor streams.old streams.new result }
         // Known or not: how far the manifest was read, the cause of a stop, and which answers are final.
         ensures advances { self.old.final_answer ≡ None

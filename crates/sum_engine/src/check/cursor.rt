@@ -35,7 +35,7 @@ impl<I: Input> CheckCursor<I> {
     ghost use Rattle.sum_engine.specs.Execution.{KeepsStdin, IsFlushed, FailuresMatch, NoOutputOnMemory};
     ghost use Rattle.sum_engine.specs.Execution.{ReadToEnd, InSomeWorld, AskedMore};
     ghost use Rattle.sum_engine.specs.check.CheckerSteps.{MemoryStopHasCause, IsAtStart};
-    ghost use Rattle.sum_engine.specs.check.CheckerSteps.{PerformsStep, AdvancesCursor, ReadsListedFile};
+    ghost use Rattle.sum_engine.specs.check.CheckerSteps.{TakesStep, AdvancesCursor, ReadsListedFile};
     ghost use Rattle.sum_sources.specs.declared.fault.Ending.TheVariants.{Whole};
     ghost use Rattle.sum_engine.specs.check.Reports.{good, is_unread};
     ghost use Rattle.sum_engine.specs.refinement.HashName.{RefusedUnless};
@@ -87,7 +87,7 @@ impl<I: Input> CheckCursor<I> {
         line: &mut Vec<u8, A>,
         streams: &mut Streams<Inputs<J, S>, Outputs<O, E>>,
     ) -> Result<Progress, Stop>
-        ensures step { PerformsStep I.state S.state line.new.items (labels_in labels.now) (cursor_value self.old)
+        ensures step { TakesStep I.state S.state line.new.items (labels_in labels.now) (cursor_value self.old)
             (cursor_value self.new) streams.old streams.new result }
         ensures flushed { IsFlushed streams.old.outputs → IsFlushed streams.new.outputs }
         ensures out_of_memory { MemoryStopHasCause (S.state streams.old.inputs.source)
@@ -101,7 +101,7 @@ impl<I: Input> CheckCursor<I> {
         match self.next_verdict(line, &mut streams.inputs) {
             Err(LineStop::Memory) => Err(Stop::Memory),
             Err(LineStop::Fault(fault)) => {
-                put_fault_line(&mut streams.outputs, labels.tool, labels.list, fault)?;
+                put_fault_line(&mut streams.outputs, labels.tool, labels.manifest, fault)?;
                 Ok(Progress::Ended(false))
             }
             Ok(None) => {

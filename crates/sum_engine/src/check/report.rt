@@ -154,7 +154,7 @@ fn put_bad_line<E: Sink>(
         &[
             Part::Bytes(labels.tool.as_bytes()),
             Part::Bytes(b": "),
-            Part::Escaped(labels.list),
+            Part::Escaped(labels.manifest),
             Part::Bytes(b": "),
             Part::Number(number),
             Part::Bytes(b": improperly formatted "),

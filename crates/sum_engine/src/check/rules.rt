@@ -38,6 +38,6 @@ impl CheckRules {
 #[derive(Clone, Copy, Debug)]
 pub(crate) struct Labels<'a> {
     pub tool: &'a str,
-    pub list: &'a [u8],
+    pub manifest: &'a [u8],
     pub report: Report,
 }

@@ -97,7 +97,7 @@ fn put_end<E: Sink>(
 {
     if counts.entries() == 0 {
         let text = b"no properly formatted checksum lines found";
-        return put_tool_line(err, labels.tool, labels.list, text);
+        return put_tool_line(err, labels.tool, labels.manifest, text);
     }
     match labels.report {
         Report::Status => Ok(()),
@@ -174,7 +174,7 @@ fn put_unverified<E: Sink>(
         (unverified_line (rules_in rules) (labels_in labels.now) (counts_value counts)) result }
 {
     if rules.ignore_missing && counts.right == 0 {
-        return put_tool_line(err, labels.tool, labels.list, b"no file was verified");
+        return put_tool_line(err, labels.tool, labels.manifest, b"no file was verified");
     }
     Ok(())
 }

@@ -5,7 +5,7 @@ use Rattle.sum_sources.specs.declared.inputs.input.TheConstants.{PIECE}
 use Rattle.sum_sources.specs.Contents.{Fault, Broken, Content, empty_content}
 use Rattle.sum_sources.specs.declared.line_reader.LineReader.TheInside.{Inside}
 use Rattle.sum_sources.specs.declared.line_reader.ReaderState.{ReaderState}
-use Rattle.sum_sources.specs.declared.line_reader.ReaderState.TheVariants.{Active, Ended, Stopped}
+use Rattle.sum_sources.specs.declared.line_reader.ReaderState.TheVariants.{Active, Done, Stopped}
 use Rattle.sum_sources.specs.ManifestLines.{Next, NoMore, LineStop, NoNewline}
 use Rattle.sum_sources.specs.LineReaders.{LineReaderValue}
 use Rattle.sum_sources.specs.declared.line_reader.LineStop.TheVariants as stops
@@ -13,7 +13,7 @@ use Rattle.sum_sources.specs.declared.line_reader.LineStop.TheVariants as stops
 -- what every later call returns
 abbrev pub final_answer_in : ReaderState → Option (Result Next LineStop)
 final_answer_in Active = None
-final_answer_in Ended = Some (Ok NoMore)
+final_answer_in Done = Some (Ok NoMore)
 final_answer_in (Stopped e) = Some (Err e)
 
 -- a reader, by its fields

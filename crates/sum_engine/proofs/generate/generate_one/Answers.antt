@@ -3,7 +3,7 @@ use Rattle.std.proofs.lemmas.Result.{err_from_is_err_and}
 use Rattle.sum_engine.specs.Behavior.{reply, digest_or_fault}
 use Rattle.sum_engine.specs.Execution.{InputsState}
 use Rattle.sum_engine.specs.Generation.{generate_behavior}
-use Rattle.sum_engine.proofs.BehaviorLemmas.{unasked}
+use Rattle.sum_engine.proofs.BehaviorLemmas.{Performs-refused}
 use Rattle.sum_engine.proofs.GenerateLemmas.{generate-performed, one_step}
 use Rattle.sum_engine.proofs.generate.generate_one.Goals as goal
 
@@ -14,7 +14,7 @@ returns-in-None-clause-behavior g c =
     let tool = c.args.tool.now in
     let name = c.args.name.now in
     let kept = ap (λ (m : InputsState g.row.S.Denot). m.stdin_taken) c.in-None.ensures.stdin_kept in
-    unasked g.S.Source.state (λ w. generate_behavior settings tool w name) (λ g. g) c.args.streams.now
+    Performs-refused g.S.Source.state (λ w. generate_behavior settings tool w name) (λ g. g) c.args.streams.now
     (record c.args.streams.now { inputs = c.hash_name.new.inputs })
     (λ w. one_step settings tool name (digest_or_fault settings.kind (reply w name))) c.in-None.ensures.outcome
     c.in-None.ensures.asked kept refl c.in-None.ensures.refusals

@@ -1,22 +1,22 @@
 use Rattle.std.proofs.Common.{◌≡◌, true, Ok, Err, ap, sym, ◌∙◌, arith, rules}
 use Rattle.sum_engine.specs.check.CheckerSteps.{Ended}
 use Rattle.sum_engine.proofs.ExecutionLemmas.{KeepsStdin-trans}
-use Rattle.sum_engine.proofs.CheckOneLemmas.{comes_none, comes_more, comes_last, phase-initial}
+use Rattle.sum_engine.proofs.CheckOneLemmas.{IsAlong-none, IsAlong-more, IsAlong-last, phase-initial}
 use Rattle.sum_engine.proofs.ReadToEndLemmas.{ReadToEnd-none, ReadToEnd-trans}
 use Rattle.sum_engine.proofs.check.check_one.check_lines.Goals as goal
 
 pub lines-init : goal.lines-init
-lines-init g c = search (rules, comes_none, phase-initial, ReadToEnd-none)
+lines-init g c = search (rules, IsAlong-none, phase-initial, ReadToEnd-none)
 
 -- a step stopped
 pub returns-in-Err-clause-behavior : goal.returns-in-Err-clause-behavior
 returns-in-Err-clause-behavior g c =
     let so_far = c.lines.invariant in
     let first = c.args.checker.now in
-    comes_last g.I.Input.state g.S.Source.state first.cursor.rules first.labels first.cursor c.args.streams.now
+    IsAlong-last g.I.Input.state g.S.Source.state first.cursor.rules first.labels first.cursor c.args.streams.now
     c.lines.checker.labels first.cursor.reader.input c.lines.checker.cursor c.step.new.self.cursor c.lines.streams
     c.step.new.streams c.step.new.line.items (Err c.in-Err.stop) c.requires.start so_far.rules so_far.labels
-    so_far.comes so_far.so_far.flushed (c.in-Err.ensures.advances so_far.going).cursor.bounds
+    so_far.along so_far.so_far.flushed (c.in-Err.ensures.advances so_far.going).cursor.bounds
     (c.in-Err.ensures.step so_far.going)
 
 -- the end was handled
@@ -25,10 +25,10 @@ returns-in-Ok-Ended-clause-behavior g c =
     let so_far = c.lines.invariant in
     let first = c.args.checker.now in
     let step = rw c.in-Ok-Ended.field-0-is at (c.in-Ok-Ended.ensures.step so_far.going) in
-    comes_last g.I.Input.state g.S.Source.state first.cursor.rules first.labels first.cursor c.args.streams.now
+    IsAlong-last g.I.Input.state g.S.Source.state first.cursor.rules first.labels first.cursor c.args.streams.now
     c.lines.checker.labels first.cursor.reader.input c.lines.checker.cursor c.step.new.self.cursor c.lines.streams
     c.step.new.streams c.step.new.line.items (Ok c.in-Ok-Ended.good) c.requires.start so_far.rules so_far.labels
-    so_far.comes so_far.so_far.flushed (c.in-Ok-Ended.ensures.advances so_far.going).cursor.bounds step
+    so_far.along so_far.so_far.flushed (c.in-Ok-Ended.ensures.advances so_far.going).cursor.bounds step
 
 -- a good manifest has no file that could not be read
 pub returns-in-Ok-Ended-clause-read_to_end : goal.returns-in-Ok-Ended-clause-read_to_end
@@ -46,9 +46,9 @@ lines-preserved g c =
     let first = c.args.checker.now in
     let advances = c.in-Ok-Going.ensures.advances so_far.going in
     record {
-      comes = comes_more g.I.Input.state g.S.Source.state first.cursor.rules first.labels first.cursor
+      along = IsAlong-more g.I.Input.state g.S.Source.state first.cursor.rules first.labels first.cursor
           c.args.streams.now c.lines.checker.labels c.lines.checker.cursor c.step.new.self.cursor c.lines.streams
-          c.step.new.streams c.step.new.line.items so_far.rules so_far.labels so_far.comes so_far.so_far.flushed
+          c.step.new.streams c.step.new.line.items so_far.rules so_far.labels so_far.along so_far.so_far.flushed
           (rw c.in-Ok-Going.field-0-is at (c.in-Ok-Going.ensures.step so_far.going));
       rules = advances.cursor.rules ∙ so_far.rules;
       labels = advances.labels ∙ so_far.labels;

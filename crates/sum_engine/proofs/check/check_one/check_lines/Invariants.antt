@@ -1,7 +1,7 @@
 use Rattle.std.proofs.Common.{◌≡◌, ◌^◌, ◌-◌, Bool, true, Ok, None}
 use Rattle.sum_sources.specs.LineReaders.{IsReadSoFar}
 use Rattle.sum_engine.specs.Execution.{KeepsStdin, OneMoreAtMost, StopHasCause, ReadToEnd, Reading}
-use Rattle.sum_engine.proofs.CheckOneLemmas.{Comes}
+use Rattle.sum_engine.proofs.CheckOneLemmas.{IsAlong}
 use Rattle.sum_engine.proofs.check.check_one.check_lines.Given as goal
 
 abbrev pub invariant-lines : goal.invariant-lines
@@ -10,7 +10,7 @@ invariant-lines g l =
     let input = first.cursor.reader.input in
     let streams = l.fn.streams in
     record {
-      comes : Comes g.I.Input.state g.S.Source.state first.cursor.rules first.labels first.cursor streams
+      along : IsAlong g.I.Input.state g.S.Source.state first.cursor.rules first.labels first.cursor streams
           l.checker.cursor l.streams;
       rules : l.checker.cursor.rules ≡ first.cursor.rules;
       labels : l.checker.labels ≡ first.labels;

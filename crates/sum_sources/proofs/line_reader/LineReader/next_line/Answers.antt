@@ -9,9 +9,9 @@ use Rattle.sum_sources.proofs.PieceLemmas.{some_buffered}
 use Rattle.sum_sources.proofs.line_reader.LineReader.next_line.Goals as goal
 
 -- the end is returned again
-pub returns-in-Ended-clause-line : goal.returns-in-Ended-clause-line
-returns-in-Ended-clause-line g c =
-    rw (← c.self.view_is, c.in-Ended.is) (λ d is. (empty_content, refl, (lines-nil Whole, refl), rw is refl))
+pub returns-in-Done-clause-line : goal.returns-in-Done-clause-line
+returns-in-Done-clause-line g c =
+    rw (← c.self.view_is, c.in-Done.is) (λ d is. (empty_content, refl, (lines-nil Whole, refl), rw is refl))
 
 -- a stop is returned again
 pub returns-in-Stopped-clause-line : goal.returns-in-Stopped-clause-line
