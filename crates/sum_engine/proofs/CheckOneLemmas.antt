@@ -178,10 +178,7 @@ module _ {S : Type 0} (state : S → SourceState) (settings : CheckSettings) (to
     abbrev Performed : StreamsState S → Result Bool Stop → Type 0
     Performed b x = Performs state (λ w. check_behavior settings tool w name) (λ g. g) a b x
 
-    -- the rules and labels, by whether the manifest is standard input
-    abbrev rules_if : Bool → Rules
-    rules_if dash = record (rules_of settings name) { from_stdin = dash }
-
+    -- the labels, by whether the manifest is standard input
     abbrev labels_if : Bool → LabelsValue
     labels_if dash = record (labels_of settings tool name) { manifest = cond dash (codes "standard input") name }
 
@@ -207,7 +204,7 @@ module _ {S : Type 0} (state : S → SourceState) (settings : CheckSettings) (to
         (x : Result Bool Stop) → is_dash name ≡ dash
         → ((c : Content) → IfSome known (λ d. c ≡ d)
         → InSomeWorld state a.inputs m (λ w v. (v ≡ after w (name ∷ [])) × (reply w name ≡ Ok c)))
-        → NameAsked m → ManifestPerforms state (rules_if dash) (labels_if dash) known (from_inputs m) b x
+        → NameAsked m → ManifestPerforms state (rules_of settings dash) (labels_if dash) known (from_inputs m) b x
         → IsClosed b.inputs n → Performed (record b { inputs = n }) x
     opened dash known m b n x is answer asked run closed = λ flushed. record {
       before = λ v fits.
@@ -216,7 +213,7 @@ module _ {S : Type 0} (state : S → SourceState) (settings : CheckSettings) (to
           let c = ran.2.0 in
           let first = (answer c ran.2.1).before ran.0 ran.1 in
           let w = first.0 in
-          let of : World → Behavior = manifest_behavior (rules_of settings name) (labels_of settings tool name) (clip c) in
+          let of : World → Behavior = manifest_behavior (rules_of settings (is_dash name)) (labels_of settings tool name) (clip c) in
           let all = check_behavior settings tool w name in
           let last = in_world state (record b { inputs = n }) v in
           let kept : IsKept (in_world state b end.0) last = record {
@@ -239,7 +236,7 @@ module _ {S : Type 0} (state : S → SourceState) (settings : CheckSettings) (to
 
     -- the manifest is standard input, which is taken, and put back
     pub check_dash : (b : StreamsState S) (p : Option Phase) (x : Result Bool Stop) → is_dash name ≡ true
-        → ManifestPerforms state (rules_if true) (labels_if true) a.inputs.input
+        → ManifestPerforms state (rules_of settings true) (labels_if true) a.inputs.input
         (from_inputs (stdin_taken_from a.inputs)) b x
         → Performed (record b { inputs = record b.inputs { stdin_phase = p } }) x
     check_dash b p x dash run = opened true a.inputs.input (stdin_taken_from a.inputs) b
@@ -259,7 +256,7 @@ module _ {S : Type 0} (state : S → SourceState) (settings : CheckSettings) (to
       -- it is a file, which is closed
       pub check_file : (b : StreamsState S) (n : InputsState S) (p : Phase) (file : F) (x : Result Bool Stop)
           → is_dash name ≡ false → IsAnswer (Ok file) → (state m.source).refusals ≡ (state a.inputs.source).refusals
-          → ManifestPerforms state (rules_if false) (labels_if false) (content file).content (from_inputs m) b x
+          → ManifestPerforms state (rules_of settings false) (labels_if false) (content file).content (from_inputs m) b x
           → KeepsStdin b.inputs n → state n.source ≡ closed_state (state b.inputs.source) p
           → Performed (record b { inputs = n }) x
       check_file b n p file x is_file h refusals run stays closed =
@@ -293,6 +290,6 @@ module _ {S : Type 0} (state : S → SourceState) (settings : CheckSettings) (to
         where
           -- checking begins with a step
           begins : (w : World) (reply : Reply) → (next : Step) × (rest : List Step) × ((check_behavior_by
-              (rules_of settings name) (labels_of settings tool name) name w reply).steps ≡ next ∷ rest)
+              (rules_of settings (is_dash name)) (labels_of settings tool name) name w reply).steps ≡ next ∷ rest)
           begins w (Err f) = (_, [], refl)
           begins w (Ok c) = (opening name, _, refl)

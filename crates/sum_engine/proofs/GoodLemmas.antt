@@ -8,7 +8,7 @@ use Rattle.sum_engine.specs.check.Reports.{Report, LabelsValue, CountsValue, out
 use Rattle.sum_engine.specs.check.Verdicts.{Algos, Form, Right, Rules, LineVerdictValue, verdict_of, judge, verdicts, all_verdicts}
 use Rattle.sum_lines.specs.Escape.{present, escape}
 use Rattle.sum_lines.specs.grammar.Entries.{IsEntry, form}
-use Rattle.sum_engine.specs.Behavior.{Whole, World, reply, after, Behavior, out_text, err_text}
+use Rattle.sum_engine.specs.Behavior.{Whole, World, reply, after, Behavior, out_text, err_text, is_dash}
 use Rattle.sum_sources.specs.Contents.{Content, Reply, limit}
 use Rattle.sum_sources.proofs.ContentLemmas.{limit-value, clip-short}
 use Rattle.sum_engine.specs.check.CheckerSteps.{step_then}
@@ -130,9 +130,9 @@ check_behavior-is : (check : CheckSettings) (tool manifest : List ℕ) (files : 
     (is : List Item) → w.answer ≡ (λ asked. files) → All (Listed check.algo files) is → length (flat_map written_text is) < limit
     → reply w manifest ≡ Ok (whole is)
     → check_behavior check tool w manifest ≡ step_then (opening manifest)
-    (content_behavior (rules_of check manifest) (labels_of check tool manifest) (whole is) (rights 0 is))
+    (content_behavior (rules_of check (is_dash manifest)) (labels_of check tool manifest) (whole is) (rights 0 is))
 check_behavior-is check tool manifest files w is steady all fits given =
-    let r : Rules = rules_of check manifest in
+    let r : Rules = rules_of check (is_dash manifest) in
     let labels : LabelsValue = labels_of check tool manifest in
     let next : World = after w (manifest ∷ []) in
     let of : Content → List LineVerdictValue → Behavior =
@@ -147,7 +147,7 @@ pub manifest_good : (check : CheckSettings) (tool manifest : List ℕ) (files : 
     → reply w manifest ≡ Ok (whole is) → Found check tool w manifest is
 manifest_good check tool manifest files w [] steady all some fits given = absurd (omega arith)
 manifest_good check tool manifest files w (i ∷ is) steady all some fits given =
-    let r : Rules = rules_of check manifest in
+    let r : Rules = rules_of check (is_dash manifest) in
     let labels : LabelsValue = labels_of check tool manifest in
     let here = check_behavior-is check tool manifest files w (i ∷ is) steady all fits given in
     let js = rights 0 (i ∷ is) in

@@ -7,9 +7,9 @@ ghost use Rattle.sum_engine.specs.refinement.FlushedWrites.{WritesAndFlushesBoth
 ghost use Rattle.sum_engine.specs.Execution.{IsFlushed, FailuresMatch, ReadToEnd, OneMore};
 ghost use Rattle.sum_engine.specs.Execution.{RefusalsMatch, NoOutputOnMemory, Performs};
 
-use crate::check::report::put_fault_line;
 use crate::hash_name::hash_name;
 use crate::inputs::Inputs;
+use crate::put_flushed::put_fault_line;
 use crate::settings::Settings;
 use crate::stop::Stop;
 use crate::streams::{Outputs, Streams};

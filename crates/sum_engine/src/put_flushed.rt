@@ -1,8 +1,13 @@
 //! Lines that are written and flushed at once.
+ghost use Rattle.std.specs.Prelude.{[]};
+ghost use Rattle.sum_lines.specs.Escape.{present};
 ghost use Rattle.sum_lines.specs.refinement.PartTexts.{parts_text};
-ghost use Rattle.sum_engine.specs.refinement.FlushedWrites.{WritesAndFlushes};
+ghost use Rattle.sum_engine.specs.Generation.{tool_line, fault_line};
+ghost use Rattle.sum_engine.specs.refinement.FlushedWrites.{WritesAndFlushes, WritesAndFlushesBoth};
 
+use crate::streams::Outputs;
 use sum_lines::{Part, Sink, SinkFault, put_parts};
+use sum_sources::Fault;
 
 /// Writes the parts of a line, one after another, and flushes it. A fault if that fails; then a prefix of the line was
 /// written.
@@ -11,4 +16,51 @@ pub(crate) fn put_parts_flushed<S: Sink>(sink: &mut S, parts: &[Part]) -> Result
 {
     put_parts(sink, parts)?;
     sink.flush()
+}
+
+/// Writes `TOOL: NAME: TEXT`.
+pub(crate) fn put_tool_line<'a, E: Sink>(
+    err: &mut E,
+    tool: &'a str,
+    name: &'a [u8],
+    text: &'a [u8],
+) -> Result<(), SinkFault>
+    ensures { WritesAndFlushes (E.state err.old) (E.state err.new)
+        (tool_line present tool.now name.now text.now) result }
+{
+    put_parts_flushed(
+        err,
+        &[
+            Part::Bytes(tool.as_bytes()),
+            Part::Bytes(b": "),
+            Part::Escaped(name),
+            Part::Bytes(b": "),
+            Part::Bytes(text),
+            Part::Bytes(b"\n"),
+        ],
+    )
+}
+
+/// The same for a name that could not be opened or read, to standard error.
+pub(crate) fn put_fault_line<O: Sink, E: Sink>(
+    outputs: &mut Outputs<O, E>,
+    tool: &str,
+    name: &[u8],
+    fault: Fault,
+) -> Result<(), SinkFault>
+    ensures { WritesAndFlushesBoth outputs.old outputs.new (fault_line present tool.now name.now fault) [] result }
+{
+    put_fault(&mut outputs.err, tool, name, fault)
+}
+
+/// The same, to this sink.
+pub(crate) fn put_fault<E: Sink>(
+    err: &mut E,
+    tool: &str,
+    name: &[u8],
+    fault: Fault,
+) -> Result<(), SinkFault>
+    ensures { WritesAndFlushes (E.state err.old) (E.state err.new) (fault_line present tool.now name.now fault) result }
+{
+    put_tool_line(err, tool, name, fault.text().as_bytes())
 }

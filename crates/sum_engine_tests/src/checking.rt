@@ -13,7 +13,7 @@ pub(crate) fn plain() -> CheckSettings {
 }
 
 /// A manifest of which each line has another verdict.
-pub(crate) const ALL: &[u8] = b"900150983cd24fb0d6963f7d28e17f72  a\n\
+pub(crate) const ALL: &str = "900150983cd24fb0d6963f7d28e17f72  a\n\
     #c\n\
     junk\n\
     900150983cd24fb0d6963f7d28e17f72 *x\n\
@@ -46,40 +46,43 @@ pub(crate) fn files<'a, A: Allocator + Copy>(
     Ok(source)
 }
 
+// What a sink has, as a text.
+fn text(sink: &ToldSink<1000>) -> &str {
+    str::from_utf8(sink.bytes()).unwrap_or("no text")
+}
+
 // Checking the manifest of this name by this tool, if `l` contains this, returns so and writes these texts, in whatever
 // pieces it is read; all files that it opened were read to their end, if it is good.
 fn checks(
     rt: &(impl Abort + AllocGlobal),
     (tool, settings): (&str, CheckSettings),
-    name: &[u8],
-    l: &[u8],
+    name: &str,
+    l: &str,
     ending: Ending,
-    want: (bool, &str, &str),
+    (good, out, err): (bool, &str, &str),
 ) -> Result<(), Fail> {
     for piece in [1, 100, 8192] {
-        let mut source = files(rt.alloc(), piece, l, ending)?;
+        let mut source = files(rt.alloc(), piece, l.as_bytes(), ending)?;
         source.add(b"q\\\nz", Answer::Content(b"abc", Ending::Whole))?;
         // A manifest on standard input lists standard input itself.
-        let input = if name == b"-".as_slice() {
-            l
-        } else {
-            b"abc".as_slice()
-        };
-        let mut streams = known(input, source);
-        let good = check_one(rt.alloc(), settings, tool, name, &mut streams);
-        assert!(rt; good == Ok(want.0));
-        assert_eq!(rt; streams.outputs.out.bytes(), want.1.as_bytes());
-        assert_eq!(rt; streams.outputs.err.bytes(), want.2.as_bytes());
-        let (opened, ended) = (
-            streams.inputs.source.opened(),
-            streams.inputs.source.ended(),
+        let input = if name == "-" { l } else { "abc" };
+        let mut streams = known(input.as_bytes(), source);
+        let found = check_one(rt.alloc(), settings, tool, name.as_bytes(), &mut streams);
+        assert_eq!(rt; found, Ok(good), "{tool} in pieces of {piece}: {l}");
+        assert_eq!(rt;
+            text(&streams.outputs.out),
+            out,
+            "{tool} in pieces of {piece}: {l}"
         );
+        assert_eq!(rt;
+            text(&streams.outputs.err),
+            err,
+            "{tool} in pieces of {piece}: {l}"
+        );
+        let source = &streams.inputs.source;
         assert!(rt;
-            if want.0 {
-                ended == opened
-            } else {
-                ended <= opened
-            }
+            source.ended() == source.opened() || !good && source.ended() < source.opened(),
+            "{tool} in pieces of {piece}: {l}"
         );
     }
     Ok(())
@@ -88,10 +91,10 @@ fn checks(
 // The same of a whole `l` by md5sum with the settings that write everything.
 fn md5sum_checks(
     rt: &(impl Abort + AllocGlobal),
-    l: &[u8],
+    l: &str,
     want: (bool, &str, &str),
 ) -> Result<(), Fail> {
-    checks(rt, ("md5sum", plain()), b"l", l, Ending::Whole, want)
+    checks(rt, ("md5sum", plain()), "l", l, Ending::Whole, want)
 }
 
 #[test]
@@ -105,16 +108,16 @@ fn all_verdicts(rt: HostRuntime) -> Result<(), Fail> {
     let mut settings = plain();
     settings.report = Report::Quiet;
     let want = (false, "x: FAILED open or read\ne: FAILED\n", warnings);
-    checks(&rt, ("md5sum", settings), b"l", ALL, Ending::Whole, want)?;
+    checks(&rt, ("md5sum", settings), "l", ALL, Ending::Whole, want)?;
     settings.report = Report::Status;
     let want = (false, "", "md5sum: x: No such file or directory\n");
-    checks(&rt, ("md5sum", settings), b"l", ALL, Ending::Whole, want)
+    checks(&rt, ("md5sum", settings), "l", ALL, Ending::Whole, want)
 }
 
 // The manifest and each name that a line lists, and no name of a line that is ignored or bad.
 #[test]
 fn names_asked(rt: HostRuntime) -> Result<(), Fail> {
-    let mut streams = known(b"", files(rt.alloc(), 8192, ALL, Ending::Whole)?);
+    let mut streams = known(b"", files(rt.alloc(), 8192, ALL.as_bytes(), Ending::Whole)?);
     assert!(rt; check_one(rt.alloc(), plain(), "md5sum", b"l", &mut streams) == Ok(false));
     for (i, name) in ["l", "a", "x", "e"].iter().enumerate() {
         assert_eq!(rt;
@@ -130,60 +133,76 @@ fn names_asked(rt: HostRuntime) -> Result<(), Fail> {
 fn ignore_missing(rt: HostRuntime) -> Result<(), Fail> {
     let mut settings = plain();
     settings.ignore_missing = true;
-    let l2 = b"900150983cd24fb0d6963f7d28e17f72  x\n";
+    let l2 = "900150983cd24fb0d6963f7d28e17f72  x\n";
     let want = (false, "", "md5sum: l: no file was verified\n");
-    checks(&rt, ("md5sum", settings), b"l", l2, Ending::Whole, want)?;
+    checks(&rt, ("md5sum", settings), "l", l2, Ending::Whole, want)?;
     settings.report = Report::Warn;
     settings.strict = true;
     let err = "md5sum: l: 3: improperly formatted MD5 checksum line\n\
         md5sum: WARNING: 1 line is improperly formatted\n\
         md5sum: WARNING: 1 computed checksum did NOT match\n";
     let want = (false, "a: OK\ne: FAILED\n", err);
-    checks(&rt, ("md5sum", settings), b"l", ALL, Ending::Whole, want)
+    checks(&rt, ("md5sum", settings), "l", ALL, Ending::Whole, want)
 }
 
 #[test]
 fn manifest_fails(rt: HostRuntime) -> Result<(), Fail> {
-    let l4 = b"900150983cd24fb0d6963f7d28e17f72  a\n900150983cd24fb0d6963f7d28e17f72  a";
+    let l4 = "900150983cd24fb0d6963f7d28e17f72  a\n900150983cd24fb0d6963f7d28e17f72  a";
     let ending = Ending::Broken(Fault::Other);
     let want = (false, "a: OK\n", "md5sum: l: Input/output error\n");
-    checks(&rt, ("md5sum", plain()), b"l", l4, ending, want)?;
+    checks(&rt, ("md5sum", plain()), "l", l4, ending, want)?;
     let want = (false, "", "md5sum: x: No such file or directory\n");
-    checks(&rt, ("md5sum", plain()), b"x", b"", Ending::Whole, want)
+    checks(&rt, ("md5sum", plain()), "x", "", Ending::Whole, want)
 }
 
 #[test]
 fn stdin_listed(rt: HostRuntime) -> Result<(), Fail> {
-    let l5 = b"900150983cd24fb0d6963f7d28e17f72  -\n";
+    let l5 = "900150983cd24fb0d6963f7d28e17f72  -\n";
     md5sum_checks(&rt, l5, (true, "-: OK\n", ""))?;
     let err = "md5sum: standard input: no properly formatted checksum lines found\n";
     let want = (false, "", err);
-    checks(&rt, ("md5sum", plain()), b"-", l5, Ending::Whole, want)
+    checks(&rt, ("md5sum", plain()), "-", l5, Ending::Whole, want)
 }
 
 #[test]
 fn no_last_newline(rt: HostRuntime) -> Result<(), Fail> {
-    let l8 = b"900150983cd24fb0d6963f7d28e17f72  a";
+    let l8 = "900150983cd24fb0d6963f7d28e17f72  a";
     md5sum_checks(&rt, l8, (true, "a: OK\n", ""))
 }
 
 // Checking `l` twice on the same streams returns so each time, and writes these texts in all.
 fn checks_twice(
     rt: &(impl Abort + AllocGlobal),
-    l: &[u8],
+    l: &str,
     good: [bool; 2],
     (out, err): (&str, &str),
 ) -> Result<(), Fail> {
     for piece in [1, 100, 8192] {
-        let mut streams = known(b"abc", files(rt.alloc(), piece, l, Ending::Whole)?);
+        let mut streams = known(
+            b"abc",
+            files(rt.alloc(), piece, l.as_bytes(), Ending::Whole)?,
+        );
         for want in good {
             let found = check_one(rt.alloc(), plain(), "md5sum", b"l", &mut streams);
-            assert!(rt; found == Ok(want));
+            assert_eq!(rt; found, Ok(want), "in pieces of {piece}: {l}");
         }
-        assert_eq!(rt; streams.outputs.out.bytes(), out.as_bytes());
-        assert_eq!(rt; streams.outputs.err.bytes(), err.as_bytes());
+        assert_eq!(rt;
+            text(&streams.outputs.out),
+            out,
+            "in pieces of {piece}: {l}"
+        );
+        assert_eq!(rt;
+            text(&streams.outputs.err),
+            err,
+            "in pieces of {piece}: {l}"
+        );
         // Each file that was opened was read to its end.
-        assert!(rt; streams.inputs.source.ended() == streams.inputs.source.opened());
+        let source = &streams.inputs.source;
+        assert_eq!(rt;
+            source.ended(),
+            source.opened(),
+            "in pieces of {piece}: {l}"
+        );
     }
     Ok(())
 }
@@ -191,10 +210,10 @@ fn checks_twice(
 // Standard input is empty the second time; and the counts of a manifest are its own.
 #[test]
 fn one_after_another(rt: HostRuntime) -> Result<(), Fail> {
-    let l5 = b"900150983cd24fb0d6963f7d28e17f72  -\n";
+    let l5 = "900150983cd24fb0d6963f7d28e17f72  -\n";
     let err = "md5sum: WARNING: 1 computed checksum did NOT match\n";
     checks_twice(&rt, l5, [true, false], ("-: OK\n-: FAILED\n", err))?;
-    let l9 = b"junk\n900150983cd24fb0d6963f7d28e17f72  a\n";
+    let l9 = "junk\n900150983cd24fb0d6963f7d28e17f72  a\n";
     let err = "md5sum: WARNING: 1 line is improperly formatted\n\
         md5sum: WARNING: 1 line is improperly formatted\n";
     checks_twice(&rt, l9, [true, true], ("a: OK\na: OK\n", err))
@@ -207,14 +226,14 @@ fn nothing_to_check(rt: HostRuntime) -> Result<(), Fail> {
         settings.report = report;
         let err = "md5sum: e: no properly formatted checksum lines found\n";
         let want = (false, "", err);
-        checks(&rt, ("md5sum", settings), b"e", b"", Ending::Whole, want)?;
+        checks(&rt, ("md5sum", settings), "e", "", Ending::Whole, want)?;
     }
     Ok(())
 }
 
 #[test]
 fn plurals(rt: HostRuntime) -> Result<(), Fail> {
-    let l10 = b"900150983cd24fb0d6963f7d28e17f72  x\n\
+    let l10 = "900150983cd24fb0d6963f7d28e17f72  x\n\
         900150983cd24fb0d6963f7d28e17f72  x\n\
         d41d8cd98f00b204e9800998ecf8427e  a\n\
         d41d8cd98f00b204e9800998ecf8427e  a\n\
@@ -231,16 +250,16 @@ fn plurals(rt: HostRuntime) -> Result<(), Fail> {
 
 #[test]
 fn forms(rt: HostRuntime) -> Result<(), Fail> {
-    let upper = b"900150983CD24FB0D6963F7D28E17F72  a\n";
+    let upper = "900150983CD24FB0D6963F7D28E17F72  a\n";
     md5sum_checks(&rt, upper, (true, "a: OK\n", ""))?;
-    let spaced = b"MD5(a)= 900150983cd24fb0d6963f7d28e17f72\n";
+    let spaced = "MD5(a)= 900150983cd24fb0d6963f7d28e17f72\n";
     md5sum_checks(&rt, spaced, (true, "a: OK\n", ""))?;
-    let reversed = b"900150983cd24fb0d6963f7d28e17f72 a\n900150983cd24fb0d6963f7d28e17f72  a\n";
+    let reversed = "900150983cd24fb0d6963f7d28e17f72 a\n900150983cd24fb0d6963f7d28e17f72  a\n";
     let out = "a: OK\n a: FAILED open or read\n";
     let err = "md5sum:  a: No such file or directory\n\
         md5sum: WARNING: 1 listed file could not be read\n";
     md5sum_checks(&rt, reversed, (false, out, err))?;
-    let standard = b"900150983cd24fb0d6963f7d28e17f72  a\n900150983cd24fb0d6963f7d28e17f72 a\n";
+    let standard = "900150983cd24fb0d6963f7d28e17f72  a\n900150983cd24fb0d6963f7d28e17f72 a\n";
     let mut settings = plain();
     for strict in [false, true] {
         settings.strict = strict;
@@ -249,7 +268,7 @@ fn forms(rt: HostRuntime) -> Result<(), Fail> {
         checks(
             &rt,
             ("md5sum", settings),
-            b"l",
+            "l",
             standard,
             Ending::Whole,
             want,
@@ -260,7 +279,7 @@ fn forms(rt: HostRuntime) -> Result<(), Fail> {
 
 #[test]
 fn escaped_names(rt: HostRuntime) -> Result<(), Fail> {
-    let l6 = b"\\900150983cd24fb0d6963f7d28e17f72  q\\\\\\nz\n\
+    let l6 = "\\900150983cd24fb0d6963f7d28e17f72  q\\\\\\nz\n\
         \\900150983cd24fb0d6963f7d28e17f72  q\\x\n\
         \\900150983cd24fb0d6963f7d28e17f72  q\\\n\
         \\900150983cd24fb0d6963f7d28e17f72  a\\r\n\
@@ -275,14 +294,14 @@ fn escaped_names(rt: HostRuntime) -> Result<(), Fail> {
 
 #[test]
 fn returns_and_empty_lines(rt: HostRuntime) -> Result<(), Fail> {
-    let l11 = b"900150983cd24fb0d6963f7d28e17f72  a\r\n\n\r\njunk\r\n";
+    let l11 = "900150983cd24fb0d6963f7d28e17f72  a\r\n\n\r\njunk\r\n";
     let mut settings = plain();
     settings.report = Report::Warn;
     let err = "md5sum: l: 4: improperly formatted MD5 checksum line\n\
         md5sum: WARNING: 1 line is improperly formatted\n";
     let want = (true, "a: OK\n", err);
-    checks(&rt, ("md5sum", settings), b"l", l11, Ending::Whole, want)?;
-    let l12 = b"900150983cd24fb0d6963f7d28e17f72  a\r\r\n";
+    checks(&rt, ("md5sum", settings), "l", l11, Ending::Whole, want)?;
+    let l12 = "900150983cd24fb0d6963f7d28e17f72  a\r\r\n";
     let err = "md5sum: a\\r: No such file or directory\n\
         md5sum: WARNING: 1 listed file could not be read\n";
     md5sum_checks(&rt, l12, (false, "\\a\\r: FAILED open or read\n", err))
@@ -290,7 +309,7 @@ fn returns_and_empty_lines(rt: HostRuntime) -> Result<(), Fail> {
 
 #[test]
 fn blake2b(rt: HostRuntime) -> Result<(), Fail> {
-    let l7 = b"0e5751c026e543b2e8ab2eb06099daa1d1e5df47778f7787faab45cdf12fe3a8  e\n\
+    let l7 = "0e5751c026e543b2e8ab2eb06099daa1d1e5df47778f7787faab45cdf12fe3a8  e\n\
         BLAKE2b-256 (e) = 0e5751c026e543b2e8ab2eb06099daa1d1e5df47778f7787faab45cdf12fe3a8\n\
         0e5 e\n\
         BLAKE2b-256 (e) = 0e5751c026e543b2e8ab2eb06099daa1d1e5df47778f7787faab45cdf12fe3\n";
@@ -298,12 +317,12 @@ fn blake2b(rt: HostRuntime) -> Result<(), Fail> {
     settings.algo = Algos::One(Algo::Blake2b);
     let err = "b2sum: WARNING: 2 lines are improperly formatted\n";
     let want = (true, "e: OK\ne: OK\n", err);
-    checks(&rt, ("b2sum", settings), b"l", l7, Ending::Whole, want)
+    checks(&rt, ("b2sum", settings), "l", l7, Ending::Whole, want)
 }
 
 #[test]
 fn mixed_tags(rt: HostRuntime) -> Result<(), Fail> {
-    let m = b"MD5 (a) = 900150983cd24fb0d6963f7d28e17f72\n\
+    let m = "MD5 (a) = 900150983cd24fb0d6963f7d28e17f72\n\
         SHA256 (a) = ba7816bf8f01cfea414140de5dae2223b00361a396177a9cb410ff61f20015ad\n\
         BLAKE2b-256 (e) = 0e5751c026e543b2e8ab2eb06099daa1d1e5df47778f7787faab45cdf12fe3a8\n\
         900150983cd24fb0d6963f7d28e17f72  a\n\
@@ -315,7 +334,7 @@ fn mixed_tags(rt: HostRuntime) -> Result<(), Fail> {
         settings.strict = strict;
         let err = "anysum: WARNING: 2 lines are improperly formatted\n";
         let want = (!strict, out, err);
-        checks(&rt, ("anysum", settings), b"l", m, Ending::Whole, want)?;
+        checks(&rt, ("anysum", settings), "l", m, Ending::Whole, want)?;
     }
     settings.strict = false;
     settings.report = Report::Warn;
@@ -323,10 +342,10 @@ fn mixed_tags(rt: HostRuntime) -> Result<(), Fail> {
         anysum: l: 5: improperly formatted tagged checksum line\n\
         anysum: WARNING: 2 lines are improperly formatted\n";
     let want = (true, out, err);
-    checks(&rt, ("anysum", settings), b"l", m, Ending::Whole, want)?;
+    checks(&rt, ("anysum", settings), "l", m, Ending::Whole, want)?;
     settings.report = Report::All;
-    let plain = b"900150983cd24fb0d6963f7d28e17f72  a\n";
+    let plain = "900150983cd24fb0d6963f7d28e17f72  a\n";
     let err = "anysum: standard input: no properly formatted checksum lines found\n";
     let want = (false, "", err);
-    checks(&rt, ("anysum", settings), b"-", plain, Ending::Whole, want)
+    checks(&rt, ("anysum", settings), "-", plain, Ending::Whole, want)
 }

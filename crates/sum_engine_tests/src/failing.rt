@@ -71,14 +71,30 @@ fn generating(rt: HostRuntime) -> Result<(), Fail> {
             let mut streams = stage(rt.alloc(), b"abc", 1, &count)?;
             let good = generate_one(&settings, "md5sum", name.as_bytes(), &mut streams);
             let (out, err) = if before < 4 { ("", fault) } else { (line, "") };
-            assert!(rt; good == Ok(before == 4), "{name} at {before}");
-            assert_eq!(rt; streams.outputs.out.bytes(), out.as_bytes());
-            assert_eq!(rt; streams.outputs.err.bytes(), err.as_bytes());
+            assert_eq!(rt; good, Ok(before == 4), "{name} at {before}");
+            assert_eq!(rt;
+                streams.outputs.out.bytes(),
+                out.as_bytes(),
+                "{name} at {before}"
+            );
+            assert_eq!(rt;
+                streams.outputs.err.bytes(),
+                err.as_bytes(),
+                "{name} at {before}"
+            );
             // The read that failed was the last.
-            assert!(rt; count.get() == if before < 4 { usize::MAX } else { 0 });
+            assert_eq!(rt;
+                count.get(),
+                if before < 4 { usize::MAX } else { 0 },
+                "{name} at {before}"
+            );
             let opened = u64::from(name == "a");
             let ended = if before < 4 { 0 } else { opened };
-            assert!(rt; streams.inputs.source.counts() == (opened, ended));
+            assert_eq!(rt;
+                streams.inputs.source.counts(),
+                (opened, ended),
+                "{name} at {before}"
+            );
         }
     }
     Ok(())
@@ -173,12 +189,21 @@ fn checking(rt: HostRuntime) -> Result<(), Fail> {
             let count = Cell::new(before);
             let mut streams = stage(rt.alloc(), MANIFEST, 36, &count)?;
             let good = check_one(rt.alloc(), plain(), "md5sum", name.as_bytes(), &mut streams);
-            assert!(rt; good == Ok(before == 6), "{name} at {before}");
-            assert_eq!(rt; streams.outputs.out.bytes(), row.out.as_bytes());
+            assert_eq!(rt; good, Ok(before == 6), "{name} at {before}");
+            assert_eq!(rt;
+                streams.outputs.out.bytes(),
+                row.out.as_bytes(),
+                "{name} at {before}"
+            );
             let err = row.err.replace(rt.alloc(), "md5sum: l:", shown)?;
-            assert_eq!(rt; streams.outputs.err.bytes(), err.as_bytes());
-            assert!(rt;
-                streams.inputs.source.counts() == counts,
+            assert_eq!(rt;
+                streams.outputs.err.bytes(),
+                err.as_bytes(),
+                "{name} at {before}"
+            );
+            assert_eq!(rt;
+                streams.inputs.source.counts(),
+                counts,
                 "{name} at {before}"
             );
         }
@@ -195,22 +220,29 @@ fn step_by_step(rt: HostRuntime) -> Result<(), Fail> {
         let mut checker = Checker::new(plain(), "md5sum", b"l", false, input);
         let mut line = Vec::new(rt.alloc());
         for _ in row.verdicts {
-            assert!(rt;
-                checker.step(&mut line, &mut streams) == Ok(Progress::Going),
-                "at {before}"
-            );
+            let step = checker.step(&mut line, &mut streams);
+            assert_eq!(rt; step, Ok(Progress::Going), "at {before}");
         }
         for _ in 0..2 {
             let last = checker.step(&mut line, &mut streams);
-            assert!(rt; last == Ok(Progress::Ended(before == 6)), "at {before}");
-            assert_eq!(rt; streams.outputs.out.bytes(), row.out.as_bytes());
-            assert_eq!(rt; streams.outputs.err.bytes(), row.err.as_bytes());
+            assert_eq!(rt; last, Ok(Progress::Ended(before == 6)), "at {before}");
+            assert_eq!(rt;
+                streams.outputs.out.bytes(),
+                row.out.as_bytes(),
+                "at {before}"
+            );
+            assert_eq!(rt;
+                streams.outputs.err.bytes(),
+                row.err.as_bytes(),
+                "at {before}"
+            );
         }
         let input = checker.into_inner();
-        assert!(rt; input.phase() == row.phase(), "at {before}");
+        assert_eq!(rt; input.phase(), row.phase(), "at {before}");
         streams.inputs.source.close_file(input);
-        assert!(rt;
-            streams.inputs.source.counts() == row.counts_with_list(),
+        assert_eq!(rt;
+            streams.inputs.source.counts(),
+            row.counts_with_list(),
             "at {before}"
         );
     }
@@ -228,7 +260,7 @@ fn finding(rt: HostRuntime) -> Result<(), Fail> {
         let mut line = Vec::new(rt.alloc());
         for verdict in row.verdicts {
             let found = finds.next(&mut line, &mut inputs)?;
-            assert!(rt; found.ok_or("no line")?.verdict == *verdict, "at {before}");
+            assert_eq!(rt; found.ok_or("no line")?.verdict, *verdict, "at {before}");
         }
         let end = if row.broken {
             Err(LineStop::Fault(Fault::Denied))
@@ -237,16 +269,14 @@ fn finding(rt: HostRuntime) -> Result<(), Fail> {
         };
         for _ in 0..2 {
             let last = finds.next(&mut line, &mut inputs);
-            assert!(rt;
-                last == end && finds.is_good() == (before == 6),
-                "at {before}"
-            );
+            assert_eq!(rt; (last, finds.is_good()), (end, before == 6), "at {before}");
         }
         let input = finds.into_inner();
-        assert!(rt; input.phase() == row.phase(), "at {before}");
+        assert_eq!(rt; input.phase(), row.phase(), "at {before}");
         inputs.source.close_file(input);
-        assert!(rt;
-            inputs.source.counts() == row.counts_with_list(),
+        assert_eq!(rt;
+            inputs.source.counts(),
+            row.counts_with_list(),
             "at {before}"
         );
     }

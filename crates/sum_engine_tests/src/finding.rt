@@ -22,13 +22,13 @@ fn finds(
     for (i, (verdict, name)) in lines.iter().enumerate() {
         let found = verdicts.next(&mut line, &mut inputs)?;
         let found = found.ok_or("no line")?;
-        assert!(rt; found.number == i as u64 + 1 && found.verdict == *verdict);
-        assert_eq!(rt; &line[found.start..found.stop], *name);
-        assert!(rt; !verdicts.is_good());
+        assert_eq!(rt; (found.number, found.verdict), (i as u64 + 1, *verdict));
+        assert_eq!(rt; found.name(&line), *name, "line {i}");
+        assert!(rt; !verdicts.is_good(), "line {i}");
     }
     for _ in 0..2 {
-        assert!(rt; verdicts.next(&mut line, &mut inputs) == end);
-        assert!(rt; verdicts.is_good() == good);
+        assert_eq!(rt; verdicts.next(&mut line, &mut inputs), end);
+        assert_eq!(rt; verdicts.is_good(), good);
     }
     Ok(())
 }
@@ -43,7 +43,11 @@ fn all_verdicts(rt: HostRuntime) -> Result<(), Fail> {
         (Verdict::Wrong, b"e"),
     ];
     for piece in [1, 100, 8192] {
-        let verdicts = Verdicts::new(plain(), false, Told::new(ALL, Ending::Whole, piece));
+        let verdicts = Verdicts::new(
+            plain(),
+            false,
+            Told::new(ALL.as_bytes(), Ending::Whole, piece),
+        );
         finds(&rt, verdicts, &lines, (Ok(None), false))?;
     }
     Ok(())
@@ -92,7 +96,11 @@ fn no_memory_to_open(rt: HostRuntime) {
         stdin: Stdin::new(Told::new(b"", Ending::Whole, 1)),
         source: Refusing::new(),
     };
-    let mut verdicts = Verdicts::new(plain(), false, Told::new(ALL, Ending::Whole, 8192));
+    let mut verdicts = Verdicts::new(
+        plain(),
+        false,
+        Told::new(ALL.as_bytes(), Ending::Whole, 8192),
+    );
     let mut line = Vec::new(rt.alloc());
     for _ in 0..3 {
         let found = verdicts.next(&mut line, &mut inputs);

@@ -134,7 +134,7 @@ fn missing_file(rt: HostRuntime) -> Result<(), Fail> {
     };
     for (i, name) in ["a", "x", "e"].iter().enumerate() {
         let good = generate_one(&settings, "md5sum", name.as_bytes(), &mut streams);
-        assert!(rt; good == Ok(i != 1));
+        assert_eq!(rt; good, Ok(i != 1), "{name}");
         assert_eq!(rt;
             streams.inputs.source.asked_name(i).ok_or("not asked")?,
             name.as_bytes()

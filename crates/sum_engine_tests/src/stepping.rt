@@ -8,9 +8,9 @@ use sum_sources::{Ending, Told};
 
 #[test]
 fn step_by_step(rt: HostRuntime) -> Result<(), Fail> {
-    let source = files(rt.alloc(), 8192, ALL, Ending::Whole)?;
+    let source = files(rt.alloc(), 8192, ALL.as_bytes(), Ending::Whole)?;
     let mut streams = known(b"", source);
-    let manifest = Told::new(ALL, Ending::Whole, 8192);
+    let manifest = Told::new(ALL.as_bytes(), Ending::Whole, 8192);
     let mut checker = Checker::new(plain(), "md5sum", b"l", false, manifest);
     let mut line = Vec::new(rt.alloc());
     let after = [
@@ -67,7 +67,7 @@ fn stops_for_good(rt: HostRuntime) {
         "md5sum",
         b"l",
         false,
-        Told::new(ALL, Ending::Whole, 7),
+        Told::new(ALL.as_bytes(), Ending::Whole, 7),
     );
     let mut line = Vec::new(rt.alloc());
     for _ in 0..3 {

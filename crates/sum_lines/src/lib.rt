@@ -22,4 +22,4 @@ pub use sinks::from_write::FromWrite;
 pub use sinks::sink::{Sink, SinkFault, put_all};
 pub use sinks::told_sink::ToldSink;
 pub use writing::parts::{Part, put_number, put_parts};
-pub use writing::put_line::{Mode, Style, put_line};
+pub use writing::put_line::{Mode, Style, mark_and_name, put_line};

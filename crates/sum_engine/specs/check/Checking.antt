@@ -1,5 +1,5 @@
 -- The behavior of checking one manifest.
-use Rattle.std.specs.Prelude.{ℕ, true, false, List, [], ◌∷◌, length, codes, if◌then◌else◌, Ok, Err}
+use Rattle.std.specs.Prelude.{ℕ, true, false, List, [], ◌∷◌, length, codes, Bool, if◌then◌else◌, Ok, Err}
 use Rattle.sum_sources.specs.Contents.{Content, clip, Reply}
 use Rattle.sum_sources.specs.ManifestLines.{past_line}
 use Rattle.sum_engine.specs.check.Verdicts.{Rules, LineVerdictValue, asks_of, all_verdicts}
@@ -9,9 +9,9 @@ use Rattle.sum_engine.specs.Generation.{fault_line}
 pub use Rattle.sum_engine.specs.declared.settings.CheckSettings.{CheckSettings}
 use Rattle.sum_engine.specs.check.Reports.{LabelsValue, out_of, err_of, counts_of, end_text, good}
 
--- the rules of these settings
-abbrev pub rules_of : CheckSettings → List ℕ → Rules
-rules_of s name = let dash = is_dash name in
+-- the rules of these settings, by whether the manifest came from standard input
+abbrev pub rules_of : CheckSettings → Bool → Rules
+rules_of s dash =
     record { profile = present; algo = s.algo; ignore_missing = s.ignore_missing; strict = s.strict; from_stdin = dash }
 
 -- what the tool's reports of a manifest of that name show
@@ -40,5 +40,5 @@ check_behavior_by r labels name w (Ok c) = behavior_then (single_step (name ∷ 
 
 -- the behavior of checking the manifest of that name in a world
 abbrev pub check_behavior : CheckSettings → List ℕ → World → List ℕ → Behavior
-check_behavior settings tool w name = check_behavior_by (rules_of settings name) (labels_of settings tool name) name
-    (after w (name ∷ [])) (reply w name)
+check_behavior settings tool w name = check_behavior_by (rules_of settings (is_dash name))
+    (labels_of settings tool name) name (after w (name ∷ [])) (reply w name)

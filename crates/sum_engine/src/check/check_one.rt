@@ -5,14 +5,12 @@ ghost use Rattle.sum_engine.specs.Execution.{Performs, KeepsStdin, ReadToEnd, Re
 ghost use Rattle.sum_engine.specs.check.CheckerSteps.{IsAtStart};
 ghost use Rattle.std.specs.Prelude.{◌≡◌, true, None, Ok};
 ghost use Rattle.sum_engine.specs.check.CheckerLaws.{ManifestPerforms};
-ghost use Rattle.sum_engine.specs.refinement.Cursors.{rules_in, labels_in};
 
 use crate::check::checker::Checker;
 use crate::check::progress::Progress;
-use crate::check::report::put_fault_line;
-use crate::check::rules::{CheckRules, Labels};
 use crate::hash_name::is_dash;
 use crate::inputs::Inputs;
+use crate::put_flushed::put_fault_line;
 use crate::settings::CheckSettings;
 use crate::stop::Stop;
 use crate::streams::{Outputs, Streams};
@@ -46,13 +44,8 @@ pub fn check_one<A: Allocator + Copy, J: Input + Drop, S: Source, O: Sink, E: Si
 {
     if is_dash(name) {
         let input = streams.inputs.take_stdin();
-        let rules = CheckRules::new(settings, true);
-        let labels = Labels {
-            tool,
-            manifest: b"standard input",
-            report: settings.report,
-        };
-        let (result, input) = check_input(alloc, rules, labels, input, streams);
+        let checker = Checker::new(settings, tool, b"standard input", true, input);
+        let (result, input) = run_to_end(alloc, checker, streams);
         streams.inputs.put_back_stdin(input);
         return result;
     }
@@ -63,35 +56,30 @@ pub fn check_one<A: Allocator + Copy, J: Input + Drop, S: Source, O: Sink, E: Si
             Ok(false)
         }
         Ok(file) => {
-            let rules = CheckRules::new(settings, false);
-            let labels = Labels {
-                tool,
-                manifest: name,
-                report: settings.report,
-            };
-            let (result, file) = check_input(alloc, rules, labels, file, streams);
+            let checker = Checker::new(settings, tool, name, false, file);
+            let (result, file) = run_to_end(alloc, checker, streams);
             streams.inputs.close_file(file);
             result
         }
     }
 }
 
-// Checks a manifest that was opened, and gives its input back.
-fn check_input<'a, A: Allocator, I: Input, J: Input + Drop, S: Source, O: Sink, E: Sink>(
+// Steps through the manifest of a new checker, and gives its input back.
+fn run_to_end<'a, A: Allocator, I: Input, J: Input + Drop, S: Source, O: Sink, E: Sink>(
     alloc: A,
-    rules: CheckRules,
-    labels: Labels<'a>,
-    input: I,
+    mut checker: Checker<'a, I>,
     streams: &mut Streams<Inputs<J, S>, Outputs<O, E>>,
 ) -> (Result<bool, Stop>, I)
-    ensures behavior { ManifestPerforms S.state (rules_in rules) (labels_in labels.entry)
-        (I.state input).content streams.old streams.new result.0 }
+    requires start { IsAtStart I.state checker.cursor checker.cursor.reader.input }
+    requires final_answer { checker.final_answer ≡ None }
+    ensures behavior { ManifestPerforms S.state checker.entry.cursor.rules checker.entry.labels
+        (I.state checker.entry.cursor.reader.input).content streams.old streams.new result.0 }
     ensures cause { StopHasCause S.state OneMoreAtMost streams.old streams.new result.0 }
     ensures read_to_end { result.0 ≡ Ok true → ReadToEnd S.state streams.old.inputs streams.new.inputs }
-    ensures stdin { rules.from_stdin ≡ true → KeepsStdin streams.old.inputs streams.new.inputs }
-    ensures phase { result.0 ≡ Ok true → (I.state input).phase ≡ Reading → (I.state result.1).phase ≡ Ended }
+    ensures stdin { checker.entry.cursor.rules.from_stdin ≡ true → KeepsStdin streams.old.inputs streams.new.inputs }
+    ensures phase { result.0 ≡ Ok true → (I.state checker.entry.cursor.reader.input).phase ≡ Reading
+        → (I.state result.1).phase ≡ Ended }
 {
-    let mut checker = Checker::over(rules, labels, input);
     let mut line = Vec::new(alloc);
     let result = check_lines(&mut checker, &mut line, streams);
     (result, checker.into_inner())

@@ -1,6 +1,6 @@
 //! Checking a manifest, a line at a time.
 ghost use Rattle.std.specs.Prelude.{◌≡◌, ◌≤◌, None, IfSome};
-ghost use Rattle.sum_lines.specs.Escape.{present};
+ghost use Rattle.sum_engine.specs.check.Checking.{rules_of};
 
 use crate::check::cursor::CheckCursor;
 use crate::check::progress::Progress;
@@ -41,7 +41,6 @@ impl<'a, I> Model for Checker<'a, I> {
 impl<'a, I: Input> Checker<'a, I> {
     ghost use Rattle.sum_engine.specs.Execution.{IsFlushed};
     ghost use Rattle.sum_engine.specs.check.CheckerSteps.{IsAtStart, TakesStep, AdvancesChecker};
-    ghost use Rattle.sum_engine.specs.refinement.Cursors.{rules_in, labels_in};
 
     /// A checker of the manifest that `input` gives. Its diagnostics begin with `tool`, as with `md5sum`, and show the
     /// name `manifest`; `from_stdin` says whether it came from standard input, where a line that names `-` is
@@ -53,36 +52,20 @@ impl<'a, I: Input> Checker<'a, I> {
         from_stdin: bool,
         input: I,
     ) -> Self
-        ensures rules { result.cursor.rules ≡ record {
-          profile = present;
-          algo = settings.algo;
-          ignore_missing = settings.ignore_missing;
-          strict = settings.strict;
-          from_stdin = from_stdin;
-        } }
+        ensures rules { result.cursor.rules ≡ rules_of settings from_stdin }
         ensures labels { result.labels
             ≡ record { tool = tool.entry.now; manifest = manifest.entry.now; report = settings.report } }
         ensures start { IsAtStart I.state result.cursor input }
         ensures final_answer { result.final_answer ≡ None }
     {
-        let labels = Labels {
-            tool,
-            manifest,
-            report: settings.report,
-        };
-        Checker::over(CheckRules::new(settings, from_stdin), labels, input)
-    }
-
-    /// A checker of the manifest that `input` gives, by these rules and labels.
-    pub(crate) fn over(rules: CheckRules, labels: Labels<'a>, input: I) -> Self
-        ensures rules { result.cursor.rules ≡ rules_in rules }
-        ensures labels { result.labels ≡ labels_in labels.entry }
-        ensures start { IsAtStart I.state result.cursor input }
-        ensures final_answer { result.final_answer ≡ None }
-    {
+        let rules = CheckRules::new(settings, from_stdin);
         Checker {
             cursor: CheckCursor::new(rules, input),
-            labels,
+            labels: Labels {
+                tool,
+                manifest,
+                report: settings.report,
+            },
             final_answer: None,
         }
     }

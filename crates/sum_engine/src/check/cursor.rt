@@ -7,10 +7,11 @@ ghost use Rattle.sum_engine.specs.refinement.Counters.{counts_value, total};
 
 use crate::check::judge::{LineVerdict, ListedEntry, Verdict, judge};
 use crate::check::progress::Progress;
-use crate::check::report::{JudgedLine, put_fault_line, put_report};
+use crate::check::report::put_report;
 use crate::check::rules::{CheckRules, Labels};
 use crate::check::summary::{Counts, is_good, put_summary};
 use crate::inputs::Inputs;
+use crate::put_flushed::put_fault_line;
 use crate::stop::Stop;
 use crate::streams::{Outputs, Streams};
 use digest_kinds::LIMIT;
@@ -112,12 +113,13 @@ impl<I: Input> CheckCursor<I> {
                 if let Verdict::Ignored = found.verdict {
                     return Ok(Progress::Going);
                 }
-                let judged = JudgedLine {
-                    number: found.number,
-                    verdict: found.verdict,
-                    name: &line[found.start..found.stop],
-                };
-                put_report(&mut streams.outputs, self.rules, labels, &judged)?;
+                put_report(
+                    &mut streams.outputs,
+                    self.rules,
+                    labels,
+                    line.as_slice(),
+                    found,
+                )?;
                 Ok(Progress::Going)
             }
         }

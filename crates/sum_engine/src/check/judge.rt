@@ -1,10 +1,11 @@
 //! The verdict of a line.
-ghost use Rattle.std.specs.Prelude.{◌≡◌, ◌||◌, true, MatchOption};
+ghost use Rattle.std.specs.Prelude.{◌≡◌, ◌||◌, true, MatchOption, slice_range};
 ghost use Rattle.std.specs.List.{list_any};
 ghost use Rattle.sum_engine.specs.Behavior.{is_dash};
 ghost use Rattle.sum_engine.specs.check.Verdicts.{asks_by};
 ghost use Rattle.sum_lines.specs.grammar.ParsedLines.{entry};
 ghost use Rattle.sum_engine.specs.refinement.HashName.{RefusedUnless};
+ghost use Rattle.sum_engine.specs.check.NextVerdict.{HasNameRange};
 
 use crate::check::rules::CheckRules;
 use crate::hash_name::{HashOutcome, hash_name, is_dash};
@@ -37,6 +38,16 @@ pub struct LineVerdict {
     pub verdict: Verdict,
     pub start: usize,
     pub stop: usize,
+}
+
+impl LineVerdict {
+    /// The name of its entry, in the line's vector as `next` has left it; empty if the line has no entry.
+    pub fn name<'a>(self, line: &'a [u8]) -> &'a [u8]
+        requires { HasNameRange line.now self }
+        ensures { result.now ≡ slice_range line.now self.start self.stop }
+    {
+        &line[self.start..self.stop]
+    }
 }
 
 ghost use Rattle.sum_engine.specs.refinement.Cursors.{rules_in};

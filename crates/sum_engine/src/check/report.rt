@@ -3,82 +3,36 @@ ghost use Rattle.std.specs.Prelude.{◌≡◌, [], ◌∷◌};
 ghost use Rattle.std.specs.List.{concat};
 ghost use Rattle.sum_lines.specs.Escape.{present, escape, escape_differs};
 ghost use Rattle.sum_lines.specs.grammar.Shapes.{mark};
-ghost use Rattle.sum_engine.specs.Generation.{tool_line, fault_line};
+ghost use Rattle.sum_engine.specs.check.NextVerdict.{HasNameRange, line_verdict_value};
 ghost use Rattle.sum_engine.specs.check.Reports.{verdict_line, bad_line, err_by, out_by};
 ghost use Rattle.sum_engine.specs.refinement.Cursors.{rules_in, labels_in};
 ghost use Rattle.sum_engine.specs.refinement.FlushedWrites.{WritesAndFlushes, WritesAndFlushesBoth};
 
-use crate::check::judge::Verdict;
+use crate::check::judge::{LineVerdict, Verdict};
 use crate::check::rules::{CheckRules, Labels};
-use crate::put_flushed::put_parts_flushed;
+use crate::put_flushed::{put_fault, put_parts_flushed};
 use crate::settings::Report;
 use crate::streams::Outputs;
 use digest_kinds::Algos;
-use sum_lines::{Part, Sink, SinkFault, needs_escape};
-use sum_sources::Fault;
+use sum_lines::{Part, Sink, SinkFault, mark_and_name};
 
-/// Writes `TOOL: NAME: TEXT`.
-pub(crate) fn put_tool_line<'a, E: Sink>(
-    err: &mut E,
-    tool: &'a str,
-    name: &'a [u8],
-    text: &'a [u8],
-) -> Result<(), SinkFault>
-    ensures { WritesAndFlushes (E.state err.old) (E.state err.new)
-        (tool_line present tool.now name.now text.now) result }
-{
-    put_parts_flushed(
-        err,
-        &[
-            Part::Bytes(tool.as_bytes()),
-            Part::Bytes(b": "),
-            Part::Escaped(name),
-            Part::Bytes(b": "),
-            Part::Bytes(text),
-            Part::Bytes(b"\n"),
-        ],
-    )
-}
-
-/// The same for a name that could not be opened or read, to standard error.
-pub(crate) fn put_fault_line<O: Sink, E: Sink>(
-    outputs: &mut Outputs<O, E>,
-    tool: &str,
-    name: &[u8],
-    fault: Fault,
-) -> Result<(), SinkFault>
-    ensures { WritesAndFlushesBoth outputs.old outputs.new (fault_line present tool.now name.now fault) [] result }
-{
-    put_fault(&mut outputs.err, tool, name, fault)
-}
-
-fn put_fault<E: Sink>(err: &mut E, tool: &str, name: &[u8], fault: Fault) -> Result<(), SinkFault>
-    ensures { WritesAndFlushes (E.state err.old) (E.state err.new) (fault_line present tool.now name.now fault) result }
-{
-    put_tool_line(err, tool, name, fault.text().as_bytes())
-}
-
-/// A line's number, its verdict, and the name of its entry.
-#[derive(Clone, Copy)]
-pub(crate) struct JudgedLine<'a> {
-    pub number: u64,
-    pub verdict: Verdict,
-    pub name: &'a [u8],
-}
-
-/// Writes what is reported of a line: first to `err`, and then to `out`.
+/// Writes what is reported of a line, whose vector this is: first to `err`, and then to `out`.
 pub(crate) fn put_report<O: Sink, E: Sink>(
     outputs: &mut Outputs<O, E>,
     rules: CheckRules,
     labels: &Labels,
-    line: &JudgedLine,
+    line: &[u8],
+    found: LineVerdict,
 ) -> Result<(), SinkFault>
+    requires { HasNameRange line.now found }
     ensures { WritesAndFlushesBoth outputs.old outputs.new
-        (err_by (rules_in rules) (labels_in labels.now) line.now.number line.now.verdict line.now.name.now)
-        (out_by present labels.now.report line.now.verdict line.now.name.now) result }
+        (err_by (rules_in rules) (labels_in labels.now) found.number found.verdict
+        (line_verdict_value line.now found).name)
+        (out_by present labels.now.report found.verdict (line_verdict_value line.now found).name) result }
 {
-    put_err(&mut outputs.err, rules, labels, line)?;
-    put_out(&mut outputs.out, labels.report, line.verdict, line.name)
+    let name = found.name(line);
+    put_err(&mut outputs.err, rules, labels, found, name)?;
+    put_out(&mut outputs.out, labels.report, found.verdict, name)
 }
 
 fn put_out<O: Sink>(
@@ -106,36 +60,32 @@ fn put_verdict<O: Sink>(out: &mut O, verdict: Verdict, name: &[u8]) -> Result<()
     }
 }
 
-// Writes the name and what follows it. Most names hold nothing to escape, and are then searched once.
+// Writes the name, as a line begins with it, and what follows it.
 fn put_name_line<'a, O: Sink>(out: &mut O, name: &'a [u8], rest: &'a [u8]) -> Result<(), SinkFault>
     ensures { WritesAndFlushes (O.state out.old) (O.state out.new)
         (concat (mark (escape_differs present name.now) ∷ escape name.now ∷ rest.now ∷ [])) result }
 {
-    if needs_escape(name) {
-        return put_parts_flushed(
-            out,
-            &[Part::Bytes(b"\\"), Part::Escaped(name), Part::Bytes(rest)],
-        );
-    }
-    put_parts_flushed(out, &[Part::Bytes(name), Part::Bytes(rest)])
+    let (mark, name) = mark_and_name(name);
+    put_parts_flushed(out, &[Part::Bytes(mark), name, Part::Bytes(rest)])
 }
 
 fn put_err<E: Sink>(
     err: &mut E,
     rules: CheckRules,
     labels: &Labels,
-    line: &JudgedLine,
+    found: LineVerdict,
+    name: &[u8],
 ) -> Result<(), SinkFault>
     ensures { WritesAndFlushes (E.state err.old) (E.state err.new)
-        (err_by (rules_in rules) (labels_in labels.now) line.now.number line.now.verdict line.now.name.now) result }
+        (err_by (rules_in rules) (labels_in labels.now) found.number found.verdict name.now) result }
 {
-    match line.verdict {
+    match found.verdict {
         Verdict::Ignored | Verdict::Right | Verdict::Wrong | Verdict::Missing => Ok(()),
         Verdict::Bad => match labels.report {
-            Report::Warn => put_bad_line(err, rules, labels, line.number),
+            Report::Warn => put_bad_line(err, rules, labels, found.number),
             _ => Ok(()),
         },
-        Verdict::Unread(fault) => put_fault(err, labels.tool, line.name, fault),
+        Verdict::Unread(fault) => put_fault(err, labels.tool, name, fault),
     }
 }
 

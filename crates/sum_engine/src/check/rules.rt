@@ -1,6 +1,7 @@
 //! By what a manifest's lines are judged, and what its reports show.
-
 ghost use Rattle.std.specs.Prelude.{◌≡◌};
+ghost use Rattle.sum_engine.specs.check.Checking.{rules_of};
+ghost use Rattle.sum_engine.specs.refinement.Cursors.{rules_in};
 
 use crate::settings::{CheckSettings, Report};
 use digest_kinds::Algos;
@@ -18,12 +19,7 @@ pub(crate) struct CheckRules {
 impl CheckRules {
     /// The rules of these settings.
     pub(crate) fn new(settings: CheckSettings, from_stdin: bool) -> Self
-        ensures { result ≡ record {
-          algo = settings.algo;
-          ignore_missing = settings.ignore_missing;
-          strict = settings.strict;
-          from_stdin = from_stdin;
-        } }
+        ensures { rules_in result ≡ rules_of settings from_stdin }
     {
         CheckRules {
             algo: settings.algo,

@@ -2,9 +2,8 @@
 ghost use Rattle.std.specs.Prelude.{◌≡◌, ◌<◌, ◌^◌, []};
 
 use crate::check::judge::Verdict;
-use crate::check::report::put_tool_line;
 use crate::check::rules::{CheckRules, Labels};
-use crate::put_flushed::put_parts_flushed;
+use crate::put_flushed::{put_parts_flushed, put_tool_line};
 use crate::settings::Report;
 use crate::streams::Outputs;
 use sum_lines::{Part, Sink, SinkFault};

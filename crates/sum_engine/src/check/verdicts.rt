@@ -1,7 +1,7 @@
 //! The verdicts of a manifest, without any text.
 ghost use Rattle.std.specs.Prelude.{◌≡◌, ◌≤◌, ◌&&◌, None, IfOk, IfSome};
 ghost use Rattle.std.specs.Option.{option_and_then};
-ghost use Rattle.sum_lines.specs.Escape.{present};
+ghost use Rattle.sum_engine.specs.check.Checking.{rules_of};
 ghost use Rattle.sum_engine.specs.check.NextVerdict.{final_answer_of_next};
 
 use crate::check::cursor::CheckCursor;
@@ -43,13 +43,7 @@ impl<I: Input> Verdicts<I> {
     /// At the first line of the manifest that `input` gives; `from_stdin` says whether it came from standard input,
     /// where a line that names `-` is improperly formatted. The report setting has no part in this.
     pub fn new(settings: CheckSettings, from_stdin: bool, input: I) -> Self
-        ensures rules { result.cursor.rules ≡ record {
-          profile = present;
-          algo = settings.algo;
-          ignore_missing = settings.ignore_missing;
-          strict = settings.strict;
-          from_stdin = from_stdin;
-        } }
+        ensures rules { result.cursor.rules ≡ rules_of settings from_stdin }
         ensures start { IsAtStart I.state result.cursor input }
         ensures final_answer { result.final_answer ≡ None }
     {

@@ -64,8 +64,8 @@ fn digits_of<'a>(digest: &Digest, buffer: &'a mut [u8; 128]) -> &'a [u8]
     &buffer[..count]
 }
 
-// What begins a line, and its name, escaped. A name that is its own escape is searched once.
-fn mark_and_name(name: &[u8]) -> (&'static [u8], Part<'_>)
+/// What begins a line, a backslash or nothing, and its name, escaped. A name that is its own escape is searched once.
+pub fn mark_and_name(name: &[u8]) -> (&'static [u8], Part<'_>)
     ensures mark { result.0.now ≡ mark (escape_differs present name.now) }
     ensures name { part_text result.1 ≡ escape name.now }
 {

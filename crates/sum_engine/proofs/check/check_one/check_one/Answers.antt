@@ -3,7 +3,7 @@ use Rattle.std.proofs.lemmas.Result.{err_from_is_err_and}
 use Rattle.std.specs.Option.{option_or}
 use Rattle.sum_engine.specs.Behavior.{is_dash}
 use Rattle.sum_engine.specs.Execution.{InputsState}
-use Rattle.sum_engine.specs.declared.check.rules.CheckRules.{CheckRules}
+use Rattle.sum_engine.specs.check.Verdicts.{Rules}
 use Rattle.sum_engine.specs.refinement.Openings.{phase_of}
 use Rattle.sum_engine.proofs.ReadToEndLemmas.{put_back-whole, ReadToEnd-around}
 use Rattle.sum_engine.proofs.CheckOneLemmas.{check_dash, check_file, refused, no_room}
@@ -13,12 +13,18 @@ use Rattle.sum_engine.proofs.check.check_one.check_one.Goals as goal
 pub returns-then-is_dash-clause-behavior : goal.returns-then-is_dash-clause-behavior
 returns-then-is_dash-clause-behavior g c =
     let dash : is_dash c.args.name.now ≡ true = search rules in
-    let checked = c.check_input-result in
-    let from = ap (λ (r : CheckRules). r.from_stdin) c.new-rules.ensures in
+    let checked = c.run_to_end-result in
+    let made = c.new-checker.ensures in
+    let from = ap (λ (r : Rules). r.from_stdin) made.rules in
     let taken = rw c.take_stdin-input.ensures.taken
     at (ap (λ (m : InputsState g.row.S.Denot). m.stdin_taken) (checked.ensures.stdin from)) in
-    let run = rw (c.take_stdin-input.ensures.content, c.take_stdin-input.ensures.taken, c.new-rules.ensures)
-    at checked.ensures.behavior in
+    let run = rw (
+      made.rules,
+      made.labels,
+      made.start.reader,
+      c.take_stdin-input.ensures.content,
+      c.take_stdin-input.ensures.taken,
+    ) at checked.ensures.behavior in
     let phase = option_or checked.new.streams.inputs.stdin_phase (phase_of g.J.Input.state checked.result.1) in
     rw (c.put_back_stdin.ensures.phase taken) (check_dash g.S.Source.state c.args.settings c.args.tool.now c.args.name.now
     c.args.streams.now checked.new.streams phase _ dash run)
@@ -26,8 +32,9 @@ returns-then-is_dash-clause-behavior g c =
 -- a good one was read to its end, and so were its files
 pub returns-then-is_dash-clause-read_to_end : goal.returns-then-is_dash-clause-read_to_end
 returns-then-is_dash-clause-read_to_end g c = λ good.
-    let checked = c.check_input-result in
-    let from = ap (λ (r : CheckRules). r.from_stdin) c.new-rules.ensures in
+    let checked = c.run_to_end-result in
+    let made = c.new-checker.ensures in
+    let from = ap (λ (r : Rules). r.from_stdin) made.rules in
     let kept = rw c.take_stdin-input.ensures.taken at (checked.ensures.stdin from) in
     let taken = ap (λ (m : InputsState g.row.S.Denot). m.stdin_taken) kept in
     let read = rw c.take_stdin-input.ensures.taken at (checked.ensures.read_to_end good) in
@@ -36,7 +43,7 @@ returns-then-is_dash-clause-read_to_end g c = λ good.
       opened = read.opened;
       ended = read.ended;
       stdin = put_back-whole g.J.Input.state c.args.streams.now.inputs checked.new.streams.inputs c.take_stdin-input.result
-          checked.result.1 c.take_stdin-input.ensures.phase kept (checked.ensures.phase good);
+          checked.result.1 c.take_stdin-input.ensures.phase kept (rw made.start.reader at (checked.ensures.phase good));
     })
 
 -- there was no memory to open it
@@ -76,8 +83,9 @@ returns-in_err-put_fault_line-in-Err-Fault-clause-behavior g c =
 pub returns-in-Ok-clause-behavior : goal.returns-in-Ok-clause-behavior
 returns-in-Ok-clause-behavior g c =
     let dash : is_dash c.args.name.now ≡ false = search rules in
-    let checked = c.check_input-result-in-Ok in
-    let run = rw c.new-rules-in-Ok.ensures at checked.ensures.behavior in
+    let checked = c.run_to_end-result-in-Ok in
+    let made = c.new-checker-in-Ok.ensures in
+    let run = rw (made.rules, made.labels, made.start.reader) at checked.ensures.behavior in
     check_file g.S.Source.state c.args.settings c.args.tool.now c.args.name.now c.args.streams.now g.S.File.Input.state
     c.open_file.new.self c.in-Ok.ensures.stdin checked.new.streams c.close_file.new.self _ c.in-Ok.file _ dash
     c.in-Ok.ensures.answer c.in-Ok.ensures.refusals run c.close_file.ensures.stdin c.close_file.ensures.closed
@@ -85,8 +93,9 @@ returns-in-Ok-clause-behavior g c =
 -- a good one was read to its end, and so were its files
 pub returns-in-Ok-clause-read_to_end : goal.returns-in-Ok-clause-read_to_end
 returns-in-Ok-clause-read_to_end g c = λ good.
-    let checked = c.check_input-result-in-Ok in
+    let checked = c.run_to_end-result-in-Ok in
+    let ended = rw c.new-checker-in-Ok.ensures.start.reader at (checked.ensures.phase good) in
     ReadToEnd-around g.S.Source.state c.args.streams.now.inputs c.open_file.new.self checked.new.streams.inputs
     c.close_file.new.self _ c.in-Ok.ensures.stdin c.in-Ok.ensures.opened.0 c.in-Ok.ensures.opened.1
     (checked.ensures.read_to_end good) c.close_file.ensures.stdin c.close_file.ensures.closed
-    (checked.ensures.phase good c.in-Ok.ensures.phase)
+    (ended c.in-Ok.ensures.phase)

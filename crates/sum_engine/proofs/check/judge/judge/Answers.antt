@@ -1,6 +1,7 @@
-use Rattle.std.proofs.Common.{◌≡◌, ◌&&◌, false, rules}
+use Rattle.std.proofs.Common.{◌≡◌, ◌&&◌, false, Some, rules}
 use Rattle.sum_lines.specs.grammar.Entries.{EntryValue}
 use Rattle.sum_engine.specs.Behavior.{is_dash}
+use Rattle.sum_engine.specs.refinement.HashName.{HashesName}
 use Rattle.sum_engine.specs.refinement.Judging.{listed_entry}
 use Rattle.sum_engine.specs.refinement.Cursors.{rules_in}
 use Rattle.sum_engine.proofs.WorldLemmas.{InSomeWorld-map}
@@ -17,7 +18,8 @@ returns-clause-verdict g c =
       | else-rules-via-else-rules
           w ↦ search rules
     ] in
-    InSomeWorld-map c.in_ok-outcome.ensures.outcome (λ w v hashed.
+    InSomeWorld-map {P = λ w v. HashesName s.kind w v s.name (Some c.in_ok-outcome.outcome)}
+    c.in_ok-outcome.ensures.outcome (λ w v hashed.
     judged_entry (rules_in c.args.rules) w v s c.in_ok-outcome.outcome _ dash hashed c.compare.ensures)
 
 pub returns-clause-asked : goal.returns-clause-asked
