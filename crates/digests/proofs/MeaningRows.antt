@@ -1,11 +1,13 @@
 -- Worked command lines: both texts, the names that are asked and whether all is good, as the meaning has them.
-use Rattle.std.proofs.Common.{◌≡◌, ◌++◌, Bool, List, [], ◌∷◌, refl, codes, true, false, flat_map, if◌then◌else◌, bytes_eq, Ok, Err}
+use Rattle.std.proofs.Common.{◌≡◌, ◌++◌, Bool, List, [], ◌∷◌, refl, codes, true}
+use Rattle.std.proofs.Common.{false, flat_map, if◌then◌else◌, bytes_eq, Ok, Err}
 use Rattle.std.specs.Prelude.{⊤}
 use Rattle.std.specs.Str.{chars, is_utf8}
 use Rattle.std.specs.List.{concat}
 use Rattle.std.specs.Path.{rsplit_once}
 use lib.Utf8.{encode}
-use Rattle.md5.specs.Md5.{block_words as md5_words, rounds as md5_rounds, compress as md5_compress, hash_after as md5_after, digest_bytes as md5_bytes, md5}
+use Rattle.md5.specs.Md5.{block_words as md5_words, rounds as md5_rounds, compress as md5_compress}
+use Rattle.md5.specs.Md5.{hash_after as md5_after, digest_bytes as md5_bytes, md5}
 use Rattle.blake2b_core.specs.Compression.{mix, round, start, compress}
 use Rattle.blake2b_core.specs.Digest.{blocks, blake2b}
 use Rattle.sum_sources.specs.declared.fault.Fault.TheVariants.{NotFound, Other}
@@ -53,20 +55,20 @@ abbrev world : Content → Content → World
 world l input = record { answer = λ asked. answer_with l; input = input }
 
 -- both texts of a run, the names that it asks, and whether all is good
-record Comes : Type 0 where
+record Outcome : Type 0 where
   out : ByteString
   err : ByteString
   asks : List ByteString
   good : Bool
 
--- what a command line comes to in it
-abbrev comes_to : Tool → List ByteString → World → Comes
-comes_to tool words w =
+-- the outcome of a command line in a world
+abbrev outcome : Tool → List ByteString → World → Outcome
+outcome tool words w =
     let run = meaning tool words w in
     record { out = out_text run; err = err_text run; asks = asks run; good = run.good }
 
 -- md5sum a e
-files : comes_to Md5sum
+files : outcome Md5sum
     (codes "a" ∷ codes "e" ∷ [])
     (world (whole []) (whole [])) ≡ record {
       out = concat (codes "900150983cd24fb0d6963f7d28e17f72  a\n"
@@ -79,7 +81,7 @@ unfolding meaning_on_literals
 files = refl
 
 -- md5sum a x e
-missing_file : comes_to Md5sum
+missing_file : outcome Md5sum
     (codes "a" ∷ codes "x" ∷ codes "e" ∷ [])
     (world (whole []) (whole [])) ≡ record {
       out = concat (codes "900150983cd24fb0d6963f7d28e17f72  a\n"
@@ -92,7 +94,7 @@ unfolding meaning_on_literals
 missing_file = refl
 
 -- md5sum - -, with `abc` on standard input
-stdin_twice : comes_to Md5sum
+stdin_twice : outcome Md5sum
     (codes "-" ∷ codes "-" ∷ [])
     (world (whole []) (whole (codes "abc"))) ≡ record {
       out = concat (codes "900150983cd24fb0d6963f7d28e17f72  -\n"
@@ -105,7 +107,7 @@ unfolding meaning_on_literals
 stdin_twice = refl
 
 -- md5sum, whose input gives three bytes and then a fault
-stdin_fails : comes_to Md5sum
+stdin_fails : outcome Md5sum
     ([])
     (world (whole []) (broken (codes "abc"))) ≡ record {
       out = [];
@@ -117,7 +119,7 @@ unfolding meaning_on_literals
 stdin_fails = refl
 
 -- b2sum -l 256 --tag e
-tagged : comes_to B2sum
+tagged : outcome B2sum
     (codes "-l" ∷ codes "256" ∷ codes "--tag" ∷ codes "e" ∷ [])
     (world (whole []) (whole [])) ≡ record {
       out = concat (codes "BLAKE2b-256 (e) = 0e5751c026e543b2e8ab2eb06099daa1d1e5df47778f7787faab45cdf12fe3a8\n" ∷ []);
@@ -129,7 +131,7 @@ unfolding meaning_on_literals
 tagged = refl
 
 -- md5sum --foo --help
-unknown_option : comes_to Md5sum
+unknown_option : outcome Md5sum
     (codes "--foo" ∷ codes "--help" ∷ [])
     (world (whole []) (whole [])) ≡ record {
       out = [];
@@ -142,7 +144,7 @@ unfolding meaning_on_literals
 unknown_option = refl
 
 -- md5sum -c l
-all_verdicts : comes_to Md5sum
+all_verdicts : outcome Md5sum
     (codes "-c" ∷ codes "l" ∷ [])
     (world (list_of (codes "900150983cd24fb0d6963f7d28e17f72  a"
     ∷ codes "#c"
@@ -163,7 +165,7 @@ unfolding meaning_on_literals
 all_verdicts = refl
 
 -- md5sum -c --ignore-missing -w --strict l
-ignore_missing : comes_to Md5sum
+ignore_missing : outcome Md5sum
     (codes "-c" ∷ codes "--ignore-missing" ∷ codes "-w" ∷ codes "--strict" ∷ codes "l" ∷ [])
     (world (list_of (codes "900150983cd24fb0d6963f7d28e17f72  a"
     ∷ codes "#c"
@@ -182,7 +184,7 @@ unfolding meaning_on_literals
 ignore_missing = refl
 
 -- md5sum -c, whose manifest on standard input lists `-`
-nothing_to_check : comes_to Md5sum
+nothing_to_check : outcome Md5sum
     (codes "-c" ∷ [])
     (world (whole []) (list_of (codes "900150983cd24fb0d6963f7d28e17f72  -" ∷ []))) ≡ record {
       out = [];
@@ -194,7 +196,7 @@ unfolding meaning_on_literals
 nothing_to_check = refl
 
 -- md5sum -c l, where the manifest breaks off in its second line
-manifest_fails : comes_to Md5sum
+manifest_fails : outcome Md5sum
     (codes "-c" ∷ codes "l" ∷ [])
     (world (broken (
     codes "900150983cd24fb0d6963f7d28e17f72  a\n"
@@ -208,7 +210,7 @@ unfolding meaning_on_literals
 manifest_fails = refl
 
 -- md5sum -c l l, which lists `-`, with `abc` on standard input
-stdin_listed : comes_to Md5sum
+stdin_listed : outcome Md5sum
     (codes "-c" ∷ codes "l" ∷ codes "l" ∷ [])
     (world (list_of (codes "900150983cd24fb0d6963f7d28e17f72  -" ∷ [])) (whole (codes "abc"))) ≡ record {
       out = concat (codes "-: OK\n"
@@ -221,7 +223,7 @@ unfolding meaning_on_literals
 stdin_listed = refl
 
 -- md5sum -c l, whose first line has one blank, and the second two
-reversed_form : comes_to Md5sum
+reversed_form : outcome Md5sum
     (codes "-c" ∷ codes "l" ∷ [])
     (world (list_of (codes "900150983cd24fb0d6963f7d28e17f72 a"
     ∷ codes "900150983cd24fb0d6963f7d28e17f72  a" ∷ [])) (whole [])) ≡ record {
@@ -236,7 +238,7 @@ unfolding meaning_on_literals
 reversed_form = refl
 
 -- anysum -c l
-mixed_tags : comes_to Anysum
+mixed_tags : outcome Anysum
     (codes "-c" ∷ codes "l" ∷ [])
     (world (list_of (codes "MD5 (a) = 900150983cd24fb0d6963f7d28e17f72"
     ∷ codes "BLAKE2b-256 (e) = 0e5751c026e543b2e8ab2eb06099daa1d1e5df47778f7787faab45cdf12fe3a8"

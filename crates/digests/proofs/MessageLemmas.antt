@@ -17,11 +17,15 @@ pub texts_performed : {S E : Type 0} (state : S → SourceState) (a : StreamsSta
     → Performs state (λ w. single_step [] err out good) status_of a (record a { outputs = outputs })
     (status_after_write r (status_of good))
 texts_performed state a outputs err out good (Ok u) h =
-    Performs-step state (λ w. single_step [] err out good) [] err out good status_of a (record a { outputs = outputs }) (Ok u)
-    (InSomeWorld-none state a.inputs) (λ w v same. (refl, asks_none same (asked_none (state a.inputs.source)) refl refl)) h
+    Performs-step state (λ w. single_step [] err out good) [] err out good status_of a
+    (record a { outputs = outputs }) (Ok u)
+    (InSomeWorld-none state a.inputs) (λ w v same. (refl, asks_none same (asked_none (state a.inputs.source)) refl refl))
+    h
 texts_performed state a outputs err out good (Err e) h =
-    Performs-step state (λ w. single_step [] err out good) [] err out good status_of a (record a { outputs = outputs }) (Err tt)
-    (InSomeWorld-none state a.inputs) (λ w v same. (refl, asks_none same (asked_none (state a.inputs.source)) refl refl)) h
+    Performs-step state (λ w. single_step [] err out good) [] err out good status_of a
+    (record a { outputs = outputs }) (Err tt)
+    (InSomeWorld-none state a.inputs) (λ w v same. (refl, asks_none same (asked_none (state a.inputs.source)) refl refl))
+    h
 
 -- a call that writes them accounts for its stop
 pub texts_cause : {S E : Type 0} (state : S → SourceState) (Changes : ℕ → ℕ → Type 0) (a : StreamsState S)

@@ -1,15 +1,18 @@
 -- Operands, one after another: the behavior of those before, followed by that of the rest, is the whole.
-use Rattle.std.proofs.Common.{rules, ◌≡◌, ℕ, Bool, true, false, List, [], ◌∷◌, Result, Ok, Err, refl, ap, sym, ◌∙◌, subst, append_assoc, ◌&&◌}
+use Rattle.std.proofs.Common.{rules, ◌≡◌, ℕ, Bool, true, false, List, [], ◌∷◌, Result}
+use Rattle.std.proofs.Common.{Ok, Err, refl, ap, sym, ◌∙◌, subst, append_assoc, ◌&&◌}
 use Rattle.std.proofs.Math.Bool.{and_assoc, and-true}
 use Rattle.std.proofs.lemmas.List.{append-nil}
 use Rattle.sum_sources.specs.Contents.{SourceState}
 use Rattle.sum_engine.proofs.WorldLemmas.{InSomeWorld-map, InSomeWorld-then}
 use Rattle.sum_engine.specs.declared.stop.Stop.{Stop}
 use Rattle.sum_engine.specs.Behavior.{World, after, Behavior, behavior_then, trace, asks}
-use Rattle.sum_engine.specs.Execution.{InputsState, StreamsState, IsFlushed, InSomeWorld, in_world, Happened, Performs, PerformsSteps, ReadToEnd}
+use Rattle.sum_engine.specs.Execution.{InputsState, StreamsState, IsFlushed, InSomeWorld}
+use Rattle.sum_engine.specs.Execution.{in_world, Happened, Performs, PerformsSteps, ReadToEnd}
 use Rattle.sum_engine.proofs.ExecutionLemmas.{Happened-none}
 use Rattle.sum_engine.proofs.ReadToEndLemmas.{ReadToEnd-trans}
-use Rattle.sum_engine.proofs.BehaviorLemmas.{behavior_then-happened, behavior_then-first, behavior_then-second, events_extend}
+use Rattle.sum_engine.proofs.BehaviorLemmas.{behavior_then-happened, behavior_then-first}
+use Rattle.sum_engine.proofs.BehaviorLemmas.{behavior_then-second, events_extend}
 use Rattle.sum_words.specs.Items.{ByteString}
 use Rattle.sum_words.specs.declared.tool.Tool.{Tool}
 use Rattle.sum_words.specs.Tools.{name_of}
@@ -104,7 +107,8 @@ module _ {S : Type 0} (state : S → SourceState) (o : Operands) where
       let later = operands_behavior o.one (after v (asks run)) rest in
       let status = status_of (behavior_then p.done (behavior_then run later)).good in
       let next = behavior_then-first b c status run.good run.steps later.steps stop q in
-      let all = behavior_then-second c status status p.done.steps (behavior_then run later).steps stop p.happened next in
+      let all = behavior_then-second c status status p.done.steps (behavior_then run later).steps stop p.happened next
+      in
       subst (λ (r : Behavior). PerformsSteps r.steps (status_of r.good) a c (Err stop)) (sym p.total) all)
 
 -- ---- read to the end

@@ -1,16 +1,17 @@
 -- A run and its end, joined: what the whole program does.
-use Rattle.std.proofs.Common.{rules, ℕ, List, [], Option, None, Some, Result, Ok, Err, sym, inl, inr, refl, ◌⊎◌, subst, IfSome, append-nil}
+use Rattle.std.proofs.Common.{rules, ◌≡◌, ℕ, List, [], Option, None, Some, IfSome, Result, Ok, Err}
+use Rattle.std.proofs.Common.{sym, inl, inr, refl, subst, append-nil}
 use Rattle.sum_sources.specs.Contents.{SourceState}
 use Rattle.sum_engine.proofs.WorldLemmas.{InSomeWorld-map}
 use Rattle.sum_engine.specs.declared.stop.Stop.{Stop}
 use Rattle.sum_engine.specs.declared.stop.Stop.TheVariants.{Memory, Write}
 use Rattle.sum_engine.specs.Behavior.{World, Event, Behavior, trace}
-use Rattle.sum_engine.specs.Execution.{OutputsState, StreamsState, WorldState, NoneFailed, OneFailed, FailuresMatch, Happened, Performs}
+use Rattle.sum_engine.specs.Execution.{OutputsState, StreamsState, WorldState, IsFlushed, NoneFailed, OneFailed}
+use Rattle.sum_engine.specs.Execution.{FailuresMatch, Happened, Performs}
 use Rattle.sum_words.specs.Items.{ByteString}
 use Rattle.sum_words.specs.CommandLines.{CommandLineValue, command_line, NeedsMemory}
-use Rattle.sum_words.specs.refinement.Arguments.{IsCommandLine, MayBeUnread}
 use Rattle.digests.specs.Meaning.{status_of}
-use Rattle.digests.specs.Program.{CallPerforms, call_behavior, call_stop_line}
+use Rattle.digests.specs.Program.{CallPerforms, ProgramPerforms, call_behavior, call_stop_line}
 use Rattle.digests.specs.refinement.FinishRun.{KeepsBoth, FinishesRun}
 
 -- ---- a run that answered, and its end
@@ -71,25 +72,17 @@ program_ends state status line a b outputs (Err stop) ran failed (later, m, flus
 
 -- ---- by what was read of the arguments
 
--- what a program gives, whatever the outputs hold
-abbrev pub Gives : {S : Type 0} → (S → SourceState) → Option (List ByteString) → StreamsState S → StreamsState S → ℕ
-    → Type 0
-Gives state known a b status = IfSome known (λ arguments.
-    CallPerforms state (Some (command_line arguments)) a b status
-    ⊎ (NeedsMemory arguments × CallPerforms state None a b status))
-
 -- the command line is what they say
 pub program_read : {S : Type 0} (state : S → SourceState) (a b : StreamsState S) (status : ℕ)
-    (known : Option (List ByteString))
-    (c : CommandLineValue) → IsCommandLine known c → CallPerforms state (Some c) a b status
-    → Gives state known a b status
-program_read state a b status None c is h = tt
-program_read state a b status (Some arguments) c is h =
-    inl (subst (λ line. CallPerforms state (Some line) a b status) (sym is) h)
+    (known : Option (List ByteString)) (c : CommandLineValue) → IfSome known (λ all. command_line all ≡ c)
+    → (IsFlushed a.outputs → CallPerforms state (Some c) a b status) → ProgramPerforms state known a b status
+program_read state a b status None c is h = λ flushed. tt
+program_read state a b status (Some arguments) c is h = λ flushed.
+    inl (subst (λ line. CallPerforms state (Some line) a b status) (sym is) (h flushed))
 
 -- it couldn't be read
 pub program_unread : {S : Type 0} (state : S → SourceState) (a b : StreamsState S) (status : ℕ)
-    (known : Option (List ByteString)) → MayBeUnread known → CallPerforms state None a b status
-    → Gives state known a b status
-program_unread state a b status None is h = tt
-program_unread state a b status (Some arguments) memory h = inr (memory, h)
+    (known : Option (List ByteString)) → IfSome known NeedsMemory
+    → (IsFlushed a.outputs → CallPerforms state None a b status) → ProgramPerforms state known a b status
+program_unread state a b status None memory h = λ flushed. tt
+program_unread state a b status (Some arguments) memory h = λ flushed. inr (memory, h flushed)

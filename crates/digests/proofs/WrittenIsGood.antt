@@ -1,9 +1,11 @@
 -- What generation writes is good under checking.
-use Rattle.std.proofs.Common.{rules, ◌≡◌, ℕ, ◌<◌, false, List, [], ◌∷◌, length, map, refl, ap, sym, ◌∙◌, append-nil, Ok, flat_map, All, Contains, Err}
+use Rattle.std.proofs.Common.{rules, ◌≡◌, ℕ, ◌<◌, false, List, [], ◌∷◌, length, map, refl}
+use Rattle.std.proofs.Common.{ap, sym, ◌∙◌, append-nil, Ok, flat_map, All, Contains, Err}
 use Rattle.std.proofs.lemmas.List.{length-map, map-append}
 use Rattle.std.proofs.lemmas.List.Concat.{flat_map-append}
 use Rattle.std.proofs.lemmas.List.Folds.{flat_map-map}
-use Rattle.std.proofs.lemmas.List.Elements.{All-nil, All-head, All-tail, All-append, All-map, All-weaker, All-contains, All-contains_itself}
+use Rattle.std.proofs.lemmas.List.Elements.{All-nil, All-head, All-tail, All-append, All-map}
+use Rattle.std.proofs.lemmas.List.Elements.{All-weaker, All-contains, All-contains_itself}
 use Rattle.digest_kinds.specs.Kinds.{digest}
 use Rattle.sum_engine.specs.check.Verdicts.{Algos}
 use Rattle.sum_engine.specs.declared.check.judge.Verdict.TheVariants.{Right}
@@ -22,7 +24,8 @@ use Rattle.sum_words.specs.Tools.{name_of, algos_of}
 use Rattle.sum_words.specs.Items.{ByteString}
 use Rattle.digests.specs.Meaning.{operands_behavior}
 use Rattle.digests.proofs.CheckWords.{request-check_words}
-use Rattle.digests.specs.GenerationRuns.{Listable, GenerationRun, generation_output, names_of, Checkable, HasFiles, ReportsAllOk, WrittenIsGood, JoinedIsGood}
+use Rattle.digests.specs.GenerationRuns.{Listable, GenerationRun, generation_output, Checkable}
+use Rattle.digests.specs.GenerationRuns.{HasFiles, ReportsAllOk, WrittenIsGood, JoinedIsGood}
 
 -- ---- the lines of a run
 
@@ -96,7 +99,8 @@ lines-good : (t : Tool) (check : CheckSettings) (manifest : ByteString) (later :
     → ReportsAllOk t check v manifest names
 lines-good t check manifest later v xs names text has by all is same some fits given =
     let count : length xs ≡ length names = sym (length-map xs (λ i. i.name)) ∙ ap length is in
-    let f = manifest_good check (name_of t) manifest later v xs has all (rw count some) (rw same fits) (rw same given) in
+    let f = manifest_good check (name_of t) manifest later v xs has all (rw count some) (rw same fits)
+    (rw same given) in
     let reported = f.out ∙ sym (flat_map-map (out_by present check.report Right) (λ i. i.name) xs) in
     let asked = request-check_words t check manifest by in
     record {
@@ -148,13 +152,13 @@ runs-text algos files later w (g ∷ gs) has all =
 
 -- and these are for all of their names
 runs-names : (answer : ByteString → Reply) (gs : List GenerationRun)
-    → map (λ i. i.name) (flat_map (items answer) gs) ≡ flat_map names_of gs
+    → map (λ i. i.name) (flat_map (items answer) gs) ≡ flat_map (λ g. g.names) gs
 runs-names answer [] = refl
 runs-names answer (g ∷ gs) = rw (map-append, names-are answer g.settings g.names, runs-names answer gs) refl
 
 -- the law of several runs
 pub joined_is_good : JoinedIsGood
 joined_is_good t check manifest files later w v gs has same by all =
-    lines-good t check manifest later v (flat_map (items files) gs) (flat_map names_of gs)
+    lines-good t check manifest later v (flat_map (items files) gs) (flat_map (λ g. g.names) gs)
     (flat_map (generation_output w) gs) same by (runs-listed check.algo files later gs all) (runs-names files gs)
     (runs-text check.algo files later w gs has all)

@@ -1,5 +1,6 @@
 -- What is written is good: manifests that generation wrote, checked while the files stay as they were.
-use Rattle.std.specs.Prelude.{ℕ, ◌≡◌, ◌<◌, false, List, [], ◌∷◌, ◌++◌, IsTrue, length, map, flat_map, codes, if◌then◌else◌, All, Ok, option_to_list}
+use Rattle.std.specs.Prelude.{ℕ, ◌≡◌, ◌<◌, false, List, [], ◌∷◌, ◌++◌, IsTrue, length, map}
+use Rattle.std.specs.Prelude.{flat_map, codes, if◌then◌else◌, All, Ok, option_to_list}
 use Rattle.digest_kinds.specs.Kinds.{has_len}
 use Rattle.sum_engine.specs.check.Verdicts.{Algos}
 use Rattle.sum_engine.specs.declared.check.judge.Verdict.TheVariants.{Right}
@@ -38,9 +39,6 @@ pub record GenerationRun : Type 0 where
 abbrev pub generation_output : World → GenerationRun → ByteString
 generation_output w g = out_text (operands_behavior (generate_behavior g.settings g.tool) w g.names)
 
-abbrev pub names_of : GenerationRun → List ByteString
-names_of g = g.names
-
 -- what a run wrote of these files can be checked later: its lines end with newlines; the checking tool reads them, as
 -- the tool itself does in every style, and `anysum` if they are tagged; and its files are then the same
 pub record Checkable (algos : Algos) (files later : ByteString → Reply) (g : GenerationRun) : Type 0 where
@@ -75,18 +73,17 @@ pub record ReportsAllOk (t : Tool) (check : CheckSettings) (v : World) (manifest
 
 -- what generation wrote for one name or more is good as a manifest, if it isn't too long
 abbrev pub WrittenIsGood : Type 0
-WrittenIsGood = (t : Tool) (check : CheckSettings) (manifest : ByteString) (files later : ByteString → Reply) (w v : World)
-    (g : GenerationRun) → HasFiles w files → HasFiles v later → check.algo ≡ algos_of t
-    → Checkable check.algo files later g → 0 < length g.names
-    → length (generation_output w g) < limit
+WrittenIsGood = (t : Tool) (check : CheckSettings) (manifest : ByteString) (files later : ByteString → Reply)
+    (w v : World) (g : GenerationRun) → HasFiles w files → HasFiles v later → check.algo ≡ algos_of t
+    → Checkable check.algo files later g → 0 < length g.names → length (generation_output w g) < limit
     → reply v manifest ≡ Ok (record { bytes = generation_output w g; ending = Whole })
     → ReportsAllOk t check v manifest g.names
 
 -- so is what several runs wrote, one after another
 abbrev pub JoinedIsGood : Type 0
-JoinedIsGood = (t : Tool) (check : CheckSettings) (manifest : ByteString) (files later : ByteString → Reply) (w v : World)
-    (gs : List GenerationRun) → HasFiles w files → HasFiles v later → check.algo ≡ algos_of t
-    → All (Checkable check.algo files later) gs → 0 < length (flat_map names_of gs)
+JoinedIsGood = (t : Tool) (check : CheckSettings) (manifest : ByteString) (files later : ByteString → Reply)
+    (w v : World) (gs : List GenerationRun) → HasFiles w files → HasFiles v later → check.algo ≡ algos_of t
+    → All (Checkable check.algo files later) gs → 0 < length (flat_map (λ g. g.names) gs)
     → length (flat_map (generation_output w) gs) < limit
     → reply v manifest ≡ Ok (record { bytes = flat_map (generation_output w) gs; ending = Whole })
-    → ReportsAllOk t check v manifest (flat_map names_of gs)
+    → ReportsAllOk t check v manifest (flat_map (λ g. g.names) gs)

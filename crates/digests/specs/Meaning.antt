@@ -1,6 +1,7 @@
--- What a tool's words mean: a behavior, of which the status is whether all is good.
+-- What a tool's words mean: a behavior, of which the status is whether all is good, and what out of memory may mean.
 use Rattle.std.specs.Prelude.{ℕ, Bool, true, false, List, [], ◌∷◌, Result, Ok, Err, codes, if◌then◌else◌}
 use Rattle.sum_engine.specs.Behavior.{World, after, Behavior, behavior_then, single_step, asks}
+use Rattle.sum_engine.specs.Execution.{OneMore, OneMoreAtMost}
 use Rattle.sum_engine.specs.Generation.{generate_behavior}
 use Rattle.sum_engine.specs.check.Checking.{check_behavior}
 use Rattle.sum_words.specs.declared.tool.Tool.{Tool}
@@ -36,3 +37,9 @@ meaning t words w = request_behavior t (request t words) w
 -- the status: 0 if all is good, else 1
 abbrev pub status_of : Bool → ℕ
 status_of good = if good then 0 else 1
+
+-- out of memory means one refusal more of the source in generation, that or none in checking; else none is needed
+abbrev pub RefusalsOf : Result Request WordFaultValue → ℕ → ℕ → Type 0
+RefusalsOf (Ok (Generate settings names)) = OneMore
+RefusalsOf (Ok (Check settings names)) = OneMoreAtMost
+RefusalsOf asked = λ n m. ⊥

@@ -1,36 +1,53 @@
 //! The end of a run: both outputs are flushed once more, and a stop has its line.
-ghost use Rattle.std.specs.Prelude.{◌≡◌, []};
-ghost use Rattle.sum_engine.specs.Execution.{IsFlushed};
+ghost use Rattle.std.specs.Prelude.{◌≡◌, [], Ok};
+ghost use Rattle.sum_engine.specs.Execution.{IsFlushed, NoneFailed};
 ghost use Rattle.sum_engine.specs.refinement.FlushedWrites.{WritesAndFlushes};
-ghost use Rattle.digests.specs.refinement.FinishRun.{FlushesBoth, KeepsBoth, tool_stop_line};
+ghost use Rattle.digests.specs.refinement.FinishRun.{FinishesRun, FlushesBoth, KeepsBoth, tool_stop_line};
 
 use crate::messages::{Message, put_message};
 use sum_engine::{Outputs, Stop};
 use sum_lines::{Sink, SinkFault};
 use sum_words::Tool;
 
-/// Flushes both outputs, unless the run stopped or the first flush fails. Returns what the run returned, or
-/// `Stop::Write` if a flush failed, which is possible if nothing was buffered, too.
-pub(crate) fn flush_both<O: Sink, E: Sink>(
-    answer: Result<u8, Stop>,
+/// Ends a run that returned this: flushes both outputs once more, unless it stopped, and writes the line for a stop.
+/// Returns the exit status: that of the run, or 1 after a stop or a flush that failed.
+pub(crate) fn finish_run<O: Sink, E: Sink>(
+    tool: Option<Tool>,
+    outcome: Result<u8, Stop>,
+    outputs: &mut Outputs<O, E>,
+) -> u8
+    ensures finish { IsFlushed outputs.old
+        → FinishesRun (tool_stop_line tool) outcome outputs.old outputs.new result }
+    ensures flushed { IsFlushed outputs.old → IsFlushed outputs.new }
+    ensures no_failures { result ≡ 0 → (outcome ≡ Ok 0) × NoneFailed outputs.old outputs.new }
+{
+    match flush_both(outcome, outputs) {
+        Ok(status) => status,
+        Err(stop) => {
+            let _ = put_stop_message(tool, stop, &mut outputs.err);
+            1
+        }
+    }
+}
+
+// Flushes both outputs, unless the run stopped or the first flush fails. Returns what the run returned, or
+// `Stop::Write` if a flush failed, which is possible if nothing was buffered, too.
+fn flush_both<O: Sink, E: Sink>(
+    outcome: Result<u8, Stop>,
     outputs: &mut Outputs<O, E>,
 ) -> Result<u8, Stop>
-    ensures answer { FlushesBoth outputs.old outputs.new answer result }
+    ensures outcome { FlushesBoth outputs.old outputs.new outcome result }
     ensures bytes { IsFlushed outputs.old → KeepsBoth outputs.old outputs.new }
     ensures flushed { IsFlushed outputs.old → IsFlushed outputs.new }
 {
-    let status = answer?;
+    let status = outcome?;
     outputs.out.flush()?;
     outputs.err.flush()?;
     Ok(status)
 }
 
-/// Writes the line for a stop and flushes it, if there is a tool, whose name it begins with.
-pub(crate) fn put_stop_message<E: Sink>(
-    tool: Option<Tool>,
-    stop: Stop,
-    err: &mut E,
-) -> Result<(), SinkFault>
+// Writes the line for a stop and flushes it, if there is a tool, whose name it begins with.
+fn put_stop_message<E: Sink>(tool: Option<Tool>, stop: Stop, err: &mut E) -> Result<(), SinkFault>
     ensures { WritesAndFlushes (E.state err.old) (E.state err.new) (tool_stop_line tool stop) result }
 {
     match tool {

@@ -26,7 +26,7 @@ pub(crate) enum Message<'a> {
 
 ghost use Rattle.digests.specs.refinement.Messages.{message_text};
 
-/// Writes a text to standard error and flushes it, or returns its fault; then a prefix of the text was written.
+/// Writes a text to standard error and flushes it, if both outputs are flushed before. At a fault a prefix was written.
 pub(crate) fn put_err_message<O: Sink, E: Sink>(
     outputs: &mut Outputs<O, E>,
     text: Message,
@@ -54,7 +54,7 @@ pub(crate) fn put_message<S: Sink>(sink: &mut S, text: Message) -> Result<(), Si
     sink.flush()
 }
 
-// Writes a text, without a flush.
+// Gives the sink a text, which it may buffer.
 fn buffer_message<S: Sink>(sink: &mut S, text: Message) -> Result<(), SinkFault>
     ensures { WritesAll (S.state sink.old) (S.state sink.new) (message_text text.entry) result }
 {

@@ -5,8 +5,7 @@ ghost use Rattle.sum_engine.specs.Execution.{RefusalsMatch, StopHasCause, Perfor
 ghost use Rattle.sum_words.specs.Tools.{name_of};
 ghost use Rattle.sum_words.specs.refinement.OptionScan.{result_of};
 ghost use Rattle.sum_words.specs.Request.{request};
-ghost use Rattle.digests.specs.Meaning.{operands_behavior, request_behavior, or_dash, meaning, status_of};
-ghost use Rattle.digests.specs.Refusals.{RefusalsOf};
+ghost use Rattle.digests.specs.Meaning.{operands_behavior, request_behavior, or_dash, meaning, status_of, RefusalsOf};
 ghost use Rattle.digests.specs.refinement.Operands.{operand_behavior, RefusalsOfJob, status_after_write};
 
 use crate::messages::{Message, put_err_message, put_out_message};
@@ -19,7 +18,7 @@ use sum_sources::{Input, Source};
 use sum_words::{Operands, Request, Tool, WordFault, Words, read_words};
 
 /// Runs a tool on its words, and returns the status: 0 if all is good, else 1 (coreutils manual, "md5sum invocation").
-/// Each line, and the help and the two lines of a fault as one, is flushed as soon as it is complete.
+/// If both outputs are flushed at the call, they are flushed when it returns.
 ///
 /// `Stop::Memory` if memory was refused: the first steps of the behavior happened, up to an operand or, in checking, up
 /// to a line of a manifest or its end. `Stop::Write` if an output failed: a prefix of the trace happened.

@@ -1,5 +1,6 @@
 -- The reading of the arguments, one after another, gives the command line.
-use Rattle.std.proofs.Common.{ℕ, ◌≡◌, ◌+◌, ◌-◌, ◌<◌, ◌≤◌, not, ◌==◌, zero, suc, List, [], ◌∷◌, length, drop, Some, None, refl, ap, sym, ◌∙◌, arith, inr, add-one, slice_get, Option, ◌++◌, Any, IsSomeAnd}
+use Rattle.std.proofs.Common.{ℕ, ◌≡◌, ◌+◌, ◌-◌, ◌<◌, ◌≤◌, not, ◌==◌, zero, suc, List, [], ◌∷◌, ◌++◌, length, drop, Any}
+use Rattle.std.proofs.Common.{Option, Some, None, IfSome, IsSomeAnd, slice_get, refl, ap, sym, ◌∙◌, arith, inr, add-one}
 use Rattle.std.proofs.lemmas.List.Sums.{suffix_len_is}
 use Rattle.std.proofs.lemmas.Bool.{not_from_false, not_from_true, false_from_ne_true}
 use Rattle.std.specs.List.{suffix_len}
@@ -8,8 +9,8 @@ use Rattle.std.proofs.Math.Seq.{drop-cons}
 use Rattle.std.proofs.lemmas.List.{append-nil, append_assoc}
 use Rattle.sum_words.specs.Items.{ByteString}
 use Rattle.memchr.specs.Find.{Passes, Nowhere, is_byte}
-use Rattle.sum_words.specs.CommandLines.{last_part}
-use Rattle.sum_words.specs.refinement.Arguments.{ArgumentIs, WordsUpTo, WordsAre, HasArgument, IsLonger, MayBeUnread}
+use Rattle.sum_words.specs.CommandLines.{last_part, NeedsMemory}
+use Rattle.sum_words.specs.refinement.Arguments.{ArgumentIs, WordsUpTo, WordsAre, IsLonger}
 
 -- ---- the last part of a path
 
@@ -39,7 +40,11 @@ pub drop_at_some : {X : Type 0} {x : X} (xs : List X) (p : ℕ) → slice_get xs
 drop_at_some {x = x} xs p h =
     rw (drop-cons xs p x (slice_get_within xs p x h), get_or_from_slice_get xs p x x h, add-one) refl
 
--- there is an argument at each place before an argument
+-- there is an argument at a place
+abbrev pub HasArgument : Option (List ByteString) → ℕ → Type 0
+HasArgument known place = IfSome known (λ all. place < length all)
+
+-- there is one at each place before an argument
 pub has_argument : (known : Option (List ByteString)) (first place : ℕ) (word : ByteString)
     → ArgumentIs known place (Some word) → first ≤ place → HasArgument known first
 has_argument known first place word h le =
@@ -54,7 +59,8 @@ longer (a ∷ all) zero h = (0, a, omega arith, refl, h)
 longer (a ∷ all) (suc place) h =
     let (k, x, less, at, long) = longer all place h in (suc k, x, omega (arith, less), at, long)
 
-pub longer_unread : (known : Option (List ByteString)) (place : ℕ) → IsLonger known place 4096 → MayBeUnread known
+pub longer_unread : (known : Option (List ByteString)) (place : ℕ) → IsLonger known place 4096
+    → IfSome known NeedsMemory
 longer_unread None place h = tt
 longer_unread (Some all) place h = inr (longer all place h)
 

@@ -1,9 +1,13 @@
 -- Plain words are operands.
-use Rattle.std.proofs.Common.{rules, ◌≡◌, true, false, List, [], ◌∷◌, ◌++◌, codes, refl, ap, ◌∙◌, bytes_eq}
+use Rattle.std.proofs.Common.{rules, ◌≡◌, true, false, Bool, not, List, [], ◌∷◌, ◌++◌, codes, refl, ap, ◌∙◌, bytes_eq}
 use Rattle.std.proofs.lemmas.List.Elements.{All-head, All-tail}
 use Rattle.sum_words.specs.declared.tool.Tool.{Tool}
-use Rattle.sum_words.specs.Items.{ByteString, operand, a_word, items_from}
-use Rattle.sum_words.specs.PlainWords.{is_plain, PlainWordsAreOperands}
+use Rattle.sum_words.specs.Items.{ByteString, operand, a_word, is_option_word, items_from}
+use Rattle.sum_words.specs.PlainWords.{PlainWordsAreOperands}
+
+-- a word that doesn't begin with a dash, or is a dash alone
+abbrev is_plain : ByteString → Bool
+is_plain word = not (is_option_word word)
 
 -- two dashes are no plain word
 no_dashes : (word : ByteString) → is_plain word ≡ true → bytes_eq word (codes "--") ≡ false

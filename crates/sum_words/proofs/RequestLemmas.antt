@@ -1,5 +1,6 @@
 -- The options read so far, and the number of a length value.
-use Rattle.std.proofs.Common.{rules, ◌≡◌, ◌≢◌, ℕ, zero, suc, get_or, ◌<◌, ◌^◌, true, List, [], ◌∷◌, length, Result, arith, IsUtf8}
+use Rattle.std.proofs.Common.{rules, ◌≡◌, ◌≢◌, ℕ, zero, suc, get_or, ◌<◌, ◌^◌}
+use Rattle.std.proofs.Common.{true, List, [], ◌∷◌, length, Result, arith, IsUtf8}
 use Rattle.std.proofs.lemmas.Grind.{common_steps}
 use Rattle.std.specs.Result.{result_ok, OkIff}
 use Rattle.std.specs.Str.{all_ascii_digits}
@@ -7,14 +8,14 @@ use Rattle.std.specs.Str.Parse.{ParsesUnsigned, digits_value}
 use Rattle.std.proofs.lemmas.Str.{IsUtf8-from_ascii}
 use Rattle.std.proofs.lemmas.Str.Parse.{IsNumeralModel, numerals_by_value, tells_all_ascii_digits, parse_digits}
 use Rattle.sum_words.specs.Items.{Flag, ByteString, ItemValue, option}
-use Rattle.sum_words.specs.Request.{early_answer}
+use Rattle.sum_words.specs.Request.{early_request}
 use Rattle.sum_words.specs.refinement.OptionScan.{IsNumberOf}
 use Rattle.sum_words.specs.declared.parsing.options.Flag.TheVariants as flags
 
--- an option other than help and version decides no answer
-pub no_early_answer : (flag : Flag) (rest : List ItemValue) → flag ≢ flags.Help → flag ≢ flags.Version
-    → early_answer (option flag ∷ rest) ≡ early_answer rest
-no_early_answer = search rules
+-- an option other than help and version decides nothing early
+pub no_early_request : (flag : Flag) (rest : List ItemValue) → flag ≢ flags.Help → flag ≢ flags.Version
+    → early_request (option flag ∷ rest) ≡ early_request rest
+no_early_request = search rules
 
 -- digits are a text
 digits_ascii : (value : ByteString) → all_ascii_digits value ≡ true → (i : ℕ) → get_or value i 0 < 128

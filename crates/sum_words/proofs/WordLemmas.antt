@@ -1,5 +1,7 @@
 -- One word: its prefixes, its characters, and what is left of it for a value.
-use Rattle.std.proofs.Common.{rules, ◌≡◌, ◌==◌, ◌≢◌, ℕ, ◌+◌, true, false, List, [], ◌∷◌, ◌++◌, codes, length, drop, Option, None, Some, refl, ap, sym, ◌∙◌, eqb, MatchOption, encode_utf8_all, IsUtf8, encode_utf8, bytes_eq}
+use Rattle.std.proofs.Common.{rules, ◌≡◌, ◌==◌, ◌≢◌, ℕ, ◌+◌, true, false, List, [], ◌∷◌, ◌++◌, codes, length, drop}
+use Rattle.std.proofs.Common.{Option, None, Some, MatchOption, refl, ap, sym, ◌∙◌, eqb, bytes_eq}
+use Rattle.std.proofs.Common.{encode_utf8_all, IsUtf8, encode_utf8}
 use denote.Ref.{Bor}
 use Rattle.std.specs.List.{starts_with}
 use Rattle.std.specs.Str.{chars, is_utf8}
@@ -12,15 +14,16 @@ use Rattle.std.proofs.lemmas.Bool.{eqb-true, false_from_ne_true}
 use Rattle.std.proofs.Math.Bool.{and-true}
 use lib.Utf8.{encode}
 use Rattle.sum_words.specs.declared.tool.Tool.{Tool}
-use Rattle.sum_words.specs.Items.{Short, attached_value, a_value, a_word, length_value, fault, is_option_word, items_from}
+use Rattle.sum_words.specs.Items.{Short, attached_value, a_value, a_word}
+use Rattle.sum_words.specs.Items.{length_value, fault, is_option_word, items_from}
 use Rattle.sum_words.specs.WordFaults.{not_text}
-use Rattle.sum_words.specs.refinement.ItemIterator.{IsAfterPrefix}
 
 -- the rest of a text after a prefix, as `strip_prefix` returns it
 pub prefix_stripped : (prefix text : List ℕ) (r : Option (Bor (List ℕ)))
-    → MatchOption r (FindsTextPrefix prefix text None)
-    (λ x. (n : ℕ) × FindsTextPrefix prefix text (Some n) × (x.now ≡ drop n text) × (length x.now + n ≡ length text))
-    → MatchOption r (starts_with ◌==◌ text prefix ≡ false) (λ x. IsAfterPrefix prefix text x.now)
+    → MatchOption r (FindsTextPrefix prefix text None) (λ x. (n : ℕ) × FindsTextPrefix prefix text (Some n)
+    × (x.now ≡ drop n text) × (length x.now + n ≡ length text))
+    → MatchOption r (starts_with ◌==◌ text prefix ≡ false)
+    (λ x. (starts_with ◌==◌ text prefix ≡ true) × (x.now ≡ drop (length prefix) text))
 prefix_stripped prefix text None h = sym (starts_text false prefix text h)
 prefix_stripped prefix text (Some x)
     (n, f, e, l) = (sym (starts_text true prefix text (n, f, (rw f.0 f.2))), (rw f.0 at e))

@@ -1,6 +1,9 @@
 -- The items of a tool's words: options, values of --length, operands, and at most one fault, at the end.
+use Prim.Native.String.{String}
 use denote.Enum.Bare.{sameb}
-use Rattle.std.specs.Prelude.{ℕ, ◌+◌, ◌==◌, ◌&&◌, ◌||◌, not, Bool, List, [], ◌∷◌, ◌++◌, map, drop, Option, None, Some, Result, Ok, Err, codes, if◌then◌else◌, option_map, filter, find, position, bytes_eq, chars, encode_utf8_all}
+use Rattle.std.specs.Prelude.{ℕ, ◌+◌, ◌==◌, ◌&&◌, ◌||◌, not, Bool, List, [], ◌∷◌, ◌++◌, map, drop}
+use Rattle.std.specs.Prelude.{Option, None, Some, Result, Ok, Err, codes, if◌then◌else◌}
+use Rattle.std.specs.Prelude.{option_map, filter, find, position, bytes_eq, chars, encode_utf8_all}
 use Rattle.std.specs.List.{starts_with, before_first}
 use Rattle.std.specs.Option.{option_map_or}
 use Rattle.std.specs.Str.{byte, is_utf8}
@@ -11,7 +14,8 @@ use Rattle.sum_words.specs.contracts.tool.Tool.{the_type as tool_type}
 use Rattle.sum_words.specs.contracts.parsing.options.Flag.{the_type as flag_type}
 pub use Rattle.sum_words.specs.declared.parsing.options.Spelling.{Spelling}
 pub use Rattle.sum_words.specs.declared.parsing.options.Spelling.TheVariants.{Long, Short}
-use Rattle.sum_words.specs.WordFaults.{WordFaultValue, unknown_long, ambiguous_long, value_not_allowed, value_missing, unknown_short, not_text}
+use Rattle.sum_words.specs.WordFaults.{WordFaultValue, unknown_long, ambiguous_long}
+use Rattle.sum_words.specs.WordFaults.{value_not_allowed, value_missing, unknown_short, not_text}
 use Rattle.sum_words.specs.declared.tool.Tool.TheVariants as tools
 use Rattle.sum_words.specs.declared.parsing.options.Flag.TheVariants as flags
 
@@ -22,25 +26,33 @@ pub data ItemValue : Type 0 where
   fault : WordFaultValue → ItemValue
 
 -- an option's letter (empty if it has none), its full name, and its text in the help
-abbrev pub row_of : Flag → ByteString × ByteString × ByteString
-row_of flags.Binary = (codes "b", codes "binary", codes "mark each line as binary")
-row_of flags.Check = (codes "c", codes "check", codes "read checksums from the FILEs and check them")
-row_of flags.Length = (codes "l", codes "length", codes "digest length in bits, a multiple of 8, at most 512")
-row_of flags.Tag = (codes "", codes "tag", codes "write lines of the tagged form")
-row_of flags.Text = (codes "t", codes "text", codes "mark each line as text (default)")
-row_of flags.Zero = (codes "z", codes "zero", codes "end each line with NUL and escape no name")
-row_of flags.IgnoreMissing =
-    (codes "", codes "ignore-missing", codes "with -c: neither fail nor report for missing files")
-row_of flags.Quiet = (codes "", codes "quiet", codes "with -c: print no OK lines")
-row_of flags.Status = (codes "", codes "status", codes "with -c: print no report")
-row_of flags.Strict = (codes "", codes "strict", codes "with -c: fail for improperly formatted lines")
-row_of flags.Warn = (codes "w", codes "warn", codes "with -c: name each improperly formatted line")
-row_of flags.Help = (codes "", codes "help", codes "print this text")
-row_of flags.Version = (codes "", codes "version", codes "print the version")
+pub record FlagRow : Type 0 where
+  pub letter : ByteString
+  pub name : ByteString
+  pub help : ByteString
+
+abbrev row : String → String → String → FlagRow
+row letter name help = record { letter = codes letter; name = codes name; help = codes help }
+
+-- each option's row
+abbrev pub row_of : Flag → FlagRow
+row_of flags.Binary = row "b" "binary" "mark each line as binary"
+row_of flags.Check = row "c" "check" "read checksums from the FILEs and check them"
+row_of flags.Length = row "l" "length" "digest length in bits, a multiple of 8, at most 512"
+row_of flags.Tag = row "" "tag" "write lines of the tagged form"
+row_of flags.Text = row "t" "text" "mark each line as text (default)"
+row_of flags.Zero = row "z" "zero" "end each line with NUL and escape no name"
+row_of flags.IgnoreMissing = row "" "ignore-missing" "with -c: neither fail nor report for missing files"
+row_of flags.Quiet = row "" "quiet" "with -c: print no OK lines"
+row_of flags.Status = row "" "status" "with -c: print no report"
+row_of flags.Strict = row "" "strict" "with -c: fail for improperly formatted lines"
+row_of flags.Warn = row "w" "warn" "with -c: name each improperly formatted line"
+row_of flags.Help = row "" "help" "print this text"
+row_of flags.Version = row "" "version" "print the version"
 
 -- an option's full name
 abbrev pub full_name : Flag → ByteString
-full_name flag = (row_of flag).1
+full_name flag = (row_of flag).name
 
 -- whether an option takes a value
 abbrev pub takes_value : Flag → Bool
@@ -92,7 +104,7 @@ long_option (Ok flag) (Some value) = if takes_value flag then (length_value valu
 
 -- a tool's option of this letter
 unfoldable pub option_of_letter : Tool → ℕ → Option Flag
-option_of_letter t c = find (λ flag. bytes_eq (row_of flag).0 (c ∷ [])) (flags_of t)
+option_of_letter t c = find (λ flag. bytes_eq (row_of flag).letter (c ∷ [])) (flags_of t)
 
 -- an option in a cluster that takes a value: the rest of the cluster is the value, if any is left
 abbrev pub attached_value : List ℕ → List ItemValue × NextWord

@@ -1,6 +1,7 @@
 -- What a tool's words ask for: the request of their items, or the first fault that counts.
 use denote.Enum.Bare.{sameb}
-use Rattle.std.specs.Prelude.{◌&&◌, ◌||◌, not, Bool, List, [], ◌∷◌, false, Option, None, Some, Result, Ok, Err, if◌then◌else◌, unwrap_or, option_map, filter, find, bytes_eq, filter_map}
+use Rattle.std.specs.Prelude.{◌&&◌, ◌||◌, not, Bool, List, [], ◌∷◌, false, Option, None, Some, Result, Ok}
+use Rattle.std.specs.Prelude.{Err, if◌then◌else◌, unwrap_or, option_map, filter, find, bytes_eq, filter_map}
 use Rattle.std.specs.List.{last_or, list_any}
 use Rattle.std.specs.Option.{option_transpose, option_map_or}
 use Rattle.std.specs.Str.{all_ascii_digits}
@@ -12,11 +13,15 @@ use Rattle.digest_kinds.specs.Kinds.{KindValue, full_kind, blake2b_of_bits}
 pub use Rattle.sum_lines.specs.declared.writing.put_line.Mode.{Mode}
 use Rattle.sum_lines.specs.declared.writing.put_line.Style.{Style}
 pub use Rattle.sum_engine.specs.declared.settings.Report.{Report}
-use Rattle.sum_words.specs.Items.{Flag, ByteString, ItemValue, option, fault, a_word, items_from, option_in, value_in, operand_in}
+use Rattle.sum_words.specs.Items.{Flag, ByteString, ItemValue, option, fault, a_word}
+use Rattle.sum_words.specs.Items.{items_from, option_in, value_in, operand_in}
 use Rattle.sum_words.specs.contracts.parsing.options.Flag.{the_type}
 pub use Rattle.sum_words.specs.declared.parsing.request.Request.{Request}
 pub use Rattle.sum_words.specs.declared.parsing.request.Request.TheVariants.{Generate, Check, Help, Version}
-use Rattle.sum_words.specs.WordFaults.{WordFaultValue, length_invalid, length_not_bytes, tag_with_text, zero_with_check, tag_with_check, mode_with_check, ignore_without_check, status_without_check, warn_without_check, quiet_without_check, strict_without_check, check_needed}
+use Rattle.sum_words.specs.WordFaults.{WordFaultValue, length_invalid, length_not_bytes, tag_with_text}
+use Rattle.sum_words.specs.WordFaults.{zero_with_check, tag_with_check, mode_with_check, ignore_without_check}
+use Rattle.sum_words.specs.WordFaults.{status_without_check, warn_without_check, quiet_without_check}
+use Rattle.sum_words.specs.WordFaults.{strict_without_check, check_needed}
 use Rattle.sum_lines.specs.declared.writing.put_line.Mode.TheVariants as modes
 use Rattle.sum_engine.specs.declared.settings.Report.TheVariants as reports
 use Rattle.sum_words.specs.declared.parsing.options.Flag.TheVariants as flags
@@ -94,17 +99,17 @@ request_or_fault algos kind given operands =
     }) operands))
 
 -- the first fault among the items, --help or --version decides if there is one
-abbrev pub early_answer : List ItemValue → Option (Result Request WordFaultValue)
-early_answer [] = None
-early_answer (fault f ∷ xs) = Some (Err f)
-early_answer (option flags.Help ∷ xs) = Some (Ok Help)
-early_answer (option flags.Version ∷ xs) = Some (Ok Version)
-early_answer (x ∷ xs) = early_answer xs
+abbrev pub early_request : List ItemValue → Option (Result Request WordFaultValue)
+early_request [] = None
+early_request (fault f ∷ xs) = Some (Err f)
+early_request (option flags.Help ∷ xs) = Some (Ok Help)
+early_request (option flags.Version ∷ xs) = Some (Ok Version)
+early_request (x ∷ xs) = early_request xs
 
 -- what a tool's items ask for; the last value of --length counts, and its fault precedes those of the options
 abbrev pub request_of_items : Tool → List ItemValue → Result Request WordFaultValue
 request_of_items t xs = let kind = option_transpose (option_map length_kind (last_or None (filter_map value_in xs))) in
-    unwrap_or (early_answer xs) (elim kind [
+    unwrap_or (early_request xs) (elim kind [
       | Ok kind ↦ request_or_fault (algos_of t) kind (filter_map option_in xs) (filter_map operand_in xs)
       | Err f ↦ Err f
     ])

@@ -1,37 +1,14 @@
 -- The texts that the program itself writes: of faults, help and version, and the lines for an unknown tool, for words
 -- that could not be read and for a stop.
-use Rattle.std.specs.Prelude.{[], ◌-◌, ◌++◌, codes, flat_map, if◌then◌else◌, length, replicate, encode_utf8, bytes_eq}
+use Rattle.std.specs.Prelude.{[], ◌-◌, ◌++◌, codes, flat_map, if◌then◌else◌, length, replicate, bytes_eq}
 use Rattle.std.specs.Str.{byte}
 use Rattle.sum_words.specs.Tools.{Algos, Tool, name_of, algos_of}
 use Rattle.digest_kinds.specs.declared.algo.Algos.TheVariants.{One, Any}
 use Rattle.digest_kinds.specs.Kinds.{tag}
-use Rattle.sum_lines.specs.Escape.{escape}
 use Rattle.sum_engine.specs.declared.stop.Stop.{Stop}
 use Rattle.sum_engine.specs.declared.stop.Stop.TheVariants.{Memory, Write}
-use Rattle.sum_words.specs.Items.{Long, Short, Flag, ByteString, row_of, full_name, takes_value, flags_of}
-use Rattle.sum_words.specs.WordFaults.{WordFaultValue, unknown_long, ambiguous_long, value_not_allowed, value_missing, unknown_short, length_invalid, length_not_bytes, tag_with_text, zero_with_check, tag_with_check, mode_with_check, ignore_without_check, status_without_check, warn_without_check, quiet_without_check, strict_without_check, check_needed, not_text}
-
--- the text of a fault, in which what was typed is escaped as names are
-abbrev pub wording : WordFaultValue → ByteString
-wording (unknown_long name) = codes "unrecognized option '--" ++ escape name ++ codes "'"
-wording (ambiguous_long name) = codes "option '--" ++ escape name ++ codes "' is ambiguous"
-wording (value_not_allowed name) = codes "option '--" ++ name ++ codes "' doesn't allow an argument"
-wording (value_missing Long) = codes "option '--length' requires an argument"
-wording (value_missing Short) = codes "option requires an argument -- 'l'"
-wording (unknown_short c) = codes "invalid option -- '" ++ escape (encode_utf8 c) ++ codes "'"
-wording (length_invalid value) = codes "invalid length: '" ++ escape value ++ codes "'"
-wording (length_not_bytes value) = codes "length is not a multiple of 8: '" ++ escape value ++ codes "'"
-wording tag_with_text = codes "--tag does not support --text mode"
-wording zero_with_check = codes "the --zero option is not supported when verifying checksums"
-wording tag_with_check = codes "the --tag option is meaningless when verifying checksums"
-wording mode_with_check = codes "the --binary and --text options are meaningless when verifying checksums"
-wording ignore_without_check = codes "the --ignore-missing option is meaningful only when verifying checksums"
-wording status_without_check = codes "the --status option is meaningful only when verifying checksums"
-wording warn_without_check = codes "the --warn option is meaningful only when verifying checksums"
-wording quiet_without_check = codes "the --quiet option is meaningful only when verifying checksums"
-wording strict_without_check = codes "the --strict option is meaningful only when verifying checksums"
-wording check_needed = codes "--check is required"
-wording (not_text word) = codes "unrecognized option '" ++ escape word ++ codes "'"
+use Rattle.sum_words.specs.Items.{Flag, ByteString, row_of, full_name, takes_value, flags_of}
+use Rattle.sum_words.specs.WordFaults.{WordFaultValue, wording}
 
 -- the two lines for a fault
 abbrev pub fault_lines : Tool → WordFaultValue → ByteString
@@ -46,12 +23,12 @@ purpose Any = codes "Check checksums of tagged lines."
 -- an option's letter in the help, or as many spaces
 abbrev pub letter_column : Flag → ByteString
 letter_column flag =
-    if bytes_eq (row_of flag).0 [] then codes "      " else codes "  -" ++ (row_of flag).0 ++ codes ", "
+    if bytes_eq (row_of flag).letter [] then codes "      " else codes "  -" ++ (row_of flag).letter ++ codes ", "
 
 -- an option's line of help: its letter, its full name in 18 columns, and its text
 abbrev pub help_line : Flag → ByteString
 help_line flag = let name = codes "--" ++ full_name flag ++ (if takes_value flag then codes "=BITS" else []) in
-    letter_column flag ++ name ++ replicate (18 - length name) (byte " ") ++ (row_of flag).2 ++ codes "\n"
+    letter_column flag ++ name ++ replicate (18 - length name) (byte " ") ++ (row_of flag).help ++ codes "\n"
 
 -- the text of --help
 abbrev pub help : Tool → ByteString

@@ -1,6 +1,8 @@
--- What may be wrong with the words of a command line.
-use Rattle.std.specs.Prelude.{ℕ, List}
+-- What may be wrong with the words of a command line, and how it is said.
+use Rattle.std.specs.Prelude.{ℕ, List, ◌++◌, codes, encode_utf8}
+use Rattle.sum_lines.specs.Escape.{escape}
 use Rattle.sum_words.specs.declared.parsing.options.Spelling.{Spelling}
+use Rattle.sum_words.specs.declared.parsing.options.Spelling.TheVariants.{Long, Short}
 
 -- a fault, with what its text shows: an option's name (typed or full), how it was written, a character, a value, a word
 pub data WordFaultValue : Type 0 where
@@ -11,3 +13,25 @@ pub data WordFaultValue : Type 0 where
   tag_with_text zero_with_check tag_with_check mode_with_check : WordFaultValue
   ignore_without_check status_without_check warn_without_check quiet_without_check : WordFaultValue
   strict_without_check check_needed : WordFaultValue
+
+-- the text of a fault, in which what was typed is escaped as names are
+abbrev pub wording : WordFaultValue → List ℕ
+wording (unknown_long name) = codes "unrecognized option '--" ++ escape name ++ codes "'"
+wording (ambiguous_long name) = codes "option '--" ++ escape name ++ codes "' is ambiguous"
+wording (value_not_allowed name) = codes "option '--" ++ name ++ codes "' doesn't allow an argument"
+wording (value_missing Long) = codes "option '--length' requires an argument"
+wording (value_missing Short) = codes "option requires an argument -- 'l'"
+wording (unknown_short c) = codes "invalid option -- '" ++ escape (encode_utf8 c) ++ codes "'"
+wording (length_invalid value) = codes "invalid length: '" ++ escape value ++ codes "'"
+wording (length_not_bytes value) = codes "length is not a multiple of 8: '" ++ escape value ++ codes "'"
+wording tag_with_text = codes "--tag does not support --text mode"
+wording zero_with_check = codes "the --zero option is not supported when verifying checksums"
+wording tag_with_check = codes "the --tag option is meaningless when verifying checksums"
+wording mode_with_check = codes "the --binary and --text options are meaningless when verifying checksums"
+wording ignore_without_check = codes "the --ignore-missing option is meaningful only when verifying checksums"
+wording status_without_check = codes "the --status option is meaningful only when verifying checksums"
+wording warn_without_check = codes "the --warn option is meaningful only when verifying checksums"
+wording quiet_without_check = codes "the --quiet option is meaningful only when verifying checksums"
+wording strict_without_check = codes "the --strict option is meaningful only when verifying checksums"
+wording check_needed = codes "--check is required"
+wording (not_text word) = codes "unrecognized option '" ++ escape word ++ codes "'"

@@ -1,10 +1,9 @@
 //! The command line: which tool is asked for, and on which words.
-ghost use Rattle.std.specs.Prelude.{◌≡◌, ◌≤◌, ◌<◌, ◌*◌, vec_len, take, IfOk, IfSome, OnOk, OnErr};
-ghost use Rattle.std.specs.Option.{option_map};
-ghost use Rattle.sum_words.specs.refinement.Arguments.{ArgumentIs, WordsAre, IsNameOf};
-ghost use Rattle.sum_words.specs.refinement.Arguments.{IsFirstWord, IsCommandLine, command_line_value};
-ghost use Rattle.sum_words.specs.refinement.Arguments.{IsLonger, HasArgument, MayBeUnread};
-ghost use Rattle.sum_words.specs.CommandLines.{last_part};
+ghost use Rattle.std.specs.Prelude.{◌≡◌, ◌≤◌, ◌<◌, ◌*◌, vec_len, take, length, slice_get, IfOk, IfSome, OnOk, OnErr};
+ghost use Rattle.std.specs.Option.{option_map, option_and_then};
+ghost use Rattle.sum_words.specs.Tools.{tool_called};
+ghost use Rattle.sum_words.specs.refinement.Arguments.{ArgumentIs, WordsAre, IsLonger, command_line_value};
+ghost use Rattle.sum_words.specs.CommandLines.{last_part, command_line, NeedsMemory};
 
 use crate::arguments::Arguments;
 use crate::tool::Tool;
@@ -23,7 +22,7 @@ const PAGE: usize = 4096;
 pub struct NotRead;
 
 /// What a command line asks for.
-#[derive(Drop)]
+#[derive(Debug, Drop)]
 pub enum CommandLine<A: Allocator> {
     /// A missing or unknown tool.
     UnknownTool,
@@ -39,9 +38,10 @@ pub fn read_command_line<A: Allocator + Copy, G: Arguments>(
     arguments: &G,
 ) -> Result<CommandLine<A>, NotRead>
     // If the arguments are known: what they ask for.
-    ensures line { IfOk result (λ line. IsCommandLine (G.known arguments.now) (command_line_value line)) }
+    ensures line { IfOk result (λ line. IfSome (G.known arguments.now) (λ all.
+        command_line all ≡ command_line_value line)) }
     // If the arguments are known: memory is needed.
-    ensures not_read { OnErr result (MayBeUnread (G.known arguments.now)) }
+    ensures not_read { OnErr result (IfSome (G.known arguments.now) NeedsMemory) }
 {
     let mut room = Room {
         page: [0; PAGE],
@@ -132,8 +132,9 @@ fn tool_called_by_name<A: Allocator, G: Arguments>(
     arguments: &G,
     room: &mut Room<A>,
 ) -> Result<Option<Tool>, NotRead>
-    ensures tool { IfOk result (λ tool. IsNameOf (G.known arguments.now) tool) }
-    ensures not_read { OnErr result (MayBeUnread (G.known arguments.now)) }
+    ensures tool { IfOk result (λ tool. IfSome (G.known arguments.now) (λ all.
+        tool ≡ option_and_then (λ name. tool_called (last_part name)) (slice_get all 0))) }
+    ensures not_read { OnErr result (IfSome (G.known arguments.now) NeedsMemory) }
 {
     let path = room.argument(arguments, 0)?;
     Ok(path.and_then(|path| Tool::of_name(last_part(path))))
@@ -155,8 +156,9 @@ fn tool_called_by_word<A: Allocator, G: Arguments>(
     arguments: &G,
     room: &mut Room<A>,
 ) -> Result<Option<Tool>, NotRead>
-    ensures tool { IfOk result (λ tool. IsFirstWord (G.known arguments.now) tool) }
-    ensures not_read { OnErr result (MayBeUnread (G.known arguments.now)) }
+    ensures tool { IfOk result (λ tool. IfSome (G.known arguments.now) (λ all.
+        tool ≡ option_and_then tool_called (slice_get all 1))) }
+    ensures not_read { OnErr result (IfSome (G.known arguments.now) NeedsMemory) }
 {
     let word = room.argument(arguments, 1)?;
     Ok(word.and_then(Tool::of_name))
@@ -172,7 +174,7 @@ fn words_from<A: Allocator + Copy, G: Arguments>(
 ) -> Result<Words<A>, NotRead>
     requires { first < usize.MAX }
     ensures words { IfOk result (λ words. WordsAre (G.known arguments.now) first words) }
-    ensures not_read { OnErr result (HasArgument (G.known arguments.now) first) }
+    ensures not_read { OnErr result (IfSome (G.known arguments.now) (λ all. first < length all)) }
 {
     let mut words = Words::new(alloc);
     'places: for place in first..usize::MAX {

@@ -30,5 +30,5 @@ pub use messages::word_faults::{WordFault, put_fault, put_not_read, put_stop, pu
 pub use parsing::items::{Item, Items, Operands};
 pub use parsing::options::{Flag, Spelling};
 pub use parsing::request::{Request, read_words};
-pub use tool::Tool;
+pub use tool::{Tool, UnknownTool};
 pub use words::{LentWords, NoRoom, Words};

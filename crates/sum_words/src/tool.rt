@@ -1,9 +1,12 @@
 //! The tools and their names.
-ghost use Rattle.std.specs.Prelude.{◌≡◌, ◌↔◌, Some, IfSome};
+ghost use Rattle.std.specs.Prelude.{◌≡◌, ◌↔◌, Some, Ok, IfSome};
 ghost use Rattle.sum_words.specs.declared.tool.Tool.{Tool};
 ghost use Rattle.sum_words.specs.Tools.{name_of, algos_of, tool_called};
 
 use digest_kinds::{Algo, Algos};
+use std::fmt;
+use std::str::FromStr;
+use thiserror::Error;
 
 /// One of the eight tools: the seven GNU digest tools of the coreutils manual, and `anysum`, which checks manifests of
 /// mixed tagged lines.
@@ -51,35 +54,59 @@ impl Tool {
             .find(|tool| tool.name().as_bytes() == name)
     }
 
+    // The tool's row in the table: its name, and the algorithms of its digests.
+    fn row(self) -> (&'static str, Algos)
+        ensures name { result.0.now ≡ name_of self }
+        ensures algos { result.1 ≡ algos_of self }
+    {
+        match self {
+            Tool::Md5sum => ("md5sum", Algos::One(Algo::Md5)),
+            Tool::Sha1sum => ("sha1sum", Algos::One(Algo::Sha1)),
+            Tool::Sha224sum => ("sha224sum", Algos::One(Algo::Sha224)),
+            Tool::Sha256sum => ("sha256sum", Algos::One(Algo::Sha256)),
+            Tool::Sha384sum => ("sha384sum", Algos::One(Algo::Sha384)),
+            Tool::Sha512sum => ("sha512sum", Algos::One(Algo::Sha512)),
+            Tool::B2sum => ("b2sum", Algos::One(Algo::Blake2b)),
+            Tool::Anysum => ("anysum", Algos::Any),
+        }
+    }
+
     /// The tool's name, as it is typed and as each of its messages begins.
     pub fn name(self) -> &'static str
         ensures { result.now ≡ name_of self }
     {
-        match self {
-            Tool::Md5sum => "md5sum",
-            Tool::Sha1sum => "sha1sum",
-            Tool::Sha224sum => "sha224sum",
-            Tool::Sha256sum => "sha256sum",
-            Tool::Sha384sum => "sha384sum",
-            Tool::Sha512sum => "sha512sum",
-            Tool::B2sum => "b2sum",
-            Tool::Anysum => "anysum",
-        }
+        self.row().0
     }
 
     /// The algorithms of the tool's digests: one, and any for `anysum`.
     pub fn algos(self) -> Algos
         ensures { result ≡ algos_of self }
     {
-        match self {
-            Tool::Md5sum => Algos::One(Algo::Md5),
-            Tool::Sha1sum => Algos::One(Algo::Sha1),
-            Tool::Sha224sum => Algos::One(Algo::Sha224),
-            Tool::Sha256sum => Algos::One(Algo::Sha256),
-            Tool::Sha384sum => Algos::One(Algo::Sha384),
-            Tool::Sha512sum => Algos::One(Algo::Sha512),
-            Tool::B2sum => Algos::One(Algo::Blake2b),
-            Tool::Anysum => Algos::Any,
-        }
+        self.row().1
+    }
+}
+
+/// No tool has this name.
+#[derive(Clone, Copy, Debug, PartialEq, Eq, Error)]
+#[error("unknown tool")]
+pub struct UnknownTool;
+
+impl FromStr for Tool {
+    type Err = UnknownTool;
+
+    ghost from_str_gives = { λ word r. (tool : Tool) → (r ≡ Ok tool) ↔ (name_of tool ≡ word) };
+
+    /// The tool of this name, as [`Tool::from_word`] has it.
+    fn from_str(word: &str) -> Result<Tool, UnknownTool> {
+        Tool::from_word(word).ok_or(UnknownTool)
+    }
+}
+
+impl fmt::Display for Tool {
+    ghost output = { λ tool. Some (name_of tool) };
+
+    /// Writes the tool's name, padded as a text is.
+    fn fmt<W: fmt::Write>(&self, f: &mut fmt::Formatter<W>) -> fmt::Result {
+        f.pad(self.name())
     }
 }

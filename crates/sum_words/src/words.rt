@@ -9,7 +9,7 @@ use std::marker::Model;
 pub use sum_sources::NoRoom;
 
 /// A list of words of any bytes: all of them, and the place where each word ends.
-#[derive(Drop)]
+#[derive(Debug, Drop)]
 pub struct Words<A: Allocator> {
     bytes: Vec<u8, A>,
     ends: Vec<usize, A>,

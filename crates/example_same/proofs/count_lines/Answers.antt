@@ -1,4 +1,5 @@
-use Rattle.std.proofs.Common.{rules, ◌≡◌, ◌∙◌, ◌+◌, ◌<◌, [], length, Option, None, Some, IfSome, MatchOption, ap, sym, subst, refl, arith}
+use Rattle.std.proofs.Common.{rules, ◌≡◌, ◌∙◌, ◌+◌, ◌<◌, [], length, Option, None}
+use Rattle.std.proofs.Common.{Some, IfSome, MatchOption, ap, sym, subst, refl, arith}
 use Rattle.sum_sources.specs.Contents.{Content, InputState, limit}
 use Rattle.sum_sources.specs.declared.fault.Ending.TheVariants.{Whole, Broken}
 use Rattle.sum_sources.specs.LineReaders.{MayRemain, remaining_content, consumed}

@@ -1,14 +1,15 @@
--- Relates the scan of the options to the request: the values so far, and the answers.
-use Rattle.std.specs.Prelude.{ℕ, ◌≡◌, ◌≤◌, ◌^◌, ◌||◌, ◌&&◌, not, true, Bool, List, [], Option, None, Some, Result, Ok, Err, filter, option_map, option_copied, bytes_eq, filter_map}
+-- Relates the scan of the options to the request: the values so far, and what they make of it.
+use Rattle.std.specs.Prelude.{ℕ, ◌≡◌, ◌≤◌, ◌^◌, ◌||◌, ◌&&◌, not, true, Bool, List, [], Option, None, Some}
+use Rattle.std.specs.Prelude.{Result, Ok, Err, filter, option_map, option_copied, bytes_eq, filter_map}
 use Rattle.std.specs.List.{last_or}
 use Rattle.std.specs.Str.{all_ascii_digits}
 use Rattle.std.specs.Str.Parse.{digits_value}
-use Rattle.sum_words.specs.Request.{report_flag, Mode, early_answer, has, mode_flags, report_flags}
+use Rattle.sum_words.specs.Request.{report_flag, Mode, early_request, has, mode_flags, report_flags}
 use Rattle.sum_words.specs.Items.{Flag, ByteString, ItemValue, option_in, value_in}
 use Rattle.sum_words.specs.declared.messages.word_faults.WordFault.{WordFault}
 use Rattle.sum_words.specs.declared.parsing.request.Chosen.{Chosen}
 use Rattle.sum_words.specs.declared.parsing.request.ScannedOptions.{ScannedOptions}
-use Rattle.sum_words.specs.declared.parsing.request.ScannedOptions.TheVariants.{Options, Answer}
+use Rattle.sum_words.specs.declared.parsing.request.ScannedOptions.TheVariants.{Options, Early}
 use Rattle.sum_words.specs.WordFaults.{WordFaultValue}
 use Rattle.sum_words.specs.refinement.ItemIterator.{fault_of}
 use Rattle.sum_lines.specs.declared.writing.put_line.Mode.TheVariants as modes
@@ -48,10 +49,10 @@ abbrev pub result_of : {X : Type 0} → Result X WordFault → Result X WordFaul
 result_of (Ok x) = Ok x
 result_of (Err f) = Err (fault_of f)
 
--- the scan returns the options of all items if none of these decides the answer, else that answer
+-- the scan returns the options of all items if none of these decides the request early, else that request
 abbrev pub IsScanOf : ScannedOptions → List ItemValue → Type 0
-IsScanOf (Options c) xs = IsChosenBy c [] xs × (early_answer xs ≡ None)
-IsScanOf (Answer r) xs = early_answer xs ≡ Some (result_of r)
+IsScanOf (Options c) xs = IsChosenBy c [] xs × (early_request xs ≡ None)
+IsScanOf (Early r) xs = early_request xs ≡ Some (result_of r)
 
 -- whether a value is one or more digits
 abbrev is_number : ByteString → Bool

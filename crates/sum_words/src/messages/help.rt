@@ -11,7 +11,7 @@ use crate::tool::Tool;
 use digest_kinds::Algos;
 use sum_lines::{Part, Sink, SinkFault, put_all, put_parts};
 
-/// Writes the help text, or returns `SinkFault` as [`sum_lines::put_all`] does.
+/// Gives the sink the help text, which it may buffer. `SinkFault` as [`sum_lines::put_all`].
 pub fn put_help<O: Sink>(out: &mut O, tool: Tool) -> Result<(), SinkFault>
     ensures { WritesAll (O.state out.old) (O.state out.new) (help tool) result }
 {
@@ -39,7 +39,7 @@ fn purpose(tool: Tool) -> (Part<'static>, Part<'static>, Part<'static>)
     )
 }
 
-// Writes the lines of those of these options that the tool has.
+// Gives the sink the lines of those of these options that the tool has.
 fn put_options<O: Sink>(out: &mut O, tool: Tool, flags: &[Flag]) -> Result<(), SinkFault>
     ensures { WritesAll (O.state out.old) (O.state out.new)
         (flat_map help_line (filter (has_option tool) flags.now)) result }
@@ -50,7 +50,7 @@ fn put_options<O: Sink>(out: &mut O, tool: Tool, flags: &[Flag]) -> Result<(), S
     Ok(())
 }
 
-// Writes the line of an option, if the tool has it.
+// Gives the sink the line of an option, if the tool has it.
 fn put_option<O: Sink>(out: &mut O, tool: Tool, flag: Flag) -> Result<(), SinkFault>
     ensures { WritesAll (O.state out.old) (O.state out.new)
         (flat_map help_line (filter (has_option tool) (flag ∷ []))) result }
@@ -64,7 +64,7 @@ fn put_option<O: Sink>(out: &mut O, tool: Tool, flag: Flag) -> Result<(), SinkFa
     }
 }
 
-// Writes the line of an option: its letter between these bytes, its name in 18 columns, and its text.
+// Gives the sink the line of an option: its letter between these bytes, its name in 18 columns, and its text.
 fn put_row<'a, O: Sink>(
     out: &mut O,
     flag: Flag,
@@ -110,7 +110,7 @@ fn padding(columns: usize) -> &'static [u8]
 
 static SPACES: [u8; 18] = [b' '; 18];
 
-/// Writes the version text, or returns `SinkFault` as [`sum_lines::put_all`] does.
+/// Gives the sink the version text, which it may buffer. `SinkFault` as [`sum_lines::put_all`].
 pub fn put_version<O: Sink>(out: &mut O, tool: Tool) -> Result<(), SinkFault>
     ensures { WritesAll (O.state out.old) (O.state out.new) (version tool) result }
 {

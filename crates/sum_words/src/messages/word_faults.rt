@@ -3,11 +3,11 @@
 ghost use Rattle.std.specs.Prelude.{◌≡◌, ◌++◌};
 ghost use Rattle.sum_lines.specs.sinks.Sinks.{WritesAll};
 ghost use Rattle.sum_lines.specs.refinement.PartTexts.{part_text};
-ghost use Rattle.sum_words.specs.WordFaults.{WordFaultValue};
+ghost use Rattle.sum_words.specs.WordFaults.{WordFaultValue, wording};
 ghost use Rattle.sum_words.specs.refinement.ItemIterator.{fault_of};
 ghost use Rattle.sum_words.specs.declared.tool.Tool.{Tool};
 ghost use Rattle.sum_words.specs.Tools.{name_of};
-ghost use Rattle.sum_words.specs.Texts.{wording, fault_lines, stop_line, unknown_tool_line, not_read_line};
+ghost use Rattle.sum_words.specs.Texts.{fault_lines, stop_line, unknown_tool_line, not_read_line};
 
 use crate::parsing::options::Spelling;
 use crate::tool::Tool;
@@ -56,7 +56,7 @@ pub enum WordFault<'a> {
     NotText(&'a [u8]),
 }
 
-/// Writes the two lines of a fault, or returns `SinkFault` as [`sum_lines::put_all`] does.
+/// Gives the sink the two lines of a fault, which it may buffer. `SinkFault` as [`sum_lines::put_all`].
 pub fn put_fault<E: Sink>(err: &mut E, tool: Tool, fault: &WordFault<'_>) -> Result<(), SinkFault>
     ensures { WritesAll (E.state err.old) (E.state err.new) (fault_lines tool (fault_of fault.now)) result }
 {
@@ -65,7 +65,7 @@ pub fn put_fault<E: Sink>(err: &mut E, tool: Tool, fault: &WordFault<'_>) -> Res
     put_lines(err, tool, prefix, shown, suffix)
 }
 
-// Writes the two lines of the fault whose text has these parts.
+// Gives the sink the two lines of the fault whose text has these parts.
 fn put_lines<'a, E: Sink>(
     err: &mut E,
     tool: Tool,
@@ -124,21 +124,22 @@ fn wording<'a>(fault: WordFault<'a>, buffer: &'a mut [u8; 4]) -> (&'static str, 
 
 const NOTHING: Part<'static> = Part::Bytes(b"");
 
-/// Writes the line for an unknown or missing tool, or returns `SinkFault` as [`sum_lines::put_all`] does.
+/// Gives the sink the line for an unknown or missing tool, which it may buffer. `SinkFault` as [`sum_lines::put_all`].
 pub fn put_unknown<E: Sink>(err: &mut E) -> Result<(), SinkFault>
     ensures { WritesAll (E.state err.old) (E.state err.new) unknown_tool_line result }
 {
     put_all(err, b"digests: unknown tool\n")
 }
 
-/// Writes the line for words that could not be read, or returns `SinkFault` as [`sum_lines::put_all`] does.
+/// Gives the sink the line for words that could not be read, which it may buffer. `SinkFault` as
+/// [`sum_lines::put_all`].
 pub fn put_not_read<E: Sink>(err: &mut E) -> Result<(), SinkFault>
     ensures { WritesAll (E.state err.old) (E.state err.new) not_read_line result }
 {
     put_all(err, b"digests: words not read\n")
 }
 
-/// Writes the line for a stop of the tool's run, or returns `SinkFault` as [`sum_lines::put_all`] does.
+/// Gives the sink the line for a stop of the tool's run, which it may buffer. `SinkFault` as [`sum_lines::put_all`].
 pub fn put_stop<E: Sink>(err: &mut E, tool: Tool, stop: Stop) -> Result<(), SinkFault>
     ensures { WritesAll (E.state err.old) (E.state err.new) (stop_line tool stop) result }
 {

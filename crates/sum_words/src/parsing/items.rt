@@ -1,5 +1,5 @@
 //! The items of the words: options, values, operands, or a fault.
-ghost use Rattle.std.specs.Prelude.{◌≡◌, ◌==◌, List, ℕ, [], ◌∷◌, MatchOption, drop, true, false, filter_map};
+ghost use Rattle.std.specs.Prelude.{◌≡◌, ◌==◌, List, ℕ, [], ◌∷◌, MatchOption, drop, length, true, false, filter_map};
 ghost use Rattle.std.specs.Iterator.{item_count};
 ghost use Rattle.std.specs.Option.{option_copied};
 ghost use Rattle.std.specs.List.{starts_with};
@@ -7,7 +7,6 @@ ghost use Rattle.std.specs.Str.{chars};
 ghost use Rattle.sum_words.specs.Items.{a_word, name_part, value_part, long_option, name_or_fault};
 ghost use Rattle.sum_words.specs.Items.{attached_value, cluster, is_option_word, items_from, operand_in};
 ghost use Rattle.sum_words.specs.refinement.ItemIterator.{remaining_items, read_then, step_items, item_of, TakesFirst};
-ghost use Rattle.sum_words.specs.refinement.ItemIterator.{IsAfterPrefix};
 ghost use Rattle.sum_words.specs.declared.tool.Tool.{Tool};
 
 use crate::messages::word_faults::WordFault;
@@ -48,7 +47,7 @@ enum ParserState<'a> {
 // written so; or all further words are operands.
 #[derive(Clone, Copy)]
 enum ParserStep<'a> {
-    Say(Item<'a>, ParserState<'a>),
+    Item(Item<'a>, ParserState<'a>),
     Value(Spelling),
     OnlyOperands,
 }
@@ -91,7 +90,7 @@ impl<'a> Iterator for Items<'a> {
             ParserState::Cluster(letter, rest) => letter_step(self.tool, letter, rest),
             ParserState::Word => word_step(self.tool, take_word(&self.words, &mut self.at)?),
         };
-        say(self.tool, &self.words, &mut self.at, &mut self.state, step)
+        apply_step(self.tool, &self.words, &mut self.at, &mut self.state, step)
     }
 }
 
@@ -106,7 +105,7 @@ fn take_word<'a>(words: &LentWords<'a>, at: &mut usize) -> Option<&'a [u8]>
 }
 
 // The next item, by a step.
-fn say<'a>(
+fn apply_step<'a>(
     tool: Tool,
     words: &LentWords<'a>,
     at: &mut usize,
@@ -117,7 +116,7 @@ fn say<'a>(
         result (remaining_items tool state.new (drop at.new words.now)) }
 {
     match step {
-        ParserStep::Say(item, next) => {
+        ParserStep::Item(item, next) => {
             *state = next;
             Some(item)
         }
@@ -144,11 +143,11 @@ fn word_step<'a>(tool: Tool, word: &'a [u8]) -> ParserStep<'a>
     ensures { (ws : List (List ℕ)) → step_items tool result ws ≡ items_from tool a_word (word.now ∷ ws) }
 {
     if !is_option_word(word) {
-        return ParserStep::Say(Item::Operand(word), ParserState::Word);
+        return ParserStep::Item(Item::Operand(word), ParserState::Word);
     }
     match str::from_utf8(word) {
         Ok(text) => option_step(tool, text),
-        Err(_) => ParserStep::Say(Item::Fault(WordFault::NotText(word)), ParserState::Ended),
+        Err(_) => ParserStep::Item(Item::Fault(WordFault::NotText(word)), ParserState::Ended),
     }
 }
 
@@ -183,16 +182,16 @@ fn long_step<'a>(tool: Tool, text: &'a str) -> ParserStep<'a>
     let (name, value) = name_and_value(text);
     let flag = match Flag::of_name(tool, name) {
         Ok(flag) => flag,
-        Err(fault) => return ParserStep::Say(Item::Fault(fault), ParserState::Ended),
+        Err(fault) => return ParserStep::Item(Item::Fault(fault), ParserState::Ended),
     };
     match (flag.takes_value(), value) {
-        (true, Some(value)) => ParserStep::Say(Item::Length(value.as_bytes()), ParserState::Word),
+        (true, Some(value)) => ParserStep::Item(Item::Length(value.as_bytes()), ParserState::Word),
         (true, None) => ParserStep::Value(Spelling::Long),
-        (false, Some(_)) => ParserStep::Say(
+        (false, Some(_)) => ParserStep::Item(
             Item::Fault(WordFault::ValueNotAllowed(flag.name())),
             ParserState::Ended,
         ),
-        (false, None) => ParserStep::Say(Item::Flag(flag), ParserState::Word),
+        (false, None) => ParserStep::Item(Item::Flag(flag), ParserState::Word),
     }
 }
 
@@ -202,12 +201,12 @@ fn letter_step<'a>(tool: Tool, letter: char, rest: &'a str) -> ParserStep<'a>
         ≡ read_then tool (cluster tool (letter ∷ chars rest.now)) ws }
 {
     match Flag::of_letter(tool, letter) {
-        None => ParserStep::Say(
+        None => ParserStep::Item(
             Item::Fault(WordFault::UnknownShort(letter)),
             ParserState::Ended,
         ),
         Some(Flag::Length) => attached_value(rest),
-        Some(flag) => ParserStep::Say(Item::Flag(flag), rest_of_cluster(rest)),
+        Some(flag) => ParserStep::Item(Item::Flag(flag), rest_of_cluster(rest)),
     }
 }
 
@@ -220,7 +219,7 @@ fn attached_value(rest: &str) -> ParserStep<'_>
     if rest.is_empty() {
         ParserStep::Value(Spelling::Short)
     } else {
-        ParserStep::Say(Item::Length(rest.as_bytes()), ParserState::Word)
+        ParserStep::Item(Item::Length(rest.as_bytes()), ParserState::Word)
     }
 }
 
@@ -265,7 +264,7 @@ fn first(text: &str) -> Option<(char, &str)>
 #[tactic(auto, using(crate::proofs::WordLemmas::prefix_stripped))]
 fn after_prefix<'a>(prefix: &str, word: &'a str) -> Option<&'a str>
     ensures { MatchOption result (starts_with ◌==◌ word.now prefix.now ≡ false)
-        (λ rest. IsAfterPrefix prefix.now word.now rest.now) }
+        (λ rest. (starts_with ◌==◌ word.now prefix.now ≡ true) × (rest.now ≡ drop (length prefix.now) word.now)) }
 {
     word.strip_prefix(prefix)
 }

@@ -1,10 +1,9 @@
 //! The options of the tools, by name and by letter (coreutils manual, "md5sum invocation" and "b2sum invocation").
-ghost use Rattle.std.specs.Prelude.{◌≡◌, ◌==◌, ◌&&◌, [], ◌∷◌, find};
+ghost use Rattle.std.specs.Prelude.{◌≡◌, ◌==◌, ◌&&◌, [], ◌∷◌, find, option_to_list};
 ghost use Rattle.std.specs.List.{filter, starts_with};
 ghost use Rattle.std.specs.Str.{bytes_eq};
 ghost use Rattle.sum_words.specs.Items.{row_of, full_name, all_flags, flags_of, has_option, takes_value};
 ghost use Rattle.sum_words.specs.Items.{option_of_letter, the_one, name_or_fault};
-ghost use Rattle.sum_words.specs.refinement.ItemIterator.{letter_text};
 ghost use Rattle.sum_words.specs.refinement.OptionScan.{result_of};
 
 use crate::messages::word_faults::WordFault;
@@ -78,9 +77,9 @@ impl Flag {
     /// The option's row in the table.
     #[rattlefmt::skip]
     pub(crate) fn row(self) -> Row
-        ensures letter { letter_text result.letter ≡ (row_of self).0 }
+        ensures letter { option_to_list result.letter ≡ (row_of self).letter }
         ensures name { result.name.now ≡ full_name self }
-        ensures help { result.help.now ≡ (row_of self).2 }
+        ensures help { result.help.now ≡ (row_of self).help }
     {
         match self {
             Flag::Binary => Row::new(Some(b'b'), "binary", "mark each line as binary"),
@@ -141,7 +140,7 @@ impl Flag {
 
 // Whether this is the option's letter.
 fn has_letter(flag: Flag, letter: char) -> bool
-    ensures { result ≡ bytes_eq (row_of flag).0 (letter ∷ []) }
+    ensures { result ≡ bytes_eq (row_of flag).letter (letter ∷ []) }
 {
     match flag.row().letter {
         Some(own) => char::from(own) == letter,

@@ -41,7 +41,7 @@ pub fn read_words<'a, A: Allocator>(
 {
     let chosen = match read_options(tool, words) {
         ScannedOptions::Options(chosen) => chosen,
-        ScannedOptions::Answer(answer) => return answer,
+        ScannedOptions::Early(request) => return request,
     };
     // Not `?`: the borrow checker has no rule for it if the error holds a `&'static str`.
     let kind = match asked_kind(chosen.length) {
@@ -66,14 +66,14 @@ struct Chosen<'a> {
     strict: bool,
 }
 
-// What reading the words returns: their options, or the answer if an item decides it.
+// What reading the words returns: their options, or the request, or its fault, if an item decides it.
 #[derive(Drop)]
 enum ScannedOptions<'a> {
     Options(Chosen<'a>),
-    Answer(Result<Request<'a>, WordFault<'a>>),
+    Early(Result<Request<'a>, WordFault<'a>>),
 }
 
-// The options among the items, or the answer if an item decides it.
+// The options among the items, or the request if an item decides it.
 fn read_options<'a, A: Allocator>(tool: Tool, words: &'a Words<A>) -> ScannedOptions<'a>
     ensures { IsScanOf result (items_from tool a_word words.now) }
 {
@@ -92,10 +92,10 @@ fn read_options<'a, A: Allocator>(tool: Tool, words: &'a Words<A>) -> ScannedOpt
     };
     while let Some(item) = items.next() {
         match item {
-            Item::Fault(fault) => return ScannedOptions::Answer(Err(fault)),
+            Item::Fault(fault) => return ScannedOptions::Early(Err(fault)),
             Item::Flag(flag) => match flag {
-                Flag::Help => return ScannedOptions::Answer(Ok(Request::Help)),
-                Flag::Version => return ScannedOptions::Answer(Ok(Request::Version)),
+                Flag::Help => return ScannedOptions::Early(Ok(Request::Help)),
+                Flag::Version => return ScannedOptions::Early(Ok(Request::Version)),
                 _ => chosen = with_flag(chosen, flag),
             },
             Item::Length(value) => chosen.length = Some(value),

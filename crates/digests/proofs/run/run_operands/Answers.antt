@@ -1,6 +1,7 @@
 use Rattle.std.proofs.Common.{◌≡◌, ◌∙◌, rules, ◌&&◌, refl}
 use Rattle.sum_engine.proofs.ReadToEndLemmas.{ReadToEnd-none}
-use Rattle.digests.proofs.OperandLemmas.{operands_of, operands_done_start, operands_done_step, operands_done_end, operands_done_stop, read_step, read_end}
+use Rattle.digests.proofs.OperandLemmas.{operands_of, operands_done_start, operands_done_step}
+use Rattle.digests.proofs.OperandLemmas.{operands_done_end, operands_done_stop, read_step, read_end}
 use Rattle.digests.proofs.run.run_operands.Goals.{then-good, else-good}
 use Rattle.digests.proofs.run.run_operands.Goals as goal
 
@@ -11,7 +12,8 @@ operands-init g c =
     record {
       reached = operands_done_start g.S.Source.state all _ c.args.streams.now c.first_name-name.ensures;
       so_far = search rules;
-      whole = λ good. ReadToEnd-none g.S.Source.state c.args.streams.now.inputs c.args.streams.now.inputs refl refl refl refl;
+      whole = λ good. ReadToEnd-none g.S.Source.state c.args.streams.now.inputs c.args.streams.now.inputs refl refl
+          refl refl;
     }
 
 -- an operand stopped the run

@@ -1,14 +1,14 @@
 use Rattle.std.proofs.Common.{◌≡◌, length}
 use Rattle.sum_words.specs.Items.{a_word, items_from}
-use Rattle.sum_words.specs.Request.{early_answer}
+use Rattle.sum_words.specs.Request.{early_request}
 use Rattle.sum_words.specs.refinement.OptionScan.{IsChosenBy}
 use Rattle.sum_words.proofs.parsing.request.read_options.Given as goal
 
 -- the options chosen so far and those of the remaining items are those of all items
 abbrev pub invariant-loop-item : goal.invariant-loop-item
 invariant-loop-item g l = record {
-  says : IsChosenBy l.chosen l.items (items_from l.fn.tool a_word l.words);
-  ending : early_answer l.items ≡ early_answer (items_from l.fn.tool a_word l.words);
+  chosen : IsChosenBy l.chosen l.items (items_from l.fn.tool a_word l.words);
+  early : early_request l.items ≡ early_request (items_from l.fn.tool a_word l.words);
 }
 
 -- the items that remain
