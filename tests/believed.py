@@ -1,16 +1,18 @@
 #!/usr/bin/env python3
-"""What a reader has to believe: the definitions that the contract of a function reaches, by their names.
+"""What a reader has to believe: what the contract of a function says, down to its last definition, by their names.
 
     tests/believed.py            prints, for the headline and the program, the files, each with its lines
-    tests/believed.py --text     prints the contracts, those of the laws too, and the definitions, each behind those
-                                 that it stands on, with what both name of the code
+    tests/believed.py --text     prints it all, and the laws, the contract first, each definition before those that it
+                                 stands on
     tests/believed.py --write    makes the tables of docs/PROMISES.md anew
 
 What a contract says of a value is said in words that others give a meaning: the clauses of the traits that bound the
-function's parameters, and the models through which it sees their types. So their definitions count too.
+function's parameters, and the views of their types. So these count, with the types and constants of the code that are
+named, and the definitions that all of them reach. A definition that is computed, and that a law holds against a
+relation, need not be believed: the law's definitions count in its place, and it, with what it alone reaches, apart.
 
-A definition is counted with the comment above it, without blank lines and those that say how an operator binds. What
-the toolchain's own libraries define, and the types and constants that the code declares, are not counted."""
+Lines are counted with the comments above a definition, and without blank ones, heads of files, and those that say how
+an operator binds. What the toolchain's own libraries define isn't counted."""
 
 import collections
 import functools
@@ -27,12 +29,13 @@ from rattle import TOP, Code, Specs, crates, text_of  # noqa: E402  (it is there
 PROMISES = os.path.join(TOP, "docs", "PROMISES.md")
 # What is believed besides the laws, in the order of the page: a function's crate and name, and what the page calls it.
 CLAIMS = [("digests", "run", "The headline"), ("digests", "command", "The program")]
+COMPUTED = {"parse_line": "parse_is_grammar", "form": "one_form"}  # what a law holds against a relation, and the law
 MARKS = "<!-- made by tests/believed.py: what stands below -->\n", "\n<!-- and above this line -->"
 
-
-# A function whose contract is believed, with what the page calls it: the function itself and what gives its words a
-# meaning, the definitions that it reaches, and those of them that no claim before it reaches, by their files.
-Claim = collections.namedtuple("Claim", "function crate title behind reached files")
+# A function whose contract is believed, or the laws: what the page calls it, and the function's name; the items of the
+# code and the definitions that are believed, and those that need not be; and of these items and definitions, by their
+# files, what no claim before it has.
+Claim = collections.namedtuple("Claim", "title of items reached apart new files")
 
 code, every_definition = functools.lru_cache(Code), functools.lru_cache(Specs)  # each is read once
 
@@ -46,83 +49,92 @@ def declared(those):
     return found
 
 
-def cited(item):
-    """The definitions that the clauses of an item name."""
-    specs, uses = every_definition(), item.uses
+def cited(items):
+    """The definitions that the clauses of items name."""
+    specs = every_definition()
 
-    def find(name):
+    def find(uses, name):
         return specs.find(*uses.get(name, (None, None)))
-    return {found for clause in item.clauses for found in specs.named(clause, find, item.uses)}
+    return {found for item in items for clause in item.clauses
+            for found in specs.named(clause, functools.partial(find, item.uses), item.uses)}
+
+
+def computed():
+    """The definitions that are computed, each with those that its law names."""
+    found = {}
+    for name, law in COMPUTED.items():
+        item = next(it for it in code().laws() if it.name == law)
+        (definition,) = (it for module in every_definition().modules.values() if module.crate == item.crate
+                         for it in module.definitions.values() if it.name == name)
+        found[definition] = cited([item])
+    return found
 
 
 def in_files(definitions):
-    """The definitions by their files, each file after those that it uses, and else in the order of the crates and of
-    names. In a file its own order is such an order: a definition can use only what precedes it there, or elsewhere."""
+    """The definitions by their files, the highest crate's first, each file before those that it uses, and else in the
+    order of names. In a file, where a definition can use only what precedes it, they are in the opposite order."""
     specs, files, order, listed = every_definition(), {}, {}, crates()
-
-    def place(file):
-        return listed.index(file[0]), file[1]
-
     for definition in (it for module in specs.modules.values() for it in module.definitions.values()):
         if definition in definitions:
-            files.setdefault(definition.file, []).append(definition)
-
-    def put(file, above):
-        if file in above:
-            raise ValueError(f"these files use each other: {above}")
-        needs = {it.file for definition in files[file] for it in specs.meant(definition) & definitions}
-        for need in sorted(needs - {file} - order.keys(), key=place):
-            put(need, [*above, file])
-        order[file] = files[file]
-
-    for file in sorted(files, key=place):
-        put(file, [])
+            files.setdefault(definition.file, []).insert(0, definition)
+    left = sorted(files, key=lambda file: (-listed.index(file[0]), file[1]))
+    needs = {file: {it.file for definition in files[file] for it in specs.meant(definition)} - {file} for file in left}
+    while left:
+        first = [file for file in left if not any(file in needs[other] for other in left)]
+        if not first:
+            raise ValueError(f"these files use each other: {left}")
+        left.remove(first[0])
+        order[first[0]] = files[first[0]]
     return order
 
 
 def claims():
-    """The headline and the program."""
-    before = set()
-    for crate, name, title in CLAIMS:
-        behind = code().reached(code().function(crate, name))
-        reached = every_definition().reached(found for item in behind for found in cited(item))
-        yield Claim(name, crate, title, behind, reached, in_files(reached - before))
-        before |= reached
+    """The headline and the program; and the laws."""
+    before, earlier, specs = set(), [], every_definition()
+    functions = [(title, f" (`{name}` of `{crate}`)", [code().function(crate, name)]) for crate, name, title in CLAIMS]
+    for title, of, functions in [*functions, ("The laws", "", code().laws())]:
+        contracts = [item for function in functions for item in code().reached(function)]
+        reached = specs.reached(cited(contracts), computed()) - computed().keys()
+        items = list({id(it): it for it in [*contracts, *declared(contracts), *declared(reached)]}.values())
+        apart = specs.reached(cited(contracts)) - reached - before
+        new = [it for it in items if it not in earlier]
+        yield Claim(title, of, items, reached, apart, new, in_files(reached - before))
+        before |= reached | apart
+        earlier += items
+
+
+def shown(item):
+    """The lines of an item of the code."""
+    return re.sub(r"\n\s*\n", "\n\n", item.text.replace("{\n\n", "{\n")).strip()
+
+
+def size(those):
+    """The lines of definitions, or of items of the code."""
+    return sum(it.size if hasattr(it, "size") else len(re.findall(r"(?m)^.*\S", shown(it))) for it in those)
+
+
+def counted(claim):
+    code_lines, lines = size(claim.items), size(claim.reached)
+    return (f"{code_lines + lines:,} lines to believe: {lines:,} of {len(claim.reached)} definitions, and {code_lines} "
+            f"of clauses, views, types and constants of the code")
 
 
 def text():
-    """The contracts, and the definitions themselves after what their files say of themselves; after each contract and
-    before each file what it names of the code, which is shown once and without comments."""
-    every, shown = list(claims()), []
-    parts = [(f"{it.title} ({it.function} of {it.crate})", it.behind, it.files) for it in every]
-    laws = [item for law in code().laws() for item in code().reached(law)]
-    besides = every_definition().reached(found for item in laws for found in cited(item)).difference(
-        *(it.reached for it in every))
-    parts.append(("The laws, besides what precedes", laws, in_files(besides)))
-    several = of_several(it for _, _, files in parts for them in files.values() for it in them)
-
-    def code_of(items):
-        for item in items:
-            if item not in shown:
-                shown.append(item)
-                lines = re.sub(r"\n\s*\n", "\n\n", item.text.replace("{\n\n", "{\n")).strip()
-                yield "\n".join(["", f"-- {item.crate} src/{item.file}", *renamed([item], several), lines])
-
-    for title, contracts, files in parts:
-        yield f"-- ======== {title}: {counted(sum(files.values(), []))}"
-        yield from code_of([*contracts, *declared(contracts)])
-        for (crate, file), definitions in files.items():
-            yield from code_of(declared(definitions))
-            head = [f"-- ---- {crate} {file}: {counted(definitions)}", *definitions[0].module.head]
-            yield "\n".join(["", *head, *renamed(definitions, several)])
-            for definition in definitions:
-                yield "\n".join(["", *definition.lines])
-        yield ""
-
-
-def counted(definitions):
-    size = sum(it.size for it in definitions)
-    return f"{len(definitions)} definition{'s' * (len(definitions) != 1)}, {size:,} lines"
+    """A list of the parts, and these: of each crate, the highest first, the items of the code without their comments
+    and the definitions of its files, after what the files say of themselves; all that only once."""
+    every = list(claims())
+    several = of_several(it for claim in every for them in claim.files.values() for it in them)
+    for claim in every:
+        yield f"-- {claim.title}{claim.of.replace('`', '')}: {counted(claim)}"
+        yield from (f"--   {crate} {file}: {size(them)} lines" for (crate, file), them in claim.files.items())
+    for claim in every:
+        yield f"\n-- ======== {claim.title}"
+        for crate in reversed(crates()):
+            for item in (it for it in claim.new if it.crate == crate):
+                yield "\n".join(["", f"-- {crate} src/{item.file}", *renamed([item], several), shown(item)])
+            for file, definitions in ((file, them) for (of, file), them in claim.files.items() if of == crate):
+                head = [f"-- ---- {crate} {file}", *definitions[0].module.head, *renamed(definitions, several)]
+                yield "\n".join(["", *head, *("\n".join(["", *it.lines]) for it in definitions)])
 
 
 def renamed(those, several):
@@ -155,15 +167,18 @@ def tables(page):
     """The tables of the page, a row a file, as they have to be. What files say is taken from the page, and is `?` if it
     isn't there."""
     lines = []
-    for claim in claims():
-        besides = "besides the above:" if lines else "in these files:"
-        lines += [f"**{claim.title}** (`{claim.function}` of `{claim.crate}`): {counted(claim.reached)}; {besides}", "",
+    for claim in list(claims())[:len(CLAIMS)]:
+        where = "besides the above:" if lines else "in these files:"
+        lines += [f"**{claim.title}**{claim.of}: {counted(claim)}; {where}", "",
                   "| definitions | what they say | lines |", "|---|---|---|"]
         says = rows_of(page.partition(f"**{claim.title}**")[2].partition("\n**")[0])
-        for (crate, file), them in claim.files.items():
-            size = sum(it.size for it in them)
-            lines += [f"| `{crate}/specs/{file}.antt` | {says.get((crate, file), '?')} | {size} |"]
-        lines += [""]
+        lines += [f"| `{crate}/specs/{file}.antt` | {says.get((crate, file), '?')} | {size(them)} |"
+                  for (crate, file), them in claim.files.items()]
+        lines += [f"| of the code | the contract, traits, views, types and constants | {size(claim.new)} |", ""]
+        if claim.apart:
+            laws = " and ".join(f"`{law}`" for law in COMPUTED.values())
+            lines += [f"Apart: {len(claim.apart)} definitions, {size(claim.apart)} lines, that compute what relations "
+                      f"say of a line and of a form. By the laws {laws} they need not be believed.", ""]
     return "\n".join(lines[:-1])
 
 

@@ -29,11 +29,15 @@ class Documents(Case):
                 self.assertTrue(contract in shown, f"docs/{page}.md doesn't show the contract of {name} as it is")
 
     def test_text(self):
-        """`--text` begins with the headline, and counts its definitions as the page does."""
+        """`--text` begins with the headline, counted as on the page, and goes down to BLAKE2b."""
         ran = self.run_command([os.path.join(TOP, "tests", "believed.py"), "--text"])
-        counted = re.search(r"\*\*The headline\*\* .*: (\d+ definitions, [\d,]+ lines);", believed.page()[0])[1]
-        first = f"-- ======== The headline (run of digests): {counted}"
-        self.assertEqual((ran.status, ran.err, ran.out.decode().split("\n")[0]), (0, b"", first))
+        counted = re.search(r"\*\*The headline\*\* \(`run` of `digests`\): (.*);", believed.page()[1])[1]
+        said = ran.out.decode()
+        self.assertEqual((ran.status, ran.err, said.split("\n")[0]),
+                         (0, b"", f"-- The headline (run of digests): {counted}"))
+        parts = ["pub fn run<", " pub meaning :", " pub check_behavior :", "pub trait Source ", " pub compress :",
+                 "pub fn command<", "pub fn parse_is_grammar()"]
+        self.assertEqual(sorted(parts, key=said.index), parts)
 
     def test_what_cannot_be_read(self):
         """It is refused, so that no line of a definition is left out unseen."""

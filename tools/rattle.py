@@ -353,12 +353,12 @@ class Specs:
         named = self.named(definition.text, lambda name: self.find(module.name, name), module.imports)
         return {it for it in named if it.module is not module or it.place < definition.place}
 
-    def reached(self, first):
-        """All definitions that these reach."""
+    def reached(self, first, instead={}):
+        """All definitions that these reach; some reach others instead of those that they refer to."""
         seen, left = set(), list(first)
         while left:
             definition = left.pop()
             if definition not in seen:
                 seen.add(definition)
-                left.extend(self.meant(definition))
+                left.extend(instead.get(definition) or self.meant(definition))
         return seen
