@@ -11,6 +11,7 @@ import argparse
 import os
 import platform
 import random
+import re
 import shutil
 import subprocess
 import sys
@@ -25,10 +26,10 @@ import options  # noqa: E402  (it is in tools)
 from harness import gnu  # noqa: E402  (it is in tests/support)
 from measure import Contender, measure, peak_memory  # noqa: E402  (it is beside this file)
 
-TOOLS = [tool for tool in options.TOOLS if tool != "anysum"]
 CHECKED = ("md5sum", "sha256sum", "b2sum")
 MIB = 1 << 20
 GNU, BARE, OPENSSL = "GNU", "kit's loop", "openssl"
+LOOPS = os.path.join(HERE, "bare", "main.rt.txt")  # a file named *.rt stands only in a crate
 
 
 def built_programs():
@@ -43,9 +44,8 @@ def built_programs():
 def built_bare():
     """The bare loops, proved and built in a small repository of their own; None where that can't be. That is taken away
     again: the gate reads no crate and no `.rt` file beside this repository's own."""
-    source = os.path.join(HERE, "bare", "main.rt.txt")  # a file named *.rt stands only in a crate
     program = os.path.join(HERE, "out", "bare")
-    if os.path.isfile(program) and os.path.getmtime(program) > os.path.getmtime(source):
+    if os.path.isfile(program) and os.path.getmtime(program) > os.path.getmtime(LOOPS):
         return program
     if shutil.which("rt") is None:
         return None
@@ -55,7 +55,7 @@ def built_bare():
     with tempfile.TemporaryDirectory(prefix="digests-bare-") as repository:
         crate = os.path.join(repository, "crates", "bare")
         os.makedirs(os.path.join(crate, "src"))
-        shutil.copy(source, os.path.join(crate, "src", "main.rt"))
+        shutil.copy(LOOPS, os.path.join(crate, "src", "main.rt"))
         with open(os.path.join(repository, "crates.txt"), "w") as crates:
             crates.write("bare: md5 sha1 sha2\n")
         how = {"stdin": subprocess.DEVNULL, "stdout": subprocess.PIPE, "stderr": subprocess.STDOUT}
@@ -81,6 +81,8 @@ class Bench:
         self.ours = named or built_programs()
         hashes = not asked.only or "hashing" in asked.only
         self.bare = built_bare() if hashes and not asked.no_bare else None
+        with open(LOOPS, encoding="utf-8") as source:
+            self.looped = re.findall(r'b"(\w+)" =>', source.read())  # the digests of the kit
         self.rounds = asked.rounds
         self.size = asked.size
         self.folder = folder
@@ -95,7 +97,7 @@ class Bench:
     def hashers(self, tool):
         """All that hash standard input as the tool does."""
         found = self.contenders(tool)
-        if self.bare and tool != "b2sum":
+        if self.bare and tool in self.looped:
             found.append(Contender(BARE, [self.bare, tool]))
         words = ["openssl", "dgst", "-blake2b512" if tool == "b2sum" else f"-{tool[:-3]}"]
         return found + ([Contender(OPENSSL, words)] if works(words) else [])
@@ -178,7 +180,7 @@ def spread(times):
 
 def hashing(bench):
     """Each tool over standard input."""
-    for tool in TOOLS:
+    for tool in options.DIGESTS:
         bench.add(f"`{tool}`, {bench.size} MiB", bench.hashers(tool), stdin=bench.large(bench.size))
 
 

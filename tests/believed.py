@@ -16,6 +16,7 @@ an operator binds. What the toolchain's own libraries define isn't counted."""
 
 import collections
 import functools
+import graphlib
 import os
 import re
 import signal
@@ -71,21 +72,17 @@ def computed():
 
 
 def in_files(definitions):
-    """The definitions by their files, the highest crate's first, each file before those that it uses, and else in the
-    order of names. In a file, where a definition can use only what precedes it, they are in the opposite order."""
-    specs, files, order, listed = every_definition(), {}, {}, crates()
+    """The definitions by their files, the highest crate's first, each file before those that it uses. In a file, where
+    a definition can use only what precedes it, they are in the opposite order."""
+    specs, files, listed = every_definition(), {}, crates()
     for definition in (it for module in specs.modules.values() for it in module.definitions.values()):
         if definition in definitions:
             files.setdefault(definition.file, []).insert(0, definition)
-    left = sorted(files, key=lambda file: (-listed.index(file[0]), file[1]))
-    needs = {file: {it.file for definition in files[file] for it in specs.meant(definition)} - {file} for file in left}
-    while left:
-        first = [file for file in left if not any(file in needs[other] for other in left)]
-        if not first:
-            raise ValueError(f"these files use each other: {left}")
-        left.remove(first[0])
-        order[first[0]] = files[first[0]]
-    return order
+    order = graphlib.TopologicalSorter(dict.fromkeys(files, ()))
+    for file in files:
+        for other in sorted({it.file for one in files[file] for it in specs.meant(one)} & files.keys() - {file}):
+            order.add(other, file)
+    return {file: files[file] for file in sorted(order.static_order(), key=lambda file: -listed.index(file[0]))}
 
 
 def claims():

@@ -7,7 +7,7 @@ import signal
 import subprocess
 
 import harness
-from harness import M, TOOLS, TOP, Case, Ran
+from harness import M, NAMES, TOOLS, TOP, Case, Ran
 from repository import ASKED, BOTH, DEFAULT, FAST, OF_A, Repository
 
 
@@ -134,11 +134,11 @@ class Launcher(Repository):
             self.assertEqual(started.wait(timeout=harness.RUN_SECONDS), -signal.SIGTERM)
 
     def test_links(self):
-        """By a link to a link, too, with spaces and newlines in folders: the eight tools' names, and no other."""
+        """By a link to a link, too, with spaces and newlines in folders: the tools' names, and no other."""
         os.rename(self.top, self.top + "\n2\n")
         os.mkdir(self.path("a\nfolder "))
         os.symlink(f"../{os.path.basename(self.top)}\n2\n/digests", self.path("a\nfolder /foosum"))
-        for name in [*TOOLS, "anysum"]:
+        for name in NAMES:
             os.symlink("foosum", self.path(f"a\nfolder /{name}"))
         for tool, (_, of_nothing, of_abc) in TOOLS.items():
             ran = self.run_command([self.path(f"a\nfolder /{tool}"), "a", "e"], env=self.env)

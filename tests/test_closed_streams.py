@@ -5,12 +5,10 @@ import hashlib
 import os
 
 import harness
-from harness import E, M, S, TOOLS, VERDICTS, X_MISSING, Case, Ran, as_bytes, as_words
+from harness import E, M, S, TOOLS, VERDICTS, WRITE_ERROR, X_MISSING, Case, Ran, as_bytes, as_words, unread
 from tracing import Traced, needs_strace
 
 FAULT = "md5sum: -: Bad file descriptor"
-WRITE_ERROR = b"md5sum: write error\n"
-ONE_UNREAD = "md5sum: WARNING: 1 listed file could not be read"
 
 
 def hostile_manifests():
@@ -29,46 +27,47 @@ class Closing(Case):
         shut = "".join(f" {number}>&-" if number else " 0<&-" for number in streams)
         return self.run_command(["sh", "-c", f'exec "$0" "$@"{shut}', harness.PROGRAM, *as_words(words)], **how)
 
+    def expect_closed(self, *rows):
+        """Expects of words, with these streams closed, a status and what they write to both outputs."""
+        for words, streams, status, out, err in rows:
+            with self.subTest(words=words, streams=streams):
+                self.assertEqual(self.closed(words, *streams), Ran(status, as_bytes(out), as_bytes(err)))
+
 
 class ClosedInput(Closing):
     def test_alone(self):
         """`md5sum <&-` says that it can't read standard input, under every tool."""
         for tool in TOOLS:
-            fault = as_bytes([f"{tool}: -: Bad file descriptor"])
-            self.assertEqual(self.closed(tool, 0), Ran(1, b"", fault))
-            self.assertEqual(self.closed([tool, "-"], 0), Ran(1, b"", fault))
+            self.expect_closed(*((words, [0], 1, b"", [f"{tool}: -: Bad file descriptor"])
+                                 for words in (tool, [tool, "-"])))
 
     def test_among_others(self):
         """The other operands are read all the same; a second `-` is an empty input, as after any other one."""
-        self.assertEqual(self.closed("md5sum a - e", 0), Ran(1, as_bytes([f"{M}  a", f"{E}  e"]), as_bytes([FAULT])))
-        ran = self.closed("md5sum - a -", 0)
-        self.assertEqual(ran, Ran(1, as_bytes([f"{M}  a", f"{E}  -"]), as_bytes([FAULT])))
-        self.assertEqual(self.closed("md5sum a e", 0), Ran(0, as_bytes([f"{M}  a", f"{E}  e"]), b""))
+        self.expect_closed(("md5sum a - e", [0], 1, [f"{M}  a", f"{E}  e"], [FAULT]),
+                           ("md5sum - a -", [0], 1, [f"{M}  a", f"{E}  -"], [FAULT]),
+                           ("md5sum a e", [0], 0, [f"{M}  a", f"{E}  e"], b""))
 
     def test_words_need_no_input(self):
         for words in ("md5sum --help", "md5sum --version", "md5sum --foo", "shasum", []):
-            self.assertEqual(self.closed(words, 0), self.run_words(words))
+            self.expect_closed((words, [0], *self.run_words(words)))
 
     def test_as_the_manifest(self):
         """`md5sum -c <&-` can't read its manifest."""
         fault = b"md5sum: standard input: Bad file descriptor\n"
-        self.assertEqual(self.closed("md5sum -c", 0), Ran(1, b"", fault))
         self.write("l", [f"{M}  a"])
-        self.assertEqual(self.closed("md5sum -c l - l", 0), Ran(1, b"a: OK\na: OK\n", fault))
+        self.expect_closed(("md5sum -c", [0], 1, b"", fault), ("md5sum -c l - l", [0], 1, ["a: OK", "a: OK"], fault))
 
     def test_listed(self):
         """Its entry can't be read; the manifest's own bytes never take its place, whatever digest is listed."""
         for manifest in hostile_manifests():
             self.write("l", manifest)
-            ran = self.closed("md5sum -c l", 0)
-            self.assertEqual(ran, Ran(1, b"-: FAILED open or read\n", as_bytes([FAULT, ONE_UNREAD])))
+            self.expect_closed(("md5sum -c l", [0], 1, ["-: FAILED open or read"], [FAULT, unread(1)]))
 
     def test_listed_among_others(self):
         nothing = TOOLS["sha256sum"][1]
         self.write("l", [f"SHA256 (-) = {nothing}", f"SHA256 (a) = {S}", f"MD5 (a) = {M}"])
-        ran = self.closed("anysum -c l", 0)
-        err = ["anysum: -: Bad file descriptor", "anysum: WARNING: 1 listed file could not be read"]
-        self.assertEqual(ran, Ran(1, as_bytes(["-: FAILED open or read", "a: OK", "a: OK"]), as_bytes(err)))
+        self.expect_closed(("anysum -c l", [0], 1, ["-: FAILED open or read", "a: OK", "a: OK"],
+                            ["anysum: -: Bad file descriptor", unread(1, "anysum")]))
 
 
 @needs_strace
@@ -77,7 +76,7 @@ class NothingInItsPlace(Traced):
         """The first file that is opened is the manifest, and it is opened once."""
         self.write("l", [f"{M}  a", f"{E}  -"])
         ran, calls = self.traced("-e trace=openat,open", "md5sum -c l", preexec_fn=lambda: os.close(0))
-        self.assertEqual(ran, Ran(1, b"a: OK\n-: FAILED open or read\n", as_bytes([FAULT, ONE_UNREAD])))
+        self.assertEqual(ran, Ran(1, b"a: OK\n-: FAILED open or read\n", as_bytes([FAULT, unread(1)])))
         opened = [call.split('"')[1] for call in calls]
         own = [name for name in opened if not name.startswith(("/etc/", "/lib", "/usr/"))]
         self.assertEqual(own, ["l", "a"])
@@ -86,42 +85,28 @@ class NothingInItsPlace(Traced):
 class ClosedOutputs(Closing):
     def test_standard_output(self):
         for words in ("md5sum a", "md5sum -z a", "md5sum --help", "md5sum --version"):
-            self.assertEqual(self.closed(words, 1), Ran(1, b"", WRITE_ERROR))
-        self.assertEqual(self.closed("md5sum x", 1), Ran(1, b"", as_bytes([X_MISSING])))
-        self.assertEqual(self.closed("md5sum --foo", 1), self.run_words("md5sum --foo"))
-        self.assertEqual(self.closed("shasum", 1), Ran(1, b"", b"digests: unknown tool\n"))
+            self.expect_closed((words, [1], 1, b"", WRITE_ERROR))
+        self.expect_closed(("md5sum x", [1], 1, b"", [X_MISSING]), ("shasum", [1], 1, b"", ["digests: unknown tool"]),
+                           ("md5sum --foo", [1], *self.run_words("md5sum --foo")))
 
-    def test_checking_without_standard_output(self):
-        """Checking is good if no report was to be written, and a write error else."""
+    def test_standard_error_and_several(self):
+        """A diagnostic that can't be written makes the status 1, and nothing else needs standard error."""
+        self.expect_closed(
+            ("md5sum a", [2], 0, [f"{M}  a"], b""), ("md5sum x", [2], 1, b"", b""),
+            ("md5sum a x e", [2], 1, [f"{M}  a"], b""), ("md5sum a", [0, 1], 1, b"", WRITE_ERROR),
+            ("md5sum", [0, 1], 1, b"", [FAULT]), ("md5sum a", [0, 2], 0, [f"{M}  a"], b""),
+            ("md5sum", [0, 2], 1, b"", b""), ("md5sum a", [0, 1, 2], 1, b"", b""), ("md5sum", [0, 1, 2], 1, b"", b""))
+
+    def test_checking(self):
+        """It is good if no report was to be written, and a write error else. What was listed isn't written to, and
+        standard input is no file."""
         self.write("good", [f"{M}  a"])
         self.write("l", VERDICTS)
-        for words in ("md5sum -c --status good", "md5sum -c --quiet good"):
-            self.assertEqual(self.closed(words, 1), Ran(0, b"", b""))
-        self.assertEqual(self.closed("md5sum -c good", 1), Ran(1, b"", WRITE_ERROR))
-        self.assertEqual(self.closed("md5sum -c --status l", 1), Ran(1, b"", as_bytes([X_MISSING])))
-
-    def test_standard_error(self):
-        """A diagnostic that can't be written makes the status 1, and nothing else needs standard error."""
-        self.assertEqual(self.closed("md5sum a", 2), Ran(0, as_bytes([f"{M}  a"]), b""))
-        self.assertEqual(self.closed("md5sum x", 2), Ran(1, b"", b""))
-        self.assertEqual(self.closed("md5sum a x e", 2), Ran(1, as_bytes([f"{M}  a"]), b""))
-
-    def test_several(self):
-        """Any streams may be closed together."""
-        self.assertEqual(self.closed("md5sum a", 0, 1), Ran(1, b"", WRITE_ERROR))
-        self.assertEqual(self.closed("md5sum", 0, 1), Ran(1, b"", as_bytes([FAULT])))
-        self.assertEqual(self.closed("md5sum a", 0, 2), Ran(0, as_bytes([f"{M}  a"]), b""))
-        self.assertEqual(self.closed("md5sum", 0, 2), Ran(1, b"", b""))
-        self.assertEqual(self.closed("md5sum a", 0, 1, 2), Ran(1, b"", b""))
-        self.assertEqual(self.closed("md5sum", 0, 1, 2), Ran(1, b"", b""))
-
-    def test_checking_with_several(self):
-        """The same in checking: what was listed isn't written to, and standard input is no file."""
-        self.write("good", [f"{M}  a"])
-        self.write("l", [f"{E}  -"])
-        self.assertEqual(self.closed("md5sum -c --status good", 0, 1), Ran(0, b"", b""))
-        self.assertEqual(self.closed("md5sum -c --status good", 0, 1, 2), Ran(0, b"", b""))
-        self.assertEqual(self.closed("md5sum -c --status l", 0, 1), Ran(1, b"", as_bytes([FAULT])))
-        self.assertEqual(self.closed("md5sum -c --status l", 0, 1, 2), Ran(1, b"", b""))
-        self.assertEqual(self.closed("md5sum -c good", 0, 1, 2), Ran(1, b"", b""))
+        self.write("input", [f"{E}  -"])
+        self.expect_closed(
+            ("md5sum -c --status good", [1], 0, b"", b""), ("md5sum -c --quiet good", [1], 0, b"", b""),
+            ("md5sum -c good", [1], 1, b"", WRITE_ERROR), ("md5sum -c --status l", [1], 1, b"", [X_MISSING]),
+            ("md5sum -c --status good", [0, 1], 0, b"", b""), ("md5sum -c --status good", [0, 1, 2], 0, b"", b""),
+            ("md5sum -c --status input", [0, 1], 1, b"", [FAULT]), ("md5sum -c good", [0, 1, 2], 1, b"", b""),
+            ("md5sum -c --status input", [0, 1, 2], 1, b"", b""))
         self.assertEqual(self.read("a"), b"abc")

@@ -7,11 +7,10 @@ import pty
 import subprocess
 
 import harness
-from harness import E, M, Case, Ran, as_bytes, gnu
+from harness import E, GNU_TOOLS, M, WRITE_ERROR, Case, Ran, as_bytes, bad, gnu, unread
 from tracing import needs_strace, strace
 
 VERSION = "(GNU coreutils) 9.1"  # what these tests pin
-WRITE_ERROR = b"md5sum: write error\n"
 
 
 class Described(Case):
@@ -24,11 +23,6 @@ class Described(Case):
             if said.splitlines()[0] != f"{tool} {VERSION}":
                 self.skipTest(f"it pins what {VERSION} does, and here is {said.splitlines()[0]}")
         os.mkdir(self.path("d"))
-
-    def both(self, words, **how):
-        """What ours and theirs answer to the same words, the first of which is the tool."""
-        words = harness.as_words(words)
-        return self.run_words(words, **how), self.run_command(words, executable=gnu(words[0]), **how)
 
     def expect_both(self, words, ours, theirs, **how):
         """Expects of each a status, what it writes to standard output and, as lines, to standard error."""
@@ -53,6 +47,9 @@ class Messages(Described):
         missing = "x: No such file or directory\n"
         for called, wanted in ((os.fsdecode(self.path("md5sum")), "md5sum"), (gnu("md5sum"), gnu("md5sum"))):
             self.assertEqual(self.run_command([called, "x"]), Ran(1, b"", f"{wanted}: {missing}".encode()))
+        for target, status in ((harness.PROGRAM, 1), (gnu("md5sum"), 0)):  # and so are they under any name
+            os.symlink(target, self.path(f"other{status}"))
+            self.assertEqual(self.run_command([f"./other{status}", "a"]).status, status)
 
     def test_reasons(self):
         """GNU's tools don't say why a list can't be read, and a closed standard input is a fault once more at their
@@ -101,7 +98,7 @@ class Messages(Described):
     def test_several_lengths(self):
         """The last alone is looked at, and not where `--help` or `--version` stands; GNU's tool refuses some of the
         others, too, but not one that is a multiple of 8 over 512."""
-        for words in ("-l x -l 256 e", "-l 7 -l 256 e", "-l x --help", "-l 7 --version"):
+        for words in ("-l x -l 256 e", "-l 7 -l 256 e", "-l x --help", "-l 7 --help", "-l 7 --version"):
             ours, theirs = self.both(f"b2sum {words}")
             self.assertEqual((ours.status, ours.err, theirs.status, theirs.out), (0, b"", 1, b""), words)
         for words in ("-l 8 -l 256 e", "-l 520 -l 256 e"):
@@ -155,7 +152,7 @@ class Checks(Described):
         call."""
         self.write("one", [f"{M} a"])
         self.write("two", [f"{M}  a"])
-        missing = ["md5sum: ' a': No such file or directory", "md5sum: WARNING: 1 listed file could not be read"]
+        missing = ["md5sum: ' a': No such file or directory", unread(1)]
         theirs = (1, ["a: OK", " a: FAILED open or read"], missing)
         self.expect_both("md5sum -c one two", (0, ["a: OK"] * 2, b""), theirs)
         none = ["md5sum: one: no properly formatted checksum lines found"]
@@ -164,7 +161,7 @@ class Checks(Described):
             self.expect_alike(["md5sum", "-c", name], 0, ["a: OK"])
         for first in (M, f"{M} ", f"{M}x y"):  # none of these decides
             self.write("list", [first, f"{M}  a"])
-            self.expect_alike("md5sum -c list", 0, ["a: OK"], ["md5sum: WARNING: 1 line is improperly formatted"])
+            self.expect_alike("md5sum -c list", 0, ["a: OK"], [bad(1)])
 
     def test_names_of_one_byte(self):
         """A space or a star that nothing follows is a name."""
@@ -175,18 +172,22 @@ class Checks(Described):
 
     def test_spacing_of_tagged_lines(self):
         """One space or none after the tag, and blanks around the equals sign, are read by both tools; GNU's b2sum also
-        takes a tab, a second space or a letter after a tag without a length."""
-        for tool, (tag, of_nothing, _) in harness.TOOLS.items():
+        takes a tab, a second space or a letter after a tag without a length, and a length in octal or hexadecimal."""
+        for tool, (tag, of_nothing, _) in GNU_TOOLS.items():
             for line in (f"{tag}(e)={of_nothing}", f"{tag} (e)= {of_nothing}", f"{tag} (e) \t = \t{of_nothing}"):
                 self.write("list", [line])
                 self.expect_alike([tool, "-c", "--strict", "list"], 0, ["e: OK"])
-        tag, of_nothing, _ = harness.TOOLS["b2sum"]
+        tag, of_nothing, _ = GNU_TOOLS["b2sum"]
         none = ["b2sum: list: no properly formatted checksum lines found"]
         for between in ("\t", "  ", "x "):
             self.write("list", [f"{tag}{between}(e) = {of_nothing}"])
             self.expect_both("b2sum -c list", (1, b"", none), (0, ["e: OK"], b""))
-        self.write("list", [f"{tag}-256  (e) = {harness.B}"])
-        self.expect_alike("b2sum -c list", 1, err=none)
+        for bits in ("-256 ", "-0256", "-256x"):
+            self.write("list", [f"{tag}{bits} (e) = {harness.B}"])
+            self.expect_alike("b2sum -c list", 1, err=none)
+        for bits in ("-0400", "-0x100", "-+256", "- 256"):  # as C reads a number
+            self.write("list", [f"{tag}{bits} (e) = {harness.B}"])
+            self.expect_both("b2sum -c list", (1, b"", none), (0, ["e: OK"], b""))
 
     def test_a_byte_0(self):
         """GNU's tools take a name that isn't escaped, or a tagged line's digits, up to it; of a list that was written
@@ -199,8 +200,7 @@ class Checks(Described):
                                                          "no properly formatted checksum lines found")]
             self.expect_both("md5sum -c -w --strict list", (1, b"", said), (0, ["a: OK"], b""))
         self.write("list", f"{M}  a\0b\n{E}  e\n")
-        ours = (0, ["e: OK"], ["md5sum: WARNING: 1 line is improperly formatted"])
-        self.expect_both("md5sum -c list", ours, (0, ["a: OK", "e: OK"], b""))
+        self.expect_both("md5sum -c list", (0, ["e: OK"], [bad(1)]), (0, ["a: OK", "e: OK"], b""))
         for line in (f"MD5 (a\0b) = {M}", f"MD5 (a) = {M}\0", f"\\MD5 (a) = {M}\0more"):
             self.write("list", [line])
             self.expect_both("md5sum -c -w --strict list", (1, b"", said), (0, ["a: OK"], b""))
@@ -220,9 +220,8 @@ class Checks(Described):
     def test_a_byte_order_mark(self):
         """The line after it is improperly formatted, and the status shows it with `--strict` alone."""
         self.write("list", f"\ufeff{M}  a\n{E}  e\n")
-        said = ["md5sum: WARNING: 1 line is improperly formatted"]
-        self.expect_alike("md5sum -c list", 0, ["e: OK"], said)
-        self.expect_alike("md5sum -c --strict list", 1, ["e: OK"], said)
+        for status, strict in ((0, []), (1, ["--strict"])):
+            self.expect_alike(["md5sum", "-c", *strict, "list"], status, ["e: OK"], [bad(1)])
 
     def test_what_other_programs_write(self):
         """Lines as those of `gpg --print-md` and `openssl dgst` can't be checked; as those of `openssl dgst -r`, they
@@ -238,28 +237,27 @@ class Checks(Described):
 
     def test_an_empty_name(self):
         """GNU's tools take some lines for one that lists a file, and fail."""
-        for tool, (tag, of_nothing, of_abc) in harness.TOOLS.items():
+        for tool, (tag, of_nothing, of_abc) in GNU_TOOLS.items():
             self.write("list", [f"{tag} () = {of_nothing}", f"{of_abc}  a"])
-            ours = (0, ["a: OK"], [f"{tool}: WARNING: 1 line is improperly formatted"])
-            missing = [f"{tool}: '': No such file or directory", f"{tool}: WARNING: 1 listed file could not be read"]
-            self.expect_both([tool, "-c", "list"], ours, (1, [": FAILED open or read", "a: OK"], missing))
+            missing = [f"{tool}: '': No such file or directory", unread(1, tool)]
+            theirs = (1, [": FAILED open or read", "a: OK"], missing)
+            self.expect_both([tool, "-c", "list"], (0, ["a: OK"], [bad(1, tool)]), theirs)
 
     def test_digits_and_a_blank(self):
         """GNU's b2sum takes them for a line with an empty name, which decides how names are read."""
         for first in (f"{harness.B} ", f"{harness.B}\t", "ab "):
             self.write("list", [first, f"{harness.B}  e"])
-            ours = (0, ["e: OK"], ["b2sum: WARNING: 1 line is improperly formatted"])
             missing = [f"b2sum: '{name}': No such file or directory" for name in ("", " e")]
-            missing.append("b2sum: WARNING: 2 listed files could not be read")
-            theirs = (1, [f"{name}: FAILED open or read" for name in ("", " e")], missing)
-            self.expect_both("b2sum -c list", ours, theirs)
+            theirs = (1, [f"{name}: FAILED open or read" for name in ("", " e")], [*missing, unread(2, "b2sum")])
+            self.expect_both("b2sum -c list", (0, ["e: OK"], [bad(1, "b2sum")]), theirs)
 
     def test_lines_that_they_do_not_write(self):
         """GNU's tools read a carriage return as it is in a name after a leading backslash."""
         self.write("q\\\rz", "abc")
-        self.write("list", f"\\{M}  q\\\\\rz\n{M}  a\n")
-        ours = (0, ["a: OK"], ["md5sum: WARNING: 1 line is improperly formatted"])
-        self.expect_both("md5sum -c list", ours, (0, ["q\\\rz: OK", "a: OK"], b""))
+        ours = (0, ["a: OK"], [bad(1)])
+        for line in (f"\\{M}  q\\\\\rz", f"\\MD5 (q\\\\\rz) = {M}"):
+            self.write("list", f"{line}\n{M}  a\n")
+            self.expect_both("md5sum -c list", ours, (0, ["q\\\rz: OK", "a: OK"], b""))
         written = self.run_command(["md5sum", "q\\\rz"], executable=gnu("md5sum")).out
         self.assertEqual(written, f"\\{M}  q\\\\\\rz\n".encode())
         self.write("list", written)
@@ -305,12 +303,12 @@ class Checks(Described):
 
     def test_cksum(self):
         """`cksum -c` reads tagged lines of several algorithms, as `anysum -c` does, and no plain ones."""
-        lines = [self.run_words([tool, "--tag", "a"]).out for tool in harness.TOOLS]
+        lines = [self.run_words([tool, "--tag", "a"]).out for tool in GNU_TOOLS]
         lines += [self.run_words("b2sum -l 256 --tag a").out, f"{M}  a\n".encode()]
         self.write("list", b"".join(lines))
         theirs = self.run_command(["cksum", "-c", "list"], executable=gnu("cksum"))
         ours = self.run_words("anysum -c list")
-        self.assertEqual((ours.status, ours.out), (0, b"a: OK\n" * (len(harness.TOOLS) + 1)))
+        self.assertEqual((ours.status, ours.out), (0, b"a: OK\n" * (len(GNU_TOOLS) + 1)))
         self.assertEqual((theirs.status, theirs.out), (ours.status, ours.out))
 
 

@@ -4,13 +4,12 @@ import errno
 import hashlib
 import os
 
-from harness import E, M, Ran, as_bytes
+from harness import E, M, Ran, as_bytes, unread
 from reference import OTHER, REASONS
 from tracing import Traced, needs_strace
 
 PIECE = 8192  # the most bytes of a read
 READS = 4  # of a file of two pieces and a part: three that give bytes, and the one that finds the end
-LISTED = b"md5sum: WARNING: 1 listed file could not be read\n"
 
 
 @needs_strace
@@ -44,7 +43,7 @@ class FailedRead(Traced):
         """It isn't OK, though its digest is right."""
         self.write("l", [self.line, f"{M}  a", self.line])
         reports = ["f: FAILED open or read", "a: OK", "f: OK"]
-        self.expect_each("f", "md5sum -c l", [reports] * READS, b"md5sum: f: %s\n" + LISTED)
+        self.expect_each("f", "md5sum -c l", [reports] * READS, b"md5sum: f: %s\n" + as_bytes([unread(1)]))
 
     def test_list(self):
         """What is whole before the fault is checked, and nothing after it."""

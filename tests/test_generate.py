@@ -1,10 +1,9 @@
 """Lines that the tools write: digests of standard input and of files, the styles, and names that aren't there."""
 
-import hashlib
 import os
 
 import harness
-from harness import E, M, S, TOOLS, Case
+from harness import E, M, S, TOOLS, Case, hasher
 
 # A file's name that has each of the three special bytes' kinds, and how a line holds it.
 SPECIAL = "q\\\nz"
@@ -18,15 +17,15 @@ class Digests(Case):
             self.expect([tool], stdin="abc", out=[f"{of_abc}  -"])
             self.expect([tool, "a", "e"], out=[f"{of_abc}  a", f"{of_nothing}  e"])
         block = bytes(range(256)) * 4096
-        hashers = {tool: hashlib.new(tag.lower()) for tool, (tag, *_) in TOOLS.items()}
+        hashers = {tool: hasher(tag) for tool, (tag, *_) in TOOLS.items()}
         with open(self.path("large"), "wb") as file:
             for i in range(16):
                 piece = block[i:] + b"\x80" * i
                 file.write(piece)
-                for hasher in hashers.values():
-                    hasher.update(piece)
-        for tool, hasher in hashers.items():
-            self.expect([tool, "large"], out=[f"{hasher.hexdigest()}  large"])
+                for one in hashers.values():
+                    one.update(piece)
+        for tool, one in hashers.items():
+            self.expect([tool, "large"], out=[f"{one.hexdigest()}  large"])
 
     def test_sizes_around_blocks_and_pieces(self):
         """Python's own digests over the sizes at which a block, a padding or the reading buffer ends."""
@@ -36,15 +35,14 @@ class Digests(Case):
         for name, size in zip(names, near):
             self.write(name, content[:size])
         for tool, (tag, *_) in TOOLS.items():
-            hashed = [hashlib.new(tag.lower(), content[:size]).hexdigest() for size in near]
-            lines = [f"{digits}  {name}" for digits, name in zip(hashed, names)]
+            lines = [f"{hasher(tag, content[:size]).hexdigest()}  {name}" for size, name in zip(near, names)]
             self.expect([tool, *names], out=lines)
 
     def test_lengths_of_blake2b(self):
         full = TOOLS["b2sum"][1]
         self.expect("b2sum -l 0 --tag e", out=[f"BLAKE2b (e) = {full}"])
         for size in (1, 2, 20, 31, 33, 63):
-            digits = hashlib.blake2b(b"abc", digest_size=size).hexdigest()
+            digits = hasher("BLAKE2b", b"abc", size).hexdigest()
             self.expect(["b2sum", "-l", str(8 * size), "a"], out=[f"{digits}  a"])
             self.expect(["b2sum", f"-l{8 * size}", "--tag", "a"], out=[f"BLAKE2b-{8 * size} (a) = {digits}"])
 

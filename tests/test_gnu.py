@@ -6,12 +6,11 @@ import random
 import subprocess
 
 import harness
-from harness import TOOLS, Case, as_bytes, gnu
+from harness import GNU_TOOLS, Case, as_bytes, gnu
 
 STYLES = (["-t"], ["-b"], ["--tag"], ["-z"], ["-z", "-b"], ["-z", "--tag"])
-PLAIN_NAMES = ["a", "e", " ", " lead", "trail ", "*star", "a)", "(b", "x = y", "-dash", "--", "#", "tab\t", "\x01"]
-PLAIN_NAMES += ["é", "日本", "d/f"]
-NEWLINE_NAMES = ["new\nline", "\n", "both\\\n"]
+NAMES = ["a", "e", " ", " lead", "trail ", "*star", "a)", "(b", "x = y", "-dash", "--", "#", "tab\t", "\x01"]
+NAMES += ["é", "日本", "d/f", "new\nline", "\n", "both\\\n"]
 # In reports of checking, GNU 9.1 escapes a name only if it has a newline; ours escapes these too, as lines do.
 BACKSLASH_NAMES = ["back\\slash", "\\n", "\\", "d/\\"]
 
@@ -27,36 +26,28 @@ class Beside(Case):
 
     def setUp(self):
         super().setUp()
-        missing = [tool for tool in TOOLS if gnu(tool) is None]
+        missing = [tool for tool in GNU_TOOLS if gnu(tool) is None]
         if missing:
             self.skipTest(f"GNU coreutils has no {missing[0]} here")
         os.mkdir(self.path("d"))
-        self.names = PLAIN_NAMES + NEWLINE_NAMES
+        self.names = NAMES
         chance = random.Random(1)
         for i, name in enumerate(self.names + BACKSLASH_NAMES):
             if name not in ("a", "e"):
                 self.write(name, chance.randbytes(i * 37))
 
-    def both(self, tool, *words, **how):
-        """What ours and theirs answer to the same words."""
-        return self.run_words([tool, *words], **how), self.run_command([tool, *words], executable=gnu(tool), **how)
-
 
 class SameLines(Beside):
     def test_every_style(self):
-        for tool in TOOLS:
+        for tool in GNU_TOOLS:
             for style in STYLES:
-                ours, theirs = self.both(tool, *style, "--", *self.names, *BACKSLASH_NAMES)
-                self.assertEqual(theirs.status, 0)
-                self.assertEqual(ours, theirs)
-        for tool in TOOLS:
-            for style in STYLES:
-                ours, theirs = self.both(tool, *style, stdin=b"some bytes\r\n\0")
-                self.assertEqual(ours, theirs)
+                for names in (["--", *self.names, *BACKSLASH_NAMES], []):
+                    ours, theirs = self.both([tool, *style, *names], stdin=b"some bytes\r\n\0")
+                    self.assertEqual((ours, ours.status), (theirs, 0))
 
     def test_lengths(self):
         for bits in range(8, 513, 8):
-            ours, theirs = self.both("b2sum", "-l", str(bits), "--tag", "a", "d/f", "back\\slash")
+            ours, theirs = self.both(["b2sum", "-l", str(bits), "--tag", "a", "d/f", "back\\slash"])
             self.assertEqual(ours, theirs)
 
     def test_sizes_and_missing_files(self):
@@ -65,10 +56,10 @@ class SameLines(Beside):
         for size in [*range(0, 300, 7), 4095, 4096, 4097, 8191, 8193, 32767, 32768, 32769, 100003, 1 << 20]:
             names.append(f"n{size}")
             self.write(names[-1], chance.randbytes(size))
-        for tool in TOOLS:
-            ours, theirs = self.both(tool, *names)
+        for tool in GNU_TOOLS:
+            ours, theirs = self.both([tool, *names])
             self.assertEqual(ours, theirs)
-        ours, theirs = self.both("md5sum", "a", "x", "e")
+        ours, theirs = self.both(["md5sum", "a", "x", "e"])
         self.assertEqual((ours.status, ours.out), (theirs.status, theirs.out))
         self.assertEqual(ours.err, b"md5sum: x: No such file or directory\n")
 
@@ -78,7 +69,7 @@ class SameLines(Beside):
         with open(self.path("large"), "wb") as file:
             file.truncate((1 << 29) + 5)
         runs = {}
-        for tool in TOOLS:
+        for tool in GNU_TOOLS:
             for program in (harness.PROGRAM, gnu(tool)):
                 words, how = [tool, "--tag", "large"], {"executable": program}
                 if program == harness.PROGRAM:
@@ -86,17 +77,17 @@ class SameLines(Beside):
                 runs[tool, program] = subprocess.Popen(words, cwd=self.folder, stdout=subprocess.PIPE, **how)
                 self.addCleanup(harness.end, runs[tool, program])
         lines = {key: run.communicate(timeout=harness.RUN_SECONDS)[0] for key, run in runs.items()}
-        for tool, (tag, _, _) in TOOLS.items():
+        for tool, (tag, _, _) in GNU_TOOLS.items():
             self.assertEqual(lines[tool, harness.PROGRAM], lines[tool, gnu(tool)])
             self.assertTrue(lines[tool, gnu(tool)].startswith(f"{tag} (large) = ".encode()))
-        manifest = b"".join(lines[tool, gnu(tool)] for tool in TOOLS)
-        self.expect("anysum -c --strict", stdin=manifest, out=["large: OK"] * len(TOOLS))
+        manifest = b"".join(lines[tool, gnu(tool)] for tool in GNU_TOOLS)
+        self.expect("anysum -c --strict", stdin=manifest, out=["large: OK"] * len(GNU_TOOLS))
 
 
 class Verified(Beside):
     def each(self, styles=STYLES[:3]):
         """Each tool, each style that can be checked, and the manifest that GNU's tool writes for all files."""
-        for tool in TOOLS:
+        for tool in GNU_TOOLS:
             for style in styles:
                 ran = self.run_command([gnu(tool), *style, "--", *self.names])
                 self.assertEqual((ran.status, ran.err), (0, b""), tool)
@@ -105,7 +96,7 @@ class Verified(Beside):
     def checks(self, tool, manifest, *options):
         """What ours and theirs say of a manifest."""
         self.write("manifest", manifest)
-        return self.both(tool, "-c", *options, "manifest")
+        return self.both([tool, "-c", *options, "manifest"])
 
     def test_untouched(self):
         for tool, style, manifest in self.each():
@@ -118,7 +109,7 @@ class Verified(Beside):
     def test_tags_and_backslashes(self):
         manifest = b"".join(lines for _, _, lines in self.each([["--tag"]]))
         ran = self.run_words("anysum -c --strict", stdin=manifest)
-        self.assertEqual((ran.status, ran.err, ran.out.count(b": OK\n")), (0, b"", len(TOOLS) * len(self.names)))
+        self.assertEqual((ran.status, ran.err, ran.out.count(b": OK\n")), (0, b"", len(GNU_TOOLS) * len(self.names)))
         self.names = BACKSLASH_NAMES
         shown = ["\\back\\\\slash: OK", "\\\\\\n: OK", "\\\\\\: OK", "\\d/\\\\: OK"]
         for tool, _, manifest in self.each():
@@ -168,14 +159,14 @@ class Verified(Beside):
 
     def test_returns_at_line_ends_and_empty_lines(self):
         """Ours reads what an editor of another system made of a manifest; older versions of theirs don't."""
-        for tool in TOOLS:
+        for tool in GNU_TOOLS:
             lines = self.run_command([gnu(tool), "a", "e", " lead"]).out
             manifest = b"\r\n" + lines.replace(b"\n", b"\r\n") + b"\n\n"
             self.expect([tool, "-c", "--strict"], stdin=manifest, out=["a: OK", "e: OK", " lead: OK"])
 
     def test_names_with_a_carriage_return(self):
         self.write("a\rb", "abc")
-        for tool in TOOLS:
+        for tool in GNU_TOOLS:
             theirs = self.run_command([gnu(tool), "a\rb"]).out
             self.expect([tool, "-c", "--strict"], stdin=theirs, out=["\\a\\rb: OK"])
             ours = self.run_words([tool, "a\rb"]).out

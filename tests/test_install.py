@@ -4,10 +4,10 @@ import os
 import shutil
 
 import harness
-from harness import TOOLS, Ran
+from harness import GNU_TOOLS, NAMES, TOOLS, Ran
 from repository import DEFAULT, FAST, Repository
 
-GNU_NAMES = [*TOOLS]
+OWN_NAMES = [name for name in NAMES if name not in GNU_TOOLS]
 LIST = "share/digests/installed"
 BASH, FISH, ZSH = "share/bash-completion/completions", "share/fish/vendor_completions.d", "share/zsh/site-functions"
 FOLDERS = ["/", "bin/", "share/", "share/bash-completion/", BASH + "/", "share/digests/", "share/fish/", FISH + "/",
@@ -37,7 +37,7 @@ class Install(Repository):
     def completion(self, name, own_names):
         """A completion of the repository, for all names or for those that are none of GNU's."""
         text = self.read(self.in_top(f"completions/{name}"))
-        every, own = f" digests {' '.join(GNU_NAMES)} anysum".encode(), b" digests anysum"
+        every, own = (" ".join(["", "digests", *names]).encode() for names in (NAMES, OWN_NAMES))
         self.assertEqual(text.count(every), 1)
         return text.replace(every, own) if own_names else text
 
@@ -45,7 +45,7 @@ class Install(Repository):
         """What an installation below a new prefix has, with the list of it."""
         wanted = {"bin/digests": self.read(self.in_top(f"out/{level}/digests")),
                   f"{ZSH}/_digests": self.completion("_digests", own_names)}
-        for name in ["digests", "anysum", *([] if own_names else GNU_NAMES)]:
+        for name in ["digests", *(OWN_NAMES if own_names else NAMES)]:
             wanted |= {} if name == "digests" else {f"bin/{name}": "digests"}
             wanted |= {f"share/man/man1/{name}.1": self.read(self.in_top(f"man/{name}.1")),
                        f"{BASH}/{name}": self.completion("digests.bash", own_names),
@@ -65,9 +65,16 @@ class Install(Repository):
             self.assertEqual(ran, Ran(0, f"{of_abc}  a\n{of_nothing}  e\n".encode(), b""))
 
     def test_own_names(self):
-        """Without GNU's names, no completion is one of GNU's tools."""
-        self.installs("--only-own-names", self.prefix)
-        self.assertEqual(self.tree(), self.wanted(DEFAULT, own_names=True))
+        """Without GNU's names, no completion is one of GNU's tools; and names of an earlier installation are taken
+        away, and nothing else."""
+        for theirs in ({}, {"share/man/man1/theirs.1": b"theirs"}):
+            for name in theirs:
+                self.installs()
+                self.write(os.path.join(self.prefix, name), theirs[name])
+            self.installs("--only-own-names", self.prefix)
+            self.assertEqual(self.tree(), self.wanted(DEFAULT, own_names=True) | theirs)
+        self.installs("--remove", self.prefix)
+        self.assertEqual(self.tree(), theirs)
 
     def test_levels(self):
         """`native` is what ran here at the build; the runtime's names of levels are known, too."""

@@ -3,10 +3,9 @@ which makes a call fail."""
 
 import os
 
-from harness import E, M, S, X_MISSING, Case, Ran, as_bytes
+from harness import E, M, S, WRITE_ERROR, X_MISSING, Case, Ran, as_bytes, unread
 from tracing import Traced, needs_strace, sizes
 
-WRITE_ERROR = b"md5sum: write error\n"
 FEW = "1..999"  # a thousand interruptions in a row are a fault
 ENDLESS = 240  # seconds in which a run that is always interrupted has to end
 
@@ -107,10 +106,9 @@ class Counts(Case):
         self.write("l", [f"\\{M}  " + "\\\\" * 1000000, f"{M}  a"])
         status, count = self.writes_of("md5sum -c l")
         report = as_bytes(["\\" + "\\\\" * 1000000 + ": FAILED open or read", "a: OK"])
-        fault = as_bytes(["md5sum: " + "\\\\" * 1000000 + ": File name too long",
-                          "md5sum: WARNING: 1 listed file could not be read"])
+        fault = as_bytes(["md5sum: " + "\\\\" * 1000000 + ": File name too long", unread(1)])
         self.assertEqual(status, 1)
-        self.assertTrue(self.read("out") == report and self.read("err") == fault)
+        self.same(self.read("out") + self.read("err"), report + fault)
         self.assertLessEqual(count, (len(report) + len(fault)) // 8192 + 4)
 
     def test_standard_error_that_takes_nothing(self):

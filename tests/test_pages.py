@@ -6,9 +6,9 @@ import re
 import shutil
 
 import harness
-from harness import TOP, Case, Ran
+from harness import NAMES, TOP, Case, Ran
 from options import takes
-from recipes import NAMES, TOOLS, path_of, sections_of
+from recipes import PAGES, path_of, sections_of
 from reference import REASONS
 
 
@@ -22,7 +22,7 @@ class Pages(Case):
     def test_options(self):
         """Each of the help is there, but for those that anysum never takes; and each group is of the options that the
         program takes there."""
-        for tool in TOOLS:
+        for tool in NAMES:
             helped = set(re.findall(rb"(?m)^ {2,6}(?:-\w, )?--([a-z-]+)", self.run_words([tool, "--help"]).out))
             parts = re.split(r"Only (with(?:out)?) --check:", sections_of(tool)["OPTIONS"])
             groups = {"": parts[0], **dict(zip(parts[1::2], parts[2::2]))}
@@ -40,12 +40,12 @@ class Pages(Case):
     def test_as_a_person_sees_them(self):
         if shutil.which("man") is None:
             self.skipTest("man isn't installed")
-        for name in NAMES:
+        for name in PAGES:
             env = {**os.environ, "MANWIDTH": "80", "LC_ALL": "C.UTF-8", "TERM": "dumb"}
             ran = self.run_command(["man", "--warnings", "-l", path_of(name)], env=env)
             self.assertEqual((ran.status, ran.err), (0, b""), name)
         if shutil.which("mandoc"):
-            self.assertEqual(self.run_command(["mandoc", "-T", "lint", *map(path_of, NAMES)]), Ran(0, b"", b""))
+            self.assertEqual(self.run_command(["mandoc", "-T", "lint", *map(path_of, PAGES)]), Ran(0, b"", b""))
 
 
 class Said(Case):

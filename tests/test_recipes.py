@@ -1,19 +1,20 @@
 """What the manual pages show to be typed: each recipe and example is typed as it is there, over trees in which all is
 well and in which it isn't. Its status is 0 only if all that it is for was done."""
 
-import hashlib
 import os
 import re
 import shutil
+import signal
+import subprocess
 
 import harness
-from harness import Case, Ran
-from recipes import NAMES, TOOLS, sections_of
+from harness import NAMES, TOOLS, Case, Ran, hasher
+from recipes import PAGES, sections_of
 
 # What a recipe is for, and how it is known. Each recipe is of one sort.
 SORTS = {
     "write": r"^\w+( -l 256)? image\.iso > image\.sum$",
-    "write two": r"image\.iso && b2sum --tag",
+    "write two": r" b2sum --tag image\.iso\)",
     "write at once": r"^tee ",
     "write by pv": r"^pv .* > ",
     "list": r" -exec ",
@@ -21,7 +22,7 @@ SORTS = {
     "check": r"^\w+ -c (--strict )?image\.sum$",
     "check download": r" --ignore-missing ",
     "check by pv": r"pv .* -c image\.sum",
-    "check list": r"^\w+ -c --quiet --strict SUMS$",
+    "check list": r"^digests \w+ -c --quiet --strict SUMS$",
     "check list on all": r"\bsplit ",
     "check one": r"^grep ",
     "unlisted": r"^comm ",
@@ -54,10 +55,10 @@ def recipes_of(page):
 def line_of(tool, name, content, tagged=False):
     """The line of a list, as the standards and the page's LINE FORMATS say."""
     escaped = name.replace(b"\\", b"\\\\").replace(b"\n", b"\\n").replace(b"\r", b"\\r")
-    digits = hashlib.new({"b2sum": "blake2b"}.get(tool, tool[:-3]), content).hexdigest().encode()
+    tag, digits = TOOLS[tool][0], hasher(TOOLS[tool][0], content).hexdigest().encode()
     mark = b"\\" if escaped != name else b""
     if tagged:
-        return mark + harness.TOOLS[tool][0].encode() + b" (" + escaped + b") = " + digits + b"\n"
+        return mark + tag.encode() + b" (" + escaped + b") = " + digits + b"\n"
     return mark + digits + b"  " + escaped + b"\n"
 
 
@@ -76,7 +77,7 @@ class Typed(Case):
             if shutil.which(command) is None:
                 self.skipTest(f"{command} isn't installed")
         os.mkdir(self.path("commands"))
-        for name in NAMES:
+        for name in PAGES:
             os.symlink(harness.PROGRAM, self.path(f"commands/{name}"))
         self.command("pv", 'exec cat "$@"')
         self.env = {**os.environ, "PATH": os.fsdecode(self.path("commands")) + os.pathsep + os.environ["PATH"],
@@ -265,20 +266,8 @@ class Recipes(Typed):
         self.passes(self.recipe("list"))
         self.passes(self.recipe("check one"), b"./image.iso: OK\n")
 
-    def expect_failures(self, sorts, command, script):
-        """With a script in the place of a command these recipes fail, and make nothing."""
-        for recipe, sort, shell in self.each(*sorts):
-            self.make()
-            if sort == "unlisted":
-                self.passes(self.recipe("list"))
-            self.command(command, script)
-            self.fails(recipe, shell)
-            self.assertFalse(self.is_there("image.sum"), recipe)
-            self.assertEqual(self.is_there("SUMS"), sort == "unlisted", recipe)
-            os.remove(self.path(f"commands/{command}"))
-
     def test_a_part_that_fails(self):
-        """A command of a pipe that gives less than it was to give."""
+        """A command of a pipe that gives less than it was to give: the recipe fails, and makes nothing."""
         find = f"'{shutil.which('find')}' \"$@\"; exit 1"
         lists, images = ("list", "list on all"), ("write by pv", "write at once")
         for command, script, *sorts in (
@@ -291,18 +280,45 @@ class Recipes(Typed):
                 ("mktemp", "exit 1", *lists, *images, "unlisted"),
                 *((command, "exit 1", "unlisted") for command in ("sort", "comm")),
                 *((command, "exit 1", "unlisted", "not UTF-8") for command in ("sed", "tr"))):
-            self.expect_failures(sorts, command, script)
+            for recipe, sort, shell in self.each(*sorts):
+                self.make()
+                if sort == "unlisted":
+                    self.passes(self.recipe("list"))
+                self.command(command, script)
+                self.fails(recipe, shell)
+                found = self.is_there("image.sum"), self.is_there("SUMS")
+                self.assertEqual(found, (False, sort == "unlisted"), recipe)
+                os.remove(self.path(f"commands/{command}"))
         self.make()
         self.command("pv", "cat image.iso")
         self.passes(self.recipe("write by pv"))
         self.command("pv", "cat image.iso; exit 1")
         self.fails(self.recipe("check by pv"))
 
+    def test_a_run_that_is_ended(self):
+        """It leaves nothing that was there for a time."""
+        here = self.path("here")
+        for recipe, sort, shell in self.each("list", "list on all", "unlisted", "write by pv", "write at once"):
+            command = {"write by pv": "pv", "write at once": "tee"}.get(sort, "find")
+            begun = self.path(f"commands/{command}.begun")
+            for number in (signal.SIGINT, signal.SIGTERM):
+                self.make()
+                self.command(command, f': >"$0.begun"; exec sleep {harness.RUN_SECONDS}')
+                before = sorted(os.listdir(here))
+                started = subprocess.Popen([shell, "-c", recipe], cwd=here, env={**self.env, "TMPDIR": here},
+                                           start_new_session=True, stderr=subprocess.DEVNULL)
+                self.until(lambda: os.path.exists(begun), f"{command} is called by {recipe}")
+                self.assertGreater(len(os.listdir(here)), len(before))
+                os.killpg(started.pid, number)
+                self.assertNotEqual(started.wait(), 0)
+                self.until(lambda: sorted(os.listdir(here)) == before, f"{number} leaves nothing of {recipe}")
+                os.remove(begun)
+
     def test_a_folder_that_may_not_be_read(self):
         """No list is made, and nothing passes for listed or for UTF-8."""
         how = self.nobody()
         if how:
-            for name in NAMES:
+            for name in PAGES:
                 os.remove(self.path(f"commands/{name}"))
                 os.symlink("a copy", self.path(f"commands/{name}"))
             shutil.copy(harness.PROGRAM, self.path("commands/a copy"))  # its own folder may be closed to others
@@ -326,7 +342,7 @@ class Examples(Typed):
     def each_tool(self):
         """Each tool with a new tree, and what downloads come with: lines of the image, and of a file that isn't
         there."""
-        for tool in TOOLS:
+        for tool in NAMES:
             self.make()
             other = "b2sum" if tool == "anysum" else tool
             yield tool, [line_of(other, name, IMAGE, tool == "anysum") for name in (b"image.iso", b"other.iso")]

@@ -10,7 +10,6 @@ import harness
 from harness import Case, as_bytes
 
 FILES = 12000
-TIMES = 5
 
 
 def name_of(number):
@@ -47,16 +46,16 @@ class SideBySide(Case):
         words = [harness.PROGRAM, self.path("names"), self.path(left)]
         return self.run_command(["sh", "-c", script, *words], cwd=self.tree, **how)
 
+    def expect_lines(self, got, wanted):
+        """Expects these lines in any order: none is torn, is missing or stands there twice."""
+        self.same(sorted(got.splitlines()), sorted(wanted))
+
     def expect_whole_lines(self, script):
         """Runs a script several times, which leaves the lines of the files: each of them once."""
-        for turn in range(TIMES):
+        for _ in range(5):
             ran = self.run_script(script, "sums")
             self.assertEqual((ran.status, ran.err), (0, b""))
-            got = self.read("sums").splitlines()
-            known = set(self.lines)
-            torn = [line for line in got if line not in known]
-            self.assertEqual((len(torn), torn[:3]), (0, []))
-            self.assertTrue(sorted(got) == self.lines, "a line is missing, or stands there twice")
+            self.expect_lines(self.read("sums"), self.lines)
             with open(self.path("sums"), "rb") as sums:
                 checked = self.run_words("sha256sum -c --quiet --strict", stdin=sums, cwd=self.tree)
             self.assertEqual(checked, (0, b"", b""))
@@ -72,38 +71,33 @@ class SideBySide(Case):
         self.write("names", missing.replace(b"\n", b"\0"))
         script = 'xargs -0 -P 8 -n 1500 "$0" sha256sum <"$1" 2>"$2"'
         self.run_script(script, "said", stderr=subprocess.DEVNULL)
-        wanted = {b"sha256sum: " + name + b": No such file or directory" for name in missing.splitlines()}
-        said = self.read("said").splitlines()
-        torn = [line for line in said if line not in wanted]
-        self.assertEqual((len(torn), torn[:3]), (0, []))
-        self.assertEqual(len(said), FILES)
+        wanted = [b"sha256sum: " + name + b": No such file or directory" for name in missing.splitlines()]
+        self.expect_lines(self.read("said"), wanted)
+
+    def expect_together(self, runs, output, size, status, wanted, **how):
+        """Runs all of these words at once, with this output into one pipe, which is read so many bytes at a time."""
+        reads, writes = os.pipe()
+        self.addCleanup(os.close, reads)
+        started = [self.start(words, **{output: writes}, **how) for words in runs]
+        os.close(writes)
+        got = b"".join(iter(lambda: os.read(reads, size), b""))
+        self.assertEqual([one.wait(timeout=harness.RUN_SECONDS) for one in started], [status] * len(runs))
+        self.expect_lines(got, wanted)
 
     def test_reports_into_one_pipe(self):
         """Eight checks at a time write whole reports into one pipe, from which a slow reader takes a page at a time."""
-        self.write("l", b"\n".join(self.lines) + b"\n")
-        reads, writes = os.pipe()
-        self.addCleanup(os.close, reads)
-        words = ["sha256sum", "-c", self.path("l")]
-        started = [self.start(words, folder=self.tree, stdout=writes) for _ in range(8)]
-        os.close(writes)
-        got = b"".join(iter(lambda: os.read(reads, 4096), b""))
-        self.assertEqual([one.wait(timeout=harness.RUN_SECONDS) for one in started], [0] * 8)
-        wanted = sorted(8 * [line.partition(b"  ")[2] + b": OK" for line in self.lines])
-        self.assertTrue(sorted(got.splitlines()) == wanted, "reports are torn")
+        self.write("l", self.lines)
+        wanted = 8 * [line.partition(b"  ")[2] + b": OK" for line in self.lines]
+        runs = [["sha256sum", "-c", self.path("l")]] * 8
+        self.expect_together(runs, "stdout", 4096, 0, wanted, folder=self.tree)
 
     def test_longest_lines_into_one_pipe(self):
         """Linux keeps a write into a pipe together up to 4,096 bytes. Each run has 40 names of missing files, of which
         it says lines of just that size."""
-        reads, writes = os.pipe()
-        self.addCleanup(os.close, reads)
         size = 4096 - len(b"md5sum: : No such file or directory\n")
         names = [(b"./" * 2000 + b"missing%d" % run).ljust(size, b"x") for run in range(8)]
-        started = [self.start(["md5sum", *[os.fsdecode(name)] * 40], stderr=writes) for name in names]
-        os.close(writes)
-        got = b"".join(iter(lambda: os.read(reads, 1000), b""))
-        self.assertEqual([one.wait(timeout=harness.RUN_SECONDS) for one in started], [1] * 8)
-        wanted = sorted(40 * [b"md5sum: " + name + b": No such file or directory" for name in names])
-        self.assertTrue(sorted(got.splitlines()) == wanted, "lines are torn")
+        wanted = 40 * [b"md5sum: " + name + b": No such file or directory" for name in names]
+        self.expect_together([["md5sum", *[name] * 40] for name in names], "stderr", 1000, 1, wanted)
 
     def test_longest_lines_into_one_file(self):
         """A line of 8,192 bytes is one write, which a file that is appended to takes as a whole. A name of that length
@@ -111,7 +105,6 @@ class SideBySide(Case):
         rest = b"md5sum: : File name too long\n"
         names = [b"%d" % run + b"x" * (8192 - len(rest) - 1) for run in range(8)]
         with open(self.path("said"), "ab") as said:
-            started = [self.start(["md5sum", *[os.fsdecode(name)] * 10], stderr=said) for name in names]
+            started = [self.start(["md5sum", *[name] * 10], stderr=said) for name in names]
         self.assertEqual([one.wait(timeout=harness.RUN_SECONDS) for one in started], [1] * 8)
-        wanted = sorted(10 * [b"md5sum: " + name + b": File name too long" for name in names])
-        self.assertTrue(sorted(self.read("said").splitlines()) == wanted, "lines are torn")
+        self.expect_lines(self.read("said"), 10 * [b"md5sum: " + name + b": File name too long" for name in names])

@@ -8,9 +8,7 @@ import subprocess
 
 import harness
 from harness import E, M, TOOLS, VERDICTS, VERDICTS_ERR, VERDICTS_OUT, X_MISSING
-from harness import Case, Ran, as_bytes, limits
-
-WRITE_ERROR = b"md5sum: write error\n"
+from harness import WRITE_ERROR, Case, Ran, as_bytes, limits, unread
 
 
 class StandardInput(Case):
@@ -59,7 +57,7 @@ class BrokenInput(Case):
             self.expect("md5sum - a", stdin=broken, out=[f"{M}  a"], err=err, status=1)
         self.write("l", [f"{M}  -", f"{M}  a"])
         self.expect("md5sum -c l", stdin=self.broken_input("abc"), out=["-: FAILED open or read", "a: OK"], status=1,
-                    err=["md5sum: -: Input/output error", "md5sum: WARNING: 1 listed file could not be read"])
+                    err=["md5sum: -: Input/output error", unread(1)])
 
     def test_a_manifest_cut_at_every_byte(self):
         """Only lines that a newline ended are reported, then the fault, and no summary."""
@@ -132,14 +130,10 @@ class EachByteTheLast(Case):
     def test_generating(self):
         ran, out = self.run_limited("sha256sum", 10, "stdout")
         self.assertEqual((ran, out), (Ran(1, b"", b"sha256sum: write error\n"), b"e3b0c44298"))
-        ran, out = self.run_limited("md5sum a e", 10, "stdout")
-        self.assertEqual((ran, out), (Ran(1, b"", WRITE_ERROR), b"900150983c"))
         whole = as_bytes([f"{M}  a", f"{E}  e"])
-        for size in range(len(whole)):
-            ran, out = self.run_limited("md5sum a e", size, "stdout")
-            self.assertEqual((ran, out), (Ran(1, b"", WRITE_ERROR), whole[:size]))
-        ran, out = self.run_limited("md5sum a e", len(whole), "stdout")
-        self.assertEqual((ran, out), (Ran(0, b"", b""), whole))
+        for size in range(len(whole) + 1):
+            wanted = Ran(1, b"", WRITE_ERROR) if size < len(whole) else Ran(0, b"", b"")
+            self.assertEqual(self.run_limited("md5sum a e", size, "stdout"), (wanted, whole[:size]))
 
     def test_a_signal_that_is_not_ignored(self):
         """It ends the program, without a word."""
@@ -150,20 +144,12 @@ class EachByteTheLast(Case):
     def test_checking(self):
         self.write("l", VERDICTS)
         for size in range(len(VERDICTS_OUT) + 1):
-            ran, out = self.run_limited("md5sum -c l", size, "stdout")
-            self.assertEqual((ran.status, out), (1, VERDICTS_OUT[:size]))
-            if size < len(VERDICTS_OUT):
-                self.assertTrue(ran.err.endswith(WRITE_ERROR), ran.err)
-                self.assertTrue(VERDICTS_ERR.startswith(ran.err[: -len(WRITE_ERROR)]), ran.err)
-            else:
-                self.assertEqual(ran.err, VERDICTS_ERR)
-        self.write("l", VERDICTS)
+            err = as_bytes([X_MISSING][:size // len("a: OK\n")]) + WRITE_ERROR
+            wanted = Ran(1, b"", err if size < len(VERDICTS_OUT) else VERDICTS_ERR)
+            self.assertEqual(self.run_limited("md5sum -c l", size, "stdout"), (wanted, VERDICTS_OUT[:size]))
         for size in range(len(VERDICTS_ERR) + 1):
-            ran, err = self.run_limited("md5sum -c l", size, "stderr")
-            self.assertEqual((ran.status, err), (1, VERDICTS_ERR[:size]))
-            self.assertTrue(VERDICTS_OUT.startswith(ran.out), ran.out)
-            if size == len(VERDICTS_ERR):
-                self.assertEqual(ran.out, VERDICTS_OUT)
+            wanted = Ran(1, VERDICTS_OUT if size > len(X_MISSING) else b"a: OK\n", b"")
+            self.assertEqual(self.run_limited("md5sum -c l", size, "stderr"), (wanted, VERDICTS_ERR[:size]))
 
 
 class Many(Case):

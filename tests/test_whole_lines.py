@@ -9,13 +9,12 @@ import subprocess
 import unittest
 
 import harness
-from harness import E, M, S, TOOLS, VERDICTS, VERDICTS_ERR, VERDICTS_OUT, X_MISSING
-from harness import Case, Ran, as_bytes, as_words
+from harness import E, M, NAMES, S, TOOLS, VERDICTS, VERDICTS_ERR, VERDICTS_OUT, X_MISSING
+from harness import WRITE_ERROR, Case, Ran, as_bytes, as_words
 from reference_words import help_text
 
 SPECIAL = "q\\\nz\r"
 SPECIAL_SHOWN = "q\\\\\\nz\\r"
-WRITE_ERROR = b"md5sum: write error\n"
 SET_PIPE_SIZE, GET_PIPE_SIZE = 1031, 1032  # Python names them from 3.10 on
 
 
@@ -85,8 +84,7 @@ class OneWriteALine(Packets):
                 "--tag": [f"{tag} (a) = {of_abc}\n", f"{tag} (e) = {of_nothing}\n",
                           f"\\{tag} ({SPECIAL_SHOWN}) = {of_abc}\n"],
                 "-z": [f"{of_abc}  a\0", f"{of_nothing}  e\0", f"{of_abc}  {SPECIAL}\0"],
-                "-zb": [f"{of_abc} *a\0", f"{of_nothing} *e\0", f"{of_abc} *{SPECIAL}\0"],
-            }
+                "-zb": [f"{of_abc} *a\0", f"{of_nothing} *e\0", f"{of_abc} *{SPECIAL}\0"]}
             for style, lines in forms.items():
                 self.expect_packets([tool, style, "a", "e", SPECIAL], out=lines)
             self.expect_packets([tool, "-z", "--tag", "a", SPECIAL], out=[
@@ -104,7 +102,7 @@ class OneWriteALine(Packets):
                                 err=[X_MISSING + "\n", missing, directory], status=1)
 
     def test_help_and_faults_of_the_words(self):
-        for tool in [*TOOLS, "anysum"]:
+        for tool in NAMES:
             self.expect_packets([tool, "--help"], out=[help_text(tool)])
             self.expect_packets([tool, "--version"], out=[f"{tool} (digests), profile 2\n"])
         faults = [(["--foo"], "unrecognized option '--foo'"), (["-\n"], "invalid option -- '\\n'"),
@@ -178,7 +176,7 @@ class OneWriteAReport(Packets):
                             err=["md5sum: missing: no file was verified\n"])
         self.write("l", [f"{tag} (a) = {of_abc}" for tag, _, of_abc in TOOLS.values()] + ["junk"])
         self.expect_packets("anysum -cw l", out=["a: OK\n"] * len(TOOLS), err=[
-            "anysum: l: 8: improperly formatted tagged checksum line\n",
+            f"anysum: l: {len(TOOLS) + 1}: improperly formatted tagged checksum line\n",
             "anysum: WARNING: 1 line is improperly formatted\n"])
 
     def test_a_report_of_20000_bytes(self):

@@ -3,7 +3,10 @@
 import os
 
 import harness
-from harness import B, E, M, S, TOOLS, Case, gnu
+import options
+from harness import B, E, M, NAMES, S, TOOLS, Case, as_bytes, bad, gnu
+from library import parts_of
+from rattle import Code
 from reference_words import help_text, meaning
 
 WITH_CHECK = "meaningless when verifying checksums"
@@ -31,22 +34,31 @@ class ToolNames(Case):
         self.assertEqual(ran, (0, f"{S}  a\n".encode(), b""))
 
     def test_other_links(self):
+        """A link is the tool that it is named for, though it points to one of another name."""
         os.symlink(harness.PROGRAM, self.path("b2sum"))
-        os.symlink(harness.PROGRAM, self.path("anysum"))
-        ran = self.run_command(["./b2sum", "x"])
-        self.assertEqual(ran, (1, b"", b"b2sum: x: No such file or directory\n"))
-        ran = self.run_command(["./b2sum", "md5sum"])
-        self.assertEqual(ran, (1, b"", b"b2sum: md5sum: No such file or directory\n"))
-        ran = self.run_command(["./anysum", "--version"])
-        self.assertEqual(ran, (0, b"anysum (digests), profile 2\n", b""))
-        os.symlink(harness.PROGRAM, self.path("other"))
-        self.assertEqual(self.run_command(["./other", "md5sum", "a"]), (0, f"{M}  a\n".encode(), b""))
-        self.assertEqual(self.run_command(["./other", "a"]), (1, b"", b"digests: unknown tool\n"))
+        for name in ("anysum", "md5sum", "other"):
+            os.symlink("b2sum", self.path(name))
+        for *words, status, out, err in (
+                ("./b2sum", "x", 1, b"", b"b2sum: x: No such file or directory\n"),
+                ("./b2sum", "sha1sum", 1, b"", b"b2sum: sha1sum: No such file or directory\n"),
+                ("./anysum", "--version", 0, b"anysum (digests), profile 2\n", b""),
+                ("./md5sum", "a", 0, as_bytes([f"{M}  a"]), b""), ("./other", "a", 1, b"", b"digests: unknown tool\n"),
+                ("./other", "md5sum", "a", 0, as_bytes([f"{M}  a"]), b"")):
+            self.assertEqual(self.run_command(words), (status, out, err))
 
 
 class Texts(Case):
+    def test_the_list_of_tools(self):
+        """tools/tools.txt has the tools of the code, in its order; GNU has those that it is to have, and no other."""
+        variants = next(parts_of(it) for it in Code().items if (it.kind, it.name) == ("enum", "Tool"))
+        self.assertEqual([name.replace("_", "") for name in NAMES], [it.lower() for it in variants])
+        for tool, it in options.TOOLS.items():
+            self.assertEqual(4 * len(self.run_words([tool]).out.partition(b" ")[0]), it.bits or 0)
+            if gnu("md5sum"):
+                self.assertEqual(gnu(tool) is not None, it.of_gnu)
+
     def test_help_and_version(self):
-        for tool in [*TOOLS, "anysum"]:
+        for tool in NAMES:
             for cut in ("--h", "--help"):
                 self.expect([tool, cut], out=help_text(tool))
             for cut in ("--v", "--version"):
@@ -86,16 +98,15 @@ class LongOptions(Case):
     def test_each_form_of_checking(self):
         self.write("l", [f"{M}  a", "junk"])
         self.write("some", [f"{M}  a", f"{M}  x"])
-        warning = "md5sum: WARNING: 1 line is improperly formatted"
         for form in ("-c", "--check", "--c"):
-            self.expect(f"md5sum {form} l", out=["a: OK"], err=[warning])
-            self.expect(f"md5sum {form} --strict l", out=["a: OK"], err=[warning], status=1)
-            self.expect(f"md5sum {form} --str l", out=["a: OK"], err=[warning], status=1)
+            self.expect(f"md5sum {form} l", out=["a: OK"], err=[bad(1)])
+            self.expect(f"md5sum {form} --strict l", out=["a: OK"], err=[bad(1)], status=1)
+            self.expect(f"md5sum {form} --str l", out=["a: OK"], err=[bad(1)], status=1)
             for named in ("-w", "--warn", "--w"):
                 line = "md5sum: l: 2: improperly formatted MD5 checksum line"
-                self.expect(f"md5sum {form} {named} l", out=["a: OK"], err=[line, warning])
+                self.expect(f"md5sum {form} {named} l", out=["a: OK"], err=[line, bad(1)])
             for quiet in ("--quiet", "--q"):
-                self.expect(f"md5sum {form} {quiet} l", err=[warning])
+                self.expect(f"md5sum {form} {quiet} l", err=[bad(1)])
             for silent in ("--status", "--sta"):
                 self.expect(f"md5sum {form} {silent} l")
             for passed in ("--ignore-missing", "--i"):

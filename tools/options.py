@@ -1,5 +1,6 @@
 """The tools, and the options of each as the program has them: its help names them, and it takes or refuses them."""
 
+import os
 import re
 import subprocess
 import sys
@@ -7,17 +8,20 @@ from typing import NamedTuple, Optional
 
 LINE = re.compile(r"  (?:-(?P<short>\w), |    )--(?P<long>[a-z-]+)(?:=(?P<value>[A-Z]+))? +(?P<help>.*)")
 
-# Tool: its standard, the algorithm's name there, and the bits of its digest. The last has none of its own.
-TOOLS = {
-    "md5sum": ("RFC 1321", "MD5", 128),
-    "sha1sum": ("FIPS 180-4", "SHA1", 160),
-    "sha224sum": ("FIPS 180-4", "SHA224", 224),
-    "sha256sum": ("FIPS 180-4", "SHA256", 256),
-    "sha384sum": ("FIPS 180-4", "SHA384", 384),
-    "sha512sum": ("FIPS 180-4", "SHA512", 512),
-    "b2sum": ("RFC 7693", "BLAKE2b", 512),
-    "anysum": (None, None, None),
-}
+
+class Tool(NamedTuple):
+    """A tool: whether GNU has it; and of its digest, if it has one, the tag, the bits and the standard."""
+
+    of_gnu: bool
+    tag: Optional[str] = None
+    bits: Optional[int] = None
+    standard: Optional[str] = None
+
+
+with open(os.path.join(os.path.dirname(os.path.abspath(__file__)), "tools.txt"), encoding="utf-8") as table:
+    ROWS = [line.rstrip().split(maxsplit=4) for line in table if not line.startswith("#")]
+TOOLS = {name: Tool(whose == "GNU", *(of and (of[0], int(of[1]), of[2]))) for name, whose, *of in ROWS}
+DIGESTS = {name: tool for name, tool in TOOLS.items() if tool.tag}  # those that write one
 
 # Where the program takes an option.
 ALWAYS, WITH_CHECK, WITHOUT_CHECK, NEVER = "always", "with check", "without check", "never"

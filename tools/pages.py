@@ -12,7 +12,7 @@ import sys
 sys.dont_write_bytecode = True
 
 import shells  # noqa: E402  (nothing is to be left beside these files)
-from options import ALWAYS, NEVER, TOOLS, WITH_CHECK, WITHOUT_CHECK, options_of  # noqa: E402
+from options import ALWAYS, DIGESTS, NEVER, TOOLS, WITH_CHECK, WITHOUT_CHECK, options_of  # noqa: E402
 from roff import WIDTH, bullet, inline, item, page, section, shown  # noqa: E402
 
 HERE = os.path.dirname(os.path.abspath(__file__))
@@ -99,10 +99,11 @@ def see_also(*names):
 
 
 def page_of_tool(tool, known, said):
-    standard, tag, bits = TOOLS[tool]
+    of_gnu, tag, bits, standard = TOOLS[tool]
     *names, last = (f"`--{option.long}`" for option in taken(known, NEVER) or known)
     words = {"tool": tool, "tag": tag, "standard": standard, "bits": str(bits), "digits": str((bits or 0) // 4),
              "fewer": FEWER if tool == "b2sum" else "", "refused": f"{', '.join(names)} and {last}",
+             "tags": ", ".join(f"`{it.tag}`" for it in DIGESTS.values()),
              "SUMS": "CHECKSUMS" if tag is None else f"{tool[:-3].upper()}SUMS"}
     writing = [option for option in taken(known, ALWAYS, WITHOUT_CHECK) if option.long != "check"]
     items = [option_item(option, said) for option in taken(known, ALWAYS)]
@@ -119,8 +120,8 @@ def page_of_tool(tool, known, said):
 
 def page_of_program():
     """The page of the program that has all tools in it."""
-    tools = [item(f"`{tool}`", f"{tag} ({standard}), {bits} bits{FEWER * (tool == 'b2sum')}" if tag else
-                  "checks lists of all these", "12") for tool, (standard, tag, bits) in TOOLS.items()]
+    tools = [item(f"`{tool}`", f"{it.tag} ({it.standard}), {it.bits} bits{FEWER * (tool == 'b2sum')}" if it.tag else
+                  "checks lists of all these", "12") for tool, it in TOOLS.items()]
     uses = ("`digests` {TOOL} [{OPTION}]... [{FILE}]...", "{TOOL} [{OPTION}]... [{FILE}]...")
     return page_of("digests", "digests.txt", {}, {
         "NAME": [["digests \\- print or check checksums"]], "SYNOPSIS": [[".nf", *map(inline, uses), ".fi"]],

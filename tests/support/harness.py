@@ -4,9 +4,12 @@ the tests expect. The values are published digests, and were not taken from any 
 import datetime
 import errno
 import functools
+import hashlib
+import itertools
 import os
 import pty
 import pwd
+import re
 import resource
 import select
 import shutil
@@ -18,6 +21,8 @@ import time
 import tty
 import unittest
 from typing import NamedTuple
+
+import options
 
 # Set by run.py: the program's absolute path, the seed of the first case at random, and how many cases a test tries.
 # Without `--seed` each day has cases of its own.
@@ -33,14 +38,16 @@ RUN_SECONDS = 600
 TEST_SECONDS = 1200
 SOON = 60  # for what is there at once
 
-M = "900150983cd24fb0d6963f7d28e17f72"  # MD5 of "abc"
-E = "d41d8cd98f00b204e9800998ecf8427e"  # MD5 of nothing
-B = "0e5751c026e543b2e8ab2eb06099daa1d1e5df47778f7787faab45cdf12fe3a8"  # BLAKE2b-256 of nothing
-S = "ba7816bf8f01cfea414140de5dae2223b00361a396177a9cb410ff61f20015ad"  # SHA-256 of "abc"
-
-# Tool: tag, digest of nothing, digest of "abc", as they were published.
+# Tool: tag, digest of nothing, digest of "abc", as they were published; those that GNU has; and all names of tools.
 with open(os.path.join(TOP, "tests", "support", "digests.txt"), encoding="utf-8") as table:
-    TOOLS = {tool: tuple(row) for tool, *row in map(str.split, table)}
+    PUBLISHED = {tool: row for tool, *row in map(str.split, table)}
+TOOLS = {tool: (it.tag, *PUBLISHED[tool]) for tool, it in options.DIGESTS.items()}
+GNU_TOOLS = {tool: row for tool, row in TOOLS.items() if options.TOOLS[tool].of_gnu}
+NAMES = list(options.TOOLS)
+
+_, E, M = TOOLS["md5sum"]
+_, _, S = TOOLS["sha256sum"]
+B = "0e5751c026e543b2e8ab2eb06099daa1d1e5df47778f7787faab45cdf12fe3a8"  # BLAKE2b-256 of nothing
 
 
 class Ran(NamedTuple):
@@ -65,6 +72,18 @@ def as_words(words):
     return words.split(" ") if isinstance(words, str) else list(words)
 
 
+def hasher(tag, content=b"", size=64):
+    """Python's own hasher of an algorithm over this content; the size in bytes is for BLAKE2b alone."""
+    if tag == "BLAKE2b":
+        return hashlib.blake2b(content, digest_size=size)
+    return hashlib.new(re.sub("[-/]", "_", tag.lower()).replace("sha_", "sha"), content)  # SHA-512/256 as sha512_256
+
+
+def shortest(name, names=NAMES):
+    """The shortest beginning of a name that no other one has."""
+    return next(cut for cut in itertools.accumulate(name) if [it for it in names if it.startswith(cut)] == [name])
+
+
 @functools.lru_cache
 def gnu(tool):
     """The path of GNU coreutils' tool of that name, the first on the PATH, or None if it isn't installed."""
@@ -76,16 +95,27 @@ def gnu(tool):
     return None
 
 
-# "All verdicts": a manifest that comes to every verdict, what it writes to both outputs, and its words.
+def bad(count, tool="md5sum"):
+    """The warning for improperly formatted lines."""
+    return f"{tool}: WARNING: " + ("1 line is" if count == 1 else f"{count} lines are") + " improperly formatted"
+
+
+def unread(count, tool="md5sum"):
+    """The warning for listed files that could not be read."""
+    return f"{tool}: WARNING: " + ("1 listed file" if count == 1 else f"{count} listed files") + " could not be read"
+
+
+def wrong(count, tool="md5sum"):
+    """The warning for digests that differ."""
+    return f"{tool}: WARNING: {count} computed checksum" + ("" if count == 1 else "s") + " did NOT match"
+
+
+# "All verdicts": a manifest that comes to every verdict, and what it writes to both outputs.
 VERDICTS = [f"{M}  a", "#c", "junk", f"{M} *x", f"{M}  e"]
 VERDICTS_OUT = as_bytes(["a: OK", "x: FAILED open or read", "e: FAILED"])
 X_MISSING = "md5sum: x: No such file or directory"
-VERDICTS_ERR = as_bytes([
-    X_MISSING,
-    "md5sum: WARNING: 1 line is improperly formatted",
-    "md5sum: WARNING: 1 listed file could not be read",
-    "md5sum: WARNING: 1 computed checksum did NOT match",
-])
+VERDICTS_ERR = as_bytes([X_MISSING, bad(1), unread(1), wrong(1)])
+WRITE_ERROR = b"md5sum: write error\n"
 
 
 def limits(file_size=None, memory=None):
@@ -116,6 +146,16 @@ class Case(unittest.TestCase):
         signal.signal(signal.SIGALRM, self.too_long)
         signal.alarm(TEST_SECONDS)
         self.addCleanup(signal.alarm, 0)
+
+    def _formatMessage(self, msg, standardMsg):
+        """What unittest says of a failed comparison, and the test's short variables: those tell the row of a table."""
+        frame, row = sys._getframe(1), {}
+        while frame:
+            if os.path.basename(frame.f_code.co_filename).startswith("test_"):
+                shown = ((name, it) for name, it in frame.f_locals.items() if not callable(it) and len(repr(it)) < 200)
+                row = {**dict(shown), **row}
+            frame = frame.f_back
+        return f"{super()._formatMessage(msg, standardMsg)}\nwhere {row}"
 
     def too_long(self, *_):
         raise TooLong(f"a test took longer than {TEST_SECONDS} seconds")
@@ -154,6 +194,11 @@ class Case(unittest.TestCase):
         """Runs `digests` with these words, and compares both outputs and the status."""
         ran = self.run_words(words, stdin, **how)
         self.assertEqual(ran, Ran(status, as_bytes(out), as_bytes(err)), as_words(words)[:9])
+
+    def both(self, words, **how):
+        """What ours and GNU's tool leave for the same words, the first of which is the tool."""
+        words = as_words(words)
+        return self.run_words(words, **how), self.run_command(words, executable=gnu(words[0]), **how)
 
     def expect_fault(self, words, text):
         """Expects that the words are refused with this text."""

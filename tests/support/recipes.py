@@ -4,11 +4,9 @@ import os
 import re
 import subprocess
 
-import harness
-from harness import TOP
+from harness import NAMES, TOP
 
-TOOLS = [*harness.TOOLS, "anysum"]
-NAMES = [*TOOLS, "digests"]  # of the pages
+PAGES = [*NAMES, "digests"]
 
 
 def path_of(page):

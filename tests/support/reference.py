@@ -5,16 +5,15 @@ It follows the manual and the decisions in `docs/DECISIONS.md` and knows nothing
 misread, they would have to misread alike. Files are those of the current folder."""
 
 import errno
-import hashlib
 import os
 import re
 from dataclasses import dataclass
 
-from harness import TOOLS, Ran
+import options
+from harness import Ran, hasher
 
 # Tool: the tag of its algorithm and the length of its full digest. `anysum` has none of its own.
-ALGORITHMS = {tool: (tag, len(digits) // 2) for tool, (tag, digits, _) in TOOLS.items()}
-ALGORITHMS["anysum"] = (None, 0)
+ALGORITHMS = {tool: (it.tag, (it.bits or 0) // 8) for tool, it in options.TOOLS.items()}
 SIZES = {tag: size for tag, size in ALGORITHMS.values() if tag}
 
 NOT_FOUND = b"No such file or directory"
@@ -36,14 +35,9 @@ REASONS = {
 }
 
 
-# Digests, names and lines
-
-
 def digest(tag, size, content):
     """The digest of so many bytes, by hashlib."""
-    if tag == "BLAKE2b":
-        return hashlib.blake2b(content, digest_size=size).digest()
-    return hashlib.new(tag.lower(), content).digest()
+    return hasher(tag, content, size).digest()
 
 
 def escape(name):
@@ -70,9 +64,6 @@ def line(mode, zero, tag, name, found):
         bits = b"" if len(found) == SIZES[tag] else b"-%d" % (8 * len(found))
         return front + tag.encode() + bits + b" (" + shown + b") = " + digits + end
     return front + digits + (b" *" if mode == "binary" else b"  ") + shown + end
-
-
-# The lines of a manifest
 
 
 def lines(content):
@@ -136,9 +127,6 @@ def entry(tag, in_reversed, text):
     return None if name is None or b"\0" in name else (own, found, name)
 
 
-# What can be read
-
-
 @dataclass
 class Fault:
     """Why a name could not be read, and whether it could not even be opened."""
@@ -174,9 +162,6 @@ class World:
             return Fault.of(error, False)
         finally:
             os.close(file)
-
-
-# What the tools write
 
 
 def generated(tool, options, names, world):
