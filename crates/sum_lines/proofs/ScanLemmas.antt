@@ -12,7 +12,8 @@ use Rattle.digest_kinds.specs.Kinds.{KindValue, tag, IsDigits}
 use Rattle.sum_lines.specs.grammar.Shapes.{Algo, One, is_blank, optional}
 use Rattle.std.proofs.lemmas.List.{take-append-drop}
 use Rattle.sum_lines.specs.grammar.LineParts.{LinePartsValue, after_while, strip_prefix, tag_in, width_at, tagged_parts}
-use Rattle.sum_lines.specs.refinement.LinePartRanges.{EndsIn}
+use Rattle.sum_lines.specs.refinement.LinePartRanges.{IsFront}
+use Rattle.sum_lines.specs.declared.reading.line_parts.Front.{Front}
 use Rattle.sum_lines.proofs.PrefixLemmas.{none_of, text, strip_prefix-some, strip_prefix-append, opened-some, rfind-at, rfind-none, rsplit-some}
 use Rattle.sum_lines.proofs.TaggedLemmas.{width_at-some}
 use Rattle.std.proofs.lemmas.Grind.{common_steps}
@@ -58,7 +59,15 @@ digest_none s d n some few none spelled = grind (arith, decoded-digits)
 
 -- ---- the places of the parts in the line
 
--- a line that ends in some bytes ends in what follows any part of them
+-- the line ends with the bytes
+abbrev pub EndsIn : List ℕ → List ℕ → Type 0
+EndsIn line s = (prefix : List ℕ) × (line ≡ prefix ++ s)
+
+-- a line ends in its text
+pub front-ends : {line s : List ℕ} {f : Front} → IsFront line f → s ≡ (text line).1 → EndsIn line s
+front-ends {line} {s} {f} front is = (take f.start line, rw (is, ← front.text) (sym (take-append-drop f.start line)))
+
+-- and so in what follows any part of that
 pub ends-after : {line s : List ℕ} (xs rest : List ℕ) → EndsIn line s → s ≡ xs ++ rest → EndsIn line rest
 ends-after xs rest ends is = (ends.0 ++ xs, grind (arith, append_assoc))
 

@@ -1,5 +1,6 @@
 -- How names are escaped, byte by byte, and what versions of the tools differ in, of escapes and of lines.
-use Rattle.std.specs.Prelude.{◌≡◌, ℕ, ◌==◌, ◌&&◌, Bool, true, not, List, [], ◌∷◌, flat_map, bytes_eq, codes, if◌then◌else◌}
+use Rattle.std.specs.Prelude.{◌≡◌, ℕ, ◌==◌, ◌&&◌, Bool, true, not, [], ◌∷◌, flat_map, bytes_eq, codes, if◌then◌else◌}
+pub use Rattle.digest_kinds.specs.Basics.{ByteString}
 
 -- whether a carriage return in a name is escaped, one at a line's end is left out, and an empty line is ignored
 pub record Profile : Type 0 where
@@ -12,22 +13,22 @@ abbrev pub present : Profile
 present = record { escapes_return = true; drops_return = true; ignores_empty = true }
 
 -- a backslash (92) becomes `\\`, a newline (10) `\n`, a carriage return (13) `\r` if the profile says so; others stay
-abbrev pub escape_of : Profile → ℕ → List ℕ
+abbrev pub escape_of : Profile → ℕ → ByteString
 escape_of p b = if b == 92 then codes "\\\\" else if b == 10 then codes "\\n"
     else if p.escapes_return && (b == 13) then codes "\\r" else b ∷ []
 
 -- the escape of a name, by the profile
-abbrev pub escape_by : Profile → List ℕ → List ℕ
+abbrev pub escape_by : Profile → ByteString → ByteString
 escape_by p name = flat_map (escape_of p) name
 
 -- the escape of a name by the tools here
-abbrev pub escape : List ℕ → List ℕ
+abbrev pub escape : ByteString → ByteString
 escape name = escape_by present name
 
 -- whether the escape of a name differs from the name
-abbrev pub escape_differs : Profile → List ℕ → Bool
+abbrev pub escape_differs : Profile → ByteString → Bool
 escape_differs p name = not (bytes_eq (escape_by p name) name)
 
 -- the bytes are the escape of some name
-abbrev pub IsEscaped : List ℕ → Type 0
-IsEscaped bytes = (n : List ℕ) × (bytes ≡ escape n)
+abbrev pub IsEscaped : ByteString → Type 0
+IsEscaped bytes = (n : ByteString) × (bytes ≡ escape n)

@@ -2,51 +2,51 @@
 use Rattle.std.specs.Prelude.{ℕ, ◌≡◌, ◌<◌, ◌⊎◌, ◌==◌, ◌||◌, Bool, false, List, [], ◌∷◌, IsTrue, if◌then◌else◌, All}
 use Rattle.std.specs.Option.{option_map_or}
 use Rattle.digest_kinds.specs.Kinds.{KindValue}
-use Rattle.sum_lines.specs.grammar.Shapes.{Algos, Plain, Tagged}
+use Rattle.sum_lines.specs.grammar.Shapes.{ByteString, Algos, Plain, Tagged}
 use Rattle.sum_lines.specs.Escape.{Profile, present}
 use Rattle.sum_lines.specs.grammar.LineParts.{plain_parts}
 pub use Rattle.sum_lines.specs.declared.reading.read_line.Form.{Form}
 pub use Rattle.sum_lines.specs.declared.reading.read_line.Form.TheVariants.{Undecided, Standard, Reversed}
 
 -- whether a line is ignored: it begins with `#` (35), or it is empty, unless the profile has that for a bad line
-abbrev pub is_ignored_by : Profile → List ℕ → Bool
+abbrev pub is_ignored_by : Profile → ByteString → Bool
 is_ignored_by p [] = p.ignores_empty
 is_ignored_by p (b ∷ bs) = b == 35
 
 -- the same by the tools here
-abbrev pub is_ignored : List ℕ → Bool
+abbrev pub is_ignored : ByteString → Bool
 is_ignored line = is_ignored_by present line
 
 -- whether a plain line's tail is that of a Standard list: it begins with a space (32) or a star (42), and goes on
-abbrev pub begins_standard : List ℕ → Bool
+abbrev pub begins_standard : ByteString → Bool
 begins_standard (b ∷ c ∷ bs) = b == 32 || b == 42
 begins_standard tail = false
 
 -- A line decides the form of a list if it isn't ignored and is plain: by its tail.
-pub record DecidesForm (algos : Algos) (line : List ℕ) (form : Form) : Type 0 where
+pub record DecidesForm (algos : Algos) (line : ByteString) (form : Form) : Type 0 where
   pub escaped : Bool
   pub kind : KindValue
-  pub digest : List ℕ
-  pub tail : List ℕ
+  pub digest : ByteString
+  pub tail : ByteString
   pub speaks : is_ignored line ≡ false
   pub plain : Plain algos line escaped kind digest tail
   pub is : form ≡ (if begins_standard tail then Standard else Reversed)
 
 -- The form of a list of lines: the first line that decides one decides it; without such a line it is Undecided.
-abbrev pub IsForm : Algos → List (List ℕ) → Form → Type 0
+abbrev pub IsForm : Algos → List ByteString → Form → Type 0
 IsForm algos [] form = form ≡ Undecided
 IsForm algos (line ∷ later) form = DecidesForm algos line form
     ⊎ (((f : Form) → ¬ DecidesForm algos line f) × IsForm algos later form)
 
 -- The raw name, as the line has it, spells a name: the name has no NUL; the raw name is its escape if the line has the
 -- backslash for that, and the name itself if not.
-pub record Spells (escape : List ℕ → List ℕ) (escaped : Bool) (raw name : List ℕ) : Type 0 where
+pub record Spells (escape : ByteString → ByteString) (escaped : Bool) (raw name : ByteString) : Type 0 where
   pub no_nul : All (λ b. 0 < b) name
   pub is : raw ≡ (if escaped then escape name else name)
 
 -- the raw name in a plain line's tail: in a Reversed list all of it; in a Standard one all but its first byte, if that
 -- is a space or a star and more follows
-abbrev pub RawOf : Form → List ℕ → List ℕ → Type 0
+abbrev pub RawOf : Form → ByteString → ByteString → Type 0
 RawOf Undecided tail raw = ⊥
 RawOf Reversed tail raw = raw ≡ tail
 RawOf Standard tail raw = IsTrue (begins_standard tail) × (b : ℕ) × (tail ≡ b ∷ raw)
@@ -54,13 +54,13 @@ RawOf Standard tail raw = IsTrue (begins_standard tail) × (b : ℕ) × (tail �
 -- an entry: a digest of that kind, and the name of the file that has it
 pub record EntryValue : Type 0 where
   pub kind : KindValue
-  pub digest : List ℕ
-  pub name : List ℕ
+  pub digest : ByteString
+  pub name : ByteString
 
 -- the entry of a tagged line, whose raw name spells the name
-pub record ByTag (escape : List ℕ → List ℕ) (algos : Algos) (line : List ℕ) (s : EntryValue) : Type 0 where
+pub record ByTag (escape : ByteString → ByteString) (algos : Algos) (line : ByteString) (s : EntryValue) : Type 0 where
   pub escaped : Bool
-  pub raw : List ℕ
+  pub raw : ByteString
   pub tagged : Tagged algos line escaped s.kind s.digest raw
   pub spells : Spells escape escaped raw s.name
 
@@ -68,25 +68,25 @@ pub record ByTag (escape : List ℕ → List ℕ) (algos : Algos) (line : List �
 pub record ByTail (escape : List ℕ → List ℕ) (algos : Algos) (form : Form) (line : List ℕ) (s : EntryValue) : Type 0
   where
     pub escaped : Bool
-    pub tail : List ℕ
-    pub raw : List ℕ
+    pub tail : ByteString
+    pub raw : ByteString
     pub plain : Plain algos line escaped s.kind s.digest tail
     pub is_raw : RawOf form tail raw
     pub spells : Spells escape escaped raw s.name
 
 -- The entry that a line spells in a list of that form, if it isn't ignored. Names are escaped by `escape`.
-abbrev pub IsEntry : (List ℕ → List ℕ) → Algos → Form → List ℕ → EntryValue → Type 0
+abbrev pub IsEntry : (ByteString → ByteString) → Algos → Form → ByteString → EntryValue → Type 0
 IsEntry escape algos form line s = (is_ignored line ≡ false)
     × (ByTag escape algos line s ⊎ ByTail escape algos form line s)
 
 -- The form of a list of lines, computed: its first plain line's. By the law `one_form` it need not be believed.
-abbrev pub form : Algos → List (List ℕ) → Form
+abbrev pub form : Algos → List ByteString → Form
 form algos [] = Undecided
 form algos (line ∷ later) = option_map_or (λ p. if begins_standard p.text then Standard else Reversed)
     (plain_parts algos line) (form algos later)
 
 -- the form of one line
-abbrev pub line_form : Algos → List ℕ → Form
+abbrev pub line_form : Algos → ByteString → Form
 line_form algos line = form algos (line ∷ [])
 
 -- a form, and after it that of later lines: what is decided stays

@@ -1,13 +1,13 @@
 -- The parts of a line of either shape, computed. They need not be believed: by the law `parse_is_grammar` the entry
 -- that is made of them is the line grammar's.
-use Rattle.std.specs.Prelude.{ℕ, ◌*◌, ◌==◌, ◌&&◌, nat_lt, Bool, true, false, List, ◌∷◌, length, drop, bytes_eq, codes, decimal, Option, None, Some, option_map, if◌then◌else◌, take_while, find}
+use Rattle.std.specs.Prelude.{ℕ, ◌*◌, ◌==◌, ◌&&◌, nat_lt, Bool, true, false, ◌∷◌, length, drop, bytes_eq, codes, decimal, Option, None, Some, option_map, if◌then◌else◌, take_while, find}
 use Rattle.std.specs.Char.{is_ascii_digit}
 use Rattle.std.specs.Option.{option_or}
 use Rattle.std.specs.Result.{result_ok}
 use Rattle.std.specs.List.{prefix_len, range_with_len, starts_with, before_first, after_first}
 use Rattle.std.specs.Path.{rsplit_once}
 use Rattle.hex.specs.Hex.{decode_of}
-use Rattle.digest_kinds.specs.Basics.{◌>>=◌}
+use Rattle.digest_kinds.specs.Basics.{ByteString, ◌>>=◌}
 use Rattle.digest_kinds.specs.Kinds.{KindValue, all_algos, full_kind, blake2b_kind, has_len, tag}
 use Rattle.sum_lines.specs.grammar.Shapes.{Algo, Algos, One, Any, is_blank}
 use Rattle.digest_kinds.specs.declared.algo.Algo.TheVariants.{Blake2b}
@@ -16,19 +16,19 @@ use Rattle.digest_kinds.specs.declared.algo.Algo.TheVariants.{Blake2b}
 pub record LinePartsValue : Type 0 where
   pub escaped : Bool
   pub kind : KindValue
-  pub digest : List ℕ
-  pub text : List ℕ
+  pub digest : ByteString
+  pub text : ByteString
 
 -- what follows the longest prefix that passes
-abbrev pub after_while : (ℕ → Bool) → List ℕ → List ℕ
+abbrev pub after_while : (ℕ → Bool) → ByteString → ByteString
 after_while p xs = drop (prefix_len p xs) xs
 
 -- whether a backslash begins the bytes, and what follows it
-abbrev pub mark_and_rest : List ℕ → Bool × List ℕ
+abbrev pub mark_and_rest : ByteString → Bool × ByteString
 mark_and_rest s = if starts_with ◌==◌ s (codes "\\") then (true, drop 1 s) else (false, s)
 
 -- a plain line's parts: the digits up to the first blank of its text, and the tail after that
-unfoldable pub plain_parts : Algos → List ℕ → Option LinePartsValue
+unfoldable pub plain_parts : Algos → ByteString → Option LinePartsValue
 plain_parts Any line = None
 plain_parts (One a) line = let text = mark_and_rest (after_while is_blank line) in do
   d ← result_ok (decode_of (before_first is_blank text.1))
@@ -37,27 +37,27 @@ plain_parts (One a) line = let text = mark_and_rest (after_while is_blank line) 
       Some (record { escaped = text.0; kind = record { algo = a; len = length d }; digest = d; text = tail }) else None
 
 -- what follows that text, if it begins the bytes
-abbrev pub strip_prefix : List ℕ → List ℕ → Option (List ℕ)
+abbrev pub strip_prefix : ByteString → ByteString → Option ByteString
 strip_prefix text s = if starts_with ◌==◌ s text then Some (drop (length text) s) else None
 
 -- the one of these algorithms whose tag begins the bytes
-abbrev pub tag_in : Algos → List ℕ → Option Algo
+abbrev pub tag_in : Algos → ByteString → Option Algo
 tag_in (One a) s = if starts_with ◌==◌ s (tag a) then Some a else None
 tag_in Any s = find (λ a. starts_with ◌==◌ s (tag a)) all_algos
 
 -- BLAKE2b with as many bits as these digits write
-abbrev pub kind_at : List ℕ → Option KindValue
+abbrev pub kind_at : ByteString → Option KindValue
 kind_at ds = option_map blake2b_kind (find (λ n. bytes_eq (decimal (8 * n)) ds) (range_with_len 1 64))
 
 -- the kind that follows a tag, and what follows that: for BLAKE2b a `-` (45) may precede its bits
-abbrev pub width_at : Algo → List ℕ → Option (KindValue × List ℕ)
+abbrev pub width_at : Algo → ByteString → Option (KindValue × ByteString)
 width_at Blake2b (b ∷ bs) =
     if b == 45 then option_map (λ k. (k, after_while is_ascii_digit bs)) (kind_at (take_while is_ascii_digit bs))
     else Some (full_kind Blake2b, b ∷ bs)
 width_at a s = Some (full_kind a, s)
 
 -- a tagged line's parts; the last parenthesis ends the name
-unfoldable pub tagged_parts : Algos → List ℕ → Option LinePartsValue
+unfoldable pub tagged_parts : Algos → ByteString → Option LinePartsValue
 tagged_parts algos line = let text = mark_and_rest (after_while is_blank line) in do
   a ← tag_in algos text.1
   w ← width_at a (drop (length (tag a)) text.1)

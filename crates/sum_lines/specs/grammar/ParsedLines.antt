@@ -1,9 +1,9 @@
 -- How a line parses, computed; it need not be believed: by the law `parse_is_grammar` it is what the line grammar says.
 -- And what a `Reading` says of a line.
-use Rattle.std.specs.Prelude.{ℕ, ◌≡◌, ◌≤◌, ◌==◌, List, ◌∷◌, length, drop, slice_range, nat_lt, bytes_eq, ⊤, Option, None, Some, if◌then◌else◌}
+use Rattle.std.specs.Prelude.{◌≡◌, ◌≤◌, ◌==◌, ◌∷◌, length, drop, slice_range, nat_lt, bytes_eq, ⊤, Option, None, Some, if◌then◌else◌}
 use Rattle.std.specs.Option.{option_or, option_map_or}
 use Rattle.std.specs.List.{list_all}
-use Rattle.digest_kinds.specs.Basics.{◌>>=◌}
+use Rattle.digest_kinds.specs.Basics.{ByteString, ◌>>=◌}
 use Rattle.digest_kinds.specs.declared.algo.Algos.{Algos}
 use Rattle.sum_lines.specs.grammar.Entries.{Form, Undecided, Standard, Reversed, EntryValue, begins_standard, is_ignored_by}
 use Rattle.sum_lines.specs.declared.reading.read_line.Reading.{Reading}
@@ -12,14 +12,14 @@ use Rattle.sum_lines.specs.grammar.LineParts.{LinePartsValue, tagged_parts, plai
 use Rattle.sum_lines.specs.declared.reading.read_line.Reading.TheVariants as readings
 
 -- the bytes with one in place of a backslash (92) and the byte after it: a newline for `\n`, a carriage return for `\r`
-abbrev pub unescaped_bytes : List ℕ → List ℕ
+abbrev pub unescaped_bytes : ByteString → ByteString
 unescaped_bytes (b ∷ c ∷ cs) =
     if b == 92 then (if c == 110 then 10 else if c == 114 then 13 else c) ∷ unescaped_bytes cs
     else b ∷ unescaped_bytes (c ∷ cs)
 unescaped_bytes bytes = bytes
 
 -- the name whose escape the bytes are, if they are one
-abbrev pub unescape : Profile → List ℕ → Option (List ℕ)
+abbrev pub unescape : Profile → ByteString → Option ByteString
 unescape p bytes = if bytes_eq (escape_by p (unescaped_bytes bytes)) bytes then Some (unescaped_bytes bytes) else None
 
 -- a plain line's parts with the raw name in place of the tail, if its tail has one in a list of that form
@@ -35,7 +35,7 @@ entry_of_parts p t = do
   if list_all (nat_lt 0) name then Some (record { kind = t.kind; digest = t.digest; name = name }) else None
 
 -- the entry that a line spells in a list of that form
-unfoldable pub entry_of : Profile → Algos → Form → List ℕ → Option EntryValue
+unfoldable pub entry_of : Profile → Algos → Form → ByteString → Option EntryValue
 entry_of p algos f line =
     option_or (tagged_parts algos line) (plain_parts algos line >>= with_raw f) >>= entry_of_parts p
 
@@ -45,18 +45,18 @@ pub data ParsedLine : Type 0 where
   entry : EntryValue → ParsedLine
 
 -- how a line parses in a list of that form
-abbrev pub parse_line : Profile → Algos → Form → List ℕ → ParsedLine
+abbrev pub parse_line : Profile → Algos → Form → ByteString → ParsedLine
 parse_line p algos f line = if is_ignored_by p line then ignored else option_map_or entry (entry_of p algos f line) bad
 
 -- what a reading says, whose name is a range of the line's vector
-abbrev pub parsed_line_by : List ℕ → Reading → ParsedLine
+abbrev pub parsed_line_by : ByteString → Reading → ParsedLine
 parsed_line_by line readings.Ignored = ignored
 parsed_line_by line readings.Bad = bad
 parsed_line_by line (readings.Entry kind digest start stop) =
     entry (record { kind = kind; digest = digest; name = slice_range line start stop })
 
 -- the range of the name is in the line, and the digest is as long as the kind's
-abbrev pub Within : List ℕ → Reading → Type 0
+abbrev pub Within : ByteString → Reading → Type 0
 Within line readings.Ignored = ⊤
 Within line readings.Bad = ⊤
 Within line (readings.Entry kind digest start stop) = (start ≤ stop) × (stop ≤ length line) × (length digest ≡ kind.len)

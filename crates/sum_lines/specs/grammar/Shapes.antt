@@ -4,6 +4,7 @@
 use Rattle.std.specs.Prelude.{ℕ, ◌≡◌, ◌*◌, ◌<◌, ◌⊎◌, ◌==◌, ◌||◌, ⊤, Bool, true, List, [], ◌∷◌, ◌++◌, length, codes, IsTrue, Ok, if◌then◌else◌, decimal}
 use Rattle.std.specs.List.{AllPass}
 use Rattle.hex.specs.Hex.{decode_of}
+pub use Rattle.digest_kinds.specs.Basics.{ByteString}
 use Rattle.digest_kinds.specs.Kinds.{KindValue, full_len, has_len, tag}
 pub use Rattle.digest_kinds.specs.declared.algo.Algo.{Algo}
 use Rattle.digest_kinds.specs.declared.algo.Algo.TheVariants.{Blake2b}
@@ -15,14 +16,14 @@ abbrev pub is_blank : ℕ → Bool
 is_blank b = b == 32 || b == 9
 
 -- the backslash that begins a line whose name is escaped
-abbrev pub mark : Bool → List ℕ
+abbrev pub mark : Bool → ByteString
 mark e = if e then codes "\\" else []
 
 -- A plain line: digits, one blank, and a tail that isn't empty. The digits are hexadecimal, in any case, and spell
 -- a digest of a length that the one algorithm has. If any algorithm may be named, no line is plain.
 pub record Plain (algos : Algos) (line : List ℕ) (e : Bool) (kind : KindValue) (digest tail : List ℕ) : Type 0 where
-  pub blanks : List ℕ
-  pub digits : List ℕ
+  pub blanks : ByteString
+  pub digits : ByteString
   pub blank : ℕ
   pub one : algos ≡ One kind.algo
   pub has : IsTrue (has_len kind.algo kind.len)
@@ -34,12 +35,12 @@ pub record Plain (algos : Algos) (line : List ℕ) (e : Bool) (kind : KindValue)
   pub whole : line ≡ blanks ++ (mark e ++ (digits ++ (blank ∷ tail)))
 
 -- the bytes, if they are there
-abbrev pub optional : Bool → List ℕ → List ℕ
+abbrev pub optional : Bool → ByteString → ByteString
 optional there bytes = if there then bytes else []
 
 -- What may follow the tag directly: nothing for the full length; for BLAKE2b a `-` and the number of bits, which are 8
 -- to 512, in decimal.
-abbrev pub Width : KindValue → List ℕ → Type 0
+abbrev pub Width : KindValue → ByteString → Type 0
 Width kind width = ((width ≡ []) × (kind.len ≡ full_len kind.algo))
     ⊎ ((width ≡ codes "-" ++ decimal (8 * kind.len)) × (kind.algo ≡ Blake2b) × IsTrue (has_len Blake2b kind.len))
 
@@ -51,12 +52,12 @@ Allows Any algo = ⊤
 -- A tagged line: the tag with its width, a name in parentheses that isn't empty, `=` between blanks or none, and the
 -- digits, up to the line's end.
 pub record Tagged (algos : Algos) (line : List ℕ) (e : Bool) (kind : KindValue) (digest raw : List ℕ) : Type 0 where
-  pub blanks : List ℕ
-  pub width : List ℕ
+  pub blanks : ByteString
+  pub width : ByteString
   pub gap : Bool
-  pub before : List ℕ
-  pub after : List ℕ
-  pub digits : List ℕ
+  pub before : ByteString
+  pub after : ByteString
+  pub digits : ByteString
   pub allowed : Allows algos kind.algo
   pub are_blanks : AllPass is_blank blanks
   pub is_width : Width kind width

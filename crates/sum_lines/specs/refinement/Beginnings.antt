@@ -1,31 +1,31 @@
 -- Joins what a line begins with to the parts that it is read as.
-use Rattle.std.specs.Prelude.{ℕ, ◌≡◌, ◌+◌, ◌<◌, List, true, length, get_or, IsTrue, None, Some, Ok}
+use Rattle.std.specs.Prelude.{ℕ, ◌≡◌, ◌+◌, ◌<◌, true, length, get_or, IsTrue, None, Some, Ok}
 use Rattle.std.specs.List.{position_or_len, before_first, after_first}
 use Rattle.hex.specs.Hex.{decode_of}
 use Rattle.digest_kinds.specs.Kinds.{has_len}
-use Rattle.sum_lines.specs.grammar.Shapes.{Algo, Algos, One, is_blank}
+use Rattle.sum_lines.specs.grammar.Shapes.{ByteString, Algo, Algos, One, is_blank}
 use Rattle.sum_lines.specs.declared.reading.beginnings.Beginning.{Beginning}
 use Rattle.sum_lines.specs.grammar.LineParts.{after_while, mark_and_rest, plain_parts, tag_in, tagged_parts}
 use Rattle.sum_lines.specs.declared.reading.beginnings.Beginning.TheVariants as beginnings
 
 -- a plain line's text: its digits, up to the first blank, spell that digest, and something follows that
-pub record Cut (a : Algo) (s digest : List ℕ) : Type 0 where
+pub record Cut (a : Algo) (s digest : ByteString) : Type 0 where
   pub spelled : decode_of (before_first is_blank s) ≡ Ok digest
   pub has : IsTrue (has_len a (length digest))
   pub some : 0 < length (after_first is_blank s)
 
 -- if the bytes are such a text, their first blank is at that place
-abbrev pub EndsAt : Algo → List ℕ → ℕ → Type 0
-EndsAt a s at = (digest : List ℕ) → Cut a s digest → at ≡ position_or_len is_blank s
+abbrev pub EndsAt : Algo → ByteString → ℕ → Type 0
+EndsAt a s at = (digest : ByteString) → Cut a s digest → at ≡ position_or_len is_blank s
 
 -- that place has a blank, something follows it, and the digits end there if the bytes are such a text
-pub record EndsDigits (a : Algo) (s : List ℕ) (at : ℕ) : Type 0 where
+pub record EndsDigits (a : Algo) (s : ByteString) (at : ℕ) : Type 0 where
   pub within : at + 1 < length s
   pub blank : is_blank (get_or s at 0) ≡ true
   pub place : EndsAt a s at
 
 -- what a line that begins so is read as: as tagged after that tag, and not as plain; or as plain, and not as tagged
-abbrev pub LeadsTo : Algos → List ℕ → Beginning → Type 0
+abbrev pub LeadsTo : Algos → ByteString → Beginning → Type 0
 LeadsTo algos line (beginnings.Tag a) = (tag_in (One a) (mark_and_rest (after_while is_blank line)).1 ≡ Some a)
     × (tagged_parts algos line ≡ tagged_parts (One a) line) × (None ≡ plain_parts algos line)
 LeadsTo algos line (beginnings.Digits a at) = EndsDigits a (mark_and_rest (after_while is_blank line)).1 at

@@ -1,15 +1,15 @@
 -- Joins `put_parts` to its callers: the text of a list of parts, one after another.
-use Rattle.std.specs.Prelude.{ℕ, List, flat_map, decimal}
+use Rattle.std.specs.Prelude.{List, flat_map, decimal}
 use Rattle.sum_lines.specs.declared.writing.parts.Part.{Part}
 use Rattle.sum_lines.specs.declared.writing.parts.Part.TheVariants.{Bytes, Escaped, Number}
-use Rattle.sum_lines.specs.Escape.{escape}
+use Rattle.sum_lines.specs.Escape.{ByteString, escape}
 
 -- the text of one part
-abbrev pub part_text : Part → List ℕ
+abbrev pub part_text : Part → ByteString
 part_text (Bytes bytes) = bytes.now
 part_text (Escaped name) = escape name.now
 part_text (Number n) = decimal n
 
 -- the text of the parts, one after another
-abbrev pub parts_text : List Part → List ℕ
+abbrev pub parts_text : List Part → ByteString
 parts_text parts = flat_map part_text parts

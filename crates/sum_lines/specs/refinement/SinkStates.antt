@@ -1,16 +1,16 @@
 -- Joins the calls of a sink: what its known bytes grow by, how a buffer is flushed, and the state of a ToldSink.
-use Rattle.std.specs.Prelude.{ℕ, ◌-◌, List, [], take, Option, Some, Result, Ok, Err}
+use Rattle.std.specs.Prelude.{ℕ, ◌-◌, [], take, Option, Some, Result, Ok, Err}
 use Rattle.std.specs.Io.KnownBytes.{Appends}
-use Rattle.sum_lines.specs.sinks.Sinks.{SinkState, IsPrefix, Accepted, FlushFailed}
+use Rattle.sum_lines.specs.sinks.Sinks.{ByteString, SinkState, IsPrefix, Accepted, FlushFailed}
 use Rattle.sum_lines.specs.declared.sinks.told_sink.ToldSink.{ToldSink}
 
 -- known bytes stay, and more may follow them
-abbrev pub Grows : Option (List ℕ) → Option (List ℕ) → Type 0
-Grows old new = (more : List ℕ) × Appends old new more
+abbrev pub Grows : Option ByteString → Option ByteString → Type 0
+Grows old new = (more : ByteString) × Appends old new more
 
 -- known bytes grow by a prefix of the text
-abbrev pub AppendsPrefix : Option (List ℕ) → Option (List ℕ) → List ℕ → Type 0
-AppendsPrefix old new text = (prefix : List ℕ) × IsPrefix prefix text × Appends old new prefix
+abbrev pub AppendsPrefix : Option ByteString → Option ByteString → ByteString → Type 0
+AppendsPrefix old new text = (prefix : ByteString) × IsPrefix prefix text × Appends old new prefix
 
 -- a call that accepts nothing, or fails
 abbrev pub FlushesBuffer : {E : Type 0} → SinkState → SinkState → Result (Unit {0}) E → Type 0
@@ -20,7 +20,7 @@ FlushesBuffer a b (Err e) = FlushFailed a b
 -- ---- a ToldSink
 
 -- the bytes that were written
-abbrev pub bytes_of : {N : ℕ} → ToldSink N → List ℕ
+abbrev pub bytes_of : {N : ℕ} → ToldSink N → ByteString
 bytes_of s = take s.len s.bytes
 
 -- how many more bytes it accepts before it fails

@@ -1,4 +1,5 @@
 -- The state of a sink, and what writing and flushing do to it.
+pub use Rattle.digest_kinds.specs.Basics.{ByteString}
 use Rattle.digest_kinds.specs.Limits.{one_more}
 use Rattle.std.specs.Prelude.{ℕ, ◌≡◌, ◌<◌, ◌≤◌, List, [], ◌∷◌, ◌++◌, length, take, Option, Some, Result, Ok, Err, IfSome}
 use Rattle.std.specs.Io.KnownBytes.{append_known}
@@ -9,24 +10,24 @@ abbrev pub IsPrefix : {A : Type 0} → List A → List A → Type 0
 IsPrefix {A} prefix xs = (rest : List A) × (xs ≡ prefix ++ rest)
 
 -- known bytes grow by a proper prefix of the text
-abbrev pub AppendsProperPrefix : Option (List ℕ) → Option (List ℕ) → List ℕ → Type 0
+abbrev pub AppendsProperPrefix : Option ByteString → Option ByteString → ByteString → Type 0
 AppendsProperPrefix old new text =
-    (prefix : List ℕ) × (rest : List ℕ) × (text ≡ prefix ++ rest) × (0 < length rest) × Appends old new prefix
+    (prefix : ByteString) × (rest : ByteString) × (text ≡ prefix ++ rest) × (0 < length rest) × Appends old new prefix
 
 -- the state of a sink: the bytes written, if known; those accepted and still buffered; how many calls failed
 pub record SinkState : Type 0 where
-  pub written : Option (List ℕ)
-  pub buffered : List ℕ
+  pub written : Option ByteString
+  pub buffered : ByteString
   pub failures : ℕ
 
 -- the text was accepted: it follows the buffered bytes, and some of both may have been written
-pub record Accepted (a b : SinkState) (text : List ℕ) : Type 0 where
+pub record Accepted (a b : SinkState) (text : ByteString) : Type 0 where
   pub accepted : Appends (append_known a.written a.buffered) (append_known b.written b.buffered) text
-  pub written : (more : List ℕ) × Appends a.written b.written more
+  pub written : (more : ByteString) × Appends a.written b.written more
   pub failures : b.failures ≡ a.failures
 
 -- a call failed: a proper prefix of the buffered bytes and the text, which isn't empty, was written; the rest is lost
-pub record WriteFailed (a b : SinkState) (text : List ℕ) : Type 0 where
+pub record WriteFailed (a b : SinkState) (text : ByteString) : Type 0 where
   pub nonempty : 0 < length text
   pub written : AppendsProperPrefix a.written b.written (a.buffered ++ text)
   pub buffered : b.buffered ≡ []
@@ -34,17 +35,17 @@ pub record WriteFailed (a b : SinkState) (text : List ℕ) : Type 0 where
 
 -- a call failed: a prefix of the buffered bytes was written, and the rest is lost
 pub record FlushFailed (a b : SinkState) : Type 0 where
-  pub written : (prefix : List ℕ) × IsPrefix prefix a.buffered × Appends a.written b.written prefix
+  pub written : (prefix : ByteString) × IsPrefix prefix a.buffered × Appends a.written b.written prefix
   pub buffered : b.buffered ≡ []
   pub failures : b.failures ≡ one_more a.failures
 
 -- a call that accepts all of the text, or fails; with an empty text it doesn't fail
-abbrev pub WritesAll : {E : Type 0} → SinkState → SinkState → List ℕ → Result (Unit {0}) E → Type 0
+abbrev pub WritesAll : {E : Type 0} → SinkState → SinkState → ByteString → Result (Unit {0}) E → Type 0
 WritesAll a b text (Ok u) = Accepted a b text
 WritesAll a b text (Err e) = WriteFailed a b text
 
 -- one write, which accepts the first bytes of a piece, at least one if it isn't empty, or fails
-abbrev pub WritesSome : {E : Type 0} → SinkState → SinkState → List ℕ → Result ℕ E → Type 0
+abbrev pub WritesSome : {E : Type 0} → SinkState → SinkState → ByteString → Result ℕ E → Type 0
 WritesSome a b piece (Ok n) = (n ≤ length piece) × (0 < length piece → 0 < n) × Accepted a b (take n piece)
 WritesSome a b piece (Err e) = FlushFailed a b
 
@@ -56,23 +57,23 @@ Flushes a b (Err e) = FlushFailed a b
 -- ---- what is offered
 
 -- the known pieces that a sink was offered grow by these
-abbrev pub Offers : Option (List (List ℕ)) → Option (List (List ℕ)) → List (List ℕ) → Type 0
+abbrev pub Offers : Option (List ByteString) → Option (List ByteString) → List ByteString → Type 0
 Offers old new pieces = IfSome old (λ xs. new ≡ Some (xs ++ pieces))
 
 -- the rest of a text after a prefix that isn't empty
-abbrev pub IsRest : List ℕ → List ℕ → Type 0
-IsRest text rest = (prefix : List ℕ) × (0 < length prefix) × (text ≡ prefix ++ rest)
+abbrev pub IsRest : ByteString → ByteString → Type 0
+IsRest text rest = (prefix : ByteString) × (0 < length prefix) × (text ≡ prefix ++ rest)
 
 -- each piece is a rest of the piece before it
-abbrev pub AreRests : List ℕ → List (List ℕ) → Type 0
+abbrev pub AreRests : ByteString → List ByteString → Type 0
 AreRests text [] = Unit {0}
 AreRests text (rest ∷ more) = IsRest text rest × AreRests rest more
 
 -- the pieces that are offered of a text: all of it, and then only what is left of the piece before; of no text none
-abbrev pub InOnePiece : List ℕ → List (List ℕ) → Type 0
+abbrev pub InOnePiece : ByteString → List ByteString → Type 0
 InOnePiece text [] = text ≡ []
 InOnePiece text (piece ∷ rests) = (0 < length text) × (piece ≡ text) × AreRests text rests
 
 -- a sink was offered a text in one piece, and again only what was left of it
-abbrev pub OffersWhole : Option (List (List ℕ)) → Option (List (List ℕ)) → List ℕ → Type 0
-OffersWhole old new text = (pieces : List (List ℕ)) × Offers old new pieces × InOnePiece text pieces
+abbrev pub OffersWhole : Option (List ByteString) → Option (List ByteString) → ByteString → Type 0
+OffersWhole old new text = (pieces : List ByteString) × Offers old new pieces × InOnePiece text pieces

@@ -6,7 +6,7 @@ ghost use Rattle.std.specs.Option.{option_copied, option_map};
 ghost use Rattle.std.specs.Path.{rsplit_once};
 ghost use Rattle.sum_lines.specs.grammar.LineParts.{after_while, strip_prefix, mark_and_rest};
 ghost use Rattle.sum_lines.specs.grammar.Shapes.{is_blank};
-ghost use Rattle.sum_lines.specs.refinement.LinePartRanges.{EndsIn, IsFront};
+ghost use Rattle.sum_lines.specs.refinement.LinePartRanges.{IsFront};
 
 use digest_kinds::{Digest, Kind};
 use memchr::memrchr;
@@ -58,8 +58,7 @@ pub(crate) fn front_of(line: &[u8]) -> Front
 /// The line's text.
 pub(crate) fn text_of(line: &[u8], front: Front) -> &[u8]
     requires { IsFront line.now front }
-    ensures text { result.now ≡ (mark_and_rest (after_while is_blank line.now)).1 }
-    ensures ends { EndsIn line.now result.now }
+    ensures { result.now ≡ (mark_and_rest (after_while is_blank line.now)).1 }
 {
     &line[front.start..]
 }
