@@ -1,15 +1,16 @@
 -- `CheckCursor::next_verdict`: the next verdict of a manifest, by what reading and judging its line did.
-use Rattle.std.proofs.Common.{rules, ◌≡◌, ◌∙◌, ℕ, ◌+◌, ◌<◌, ◌≤◌, true, false, List, [], length, slice_range, Option, None, Some, IfSome, MatchOption, Result, Ok, Err, refl, inr, arith}
+use Rattle.std.proofs.Common.{rules, ◌≡◌, ◌∙◌, ℕ, ◌+◌, ◌<◌, ◌≤◌, true, false, List, [], length, slice_range, Option, None, Some, Result, Ok, Err, refl, inr, arith}
 use Rattle.sum_sources.specs.declared.line_reader.LineStop.TheVariants.{Fault, Memory}
-use Rattle.sum_sources.specs.Contents.{Content, InputState, IfKnown, SourceState, limit}
+use Rattle.sum_sources.specs.Contents.{Content, InputState, IfKnown, SourceState}
 use Rattle.sum_sources.specs.declared.line_reader.Next.{Next}
 use Rattle.sum_sources.specs.declared.line_reader.Next.TheVariants.{Line, NoMore}
 use Rattle.sum_sources.specs.declared.line_reader.LineStop.{LineStop}
-use Rattle.sum_sources.specs.LineReaders.{AdvancesLines, Bounded, ReadsSomeLine, remaining_content, left_by, consumed}
+use Rattle.sum_sources.specs.LineReaders.{AdvancesLines, Bounded, ReadsSomeLine, remaining_content, left_by}
 use Rattle.sum_sources.specs.ManifestLines.{NextLineIs, lines}
 use Rattle.sum_lines.specs.Escape.{present}
 use Rattle.sum_sources.specs.declared.line_reader.LineReader.{LineReader}
 use Rattle.sum_sources.proofs.LineLemmas.{line-some}
+use Rattle.sum_sources.proofs.RemainLemmas.{MayRemain-known}
 use Rattle.sum_lines.specs.grammar.ParsedLines.{ParsedLine}
 use Rattle.sum_engine.specs.check.Reports.{CountsValue, is_unread}
 use Rattle.sum_engine.specs.check.NextVerdict.{LineVerdict, line_verdict_value, NoVerdictLeft, FindsVerdict, progress_of}
@@ -17,7 +18,7 @@ use Rattle.sum_engine.specs.check.Verdicts.{Verdict, lines_by}
 use Rattle.sum_engine.specs.Behavior.{Ending, Whole, Broken, World}
 use Rattle.sum_engine.specs.Execution.{Stop, InputsState, KeepsStdin, ReadToEnd, InSomeWorld}
 use Rattle.sum_engine.specs.check.CheckerSteps.{Progress, Going, Ended, AdvancesCursor, ReadsListedFile, CursorValue, counts_with, state_at, InSomeCheck, MemoryStopHasCause, CheckState, next_judged}
-use Rattle.sum_engine.specs.refinement.Judging.{IsJudged, name_in_line, TakesLine, JudgeLineOf, parsed_at}
+use Rattle.sum_engine.specs.refinement.Judging.{JudgeOf, name_in_line, TakesLine, JudgeLineOf, parsed_at}
 use Rattle.sum_engine.proofs.RestLemmas.{rest_on}
 use Rattle.sum_engine.proofs.StepLemmas.{InSomeCheck-made, some_remains, lines_now, ReadsLine, line_handled}
 
@@ -25,7 +26,7 @@ use Rattle.sum_engine.proofs.StepLemmas.{InSomeCheck-made, some_remains, lines_n
 pub judged-line : {I : Type 0} (p : CursorValue I) (line : List ℕ) (said : ParsedLine) (k : ℕ) (d : CountsValue)
     (vector : List ℕ)
     (w v : World) (verdict : Verdict) (start stop : ℕ) → parsed_at p line ≡ said
-    → IsJudged p.rules w v said verdict → d ≡ counts_with p.counts verdict
+    → JudgeOf p.rules w v said (Some verdict) → d ≡ counts_with p.counts verdict
     → slice_range vector start stop ≡ name_in_line said → k ≡ p.reader.lines
     → JudgeLineOf p line d vector w v
     (Some (record { number = k; verdict = verdict; start = start; stop = stop }))
@@ -107,13 +108,7 @@ module _ {I S : Type 0} (input : I → InputState) (source : S → SourceState) 
   stop_cause Memory reads bounds =
       let left = some_remains input q.reader bounds in
       let some = reads left.0 left.1 in
-      inr (refl, by (remaining_content input p.reader) some.0 some.1 some.2)
-    where
-      by : (x : Option Content) (c : Content)
-          → MatchOption x (consumed p.reader + length c.bytes < limit) (λ d. c ≡ d) → 0 < length c.bytes
-          → IfSome x (λ d. 0 < length d.bytes)
-      by None c may few = tt
-      by (Some d) c may few = rw may at few
+      inr (refl, MayRemain-known input p.reader (λ d. 0 < length d.bytes) (some.0, some.1, some.2))
 
 -- ---- known or not
 

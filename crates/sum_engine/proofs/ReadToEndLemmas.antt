@@ -1,11 +1,11 @@
 -- Read to the end, known or not: over no file, over one, and over one call after another.
 use Rattle.std.proofs.Common.{rules, ◌≡◌, ℕ, zero, suc, ◌+◌, false, Option, Some, ap, sym, subst, ◌∙◌, arith}
-use Rattle.std.specs.Option.{option_or}
+use Rattle.std.specs.Option.{option_map, option_or}
 use Rattle.sum_sources.specs.Contents.{InputState, SourceState, given_state, closed_state}
 use Rattle.digest_kinds.specs.Limits.{one_more}
 use Rattle.sum_engine.specs.Execution.{InputsState, Phase, Reading, Ended, raised, IsStdinWhole, KeepsStdin, ReadToEnd}
 use Rattle.sum_engine.specs.refinement.HashName.{HashOutcome, UnlessBroken}
-use Rattle.sum_engine.specs.refinement.Openings.{stdin_taken_from, phase_of}
+use Rattle.sum_engine.specs.refinement.Openings.{stdin_taken_from}
 
 -- so many more, and then so many more
 raised-add : (m n count : ℕ) → raised m (raised n count) ≡ raised (m + n) count
@@ -33,7 +33,7 @@ pub put_back-whole : {I S : Type 0} (input : I → InputState) (a c : InputsStat
     → (a.stdin_taken ≡ false → a.stdin_phase ≡ Some (given_state input taken).phase)
     → KeepsStdin (stdin_taken_from a) c
     → ((given_state input taken).phase ≡ Reading → (given_state input given).phase ≡ Ended) → IsStdinWhole a
-    → IsStdinWhole (record c { stdin_phase = option_or c.stdin_phase (phase_of input given) })
+    → IsStdinWhole (record c { stdin_phase = option_or c.stdin_phase (option_map (λ i. (input i).phase) given) })
 put_back-whole input a c taken given phase kept ends whole = search rules
 
 -- ---- files

@@ -5,13 +5,13 @@ use Rattle.sum_engine.specs.refinement.HashName.{HashOutcome, HashesName}
 use Rattle.sum_engine.specs.check.Verdicts.{Verdict, Rules, asks_by}
 use Rattle.sum_engine.specs.Behavior.{World, is_dash}
 use Rattle.sum_lines.specs.grammar.ParsedLines.{entry}
-use Rattle.sum_engine.specs.refinement.Judging.{IsJudged, verdict_of_outcome}
+use Rattle.sum_engine.specs.refinement.Judging.{JudgeOf, verdict_of_outcome}
 
 -- an entry's verdict, by the outcome of hashing its name
 pub judged_entry : (r : Rules) (w v : World) (s : EntryValue) (a : HashOutcome) (verdict : Verdict)
     → r.from_stdin && is_dash s.name ≡ false → HashesName s.kind w v s.name (Some a)
     → verdict ≡ verdict_of_outcome r.ignore_missing s.digest a
-    → IsJudged r w v (entry s) verdict
+    → JudgeOf r w v (entry s) (Some verdict)
 judged_entry r w v s a verdict dash h is = search rules
 
 -- the name that its verdict asks is the one that was hashed

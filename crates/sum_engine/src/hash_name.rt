@@ -1,5 +1,5 @@
 //! Hashing one name.
-ghost use Rattle.std.specs.Prelude.{◌≡◌, ◌||◌, [], false, IfNone, IfSome};
+ghost use Rattle.std.specs.Prelude.{◌≡◌, ◌||◌, ◌∷◌, [], false, IfNone, IfSome, MatchOption};
 ghost use Rattle.sum_sources.specs.Contents.{Content};
 ghost use Rattle.sum_engine.specs.Behavior.{is_dash};
 
@@ -38,7 +38,7 @@ pub(crate) fn is_dash(name: &[u8]) -> bool
 }
 
 ghost use Rattle.sum_engine.specs.refinement.HashName.{HashesName, IsRead, RefusedUnless, UnlessBroken};
-ghost use Rattle.sum_engine.specs.refinement.HashName.{HasKindLen, asked_by, digest_of_outcome};
+ghost use Rattle.sum_engine.specs.refinement.HashName.{HasKindLen, digest_of_outcome};
 ghost use Rattle.sum_engine.specs.Execution.{InSomeWorld, AskedMore, KeepsStdin, ReadToEnd, Reading, Ended};
 
 /// Opens the name (`-` is standard input) and hashes it, through the buffer. `None` if the source is out of memory; the
@@ -50,7 +50,8 @@ pub(crate) fn hash_name<I: Input + Drop, S: Source>(
     buffer: &mut [u8; PIECE],
 ) -> Option<HashOutcome>
     ensures outcome { InSomeWorld S.state inputs.old inputs.new (λ w v. HashesName kind w v name.now result) }
-    ensures asked { AskedMore (S.state inputs.old.source) (S.state inputs.new.source) (asked_by name.now result) }
+    ensures asked { let asked = AskedMore (S.state inputs.old.source) (S.state inputs.new.source) in
+        MatchOption result (asked []) (λ _. asked (name.now ∷ [])) }
     ensures stdin_taken { inputs.new.stdin_taken ≡ inputs.old.stdin_taken || is_dash name.now }
     ensures other_name { is_dash name.now ≡ false → KeepsStdin inputs.old inputs.new }
     ensures stdin_kept { IfNone result (KeepsStdin inputs.old inputs.new) }

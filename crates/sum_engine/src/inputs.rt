@@ -1,9 +1,9 @@
 //! Where a call opens and reads.
 ghost use Rattle.std.specs.Prelude.{◌≡◌, false, true, Some, IfOk};
-ghost use Rattle.std.specs.Option.{option_or};
+ghost use Rattle.std.specs.Option.{option_map, option_or};
 ghost use Rattle.sum_sources.specs.Contents.{IfKnown, OpenOf, given_state, refusals_after, opened_after, closed_state};
 ghost use Rattle.sum_engine.specs.Execution.{KeepsStdin, Reading};
-ghost use Rattle.sum_engine.specs.refinement.Openings.{stdin_taken_from, phase_of};
+ghost use Rattle.sum_engine.specs.refinement.Openings.{stdin_taken_from};
 
 use std::marker::Model;
 use sum_sources::{Given, Input, OpenFault, Source, Stdin};
@@ -44,8 +44,9 @@ impl<I: Input + Drop, S: Source> Inputs<I, S> {
 
     /// Puts back what `take_stdin` gave, so that its phase is known from then on. What is put back first stays.
     pub(crate) fn put_back_stdin(&mut self, given: Given<I>)
-        ensures phase { self.old.stdin_taken ≡ true → self.new
-            ≡ record self.old { stdin_phase = option_or self.old.stdin_phase (phase_of I.state given) } }
+        ensures phase { self.old.stdin_taken ≡ true → self.new ≡ record self.old {
+          stdin_phase = option_or self.old.stdin_phase (option_map (λ input. (I.state input).phase) given);
+        } }
     {
         self.stdin.put_back(given);
     }

@@ -2,7 +2,7 @@
 use Rattle.std.proofs.Common.{◌≡◌, ℕ, ◌^◌, ◌<◌, List, [], ◌++◌, length, Option, None, Some, IfSome, Ok, Err, refl, nat_lt, arith}
 use Rattle.std.proofs.lemmas.Bool.{cond-true, lt-ltb}
 use Rattle.digest_kinds.specs.Kinds.{KindValue, digest}
-use Rattle.sum_sources.specs.Contents.{Content, Fault, Whole, Broken, Hashes, clip, limit}
+use Rattle.sum_sources.specs.Contents.{Content, Fault, Whole, Broken, Hashes, clip_to, clip, limit}
 use Rattle.sum_sources.specs.LineReaders.{with_prefix}
 
 -- these bytes were read between the two
@@ -18,9 +18,13 @@ pub limit-value : limit ≡ 2 ^ 61
 unfolding limit
 limit-value = refl
 
--- a short content is its own clip
+-- a content of fewer than n bytes stays whole
+pub clip_to-short : (n : ℕ) (c : Content) → length c.bytes < n → clip_to n c ≡ c
+clip_to-short n c short = cond-true (nat_lt (length c.bytes) n) c _ (lt-ltb _ _ short)
+
+-- so a short one is its own clip
 pub clip-short : (c : Content) → length c.bytes < 2 ^ 61 → clip c ≡ c
-clip-short c short = cond-true (nat_lt (length c.bytes) limit) _ _ (lt-ltb _ _ (rw limit-value short))
+clip-short c short = clip_to-short limit c (rw limit-value short)
 
 -- some content has the digest of these bytes, or the known one
 pub some_digest : (kind : KindValue) (x : Option Content) (m d : List ℕ) → length m < 2 ^ 61 → d ≡ digest kind m

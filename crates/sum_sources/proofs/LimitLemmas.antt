@@ -1,18 +1,14 @@
 -- Reads of the bytes that count, up to the limit.
 use Rattle.std.proofs.lemmas.Grind.{common_steps}
 use Rattle.std.proofs.Common.{◌≡◌, ℕ, ◌+◌, ◌-◌, ◌^◌, ◌<◌, ◌≤◌, List, [], ◌++◌, length, take, Ok, Err, ap, sym, Option, refl, arith, nat_lt, inl, inr, length-append}
-use Rattle.std.proofs.lemmas.Bool.{cond-true, cond-false, lt-ltb, le-ltb, cases_lt}
+use Rattle.std.proofs.lemmas.Bool.{cond-false, le-ltb, cases_lt}
 use Rattle.std.proofs.lemmas.List.{length-take-le, take-append-le}
 use Rattle.std.proofs.Math.Seq.{take-append-add}
-use Rattle.sum_sources.specs.Contents.{Fault, Other, Broken, Content, limit, IfKnown, ReadsFrom}
-use Rattle.sum_sources.specs.LineReaders.{clip_to, with_prefix}
-use Rattle.sum_sources.proofs.ContentLemmas.{Gave-is, limit-value}
+use Rattle.sum_sources.specs.Contents.{Fault, Other, Broken, Content, limit, clip_to, IfKnown, ReadsFrom}
+use Rattle.sum_sources.specs.LineReaders.{with_prefix}
+use Rattle.sum_sources.proofs.ContentLemmas.{Gave-is, limit-value, clip_to-short}
 
--- a content of fewer than n bytes stays whole
-clip_to-short : (n : ℕ) (c : Content) → length c.bytes < n → clip_to n c ≡ c
-clip_to-short n c short = cond-true (nat_lt (length c.bytes) n) c _ (lt-ltb _ _ short)
-
--- a longer one is cut
+-- a content of n bytes or more is cut
 clip_to-long : (n : ℕ) (c : Content) → n ≤ length c.bytes
     → clip_to n c ≡ record { bytes = take (n - 1) c.bytes; ending = Broken Other }
 clip_to-long n c long = cond-false (nat_lt (length c.bytes) n) c _ (le-ltb _ _ long)

@@ -1,10 +1,20 @@
 -- Contents that may remain, and what may have remained before them.
-use Rattle.std.proofs.Common.{◌≡◌, ℕ, ◌+◌, ◌-◌, ◌^◌, ◌<◌, ◌≤◌, List, length, Option, None, Some, MatchOption, Result, OnOk, option_map, refl, arith, length-append}
-use Rattle.sum_sources.specs.Contents.{Content, Whole, IfKnown, limit}
+use Rattle.std.proofs.Common.{◌≡◌, ℕ, ◌+◌, ◌-◌, ◌^◌, ◌<◌, ◌≤◌, List, length, Option, None, Some, IfSome, MatchOption, Result, OnOk, option_map, refl, subst, arith, length-append}
+use Rattle.sum_sources.specs.Contents.{Content, Whole, InputState, IfKnown, limit, clip_to}
 use Rattle.sum_sources.specs.ManifestLines.{Next, LineStop, NextLineIs}
-use Rattle.sum_sources.specs.LineReaders.{clip_to, with_prefix}
+use Rattle.sum_sources.specs.LineReaders.{LineReaderValue, MayRemain, remaining_content, consumed, with_prefix}
 use Rattle.sum_sources.proofs.ContentLemmas.{Gave, limit-value}
 use Rattle.sum_sources.proofs.LimitLemmas.{length-clip_to}
+
+-- what holds of a content that may remain holds of the known one
+pub MayRemain-known : {I : Type 0} (state : I → InputState) (r : LineReaderValue I) (P : Content → Type 0)
+    → (c : Content) × MayRemain state r c × P c → IfSome (remaining_content state r) P
+MayRemain-known state r P some = by (remaining_content state r) some.0 some.1 some.2
+  where
+    by : (x : Option Content) (c : Content) → MatchOption x (consumed r + length c.bytes < limit) (λ d. c ≡ d) → P c
+        → IfSome x P
+    by None c may p = tt
+    by (Some d) c is p = subst P is p
 
 -- what may remain of an input is below the limit
 pub below_limit : (x : Option Content) (ahead : List ℕ) (taken : ℕ) (d : Content)

@@ -1,11 +1,11 @@
 -- Contents of inputs, and what counts of them; states of inputs and of sources, and what a read and an opening change.
-use Rattle.std.specs.Prelude.{ℕ, ℤ, pos, ◌≡◌, ◌<◌, ◌-◌, ◌^◌, List, [], ◌++◌, take, length, Option, None, Some, Result, Ok, Err, ⊤, nat_lt, if◌then◌else◌, codes, ◌∷◌, ◌||◌, Bool, is_none, is_some, option_map}
+use Rattle.std.specs.Prelude.{ℕ, ℤ, pos, ◌≡◌, ◌<◌, ◌-◌, List, [], ◌++◌, take, length, Option, None, Some, Result, Ok, Err, ⊤, nat_lt, if◌then◌else◌, codes, ◌∷◌, ◌||◌, Bool, is_none, is_some, option_map}
 use Rattle.std.specs.Option.{option_or, option_map_or}
 use Rattle.std.specs.Ordering.{int_eq}
 use Rattle.std.specs.declared.io.ErrorKind.{ErrorKind}
 use Rattle.std.specs.declared.io.ErrorKind.TheVariants as kinds
 use Rattle.digest_kinds.specs.Kinds.{digest, KindValue}
-use Rattle.digest_kinds.specs.Limits.{one_more}
+use Rattle.digest_kinds.specs.Limits.{LIMIT, one_more}
 use Rattle.sum_sources.specs.Phases.{Phase, Ended, Past}
 pub use Rattle.sum_sources.specs.declared.fault.Fault.{Fault}
 pub use Rattle.sum_sources.specs.declared.fault.Fault.TheVariants.{NotFound, Denied, IsADirectory, NotADirectory, FilesystemLoop, InvalidFilename, WouldBlock, StaleHandle, NoDevice, NotOpen, Other}
@@ -28,11 +28,14 @@ pub record InputState : Type 0 where
 
 -- an input of so many bytes or more is too long
 unfoldable pub limit : ℕ
-limit = 2 ^ 61
+limit = LIMIT
 
--- a content that is too long counts as its prefix and then a fault
+-- a content of which fewer than n bytes count; a longer one counts as its prefix and then a fault
+abbrev pub clip_to : ℕ → Content → Content
+clip_to n c = if nat_lt (length c.bytes) n then c else record { bytes = take (n - 1) c.bytes; ending = Broken Other }
+
 abbrev pub clip : Content → Content
-clip c = if nat_lt (length c.bytes) limit then c else record { bytes = take (limit - 1) c.bytes; ending = Broken Other }
+clip = clip_to limit
 
 -- P holds between the values before and after, if they are known; what is known stays known
 abbrev pub IfKnown : {A : Type 0} → Option A → Option A → (A → A → Type 0) → Type 0

@@ -1,7 +1,7 @@
 -- The state of a reader of lines, and what a call changes in it.
-use Rattle.std.specs.Prelude.{ℕ, ◌≡◌, ◌+◌, ◌-◌, ◌<◌, ◌≤◌, ◌⊎◌, ⊤, List, [], ◌++◌, take, length, nat_lt, if◌then◌else◌, Option, None, Some, Result, Ok, Err, OnOk, MatchOption, option_map}
+use Rattle.std.specs.Prelude.{ℕ, ◌≡◌, ◌+◌, ◌-◌, ◌<◌, ◌≤◌, ◌⊎◌, ⊤, List, [], ◌++◌, length, Option, None, Some, Result, Ok, Err, OnOk, MatchOption, option_map}
 use Rattle.digest_kinds.specs.Limits.{LIMIT}
-use Rattle.sum_sources.specs.Contents.{Fault, Other, Broken, Content, InputState, limit, empty_content}
+use Rattle.sum_sources.specs.Contents.{Fault, Broken, Content, InputState, limit, clip_to, empty_content}
 use Rattle.sum_sources.specs.ManifestLines.{Next, Line, NoMore, LineStop, NoNewline, NextLineIs, lines_after}
 use Rattle.sum_sources.specs.Phases.{Phase, Reading, Ended}
 use Rattle.sum_sources.specs.declared.line_reader.LineStop.TheVariants as stops
@@ -25,10 +25,6 @@ pub record Bounded {I : Type 0} (r : LineReaderValue I) : Type 0 where
   pub taken : r.taken ≤ LIMIT
   -- only a fault may come with the limit
   pub under : (r.taken < LIMIT) ⊎ ((f : Fault) × (r.final_answer ≡ Some (Err (stops.Fault f))))
-
--- a content of which fewer than n bytes count
-abbrev pub clip_to : ℕ → Content → Content
-clip_to n c = if nat_lt (length c.bytes) n then c else record { bytes = take (n - 1) c.bytes; ending = Broken Other }
 
 -- a content with these bytes in front
 abbrev pub with_prefix : List ℕ → Content → Content

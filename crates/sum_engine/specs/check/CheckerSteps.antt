@@ -12,7 +12,7 @@ use Rattle.sum_lines.specs.grammar.ParsedLines.{parse_line}
 pub use Rattle.sum_engine.specs.declared.check.progress.Progress.{Progress}
 pub use Rattle.sum_engine.specs.declared.check.progress.Progress.TheVariants.{Going, Ended}
 use Rattle.sum_engine.specs.check.Verdicts.{Form, Verdict, Ignored, Bad, Right, Wrong, Missing, Unread, lines_by, Rules, LineVerdictValue, judge, verdicts}
-use Rattle.sum_engine.specs.Execution.{Stop, Memory, Write, WorldState, PerformsSteps, InputsState, StreamsState, KeepsStdin, IsFlushed, FailuresMatch, NoOutputOnMemory, ReadToEnd, MayBeIn, in_world}
+use Rattle.sum_engine.specs.Execution.{Stop, Memory, WorldState, PerformsSteps, InputsState, StreamsState, KeepsStdin, IsFlushed, FailuresMatch, NoOutputOnMemory, ReadToEnd, MayBeIn, in_world}
 use Rattle.sum_engine.specs.check.Reports.{LabelsValue, CountsValue, counts_of, end_text, good}
 use Rattle.sum_engine.specs.Behavior.{World, Step, Behavior}
 use Rattle.sum_engine.specs.check.Checking.{line_steps}
@@ -116,10 +116,9 @@ pub record StepIs (r : Rules) (labels : LabelsValue) (vector : List ℕ) (a b : 
 
 -- out of memory, known or not: the source was refused it, or bytes of the manifest remained
 abbrev pub MemoryStopHasCause : SourceState → SourceState → Option Content → Result Progress Stop → Type 0
-MemoryStopHasCause a b c (Ok p) = b.refusals ≡ a.refusals
-MemoryStopHasCause a b c (Err Write) = b.refusals ≡ a.refusals
 MemoryStopHasCause a b c (Err Memory) = (b.refusals ≡ one_more a.refusals)
     ⊎ ((b.refusals ≡ a.refusals) × IfSome c (λ d. 0 < length d.bytes))
+MemoryStopHasCause a b c x = b.refusals ≡ a.refusals
 
 -- a place in a manifest: its rules, its reader, and the form and the counts of its lines so far
 pub record CursorValue (I : Type 0) : Type 0 where

@@ -1,25 +1,17 @@
 -- Relates writing a text and flushing it to what a step writes, by outputs that are flushed before.
-use Rattle.std.specs.Prelude.{ℕ, ◌≡◌, ◌⊎◌, List, [], Option, Result, Ok, Err, MatchResult}
+use Rattle.std.specs.Prelude.{ℕ, ◌≡◌, ◌⊎◌, List, [], Result, Ok, Err, MatchResult}
 use Rattle.std.specs.Io.KnownBytes.{Appends}
 use Rattle.sum_lines.specs.sinks.Sinks.{SinkState}
 use Rattle.digest_kinds.specs.Limits.{one_more}
 use Rattle.sum_lines.specs.refinement.SinkStates.{AppendsPrefix}
 use Rattle.sum_engine.specs.Execution.{OutputsState, IsFlushed, NoneFailed, OneFailed}
 
--- all of the text was written, or a prefix of it if a call failed
-abbrev pub WritesOrPrefix : {E : Type 0} → Option (List ℕ) → Option (List ℕ) → List ℕ → Result (Unit {0}) E → Type 0
-WritesOrPrefix a b text (Ok u) = Appends a b text
-WritesOrPrefix a b text (Err e) = AppendsPrefix a b text
-
--- a fault has one failure more of the output, and success none
-abbrev pub FailureMatches : {A E : Type 0} → SinkState → SinkState → Result A E → Type 0
-FailureMatches a b (Ok u) = b.failures ≡ a.failures
-FailureMatches a b (Err e) = b.failures ≡ one_more a.failures
-
--- a call that writes the text and flushes it, if the output is flushed before; then it is flushed after
+-- a call that writes the text and flushes it, if the output is flushed before; then it is flushed after. A fault has one
+-- failure more of the output, and a prefix of the text was written
 abbrev pub WritesAndFlushes : {E : Type 0} → SinkState → SinkState → List ℕ → Result (Unit {0}) E → Type 0
-WritesAndFlushes a b text r = FailureMatches a b r
-    × (a.buffered ≡ [] → (b.buffered ≡ []) × WritesOrPrefix a.written b.written text r)
+WritesAndFlushes a b text r = MatchResult r (λ u. b.failures ≡ a.failures) (λ e. b.failures ≡ one_more a.failures)
+    × (a.buffered ≡ [] → (b.buffered ≡ [])
+    × MatchResult r (λ u. Appends a.written b.written text) (λ e. AppendsPrefix a.written b.written text))
 
 -- standard error got the first text, and then standard output the second; or a prefix of both in this order
 abbrev pub WritesBoth : {E : Type 0} → OutputsState → OutputsState → List ℕ → List ℕ → Result (Unit {0}) E → Type 0

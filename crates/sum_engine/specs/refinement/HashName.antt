@@ -30,11 +30,6 @@ abbrev pub HashesName : KindValue → World → World → List ℕ → Option Ha
 HashesName kind w v name None = v ≡ w
 HashesName kind w v name (Some a) = (v ≡ after w (name ∷ [])) × IsHashOutcome kind (reply w name) a
 
--- the names that this asks: none without memory
-abbrev pub asked_by : List ℕ → Option HashOutcome → List (List ℕ)
-asked_by name None = []
-asked_by name (Some a) = name ∷ []
-
 -- P, unless reading the file failed
 abbrev pub UnlessBroken : Option HashOutcome → Type 0 → Type 0
 UnlessBroken (Some (asked.Broken f)) P = ⊤
@@ -42,10 +37,8 @@ UnlessBroken outcome P = P
 
 -- a digest of the outcome has the kind's length
 abbrev pub HasKindLen : KindValue → Option HashOutcome → Type 0
-HasKindLen kind None = ⊤
 HasKindLen kind (Some (asked.Read d)) = length d ≡ kind.len
-HasKindLen kind (Some (asked.NotOpened f)) = ⊤
-HasKindLen kind (Some (asked.Broken f)) = ⊤
+HasKindLen kind outcome = ⊤
 
 -- `None` only if the source was refused memory, which is one refusal more
 abbrev pub RefusedUnless : {A : Type 0} → SourceState → SourceState → Option A → Type 0

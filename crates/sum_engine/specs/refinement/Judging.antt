@@ -1,5 +1,5 @@
 -- Relates what the code finds of a line to what the line says, and to its verdict.
-use Rattle.std.specs.Prelude.{ℕ, ◌≡◌, Bool, false, List, [], Option, None, Some, Ok, Err, if◌then◌else◌, bytes_eq}
+use Rattle.std.specs.Prelude.{ℕ, ◌≡◌, Bool, List, [], Option, None, Some, Ok, Err, if◌then◌else◌, bytes_eq}
 use Rattle.sum_sources.specs.declared.fault.Fault.TheVariants.{NotFound}
 use Rattle.sum_lines.specs.grammar.Entries.{EntryValue, form_then, line_form}
 use Rattle.sum_engine.specs.declared.check.judge.ListedEntry.{ListedEntry}
@@ -7,7 +7,7 @@ use Rattle.sum_engine.specs.declared.hash_name.HashOutcome.{HashOutcome}
 use Rattle.sum_engine.specs.check.Verdicts.{Verdict, Right, Wrong, Missing, Unread, Rules, judge, asks_by, asks_of}
 use Rattle.sum_lines.specs.grammar.ParsedLines.{ParsedLine, ignored, bad, entry, parse_line}
 use Rattle.sum_engine.specs.Behavior.{World, after}
-use Rattle.sum_engine.specs.check.Reports.{CountsValue, is_unread}
+use Rattle.sum_engine.specs.check.Reports.{CountsValue}
 use Rattle.sum_engine.specs.check.NextVerdict.{LineVerdict, VerdictResult, line_verdict_value}
 use Rattle.sum_sources.specs.declared.line_reader.LineStop.TheVariants.{Memory}
 use Rattle.sum_engine.specs.check.CheckerSteps.{CursorValue, counts_with}
@@ -30,15 +30,12 @@ verdict_of_outcome ignore d (asked.NotOpened NotFound) = if ignore then Missing 
 verdict_of_outcome ignore d (asked.NotOpened f) = Unread f
 verdict_of_outcome ignore d (asked.Broken f) = Unread f
 
--- a line that says this has this verdict, whatever its number, and its name was asked, if the verdict asks it
-abbrev pub IsJudged : Rules → World → World → ParsedLine → Verdict → Type 0
-IsJudged r w v x verdict = ((n : ℕ) → judge r w n x ≡ record { number = n; verdict = verdict; name = name_in_line x })
-    × (v ≡ after w (asks_by verdict (name_in_line x)))
-
--- the same of what judging returns; without memory nothing was asked
+-- a line that says this has this verdict, whatever its number, and its name was asked, if the verdict asks it; without
+-- memory nothing was asked
 abbrev pub JudgeOf : Rules → World → World → ParsedLine → Option Verdict → Type 0
 JudgeOf r w v x None = v ≡ w
-JudgeOf r w v x (Some verdict) = IsJudged r w v x verdict
+JudgeOf r w v x (Some verdict) = ((n : ℕ) → judge r w n x ≡ record { number = n; verdict = verdict; name = name_in_line x })
+    × (v ≡ after w (asks_by verdict (name_in_line x)))
 
 -- what a line says that was read at a place
 abbrev pub parsed_at : {I : Type 0} → CursorValue I → List ℕ → ParsedLine
@@ -63,13 +60,3 @@ JudgeLineOf p line d vector w v (Some found) =
 abbrev pub found_of : Option LineVerdict → VerdictResult
 found_of None = Err Memory
 found_of (Some v) = Ok (Some v)
-
--- the names that this verdict asks: none without memory
-abbrev pub names_of_verdict : List ℕ → Option Verdict → List (List ℕ)
-names_of_verdict name None = []
-names_of_verdict name (Some v) = asks_by v name
-
--- P, unless the file could not be read
-abbrev pub UnlessUnreadVerdict : Option Verdict → Type 0 → Type 0
-UnlessUnreadVerdict (Some v) P = is_unread v ≡ false → P
-UnlessUnreadVerdict None P = P

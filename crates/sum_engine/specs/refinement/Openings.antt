@@ -1,7 +1,7 @@
 -- What is done with standard input.
-use Rattle.std.specs.Prelude.{true, Option, None, Some, option_map, if◌then◌else◌}
-use Rattle.sum_sources.specs.Contents.{InputState, empty_content}
-use Rattle.sum_engine.specs.Execution.{InputsState, Phase}
+use Rattle.std.specs.Prelude.{true, None, Some, if◌then◌else◌}
+use Rattle.sum_sources.specs.Contents.{empty_content}
+use Rattle.sum_engine.specs.Execution.{InputsState}
 
 -- inputs from which standard input was taken; its phase is that of what was put back, if something was
 abbrev pub stdin_taken_from : {S : Type 0} → InputsState S → InputsState S
@@ -10,7 +10,3 @@ stdin_taken_from a = record a {
   stdin_taken = true;
   stdin_phase = if a.stdin_taken then a.stdin_phase else None;
 }
-
--- how far what was taken of standard input was read, if it was an input
-abbrev pub phase_of : {I : Type 0} → (I → InputState) → Option I → Option Phase
-phase_of state given = option_map (λ input. (state input).phase) given

@@ -86,7 +86,8 @@ impl<'a, I: Input> Checker<'a, I> {
     }
 
     /// Handles the next line, or the end: writes the line's report, or the summary, or the line of the fault that broke
-    /// the manifest. `line` is grown for the line; its content before doesn't matter, and after it is unspecified.
+    /// the manifest. `line` is grown for the line; its content before doesn't matter, and after it is unspecified, but
+    /// after `Going` it isn't longer than the line.
     ///
     /// `Stop::Memory` if there is no memory for the line or to open the file that it names; nothing is then written.
     /// `Stop::Write` if an output fails; a prefix of the step's texts was then written. After `Ended` and after a stop

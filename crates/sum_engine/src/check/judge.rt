@@ -1,7 +1,8 @@
 //! The verdict of a line.
-ghost use Rattle.std.specs.Prelude.{◌≡◌, ◌||◌, true, MatchOption, slice_range};
+ghost use Rattle.std.specs.Prelude.{◌≡◌, ◌||◌, [], false, true, MatchOption, slice_range};
 ghost use Rattle.std.specs.List.{list_any};
 ghost use Rattle.sum_engine.specs.Behavior.{is_dash};
+ghost use Rattle.sum_engine.specs.check.Reports.{is_unread};
 ghost use Rattle.sum_engine.specs.check.Verdicts.{asks_by};
 ghost use Rattle.sum_lines.specs.grammar.ParsedLines.{entry};
 ghost use Rattle.sum_engine.specs.refinement.HashName.{RefusedUnless};
@@ -51,7 +52,7 @@ impl LineVerdict {
 }
 
 ghost use Rattle.sum_engine.specs.refinement.Cursors.{rules_in};
-ghost use Rattle.sum_engine.specs.refinement.Judging.{JudgeOf, UnlessUnreadVerdict, names_of_verdict};
+ghost use Rattle.sum_engine.specs.refinement.Judging.{JudgeOf};
 ghost use Rattle.sum_engine.specs.refinement.Judging.{verdict_of_outcome, listed_entry};
 ghost use Rattle.sum_engine.specs.Execution.{InSomeWorld, AskedMore, KeepsStdin, ReadToEnd};
 
@@ -72,13 +73,14 @@ pub(crate) fn judge<I: Input + Drop, S: Source>(
 ) -> Option<Verdict>
     ensures verdict { InSomeWorld S.state inputs.old inputs.new
         (λ w v. JudgeOf (rules_in rules) w v (entry (listed_entry listed.now)) result) }
-    ensures asked { AskedMore (S.state inputs.old.source) (S.state inputs.new.source)
-        (names_of_verdict listed.now.name.now result) }
+    ensures asked { let asked = AskedMore (S.state inputs.old.source) (S.state inputs.new.source) in
+        MatchOption result (asked []) (λ v. asked (asks_by v listed.now.name.now)) }
     ensures stdin_taken { MatchOption result (KeepsStdin inputs.old inputs.new)
         (λ v. inputs.new.stdin_taken ≡ inputs.old.stdin_taken || list_any is_dash (asks_by v listed.now.name.now)) }
     ensures stdin_kept { rules.from_stdin ≡ true → KeepsStdin inputs.old inputs.new }
     ensures refusals { RefusedUnless (S.state inputs.old.source) (S.state inputs.new.source) result }
-    ensures read_to_end { UnlessUnreadVerdict result (ReadToEnd S.state inputs.old inputs.new) }
+    ensures read_to_end { MatchOption result (ReadToEnd S.state inputs.old inputs.new)
+        (λ v. is_unread v ≡ false → ReadToEnd S.state inputs.old inputs.new) }
 {
     if rules.from_stdin && is_dash(listed.name) {
         return Some(Verdict::Bad);

@@ -15,7 +15,7 @@ pub fn hash_input<I: Input, H: Hasher + Drop>(input: &mut I, hasher: H) -> Resul
     ensures digest { (c : Content) × IfSome (I.state input.old).content (λ d. c ≡ d)
         × Hashes (H.kind_of hasher) (clip c) result }
     ensures len { IfOk result (λ d. length d ≡ (H.kind_of hasher).len) }
-    // A digest is returned only if no read failed, and the input was not read again after its end.
+    // If the input was being read before: a digest only if no read failed, and none came after its end.
     ensures phase { IfOk result (λ _. (I.state input.old).phase ≡ Phase.Reading
         → (I.state input.new).phase ≡ Phase.Ended) }
 {
@@ -35,7 +35,7 @@ pub fn hash_input_over<I: Input, H: Hasher + Drop>(
     ensures digest { (c : Content) × IfSome (I.state input.old).content (λ d. c ≡ d)
         × Hashes (H.kind_of hasher) (clip c) result }
     ensures len { IfOk result (λ d. length d ≡ (H.kind_of hasher).len) }
-    // A digest is returned only if no read failed, and the input was not read again after its end.
+    // If the input was being read before: a digest only if no read failed, and none came after its end.
     ensures phase { IfOk result (λ _. (I.state input.old).phase ≡ Phase.Reading
         → (I.state input.new).phase ≡ Phase.Ended) }
 {

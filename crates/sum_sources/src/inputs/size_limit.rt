@@ -1,8 +1,7 @@
 //! An input ends at the limit.
 ghost use Rattle.std.specs.Prelude.{◌≡◌, ◌≤◌, ◌<◌, ◌+◌, ◌-◌, length, IfOk, OnOk};
 ghost use Rattle.digest_kinds.specs.Limits.{LIMIT};
-ghost use Rattle.sum_sources.specs.Contents.{IfKnown, ReadsFrom, limit};
-ghost use Rattle.sum_sources.specs.LineReaders.{clip_to};
+ghost use Rattle.sum_sources.specs.Contents.{IfKnown, ReadsFrom, limit, clip_to};
 ghost use Rattle.sum_sources.specs.Phases.{phase_after};
 ghost use Rattle.sum_sources.specs.declared.inputs.input.TheConstants.{PIECE};
 

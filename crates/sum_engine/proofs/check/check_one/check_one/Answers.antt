@@ -1,10 +1,9 @@
 use Rattle.std.proofs.Common.{◌≡◌, true, false, Ok, Err, ap, rules}
 use Rattle.std.proofs.lemmas.Result.{err_from_is_err_and}
-use Rattle.std.specs.Option.{option_or}
+use Rattle.std.specs.Option.{option_map, option_or}
 use Rattle.sum_engine.specs.Behavior.{is_dash}
 use Rattle.sum_engine.specs.Execution.{InputsState}
 use Rattle.sum_engine.specs.check.Verdicts.{Rules}
-use Rattle.sum_engine.specs.refinement.Openings.{phase_of}
 use Rattle.sum_engine.proofs.ReadToEndLemmas.{put_back-whole, ReadToEnd-around}
 use Rattle.sum_engine.proofs.CheckOneLemmas.{check_dash, check_file, refused, no_room}
 use Rattle.sum_engine.proofs.check.check_one.check_one.Goals as goal
@@ -25,7 +24,7 @@ returns-then-is_dash-clause-behavior g c =
       c.take_stdin-input.ensures.content,
       c.take_stdin-input.ensures.taken,
     ) at checked.ensures.behavior in
-    let phase = option_or checked.new.streams.inputs.stdin_phase (phase_of g.J.Input.state checked.result.1) in
+    let phase = option_or checked.new.streams.inputs.stdin_phase (option_map (λ i. (g.J.Input.state i).phase) checked.result.1) in
     rw (c.put_back_stdin.ensures.phase taken) (check_dash g.S.Source.state c.args.settings c.args.tool.now c.args.name.now
     c.args.streams.now checked.new.streams phase _ dash run)
 

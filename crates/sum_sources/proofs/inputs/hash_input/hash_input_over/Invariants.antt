@@ -1,6 +1,5 @@
 use Rattle.std.proofs.Common.{◌≡◌, ℕ, ◌^◌, ◌<◌, ◌-◌, List}
-use Rattle.sum_sources.specs.Contents.{IfKnown, clip, limit}
-use Rattle.sum_sources.specs.LineReaders.{clip_to}
+use Rattle.sum_sources.specs.Contents.{IfKnown, clip_to, clip, limit}
 use Rattle.sum_sources.specs.Phases.{Reading}
 use Rattle.sum_sources.proofs.ContentLemmas.{Gave}
 use Rattle.sum_sources.proofs.inputs.hash_input.hash_input_over.Given as goal

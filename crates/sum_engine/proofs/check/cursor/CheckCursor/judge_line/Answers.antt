@@ -1,8 +1,9 @@
-use Rattle.std.proofs.Common.{◌≡◌, slice_range, refl, ap, sym, ◌∙◌}
+use Rattle.std.proofs.Common.{◌≡◌, Some, slice_range, refl, ap, sym, ◌∙◌}
 use Rattle.sum_lines.specs.Escape.{present}
 use Rattle.sum_lines.specs.grammar.Entries.{EntryValue, form_then, line_form}
 use Rattle.sum_lines.specs.grammar.ParsedLines.{parse_line, entry}
-use Rattle.sum_engine.specs.refinement.Cursors.{cursor_value}
+use Rattle.sum_engine.specs.refinement.Cursors.{cursor_value, rules_in}
+use Rattle.sum_engine.specs.refinement.Judging.{JudgeOf}
 use Rattle.sum_engine.proofs.WorldLemmas.{InSomeWorld-map}
 use Rattle.sum_engine.proofs.NextVerdictLemmas.{judged-line}
 use Rattle.sum_engine.proofs.check.cursor.CheckCursor.judge_line.Goals as goal
@@ -21,5 +22,6 @@ returns-in_ok-verdict-in-Entry-clause-verdict g c =
     sym (rw listed.is at (c.read_line-reading.ensures.parsed
     ∙ ap (λ f. parse_line present algos f line) c.read_line-reading.ensures.form)) in
     let judged = rw c.deref.ensures.value at c.in_ok-verdict-in-Entry.ensures.verdict in
-    rw c.count_verdict-in-Entry.ensures.is (InSomeWorld-map judged (λ w v is. judged-line (cursor_value old) line
+    rw c.count_verdict-in-Entry.ensures.is (InSomeWorld-map {P = λ w v. JudgeOf (rules_in old.rules) w v (entry s) (Some c.in_ok-verdict-in-Entry.verdict)}
+    judged (λ w v is. judged-line (cursor_value old) line
     (entry s) _ _ vector w v _ _ _ said is c.count_verdict-in-Entry.ensures.counts refl refl))
