@@ -48,9 +48,9 @@ fn goes_on(rt: &impl Abort, input: &mut impl Input, before: usize, fault: Fault)
     for (i, bytes) in reads.into_iter().enumerate() {
         let mut buf = [0; 4];
         if i == before {
-            assert!(rt; input.read(&mut buf) == Err(fault), "no fault at {before}");
+            assert_eq!(rt; input.read(&mut buf), Err(fault), "no fault at {before}");
         }
-        assert!(rt; input.read(&mut buf) == Ok(bytes.len()), "{i} of {before}");
+        assert_eq!(rt; input.read(&mut buf), Ok(bytes.len()), "{i} of {before}");
         assert!(rt; buf.starts_with(bytes), "{i} of {before}");
     }
 }
@@ -96,7 +96,7 @@ fn phases(rt: HostRuntime) {
         assert!(rt; input.phase() == reading);
         for phase in phases {
             let _ = input.read(&mut [0; 4]);
-            assert!(rt; input.phase() == phase, "{before}");
+            assert_eq!(rt; input.phase(), phase, "{before}");
         }
     }
     let count = Cell::new(9);
@@ -119,7 +119,7 @@ fn hashes(rt: HostRuntime) -> Result<(), Fail> {
             } else {
                 Phase::Failed
             };
-            assert!(rt; input.phase() == phase, "at {before}");
+            assert_eq!(rt; input.phase(), phase, "at {before}");
             count.set(before);
             let mut input = abc(&count, fault);
             let over = hash_input_over(&mut input, Md5Hasher::new(), &mut buffer);
@@ -157,15 +157,19 @@ fn counts(rt: HostRuntime) -> Result<(), Fail> {
                 ended = u64::saturating_add(ended, 1);
             }
             source.close_file(file);
-            assert!(rt; source.counts() == (i, ended));
+            assert_eq!(rt; source.counts(), (i, ended), "at {before}");
         }
-        assert!(rt; ended == if before < 8 { 1 } else { 2 });
+        assert_eq!(rt; ended, if before < 8 { 1 } else { 2 }, "at {before}");
         let mut file = source.open_file(b"a").ok().ok_or("a")?;
-        assert!(rt; hash_input(&mut file, Md5Hasher::new()).is_ok() == (before != 8));
+        assert_eq!(rt;
+            hash_input(&mut file, Md5Hasher::new()).is_ok(),
+            before != 8,
+            "at {before}"
+        );
         let _ = file.read(&mut [0; 1]);
         assert!(rt; file.phase() == Phase::Past);
         source.close_file(file);
-        assert!(rt; source.counts() == (3, ended));
+        assert_eq!(rt; source.counts(), (3, ended), "at {before}");
     }
     Ok(())
 }
@@ -193,16 +197,17 @@ fn lines(rt: HostRuntime) -> Result<(), Fail> {
             let mut reader = LineReader::new(reader_of(input, ErrorKind::PermissionDenied));
             let mut line = Vec::new(rt.alloc());
             for want in all.get(..lines).ok_or("lines")? {
-                assert!(rt;
-                    reader.next_line(&mut line) == Ok(Next::Line),
+                assert_eq!(rt;
+                    reader.next_line(&mut line),
+                    Ok(Next::Line),
                     "{piece}, {before}"
                 );
-                assert_eq!(rt; line.as_slice(), *want);
+                assert_eq!(rt; line.as_slice(), *want, "{piece}, {before}");
             }
             for _ in 0..2 {
-                assert!(rt; reader.next_line(&mut line) == end, "{piece}, {before}");
+                assert_eq!(rt; reader.next_line(&mut line), end, "{piece}, {before}");
             }
-            assert!(rt; reader.into_inner().phase() == phase, "{piece}, {before}");
+            assert_eq!(rt; reader.into_inner().phase(), phase, "{piece}, {before}");
         }
     }
     Ok(())

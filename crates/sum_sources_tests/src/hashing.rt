@@ -64,7 +64,7 @@ fn vectors(rt: HostRuntime) -> Result<(), Fail> {
     ] {
         let mut digits = [0; 128];
         let number = digest?.hex_into(&mut digits);
-        assert_eq!(rt; number, text.len());
+        assert_eq!(rt; number, text.len(), "not {text}");
         assert!(rt; digits.starts_with(text.as_bytes()), "not {text}");
     }
     Ok(())
@@ -75,19 +75,15 @@ fn faults(rt: HostRuntime) -> Result<(), Fail> {
     let content = vec![in rt.alloc(); b'x'; 9000]?;
     for piece in PIECES {
         let mut input = Told::new(&content, Ending::Broken(Fault::Other), piece);
-        assert!(rt;
-            hash_input(&mut input, Md5Hasher::new()).err() == Some(Fault::Other),
-            "at {piece}"
-        );
+        let found = hash_input(&mut input, Md5Hasher::new()).err();
+        assert_eq!(rt; found, Some(Fault::Other), "in pieces of {piece}");
     }
     for len in 0..=300 {
         for piece in PIECES {
             let prefix = content.get(..len).ok_or("short")?;
             let mut input = Told::new(prefix, Ending::Broken(Fault::Denied), piece);
-            assert!(rt;
-                hash_input(&mut input, Md5Hasher::new()).err() == Some(Fault::Denied),
-                "at {len}"
-            );
+            let found = hash_input(&mut input, Md5Hasher::new()).err();
+            assert_eq!(rt; found, Some(Fault::Denied), "{len} in pieces of {piece}");
         }
     }
     Ok(())

@@ -6,8 +6,13 @@ use sum_sources::{Ending, Fault, Input, LineReader, LineStop, Next, Told};
 
 // The reader gives this line.
 fn gives(rt: &impl Abort, reader: &mut LineReader<impl Input>, line: &mut Vec<u8>, want: &[u8]) {
-    assert!(rt; reader.next_line(line) == Ok(Next::Line));
-    assert_eq!(rt; line.as_slice(), want);
+    let number = reader.lines();
+    assert_eq!(rt;
+        reader.next_line(line),
+        Ok(Next::Line),
+        "after line {number}"
+    );
+    assert_eq!(rt; line.as_slice(), want, "after line {number}");
 }
 
 // The reader gives just these lines, and then answers `end` twice.
@@ -24,16 +29,45 @@ fn reads(
         for want in lines {
             gives(rt, &mut reader, &mut line, want);
         }
-        assert!(rt; reader.lines() == lines.len() as u64);
+        let text = str::from_utf8(content).unwrap_or("not UTF-8");
+        assert_eq!(rt;
+            reader.lines(),
+            lines.len() as u64,
+            "in pieces of {piece}: {text}"
+        );
         for _ in 0..2 {
-            assert!(rt; reader.next_line(&mut line) == end);
+            assert_eq!(rt;
+                reader.next_line(&mut line),
+                end,
+                "in pieces of {piece}: {text}"
+            );
         }
-        assert!(rt; reader.lines() == lines.len() as u64);
-        assert!(rt; reader.taken() == content.len() as u64);
+        assert_eq!(rt;
+            reader.lines(),
+            lines.len() as u64,
+            "in pieces of {piece}: {text}"
+        );
+        assert_eq!(rt;
+            reader.taken(),
+            content.len() as u64,
+            "in pieces of {piece}: {text}"
+        );
     }
 }
 
 const ABC: &[u8] = b"900150983cd24fb0d6963f7d28e17f72  a";
+
+// Five lines, and they joined.
+const FIVE: [&[u8]; 5] = [
+    ABC,
+    b"#c",
+    b"junk",
+    b"900150983cd24fb0d6963f7d28e17f72 *x",
+    b"900150983cd24fb0d6963f7d28e17f72  e",
+];
+
+const JOINED: &[u8] = b"900150983cd24fb0d6963f7d28e17f72  a\n#c\njunk\n\
+    900150983cd24fb0d6963f7d28e17f72 *x\n900150983cd24fb0d6963f7d28e17f72  e\n";
 
 // The same line twice, of which a newline ends only the first.
 const TWICE: &[u8] = b"900150983cd24fb0d6963f7d28e17f72  a\n900150983cd24fb0d6963f7d28e17f72  a";
@@ -43,14 +77,7 @@ fn ends(rt: HostRuntime) {
     let fault = Err(LineStop::Fault(Fault::Other));
     let other = Ending::Broken(Fault::Other);
     reads(&rt, ABC, Ending::Whole, &[ABC], Ok(Next::NoMore));
-    let five: [&[u8]; 5] = [b"M  a", b"#c", b"junk", b"M *x", b"M  e"];
-    reads(
-        &rt,
-        b"M  a\n#c\njunk\nM *x\nM  e\n",
-        Ending::Whole,
-        &five,
-        Ok(Next::NoMore),
-    );
+    reads(&rt, JOINED, Ending::Whole, &FIVE, Ok(Next::NoMore));
     reads(&rt, TWICE, other, &[ABC], fault);
     reads(&rt, b"", Ending::Whole, &[], Ok(Next::NoMore));
     reads(&rt, b"", other, &[], fault);
@@ -61,23 +88,14 @@ fn ends(rt: HostRuntime) {
 // A manifest that breaks off behind each of its bytes: the lines that a newline ended, and then the fault.
 #[test]
 fn breaks_off(rt: HostRuntime) -> Result<(), Fail> {
-    let manifest = b"900150983cd24fb0d6963f7d28e17f72  a\n#c\njunk\n\
-        900150983cd24fb0d6963f7d28e17f72 *x\n900150983cd24fb0d6963f7d28e17f72  e\n";
-    let lines: [&[u8]; 5] = [
-        ABC,
-        b"#c",
-        b"junk",
-        b"900150983cd24fb0d6963f7d28e17f72 *x",
-        b"900150983cd24fb0d6963f7d28e17f72  e",
-    ];
     for count in 0..=116 {
-        let prefix = manifest.get(..count).ok_or("count")?;
+        let prefix = JOINED.get(..count).ok_or("count")?;
         let ended = prefix.iter().filter(|byte| **byte == b'\n').count();
         reads(
             &rt,
             prefix,
             Ending::Broken(Fault::Other),
-            lines.get(..ended).ok_or("ended")?,
+            FIVE.get(..ended).ok_or("ended")?,
             Err(LineStop::Fault(Fault::Other)),
         );
     }

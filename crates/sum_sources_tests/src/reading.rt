@@ -65,7 +65,7 @@ fn kinds_of_faults(rt: HostRuntime) {
         (ErrorKind::OutOfMemory, Fault::Other),
     ] {
         let mut input = reader_of(2, Err(io::Error::from(kind)));
-        assert!(rt; input.read(&mut [0; 4]) == Err(fault));
+        assert_eq!(rt; input.read(&mut [0; 4]), Err(fault));
     }
 }
 
@@ -93,7 +93,7 @@ fn numbers_of_faults(rt: HostRuntime) {
             .find(|row| row.0 == number)
             .map_or(Fault::Other, |row| row.1);
         let mut input = reader_of(2, Err(io::Error::from_raw_os_error(number)));
-        assert!(rt; input.read(&mut [0; 4]) == Err(fault), "{number}");
+        assert_eq!(rt; input.read(&mut [0; 4]), Err(fault), "{number}");
     }
 }
 

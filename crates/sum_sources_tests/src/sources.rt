@@ -27,12 +27,12 @@ fn told_source(rt: HostRuntime) -> Result<(), Fail> {
     let mut again = source.open_file(b"a").ok().ok_or("a again")?;
     for n in [2, 1, 0] {
         assert!(rt; source.ended() == 0);
-        assert!(rt; again.read(&mut buf) == Ok(n));
+        assert_eq!(rt; again.read(&mut buf), Ok(n));
     }
     source.close_file(again);
     assert!(rt; (source.opened(), source.ended()) == (2, 1));
     for (i, name) in [b"a".as_slice(), b"d", b"", b"a"].into_iter().enumerate() {
-        assert_eq!(rt; source.asked_name(i).ok_or("asked")?, name);
+        assert_eq!(rt; source.asked_name(i).ok_or("asked")?, name, "{i}");
     }
     assert!(rt; source.asked_name(4).is_none());
     Ok(())
@@ -83,7 +83,12 @@ fn real_files(rt: HostRuntime) -> Result<(), Fail> {
         (b"a\0", Fault::Other),
         (b"\xff", Fault::Other),
     ] {
-        assert!(rt; files.open_file(name).err() == Some(OpenFault::Fault(fault)));
+        let text = str::from_utf8(name).unwrap_or("not UTF-8");
+        assert_eq!(rt;
+            files.open_file(name).err(),
+            Some(OpenFault::Fault(fault)),
+            "{text}"
+        );
     }
     fs::remove_file(&rt, "sum_sources_real")?;
     assert!(rt;
