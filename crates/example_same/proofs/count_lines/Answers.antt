@@ -1,23 +1,11 @@
-use Rattle.std.proofs.Common.{rules, ◌≡◌, ◌∙◌, ◌+◌, ◌<◌, [], length, Option, None}
-use Rattle.std.proofs.Common.{Some, IfSome, MatchOption, ap, sym, subst, refl, arith}
-use Rattle.sum_sources.specs.Contents.{Content, InputState, limit}
+use Rattle.std.proofs.Common.{rules, ◌≡◌, ◌∙◌, ◌+◌, [], length, ap, sym, refl, arith}
+use Rattle.sum_sources.specs.Contents.{Content}
 use Rattle.sum_sources.specs.declared.fault.Ending.TheVariants.{Whole, Broken}
-use Rattle.sum_sources.specs.LineReaders.{MayRemain, remaining_content, consumed}
 use Rattle.sum_sources.specs.ManifestLines.{lines}
-use Rattle.sum_sources.specs.declared.line_reader.LineReader.{LineReader}
 use Rattle.sum_sources.specs.declared.line_reader.Next.TheVariants.{Line, NoMore}
 use Rattle.sum_sources.specs.declared.line_reader.LineStop.TheVariants as stops
+use Rattle.sum_sources.proofs.RemainLemmas.{MayRemain-known}
 use Rattle.example_same.proofs.count_lines.Goals as goal
-
--- what holds of a content that may remain holds of the known one
-known : {I : Type 0} (state : I → InputState) (r : LineReader I) (P : Content → Type 0)
-    → (c : Content) × MayRemain state r c × P c → IfSome (remaining_content state r) P
-known state r P some = by (remaining_content state r) some.0 some.1 some.2
-  where
-    by : (x : Option Content) (c : Content) → MatchOption x (consumed r + length c.bytes < limit) (λ d. c ≡ d) → P c
-        → IfSome x P
-    by None c may p = tt
-    by (Some d) c is p = subst P is p
 
 -- a line more was read
 pub loop-line-preserved : goal.loop-line-preserved
@@ -47,7 +35,7 @@ returns-clause-count g c =
     (rw (rw is at c.in_ok-next_line.ensures.reader.final_answer) refl) in
     let before = c.loop-line.invariant.lines read.0 read.1 in
     let number = rw is at c.in_ok-next_line.ensures.reader.lines in
-    known g.I.Input.state c.args.from.now (λ k. (k.ending ≡ Whole)
+    MayRemain-known g.I.Input.state c.args.from.now (λ k. (k.ending ≡ Whole)
     × (c.lines.result ≡ c.args.from.now.lines + length (lines k))) (
       before.0,
       before.1,
@@ -64,4 +52,4 @@ returns-in_err-next_line-clause-fault g c = λ fault returned.
     let read = (rw is at c.in_err-next_line.ensures.line) (record { bytes = []; ending = Broken fault })
     (rw (rw is at c.in_err-next_line.ensures.reader.final_answer) refl) in
     let before = c.loop-line.invariant.lines read.0 read.1 in
-    known g.I.Input.state c.args.from.now (λ k. k.ending ≡ Broken fault) (before.0, before.1, sym before.3 ∙ read.2.1)
+    MayRemain-known g.I.Input.state c.args.from.now (λ k. k.ending ≡ Broken fault) (before.0, before.1, sym before.3 ∙ read.2.1)
