@@ -17,7 +17,7 @@ use std::process::Abort;
 use std::test::Fail;
 use sum_engine::{Inputs, Outputs, Stop, Streams};
 use sum_lines::ToldSink;
-use sum_sources::{Answer, Ending, Fault, Stdin, Told, ToldSource};
+use sum_sources::{Answer, Ending, Fault, Source, Stdin, Told, ToldSource};
 use sum_words::{NoRoom, Tool, Words};
 
 // Published digests (of MD5, SHA-2 and BLAKE2b). In the texts of rows `$M` stands for the first, and so on.
@@ -29,6 +29,22 @@ const SHA256_OF_ABC: &str = "ba7816bf8f01cfea414140de5dae2223b00361a396177a9cb41
 
 const BLAKE2B_256_OF_NOTHING: &str =
     "0e5751c026e543b2e8ab2eb06099daa1d1e5df47778f7787faab45cdf12fe3a8";
+
+// A manifest with a line of each verdict: right, a comment, bad, missing, wrong.
+const VERDICTS: &str = "$M  a\n#c\njunk\n$M *x\n$M  e\n";
+
+// What its check writes on standard output and on standard error, and the first line of that.
+const REPORTS: &str = "a: OK\nx: FAILED open or read\ne: FAILED\n";
+
+const WARNINGS: &str = "md5sum: x: No such file or directory\n\
+                        md5sum: WARNING: 1 line is improperly formatted\n\
+                        md5sum: WARNING: 1 listed file could not be read\n\
+                        md5sum: WARNING: 1 computed checksum did NOT match\n";
+
+const MISSING: &str = "md5sum: x: No such file or directory\n";
+
+// A manifest of mixed tags.
+const MIXED: &str = "MD5 (a) = $M\nSHA256 (a) = $S\nBLAKE2b-256 (e) = $B\n$M  a\nSHA256 (e) = $E\n";
 
 // How many bytes a read gives at most.
 const PIECES: [usize; 3] = [1, 100, 8192];
@@ -108,12 +124,12 @@ fn source_of<'a>(
     Ok(source)
 }
 
-// What both outputs of one run hold, and its answer.
+// What both outputs of one run hold, and its outcome.
 #[derive(Drop)]
 struct Run<const N: usize> {
     out: ToldSink<N>,
     err: ToldSink<N>,
-    answer: Result<u8, Stop>,
+    outcome: Result<u8, Stop>,
 }
 
 // Runs a line over this input, these files and those of most rows, which are read in pieces of at most so many bytes.
@@ -145,21 +161,21 @@ fn run_line_over<const N: usize>(
 
 // Runs a line, whose first word is the tool and whose words are parted by single spaces, on a heap. What it did, and
 // the source afterwards: `None` if the heap has no room for the words.
-fn run_line_on<'a, A: Allocator + Copy, const N: usize>(
+fn run_line_on<A: Allocator + Copy, S: Source + Drop, const N: usize>(
     heap: A,
     line: &str,
     input: Told,
-    files: ToldSource<'a, A>,
+    files: S,
     stops: (usize, usize),
-) -> Result<Option<(Run<N>, ToldSource<'a, A>)>, Fail> {
+) -> Result<Option<(Run<N>, S)>, Fail> {
     let Some((tool, words)) = read_line(heap, line)? else {
         return Ok(None);
     };
-    let mut streams = told_streams(input, files, stops);
-    let answer = run_words(heap, tool, &words, &mut streams);
+    let mut streams = streams_of(input, files, stops);
+    let outcome = run_words(heap, tool, &words, &mut streams);
     let Streams { inputs, outputs } = streams;
     let Outputs { out, err } = outputs;
-    Ok(Some((Run { out, err, answer }, inputs.source)))
+    Ok(Some((Run { out, err, outcome }, inputs.source)))
 }
 
 // The tool and the words of a line: `None` if the heap has no room for them.
@@ -175,17 +191,17 @@ fn read_line<A: Allocator + Copy>(heap: A, line: &str) -> Result<Option<(Tool, W
     Ok(Some((tool, words)))
 }
 
-// What a run works on: known input, known files, and outputs that stop after so many bytes.
-type ToldStreams<'i, 'f, A, const N: usize> = Streams<
-    Inputs<Told<'i>, ToldSource<'f, A>>,
+// What a run works on: known input, these files, and outputs that stop after so many bytes.
+type TestStreams<'i, S, const N: usize> = Streams<
+    Inputs<Told<'i>, S>,
     Outputs<ToldSink<N>, ToldSink<N>>,
 >;
 
-fn told_streams<'i, 'f, A: Allocator + Copy, const N: usize>(
-    input: Told<'i>,
-    files: ToldSource<'f, A>,
+fn streams_of<S: Source, const N: usize>(
+    input: Told<'_>,
+    files: S,
     (out_stop, err_stop): (usize, usize),
-) -> ToldStreams<'i, 'f, A, N> {
+) -> TestStreams<'_, S, N> {
     Streams::new(
         Stdin::new(input),
         files,
@@ -195,11 +211,11 @@ fn told_streams<'i, 'f, A: Allocator + Copy, const N: usize>(
 }
 
 // The run itself. It has no contract, so that the proofs of its callers are spared that of `run`.
-fn run_words<A: Allocator + Copy, const N: usize>(
+fn run_words<A: Allocator + Copy, S: Source, const N: usize>(
     heap: A,
     tool: Tool,
     words: &Words<A>,
-    streams: &mut ToldStreams<A, N>,
+    streams: &mut TestStreams<S, N>,
 ) -> Result<u8, Stop> {
     run(heap, tool, words, streams)
 }
@@ -228,31 +244,35 @@ fn taken(heap: &Bump, units: usize) -> usize {
         .saturating_sub(heap.chunk_capacity())
 }
 
-// That of all runs that are refused nothing each takes as many bytes as the first.
-fn assert_same_taken(rt: &impl Abort, whole: &mut Option<usize>, bytes: usize) {
-    assert_eq!(rt; *whole.get_or_insert(bytes), bytes);
+// That of all runs of a line that are refused nothing each takes as many bytes as the first.
+fn assert_same_taken(rt: &impl Abort, whole: &mut Option<usize>, bytes: usize, line: &str) {
+    assert_eq!(rt;
+        bytes,
+        *whole.get_or_insert(bytes),
+        "bytes that {line} takes"
+    );
 }
 
-// A line, what it writes on standard output and on standard error, and the status that it answers.
+// A line, what it writes on standard output and on standard error, and its status.
 type Row<'a> = (&'a str, &'a str, &'a str, u8);
 
-// That a run wrote and answered what the row says.
+// That a run wrote and returned what the row says.
 fn assert_as(rt: &(impl Abort + AllocGlobal), run: &Run<1024>, row: Row) -> Result<(), Fail> {
     let (line, out, err, status) = row;
     assert_run(rt, run, line, Ok(status), (out, err))
 }
 
-// That the run of a line answered so, and wrote just these texts.
+// That the run of a line returned this, and wrote just these texts.
 fn assert_run<const N: usize>(
     rt: &(impl Abort + AllocGlobal),
     run: &Run<N>,
     line: &str,
-    answer: Result<u8, Stop>,
+    outcome: Result<u8, Stop>,
     (out, err): (&str, &str),
 ) -> Result<(), Fail> {
     assert_text(rt, run.out.bytes(), out, ("standard output", line))?;
     assert_text(rt, run.err.bytes(), err, ("standard error", line))?;
-    assert_eq!(rt; run.answer, answer, "the answer of {line}");
+    assert_eq!(rt; run.outcome, outcome, "the outcome of {line}");
     Ok(())
 }
 
@@ -325,13 +345,14 @@ fn files_of<'n, 'c>(
     Ok(files)
 }
 
-// That a line whose input and whose file `f` give these bytes and then a fault does as its row says.
+// That a line whose input and whose file of this name give these bytes and then a fault does as its row says.
 fn assert_broken(
     rt: &(impl Abort + AllocGlobal),
+    name: &str,
     bytes: &[u8],
     fault: Fault,
     row: Row,
 ) -> Result<(), Fail> {
     let ending = Ending::Broken(fault);
-    assert_in_pieces(rt, (bytes, ending), &[("f", bytes, ending)], row)
+    assert_in_pieces(rt, (bytes, ending), &[(name, bytes, ending)], row)
 }

@@ -8,8 +8,7 @@ use std::fmt;
 use std::str::FromStr;
 use thiserror::Error;
 
-/// One of the eight tools: the seven GNU digest tools of the coreutils manual, and `anysum`, which checks manifests of
-/// mixed tagged lines.
+/// A tool: a GNU digest tool of the coreutils manual, or `anysum`, which checks manifests of mixed tagged lines.
 #[derive(Clone, Copy, Debug, PartialEq, Eq)]
 pub enum Tool {
     Md5sum,

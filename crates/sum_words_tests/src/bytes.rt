@@ -9,7 +9,7 @@ use sum_words::{Spelling, Tool, WordFault};
 fn assert_operand(rt: &(impl Abort + AllocGlobal), line: &str, word: &[u8]) -> Result<(), Fail> {
     let words = words_and(rt.alloc(), line, word)?;
     let (_, operands) = generation(asked(Tool::Md5sum, &words)).ok_or("refused")?;
-    assert_operands(rt, operands, &[word]);
+    assert_operands(rt, line, operands, &[word]);
     Ok(())
 }
 
@@ -32,7 +32,7 @@ fn assert_fault(
     want: Option<WordFault<'_>>,
 ) -> Result<(), Fail> {
     let words = words_and(rt.alloc(), line, word)?;
-    assert_eq!(rt; asked(Tool::B2sum, &words).err(), want);
+    assert_eq!(rt; asked(Tool::B2sum, &words).err(), want, "in {line} {word:?}");
     Ok(())
 }
 

@@ -11,12 +11,18 @@ fn assert_asks(
 ) -> Result<(), Fail> {
     match read_command_line(rt.alloc(), &ToldArguments::new(arguments)) {
         Ok(CommandLine::Invoke(tool, words)) => {
-            assert_eq!(rt; tool, want);
-            assert_eq!(rt; words.get(0), Some(first));
+            assert_eq!(rt; tool, want, "of {arguments:?}");
+            assert_eq!(rt; words.get(0), Some(first), "of {arguments:?}");
             Ok(())
         }
         _ => Err(Fail::from("not asked for")),
     }
+}
+
+// That these arguments call for an unknown tool.
+fn assert_unknown(rt: &(impl Abort + AllocGlobal), arguments: &[&[u8]]) {
+    let line = read_command_line(rt.alloc(), &ToldArguments::new(arguments));
+    assert!(rt; matches!(line, Ok(CommandLine::UnknownTool)), "{line:?} of {arguments:?}");
 }
 
 // The program's name, the tool's and other words may hold any bytes.
@@ -30,19 +36,15 @@ fn words_of_any_bytes(rt: HostRuntime) -> Result<(), Fail> {
         (Tool::Md5sum, b"--\xc3"),
     )?;
     for word in [b"\xff".as_slice(), b"md5sum\xff", b"-\xff"] {
-        let arguments = [b"digests".as_slice(), word, b"-\xff"];
-        let line = read_command_line(rt.alloc(), &ToldArguments::new(&arguments));
-        assert!(rt; matches!(line, Ok(CommandLine::UnknownTool)));
+        assert_unknown(&rt, &[b"digests", word, b"-\xff"]);
     }
     Ok(())
 }
 
 #[test]
 fn no_words(rt: HostRuntime) -> Result<(), Fail> {
-    for arguments in [[].as_slice(), [b"digests".as_slice()].as_slice()] {
-        let line = read_command_line(rt.alloc(), &ToldArguments::new(arguments));
-        assert!(rt; matches!(line, Ok(CommandLine::UnknownTool)));
-    }
+    assert_unknown(&rt, &[]);
+    assert_unknown(&rt, &[b"digests"]);
     let named = [b"/bin/md5sum".as_slice()];
     match read_command_line(rt.alloc(), &ToldArguments::new(&named)) {
         Ok(CommandLine::Invoke(tool, words)) => {

@@ -36,12 +36,17 @@ fn checking<'a>(
     }
 }
 
-/// That these are the operands.
-pub(crate) fn assert_operands(rt: &impl Abort, mut operands: Operands, want: &[&[u8]]) {
+/// That these are the operands of a line.
+pub(crate) fn assert_operands(
+    rt: &impl Abort,
+    line: &str,
+    mut operands: Operands,
+    want: &[&[u8]],
+) {
     for operand in want {
-        assert_eq!(rt; operands.next(), Some(*operand));
+        assert_eq!(rt; operands.next(), Some(*operand), "in {line}");
     }
-    assert_eq!(rt; operands.next(), None);
+    assert_eq!(rt; operands.next(), None, "in {line}");
 }
 
 // That the words of a line ask for lines of this kind and form about one operand.
@@ -56,7 +61,7 @@ fn assert_generates(
     let (settings, operands) = generation(asked(tool, &words)).ok_or("refused")?;
     assert_eq!(rt; settings.kind.bits(), bits, "in {line}");
     assert_eq!(rt; settings.style, Style { mode, zero: false }, "in {line}");
-    assert_operands(rt, operands, &[operand.as_bytes()]);
+    assert_operands(rt, line, operands, &[operand.as_bytes()]);
     Ok(())
 }
 
@@ -82,7 +87,7 @@ fn assert_checks(
     let words = words_of(rt.alloc(), line)?;
     let (settings, left) = checking(asked(tool, &words)).ok_or("refused")?;
     assert_eq!(rt; settings, want, "in {line}");
-    assert_operands(rt, left, operands);
+    assert_operands(rt, line, left, operands);
     Ok(())
 }
 
@@ -122,7 +127,7 @@ fn operands_are_any_bytes(rt: HostRuntime) -> Result<(), Fail> {
     assert_eq!(rt; settings.kind, Kind::of(Algo::Md5));
     assert!(rt; settings.style.zero);
     let want: [&[u8]; 4] = [b"", b"a\0b\n", b"\xc3\xa4", b"r\xe9sum\xe9\n"];
-    assert_operands(&rt, operands, &want);
+    assert_operands(&rt, "words of any bytes", operands, &want);
     Ok(())
 }
 
@@ -130,6 +135,6 @@ fn operands_are_any_bytes(rt: HostRuntime) -> Result<(), Fail> {
 fn odd_operand_behind_two_dashes(rt: HostRuntime) -> Result<(), Fail> {
     let words = words_and(rt.alloc(), "-- -b", b"--\xff")?;
     let (_, operands) = generation(asked(Tool::Md5sum, &words)).ok_or("refused")?;
-    assert_operands(&rt, operands, &[b"-b", b"--\xff"]);
+    assert_operands(&rt, "-- -b", operands, &[b"-b", b"--\xff"]);
     Ok(())
 }

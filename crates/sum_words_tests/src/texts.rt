@@ -2,20 +2,30 @@
 use std::test::Fail;
 use sum_engine::Stop;
 use sum_lines::{SinkFault, ToldSink};
-use sum_words::{Tool, put_help, put_not_read, put_stop, put_unknown, put_version};
+use sum_words::{
+    Tool, UnknownTool, put_help, put_not_read, put_stop, put_unknown, put_version,
+};
 
 #[test]
-fn tools(rt: HostRuntime) {
+fn tools(rt: HostRuntime) -> Result<(), Fail> {
     for (name, tool) in [
         ("md5sum", Tool::Md5sum),
         ("b2sum", Tool::B2sum),
         ("anysum", Tool::Anysum),
     ] {
-        assert_eq!(rt; Tool::from_word(name), Some(tool));
-        assert_eq!(rt; tool.name(), name);
+        assert_eq!(rt; Tool::from_word(name), Some(tool), "the word {name}");
+        assert_eq!(rt; name.parse(), Ok(tool), "{name}, parsed");
+        assert_eq!(rt; tool.name(), name, "the name of {name}");
+        let shown = format!(in rt.alloc(); "{tool}")?;
+        assert_eq!(rt; shown.as_str(), name, "{name}, shown");
     }
-    assert_eq!(rt; Tool::from_word("shasum"), None);
-    assert_eq!(rt; Tool::from_word(""), None);
+    for word in ["shasum", "", "md5sum "] {
+        assert_eq!(rt; Tool::from_word(word), None, "the word {word}");
+        assert_eq!(rt; word.parse::<Tool>(), Err(UnknownTool), "{word}, parsed");
+    }
+    let padded = format!(in rt.alloc(); "{:>8}", Tool::Md5sum)?;
+    assert_eq!(rt; padded.as_str(), "  md5sum");
+    Ok(())
 }
 
 #[test]
@@ -44,8 +54,8 @@ fn stops(rt: HostRuntime) {
         (Stop::Memory, b"sha256sum: memory exhausted\n"),
     ] {
         let (err, answer) = stop_line(64, stop);
-        assert_eq!(rt; answer, Ok(()));
-        assert_eq!(rt; err.bytes(), line);
+        assert_eq!(rt; answer, Ok(()), "at {stop}");
+        assert_eq!(rt; err.bytes(), line, "at {stop}");
     }
 }
 
@@ -55,8 +65,8 @@ fn stopped_texts(rt: HostRuntime) {
     let text = b"sha256sum: write error\n".as_slice();
     for count in 0..text.len() {
         let (err, answer) = stop_line(count, Stop::Write);
-        assert_eq!(rt; answer, Err(SinkFault));
-        assert_eq!(rt; Some(err.bytes()), text.get(..count));
+        assert_eq!(rt; answer, Err(SinkFault), "after {count} bytes");
+        assert_eq!(rt; Some(err.bytes()), text.get(..count), "after {count} bytes");
     }
 }
 

@@ -56,7 +56,7 @@ fn faults(rt: HostRuntime) {
         WordFault::NotText(b"-\xff"),
     ];
     for (i, fault) in (1..19).zip(&faults) {
-        assert_eq!(rt; number_of_fault(fault), i);
+        assert_eq!(rt; number_of_fault(fault), i, "the number of {fault:?}");
     }
 }
 
@@ -155,7 +155,7 @@ fn items(rt: HostRuntime) -> Result<(), Fail> {
     let words = words_of(rt.alloc(), "a -b --length 8 -l")?;
     let mut items = Items::new(Tool::B2sum, &words);
     for want in ["operand", "binary", "value", "short"] {
-        assert_eq!(rt; items.next().map(of_item), Some(want));
+        assert_eq!(rt; items.next().map(of_item), Some(want), "the item {want}");
     }
     assert_eq!(rt; items.next().map(of_item), None);
     Ok(())

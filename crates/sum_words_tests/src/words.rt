@@ -34,7 +34,7 @@ fn words_are_any_texts(rt: HostRuntime) -> Result<(), Fail> {
         (3, Some(b"\xc3\xa4\xe2\x82\xac")),
         (4, None),
     ] {
-        assert_eq!(rt; word_at(&words, i), want);
+        assert_eq!(rt; word_at(&words, i), want, "word {i}");
     }
     assert_eq!(rt; word_at(&Words::new(rt.alloc()), 0), None);
     Ok(())
@@ -49,7 +49,7 @@ fn words_of_any_bytes(rt: HostRuntime) -> Result<(), Fail> {
         b"--length=\xed\xa0\x80",
     ] {
         let words = words_and(rt.alloc(), "\u{e4} -b", word)?;
-        assert_eq!(rt; word_at(&words, 2), Some(word));
+        assert_eq!(rt; word_at(&words, 2), Some(word), "behind two words");
     }
     Ok(())
 }
@@ -64,7 +64,7 @@ fn long_words(rt: HostRuntime) -> Result<(), Fail> {
             long.push('y')?;
         }
         words.add(long.as_str())?;
-        assert!(rt; word_at(&words, i) == Some(long.as_bytes()));
+        assert!(rt; word_at(&words, i) == Some(long.as_bytes()), "word {i}");
     }
     Ok(())
 }

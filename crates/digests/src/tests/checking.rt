@@ -1,10 +1,7 @@
 //! Checking manifests: what the run adds to the reports of one.
-use super::{assert_broken, assert_rows, spelled};
+use super::{MIXED, VERDICTS, assert_broken, assert_rows, spelled};
 use std::test::Fail;
 use sum_sources::Fault;
-
-// A line of each verdict: right, a comment, bad, missing, wrong.
-pub(super) const VERDICTS: &str = "$M  a\n#c\njunk\n$M *x\n$M  e\n";
 
 // Each manifest has its own counts, and one that can't be read leaves the others.
 #[test]
@@ -38,20 +35,20 @@ fn broken_input(rt: HostRuntime) -> Result<(), Fail> {
         "md5sum: standard input: Permission denied\n",
         1,
     );
-    assert_broken(&rt, manifest.as_bytes(), Fault::Denied, row)
+    assert_broken(&rt, "f", manifest.as_bytes(), Fault::Denied, row)?;
+    let row = (
+        "md5sum -c l4",
+        "a: OK\n",
+        "md5sum: l4: Input/output error\n",
+        1,
+    );
+    assert_broken(&rt, "l4", manifest.as_bytes(), Fault::Other, row)
 }
 
 // Options reach the checker, and a name with special bytes the files.
 #[test]
 fn settings_and_names(rt: HostRuntime) -> Result<(), Fail> {
-    let manifests = [
-        ("l", VERDICTS),
-        ("return", "\\$M  a\\rb\n"),
-        (
-            "m",
-            "MD5 (a) = $M\nSHA256 (a) = $S\nBLAKE2b-256 (e) = $B\n$M  a\nSHA256 (e) = $E\n",
-        ),
-    ];
+    let manifests = [("l", VERDICTS), ("return", "\\$M  a\\rb\n"), ("m", MIXED)];
     let rows = [
         (
             "md5sum -c --ignore-missing -w --strict l",

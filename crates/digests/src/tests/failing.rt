@@ -1,11 +1,11 @@
 //! One read of a run that fails, after which all files could be read further.
-use super::program::status_of;
+use super::program::{shown, status_of};
 use super::{File, assert_text, joined, source_of, spelled};
 use std::alloc::Global;
 use std::cell::Cell;
 use std::process::Abort;
 use std::test::Fail;
-use sum_engine::Streams;
+use sum_engine::{Outputs, Streams};
 use sum_lines::ToldSink;
 use sum_sources::{Ending, Fault, Input, OpenFault, Phase, Source, Stdin, Told, ToldSource};
 
@@ -109,26 +109,26 @@ fn assert_leaves(
         ToldSink::<1024>::new(1024),
         ToldSink::<1024>::new(1024),
     );
-    let answer = status_of(rt.alloc(), arguments, &mut streams);
-    assert_text(
-        rt,
-        streams.outputs.out.bytes(),
-        out,
-        ("standard output", "the program"),
-    )?;
-    assert_text(
-        rt,
-        streams.outputs.err.bytes(),
-        err,
-        ("standard error", "the program"),
-    )?;
-    assert_eq!(rt; answer, status, "{before}");
+    let found = status_of(rt.alloc(), arguments, &mut streams);
+    let line = format!(in rt.alloc(); "{}, read {before}", shown(rt.alloc(), arguments)?.as_str())?;
+    let Outputs {
+        out: wrote,
+        err: reported,
+    } = streams.outputs;
+    assert_text(rt, wrote.bytes(), out, ("standard output", line.as_str()))?;
+    assert_text(rt, reported.bytes(), err, ("standard error", line.as_str()))?;
+    assert_eq!(rt; found, status, "the status of {}", line.as_str());
     // Every file was opened; the one of which a read failed has no end, and no file has one by a read after its fault.
     let unread = u64::saturating_sub(
         streams.inputs.source.files.opened(),
         streams.inputs.source.ended,
     );
-    assert_eq!(rt; unread, u64::from(status), "{before}");
+    assert_eq!(rt;
+        unread,
+        u64::from(status),
+        "files not read to their end by {}",
+        line.as_str()
+    );
     Ok(())
 }
 

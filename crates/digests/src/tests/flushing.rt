@@ -1,5 +1,5 @@
 //! How often the program flushes its outputs.
-use super::program::status_of;
+use super::program::{shown, status_of};
 use super::{source_of, spelled};
 use std::alloc::Global;
 use std::test::Fail;
@@ -43,7 +43,7 @@ fn sink(fails_at: u64) -> CountsFlushes {
     }
 }
 
-// Calls the program over two such sinks, and answers how often each was flushed, and the status.
+// Calls the program over two such sinks, and returns how often each was flushed, and the status.
 fn count_flushes(
     alloc: Global,
     arguments: &[&[u8]],
@@ -78,7 +78,14 @@ fn flushed_once_more(rt: HostRuntime) -> Result<(), Fail> {
         (hash.as_slice(), (2, 0), (2, 1, 1)),
     ];
     for (arguments, fails, counts) in rows {
-        assert_eq!(rt; count_flushes(rt.alloc(), arguments, fails)?, counts);
+        let called = shown(rt.alloc(), arguments)?;
+        let found = count_flushes(rt.alloc(), arguments, fails)?;
+        assert_eq!(rt;
+            found,
+            counts,
+            "{}, of which flushes fail: {fails:?}",
+            called.as_str()
+        );
     }
     Ok(())
 }

@@ -25,11 +25,12 @@ fn names(rt: HostRuntime) -> Result<(), Fail> {
 #[test]
 fn broken_inputs(rt: HostRuntime) -> Result<(), Fail> {
     let row = ("sha256sum", "", "sha256sum: -: Input/output error\n", 1);
-    assert_broken(&rt, b"abc", Fault::Other, row)?;
+    assert_broken(&rt, "f", b"abc", Fault::Other, row)?;
     let text = repeated(rt.alloc(), 'x', 300)?;
     let row = ("md5sum f", "", "md5sum: f: Permission denied\n", 1);
     for count in 0..=300 {
-        assert_broken(&rt, first_of(text.as_bytes(), count)?, Fault::Denied, row)?;
+        let bytes = first_of(text.as_bytes(), count)?;
+        assert_broken(&rt, "f", bytes, Fault::Denied, row)?;
     }
     Ok(())
 }

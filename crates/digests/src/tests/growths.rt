@@ -1,46 +1,70 @@
 //! Memory that is refused: each growth in turn, on heaps that are each a little larger.
 use super::{
-    ENOUGH, File, Row, Run, ToldStreams, add_all, assert_as, assert_same_taken, heap_of, joined,
-    run_line_on, spelled, taken, told_streams,
+    ENOUGH, File, MISSING, REPORTS, Row, Run, TestStreams, VERDICTS, WARNINGS, add_all, assert_as,
+    assert_same_taken, heap_of, joined, run_line_on, spelled, streams_of, taken,
 };
 use bumpalo::Bump;
 use digest_kinds::{Algo, Algos};
-use std::alloc::{Allocator, Global};
+use std::alloc::Global;
 use std::process::Abort;
 use std::test::Fail;
 use sum_engine::{CheckSettings, Checker, Progress, Stop};
-use sum_sources::{Ending, Told, ToldSource};
+use sum_sources::{Ending, OpenFault, Source, Told, ToldSource};
 
-// A line of each verdict: right, a comment, bad, missing, wrong. Each name has 8 bytes.
-const VERDICTS: &str = "$M  abc.text\n#c\njunk\n$M *gone.txt\n$M  none.txt\n";
+// Takes 7 bytes of a heap, or all that it has left, so that with them a name of one byte takes 8.
+fn take_seven(heap: &Bump) {
+    for _ in 0..7 {
+        let _ = heap.try_alloc_slice_copy(&[0u8]);
+    }
+}
 
-const REPORTS: &str = "abc.text: OK\ngone.txt: FAILED open or read\nnone.txt: FAILED\n";
+// Known files on a heap, of which each name that is kept takes 8 bytes or more: so each opening is refused on some heap.
+#[derive(Drop)]
+struct FilesOn<'a, 'b> {
+    files: ToldSource<'a, &'b Bump>,
+    heap: &'b Bump,
+}
 
-const MISSING: &str = "md5sum: gone.txt: No such file or directory\n";
+impl<'a, 'b> Source for FilesOn<'a, 'b> {
+    type File = Told<'a>;
 
-const WARNINGS: &str = "md5sum: gone.txt: No such file or directory\n\
-                        md5sum: WARNING: 1 line is improperly formatted\n\
-                        md5sum: WARNING: 1 listed file could not be read\n\
-                        md5sum: WARNING: 1 computed checksum did NOT match\n";
+    ghost use Rattle.std.specs.Prelude.{None};
+
+    ghost state = { λ s. record {
+      known = None;
+      refusals = s.files.refusals;
+      opened = s.files.opened;
+      ended = s.files.ended;
+    } };
+
+    fn open_file(&mut self, name: &[u8]) -> Result<Told<'a>, OpenFault> {
+        take_seven(self.heap);
+        self.files.open_file(name)
+    }
+
+    fn close_file(&mut self, file: Told<'a>) {
+        self.files.close_file(file);
+    }
+}
 
 // A place between two operands or two lines of a manifest: the texts up to there, and how many names were asked.
 type Place<'a> = (&'a str, &'a str, usize);
 
 // Whether these are the names that were asked.
-fn asked<A: Allocator + Copy>(files: &ToldSource<A>, names: &[&str]) -> bool {
+fn asked(source: &FilesOn, names: &[&str]) -> bool {
     for (i, name) in names.iter().enumerate() {
-        if files.asked_name(i) != Some(name.as_bytes()) {
+        if source.files.asked_name(i) != Some(name.as_bytes()) {
             return false;
         }
     }
-    files.asked_name(names.len()).is_none()
+    source.files.asked_name(names.len()).is_none()
 }
 
 // At which of the places the outputs and the names asked stand.
-fn place_of<A: Allocator + Copy>(
+fn place_of(
     alloc: Global,
     (out, err): (&[u8], &[u8]),
-    files: &ToldSource<A>,
+    files: &FilesOn,
     names: &[&str],
     places: &[Place],
 ) -> Result<usize, Fail> {
@@ -67,23 +91,26 @@ enum Turn {
 }
 
 // A source of these files on a heap, where it has room for them.
-fn source_on<'a, 'b>(heap: &'b Bump, files: &[File<'_, 'a>]) -> Option<ToldSource<'a, &'b Bump>> {
-    let mut source = ToldSource::new(heap, 8192);
-    add_all(&mut source, files).ok()?;
-    Some(source)
+fn source_on<'a, 'b>(heap: &'b Bump, all: &[File<'_, 'a>]) -> Option<FilesOn<'a, 'b>> {
+    let mut files = ToldSource::new(heap, 8192);
+    for file in all {
+        take_seven(heap);
+        add_all(&mut files, &[*file]).ok()?;
+    }
+    Some(FilesOn { files, heap })
 }
 
-// Runs a line over the file `abc.text`, the empty file `none.txt` and the manifest `list.md5`. The files, the words and
-// the run have one heap: `None` where it has no room for the files or for the words.
+// Runs a line over the file `a`, the empty file `e` and the manifest `l`. The files, the words and the run have one
+// heap: `None` where it has no room for the files or for the words.
 fn run_on<'a, 'b>(
     heap: &'b Bump,
     manifest: &'a [u8],
     line: &str,
-) -> Result<Option<(Run<1024>, ToldSource<'a, &'b Bump>)>, Fail> {
+) -> Result<Option<(Run<1024>, FilesOn<'a, 'b>)>, Fail> {
     let all: [File; 3] = [
-        ("abc.text", b"abc", Ending::Whole),
-        ("none.txt", b"", Ending::Whole),
-        ("list.md5", manifest, Ending::Whole),
+        ("a", b"abc", Ending::Whole),
+        ("e", b"", Ending::Whole),
+        ("l", manifest, Ending::Whole),
     ];
     let Some(files) = source_on(heap, &all) else {
         return Ok(None);
@@ -93,18 +120,22 @@ fn run_on<'a, 'b>(
 }
 
 // At which of the places a run stopped that was refused memory. Where none was refused it did as the row says: `None`.
-fn stopped_at<A: Allocator + Copy>(
+fn stopped_at(
     rt: &(impl Abort + AllocGlobal),
-    (run, files): (&Run<1024>, &ToldSource<A>),
+    (run, files): (&Run<1024>, &FilesOn),
     names: &[&str],
     places: &[Place],
     row: Row,
 ) -> Result<Option<usize>, Fail> {
-    if run.answer == Err(Stop::Memory) {
+    if run.outcome == Err(Stop::Memory) {
         let texts = (run.out.bytes(), run.err.bytes());
         return Ok(Some(place_of(rt.alloc(), texts, files, names, places)?));
     }
-    assert!(rt; asked(files, names));
+    assert!(rt;
+        asked(files, names),
+        "{} asks other names than {names:?}",
+        row.0
+    );
     assert_as(rt, run, row)?;
     Ok(None)
 }
@@ -142,38 +173,37 @@ fn assert_each_growth(
     let mut whole = None;
     for units in 0..=ENOUGH {
         match run_within(rt, units, manifest.as_bytes(), names, places, row)? {
-            Turn::NoRoom => assert_eq!(rt; reached, 0),
+            Turn::NoRoom => assert_eq!(rt; reached, 0, "no room for {}, {units} units", row.0),
             Turn::StoppedAt(place) => {
                 let next = place.saturating_add(1);
-                assert!(rt; next == reached || place == reached, "in {units} units");
-                assert_eq!(rt; whole, None);
+                assert!(rt;
+                    next == reached || place == reached,
+                    "{}, {units} units: place {place} follows {reached}",
+                    row.0
+                );
+                assert_eq!(rt;
+                    whole,
+                    None,
+                    "bytes taken before {units} units by {}",
+                    row.0
+                );
                 reached = next;
             }
             Turn::Finished(bytes) => {
-                assert_eq!(rt; reached, places.len());
-                assert_same_taken(rt, &mut whole, bytes);
+                assert_eq!(rt; reached, places.len(), "places of {}, {units} units", row.0);
+                assert_same_taken(rt, &mut whole, bytes, row.0);
             }
         }
     }
-    assert!(rt; whole.is_some());
+    assert!(rt; whole.is_some(), "{} never ends", row.0);
     Ok(())
 }
 
 #[test]
 fn growths_of_generating(rt: HostRuntime) -> Result<(), Fail> {
-    let places = [
-        ("", "", 0),
-        ("$M  abc.text\n", "", 1),
-        ("$M  abc.text\n", MISSING, 2),
-    ];
-    let row = (
-        "md5sum abc.text gone.txt none.txt",
-        "$M  abc.text\n$E  none.txt\n",
-        MISSING,
-        1,
-    );
-    let names = ["abc.text", "gone.txt", "none.txt"];
-    assert_each_growth(&rt, "", &names, &places, row)
+    let places = [("", "", 0), ("$M  a\n", "", 1), ("$M  a\n", MISSING, 2)];
+    let row = ("md5sum a x e", "$M  a\n$E  e\n", MISSING, 1);
+    assert_each_growth(&rt, "", &["a", "x", "e"], &places, row)
 }
 
 #[test]
@@ -181,12 +211,11 @@ fn growths_of_checking(rt: HostRuntime) -> Result<(), Fail> {
     let places = [
         ("", "", 0),
         ("", "", 1),
-        ("abc.text: OK\n", "", 2),
-        ("abc.text: OK\ngone.txt: FAILED open or read\n", MISSING, 3),
+        ("a: OK\n", "", 2),
+        ("a: OK\nx: FAILED open or read\n", MISSING, 3),
     ];
-    let row = ("md5sum -c list.md5", REPORTS, WARNINGS, 1);
-    let names = ["list.md5", "abc.text", "gone.txt", "none.txt"];
-    assert_each_growth(&rt, VERDICTS, &names, &places, row)
+    let row = ("md5sum -c l", REPORTS, WARNINGS, 1);
+    assert_each_growth(&rt, VERDICTS, &["l", "a", "x", "e"], &places, row)
 }
 
 #[test]
@@ -198,20 +227,20 @@ fn growths_of_two_manifests(rt: HostRuntime) -> Result<(), Fail> {
         ("-: OK\n", "", 2),
     ];
     let row = (
-        "md5sum -c list.md5 list.md5",
+        "md5sum -c l l",
         "-: OK\n-: FAILED\n",
         "md5sum: WARNING: 1 computed checksum did NOT match\n",
         1,
     );
-    assert_each_growth(&rt, "$M  -\n", &["list.md5", "list.md5"], &places, row)
+    assert_each_growth(&rt, "$M  -\n", &["l", "l"], &places, row)
 }
 
 // A growth for the second line is refused: the first line's report stands.
 #[test]
 fn long_line_refused(rt: HostRuntime) -> Result<(), Fail> {
     let long = "a_name_that_is_so_long_that_the_vector_of_the_line_before_has_no_room_for_this_one";
-    let manifest = joined(rt.alloc(), &["$M  abc.text\n$M  ", long, "\n"])?;
-    let reports = ["abc.text: OK\n", long, ": FAILED open or read\n"];
+    let manifest = joined(rt.alloc(), &["$M  a\n$M  ", long, "\n"])?;
+    let reports = ["a: OK\n", long, ": FAILED open or read\n"];
     let out = joined(rt.alloc(), &reports)?;
     let warnings = [
         "md5sum: ",
@@ -220,34 +249,33 @@ fn long_line_refused(rt: HostRuntime) -> Result<(), Fail> {
         "md5sum: WARNING: 1 listed file could not be read\n",
     ];
     let err = joined(rt.alloc(), &warnings)?;
-    let places = [("", "", 0), ("", "", 1), ("abc.text: OK\n", "", 2)];
-    let row = ("md5sum -c list.md5", out.as_str(), err.as_str(), 1);
-    let names = ["list.md5", "abc.text", long];
-    assert_each_growth(&rt, manifest.as_str(), &names, &places, row)
+    let places = [("", "", 0), ("", "", 1), ("a: OK\n", "", 2)];
+    let row = ("md5sum -c l", out.as_str(), err.as_str(), 1);
+    assert_each_growth(&rt, manifest.as_str(), &["l", "a", long], &places, row)
 }
 
 // Where a checker of all verdicts stands after so many lines, and after the end.
 const AFTER_STEPS: [Place<'static>; 7] = [
     ("", "", 0),
-    ("abc.text: OK\n", "", 1),
-    ("abc.text: OK\n", "", 1),
-    ("abc.text: OK\n", "", 1),
-    ("abc.text: OK\ngone.txt: FAILED open or read\n", MISSING, 2),
+    ("a: OK\n", "", 1),
+    ("a: OK\n", "", 1),
+    ("a: OK\n", "", 1),
+    ("a: OK\nx: FAILED open or read\n", MISSING, 2),
     (REPORTS, MISSING, 3),
     (REPORTS, WARNINGS, 3),
 ];
 
 // What a checker of all verdicts works on.
-type Stage<'a, 'b> = ToldStreams<'a, 'a, &'b Bump, 1024>;
+type Stage<'a, 'b> = TestStreams<'a, FilesOn<'a, 'b>, 1024>;
 
-// How many lines a checker has done, and what its last step answered.
+// How many lines a checker has done, and what its last step returned.
 type Reached = (usize, Result<Progress, Stop>);
 
 // A checker of a manifest `list.md5`, and a step of it. They have no contracts, so that the proofs of their callers are
 // spared those of `new` and `step`.
 fn checker_of<'a>(manifest: Told<'a>) -> Checker<'static, Told<'a>> {
     let settings = CheckSettings::new(Algos::One(Algo::Md5));
-    Checker::new(settings, "md5sum", b"list.md5", false, manifest)
+    Checker::new(settings, "md5sum", b"l", false, manifest)
 }
 
 fn step<'b>(
@@ -267,24 +295,29 @@ fn step_on<'b>(
     streams: &mut Stage<'_, 'b>,
     (lines, before): Reached,
 ) -> Reached {
-    let answer = step(checker, line, streams);
+    let outcome = step(checker, line, streams);
     if before != Ok(Progress::Going) {
-        assert_eq!(rt; answer, before);
-        return (lines, answer);
+        assert_eq!(rt; outcome, before, "a step after the last, {lines} lines");
+        return (lines, outcome);
     }
-    if answer == Err(Stop::Memory) {
+    if outcome == Err(Stop::Memory) {
         heap.set_allocation_limit(None);
-        return (lines, answer);
+        return (lines, outcome);
     }
-    (lines.saturating_add(1), answer)
+    (lines.saturating_add(1), outcome)
 }
 
 // That the outputs and the names asked stand where they do after so many lines.
 fn assert_there(alloc: Global, streams: &Stage, lines: usize) -> Result<(), Fail> {
     let there = AFTER_STEPS.get(lines..=lines).ok_or("lines")?;
     let texts = (streams.outputs.out.bytes(), streams.outputs.err.bytes());
-    let names = ["abc.text", "gone.txt", "none.txt"];
-    place_of(alloc, texts, &streams.inputs.source, &names, there)?;
+    place_of(
+        alloc,
+        texts,
+        &streams.inputs.source,
+        &["a", "x", "e"],
+        there,
+    )?;
     Ok(())
 }
 
@@ -311,14 +344,11 @@ fn nine_steps<'b>(
 fn steps(rt: &(impl Abort + AllocGlobal), units: usize) -> Result<Turn, Fail> {
     let manifest = spelled(rt.alloc(), VERDICTS)?;
     let heap = heap_of(rt.alloc(), units)?;
-    let all: [File; 2] = [
-        ("abc.text", b"abc", Ending::Whole),
-        ("none.txt", b"", Ending::Whole),
-    ];
+    let all: [File; 2] = [("a", b"abc", Ending::Whole), ("e", b"", Ending::Whole)];
     let Some(files) = source_on(&heap, &all) else {
         return Ok(Turn::NoRoom);
     };
-    let mut streams = told_streams(Told::new(b"", Ending::Whole, 1), files, (1024, 1024));
+    let mut streams = streams_of(Told::new(b"", Ending::Whole, 1), files, (1024, 1024));
     let input = Told::new(manifest.as_bytes(), Ending::Whole, 8192);
     let reached = nine_steps(rt, &heap, input, &mut streams)?;
     if reached.1 == Err(Stop::Memory) {
@@ -340,17 +370,21 @@ fn growths_step_by_step(rt: HostRuntime) -> Result<(), Fail> {
     let mut whole = None;
     for units in 0..=ENOUGH {
         match steps(&rt, units)? {
-            Turn::NoRoom => assert!(rt; stops.is_empty()),
+            Turn::NoRoom => assert!(rt; stops.is_empty(), "no room, {units} units"),
             Turn::StoppedAt(lines) => {
-                assert_eq!(rt; whole, None);
+                assert_eq!(rt; whole, None, "bytes taken before {units} units");
                 if stops.last() != Some(&lines) {
                     stops.push(lines)?;
                 }
             }
-            Turn::Finished(bytes) => assert_same_taken(&rt, &mut whole, bytes),
+            Turn::Finished(bytes) => assert_same_taken(&rt, &mut whole, bytes, "the check"),
         }
     }
-    assert!(rt; whole.is_some());
-    assert_eq!(rt; stops.as_slice(), [0, 3, 4].as_slice());
+    assert!(rt; whole.is_some(), "no check ends");
+    assert_eq!(rt;
+        stops.as_slice(),
+        [0, 3, 4].as_slice(),
+        "lines before a stop"
+    );
     Ok(())
 }

@@ -1,8 +1,7 @@
 //! Outputs that stop at any byte, manifests that break off anywhere, and hostile ones.
-use super::checking::VERDICTS;
 use super::{
-    MD5_OF_ABC, Run, add_all, assert_broken, assert_rows, assert_run, first_of, joined, repeated,
-    run_line, run_line_over, spelled,
+    MD5_OF_ABC, REPORTS, Run, VERDICTS, WARNINGS, add_all, assert_broken, assert_rows, assert_run,
+    first_of, joined, repeated, run_line, run_line_over, spelled,
 };
 use std::ops::RangeInclusive;
 use std::process::Abort;
@@ -10,26 +9,19 @@ use std::test::Fail;
 use sum_engine::Stop;
 use sum_sources::{Ending, Fault, Told, ToldSource};
 
-const REPORTS: &str = "a: OK\nx: FAILED open or read\ne: FAILED\n";
-
-const WARNINGS: &str = "md5sum: x: No such file or directory\n\
-                        md5sum: WARNING: 1 line is improperly formatted\n\
-                        md5sum: WARNING: 1 listed file could not be read\n\
-                        md5sum: WARNING: 1 computed checksum did NOT match\n";
-
-// Checks all verdicts with outputs that stop so, and asserts the answer, prefixes of both texts and so many bytes on
+// Checks all verdicts with outputs that stop so, and asserts the outcome, prefixes of both texts and so many bytes on
 // each output.
 fn assert_stopped(
     rt: &(impl Abort + AllocGlobal),
     stops: (usize, usize),
-    answer: Result<u8, Stop>,
+    outcome: Result<u8, Stop>,
     (out, err): (RangeInclusive<usize>, RangeInclusive<usize>),
 ) -> Result<(), Fail> {
     let manifest = spelled(rt.alloc(), VERDICTS)?;
     let files = [("l", manifest.as_bytes(), Ending::Whole)];
     let nothing = (b"".as_slice(), Ending::Whole);
     let run = run_line(rt.alloc(), "md5sum -c l", nothing, &files, 8192, stops)?;
-    assert_eq!(rt; run.answer, answer);
+    assert_eq!(rt; run.outcome, outcome, "outputs that stop at {stops:?}");
     assert_part(
         rt,
         run.out.bytes(),
@@ -55,8 +47,16 @@ fn assert_part(
     counts: RangeInclusive<usize>,
     (output, stop): (&str, usize),
 ) {
-    assert!(rt; text.as_bytes().starts_with(bytes));
-    assert!(rt; counts.contains(&bytes.len()), "{output} at {stop}");
+    let count = bytes.len();
+    assert_eq!(rt;
+        Some(bytes),
+        text.as_bytes().get(..count),
+        "{output} at {stop}"
+    );
+    assert!(rt;
+        counts.contains(&count),
+        "{output} at {stop}: {count} bytes, not {counts:?}"
+    );
 }
 
 // The output that stops holds just these bytes, the other one all of the lines that were handled and none of later
@@ -99,12 +99,13 @@ fn cut_manifest(rt: HostRuntime) -> Result<(), Fail> {
         let prefix = first_of(manifest.as_bytes(), count)?;
         let lines = prefix.iter().filter(|byte| **byte == b'\n').count();
         let err = if lines < 4 {
-            "md5sum: f: Input/output error\n"
+            "md5sum: l: Input/output error\n"
         } else {
-            "md5sum: x: No such file or directory\nmd5sum: f: Input/output error\n"
+            "md5sum: x: No such file or directory\nmd5sum: l: Input/output error\n"
         };
         let out = *reports.get(lines).ok_or("lines")?;
-        assert_broken(&rt, prefix, Fault::Other, ("md5sum -c f", out, err, 1))?;
+        let row = ("md5sum -c l", out, err, 1);
+        assert_broken(&rt, "l", prefix, Fault::Other, row)?;
     }
     Ok(())
 }

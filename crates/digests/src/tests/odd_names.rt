@@ -1,10 +1,10 @@
 //! Words that aren't UTF-8.
-use super::program::status_of;
+use super::program::{shown, status_of};
 use super::{add_files, assert_bytes};
 use std::alloc::Allocator;
 use std::process::Abort;
 use std::test::Fail;
-use sum_engine::Streams;
+use sum_engine::{Outputs, Streams};
 use sum_lines::ToldSink;
 use sum_sources::{Answer, Ending, Stdin, Told, ToldSource};
 
@@ -28,20 +28,20 @@ fn assert_row(rt: &(impl Abort + AllocGlobal), row: Row) -> Result<(), Fail> {
         ToldSink::<16_384>::new(16_384),
         ToldSink::<16_384>::new(16_384),
     );
-    let answer = status_of(rt.alloc(), arguments, &mut streams);
+    let found = status_of(rt.alloc(), arguments, &mut streams);
+    let called = shown(rt.alloc(), arguments)?;
+    let Outputs {
+        out: wrote,
+        err: reported,
+    } = streams.outputs;
+    assert_bytes(rt, wrote.bytes(), out, ("standard output", called.as_str()));
     assert_bytes(
         rt,
-        streams.outputs.out.bytes(),
-        out,
-        ("standard output", "the program"),
-    );
-    assert_bytes(
-        rt,
-        streams.outputs.err.bytes(),
+        reported.bytes(),
         err,
-        ("standard error", "the program"),
+        ("standard error", called.as_str()),
     );
-    assert_eq!(rt; answer, status);
+    assert_eq!(rt; found, status, "the status of {}", called.as_str());
     Ok(())
 }
 

@@ -73,21 +73,33 @@ type Left<'a> = (&'a str, &'a str, u8);
 
 const NOT_READ: Left<'static> = ("", "digests: words not read\n", 1);
 
-// Whose bytes they are that are wrong, in the message of an assertion.
-const OUT: (&str, &str) = ("standard output", "the program");
-
-const ERR: (&str, &str) = ("standard error", "the program");
-
-// That a program that ended left this.
+// That a program that ended, called so, left this.
 fn assert_left(
     rt: &(impl Abort + AllocGlobal),
     ended: &Ended,
+    arguments: &[&[u8]],
     (out, err, status): Left,
 ) -> Result<(), Fail> {
-    assert_text(rt, ended.out.bytes(), out, OUT)?;
-    assert_text(rt, ended.err.bytes(), err, ERR)?;
-    assert_eq!(rt; ended.status, status);
+    let called = shown(rt.alloc(), arguments)?;
+    assert_text(
+        rt,
+        ended.out.bytes(),
+        out,
+        ("standard output", called.as_str()),
+    )?;
+    assert_text(
+        rt,
+        ended.err.bytes(),
+        err,
+        ("standard error", called.as_str()),
+    )?;
+    assert_eq!(rt; ended.status, status, "the status of {}", called.as_str());
     Ok(())
+}
+
+// The arguments of a call, as the message of an assertion shows them.
+pub(super) fn shown(alloc: Global, arguments: &[&[u8]]) -> Result<String, Fail> {
+    Ok(format!(in alloc; "{arguments:?}")?)
 }
 
 // That the program, called so, leaves this.
@@ -98,7 +110,7 @@ fn assert_ends(
 ) -> Result<(), Fail> {
     let input = Told::new(b"abc", Ending::Whole, 2);
     let ended = call(rt.alloc(), rt.alloc(), arguments, input, AMPLE)?;
-    assert_left(rt, &ended, left)
+    assert_left(rt, &ended, arguments, left)
 }
 
 #[test]
@@ -164,9 +176,10 @@ fn assert_stopped(
     let input = Told::new(b"", Ending::Whole, 1);
     let arguments: [&[u8]; 3] = [b"md5sum", b"a", b"x"];
     let ended = call(rt.alloc(), rt.alloc(), &arguments, input, stops)?;
-    assert_bytes(rt, ended.out.bytes(), out, OUT);
-    assert_bytes(rt, ended.err.bytes(), err, ERR);
-    assert_eq!(rt; ended.status, 1);
+    let line = "`md5sum a x` over outputs that stop";
+    assert_bytes(rt, ended.out.bytes(), out, ("standard output", line));
+    assert_bytes(rt, ended.err.bytes(), err, ("standard error", line));
+    assert_eq!(rt; ended.status, 1, "outputs that stop at {stops:?}");
     Ok(())
 }
 
@@ -230,8 +243,13 @@ fn call_not_kept<A: Allocator + Copy>(
 #[test]
 fn output_that_is_not_kept(rt: HostRuntime) -> Result<(), Fail> {
     let (err, status) = call_not_kept(rt.alloc(), rt.alloc(), &[b"md5sum", b"a"], b"")?;
-    assert_eq!(rt; status, 1);
-    assert_bytes(&rt, err.bytes(), b"md5sum: write error\n", ERR);
+    assert_eq!(rt; status, 1, "the status of `md5sum a`");
+    assert_bytes(
+        &rt,
+        err.bytes(),
+        b"md5sum: write error\n",
+        ("standard error", "`md5sum a`"),
+    );
     Ok(())
 }
 
@@ -245,7 +263,7 @@ fn reported_within(
     let heap = heap_of(rt.alloc(), units)?;
     let arguments: [&[u8]; 2] = [b"md5sum", b"-c"];
     let (err, status) = call_not_kept(rt.alloc(), &heap, &arguments, list)?;
-    assert_eq!(rt; status, 1);
+    assert_eq!(rt; status, 1, "in {units} units");
     Ok((which_text(err.bytes())?, taken(&heap, units)))
 }
 
@@ -274,28 +292,24 @@ fn stopped_and_not_kept(rt: HostRuntime) -> Result<(), Fail> {
         let (which, bytes) = reported_within(&rt, units, line.as_bytes())?;
         assert!(rt;
             which == reached || which == reached.saturating_add(1),
-            "in {units} units"
+            "in {units} units: text {which} follows text {reached}"
         );
         reached = which;
         if which == 2 {
-            assert_same_taken(&rt, &mut whole, bytes);
+            assert_same_taken(&rt, &mut whole, bytes, "`md5sum -c`");
         }
     }
-    assert_eq!(rt; reached, 2);
+    assert_eq!(rt; reached, 2, "the last text");
     Ok(())
 }
 
 #[test]
 fn closed_standard_input(rt: HostRuntime) -> Result<(), Fail> {
     let closed: Closable<Told> = Closable::closed();
-    let ended = call(
-        rt.alloc(),
-        rt.alloc(),
-        &[b"md5sum".as_slice()],
-        closed,
-        AMPLE,
-    )?;
-    assert_left(&rt, &ended, ("", "md5sum: -: Bad file descriptor\n", 1))
+    let arguments = [b"md5sum".as_slice()];
+    let ended = call(rt.alloc(), rt.alloc(), &arguments, closed, AMPLE)?;
+    let left = ("", "md5sum: -: Bad file descriptor\n", 1);
+    assert_left(&rt, &ended, &arguments, left)
 }
 
 // Calls the program on a heap with room for so many times 8 bytes: how many it took, or `None` where the words weren't
@@ -310,10 +324,10 @@ fn words_within(
     let input = Told::new(b"", Ending::Whole, 1);
     let ended = call(rt.alloc(), &heap, arguments, input, AMPLE)?;
     if ended.status == 0 {
-        assert_left(rt, &ended, (out, "", 0))?;
+        assert_left(rt, &ended, arguments, (out, "", 0))?;
         return Ok(Some(taken(&heap, units)));
     }
-    assert_left(rt, &ended, NOT_READ)?;
+    assert_left(rt, &ended, arguments, NOT_READ)?;
     Ok(None)
 }
 
@@ -325,10 +339,13 @@ fn memory_for_words(rt: HostRuntime) -> Result<(), Fail> {
     for units in 0..=ENOUGH {
         match words_within(&rt, units, &arguments, "$M  a\n$E  -\n$M  a\n")? {
             None => assert_eq!(rt; whole, None, "in {units} units"),
-            Some(bytes) => assert_same_taken(&rt, &mut whole, bytes),
+            Some(bytes) => assert_same_taken(&rt, &mut whole, bytes, "`md5sum a - a`"),
         }
     }
-    assert!(rt; whole.is_some_and(|bytes| bytes > 0));
+    assert!(rt;
+        whole.is_some_and(|bytes| bytes > 0),
+        "{whole:?} bytes taken"
+    );
     Ok(())
 }
 

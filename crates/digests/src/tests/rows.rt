@@ -1,6 +1,7 @@
 //! Worked command lines, whose texts were written down before there was a program.
-use super::checking::VERDICTS;
-use super::{Row, assert_broken, assert_rows, joined, repeated};
+use super::{
+    MISSING, MIXED, REPORTS, Row, VERDICTS, WARNINGS, assert_broken, assert_rows, joined, repeated,
+};
 use std::process::Abort;
 use std::test::Fail;
 use sum_sources::Fault;
@@ -10,6 +11,7 @@ fn lines_of_names(rt: HostRuntime) -> Result<(), Fail> {
     let full = "BLAKE2b (e) = 786a02f742015903c6c6fd852552d272912f4740e15847618a86e217f71f5419\
         d25e1031afee585313896444934eb04b903a685b1448b755d56f701afe9be2ce\n";
     let rows = [
+        ("md5sum a e", "$M  a\n$E  e\n", "", 0),
         ("md5sum -b a", "$M *a\n", "", 0),
         ("md5sum - -", "$M  -\n$E  -\n", "", 0),
         ("md5sum q\\\nz", "\\$M  q\\\\\\nz\n", "", 0),
@@ -24,8 +26,9 @@ fn lines_of_names(rt: HostRuntime) -> Result<(), Fail> {
         ("b2sum -l 0 --tag e", full, "", 0),
         ("b2sum -l 512 --tag e", full, "", 0),
         ("md5sum ", "", "md5sum: : No such file or directory\n", 1),
+        ("sha256sum -- -b", "$S  -b\n", "", 0),
     ];
-    assert_rows(&rt, "abc", &[], &rows)
+    assert_rows(&rt, "abc", &[("-b", "abc")], &rows)
 }
 
 // A file of more bytes than one read gives, and then a fault.
@@ -33,7 +36,7 @@ fn lines_of_names(rt: HostRuntime) -> Result<(), Fail> {
 fn long_broken_file(rt: HostRuntime) -> Result<(), Fail> {
     let text = repeated(rt.alloc(), 'x', 9000)?;
     let row = ("md5sum f", "", "md5sum: f: Input/output error\n", 1);
-    assert_broken(&rt, text.as_bytes(), Fault::Other, row)
+    assert_broken(&rt, "f", text.as_bytes(), Fault::Other, row)
 }
 
 // Each line writes its tool's name and the text, then where to read more, and nothing else; the status is 1.
@@ -156,7 +159,9 @@ fn nothing_verified(rt: HostRuntime) -> Result<(), Fail> {
         "md5sum: standard input: no properly formatted checksum lines found\n",
         1,
     )];
-    assert_rows(&rt, "MD5 (a) = junk\n", &[], &rows)?;
+    for input in ["$M  -\n", "MD5 (a) = junk\n"] {
+        assert_rows(&rt, input, &[], &rows)?;
+    }
     let rows = [(
         "anysum -c",
         "",
@@ -168,26 +173,16 @@ fn nothing_verified(rt: HostRuntime) -> Result<(), Fail> {
 
 #[test]
 fn settings_of_reports(rt: HostRuntime) -> Result<(), Fail> {
-    let missing = "md5sum: x: No such file or directory\n";
-    let warned = "md5sum: x: No such file or directory\n\
-        md5sum: WARNING: 1 line is improperly formatted\n\
-        md5sum: WARNING: 1 listed file could not be read\n\
-        md5sum: WARNING: 1 computed checksum did NOT match\n";
     let mixed = "anysum: WARNING: 2 lines are improperly formatted\n";
     let rows = [
-        (
-            "md5sum -c l",
-            "a: OK\nx: FAILED open or read\ne: FAILED\n",
-            warned,
-            1,
-        ),
+        ("md5sum -c l", REPORTS, WARNINGS, 1),
         (
             "md5sum -c --quiet l",
             "x: FAILED open or read\ne: FAILED\n",
-            warned,
+            WARNINGS,
             1,
         ),
-        ("md5sum -c --status l", "", missing, 1),
+        ("md5sum -c --status l", "", MISSING, 1),
         ("md5sum -c l5", "-: OK\n", "", 0),
         (
             "md5sum -c l5 l5",
@@ -205,14 +200,7 @@ fn settings_of_reports(rt: HostRuntime) -> Result<(), Fail> {
             0,
         ),
     ];
-    let manifests = [
-        ("l", VERDICTS),
-        ("l5", "$M  -\n"),
-        (
-            "m",
-            "MD5 (a) = $M\nSHA256 (a) = $S\nBLAKE2b-256 (e) = $B\n$M  a\nSHA256 (e) = $E\n",
-        ),
-    ];
+    let manifests = [("l", VERDICTS), ("l5", "$M  -\n"), ("m", MIXED)];
     assert_rows(&rt, "abc", &manifests, &rows)
 }
 

@@ -12,12 +12,25 @@ fn help_of(tool: Tool) -> Result<ToldSink<1024>, Fail> {
     Ok(out)
 }
 
+fn text_of(help: &ToldSink<1024>) -> Result<&str, Fail> {
+    Ok(str::from_utf8(help.bytes()).ok().ok_or("not a text")?)
+}
+
+#[test]
+fn help(rt: HostRuntime) -> Result<(), Fail> {
+    for (line, tool) in [
+        ("md5sum --help --foo", Tool::Md5sum),
+        ("b2sum --help -l", Tool::B2sum),
+    ] {
+        let help = help_of(tool)?;
+        assert_rows(&rt, "abc", &[], &[(line, text_of(&help)?, "", 0)])?;
+    }
+    Ok(())
+}
+
 #[test]
 fn what_words_ask_for(rt: HostRuntime) -> Result<(), Fail> {
-    let help = help_of(Tool::Md5sum)?;
-    let help = str::from_utf8(help.bytes()).ok().ok_or("not a text")?;
     let rows = [
-        ("md5sum --help --foo", help, "", 0),
         ("md5sum --version", "md5sum (digests), profile 2\n", "", 0),
         ("b2sum -bl256 e", "$B *e\n", "", 0),
         // BLAKE2b of one byte (RFC 7693), of nothing.
