@@ -27,10 +27,12 @@ named : (t : Tool) (flag : Flag) → takes_none flag ≡ true
 named = search rules
 
 -- how its word is read
-abbrev IsLong : Flag → Type 0
-IsLong flag = (takes_value flag ≡ false) × (name_part (full_name flag) ≡ full_name flag)
-    × (value_part (full_name flag) ≡ None) × (bytes_eq (codes "--" ++ full_name flag) (codes "--") ≡ false)
-    × (is_utf8 (codes "--" ++ full_name flag) ≡ true)
+record IsLong (flag : Flag) : Type 0 where
+  no_value : takes_value flag ≡ false
+  name : name_part (full_name flag) ≡ full_name flag
+  value : value_part (full_name flag) ≡ None
+  more : bytes_eq (codes "--" ++ full_name flag) (codes "--") ≡ false
+  text : is_utf8 (codes "--" ++ full_name flag) ≡ true
 
 is-long : (flag : Flag) → takes_none flag ≡ true → IsLong flag
 unfolding chars encode is_utf8
@@ -45,7 +47,7 @@ long_word : (t : Tool) (flag : Flag) (more : List ByteString) → takes_none fla
     → items_from t a_word ((codes "--" ++ full_name flag) ∷ more) ≡ option flag ∷ items_from t a_word more
 long_word t flag more h =
     let long = is-long flag h in
-    rw (long.3, long.4, long.1, long.2, long_name t flag h, long.0) refl
+    rw (long.more, long.text, long.name, long.value, long_name t flag h, long.no_value) refl
 
 long_words : (t : Tool) (fs : List Flag) (more : List ByteString) → list_all takes_none fs ≡ true
     → items_from t a_word (map (λ f. codes "--" ++ full_name f) fs ++ more) ≡ map option fs ++ items_from t a_word more

@@ -12,24 +12,24 @@ use Rattle.digests.specs.Meaning.{status_of}
 use Rattle.digests.specs.refinement.Operands.{status_after_write}
 
 -- texts alone were written, or a prefix of them
-pub texts_performed : {S E : Type 0} (state : S → SourceState) (a : StreamsState S) (outputs : OutputsState)
+pub Performs-texts : {S E : Type 0} (state : S → SourceState) (a : StreamsState S) (outputs : OutputsState)
     (err out : ByteString) (good : Bool) (r : Result (Unit {0}) E) → WritesAndFlushesBoth a.outputs outputs err out r
     → Performs state (λ w. single_step [] err out good) status_of a (record a { outputs = outputs })
     (status_after_write r (status_of good))
-texts_performed state a outputs err out good (Ok u) h =
+Performs-texts state a outputs err out good (Ok u) h =
     Performs-step state (λ w. single_step [] err out good) [] err out good status_of a
     (record a { outputs = outputs }) (Ok u)
     (InSomeWorld-none state a.inputs) (λ w v same. (refl, asks_none same (asked_none (state a.inputs.source)) refl refl))
     h
-texts_performed state a outputs err out good (Err e) h =
+Performs-texts state a outputs err out good (Err e) h =
     Performs-step state (λ w. single_step [] err out good) [] err out good status_of a
     (record a { outputs = outputs }) (Err tt)
     (InSomeWorld-none state a.inputs) (λ w v same. (refl, asks_none same (asked_none (state a.inputs.source)) refl refl))
     h
 
 -- a call that writes them accounts for its stop
-pub texts_cause : {S E : Type 0} (state : S → SourceState) (Changes : ℕ → ℕ → Type 0) (a : StreamsState S)
+pub StopHasCause-texts : {S E : Type 0} (state : S → SourceState) (Changes : ℕ → ℕ → Type 0) (a : StreamsState S)
     (outputs : OutputsState) (err out : ByteString) (status : ℕ) (r : Result (Unit {0}) E)
     → WritesAndFlushesBoth a.outputs outputs err out r
     → StopHasCause state Changes a (record a { outputs = outputs }) (status_after_write r status)
-texts_cause = search rules
+StopHasCause-texts = search rules

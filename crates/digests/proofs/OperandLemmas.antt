@@ -7,7 +7,7 @@ use Rattle.sum_sources.specs.Contents.{SourceState}
 use Rattle.sum_engine.proofs.WorldLemmas.{InSomeWorld-map, InSomeWorld-then}
 use Rattle.sum_engine.specs.declared.stop.Stop.{Stop}
 use Rattle.sum_engine.specs.Behavior.{World, after, Behavior, behavior_then, trace, asks}
-use Rattle.sum_engine.specs.Execution.{InputsState, StreamsState, IsFlushed, InSomeWorld}
+use Rattle.sum_engine.specs.Execution.{InputsState, StreamsState, WorldState, IsFlushed, InSomeWorld}
 use Rattle.sum_engine.specs.Execution.{in_world, Happened, Performs, PerformsSteps, ReadToEnd}
 use Rattle.sum_engine.proofs.ExecutionLemmas.{Happened-none}
 use Rattle.sum_engine.proofs.ReadToEndLemmas.{ReadToEnd-trans}
@@ -18,7 +18,7 @@ use Rattle.sum_words.specs.declared.tool.Tool.{Tool}
 use Rattle.sum_words.specs.Tools.{name_of}
 use Rattle.digests.specs.Meaning.{operands_behavior, or_dash, status_of}
 use Rattle.digests.specs.declared.run.Job.{Job}
-use Rattle.digests.specs.refinement.Operands.{OperandsDone, operand_behavior}
+use Rattle.digests.specs.refinement.Operands.{operand_behavior}
 
 -- ---- behaviors, one after another
 
@@ -35,6 +35,14 @@ behavior_then-nothing : (a : Behavior) → behavior_then a nothing ≡ a
 behavior_then-nothing a = rw (append-nil a.steps, and-true a.good) refl
 
 -- ---- operands, one after another
+
+-- the behavior of the operands before the rest happened, and was good or not
+pub record OperandsDone (one : World → ByteString → Behavior) (names rest : List ByteString) (a b : WorldState)
+    (good : Bool) : Type 0 where
+  pub done : Behavior
+  pub total : operands_behavior one a.world names ≡ behavior_then done (operands_behavior one b.world rest)
+  pub happened : Happened a b (trace done.steps)
+  pub is : good ≡ done.good
 
 -- one of the operands, and all of their names
 pub record Operands : Type 0 where

@@ -26,63 +26,63 @@ none_since : (a b c : OutputsState) (x y : ℕ) → FailuresMatch a b (Ok x) →
 none_since = search rules
 
 -- nothing more was done
-did_kept : {a b : WorldState} (es : List Event) (outputs : OutputsState) → Happened a b es
+Happened-kept : {a b : WorldState} (es : List Event) (outputs : OutputsState) → Happened a b es
     → KeepsBoth b.outputs outputs → Happened a (record b { outputs = outputs }) es
-did_kept {a} {b} es outputs h kept = search rules
+Happened-kept {a} {b} es outputs h kept = search rules
 
 -- so a run that didn't stop is still done, once both outputs were flushed
-performs-kept : {S : Type 0} (state : S → SourceState) (run : World → Behavior) (a b : StreamsState S)
+Performs-kept : {S : Type 0} (state : S → SourceState) (run : World → Behavior) (a b : StreamsState S)
     (outputs : OutputsState) (x : ℕ) → Performs state run status_of a b (Ok x) → KeepsBoth b.outputs outputs
     → Performs state run status_of a (record b { outputs = outputs }) (Ok x)
-performs-kept state run a b outputs x ran kept = λ flushed.
-    InSomeWorld-map (ran flushed) (λ w v p. (p.0, did_kept (trace (run w).steps) outputs p.1 kept))
+Performs-kept state run a b outputs x ran kept = λ flushed.
+    InSomeWorld-map (ran flushed) (λ w v p. (p.0, Happened-kept (trace (run w).steps) outputs p.1 kept))
 
 -- or it failed after all events
-performs-failed : {S : Type 0} (state : S → SourceState) (run : World → Behavior) (a b : StreamsState S) (x : ℕ)
+Performs-failed : {S : Type 0} (state : S → SourceState) (run : World → Behavior) (a b : StreamsState S) (x : ℕ)
     → Performs state run status_of a b (Ok x) → Performs state run status_of a b (Err Write)
-performs-failed state run a b x ran = λ flushed.
+Performs-failed state run a b x ran = λ flushed.
     InSomeWorld-map (ran flushed) (λ w v p. (trace (run w).steps, ([], sym (append-nil (trace (run w).steps))), p.1))
 
 -- a run and its end, by the run's answer and what the flushes returned; b is how things stood between
-pub program_ends : {S : Type 0} (state : S → SourceState) (status : ℕ) (line : Option CommandLineValue)
+pub CallPerforms-finished : {S : Type 0} (state : S → SourceState) (status : ℕ) (line : Option CommandLineValue)
     (a b : StreamsState S) (outputs : OutputsState) (answer : Result ℕ Stop)
     → Performs state (call_behavior line) status_of a b answer → FailuresMatch a.outputs b.outputs answer
     → FinishesRun (call_stop_line line) answer b.outputs outputs status
     → CallPerforms state line a (record b { outputs = outputs }) status
-program_ends state status line a b outputs (Ok x) ran failed (Ok y, m, flushed, kept, reports) = (
+CallPerforms-finished state status line a b outputs (Ok x) ran failed (Ok y, m, flushed, kept, reports) = (
   Ok y,
   record b { outputs = m },
-  rw flushed.0 (performs-kept state (call_behavior line) a b m x ran kept),
+  rw flushed.0 (Performs-kept state (call_behavior line) a b m x ran kept),
   none_since a.outputs b.outputs m x y failed flushed.1,
   refl,
   reports,
 )
-program_ends state status line a b outputs (Ok x) ran failed (Err Write, m, flushed, kept, reports) = (
+CallPerforms-finished state status line a b outputs (Ok x) ran failed (Err Write, m, flushed, kept, reports) = (
   Err Write,
   record b { outputs = m },
-  performs-failed state (call_behavior line) a (record b { outputs = m }) x
-      (performs-kept state (call_behavior line) a b m x ran kept),
+  Performs-failed state (call_behavior line) a (record b { outputs = m }) x
+      (Performs-kept state (call_behavior line) a b m x ran kept),
   failed_since a.outputs b.outputs m x failed flushed,
   refl,
   reports,
 )
-program_ends state status line a b outputs (Ok x) ran failed (Err Memory, m, flushed, kept, reports) = absurd flushed
-program_ends state status line a b outputs (Err stop) ran failed (later, m, flushed, kept, reports) =
+CallPerforms-finished state status line a b outputs (Ok x) ran failed (Err Memory, m, flushed, kept, reports) = absurd flushed
+CallPerforms-finished state status line a b outputs (Err stop) ran failed (later, m, flushed, kept, reports) =
     (Err stop, b, ran, failed, refl, rw (flushed.0, flushed.1) at reports)
 
 -- ---- by what was read of the arguments
 
 -- the command line is what they say
-pub program_read : {S : Type 0} (state : S → SourceState) (a b : StreamsState S) (status : ℕ)
+pub ProgramPerforms-read : {S : Type 0} (state : S → SourceState) (a b : StreamsState S) (status : ℕ)
     (known : Option (List ByteString)) (c : CommandLineValue) → IfSome known (λ all. command_line all ≡ c)
     → (IsFlushed a.outputs → CallPerforms state (Some c) a b status) → ProgramPerforms state known a b status
-program_read state a b status None c is h = λ flushed. tt
-program_read state a b status (Some arguments) c is h = λ flushed.
+ProgramPerforms-read state a b status None c is h = λ flushed. tt
+ProgramPerforms-read state a b status (Some arguments) c is h = λ flushed.
     inl (subst (λ line. CallPerforms state (Some line) a b status) (sym is) (h flushed))
 
 -- it couldn't be read
-pub program_unread : {S : Type 0} (state : S → SourceState) (a b : StreamsState S) (status : ℕ)
+pub ProgramPerforms-unread : {S : Type 0} (state : S → SourceState) (a b : StreamsState S) (status : ℕ)
     (known : Option (List ByteString)) → IfSome known NeedsMemory
     → (IsFlushed a.outputs → CallPerforms state None a b status) → ProgramPerforms state known a b status
-program_unread state a b status None memory h = λ flushed. tt
-program_unread state a b status (Some arguments) memory h = λ flushed. inr (memory, h flushed)
+ProgramPerforms-unread state a b status None memory h = λ flushed. tt
+ProgramPerforms-unread state a b status (Some arguments) memory h = λ flushed. inr (memory, h flushed)

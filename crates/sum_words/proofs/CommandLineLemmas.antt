@@ -10,7 +10,7 @@ use Rattle.std.proofs.lemmas.List.{append-nil, append_assoc}
 use Rattle.sum_words.specs.Items.{ByteString}
 use Rattle.memchr.specs.Find.{Passes, Nowhere, is_byte}
 use Rattle.sum_words.specs.CommandLines.{last_part, NeedsMemory}
-use Rattle.sum_words.specs.refinement.Arguments.{ArgumentIs, WordsUpTo, WordsAre, IsLonger}
+use Rattle.sum_words.specs.refinement.Arguments.{ArgumentIs, WordsAre, IsLonger}
 
 -- ---- the last part of a path
 
@@ -65,6 +65,10 @@ longer_unread None place h = tt
 longer_unread (Some all) place h = inr (longer all place h)
 
 -- ---- the words, one after another
+
+-- the words are the arguments from the first place up to another
+abbrev pub WordsUpTo : Option (List ByteString) → ℕ → ℕ → List ByteString → Type 0
+WordsUpTo known first place words = IfSome known (λ all. drop first all ≡ words ++ drop place all)
 
 -- one more word was read
 pub words_more : (known : Option (List ByteString)) (first place : ℕ) (words : List ByteString) (word : ByteString)

@@ -1,9 +1,10 @@
 -- Plain words are operands.
-use Rattle.std.proofs.Common.{rules, ◌≡◌, true, false, Bool, not, List, [], ◌∷◌, ◌++◌, codes, refl, ap, ◌∙◌, bytes_eq}
+use Rattle.std.proofs.Common.{rules, ◌≡◌, true, false, Bool, not, List, [], ◌∷◌, ◌++◌, map, codes, refl, ap, ◌∙◌}
+use Rattle.std.proofs.Common.{bytes_eq}
+use Rattle.std.specs.List.{AllPass}
 use Rattle.std.proofs.lemmas.List.Elements.{All-head, All-tail}
 use Rattle.sum_words.specs.declared.tool.Tool.{Tool}
 use Rattle.sum_words.specs.Items.{ByteString, operand, a_word, is_option_word, items_from}
-use Rattle.sum_words.specs.PlainWords.{PlainWordsAreOperands}
 
 -- a word that doesn't begin with a dash, or is a dash alone
 abbrev is_plain : ByteString → Bool
@@ -19,7 +20,8 @@ plain_word : (t : Tool) (word : ByteString) (more : List ByteString) → is_plai
 plain_word t word more h = rw (no_dashes word h, h) refl
 
 -- plain words are operands, whatever follows them
-pub plain_words : PlainWordsAreOperands
+pub plain_words : (t : Tool) (words more : List ByteString) → AllPass is_plain words
+    → items_from t a_word (words ++ more) ≡ map operand words ++ items_from t a_word more
 plain_words t [] more h = refl
 plain_words t (word ∷ words) more h =
     plain_word t word (words ++ more) (All-head (λ w. is_plain w ≡ true) word words h)

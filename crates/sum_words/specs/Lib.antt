@@ -4,5 +4,4 @@ pub mod Items
 pub mod Request
 pub mod Texts
 pub mod CommandLines
-pub mod PlainWords
 pub mod refinement

@@ -1,10 +1,15 @@
 //! Laws of the definitions: each is the contract of a function that does nothing.
-ghost use Rattle.sum_words.specs.PlainWords.{PlainWordsAreOperands, WordsAfterDashesAreOperands};
+ghost use Rattle.std.specs.Prelude.{◌≡◌, not, List, ◌∷◌, ◌++◌, map, codes};
+ghost use Rattle.std.specs.List.{AllPass};
+ghost use Rattle.sum_words.specs.declared.tool.Tool.{Tool};
+ghost use Rattle.sum_words.specs.Items.{ByteString, operand, a_word, is_option_word, items_from};
 
 /// The first words, as long as each is `-` or doesn't begin with a dash, are operands in their order, whatever follows
 /// them; and after `--` every word is one.
 #[tactic(auto, using(crate::proofs::PlainWordLemmas::plain_words))]
 pub fn plain_words_are_operands()
-    ensures plain { PlainWordsAreOperands }
-    ensures after_dashes { WordsAfterDashesAreOperands }
+    ensures plain { (t : Tool) (words more : List ByteString) → AllPass (λ word. not (is_option_word word)) words →
+        items_from t a_word (words ++ more) ≡ map operand words ++ items_from t a_word more }
+    ensures after_dashes { (t : Tool) (words : List ByteString) →
+        items_from t a_word (codes "--" ∷ words) ≡ map operand words }
 {}

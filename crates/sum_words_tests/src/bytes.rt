@@ -32,7 +32,11 @@ fn assert_fault(
     want: Option<WordFault<'_>>,
 ) -> Result<(), Fail> {
     let words = words_and(rt.alloc(), line, word)?;
-    assert_eq!(rt; asked(Tool::B2sum, &words).err(), want, "in {line} {word:?}");
+    assert_eq!(rt;
+        asked(Tool::B2sum, &words).err(),
+        want,
+        "in {line} {word:?}"
+    );
     Ok(())
 }
 

@@ -22,7 +22,10 @@ fn assert_asks(
 // That these arguments call for an unknown tool.
 fn assert_unknown(rt: &(impl Abort + AllocGlobal), arguments: &[&[u8]]) {
     let line = read_command_line(rt.alloc(), &ToldArguments::new(arguments));
-    assert!(rt; matches!(line, Ok(CommandLine::UnknownTool)), "{line:?} of {arguments:?}");
+    assert!(rt;
+        matches!(line, Ok(CommandLine::UnknownTool)),
+        "{line:?} of {arguments:?}"
+    );
 }
 
 // The program's name, the tool's and other words may hold any bytes.

@@ -102,7 +102,11 @@ fn words_that_are_no_texts(rt: HostRuntime) -> Result<(), Fail> {
         lines.extend_from_slice(b"b2sum: unrecognized option '")?;
         lines.extend_from_slice(shown)?;
         lines.extend_from_slice(b"'\nTry 'b2sum --help' for more information.\n")?;
-        assert_eq!(rt; fault_of(Tool::B2sum, &words)?.bytes(), lines.as_slice(), "of {word:?}");
+        assert_eq!(rt;
+            fault_of(Tool::B2sum, &words)?.bytes(),
+            lines.as_slice(),
+            "of {word:?}"
+        );
     }
     Ok(())
 }

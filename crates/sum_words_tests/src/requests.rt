@@ -37,12 +37,7 @@ fn checking<'a>(
 }
 
 /// That these are the operands of a line.
-pub(crate) fn assert_operands(
-    rt: &impl Abort,
-    line: &str,
-    mut operands: Operands,
-    want: &[&[u8]],
-) {
+pub(crate) fn assert_operands(rt: &impl Abort, line: &str, mut operands: Operands, want: &[&[u8]]) {
     for operand in want {
         assert_eq!(rt; operands.next(), Some(*operand), "in {line}");
     }

@@ -2,9 +2,7 @@
 use std::test::Fail;
 use sum_engine::Stop;
 use sum_lines::{SinkFault, ToldSink};
-use sum_words::{
-    Tool, UnknownTool, put_help, put_not_read, put_stop, put_unknown, put_version,
-};
+use sum_words::{Tool, UnknownTool, put_help, put_not_read, put_stop, put_unknown, put_version};
 
 #[test]
 fn tools(rt: HostRuntime) -> Result<(), Fail> {

@@ -1,15 +1,14 @@
 -- Relates the calls of a run to its operands.
-use Rattle.std.specs.Prelude.{ℕ, ◌≡◌, Bool, List, Result, Ok, Err}
+use Rattle.std.specs.Prelude.{ℕ, Result, Ok, Err}
 use Rattle.sum_engine.specs.declared.stop.Stop.{Stop}
 use Rattle.sum_engine.specs.declared.stop.Stop.TheVariants.{Write}
-use Rattle.sum_engine.specs.Behavior.{World, Behavior, behavior_then, trace}
-use Rattle.sum_engine.specs.Execution.{WorldState, Happened, OneMore, OneMoreAtMost}
+use Rattle.sum_engine.specs.Behavior.{World, Behavior}
+use Rattle.sum_engine.specs.Execution.{OneMore, OneMoreAtMost}
 use Rattle.sum_engine.specs.Generation.{generate_behavior}
 use Rattle.sum_engine.specs.check.Checking.{check_behavior}
 use Rattle.sum_words.specs.Items.{ByteString}
 use Rattle.digests.specs.declared.run.Job.{Job}
 use Rattle.digests.specs.declared.run.Job.TheVariants.{Generate, Check}
-use Rattle.digests.specs.Meaning.{operands_behavior}
 
 -- the behavior of one operand of a job
 abbrev pub operand_behavior : Job → ByteString → World → ByteString → Behavior
@@ -20,14 +19,6 @@ operand_behavior (Check settings) tool w name = check_behavior settings tool w n
 abbrev pub RefusalsOfJob : Job → ℕ → ℕ → Type 0
 RefusalsOfJob (Generate settings) = OneMore
 RefusalsOfJob (Check settings) = OneMoreAtMost
-
--- the behavior of the operands before the rest happened, and was good or not
-pub record OperandsDone (one : World → ByteString → Behavior) (names rest : List ByteString) (a b : WorldState)
-    (good : Bool) : Type 0 where
-  pub done : Behavior
-  pub total : operands_behavior one a.world names ≡ behavior_then done (operands_behavior one b.world rest)
-  pub happened : Happened a b (trace done.steps)
-  pub is : good ≡ done.good
 
 -- the status after a text was written
 abbrev pub status_after_write : {U E : Type 0} → Result U E → ℕ → Result ℕ Stop

@@ -1,5 +1,5 @@
 -- Relates the reading of the arguments to their list. Each definition holds if the arguments aren't known.
-use Rattle.std.specs.Prelude.{ℕ, ◌≡◌, ◌<◌, List, ◌++◌, take, drop, length, slice_get, Option, None, Some, IfSome}
+use Rattle.std.specs.Prelude.{ℕ, ◌≡◌, ◌<◌, List, take, drop, length, slice_get, Option, None, Some, IfSome}
 use Rattle.std.specs.Prelude.{IsSomeAnd, Result, Ok, Err, ⊤}
 use Rattle.std.specs.declared.env.FillError.{FillError}
 use Rattle.std.specs.declared.env.FillError.TheVariants.{NotPresent, TooLong}
@@ -26,10 +26,6 @@ IsLonger known place n = IfSome known (λ all. IsSomeAnd (slice_get all place) (
 -- the words are the arguments from a place on
 abbrev pub WordsAre : Option (List ByteString) → ℕ → List ByteString → Type 0
 WordsAre known place words = IfSome known (λ all. words ≡ drop place all)
-
--- the words are the arguments from the first place up to another
-abbrev pub WordsUpTo : Option (List ByteString) → ℕ → ℕ → List ByteString → Type 0
-WordsUpTo known first place words = IfSome known (λ all. drop first all ≡ words ++ drop place all)
 
 -- the value of a `CommandLine`
 abbrev pub command_line_value : {A : Type 0} → CommandLine A → CommandLineValue

@@ -1,7 +1,7 @@
 use Rattle.std.proofs.Common.{◌≡◌, Some, None, [], false}
 use Rattle.sum_words.specs.CommandLines.{invoke, unknown_tool}
-use Rattle.digests.proofs.MessageLemmas.{texts_performed, texts_cause}
-use Rattle.digests.proofs.ProgramLemmas.{program_ends, program_read, program_unread}
+use Rattle.digests.proofs.MessageLemmas.{Performs-texts, StopHasCause-texts}
+use Rattle.digests.proofs.ProgramLemmas.{CallPerforms-finished, ProgramPerforms-read, ProgramPerforms-unread}
 use Rattle.digests.proofs.command.command.Goals as goal
 
 -- the tool was run
@@ -10,8 +10,8 @@ returns-in-Ok-Invoke-clause-behavior g c =
     let line = invoke c.in-Ok-Invoke.tool c.in-Ok-Invoke.words in
     let read = rw c.in-Ok-Invoke.field-0-is at c.in-Ok-Invoke.ensures.line in
     let ran = c.run-outcome.ensures in
-    program_read g.S.Source.state c.args.streams.now _ c.finish_run.result _ line read (λ hold.
-    program_ends g.S.Source.state c.finish_run.result (Some line) c.args.streams.now c.run-outcome.new.streams
+    ProgramPerforms-read g.S.Source.state c.args.streams.now _ c.finish_run.result _ line read (λ hold.
+    CallPerforms-finished g.S.Source.state c.finish_run.result (Some line) c.args.streams.now c.run-outcome.new.streams
     c.finish_run.new.outputs c.run-outcome.result ran.behavior ran.failures
     (c.finish_run.ensures.finish (ran.flushed hold)))
 
@@ -23,11 +23,11 @@ returns-in-Ok-UnknownTool-clause-behavior g c =
     let first = c.args.streams.now in
     let wrote = c.put_err_message in
     let next = record first { outputs = wrote.new.outputs } in
-    program_read g.S.Source.state first _ c.finish_run-in-Ok-UnknownTool.result _ unknown_tool read (λ hold.
-    program_ends g.S.Source.state c.finish_run-in-Ok-UnknownTool.result (Some unknown_tool) first next
+    ProgramPerforms-read g.S.Source.state first _ c.finish_run-in-Ok-UnknownTool.result _ unknown_tool read (λ hold.
+    CallPerforms-finished g.S.Source.state c.finish_run-in-Ok-UnknownTool.result (Some unknown_tool) first next
     c.finish_run-in-Ok-UnknownTool.new.outputs _
-    (texts_performed g.S.Source.state first wrote.new.outputs _ [] false wrote.result wrote.ensures)
-    (texts_cause g.S.Source.state (λ n m. m ≡ n) first wrote.new.outputs _ [] 1 wrote.result wrote.ensures).failures
+    (Performs-texts g.S.Source.state first wrote.new.outputs _ [] false wrote.result wrote.ensures)
+    (StopHasCause-texts g.S.Source.state (λ n m. m ≡ n) first wrote.new.outputs _ [] 1 wrote.result wrote.ensures).failures
     (closed (wrote.ensures.1 hold).0))
 
 -- the words couldn't be read: another line says so
@@ -37,8 +37,8 @@ returns-in-Err-clause-behavior g c =
     let first = c.args.streams.now in
     let wrote = c.put_err_message-in-Err in
     let next = record first { outputs = wrote.new.outputs } in
-    program_unread g.S.Source.state first _ c.finish_run-in-Err.result _ c.in-Err.ensures.not_read (λ hold.
-    program_ends g.S.Source.state c.finish_run-in-Err.result None first next c.finish_run-in-Err.new.outputs _
-    (texts_performed g.S.Source.state first wrote.new.outputs _ [] false wrote.result wrote.ensures)
-    (texts_cause g.S.Source.state (λ n m. m ≡ n) first wrote.new.outputs _ [] 1 wrote.result wrote.ensures).failures
+    ProgramPerforms-unread g.S.Source.state first _ c.finish_run-in-Err.result _ c.in-Err.ensures.not_read (λ hold.
+    CallPerforms-finished g.S.Source.state c.finish_run-in-Err.result None first next c.finish_run-in-Err.new.outputs _
+    (Performs-texts g.S.Source.state first wrote.new.outputs _ [] false wrote.result wrote.ensures)
+    (StopHasCause-texts g.S.Source.state (λ n m. m ≡ n) first wrote.new.outputs _ [] 1 wrote.result wrote.ensures).failures
     (closed (wrote.ensures.1 hold).0))

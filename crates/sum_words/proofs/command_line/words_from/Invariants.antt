@@ -1,6 +1,5 @@
 use Rattle.std.proofs.Common.{◌<◌}
-use Rattle.sum_words.specs.refinement.Arguments.{WordsUpTo}
-use Rattle.sum_words.proofs.CommandLineLemmas.{HasArgument}
+use Rattle.sum_words.proofs.CommandLineLemmas.{WordsUpTo, HasArgument}
 use Rattle.sum_words.proofs.command_line.words_from.Given as goal
 
 -- the words before the place were read, and past the first place there is one
