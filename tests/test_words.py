@@ -51,7 +51,7 @@ class Texts(Case):
     def test_the_list_of_tools(self):
         """tools/tools.txt has the tools of the code, in its order; GNU has those that it is to have, and no other."""
         variants = next(parts_of(it) for it in Code().items if (it.kind, it.name) == ("enum", "Tool"))
-        self.assertEqual([name.replace("_", "") for name in NAMES], [it.lower() for it in variants])
+        self.assertEqual(*([it.replace("_", "").lower() for it in names] for names in (NAMES, variants)))
         for tool, it in options.TOOLS.items():
             self.assertEqual(4 * len(self.run_words([tool]).out.partition(b" ")[0]), it.bits or 0)
             if gnu("md5sum"):

@@ -50,10 +50,10 @@ def part_of(block):
 
 def page_of(name, source, words, made):
     """The page of that name by its text in pages/, with these words in the place of @such@, and with made parts."""
-    sections = []
+    sections, called = [], {name, "GNU" if name in TOOLS and TOOLS[name].of_gnu else "ours"}
     for block in text_of("tools", "pages", source).rstrip("\n").split("\n\n")[1:]:
         condition = re.match(r"\[(!?)([\w ]+)\]\n", block)
-        if condition and (name in condition[2].split()) == bool(condition[1]):
+        if condition and called.isdisjoint(condition[2].split()) != bool(condition[1]):
             continue
         block = re.sub(r"@(\w+)@", lambda it: words.get(it[1], it[0]), block[condition.end() if condition else 0:])
         if block.startswith("# "):
@@ -121,7 +121,7 @@ def page_of_tool(tool, known, said):
 def page_of_program():
     """The page of the program that has all tools in it."""
     tools = [item(f"`{tool}`", f"{it.tag} ({it.standard}), {it.bits} bits{FEWER * (tool == 'b2sum')}" if it.tag else
-                  "checks lists of all these", "12") for tool, it in TOOLS.items()]
+                  "checks lists of all these", str(max(map(len, TOOLS)) + 3)) for tool, it in TOOLS.items()]
     uses = ("`digests` {TOOL} [{OPTION}]... [{FILE}]...", "{TOOL} [{OPTION}]... [{FILE}]...")
     return page_of("digests", "digests.txt", {}, {
         "NAME": [["digests \\- print or check checksums"]], "SYNOPSIS": [[".nf", *map(inline, uses), ".fi"]],
