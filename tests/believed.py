@@ -1,5 +1,5 @@
 #!/usr/bin/env python3
-"""What a reader has to believe: what the contract of a function says, down to its last definition, by their names.
+"""What a reader has to believe: what the contract of a function says, down to the last definition that it reaches.
 
     tests/believed.py            prints, for the headline and the program, the files, each with its lines
     tests/believed.py --text     prints it all, and the laws, the contract first, each definition before those that it
