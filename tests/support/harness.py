@@ -155,7 +155,7 @@ class Case(unittest.TestCase):
                 shown = ((name, it) for name, it in frame.f_locals.items() if not callable(it) and len(repr(it)) < 200)
                 row = {**dict(shown), **row}
             frame = frame.f_back
-        return f"{super()._formatMessage(msg, standardMsg)}\nwhere {row}"
+        return super()._formatMessage(msg, standardMsg) + (f"\nwhere {row}" if row else "")
 
     def too_long(self, *_):
         raise TooLong(f"a test took longer than {TEST_SECONDS} seconds")
