@@ -5,7 +5,7 @@ ghost use Rattle.digests.specs.GenerationRuns.{WrittenIsGood, JoinedIsGood};
 /// `--check`, any settings of checking, `--` and the manifest ends with status 0, and writes an `OK` for each name, if
 /// the settings show it, and nothing else. So does that of `anysum`, if the lines are tagged. No name is empty, is `-`
 /// or contains a NUL. Each file could be read to its end, has fewer than 2^61 bytes and stays as it was. The manifest
-/// may have any name; it has fewer than 2^61 bytes, too.
+/// has fewer than 2^61 bytes, too.
 pub fn written_is_good()
     ensures { WrittenIsGood }
 {}
