@@ -38,7 +38,8 @@ pub(crate) struct Front {
     pub(crate) start: usize,
 }
 
-/// What precedes the line's text.
+/// What precedes the line's text. A call of its own, so that an ignored line needs no room for it.
+#[inline(never)]
 pub(crate) fn front_of(line: &[u8]) -> Front
     ensures { IsFront line.now result }
 {
