@@ -51,15 +51,8 @@ pub record CheckState : Type 0 where
 
 -- before the first line
 abbrev pub initial_state : Content → World → CheckState
-initial_state c w = record {
-  rest = c;
-  number = 0;
-  consumed = 0;
-  taken = 0;
-  form = Undecided;
-  counts = no_counts;
-  world = w;
-}
+initial_state c w =
+    record { rest = c; number = 0; consumed = 0; taken = 0; form = Undecided; counts = no_counts; world = w }
 
 -- the next line's verdict
 abbrev pub next_judged : Rules → CheckState → List ℕ → LineVerdictValue
