@@ -9,10 +9,11 @@ fn assert_asks(
     arguments: &[&[u8]],
     (want, first): (Tool, &[u8]),
 ) -> Result<(), Fail> {
+    let called = format!(in rt.alloc(); "{arguments:?}")?;
     match read_command_line(rt.alloc(), &ToldArguments::new(arguments)) {
         Ok(CommandLine::Invoke(tool, words)) => {
-            assert_eq!(rt; tool, want, "of {arguments:?}");
-            assert_eq!(rt; words.get(0), Some(first), "of {arguments:?}");
+            assert_eq!(rt; tool, want, "of {}", called.as_str());
+            assert_eq!(rt; words.get(0), Some(first), "of {}", called.as_str());
             Ok(())
         }
         _ => Err(Fail::from("not asked for")),
