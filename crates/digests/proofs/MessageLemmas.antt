@@ -19,12 +19,20 @@ pub Performs-texts : {S E : Type 0} (state : S → SourceState) (a : StreamsStat
 Performs-texts state a outputs err out good (Ok u) h =
     Performs-step state (λ w. single_step [] err out good) [] err out good status_of a
     (record a { outputs = outputs }) (Ok u)
-    (InSomeWorld-none state a.inputs) (λ w v same. (refl, asks_none same (asked_none (state a.inputs.source)) refl refl))
+    (InSomeWorld-none state a.inputs) (λ w v same. (
+      refl,
+      asks_none same (asked_none (state a.inputs.source))
+          refl refl,
+    ))
     h
 Performs-texts state a outputs err out good (Err e) h =
     Performs-step state (λ w. single_step [] err out good) [] err out good status_of a
     (record a { outputs = outputs }) (Err tt)
-    (InSomeWorld-none state a.inputs) (λ w v same. (refl, asks_none same (asked_none (state a.inputs.source)) refl refl))
+    (InSomeWorld-none state a.inputs) (λ w v same. (
+      refl,
+      asks_none same (asked_none (state a.inputs.source))
+          refl refl,
+    ))
     h
 
 -- a call that writes them accounts for its stop

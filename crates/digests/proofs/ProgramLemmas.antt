@@ -66,7 +66,8 @@ CallPerforms-finished state status line a b outputs (Ok x) ran failed (Err Write
   refl,
   reports,
 )
-CallPerforms-finished state status line a b outputs (Ok x) ran failed (Err Memory, m, flushed, kept, reports) = absurd flushed
+CallPerforms-finished state status line a b outputs (Ok x) ran failed (Err Memory, m, flushed, kept, reports) =
+    absurd flushed
 CallPerforms-finished state status line a b outputs (Err stop) ran failed (later, m, flushed, kept, reports) =
     (Err stop, b, ran, failed, refl, rw (flushed.0, flushed.1) at reports)
 

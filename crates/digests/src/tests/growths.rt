@@ -18,7 +18,7 @@ fn take_seven(heap: &Bump) {
     }
 }
 
-// Known files on a heap, of which each name that is kept takes 8 bytes or more: so each opening is refused on some heap.
+// Known files on a heap, where each name that is kept takes 8 bytes or more: so each opening is refused on some heap.
 #[derive(Drop)]
 struct FilesOn<'a, 'b> {
     files: ToldSource<'a, &'b Bump>,

@@ -27,7 +27,8 @@ returns-in-Ok-UnknownTool-clause-behavior g c =
     CallPerforms-finished g.S.Source.state c.finish_run-in-Ok-UnknownTool.result (Some unknown_tool) first next
     c.finish_run-in-Ok-UnknownTool.new.outputs _
     (Performs-texts g.S.Source.state first wrote.new.outputs _ [] false wrote.result wrote.ensures)
-    (StopHasCause-texts g.S.Source.state (λ n m. m ≡ n) first wrote.new.outputs _ [] 1 wrote.result wrote.ensures).failures
+    (StopHasCause-texts g.S.Source.state (λ n m. m ≡ n) first wrote.new.outputs _ [] 1 wrote.result
+    wrote.ensures).failures
     (closed (wrote.ensures.1 hold).0))
 
 -- the words couldn't be read: another line says so
@@ -40,5 +41,6 @@ returns-in-Err-clause-behavior g c =
     ProgramPerforms-unread g.S.Source.state first _ c.finish_run-in-Err.result _ c.in-Err.ensures.not_read (λ hold.
     CallPerforms-finished g.S.Source.state c.finish_run-in-Err.result None first next c.finish_run-in-Err.new.outputs _
     (Performs-texts g.S.Source.state first wrote.new.outputs _ [] false wrote.result wrote.ensures)
-    (StopHasCause-texts g.S.Source.state (λ n m. m ≡ n) first wrote.new.outputs _ [] 1 wrote.result wrote.ensures).failures
+    (StopHasCause-texts g.S.Source.state (λ n m. m ≡ n) first wrote.new.outputs _ [] 1 wrote.result
+    wrote.ensures).failures
     (closed (wrote.ensures.1 hold).0))
