@@ -36,21 +36,21 @@ decides-form {algos} {line} d =
     (rw (plain_is_read (decided_parts d) d.plain) (sym d.is), λ g. rw d.is (grind arith))
 
 -- a line of either shape isn't ignored
-speaks : (blanks : List ℕ) (e : Bool) (xs rest : List ℕ) → AllPass is_blank blanks → Begins xs
+not_ignored : (blanks : List ℕ) (e : Bool) (xs rest : List ℕ) → AllPass is_blank blanks → Begins xs
     → is_ignored (blanks ++ (mark e ++ (xs ++ rest))) ≡ false
-speaks blanks e xs rest all b = grind (arith, common_steps)
+not_ignored blanks e xs rest all b = grind (arith, common_steps)
 
--- so a plain line speaks
-pub plain-speaks : {algos : Algos} {line : List ℕ} {e : Bool} {kind : KindValue} {d tail : List ℕ}
+-- so a plain line isn't
+pub plain-not_ignored : {algos : Algos} {line : List ℕ} {e : Bool} {kind : KindValue} {d tail : List ℕ}
     → Plain algos line e kind d tail → is_ignored line ≡ false
-plain-speaks {e = e} {tail = tail} p =
+plain-not_ignored {e = e} {tail = tail} p =
     let digits = plain-digits p in
-    rw p.whole (speaks p.blanks e p.digits (p.blank ∷ tail) p.are_blanks digits.begins)
+    rw p.whole (not_ignored p.blanks e p.digits (p.blank ∷ tail) p.are_blanks digits.begins)
 
 -- and a tagged one
-pub tagged-speaks : {algos : Algos} {line : List ℕ} {e : Bool} {kind : KindValue} {d raw : List ℕ}
+pub tagged-not_ignored : {algos : Algos} {line : List ℕ} {e : Bool} {kind : KindValue} {d raw : List ℕ}
     → Tagged algos line e kind d raw → is_ignored line ≡ false
-tagged-speaks t = grind (arith, speaks)
+tagged-not_ignored t = grind (arith, not_ignored)
 
 -- a line that is found to be plain decides its own form; any other decides nothing
 decides-or : (algos : Algos) (line : List ℕ) → DecidesForm algos line (line_form algos line)
@@ -66,15 +66,15 @@ decides-or algos line = go (plain_parts algos line) refl
       kind = p.kind;
       digest = p.digest;
       tail = p.text;
-      speaks = plain-speaks plain;
+      not_ignored = plain-not_ignored plain;
       plain = plain;
       is = rw h refl;
     })
 
 -- an ignored line is not plain, and has no form
-pub ignored_mute : (algos : Algos) (line : List ℕ) → is_ignored line ≡ true → line_form algos line ≡ Undecided
-ignored_mute algos line ignored = rw (← none_of (plain_parts algos line) (λ p h.
-    let wrong = sym ignored ∙ plain-speaks (read_is_plain h) in cc)) refl
+pub ignored_undecided : (algos : Algos) (line : List ℕ) → is_ignored line ≡ true → line_form algos line ≡ Undecided
+ignored_undecided algos line ignored = rw (← none_of (plain_parts algos line) (λ p h.
+    let wrong = sym ignored ∙ plain-not_ignored (read_is_plain h) in cc)) refl
 
 -- the form of a list is its first line's, and after it that of the others
 form-cons : (algos : Algos) (line : List ℕ) (later : List (List ℕ))

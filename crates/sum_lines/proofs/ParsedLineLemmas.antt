@@ -13,7 +13,7 @@ use Rattle.sum_lines.specs.grammar.LineLaws.{OneEntry, ParseMatches, ParseIsGram
 use Rattle.sum_lines.proofs.PrefixLemmas.{bind_some, none_of}
 use Rattle.sum_lines.proofs.PlainLemmas.{apart, plain_is_read, read_is_plain}
 use Rattle.sum_lines.proofs.TaggedLemmas.{tagged_is_read, read_is_tagged}
-use Rattle.sum_lines.proofs.EntryLemmas.{tag_parts, tail_parts, plain-speaks, tagged-speaks}
+use Rattle.sum_lines.proofs.EntryLemmas.{tag_parts, tail_parts, plain-not_ignored, tagged-not_ignored}
 use Rattle.sum_lines.proofs.UnescapeLemmas.{spelled-is, is-spelled}
 
 -- ---- the raw name
@@ -64,7 +64,7 @@ module _ (p : Profile) (algos : Algos) (f : Form) (line : List ℕ) where
       let name = is-spelled p t s h in
       let tagged = read_is_tagged found in
       rw (← name.2)
-      (tagged-speaks tagged, inl (record { escaped = t.escaped; raw = t.text; tagged = tagged; spells = name.1 }))
+      (tagged-not_ignored tagged, inl (record { escaped = t.escaped; raw = t.text; tagged = tagged; spells = name.1 }))
 
   -- what a plain line's spell, with the raw name of its tail
   by-tail : (s : EntryValue) (t : LinePartsValue) (raw : List ℕ) → plain_parts algos line ≡ Some t → RawOf f t.text raw
@@ -73,7 +73,7 @@ module _ (p : Profile) (algos : Algos) (f : Form) (line : List ℕ) where
       let name = is-spelled p (with_text t raw) s h in
       let plain = read_is_plain found in
       rw (← name.2) (
-        plain-speaks plain,
+        plain-not_ignored plain,
         inr (record { escaped = t.escaped; tail = t.text; raw = raw; plain = plain; is_raw = is; spells = name.1 }),
       )
 

@@ -38,9 +38,9 @@ form-kept : (algos : Algos) (before : List (List ℕ)) (line : List ℕ) → lin
 form-kept algos before line own readable = grind (arith, form_at)
 
 -- a tagged line is no plain one, and decides nothing
-tagged-mute : {algos : Algos} {line : List ℕ} {e : Bool} {kind : KindValue} {d raw : List ℕ}
+tagged-undecided : {algos : Algos} {line : List ℕ} {e : Bool} {kind : KindValue} {d raw : List ℕ}
     → Tagged algos line e kind d raw → line_form algos line ≡ Undecided
-tagged-mute {algos} {line} tagged =
+tagged-undecided {algos} {line} tagged =
     rw (← none_of (plain_parts algos line) (λ p h. apart (read_is_plain h) tagged)) refl
 
 -- ---- the law
@@ -78,9 +78,9 @@ module _ {kind : KindValue} {name digest : List ℕ} (before later : List (List 
       → SpellsBack algos before later (tagged_line kind width name digest ++ (10 ∷ [])) kind name digest
   tagged-back algos width allowed is_width readable =
       let line : List ℕ = tagged_line kind width name digest in
-      let mute = tagged-mute (tagged-written w algos width allowed is_width) in
+      let undecided = tagged-undecided (tagged-written w algos width allowed is_width) in
       back (Inline-tagged w width is_width) (tagged-entry w algos width _ allowed is_width)
-      (form-kept algos before line mute readable)
+      (form-kept algos before line undecided readable)
 
 -- each of the three layouts is read back
 pub read_back : ReadBack

@@ -20,7 +20,7 @@ use Rattle.sum_lines.specs.grammar.Entries.{Form, Standard, begins_standard, lin
 use Rattle.sum_lines.specs.grammar.LineParts.{LinePartsValue}
 use Rattle.sum_lines.specs.grammar.LineLaws.{Writable}
 use Rattle.sum_lines.proofs.PlainLemmas.{Digits, digits-of, plain_is_read}
-use Rattle.sum_lines.proofs.EntryLemmas.{plain-speaks}
+use Rattle.sum_lines.proofs.EntryLemmas.{plain-not_ignored}
 use Rattle.sum_lines.proofs.EscapeLemmas.{length-escape}
 
 -- a byte that may be within a line
@@ -127,7 +127,7 @@ module _ {kind : KindValue} {name digest : List ℕ} (w : Writable kind name dig
   pub plain-entry : (x : ℕ) (f : Form) → is_space_or_star x ≡ true → f ≡ Standard
       → IsEntry escape (One kind.algo) f (plain_line x name digest) (written_for kind name digest)
   plain-entry x f star is = rw is (
-    plain-speaks (plain-written x),
+    plain-not_ignored (plain-written x),
     inr (record {
       escaped = escape_differs present name;
       tail = x ∷ escape name;

@@ -21,22 +21,24 @@ labels_of settings tool name =
 
 -- a step for each line of the content, by these verdicts, and one for the end, which has that text
 abbrev pub line_steps : Rules → LabelsValue → List ℕ → Content → List LineVerdictValue → List Step
-line_steps r labels end c [] = record { names = []; err = end; out = []; remaining = length c.bytes } ∷ []
-line_steps r labels end c (j ∷ js) =
-    record { names = asks_of j; err = err_of r labels j; out = out_of r labels j; remaining = length c.bytes }
-    ∷ line_steps r labels end (past_line c) js
+line_steps r labels end content [] = record { names = []; err = end; out = []; remaining = length content.bytes } ∷ []
+line_steps r labels end content (j ∷ js) =
+    record { names = asks_of j; err = err_of r labels j; out = out_of r labels j; remaining = length content.bytes }
+    ∷ line_steps r labels end (past_line content) js
 
 -- a manifest that was opened, whose lines have these verdicts
 abbrev pub content_behavior : Rules → LabelsValue → Content → List LineVerdictValue → Behavior
-content_behavior r labels c js = let counts = counts_of js in
-    record { steps = line_steps r labels (end_text r labels c.ending counts) c js; good = good r c.ending counts }
+content_behavior r labels content js = let counts = counts_of js in record {
+  steps = line_steps r labels (end_text r labels content.ending counts) content js;
+  good = good r content.ending counts;
+}
 
 -- a manifest of that name, opened with this reply, in the world after that
 abbrev pub check_behavior_by : Rules → LabelsValue → List ℕ → World → Reply → Behavior
 check_behavior_by r labels name w (Err f) =
     single_step (name ∷ []) (fault_line r.profile labels.tool labels.manifest f) [] false
-check_behavior_by r labels name w (Ok c) = behavior_then (single_step (name ∷ []) [] [] true)
-    (content_behavior r labels (clip c) (all_verdicts r w (clip c)))
+check_behavior_by r labels name w (Ok content) = behavior_then (single_step (name ∷ []) [] [] true)
+    (content_behavior r labels (clip content) (all_verdicts r w (clip content)))
 
 -- the behavior of checking the manifest of that name in a world
 abbrev pub check_behavior : CheckSettings → List ℕ → World → List ℕ → Behavior

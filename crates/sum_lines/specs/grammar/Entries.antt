@@ -28,7 +28,7 @@ pub record DecidesForm (algos : Algos) (line : ByteString) (form : Form) : Type 
   pub kind : KindValue
   pub digest : ByteString
   pub tail : ByteString
-  pub speaks : is_ignored line ≡ false
+  pub not_ignored : is_ignored line ≡ false
   pub plain : Plain algos line escaped kind digest tail
   pub is : form ≡ (if begins_standard tail then Standard else Reversed)
 

@@ -65,7 +65,7 @@ pub enum Reading {
 /// isn't empty. Any other line is bad.
 // Inlined, since most of what an ignored line costs is the call.
 #[inline(always)]
-#[tactic(auto, using(crate::proofs::EntryLemmas::ignored_mute))]
+#[tactic(auto, using(crate::proofs::EntryLemmas::ignored_undecided))]
 pub fn read_line<A: Allocator>(algos: Algos, form: Form, line: &mut Vec<u8, A>) -> (Reading, Form)
     // A form that is decided stays; otherwise a plain line decides it, even if its name makes it bad.
     ensures form { result.1 ≡ form_then form (line_form algos line.old.items) }

@@ -51,7 +51,7 @@ abbrev pub remaining_items : Tool → ParserState → List ByteString → List I
 remaining_items t states.Word words = items_from t a_word words
 remaining_items t (states.Cluster c rest) words = read_then t (cluster t (c ∷ chars rest.now)) words
 remaining_items t states.OnlyOperands words = map operand words
-remaining_items t states.Ended words = items_from t no_word words
+remaining_items t states.Done words = items_from t no_word words
 
 -- the items that remain from a step on, before these words
 abbrev pub step_items : Tool → ParserStep → List ByteString → List ItemValue

@@ -40,7 +40,7 @@ enum ParserState<'a> {
     Word,
     Cluster(char, &'a str),
     OnlyOperands,
-    Ended,
+    Done,
 }
 
 // The step of one option or word: an item, and what is read next; or the next word is the value of an option that was
@@ -85,7 +85,7 @@ impl<'a> Iterator for Items<'a> {
 
     fn next(&mut self) -> Option<Item<'a>> {
         let step = match self.state {
-            ParserState::Ended => return None,
+            ParserState::Done => return None,
             ParserState::OnlyOperands => ParserStep::OnlyOperands,
             ParserState::Cluster(letter, rest) => letter_step(self.tool, letter, rest),
             ParserState::Word => word_step(self.tool, take_word(&self.words, &mut self.at)?),
@@ -126,7 +126,7 @@ fn apply_step<'a>(
                 Some(Item::Length(value))
             }
             None => {
-                *state = ParserState::Ended;
+                *state = ParserState::Done;
                 Some(Item::Fault(WordFault::ValueMissing(spelling)))
             }
         },
@@ -147,7 +147,7 @@ fn word_step<'a>(tool: Tool, word: &'a [u8]) -> ParserStep<'a>
     }
     match str::from_utf8(word) {
         Ok(text) => option_step(tool, text),
-        Err(_) => ParserStep::Item(Item::Fault(WordFault::NotText(word)), ParserState::Ended),
+        Err(_) => ParserStep::Item(Item::Fault(WordFault::NotText(word)), ParserState::Done),
     }
 }
 
@@ -182,14 +182,14 @@ fn long_step<'a>(tool: Tool, text: &'a str) -> ParserStep<'a>
     let (name, value) = name_and_value(text);
     let flag = match Flag::of_name(tool, name) {
         Ok(flag) => flag,
-        Err(fault) => return ParserStep::Item(Item::Fault(fault), ParserState::Ended),
+        Err(fault) => return ParserStep::Item(Item::Fault(fault), ParserState::Done),
     };
     match (flag.takes_value(), value) {
         (true, Some(value)) => ParserStep::Item(Item::Length(value.as_bytes()), ParserState::Word),
         (true, None) => ParserStep::Value(Spelling::Long),
         (false, Some(_)) => ParserStep::Item(
             Item::Fault(WordFault::ValueNotAllowed(flag.name())),
-            ParserState::Ended,
+            ParserState::Done,
         ),
         (false, None) => ParserStep::Item(Item::Flag(flag), ParserState::Word),
     }
@@ -203,7 +203,7 @@ fn letter_step<'a>(tool: Tool, letter: char, rest: &'a str) -> ParserStep<'a>
     match Flag::of_letter(tool, letter) {
         None => ParserStep::Item(
             Item::Fault(WordFault::UnknownShort(letter)),
-            ParserState::Ended,
+            ParserState::Done,
         ),
         Some(Flag::Length) => attached_value(rest),
         Some(flag) => ParserStep::Item(Item::Flag(flag), rest_of_cluster(rest)),
