@@ -12,7 +12,7 @@ fn help_of(tool: Tool) -> Result<ToldSink<1024>, Fail> {
     Ok(out)
 }
 
-fn text_of(help: &ToldSink<1024>) -> Result<&str, Fail> {
+fn help_text(help: &ToldSink<1024>) -> Result<&str, Fail> {
     Ok(str::from_utf8(help.bytes()).ok().ok_or("not a text")?)
 }
 
@@ -23,7 +23,7 @@ fn help(rt: HostRuntime) -> Result<(), Fail> {
         ("b2sum --help -l", Tool::B2sum),
     ] {
         let help = help_of(tool)?;
-        assert_rows(&rt, "abc", &[], &[(line, text_of(&help)?, "", 0)])?;
+        assert_rows(&rt, "abc", &[], &[(line, help_text(&help)?, "", 0)])?;
     }
     Ok(())
 }

@@ -5,7 +5,7 @@ ghost use Rattle.sum_lines.specs.grammar.LineParts.{plain_parts, tag_in, tagged_
 ghost use Rattle.sum_lines.specs.refinement.Beginnings.{Cut, LeadsTo, EndsAt, EndsDigits};
 ghost use Rattle.sum_lines.specs.refinement.LinePartRanges.{IsFront};
 
-use crate::reading::line_parts::{Front, is_blank, text_of};
+use crate::reading::line_parts::{Front, is_blank, text_after};
 use digest_kinds::{Algo, Algos, Kind};
 use memchr::memchr2;
 
@@ -31,7 +31,7 @@ pub(crate) fn find_beginning(algos: Algos, line: &[u8], front: Front) -> Option<
     ensures plain { IfNone result (None ≡ plain_parts algos line.now) }
     ensures leads { IfSome result (LeadsTo algos line.now) }
 {
-    let text = text_of(line, front);
+    let text = text_after(line, front);
     if let Some(algo) = tag_in(algos, text) {
         return Some(Beginning::Tag(algo));
     }

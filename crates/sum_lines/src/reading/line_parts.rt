@@ -56,8 +56,8 @@ pub(crate) fn front_of(line: &[u8]) -> Front
     }
 }
 
-/// The line's text.
-pub(crate) fn text_of(line: &[u8], front: Front) -> &[u8]
+/// The line's text, after that.
+pub(crate) fn text_after(line: &[u8], front: Front) -> &[u8]
     requires { IsFront line.now front }
     ensures { result.now ≡ (mark_and_rest (after_while is_blank line.now)).1 }
 {

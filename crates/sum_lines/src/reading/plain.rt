@@ -8,7 +8,7 @@ ghost use Rattle.sum_lines.specs.grammar.LineParts.{after_while, mark_and_rest, 
 ghost use Rattle.sum_lines.specs.refinement.Beginnings.{EndsDigits};
 ghost use Rattle.sum_lines.specs.refinement.LinePartRanges.{IsFront, line_parts};
 
-use crate::reading::line_parts::{Front, LineParts, text_of};
+use crate::reading::line_parts::{Front, LineParts, text_after};
 use digest_kinds::{Algo, Algos, Digest, Kind};
 
 /// Reads a plain line of that algorithm; the place `at` of its text has the blank after its digits. `None` if the line
@@ -20,7 +20,7 @@ pub(crate) fn plain(algo: Algo, line: &[u8], front: Front, at: usize) -> Option<
     ensures range { IfSome result (λ p. (p.start ≤ p.stop) × (p.stop ≤ length line.now)) }
     ensures size { IfSome result (λ p. length p.digest ≡ p.kind.len) }
 {
-    let text = text_of(line, front);
+    let text = text_after(line, front);
     let kind = kind_of_len(algo, at / 2)?;
     // Last, since it costs the most.
     let digest = Digest::from_hex(&text[..at])?;

@@ -63,8 +63,7 @@ pub enum Reading {
 ///
 /// The digits are hexadecimal, in either case, and as many as the algorithm has, or the tag says. A name has no NUL and
 /// isn't empty. Any other line is bad.
-// Inlined, since most of what an ignored line costs is the call.
-#[inline(always)]
+#[inline(always)] // most of what an ignored line costs is the call
 #[tactic(auto, using(crate::proofs::EntryLemmas::ignored_undecided))]
 pub fn read_line<A: Allocator>(algos: Algos, form: Form, line: &mut Vec<u8, A>) -> (Reading, Form)
     // A form that is decided stays; otherwise a plain line decides it, even if its name makes it bad.

@@ -11,7 +11,7 @@ ghost use Rattle.sum_lines.specs.grammar.LineParts.{kind_at, tagged_parts, width
 ghost use Rattle.sum_lines.specs.refinement.LinePartRanges.{IsFront, line_parts, number_of};
 
 use crate::reading::line_parts::{
-    Front, LineParts, past_text, skip_blanks, split_at_last, text_of,
+    Front, LineParts, past_text, skip_blanks, split_at_last, text_after,
 };
 use digest_kinds::{Algo, Algos, Digest, Kind};
 
@@ -24,7 +24,7 @@ pub(crate) fn tagged(algo: Algo, line: &[u8], front: Front) -> Option<LineParts>
     ensures range { IfSome result (λ t. (t.start ≤ t.stop) × (t.stop ≤ length line.now)) }
     ensures size { IfSome result (λ t. length t.digest ≡ t.kind.len) }
 {
-    let text = text_of(line, front);
+    let text = text_after(line, front);
     // Not by `?`, which the borrow checker doesn't cover for a struct with a reference.
     let Some(width) = width(algo, text) else {
         return None;

@@ -33,7 +33,7 @@ ghost use Rattle.sum_lines.specs.refinement.PartTexts.{part_text};
 ghost use Rattle.sum_lines.specs.Escape.{present, escape, escape_differs};
 ghost use Rattle.sum_lines.specs.grammar.Shapes.{mark};
 
-/// Gives the sink the line of a name and its digest, which has the kind's length; the sink may buffer it. `SinkFault` as
+/// Gives the sink, which may buffer it, the line of a name and its digest, which has the kind's length. `SinkFault` as
 /// `put_all`.
 pub fn put_line<S: Sink>(
     sink: &mut S,

@@ -14,14 +14,14 @@ returns-in_err-kind-clause-parts c =
 pub returns-in_err-digest-clause-parts : goal.returns-in_err-digest-clause-parts
 returns-in_err-digest-clause-parts c =
     rw c.from_residual-in_err-digest.ensures (uncut _ (digits-none c.requires.ends (λ digits.
-    let bad = c.in_err-digest.ensures.found.1 (rw c.text_of-text.ensures digits) in cc)))
+    let bad = c.in_err-digest.ensures.found.1 (rw c.text_after-text.ensures digits) in cc)))
 
 -- the parts that were found are the line's
 pub returns-clause-parts : goal.returns-clause-parts
 returns-clause-parts c =
-    let s = c.text_of-text.result.now in
+    let s = c.text_after-text.result.now in
     let n = c.args.at + 1 in
-    let text = c.text_of-text.ensures in
+    let text = c.text_after-text.ensures in
     let ends = front-ends c.requires.front text in
     let tail = ends-after (take n s) (drop n s) ends (sym (take-append-drop n s)) in
     rw (take_rest s n, tail-place tail, c.requires.front.mark, text)

@@ -8,7 +8,7 @@ pub returns-then-digits-len-clause-parts : goal.returns-then-digits-len-clause-p
 returns-then-digits-len-clause-parts c =
     let sign = rw c.skip_blanks.ensures at c.in_ok-past_text.ensures in
     let other = rw (c.skip_blanks-digits.ensures, c.len.ensures.value) at c.if-digits-len.true in
-    let width = rw c.text_of-text.ensures at c.in-Some.ensures in
+    let width = rw c.text_after-text.ensures at c.in-Some.ensures in
     tagged-none _ _ c.requires.tag width c.in_ok-inner.ensures c.in_ok-raw.ensures sign (λ d. digest_other _ d _ other)
 
 -- as many that spell none
@@ -16,7 +16,7 @@ pub returns-in_err-digest-clause-parts : goal.returns-in_err-digest-clause-parts
 returns-in_err-digest-clause-parts c =
     let sign = rw c.skip_blanks.ensures at c.in_ok-past_text.ensures in
     let size = rw c.len.ensures.value at c.len.ensures in
-    let width = rw c.text_of-text.ensures at c.in-Some.ensures in
+    let width = rw c.text_after-text.ensures at c.in-Some.ensures in
     rw c.from_residual-in_err-digest.ensures (tagged-none _ _ c.requires.tag width c.in_ok-inner.ensures
     c.in_ok-raw.ensures sign
     (λ d. digest_none _ d _ size.at_least size.at_most (λ digits.
@@ -25,12 +25,12 @@ returns-in_err-digest-clause-parts c =
 -- the name is within the line
 pub overflow_sub-start : goal.overflow_sub-start
 overflow_sub-start c =
-    let ends = front-ends c.requires.front c.text_of-text.ensures in
+    let ends = front-ends c.requires.front c.text_after-text.ensures in
     (name_place _ _ ends c.in-Some.ensures c.in_ok-inner.ensures c.in_ok-raw.ensures).0
 
 pub returns-clause-range : goal.returns-clause-range
 returns-clause-range c =
-    let ends = front-ends c.requires.front c.text_of-text.ensures in
+    let ends = front-ends c.requires.front c.text_after-text.ensures in
     let place = name_place _ _ ends c.in-Some.ensures c.in_ok-inner.ensures c.in_ok-raw.ensures in
     (omega arith, place.1)
 
@@ -44,11 +44,11 @@ returns-clause-size c =
 -- the parts that were found are the line's
 pub returns-clause-parts : goal.returns-clause-parts
 returns-clause-parts c =
-    let ends = front-ends c.requires.front c.text_of-text.ensures in
+    let ends = front-ends c.requires.front c.text_after-text.ensures in
     let place = name_place _ _ ends c.in-Some.ensures c.in_ok-inner.ensures c.in_ok-raw.ensures in
     let sign = rw c.skip_blanks.ensures at c.in_ok-past_text.ensures in
     let spelled = rw c.skip_blanks-digits.ensures at c.in_ok-digest.ensures.value in
     let some = eqb-false (length c.in_ok-raw.raw.now) 0 (sym c.is_empty.ensures ∙ c.if-is_empty.false) in
-    let width = rw c.text_of-text.ensures at c.in-Some.ensures in
+    let width = rw c.text_after-text.ensures at c.in-Some.ensures in
     rw (place.2, c.requires.front.mark) (tagged-read _ _ c.requires.tag width c.in_ok-inner.ensures
     c.in_ok-raw.ensures sign spelled (returns-clause-size c) (omega (arith, some)))

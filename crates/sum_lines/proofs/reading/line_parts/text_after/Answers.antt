@@ -1,5 +1,5 @@
 use Rattle.std.proofs.lemmas.List.{take_rest}
-use Rattle.sum_lines.proofs.reading.line_parts.text_of.Goals as goal
+use Rattle.sum_lines.proofs.reading.line_parts.text_after.Goals as goal
 
 -- what follows that place is the text
 pub returns : goal.returns
