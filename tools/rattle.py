@@ -155,7 +155,7 @@ class Code:
         uses = uses_of("^", text)
 
         def item(start, kind, name, trait, public, members=()):
-            attributes = re.search(r"(?:^ *#\[.*\]\n)*\Z", text[:text.rfind("\n", 0, start) + 1], re.MULTILINE)
+            attributes = re.search(r"(?:^ *#\[.*\](?: //.*)?\n)*\Z", text[:text.rfind("\n", 0, start) + 1], re.MULTILINE)
             above = comments.get(attributes.start(), [])
             it = text[start : end_of(text, start, kind)]
             return Item(kind, name, trait, public, crate, file, it, above, attributes[0], list(members), uses)
