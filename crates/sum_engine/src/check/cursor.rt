@@ -113,12 +113,14 @@ impl<I: Input> CheckCursor<I> {
                 if let Verdict::Ignored = found.verdict {
                     return Ok(Progress::Going);
                 }
+                let name = found.name(line.as_slice());
                 put_report(
                     &mut streams.outputs,
                     self.rules,
                     labels,
-                    line.as_slice(),
-                    found,
+                    found.number,
+                    found.verdict,
+                    name,
                 )?;
                 Ok(Progress::Going)
             }

@@ -3,12 +3,11 @@ ghost use Rattle.std.specs.Prelude.{◌≡◌, [], ◌∷◌};
 ghost use Rattle.std.specs.List.{concat};
 ghost use Rattle.sum_lines.specs.Escape.{present, escape, escape_differs};
 ghost use Rattle.sum_lines.specs.grammar.Shapes.{mark};
-ghost use Rattle.sum_engine.specs.check.NextVerdict.{HasNameRange, line_verdict_value};
 ghost use Rattle.sum_engine.specs.check.Reports.{verdict_line, bad_line, err_by, out_by};
 ghost use Rattle.sum_engine.specs.refinement.Cursors.{rules_in, labels_in};
 ghost use Rattle.sum_engine.specs.refinement.FlushedWrites.{WritesAndFlushes, WritesAndFlushesBoth};
 
-use crate::check::judge::{LineVerdict, Verdict};
+use crate::check::judge::Verdict;
 use crate::check::rules::{CheckRules, Labels};
 use crate::put_flushed::{put_fault, put_parts_flushed};
 use crate::settings::Report;
@@ -16,23 +15,21 @@ use crate::streams::Outputs;
 use digest_kinds::Algos;
 use sum_lines::{Part, Sink, SinkFault, mark_and_name};
 
-/// Writes what is reported of a line, whose vector this is: first to `err`, and then to `out`.
+/// Writes what is reported of a line with this number, verdict and name: first to `err`, and then to `out`.
 pub(crate) fn put_report<O: Sink, E: Sink>(
     outputs: &mut Outputs<O, E>,
     rules: CheckRules,
     labels: &Labels,
-    line: &[u8],
-    found: LineVerdict,
+    number: u64,
+    verdict: Verdict,
+    name: &[u8],
 ) -> Result<(), SinkFault>
-    requires { HasNameRange line.now found }
     ensures { WritesAndFlushesBoth outputs.old outputs.new
-        (err_by (rules_in rules) (labels_in labels.now) found.number found.verdict
-        (line_verdict_value line.now found).name)
-        (out_by present labels.now.report found.verdict (line_verdict_value line.now found).name) result }
+        (err_by (rules_in rules) (labels_in labels.now) number verdict name.now)
+        (out_by present labels.now.report verdict name.now) result }
 {
-    let name = found.name(line);
-    put_err(&mut outputs.err, rules, labels, found, name)?;
-    put_out(&mut outputs.out, labels.report, found.verdict, name)
+    put_err(&mut outputs.err, rules, labels, number, verdict, name)?;
+    put_out(&mut outputs.out, labels.report, verdict, name)
 }
 
 fn put_out<O: Sink>(
@@ -73,16 +70,17 @@ fn put_err<E: Sink>(
     err: &mut E,
     rules: CheckRules,
     labels: &Labels,
-    found: LineVerdict,
+    number: u64,
+    verdict: Verdict,
     name: &[u8],
 ) -> Result<(), SinkFault>
     ensures { WritesAndFlushes (E.state err.old) (E.state err.new)
-        (err_by (rules_in rules) (labels_in labels.now) found.number found.verdict name.now) result }
+        (err_by (rules_in rules) (labels_in labels.now) number verdict name.now) result }
 {
-    match found.verdict {
+    match verdict {
         Verdict::Ignored | Verdict::Right | Verdict::Wrong | Verdict::Missing => Ok(()),
         Verdict::Bad => match labels.report {
-            Report::Warn => put_bad_line(err, rules, labels, found.number),
+            Report::Warn => put_bad_line(err, rules, labels, number),
             _ => Ok(()),
         },
         Verdict::Unread(fault) => put_fault(err, labels.tool, name, fault),

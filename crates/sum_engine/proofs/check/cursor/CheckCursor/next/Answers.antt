@@ -84,7 +84,7 @@ pub returns-in_ok-put_report-in-Ok-Some-clause-step : goal.returns-in_ok-put_rep
 returns-in_ok-put_report-in-Ok-Some-clause-step g c =
     let done = c.in-Ok-Some.ensures in
     let is = c.in-Ok-Some.field-0-is in
-    let texts = rw (done.cursor.rules, c.as_slice.ensures.value) at c.in_ok-put_report-in-Ok-Some.ensures in
+    let texts = rw (done.cursor.rules, c.name-name.ensures, c.as_slice.ensures.value) at c.in_ok-put_report-in-Ok-Some.ensures in
     step_found g.I.Input.state g.S.Source.state (cursor_value c.args.self.now)
     (cursor_value c.next_verdict.new.self) c.args.streams.now
     (record { inputs = c.next_verdict.new.inputs; outputs = _ }) (labels_in c.args.labels.now) _ c.in-Ok-Some.found
@@ -95,7 +95,7 @@ pub returns-in_err-put_report-in-Ok-Some-clause-step : goal.returns-in_err-put_r
 returns-in_err-put_report-in-Ok-Some-clause-step g c =
     let done = c.in-Ok-Some.ensures in
     let is = c.in-Ok-Some.field-0-is in
-    let texts = rw (done.cursor.rules, c.as_slice.ensures.value) at c.in_err-put_report-in-Ok-Some.ensures in
+    let texts = rw (done.cursor.rules, c.name-name.ensures, c.as_slice.ensures.value) at c.in_err-put_report-in-Ok-Some.ensures in
     let back = c.from_residual-in_err-put_report-in-Ok-Some in
     let stop = err_from_is_err_and back.result back.ensures.1 in
     rw (stop.1, stop.2) (step_found g.I.Input.state g.S.Source.state (cursor_value c.args.self.now)
