@@ -3,6 +3,7 @@ use crate::checking::{files, plain};
 use digest_kinds::{Algo, Kind};
 use std::alloc::Global;
 use std::cell::Cell;
+use std::process::Abort;
 use std::test::Fail;
 use sum_engine::{
     Checker, Inputs, Outputs, Progress, Settings, Streams, Verdict, Verdicts, check_one,
@@ -47,6 +48,33 @@ fn stage<'a>(
 // No digest of a prefix, and none of what follows the fault.
 #[test]
 fn generating(rt: HostRuntime) -> Result<(), Fail> {
+    for before in 0..=4 {
+        generate(
+            &rt,
+            before,
+            "a",
+            "900150983cd24fb0d6963f7d28e17f72  a\n",
+            "md5sum: a: Permission denied\n",
+        )?;
+        generate(
+            &rt,
+            before,
+            "-",
+            "900150983cd24fb0d6963f7d28e17f72  -\n",
+            "md5sum: -: Permission denied\n",
+        )?;
+    }
+    Ok(())
+}
+
+// Generation for a name, if so many of the reads precede the one that fails; the fifth finds the end.
+fn generate(
+    rt: &(impl Abort + AllocGlobal),
+    before: usize,
+    name: &str,
+    line: &str,
+    fault: &str,
+) -> Result<(), Fail> {
     let settings = Settings {
         kind: Kind::of(Algo::Md5),
         style: Style {
@@ -54,49 +82,31 @@ fn generating(rt: HostRuntime) -> Result<(), Fail> {
             zero: false,
         },
     };
-    for (name, line, fault) in [
-        (
-            "a",
-            "900150983cd24fb0d6963f7d28e17f72  a\n",
-            "md5sum: a: Permission denied\n",
-        ),
-        (
-            "-",
-            "900150983cd24fb0d6963f7d28e17f72  -\n",
-            "md5sum: -: Permission denied\n",
-        ),
-    ] {
-        for before in 0..=4 {
-            let count = Cell::new(before);
-            let mut streams = stage(rt.alloc(), b"abc", 1, &count)?;
-            let good = generate_one(&settings, "md5sum", name.as_bytes(), &mut streams);
-            let (out, err) = if before < 4 { ("", fault) } else { (line, "") };
-            assert_eq!(rt; good, Ok(before == 4), "{name} at {before}");
-            assert_eq!(rt;
-                streams.outputs.out.bytes(),
-                out.as_bytes(),
-                "{name} at {before}"
-            );
-            assert_eq!(rt;
-                streams.outputs.err.bytes(),
-                err.as_bytes(),
-                "{name} at {before}"
-            );
-            // The read that failed was the last.
-            assert_eq!(rt;
-                count.get(),
-                if before < 4 { usize::MAX } else { 0 },
-                "{name} at {before}"
-            );
-            let opened = u64::from(name == "a");
-            let ended = if before < 4 { 0 } else { opened };
-            assert_eq!(rt;
-                streams.inputs.source.counts(),
-                (opened, ended),
-                "{name} at {before}"
-            );
-        }
-    }
+    let count = Cell::new(before);
+    let mut streams = stage(rt.alloc(), b"abc", 1, &count)?;
+    let good = generate_one(&settings, "md5sum", name.as_bytes(), &mut streams);
+    let (out, err) = if before < 4 { ("", fault) } else { (line, "") };
+    assert_eq!(rt; good, Ok(before == 4), "{name} at {before}");
+    assert_eq!(rt;
+        streams.outputs.out.bytes(),
+        out.as_bytes(),
+        "{name} at {before}"
+    );
+    assert_eq!(rt;
+        streams.outputs.err.bytes(),
+        err.as_bytes(),
+        "{name} at {before}"
+    );
+    // The read that failed was the last.
+    let rest = if before < 4 { usize::MAX } else { 0 };
+    assert_eq!(rt; count.get(), rest, "{name} at {before}");
+    let opened = u64::from(name == "a");
+    let ended = if before < 4 { 0 } else { opened };
+    assert_eq!(rt;
+        streams.inputs.source.counts(),
+        (opened, ended),
+        "{name} at {before}"
+    );
     Ok(())
 }
 
