@@ -64,7 +64,7 @@ impl Blake2b {
     // Buffers bytes, after those that are buffered.
     fn buffer_bytes(&mut self, bytes: &[u8])
         requires room { self.old.buffer_len + length bytes.now ≤ 128 }
-        requires fits { self.old.taken + length bytes.now < LIMIT }
+        requires fits { self.old.taken + length bytes.now < 2 ^ 61 }
         ensures holds { (m : List ℕ) → HoldsSoFar self.old m → HoldsSoFar self.new (m ++ bytes.now) }
         ensures size { length self.new.buffer ≡ 128 }
         ensures buffer_len { self.new.buffer_len ≡ self.old.buffer_len + length bytes.now }
@@ -80,7 +80,7 @@ impl Blake2b {
     // Fills the buffered block up and compresses it, if some bytes are buffered and more follow than there is room for.
     // Returns how many bytes it took.
     fn fill(&mut self, piece: &[u8]) -> usize
-        requires { self.old.taken + length piece.now < LIMIT }
+        requires { self.old.taken + length piece.now < 2 ^ 61 }
         ensures holds { (m : List ℕ) → HoldsSoFar self.old m → HoldsSoFar self.new (m ++ take result piece.now) }
         ensures below { 0 < length piece.now → result < length piece.now }
         ensures empty_piece { length piece.now ≡ 0 → (result ≡ 0) × (self.new.buffer_len ≡ self.old.buffer_len) }
@@ -101,7 +101,7 @@ impl Blake2b {
     // Compresses the whole blocks at the front of the piece that a byte follows, if nothing is buffered. Returns how
     // many bytes it took.
     fn absorb(&mut self, piece: &[u8]) -> usize
-        requires fits { self.old.taken + length piece.now < LIMIT }
+        requires fits { self.old.taken + length piece.now < 2 ^ 61 }
         requires room { 128 < self.old.buffer_len + length piece.now → self.old.buffer_len ≡ 0 }
         ensures holds { (m : List ℕ) → HoldsSoFar self.old m → HoldsSoFar self.new (m ++ take result piece.now) }
         ensures below { 0 < length piece.now → result < length piece.now }
@@ -122,7 +122,7 @@ impl Blake2b {
 
     /// Appends a piece to the message, which has to stay below `LIMIT` bytes.
     pub fn update(&mut self, piece: &[u8])
-        requires { taken self.old + length piece.now < LIMIT }
+        requires { taken self.old + length piece.now < 2 ^ 61 }
         // For each message that the state may have taken: it has then taken that and the piece.
         ensures holds { (m : List ℕ) → Holds self.old m → Holds self.new (m ++ piece.now) }
         ensures taken { taken self.new ≡ taken self.old + length piece.now }

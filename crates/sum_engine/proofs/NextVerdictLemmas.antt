@@ -116,8 +116,8 @@ module _ {I S : Type 0} (input : I → InputState) (source : S → SourceState) 
 pub cursor-advanced : {I : Type 0} (state : I → InputState) (p q : CursorValue I) (reader : LineReader I)
     (n : Result Next LineStop) (x : Result Progress Stop) → q.reader ≡ reader → q.rules ≡ p.rules
     → AdvancesLines state p.reader reader n
-    → IfKnown (state p.reader.input).content (state reader.input).content
-    (λ c d. reader.taken + length d.bytes ≡ p.reader.taken + length c.bytes)
+    → (reader.final_answer ≡ None → IfKnown (state p.reader.input).content (state reader.input).content
+    (λ c d. reader.taken + length d.bytes ≡ p.reader.taken + length c.bytes))
     → Bounded reader → (x ≡ Ok Going → n ≡ Ok Line) → (x ≡ Ok (Ended true) → n ≡ Ok NoMore)
     → AdvancesCursor state p q x
 cursor-advanced state p q reader n x is rules lines sum bounds going ended = grind (arith)

@@ -1,8 +1,7 @@
 -- One step of a checker, by the verdict that it found: `CheckCursor::next` from `next_verdict` and what is written.
-use Rattle.std.proofs.Common.{◌≡◌, ℕ, ◌+◌, ◌<◌, ◌≤◌, Bool, List, [], ◌∷◌, length, Option, None, Some, MatchOption, Ok, Err, inl, inr, ◌⊎◌, refl, ap, sym, ◌∙◌, rules, arith}
+use Rattle.std.proofs.Common.{◌≡◌, ℕ, ◌+◌, ◌^◌, ◌<◌, ◌≤◌, Bool, List, [], ◌∷◌, length, Option, None, Some, MatchOption, Ok, Err, inl, inr, ◌⊎◌, refl, ap, sym, ◌∙◌, rules, arith}
 use Rattle.sum_sources.specs.declared.line_reader.Next.TheVariants.{Line}
 use Rattle.sum_sources.specs.declared.line_reader.LineReader.{LineReader}
-use Rattle.digest_kinds.specs.Limits.{LIMIT}
 use Rattle.sum_sources.proofs.ContentLemmas.{limit-value}
 use Rattle.sum_engine.specs.Behavior.{Ending, Broken, Fault, World, Step, Behavior, events_of}
 use Rattle.sum_sources.specs.Contents.{Content, InputState, SourceState, empty_content, limit}
@@ -72,7 +71,7 @@ pub some_remains : {I : Type 0} (state : I → InputState) (r : LineReader I) �
 some_remains state r bounds = by (remaining_content state r) refl bounds.under
   where
     by : (x : Option Content) → remaining_content state r ≡ x
-        → (r.taken < LIMIT) ⊎ ((f : Fault) × (r.final_answer ≡ Some (Err (line_stops.Fault f))))
+        → (r.taken < 2 ^ 61) ⊎ ((f : Fault) × (r.final_answer ≡ Some (Err (line_stops.Fault f))))
         → (d : Content) × MatchOption x (consumed r + length d.bytes < limit) (λ c. d ≡ c)
     by None is (inl under) = (empty_content, rw limit-value (omega (arith, under)))
     by None is (inr stop) = let none : Some (record { bytes = []; ending = Broken stop.0 }) ≡ None = rw stop.1 at is in cc

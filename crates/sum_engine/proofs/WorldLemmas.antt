@@ -1,7 +1,7 @@
 -- Asking names one after another, and worlds before and after.
 use Rattle.std.proofs.Common.{rules, ◌≡◌, ◌∙◌, ap, sym, refl, ℕ, Bool, true, false, if◌then◌else◌, List, [], ◌∷◌, ◌++◌, Option, None, Some, IfSome, Result, Ok, Err, append_assoc, append-nil}
 use Rattle.std.proofs.lemmas.List.Elements.{filter-append}
-use Rattle.sum_sources.specs.Contents.{Content, empty_content, IfKnown, InputState, KnownSource, Reply, SourceState, OpenOf, closed_state}
+use Rattle.sum_sources.specs.Contents.{Content, empty_content, IfKnown, InputState, KnownSource, Reply, SourceState, AsksName, OpenOf, closed_state}
 use Rattle.sum_sources.specs.declared.sources.source.OpenFault.{OpenFault}
 use Rattle.sum_sources.specs.declared.sources.source.OpenFault.TheVariants as faults
 use Rattle.sum_sources.proofs.KnownLemmas.{IfKnown-then}
@@ -83,22 +83,17 @@ answer_first reply answer (first ∷ asked) name = answer asked name
 
 -- so there is a world before each world after
 answered_by : (x y : Option KnownSource) (name : List ℕ) (r : Reply) (v : World) → is_dash name ≡ false
-    → IfKnown x y (λ s t. (t ≡ record s { asked = s.asked ++ name ∷ [] }) × (s.answer name ≡ r))
-    → IfSome y (λ t. v.answer ≡ (λ asked. t.answer))
-    → (w : World) × IfSome x (λ s. w.answer ≡ (λ asked. s.answer)) × (w.input ≡ v.input) × (v ≡ after w (name ∷ []))
+    → IfKnown x y (λ s t. AsksName s t name (Some r)) → IfSome y (λ t. v.answer ≡ t.answer)
+    → (w : World) × IfSome x (λ s. w.answer ≡ s.answer) × (w.input ≡ v.input) × (v ≡ after w (name ∷ []))
     × (reply w name ≡ r)
 answered_by None y name r v file h is =
     let w : World = record { answer = answer_first r v.answer; input = v.input } in
     (w, tt, refl, rw file refl, rw file refl)
 answered_by (Some s) None name r v file h is = absurd h
 answered_by (Some s) (Some t) name r v file h is =
-    let same : v.answer ≡ (λ asked. s.answer) = rw h.0 at is in (
-      v,
-      same,
-      refl,
-      rw file (ap (λ f. record v { answer = f }) (same ∙ sym (ap (λ f asked. f (name ∷ asked)) same))),
-      rw (file, same) h.1,
-    )
+    let w : World = record v { answer = s.answer } in
+    let later : v.answer ≡ (λ asked. s.answer (name ∷ asked)) = is ∙ ap (λ (t : KnownSource). t.answer) h.0 in
+    (w, refl, refl, rw file (ap (λ f. record v { answer = f }) later), rw file (search rules))
 
 module _ {S : Type 0} (state : S → SourceState) (a b : InputsState S) (kept : KeepsStdin a b) where
   -- opening it gives this
@@ -106,8 +101,7 @@ module _ {S : Type 0} (state : S → SourceState) (a b : InputsState S) (kept : 
   Replies name r = InSomeWorld state a b (λ w v. (v ≡ after w (name ∷ [])) × (reply w name ≡ r))
 
   opened : (name : List ℕ) (r : Reply) → is_dash name ≡ false
-      → IfKnown (state a.source).known (state b.source).known
-      (λ s t. (t ≡ record s { asked = s.asked ++ name ∷ [] }) × (s.answer name ≡ r)) → Replies name r
+      → IfKnown (state a.source).known (state b.source).known (λ s t. AsksName s t name (Some r)) → Replies name r
   opened name r file h = record {
     before = λ v fits.
         let some = answered_by (state a.source).known (state b.source).known name r v file h fits.0 in

@@ -2,8 +2,7 @@
 use Rattle.std.proofs.Common.{◌≡◌, ℕ, ◌^◌, ◌<◌, List, [], ◌++◌, length, Option, None, Some, IfSome, Ok, Err, refl, nat_lt, arith}
 use Rattle.std.proofs.lemmas.Bool.{cond-true, lt-ltb}
 use Rattle.digest_kinds.specs.Kinds.{KindValue, digest}
-use Rattle.sum_sources.specs.Contents.{Content, Fault, Whole, Broken, Hashes, clip_to, clip, limit}
-use Rattle.sum_sources.specs.LineReaders.{with_prefix}
+use Rattle.sum_sources.specs.Contents.{Content, Fault, Whole, Broken, Hashes, clip_to, clip, limit, with_prefix}
 
 -- these bytes were read between the two
 abbrev pub Gave : Content → Content → List ℕ → Type 0

@@ -1,11 +1,10 @@
 -- Reads of the bytes that count, up to the limit.
 use Rattle.std.proofs.lemmas.Grind.{common_steps}
-use Rattle.std.proofs.Common.{◌≡◌, ℕ, ◌+◌, ◌-◌, ◌^◌, ◌<◌, ◌≤◌, List, [], ◌++◌, length, take, Ok, Err, ap, sym, Option, refl, arith, nat_lt, inl, inr, length-append}
+use Rattle.std.proofs.Common.{◌≡◌, ◌∙◌, ℕ, zero, suc, ◌+◌, ◌-◌, ◌^◌, ◌<◌, ◌≤◌, List, [], ◌∷◌, ◌++◌, length, take, Ok, Err, ap, sym, Option, refl, arith, nat_lt, inl, inr, length-append}
 use Rattle.std.proofs.lemmas.Bool.{cond-false, le-ltb, cases_lt}
 use Rattle.std.proofs.lemmas.List.{length-take-le, take-append-le}
 use Rattle.std.proofs.Math.Seq.{take-append-add}
-use Rattle.sum_sources.specs.Contents.{Fault, Other, Broken, Content, limit, clip_to, IfKnown, ReadsFrom}
-use Rattle.sum_sources.specs.LineReaders.{with_prefix}
+use Rattle.sum_sources.specs.Contents.{Fault, Other, Broken, Content, limit, clip_to, IfKnown, ReadsFrom, empty_content, with_prefix}
 use Rattle.sum_sources.proofs.ContentLemmas.{Gave-is, limit-value, clip_to-short}
 
 -- a content of n bytes or more is cut
@@ -34,18 +33,15 @@ clip_to-with_prefix n k prefix c sum some = elim (cases_lt (length c.bytes) k) [
 pub clipped-bytes : (c d : Content) (part rest : List ℕ) (n t : ℕ) → n ≤ length part → 0 < length part
     → t + n < 2 ^ 61 → ReadsFrom c d (Ok n) part
     → ReadsFrom (clip_to (limit - t) c) (clip_to (limit - (t + n)) d) (Ok n) (part ++ rest)
-clipped-bytes c d part rest n t few some fits read =
-    let size : length (take n part) ≡ n = length-take-le n part few in
-    let split : c ≡ with_prefix (take n part) d = Gave-is c d (take n part) (read.0, read.1) in
-    let cut : clip_to (limit - t) c ≡ with_prefix (take n part) (clip_to (limit - (t + n)) d) =
-    rw split (clip_to-with_prefix (limit - t) (limit - (t + n)) (take n part) d
-    (rw limit-value (omega arith)) (rw limit-value (omega arith))) in (
-      rw (take-append-le n part rest few) (ap (λ (x : Content). x.bytes) cut),
-      sym (ap (λ (x : Content). x.ending) cut),
-      λ none _.
-          let end = read.2 none some in
-          rw (clip_to-short (limit - t) c (rw (end.0, limit-value) (omega arith))) end,
-    )
+clipped-bytes c d [] rest n t few some fits read = absurd (omega arith)
+clipped-bytes c d (b ∷ part) rest zero t few some fits read =
+    rw read (clip_to-short (limit - t) empty_content (rw limit-value (omega arith)))
+clipped-bytes c d (b ∷ part) rest (suc n) t few some fits read =
+    let size : length (take (suc n) (b ∷ part)) ≡ suc n = length-take-le (suc n) (b ∷ part) few in
+    rw read
+    (clip_to-with_prefix (limit - t) (limit - (t + suc n)) (take (suc n) (b ∷ part)) d
+    (rw limit-value (omega arith)) (rw limit-value (omega arith))
+    ∙ ap (λ bytes. with_prefix bytes (clip_to (limit - (t + suc n)) d)) (sym (take-append-le (suc n) (b ∷ part) rest few)))
 
 -- a fault
 pub clipped-fault : (c d : Content) (f : Fault) (t : ℕ) → t < 2 ^ 61 → ReadsFrom c d (Err f) []

@@ -1,11 +1,11 @@
 -- Contents of inputs, and what counts of them; states of inputs and of sources, and what a read and an opening change.
-use Rattle.std.specs.Prelude.{ℕ, ℤ, pos, ◌≡◌, ◌<◌, ◌-◌, List, [], ◌++◌, take, length, Option, None, Some, Result, Ok, Err, ⊤, nat_lt, if◌then◌else◌, codes, ◌∷◌, ◌||◌, Bool, is_none, is_some, option_map}
+use Rattle.std.specs.Prelude.{ℕ, zero, suc, ℤ, pos, ◌≡◌, ◌<◌, ◌-◌, ◌^◌, List, [], ◌++◌, take, length, Option, None, Some, Result, Ok, Err, ⊤, nat_lt, if◌then◌else◌, codes, ◌∷◌, ◌||◌, Bool, is_none, is_some, option_map}
 use Rattle.std.specs.Option.{option_or, option_map_or}
 use Rattle.std.specs.Ordering.{int_eq}
 use Rattle.std.specs.declared.io.ErrorKind.{ErrorKind}
 use Rattle.std.specs.declared.io.ErrorKind.TheVariants as kinds
 use Rattle.digest_kinds.specs.Kinds.{digest, KindValue}
-use Rattle.digest_kinds.specs.Limits.{LIMIT, one_more}
+use Rattle.digest_kinds.specs.Limits.{one_more}
 use Rattle.sum_sources.specs.Phases.{Phase, Ended, Past}
 pub use Rattle.sum_sources.specs.declared.fault.Fault.{Fault}
 pub use Rattle.sum_sources.specs.declared.fault.Fault.TheVariants.{NotFound, Denied, IsADirectory, NotADirectory, FilesystemLoop, InvalidFilename, WouldBlock, StaleHandle, NoDevice, NotOpen, Other}
@@ -28,7 +28,7 @@ pub record InputState : Type 0 where
 
 -- an input of so many bytes or more is too long
 unfoldable pub limit : ℕ
-limit = LIMIT
+limit = 2 ^ 61
 
 -- a content of which fewer than n bytes count; a longer one counts as its prefix and then a fault
 abbrev pub clip_to : ℕ → Content → Content
@@ -43,11 +43,21 @@ IfKnown None new P = ⊤
 IfKnown (Some a) None P = ⊥
 IfKnown (Some a) (Some b) P = P a b
 
--- a read takes the first bytes; the end, if the ending is whole, and its fault, if not, come only if no byte remains
+-- no bytes, and a whole ending
+abbrev pub empty_content : Content
+empty_content = record { bytes = []; ending = Whole }
+
+-- a content with these bytes in front
+abbrev pub with_prefix : List ℕ → Content → Content
+with_prefix prefix c = record { bytes = prefix ++ c.bytes; ending = c.ending }
+
+-- a read takes the first bytes, some if there is room; or if none remains, it gives the end or the fault of the content,
+-- and what remains after that is open
 abbrev pub ReadsFrom : Content → Content → Result ℕ Fault → List ℕ → Type 0
-ReadsFrom c d (Ok n) buf = (c.bytes ≡ take n buf ++ d.bytes) × (d.ending ≡ c.ending)
-    × (n ≡ 0 → 0 < length buf → (c.bytes ≡ []) × (c.ending ≡ Whole))
-ReadsFrom c d (Err f) buf = (c.bytes ≡ []) × (c.ending ≡ Broken f) × (d ≡ c)
+ReadsFrom c d (Ok zero) [] = d ≡ c
+ReadsFrom c d (Ok zero) (b ∷ buf) = c ≡ empty_content
+ReadsFrom c d (Ok (suc n)) buf = c ≡ with_prefix (take (suc n) buf) d
+ReadsFrom c d (Err f) buf = c ≡ record { bytes = []; ending = Broken f }
 
 -- the digest of a content that ends whole, or the fault by which it ends
 abbrev pub Hashes : KindValue → Content → Result (List ℕ) Fault → Type 0
@@ -84,10 +94,6 @@ fault_of_error kinds.InvalidFilename number = InvalidFilename
 fault_of_error kinds.WouldBlock number = WouldBlock
 fault_of_error kinds.StaleNetworkFileHandle number = StaleHandle
 fault_of_error kind number = fault_of_number number
-
--- no bytes, and a whole ending
-abbrev pub empty_content : Content
-empty_content = record { bytes = []; ending = Whole }
 
 -- standard input
 pub record StdinValue (I : Type 0) : Type 0 where
@@ -126,7 +132,7 @@ Reply = Result Content Fault
 
 -- what is known of a source: its reply to each name, and the names that it was asked, in order
 pub record KnownSource : Type 0 where
-  pub answer : List ℕ → Reply
+  pub answer : List (List ℕ) → List ℕ → Reply
   pub asked : List (List ℕ)
 
 -- the state of a source: its replies and the names asked, if known; and its counts, each of which stays at 2^64 - 1
@@ -159,7 +165,8 @@ closed_state s phase = s
 
 -- a source is asked one name more, and this is its reply
 abbrev pub AsksName : KnownSource → KnownSource → List ℕ → Option Reply → Type 0
-AsksName s t name reply = (t ≡ record s { asked = s.asked ++ name ∷ [] }) × (reply ≡ Some (s.answer name))
+AsksName s t name reply = (t ≡ record { answer = λ asked. s.answer (name ∷ asked); asked = s.asked ++ name ∷ [] })
+    × (reply ≡ Some (s.answer [] name))
 
 -- opening a name: nothing changes for want of memory; else it was asked, and its reply is the file's content or fault
 abbrev pub OpenOf : {F : Type 0} → (F → InputState) → KnownSource → KnownSource → List ℕ → Result F OpenFault → Type 0

@@ -30,4 +30,4 @@ pub record ToldFiles : Type 0 where
 
 -- what is known of it
 abbrev pub known_source : ToldFiles → KnownSource
-known_source s = record { answer = first_reply s.pairs; asked = s.asked }
+known_source s = record { answer = λ _. first_reply s.pairs; asked = s.asked }

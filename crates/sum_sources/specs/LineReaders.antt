@@ -1,7 +1,6 @@
 -- The state of a reader of lines, and what a call changes in it.
-use Rattle.std.specs.Prelude.{ℕ, ◌≡◌, ◌+◌, ◌-◌, ◌<◌, ◌≤◌, ◌⊎◌, ⊤, List, [], ◌++◌, length, Option, None, Some, Result, Ok, Err, OnOk, MatchOption, option_map}
-use Rattle.digest_kinds.specs.Limits.{LIMIT}
-use Rattle.sum_sources.specs.Contents.{Fault, Broken, Content, InputState, limit, clip_to, empty_content}
+use Rattle.std.specs.Prelude.{ℕ, ◌≡◌, ◌+◌, ◌-◌, ◌^◌, ◌<◌, ◌≤◌, ◌⊎◌, ⊤, List, [], ◌++◌, length, Option, None, Some, Result, Ok, Err, OnOk, MatchOption, option_map}
+use Rattle.sum_sources.specs.Contents.{Fault, Broken, Content, InputState, limit, clip_to, empty_content, with_prefix}
 use Rattle.sum_sources.specs.ManifestLines.{Next, Line, NoMore, LineStop, NoNewline, NextLineIs, lines_after}
 use Rattle.sum_sources.specs.Phases.{Phase, Reading, Ended}
 use Rattle.sum_sources.specs.declared.line_reader.LineStop.TheVariants as stops
@@ -22,13 +21,9 @@ consumed r = r.taken - length r.ahead
 pub record Bounded {I : Type 0} (r : LineReaderValue I) : Type 0 where
   pub lines : r.lines + length r.ahead ≤ r.taken
   pub ahead : length r.ahead ≤ 8192
-  pub taken : r.taken ≤ LIMIT
+  pub taken : r.taken ≤ 2 ^ 61
   -- only a fault may come with the limit
-  pub under : (r.taken < LIMIT) ⊎ ((f : Fault) × (r.final_answer ≡ Some (Err (stops.Fault f))))
-
--- a content with these bytes in front
-abbrev pub with_prefix : List ℕ → Content → Content
-with_prefix prefix c = record { bytes = prefix ++ c.bytes; ending = c.ending }
+  pub under : (r.taken < 2 ^ 61) ⊎ ((f : Fault) × (r.final_answer ≡ Some (Err (stops.Fault f))))
 
 -- the remaining content, given the final answer: nothing after the end, and just the fault after a fault
 abbrev pub left_by : Option (Result Next LineStop) → Option Content → Option Content

@@ -1,8 +1,7 @@
 //! The lines of a manifest, one at a time.
-ghost use Rattle.std.specs.Prelude.{◌≡◌, ◌≤◌, ◌<◌, ◌+◌, [], true, false, length};
+ghost use Rattle.std.specs.Prelude.{◌≡◌, ◌≤◌, ◌<◌, ◌+◌, ◌^◌, [], true, false, length};
 ghost use Rattle.std.specs.Prelude.{None, Some, Err, IfOk, IfSome, IsErr, MatchResult, if◌then◌else◌};
 ghost use Rattle.std.specs.Str.Lines.{strip_carriage_return};
-ghost use Rattle.digest_kinds.specs.Limits.{LIMIT};
 ghost use Rattle.sum_sources.specs.Contents.{IfKnown};
 
 use crate::inputs::size_limit::read_limited;
@@ -101,7 +100,7 @@ impl<I: Input> LineReader<I> {
     /// How many bytes were read from the input.
     pub fn taken(&self) -> u64
         ensures value { result ≡ self.now.taken }
-        ensures most { result ≤ LIMIT }
+        ensures most { result ≤ 2 ^ 61 }
     {
         self.taken
     }
@@ -129,7 +128,7 @@ impl<I: Input> LineReader<I> {
             (λ c d. FillOf c d result) }
         ensures more { result ≡ Ok true → self.old.taken < self.new.taken }
         ensures consumed { IfOk result (λ _. consumed self.new ≡ consumed self.old) }
-        ensures input { IfKnown (I.state self.old.input).content (I.state self.new.input).content
+        ensures input { result ≡ Ok true → IfKnown (I.state self.old.input).content (I.state self.new.input).content
             (λ c d. self.new.taken + length d.bytes ≡ self.old.taken + length c.bytes) }
         ensures lines { self.new.lines ≡ self.old.lines }
         ensures final_answer { MatchResult result (λ _. self.new.final_answer ≡ None)
@@ -159,7 +158,7 @@ impl<I: Input> LineReader<I> {
         ensures consumed { IfOk result (λ ended. consumed self.new + length line.old.items
             ≡ consumed self.old + length line.new.items + (if ended then 1 else 0)) }
         ensures same { self.new ≡ record self.old { ahead = self.new.ahead } }
-        ensures few { (self.new.taken < LIMIT) × (length self.old.ahead ≤ self.new.taken) }
+        ensures few { (self.new.taken < 2 ^ 61) × (length self.old.ahead ≤ self.new.taken) }
     {
         if self.start == self.end {
             return Ok(false);
@@ -184,7 +183,7 @@ impl<I: Input> LineReader<I> {
         requires empty { line.old.items ≡ [] }
         requires going { self.old.final_answer ≡ None }
         ensures line { ReadsSomeLine I.state self.old self.new result (strip_carriage_return line.new.items) }
-        ensures input { IfKnown (I.state self.old.input).content (I.state self.new.input).content
+        ensures input { self.new.final_answer ≡ None → IfKnown (I.state self.old.input).content (I.state self.new.input).content
             (λ c d. self.new.taken + length d.bytes ≡ self.old.taken + length c.bytes) }
         ensures some { result ≡ Ok Next.Line → consumed self.old < consumed self.new }
         ensures lines { self.new.lines ≡ self.old.lines }
@@ -228,7 +227,7 @@ impl<I: Input> LineReader<I> {
         // Known or not: the lines counted, how far the input was read, and which answers are final.
         ensures reader { AdvancesLines I.state self.old self.new result }
         // Bytes taken and bytes that remain in the input add up to the same.
-        ensures input { IfKnown (I.state self.old.input).content (I.state self.new.input).content
+        ensures input { self.new.final_answer ≡ None → IfKnown (I.state self.old.input).content (I.state self.new.input).content
             (λ c d. self.new.taken + length d.bytes ≡ self.old.taken + length c.bytes) }
         // At most 8192 bytes are read ahead of the lines, and no count passes its limit.
         ensures bounds { Bounded self.new }

@@ -1,6 +1,6 @@
 //! The trait of a hasher.
 
-ghost use Rattle.std.specs.Prelude.{◌≡◌, ℕ, ◌+◌, ◌<◌, List, ◌++◌, length};
+ghost use Rattle.std.specs.Prelude.{◌≡◌, ℕ, ◌+◌, ◌^◌, ◌<◌, List, ◌++◌, length};
 ghost use Rattle.digest_kinds.specs.Basics.{ByteString};
 ghost use Rattle.digest_kinds.specs.Kinds.{KindValue, digest};
 
@@ -29,7 +29,7 @@ pub trait Hasher {
 
     /// Takes the message's next piece. The whole message has to stay below [`LIMIT`](crate::LIMIT) bytes.
     fn update(&mut self, piece: &[u8])
-        requires { taken_of self.old + length piece.now < LIMIT }
+        requires { taken_of self.old + length piece.now < 2 ^ 61 }
         // For each message that it may have taken: it has then taken that and the piece.
         ensures holds { (m : ByteString) → holds self.old m → holds self.new (m ++ piece.now) }
         ensures taken { taken_of self.new ≡ taken_of self.old + length piece.now }

@@ -161,8 +161,8 @@ pub record IsAtStart {I : Type 0} (state : I → InputState) (p : CursorValue I)
 pub record AdvancesCursor {I : Type 0} (state : I → InputState) (a b : CursorValue I) (x : Result Progress Stop)
     : Type 0 where
   pub rules : b.rules ≡ a.rules
-  -- bytes taken and bytes left in the input add up to the same
-  pub taken : IfKnown (state a.reader.input).content (state b.reader.input).content
+  -- bytes taken and bytes left in the input add up to the same, until its end or a stop was met
+  pub taken : b.reader.final_answer ≡ None → IfKnown (state a.reader.input).content (state b.reader.input).content
       (λ c d. b.reader.taken + length d.bytes ≡ a.reader.taken + length c.bytes)
   pub number : x ≡ Ok Going → b.reader.lines ≡ a.reader.lines + 1
   -- the input is read as far as the reader's answers say: if the manifest is good, to its end

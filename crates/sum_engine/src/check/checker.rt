@@ -1,5 +1,5 @@
 //! Checking a manifest, a line at a time.
-ghost use Rattle.std.specs.Prelude.{◌≡◌, ◌≤◌, None, IfSome};
+ghost use Rattle.std.specs.Prelude.{◌≡◌, ◌≤◌, ◌^◌, None, IfSome};
 ghost use Rattle.sum_engine.specs.check.Checking.{rules_of};
 
 use crate::check::cursor::CheckCursor;
@@ -9,7 +9,6 @@ use crate::inputs::Inputs;
 use crate::settings::CheckSettings;
 use crate::stop::Stop;
 use crate::streams::{Outputs, Streams};
-use digest_kinds::LIMIT;
 use std::alloc::Allocator;
 use std::marker::Model;
 use sum_lines::Sink;
@@ -73,7 +72,7 @@ impl<'a, I: Input> Checker<'a, I> {
     /// How many bytes the manifest's input has given.
     pub fn taken(&self) -> u64
         ensures value { result ≡ self.now.cursor.reader.taken }
-        ensures at_most { result ≤ LIMIT }
+        ensures at_most { result ≤ 2 ^ 61 }
     {
         self.cursor.taken()
     }

@@ -1,7 +1,6 @@
 //! The place in a manifest that is being checked.
-ghost use Rattle.std.specs.Prelude.{◌≡◌, ◌≤◌, ◌<◌, Ok, Err, None, [], length, Option};
+ghost use Rattle.std.specs.Prelude.{◌≡◌, ◌≤◌, ◌<◌, ◌^◌, Ok, Err, None, [], length, Option};
 ghost use Rattle.std.specs.Prelude.{true, false, IfSome, IfOk};
-ghost use Rattle.digest_kinds.specs.Limits.{LIMIT};
 ghost use Rattle.sum_engine.specs.check.CheckerSteps.{counts_with};
 ghost use Rattle.sum_engine.specs.refinement.Counters.{counts_value, total};
 
@@ -14,7 +13,6 @@ use crate::inputs::Inputs;
 use crate::put_flushed::put_fault_line;
 use crate::stop::Stop;
 use crate::streams::{Outputs, Streams};
-use digest_kinds::LIMIT;
 use std::alloc::Allocator;
 use sum_lines::{Form, Reading, Sink, read_line};
 use sum_sources::{Input, LineReader, LineStop, Next, PIECE, Source};
@@ -62,7 +60,7 @@ impl<I: Input> CheckCursor<I> {
     /// How many bytes the manifest's input has given.
     pub(crate) fn taken(&self) -> u64
         ensures value { result ≡ self.now.reader.taken }
-        ensures at_most { result ≤ LIMIT }
+        ensures at_most { result ≤ 2 ^ 61 }
     {
         self.reader.taken()
     }
@@ -163,7 +161,7 @@ impl<I: Input> CheckCursor<I> {
         inputs: &mut Inputs<J, S>,
     ) -> Option<LineVerdict>
         requires few { total (counts_value self.old.counts) < self.old.reader.lines }
-        requires lines { self.old.reader.lines ≤ LIMIT }
+        requires lines { self.old.reader.lines ≤ 2 ^ 61 }
         ensures verdict { InSomeWorld S.state inputs.old inputs.new (λ w v. JudgeLineOf (cursor_value self.old)
             line.old.items (counts_value self.new.counts) line.new.items w v result) }
         ensures asked { AskedMore (S.state inputs.old.source) (S.state inputs.new.source)
@@ -204,7 +202,7 @@ impl<I: Input> CheckCursor<I> {
     // Counts the verdict of the line that was read last, whose name is at this range.
     fn count_verdict(&mut self, verdict: Verdict, start: usize, stop: usize) -> LineVerdict
         requires few { total (counts_value self.old.counts) < self.old.reader.lines }
-        requires lines { self.old.reader.lines ≤ LIMIT }
+        requires lines { self.old.reader.lines ≤ 2 ^ 61 }
         ensures is { result
             ≡ record { number = self.old.reader.lines; verdict = verdict; start = start; stop = stop } }
         ensures counts { counts_value self.new.counts ≡ counts_with (counts_value self.old.counts) verdict }

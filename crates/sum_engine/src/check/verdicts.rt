@@ -1,5 +1,5 @@
 //! The verdicts of a manifest, without any text.
-ghost use Rattle.std.specs.Prelude.{◌≡◌, ◌≤◌, ◌&&◌, None, IfOk, IfSome};
+ghost use Rattle.std.specs.Prelude.{◌≡◌, ◌≤◌, ◌^◌, ◌&&◌, None, IfOk, IfSome};
 ghost use Rattle.std.specs.Option.{option_and_then};
 ghost use Rattle.sum_engine.specs.check.Checking.{rules_of};
 ghost use Rattle.sum_engine.specs.check.NextVerdict.{final_answer_of_next};
@@ -9,7 +9,6 @@ use crate::check::judge::LineVerdict;
 use crate::check::rules::CheckRules;
 use crate::inputs::Inputs;
 use crate::settings::CheckSettings;
-use digest_kinds::LIMIT;
 use std::alloc::Allocator;
 use std::marker::Model;
 use sum_sources::{Input, LineStop, Source};
@@ -56,7 +55,7 @@ impl<I: Input> Verdicts<I> {
     /// How many bytes the manifest's input has given.
     pub fn taken(&self) -> u64
         ensures value { result ≡ self.now.cursor.reader.taken }
-        ensures at_most { result ≤ LIMIT }
+        ensures at_most { result ≤ 2 ^ 61 }
     {
         self.cursor.taken()
     }

@@ -1,7 +1,5 @@
 -- The view of a reader of lines, its invariant, and what its steps change.
-use Rattle.std.specs.Prelude.{◌≡◌, ◌+◌, ◌-◌, ◌<◌, ◌≤◌, ◌⊎◌, take, drop, Option, None, Some, Result, Ok, Err, Bool, true, false, ℕ, List, [], ◌∷◌, ◌++◌}
-use Rattle.digest_kinds.specs.Limits.{LIMIT}
-use Rattle.sum_sources.specs.declared.inputs.input.TheConstants.{PIECE}
+use Rattle.std.specs.Prelude.{◌≡◌, ◌+◌, ◌-◌, ◌^◌, ◌<◌, ◌≤◌, ◌⊎◌, take, drop, Option, None, Some, Result, Ok, Err, Bool, true, false, ℕ, List, [], ◌∷◌, ◌++◌}
 use Rattle.sum_sources.specs.Contents.{Fault, Broken, Content, empty_content}
 use Rattle.sum_sources.specs.declared.line_reader.LineReader.TheInside.{Inside}
 use Rattle.sum_sources.specs.declared.line_reader.ReaderState.{ReaderState}
@@ -29,10 +27,10 @@ line_reader_view s = record {
 -- what the fields keep
 pub record LineReaderInvariant {I : Type 0} (s : Inside I) : Type 0 where
   pub start_in : s.start ≤ s.end
-  pub end_in : s.end ≤ PIECE
+  pub end_in : s.end ≤ 8192
   pub each : s.lines + (s.end - s.start) ≤ s.taken
-  pub most : s.taken ≤ LIMIT
-  pub under : (s.taken < LIMIT) ⊎ ((f : Fault) × (s.state ≡ Stopped (stops.Fault f)))
+  pub most : s.taken ≤ 2 ^ 61
+  pub under : (s.taken < 2 ^ 61) ⊎ ((f : Fault) × (s.state ≡ Stopped (stops.Fault f)))
   pub wants : s.state ≡ Stopped stops.Memory → s.start < s.end
 
 -- filling the empty buffer: the remaining content stays, or nothing remains, by the ending

@@ -13,7 +13,8 @@ pub enum Phase {
     Ended,
     /// A read failed.
     Failed,
-    /// It was read again after its end or a fault, and stays so for ever. A type that keeps no phase counts as this.
+    /// It was read again after its end or a fault, or a read asked for no bytes. It stays so for ever. A type that keeps
+    /// no phase counts as this.
     Past,
 }
 
@@ -22,10 +23,13 @@ impl Phase {
     pub fn after(self, size: usize, read: &Result<usize, Fault>) -> Phase
         ensures { result ≡ phase_after self size read.now }
     {
+        if size == 0 {
+            return Phase::Past;
+        }
         match (self, read) {
-            (Phase::Reading, Err(_)) => Phase::Failed,
-            (Phase::Reading, Ok(0)) if size > 0 => Phase::Ended,
+            (Phase::Reading, Ok(0)) => Phase::Ended,
             (Phase::Reading, Ok(_)) => Phase::Reading,
+            (Phase::Reading, Err(_)) => Phase::Failed,
             _ => Phase::Past,
         }
     }

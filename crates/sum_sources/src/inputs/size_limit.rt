@@ -1,9 +1,7 @@
 //! An input ends at the limit.
-ghost use Rattle.std.specs.Prelude.{◌≡◌, ◌≤◌, ◌<◌, ◌+◌, ◌-◌, length, IfOk, OnOk};
-ghost use Rattle.digest_kinds.specs.Limits.{LIMIT};
+ghost use Rattle.std.specs.Prelude.{◌≡◌, ◌≤◌, ◌<◌, ◌+◌, ◌-◌, ◌^◌, length, IfOk, OnOk};
 ghost use Rattle.sum_sources.specs.Contents.{IfKnown, ReadsFrom, limit, clip_to};
 ghost use Rattle.sum_sources.specs.Phases.{phase_after};
-ghost use Rattle.sum_sources.specs.declared.inputs.input.TheConstants.{PIECE};
 
 use crate::{Fault, Input, PIECE};
 use digest_kinds::LIMIT;
@@ -15,18 +13,18 @@ pub(crate) fn read_limited<I: Input>(
     taken: &mut u64,
     buffer: &mut [u8; PIECE],
 ) -> Result<usize, Fault>
-    requires { taken.old ≤ LIMIT }
-    ensures most { taken.new ≤ LIMIT }
-    ensures size { length buffer.new ≡ PIECE }
-    ensures count { IfOk result (λ n. n ≤ PIECE) }
+    requires { taken.old ≤ 2 ^ 61 }
+    ensures most { taken.new ≤ 2 ^ 61 }
+    ensures size { length buffer.new ≡ 8192 }
+    ensures count { IfOk result (λ n. n ≤ 8192) }
     ensures taken { IfOk result (λ n. taken.new ≡ taken.old + n) }
     ensures more { taken.old ≤ taken.new }
-    ensures few { IfOk result (λ _. taken.new < LIMIT) }
+    ensures few { IfOk result (λ _. taken.new < 2 ^ 61) }
     ensures bytes { IfKnown (I.state input.old).content (I.state input.new).content (λ c d.
         ReadsFrom (clip_to (limit - taken.old) c) (clip_to (limit - taken.new) d) result buffer.new) }
-    ensures phase { OnOk result ((I.state input.new).phase ≡ phase_after (I.state input.old).phase PIECE result) }
-    ensures input { IfKnown (I.state input.old).content (I.state input.new).content
-        (λ c d. taken.new + length d.bytes ≡ taken.old + length c.bytes) }
+    ensures input { IfOk result (λ n. 0 < n → IfKnown (I.state input.old).content (I.state input.new).content
+        (λ c d. taken.new + length d.bytes ≡ taken.old + length c.bytes)) }
+    ensures phase { OnOk result ((I.state input.new).phase ≡ phase_after (I.state input.old).phase 8192 result) }
 {
     if *taken == LIMIT {
         return Err(Fault::Other);

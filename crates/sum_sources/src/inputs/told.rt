@@ -1,12 +1,12 @@
 //! An input in memory.
-ghost use Rattle.std.specs.Prelude.{◌≡◌, ◌≤◌, length, max, IfOk};
+ghost use Rattle.std.specs.Prelude.{◌≡◌, ◌≤◌, [], length, max, IfOk};
 ghost use Rattle.sum_sources.specs.Contents.{ReadsFrom};
 ghost use Rattle.sum_sources.specs.Phases.{phase_after};
 
 use crate::{Ending, Fault, Input, Phase};
 use std::marker::Model;
 
-/// An input of bytes in memory, which are known.
+/// An input of bytes in memory, which are known. It gives its end, or its fault, again and again.
 #[derive(Drop)]
 pub struct Told<'a> {
     rest: &'a [u8],
@@ -58,6 +58,7 @@ impl<'a> Told<'a> {
     fn give(&mut self, buf: &mut [u8]) -> Result<usize, Fault>
         ensures count { IfOk result (λ n. n ≤ length buf.new) }
         ensures bytes { ReadsFrom self.old.content self.new.content result buf.new }
+        ensures repeats { self.old.content.bytes ≡ [] → self.new.content ≡ self.old.content }
         ensures few { IfOk result (λ n. n ≤ self.old.piece) }
         ensures same { self.new ≡ record self.old { content = self.new.content } }
     {
@@ -83,6 +84,7 @@ impl<'a> Input for Told<'a> {
     fn read(&mut self, buf: &mut [u8]) -> Result<usize, Fault>
         ensures count { IfOk result (λ n. n ≤ length buf.new) }
         ensures bytes { ReadsFrom self.old.content self.new.content result buf.new }
+        ensures repeats { self.old.content.bytes ≡ [] → self.new.content ≡ self.old.content }
         ensures few { IfOk result (λ n. n ≤ self.old.piece) }
         ensures piece { self.new.piece ≡ self.old.piece }
         ensures phase { self.new.phase ≡ phase_after self.old.phase (length buf.old) result }
