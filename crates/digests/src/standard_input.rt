@@ -5,10 +5,7 @@ ghost use Rattle.sum_sources.specs.declared.inputs.phase.Phase.TheVariants.{Read
 
 use std::io::{Error, Stdin};
 use std::os::fd::AsFd;
-use sum_sources::{Closable, FromRead};
-
-/// The system's number for "bad file descriptor", `EBADF`.
-const EBADF: i32 = 9;
+use sum_sources::{Closable, EBADF, FromRead};
 
 /// Standard input, of which nothing is read yet. A closed one is noticed here, before any file is opened: the system
 /// would give its number to the next file, and that file's bytes would be read as standard input.

@@ -2,7 +2,7 @@
 use Rattle.std.specs.Prelude.{ℕ, true, false, List, [], ◌∷◌, codes, Result, Ok, Err}
 use Rattle.std.specs.List.{concat}
 use Rattle.sum_engine.specs.Behavior.{Fault, World, reply, digest_or_fault, Behavior, single_step}
-use Rattle.sum_sources.specs.Contents.{fault_text}
+use Rattle.sum_sources.specs.Faults.{fault_text}
 use Rattle.sum_lines.specs.Lines.{line}
 pub use Rattle.sum_engine.specs.declared.settings.Settings.{Settings}
 use Rattle.sum_lines.specs.Escape.{Profile, present, escape_by}

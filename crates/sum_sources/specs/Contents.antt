@@ -1,14 +1,11 @@
 -- Contents of inputs, and what counts of them; states of inputs and of sources, and what a read and an opening change.
 use Rattle.std.specs.Prelude.{ℕ, zero, suc, ℤ, pos, ◌≡◌, ◌<◌, ◌-◌, ◌^◌, List, [], ◌++◌, take, length, Option, None, Some, Result, Ok, Err, ⊤, nat_lt, if◌then◌else◌, codes, ◌∷◌, ◌||◌, Bool, is_none, is_some, option_map}
 use Rattle.std.specs.Option.{option_or, option_map_or}
-use Rattle.std.specs.Ordering.{int_eq}
-use Rattle.std.specs.declared.io.ErrorKind.{ErrorKind}
-use Rattle.std.specs.declared.io.ErrorKind.TheVariants as kinds
 use Rattle.digest_kinds.specs.Kinds.{digest, KindValue}
 use Rattle.digest_kinds.specs.Limits.{one_more}
 use Rattle.sum_sources.specs.Phases.{Phase, Ended, Past}
 pub use Rattle.sum_sources.specs.declared.fault.Fault.{Fault}
-pub use Rattle.sum_sources.specs.declared.fault.Fault.TheVariants.{NotFound, Denied, IsADirectory, NotADirectory, FilesystemLoop, InvalidFilename, WouldBlock, StaleHandle, NoDevice, NotOpen, Other}
+pub use Rattle.sum_sources.specs.declared.fault.Fault.TheVariants.{NotFound, Denied, Other, Os}
 pub use Rattle.sum_sources.specs.declared.fault.Ending.{Ending}
 pub use Rattle.sum_sources.specs.declared.fault.Ending.TheVariants.{Whole, Broken}
 use Rattle.sum_sources.specs.declared.inputs.closable.Closable.{Closable}
@@ -64,37 +61,6 @@ abbrev pub Hashes : KindValue → Content → Result (List ℕ) Fault → Type 0
 Hashes kind c (Ok d) = (c.ending ≡ Whole) × (d ≡ digest kind c.bytes)
 Hashes kind c (Err f) = c.ending ≡ Broken f
 
--- the texts of the faults
-abbrev pub fault_text : Fault → List ℕ
-fault_text NotFound = codes "No such file or directory"
-fault_text Denied = codes "Permission denied"
-fault_text IsADirectory = codes "Is a directory"
-fault_text NotADirectory = codes "Not a directory"
-fault_text FilesystemLoop = codes "Too many levels of symbolic links"
-fault_text InvalidFilename = codes "File name too long"
-fault_text WouldBlock = codes "Resource temporarily unavailable"
-fault_text StaleHandle = codes "Stale file handle"
-fault_text NoDevice = codes "No such device or address"
-fault_text NotOpen = codes "Bad file descriptor"
-fault_text Other = codes "Input/output error"
-
--- the fault of one of the system's numbers: 6 is ENXIO, 9 is EBADF
-abbrev pub fault_of_number : Option ℤ → Fault
-fault_of_number (Some n) = if int_eq n (pos 6) then NoDevice else if int_eq n (pos 9) then NotOpen else Other
-fault_of_number None = Other
-
--- the fault of an error of this kind and number
-abbrev pub fault_of_error : ErrorKind → Option ℤ → Fault
-fault_of_error kinds.NotFound number = NotFound
-fault_of_error kinds.PermissionDenied number = Denied
-fault_of_error kinds.IsADirectory number = IsADirectory
-fault_of_error kinds.NotADirectory number = NotADirectory
-fault_of_error kinds.FilesystemLoop number = FilesystemLoop
-fault_of_error kinds.InvalidFilename number = InvalidFilename
-fault_of_error kinds.WouldBlock number = WouldBlock
-fault_of_error kinds.StaleNetworkFileHandle number = StaleHandle
-fault_of_error kind number = fault_of_number number
-
 -- standard input
 pub record StdinValue (I : Type 0) : Type 0 where
   pub input : Option I  -- its input, until that is taken
@@ -116,10 +82,10 @@ stdin_taken stdin = is_none stdin.input || is_some stdin.returned
 abbrev pub stdin_phase : {I : Type 0} → (I → InputState) → StdinValue I → Option Phase
 stdin_phase state stdin = option_map (λ i. (state i).phase) (option_or stdin.returned stdin.input)
 
--- the state of an input that may be closed: then only a fault remains, by which each read fails
+-- the state of an input that may be closed: then only a fault remains, by which each read fails: 9 is EBADF
 abbrev pub unless_closed : {I : Type 0} → (I → InputState) → Closable I → InputState
 unless_closed state (Open i) = state i
-unless_closed state (Closed p) = record { content = Some (record { bytes = []; ending = Broken NotOpen }); phase = p }
+unless_closed state (Closed p) = record { content = Some (record { bytes = []; ending = Broken (Os (pos 9)) }); phase = p }
 
 -- an input over a reader
 pub record OverReader (R : Type 0) : Type 0 where

@@ -1,4 +1,5 @@
 pub mod Contents
+pub mod Faults
 pub mod InMemory
 pub mod LineReaders
 pub mod ManifestLines

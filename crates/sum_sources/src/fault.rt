@@ -1,7 +1,9 @@
 //! Faults of opening and reading, and how an input ends.
 ghost use Rattle.std.specs.Prelude.{◌≡◌};
 ghost use Rattle.std.specs.IoError.{error_kind, raw_os_error};
-ghost use Rattle.sum_sources.specs.Contents.{fault_text, fault_of_error, fault_of_number};
+ghost use Rattle.std.specs.Option.{option_map};
+ghost use Rattle.sum_sources.specs.Faults.{fault_text, fault_of_error, fault_of_number, fault_of_kind, reason};
+ghost use Rattle.sum_sources.specs.Faults.{reason_in, file_reasons, store_reasons, network_reasons};
 
 use std::io::{self, ErrorKind};
 use std::{error, fmt};
@@ -16,23 +18,18 @@ pub enum Fault {
     Denied,
     /// None of the others.
     Other,
-    /// It is a directory (`EISDIR`).
-    IsADirectory,
-    /// A part of the name that has to be a directory is none (`ENOTDIR`).
-    NotADirectory,
-    /// The name leads through too many symbolic links (`ELOOP`).
-    FilesystemLoop,
-    /// The name is too long (`ENAMETOOLONG`).
-    InvalidFilename,
-    /// No byte is there yet, and a read doesn't wait (`EAGAIN`).
-    WouldBlock,
-    /// The file went away on its server while it was open (`ESTALE`).
-    StaleHandle,
-    /// The file is a socket, or a device that isn't there (`ENXIO`).
-    NoDevice,
-    /// The input isn't open (`EBADF`).
-    NotOpen,
+    /// Another reason of the system, by its number (`errno`).
+    Os(i32),
 }
+
+// The text of a reason that isn't known, and that of the system's number 5, EIO.
+const OTHER: &str = "Input/output error";
+
+// No such file or directory.
+const ENOENT: i32 = 2;
+
+// Permission denied.
+const EACCES: i32 = 13;
 
 impl Fault {
     /// The fault as diagnostics show it.
@@ -42,15 +39,8 @@ impl Fault {
         match self {
             Fault::NotFound => "No such file or directory",
             Fault::Denied => "Permission denied",
-            Fault::IsADirectory => "Is a directory",
-            Fault::NotADirectory => "Not a directory",
-            Fault::FilesystemLoop => "Too many levels of symbolic links",
-            Fault::InvalidFilename => "File name too long",
-            Fault::WouldBlock => "Resource temporarily unavailable",
-            Fault::StaleHandle => "Stale file handle",
-            Fault::NoDevice => "No such device or address",
-            Fault::NotOpen => "Bad file descriptor",
-            Fault::Other => "Input/output error",
+            Fault::Other => OTHER,
+            Fault::Os(number) => reason(number).unwrap_or(OTHER),
         }
     }
 }
@@ -67,36 +57,125 @@ impl fmt::Display for Fault {
 
 impl error::Error for Fault {}
 
-// Linux' numbers of the errors that have no kind.
-const ENXIO: i32 = 6;
-
-const EBADF: i32 = 9;
-
-/// The fault for an error of std's, by its kind and number.
+/// The fault for an error of std's. Its number decides; if it has none, its kind does.
 pub(crate) fn fault_of(error: &io::Error) -> Fault
     ensures { result ≡ fault_of_error (error_kind error.now) (raw_os_error error.now) }
 {
-    match error.kind() {
-        ErrorKind::NotFound => Fault::NotFound,
-        ErrorKind::PermissionDenied => Fault::Denied,
-        ErrorKind::IsADirectory => Fault::IsADirectory,
-        ErrorKind::NotADirectory => Fault::NotADirectory,
-        ErrorKind::FilesystemLoop => Fault::FilesystemLoop,
-        ErrorKind::InvalidFilename => Fault::InvalidFilename,
-        ErrorKind::WouldBlock => Fault::WouldBlock,
-        ErrorKind::StaleNetworkFileHandle => Fault::StaleHandle,
-        _ => fault_of_number(error.raw_os_error()),
+    match error.raw_os_error() {
+        Some(number) => fault_of_number(number),
+        None => fault_of_kind(error.kind()),
     }
 }
 
 // The fault for one of the system's numbers.
-fn fault_of_number(number: Option<i32>) -> Fault
+fn fault_of_number(number: i32) -> Fault
     ensures { result ≡ fault_of_number number }
 {
     match number {
-        Some(ENXIO) => Fault::NoDevice,
-        Some(EBADF) => Fault::NotOpen,
+        ENOENT => Fault::NotFound,
+        EACCES => Fault::Denied,
+        _ if reason(number).is_some() => Fault::Os(number),
         _ => Fault::Other,
+    }
+}
+
+// The fault for an error that has no number.
+fn fault_of_kind(kind: ErrorKind) -> Fault
+    ensures { result ≡ fault_of_kind kind }
+{
+    match kind {
+        ErrorKind::NotFound => Fault::NotFound,
+        ErrorKind::PermissionDenied => Fault::Denied,
+        _ => Fault::Other,
+    }
+}
+
+// The system's text for one of its numbers, as the C library has it; `None` if opening and reading don't give that
+// number. It is three tables, since the prover takes no longer ones.
+fn reason(number: i32) -> Option<&'static str>
+    ensures { option_map (λ text. text.now) result ≡ reason number }
+{
+    if let Some(text) = file_reason(number) {
+        return Some(text);
+    }
+    if let Some(text) = store_reason(number) {
+        return Some(text);
+    }
+    network_reason(number)
+}
+
+// The texts of files, devices and processes.
+#[tactic(auto, unfolding(crate::specs::Faults::file_reasons))]
+fn file_reason(number: i32) -> Option<&'static str>
+    ensures { option_map (λ text. text.now) result ≡ reason_in file_reasons number }
+{
+    match number {
+        1 => Some("Operation not permitted"),
+        3 => Some("No such process"),
+        4 => Some("Interrupted system call"),
+        6 => Some("No such device or address"),
+        9 => Some("Bad file descriptor"),
+        11 => Some("Resource temporarily unavailable"),
+        12 => Some("Cannot allocate memory"),
+        16 => Some("Device or resource busy"),
+        19 => Some("No such device"),
+        20 => Some("Not a directory"),
+        21 => Some("Is a directory"),
+        22 => Some("Invalid argument"),
+        23 => Some("Too many open files in system"),
+        24 => Some("Too many open files"),
+        26 => Some("Text file busy"),
+        27 => Some("File too large"),
+        _ => None,
+    }
+}
+
+// The texts of names, file systems, media and keys.
+#[tactic(auto, unfolding(crate::specs::Faults::store_reasons))]
+fn store_reason(number: i32) -> Option<&'static str>
+    ensures { option_map (λ text. text.now) result ≡ reason_in store_reasons number }
+{
+    match number {
+        36 => Some("File name too long"),
+        38 => Some("Function not implemented"),
+        40 => Some("Too many levels of symbolic links"),
+        61 => Some("No data available"),
+        62 => Some("Timer expired"),
+        74 => Some("Bad message"),
+        75 => Some("Value too large for defined data type"),
+        84 => Some("Invalid or incomplete multibyte or wide character"),
+        95 => Some("Operation not supported"),
+        117 => Some("Structure needs cleaning"),
+        123 => Some("No medium found"),
+        124 => Some("Wrong medium type"),
+        126 => Some("Required key not available"),
+        127 => Some("Key has expired"),
+        128 => Some("Key has been revoked"),
+        129 => Some("Key was rejected by service"),
+        _ => None,
+    }
+}
+
+// The texts of what lies behind a network.
+#[tactic(auto, unfolding(crate::specs::Faults::network_reasons))]
+fn network_reason(number: i32) -> Option<&'static str>
+    ensures { option_map (λ text. text.now) result ≡ reason_in network_reasons number }
+{
+    match number {
+        67 => Some("Link has been severed"),
+        71 => Some("Protocol error"),
+        103 => Some("Software caused connection abort"),
+        104 => Some("Connection reset by peer"),
+        107 => Some("Transport endpoint is not connected"),
+        108 => Some("Cannot send after transport endpoint shutdown"),
+        110 => Some("Connection timed out"),
+        111 => Some("Connection refused"),
+        112 => Some("Host is down"),
+        113 => Some("No route to host"),
+        116 => Some("Stale file handle"),
+        121 => Some("Remote I/O error"),
+        125 => Some("Operation canceled"),
+        _ => None,
     }
 }
 

@@ -15,7 +15,7 @@ mod line_reader;
 mod sources;
 
 pub use fault::{Ending, Fault, NoRoom};
-pub use inputs::closable::Closable;
+pub use inputs::closable::{Closable, EBADF};
 pub use inputs::from_read::FromRead;
 pub use inputs::hash_input::{hash_input, hash_input_over};
 pub use inputs::input::{Input, PIECE};

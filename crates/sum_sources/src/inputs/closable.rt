@@ -4,7 +4,10 @@ ghost use Rattle.sum_sources.specs.Contents.{unless_closed};
 
 use crate::{Fault, Input, Phase};
 
-/// An input that may be closed: then each read fails with `Fault::NotOpen`.
+/// The system's number for "bad file descriptor".
+pub const EBADF: i32 = 9;
+
+/// An input that may be closed. Each read of a closed one fails with `Fault::Os(9)`, *Bad file descriptor*.
 #[derive(Drop)]
 pub enum Closable<I> {
     /// This input.
@@ -29,7 +32,7 @@ impl<I: Input> Input for Closable<I> {
         match self {
             Closable::Open(input) => input.read(buf),
             Closable::Closed(phase) => {
-                let result = Err(Fault::NotOpen);
+                let result = Err(Fault::Os(EBADF));
                 *phase = phase.after(buf.len(), &result);
                 result
             }

@@ -64,8 +64,8 @@ where
 
     ghost state = { λ s. record { known = None; refusals = s.refusals; opened = s.opened; ended = s.ended } };
 
-    /// Opens the file; a name that isn't UTF-8 is `Fault::Other`, since the runtime's paths are texts. Other faults are
-    /// those of the system; `OpenFault::Memory` if the runtime has no memory for the call.
+    /// Opens the file. A name that isn't UTF-8 is `Fault::Other`, since the runtime's paths are texts. Other faults are
+    /// those of the system. `OpenFault::Memory` if the runtime has no memory for the call.
     fn open_file(&mut self, name: &[u8]) -> Result<FromRead<R::File>, OpenFault>
         ensures refusals { self.new.refusals ≡ refusals_after self.old.refusals result }
         ensures opened { (self.new.opened ≡ opened_after self.old.opened result) × (self.new.ended ≡ self.old.ended) }
@@ -80,7 +80,9 @@ where
                 self.opened = self.opened.saturating_add(1);
                 Ok(FromRead::new(file))
             }
-            Err(error) if error.kind() == ErrorKind::OutOfMemory => {
+            // The system's own want of memory has a number: that is a fault of this file.
+            Err(error)
+                if error.kind() == ErrorKind::OutOfMemory && error.raw_os_error().is_none() => {
                 self.refusals = self.refusals.saturating_add(1);
                 Err(OpenFault::Memory)
             }
