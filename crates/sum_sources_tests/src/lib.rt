@@ -3,7 +3,7 @@
 
 #[cfg(test)]
 mod failing;
-pub mod fails_once;
+pub mod goes_on;
 #[cfg(test)]
 mod hashing;
 #[cfg(test)]
