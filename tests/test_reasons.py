@@ -4,20 +4,23 @@ only what isn't there is missing."""
 import errno
 import os
 import pty
+import re
 import shutil
 import stat
 import subprocess
 
 import harness
 from harness import M, Case, Ran, as_bytes, gnu
-from reference import OTHER, REASONS
+from reference import NOT_FOUND, OTHER, REASONS
 from tracing import needs_strace, strace
 
 # Names under which no file can be read, and why; and what the system may say besides.
 NAMES = {"d": errno.EISDIR, "d/": errno.EISDIR, "a/": errno.ENOTDIR, "a/.": errno.ENOTDIR, "a/x": errno.ENOTDIR,
          "loop": errno.ELOOP, "loop/x": errno.ELOOP, "n" * 300: errno.ENAMETOOLONG, "d/" * 3000: errno.ENAMETOOLONG,
          "s": errno.ENXIO, "shut": errno.EACCES, "closed/x": errno.EACCES, "x": errno.ENOENT, "d/x": errno.ENOENT}
-OTHERS = (errno.EIO, errno.EMFILE, errno.ENODEV, errno.ETIMEDOUT)
+# What an opening or a read may fail by besides: a number of each kind, and two that have no text of their own.
+FAILURES = (errno.EPERM, errno.ENOENT, errno.ENOMEM, errno.EMFILE, errno.EAGAIN, errno.EUCLEAN, errno.ENOKEY,
+            errno.ENOTCONN, errno.ETIMEDOUT, errno.EHOSTDOWN, errno.ESTALE, errno.EREMOTEIO, errno.EIO, errno.EXDEV)
 
 
 class Reasons(Case):
@@ -91,13 +94,20 @@ class Reasons(Case):
         self.expect_each("-", reason, opened=True, last=b"md5sum: standard input: %s\n" % reason,
                          stdin=subprocess.DEVNULL, preexec_fn=lambda: os.close(0))
 
+    def test_table(self):
+        """The definitions have just the C library's texts, and the code is proved to have the definitions'."""
+        with open(os.path.join(harness.TOP, "crates/sum_sources/specs/Faults.antt"), encoding="utf-8") as definitions:
+            rows = re.findall(r"\((\d+), codes \"(.*)\"\)", definitions.read())
+        found = {int(number): text.encode() for number, text in rows}
+        self.assertEqual(found | {errno.ENOENT: NOT_FOUND, errno.EACCES: REASONS[errno.EACCES]}, REASONS)
+
     @needs_strace
     def test_calls_that_fail(self):
-        """Whatever the system says of an opening or a read. What has no text of its own is an input/output error, where
-        GNU's tool names each."""
+        """Whatever the system says of an opening or a read, as GNU's tool says it. A number without a text of its own
+        is an input/output error."""
         path = os.fsdecode(self.path("f"))
         self.write("f", "abc")
-        for number in (*REASONS, *OTHERS):
+        for number in FAILURES:
             for call in ("openat", "read"):
                 front = [strace(), "-qq", "-o", os.devnull, "-P", path, "-e", f"trace={call}", "-e",
                          f"inject={call}:error={errno.errorcode[number]}"]

@@ -35,11 +35,10 @@ fn abc(place: usize, ending: Ending) -> TwoParts<'static> {
     TwoParts::new(b"abc", place, ending, 1)
 }
 
-const ENDINGS: [(Ending, ErrorKind); 5] = [
+const ENDINGS: [(Ending, ErrorKind); 4] = [
     (Ending::Whole, ErrorKind::Other),
     (Ending::Broken(Fault::NotFound), ErrorKind::NotFound),
     (Ending::Broken(Fault::Denied), ErrorKind::PermissionDenied),
-    (Ending::Broken(Fault::WouldBlock), ErrorKind::WouldBlock),
     (Ending::Broken(Fault::Other), ErrorKind::UnexpectedEof),
 ];
 

@@ -71,13 +71,13 @@ fn real_files(rt: HostRuntime) -> Result<(), Fail> {
     assert!(rt; (files.opened(), files.ended()) == (1, 1));
     // A directory opens, and can't be read.
     let mut directory = files.open_file(b".").ok().ok_or("not opened")?;
-    assert!(rt; directory.read(&mut buf) == Err(Fault::IsADirectory));
+    assert!(rt; directory.read(&mut buf) == Err(Fault::Os(21)));
     files.close_file(directory);
     assert!(rt; (files.opened(), files.ended()) == (2, 1));
     for (name, fault) in [
-        (b"sum_sources_real/".as_slice(), Fault::NotADirectory),
-        (b"sum_sources_real/x", Fault::NotADirectory),
-        (&[b'n'; 256], Fault::InvalidFilename),
+        (b"sum_sources_real/".as_slice(), Fault::Os(20)),
+        (b"sum_sources_real/x", Fault::Os(20)),
+        (&[b'n'; 256], Fault::Os(36)),
         (b"sum_sources_none", Fault::NotFound),
         (b"", Fault::NotFound),
         (b"a\0", Fault::Other),
@@ -172,9 +172,9 @@ fn closable(rt: HostRuntime) -> Result<(), Fail> {
     assert!(rt; open.read(&mut buf) == Err(Fault::Denied));
     let mut closed: Closable<Told> = Closable::closed();
     assert!(rt; matches!(closed, Closable::Closed(Phase::Reading)));
-    assert!(rt; closed.read(&mut buf) == Err(Fault::NotOpen));
+    assert!(rt; closed.read(&mut buf) == Err(Fault::Os(9)));
     assert!(rt; matches!(closed, Closable::Closed(Phase::Failed)));
-    assert!(rt; closed.read(&mut buf) == Err(Fault::NotOpen));
+    assert!(rt; closed.read(&mut buf) == Err(Fault::Os(9)));
     assert!(rt; matches!(closed, Closable::Closed(Phase::Past)));
     Ok(())
 }
