@@ -28,6 +28,15 @@ class Documents(Case):
                 shown = re.sub(r"(?m)^ +//.*\n|^ +", "", text_of("docs", f"{page}.md"))
                 self.assertTrue(contract in shown, f"docs/{page}.md doesn't show the contract of {name} as it is")
 
+    def test_wrong_versions(self):
+        """The table of docs/TESTING.md has each wrong version once, in a row of its crate."""
+        rows = re.findall(r"(?m)^\|(\w+)\|`[\w:]+`\|(.*)\|$", text_of("docs", "TESTING.md"))
+        named = [(crate, name) for crate, goals in rows for names in re.findall(r": ([\w, ]+)", goals)
+                 for name in names.split(", ")]
+        there = [path.split(os.sep)[-3::2] for path in glob.glob(os.path.join(TOP, "crates", "*", "must-fail", "*"))]
+        self.assertEqual(sorted(named), sorted((crate, file[:-len(".edit")]) for crate, file in there),
+                         "tools/refusals.py makes the table anew")
+
     def test_text(self):
         """`--text` begins with the headline, counted as on the page, and goes down to BLAKE2b."""
         ran = self.run_command([os.path.join(TOP, "tests", "believed.py"), "--text"])

@@ -1,11 +1,10 @@
 //! Hashing one name.
-ghost use Rattle.std.specs.Prelude.{◌≡◌, ◌||◌, true, Ok, Err, OnOk, [], length};
-ghost use Rattle.sum_engine.specs.Behavior.{is_dash};
+ghost use Rattle.std.specs.Prelude.{◌≡◌, true, Ok, [], length};
 ghost use Rattle.sum_lines.specs.Lines.{line};
 ghost use Rattle.sum_engine.specs.Generation.{generate_behavior};
 ghost use Rattle.sum_engine.specs.refinement.FlushedWrites.{WritesAndFlushesBoth};
 ghost use Rattle.sum_engine.specs.Execution.{IsFlushed, FailuresMatch, ReadToEnd, OneMore};
-ghost use Rattle.sum_engine.specs.Execution.{RefusalsMatch, NoOutputOnMemory, Performs};
+ghost use Rattle.sum_engine.specs.Execution.{RefusalsMatch, Performs};
 
 use crate::hash_name::hash_name;
 use crate::inputs::Inputs;
@@ -35,11 +34,8 @@ pub fn generate_one<I: Input + Drop, S: Source, O: Sink, E: Sink>(
     // Known or not, a stop has its cause: one refusal more of the source, or one failure more of one output.
     ensures refusals { RefusalsMatch S.state OneMore streams.old.inputs streams.new.inputs result }
     ensures failures { FailuresMatch streams.old.outputs streams.new.outputs result }
-    ensures stdin_taken { OnOk result
-        (streams.new.inputs.stdin_taken ≡ streams.old.inputs.stdin_taken || is_dash name.now) }
     // Known or not: true only if the file, or standard input, was read to its end.
     ensures read_to_end { result ≡ Ok true → ReadToEnd S.state streams.old.inputs streams.new.inputs }
-    ensures no_output_on_memory { NoOutputOnMemory streams.old.outputs streams.new.outputs result }
 {
     let mut buffer = [0; PIECE];
     match hash_name(settings.kind, name, &mut streams.inputs, &mut buffer) {

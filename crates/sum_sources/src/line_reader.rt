@@ -107,8 +107,7 @@ impl<I: Input> LineReader<I> {
 
     /// How many lines were returned.
     pub fn lines(&self) -> u64
-        ensures value { result ≡ self.now.lines }
-        ensures few { result ≤ self.now.taken }
+        ensures { result ≡ self.now.lines }
     {
         self.lines
     }

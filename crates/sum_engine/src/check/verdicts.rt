@@ -54,8 +54,7 @@ impl<I: Input> Verdicts<I> {
 
     /// How many bytes the manifest's input has given.
     pub fn taken(&self) -> u64
-        ensures value { result ≡ self.now.cursor.reader.taken }
-        ensures at_most { result ≤ 2 ^ 61 }
+        ensures { result ≡ self.now.cursor.reader.taken }
     {
         self.cursor.taken()
     }

@@ -14,7 +14,6 @@ pub fn hash_input<I: Input, H: Hasher + Drop>(input: &mut I, hasher: H) -> Resul
     // Known or not: that of some content, which is the known one, if it is known.
     ensures digest { (c : Content) × IfSome (I.state input.old).content (λ d. c ≡ d)
         × Hashes (H.kind_of hasher) (clip c) result }
-    ensures len { IfOk result (λ d. length d ≡ (H.kind_of hasher).len) }
     // If the input was being read before: a digest only if no read failed, and none came after its end.
     ensures phase { IfOk result (λ _. (I.state input.old).phase ≡ Phase.Reading
         → (I.state input.new).phase ≡ Phase.Ended) }
