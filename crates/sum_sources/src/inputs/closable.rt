@@ -12,7 +12,7 @@ pub const EBADF: i32 = 9;
 pub enum Closable<I> {
     /// This input.
     Open(I),
-    /// Nothing can be read; so far it was tried.
+    /// No byte can be read. The phase says how often that was tried.
     Closed(Phase),
 }
 

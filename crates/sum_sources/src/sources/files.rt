@@ -5,7 +5,7 @@ ghost use Rattle.sum_sources.specs.Contents.{refusals_after, opened_after};
 
 use crate::fault::fault_of;
 use crate::{Fault, FromRead, OpenFault, Phase, Source};
-use std::io::{ErrorKind, Read};
+use std::io::{self, ErrorKind, Read};
 use std::marker::Model;
 use std::{fs, rt};
 
@@ -54,6 +54,11 @@ impl<R: rt::Files + Drop> Files<R> {
     }
 }
 
+// Whether the runtime had no memory for a call. If the system has none, its error has a number: a fault of that file.
+fn is_refusal(error: &io::Error) -> bool {
+    error.kind() == ErrorKind::OutOfMemory && error.raw_os_error().is_none()
+}
+
 impl<R: rt::Files> Source for Files<R>
 where
     R::File: Read + Drop,
@@ -80,9 +85,7 @@ where
                 self.opened = self.opened.saturating_add(1);
                 Ok(FromRead::new(file))
             }
-            // The system's own want of memory has a number: that is a fault of this file.
-            Err(error)
-                if error.kind() == ErrorKind::OutOfMemory && error.raw_os_error().is_none() => {
+            Err(error) if is_refusal(&error) => {
                 self.refusals = self.refusals.saturating_add(1);
                 Err(OpenFault::Memory)
             }
