@@ -223,9 +223,18 @@ class Checks(Described):
         for status, strict in ((0, []), (1, ["--strict"])):
             self.expect_alike(["md5sum", "-c", *strict, "list"], status, ["e: OK"], [bad(1)])
 
+    def test_a_line_without_memory(self):
+        """GNU's tools take it for the end of the list."""
+        none = ["md5sum: list: no properly formatted checksum lines found"]
+        for lines, out, theirs in ((b"", b"", (1, b"", none)), ([f"{M}  a"], ["a: OK"], (0, ["a: OK"], b""))):
+            self.write("list", lines)
+            os.truncate(self.path("list"), 1 << 30)
+            self.expect_both("md5sum -c --strict list", (1, out, ["md5sum: memory exhausted"]), theirs,
+                             preexec_fn=harness.limits(memory=200 << 20))
+
     def test_what_other_programs_write(self):
-        """Lines as those of `gpg --print-md` and `openssl dgst` can't be checked; as those of `openssl dgst -r`, they
-        can."""
+        """Lines as those of `gpg --print-md`, `openssl dgst` and `rhash --bsd` can't be checked; as those of
+        `openssl dgst -r`, they can."""
         digits = harness.S.upper()
         grouped = " ".join(digits[place:place + 8] for place in range(0, 64, 8))
         for line in (f"a: {grouped}", f"SHA2-256(a)= {harness.S}"):
@@ -234,6 +243,8 @@ class Checks(Described):
             self.expect_alike("sha256sum -c list", 1, err=none)
         self.write("list", [f"{harness.S} *a"])
         self.expect_alike("sha256sum -c --strict list", 0, ["a: OK"])
+        self.write("list", [f"MD5   (a) = {M}"])
+        self.expect_alike("md5sum -c list", 1, err=["md5sum: list: no properly formatted checksum lines found"])
 
     def test_an_empty_name(self):
         """GNU's tools take some lines for one that lists a file, and fail."""
@@ -322,13 +333,19 @@ class Writing(Described):
             self.expect_alike(f"md5sum {words} a", 1, err=["md5sum: --tag does not support --text mode", more])
 
     def test_an_output_that_fails(self):
-        """It ends the run here; GNU's tools still read the other files, and name the reason of some faults."""
+        """It ends the run here, at standard error's first line, too; GNU's tools still read the other files, and name
+        the reason of some faults."""
         missing = "md5sum: x: No such file or directory"
         with self.full() as full:
             theirs = (1, b"", [missing, "md5sum: write error"])
             self.expect_both("md5sum a x", (1, b"", WRITE_ERROR), theirs, stdout=full)
             theirs = (1, b"", ["md5sum: write error: No space left on device"])
             self.expect_both("md5sum -z a", (1, b"", WRITE_ERROR), theirs, stdout=full)
+            self.write("list", [f"{M}  x", f"{M}  a"])
+            for how in ({"stderr": full}, {"preexec_fn": lambda: os.close(2)}):
+                self.expect_both("md5sum a x e", (1, [f"{M}  a"], b""), (1, [f"{M}  a", f"{E}  e"], b""), **how)
+                theirs = (1, ["x: FAILED open or read", "a: OK"], b"")
+                self.expect_both("md5sum -c list", (1, b"", b""), theirs, **how)
 
     def test_a_reader_that_goes_away(self):
         """A write error with status 1; GNU's tools are ended by a signal."""

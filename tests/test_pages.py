@@ -52,10 +52,9 @@ class Said(Case):
     """What the program says on standard error is in the DIAGNOSTICS of its page."""
 
     def marks(self):
-        """What a line may be, as patterns: names in capitals are names of others, but REASON is one of the reasons."""
-        page = sections_of("digests")["DIAGNOSTICS"]
+        """What a line may be, as patterns: names in capitals are names of others; a reason is one of the reference."""
         marks = [re.sub(r"\b(?:TOOL|FILE|NAME|N|TAG)\b", ".*", re.escape(mark))
-                 for mark in re.findall(r"(?m)^\.TP\n(.*)$", page)]
+                 for mark in re.findall(r"(?m)^\.TP\n(.*)$", sections_of("digests")["DIAGNOSTICS"])]
         return [mark.replace("REASON", f"(?:{b'|'.join(REASONS.values()).decode()})") for mark in marks]
 
     def said_by(self, tool):

@@ -24,6 +24,8 @@ SORTS = {
     "check by pv": r"pv .* -c image\.sum",
     "check list": r"^digests \w+ -c --quiet --strict SUMS$",
     "check list on all": r"\bsplit ",
+    "check signed": r"gpg --decrypt",
+    "check names": r"printf '%b",
     "check one": r"^grep ",
     "unlisted": r"^comm ",
     "not UTF-8": r" sed -nz ",
@@ -80,6 +82,7 @@ class Typed(Case):
         for name in PAGES:
             os.symlink(harness.PROGRAM, self.path(f"commands/{name}"))
         self.command("pv", 'exec cat "$@"')
+        self.command("gpg", "[ \"$*\" = '--decrypt SUMS.asc' ] && exec grep -x '[0-9a-f]*  ./image.iso' SUMS")
         self.env = {**os.environ, "PATH": os.fsdecode(self.path("commands")) + os.pathsep + os.environ["PATH"],
                     "TMPDIR": self.folder}
 
@@ -164,9 +167,11 @@ class Typed(Case):
 class Recipes(Typed):
     def report(self, sort, verdict):
         """What a check writes of image.iso."""
-        name = {"check": "image.iso", "check by pv": "-", "check one": "./image.iso"}.get(sort)
+        name = {"check": "image.iso", "check by pv": "-", "check one": "./image.iso",
+                "check signed": "./image.iso"}.get(sort)
         if name is None:
-            return b"" if verdict == "OK" else f"./image.iso: {verdict}\n".encode()
+            end = "\0" if sort == "check names" else f": {verdict}\n"
+            return b"" if verdict == "OK" else f"./image.iso{end}".encode()
         return f"{name}: {verdict}\n".encode() * (2 if sort == "check" else 1)
 
     def test_good_names(self):
@@ -240,6 +245,14 @@ class Recipes(Typed):
                 self.put("-x", "-x")
                 self.passes(recipe, shell=shell)
 
+    def test_names_as_they_are(self):
+        self.make()
+        self.passes(self.recipe("list"))
+        for name in GOOD:
+            self.put(name, "changed")
+        ran = self.fails(self.recipe("check names"))
+        self.assertEqual(sorted(ran.out.split(b"\0")), sorted([b"", *(f"./{name}".encode() for name in GOOD)]))
+
     def test_a_damaged_list(self):
         """A line that can't be read is a file that isn't checked. One that says nothing passes, and its file isn't
         listed."""
@@ -271,7 +284,7 @@ class Recipes(Typed):
         find = f"'{shutil.which('find')}' \"$@\"; exit 1"
         lists, images = ("list", "list on all"), ("write by pv", "write at once")
         for command, script, *sorts in (
-                ("pv", "head -c 1000 image.iso; exit 1", "write by pv"),
+                ("pv", "head -c 1000 image.iso; exit 1", "write by pv"), ("gpg", "cat SUMS; exit 1", "check signed"),
                 ("tee", "head -c 1000; exit 1", "write at once"),
                 ("sed", "cat; exit 1", "write at once"),
                 ("find", find, *lists, "unlisted", "not UTF-8"),
@@ -282,12 +295,12 @@ class Recipes(Typed):
                 *((command, "exit 1", "unlisted", "not UTF-8") for command in ("sed", "tr"))):
             for recipe, sort, shell in self.each(*sorts):
                 self.make()
-                if sort == "unlisted":
+                if sort in ("unlisted", "check signed"):
                     self.passes(self.recipe("list"))
+                listed = self.is_there("SUMS")
                 self.command(command, script)
                 self.fails(recipe, shell)
-                found = self.is_there("image.sum"), self.is_there("SUMS")
-                self.assertEqual(found, (False, sort == "unlisted"), recipe)
+                self.assertEqual((self.is_there("image.sum"), self.is_there("SUMS")), (False, listed), recipe)
                 os.remove(self.path(f"commands/{command}"))
         self.make()
         self.command("pv", "cat image.iso")

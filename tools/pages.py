@@ -1,8 +1,9 @@
 #!/usr/bin/env python3
 """Writes the manual pages in man/ and the completions in completions/: `pages.py [--check] [--program FILE]`.
 
-They are made from the program's own help, from the texts in pages/, and from the shells' parts in shells/. With --check
-nothing is written, and the status is 1 if a file of the tree is another, is missing or is one too many."""
+They are made from the program's own help, from the texts in pages/, and from the shells' parts in shells/. Those in
+man/own-names are for an installation beside GNU's tools. With --check nothing is written, and the status is 1 if a file
+of the tree is another, is missing or is one too many."""
 
 import argparse
 import os
@@ -13,13 +14,14 @@ sys.dont_write_bytecode = True
 
 import shells  # noqa: E402  (nothing is to be left beside these files)
 from options import ALWAYS, DIGESTS, NEVER, TOOLS, WITH_CHECK, WITHOUT_CHECK, options_of  # noqa: E402
-from roff import WIDTH, bullet, inline, item, page, section, shown  # noqa: E402
+from roff import WIDTH, bullet, escaped, inline, item, page, section, shown  # noqa: E402
 
 HERE = os.path.dirname(os.path.abspath(__file__))
 TOP = os.path.dirname(HERE)
 PROGRAM = os.path.join(TOP, "digests")  # builds what is stale
 DATE = "2026-11-27"  # of the last change of the texts
 FEWER = ", or fewer with `--length`"
+OWN = "man/own-names"  # the folder of pages for an installation without GNU's names
 
 
 def text_of(*names):
@@ -48,10 +50,17 @@ def part_of(block):
     return shown(*(line[4:] for line in lines)) if block.startswith("    ") else " ".join(lines)
 
 
-def page_of(name, source, words, made):
+def page_title(name, folder):
+    """What the page of a tool or of another command is called. Beside GNU's tools, theirs have the tools' names."""
+    return f"digests-{name}" if folder == OWN and name in TOOLS and TOOLS[name].of_gnu else name
+
+
+def page_of(name, folder, source, words, made):
     """The page of that name by its text in pages/, with these words in the place of @such@, and with made parts."""
     sections, called = [], {name, "GNU" if name in TOOLS and TOOLS[name].of_gnu else "ours"}
-    for block in text_of("tools", "pages", source).rstrip("\n").split("\n\n")[1:]:
+    called |= {"own"} if folder == OWN and name != "anysum" else set()  # which has one name in both
+    text = re.sub(r"`(\w+)`\(1\)", lambda it: f"`{page_title(it[1], folder)}`(1)", text_of("tools", "pages", source))
+    for block in text.rstrip("\n").split("\n\n")[1:]:
         condition = re.match(r"\[(!?)([\w ]+)\]\n", block)
         if condition and called.isdisjoint(condition[2].split()) != bool(condition[1]):
             continue
@@ -60,7 +69,7 @@ def page_of(name, source, words, made):
             sections.append([block[2:]])
         else:
             sections[-1] += made[block[1:-1]] if re.fullmatch("@[A-Z ]+@", block) else [part_of(block)]
-    return page(name, DATE, f"digests {version()}", *(section(*parts) for parts in sections))
+    return page(page_title(name, folder), DATE, f"digests {version()}", *(section(*parts) for parts in sections))
 
 
 def taken(known, *where):
@@ -68,20 +77,20 @@ def taken(known, *where):
     return [option for option in known if option.where in where]
 
 
-def usage(tool, known, *first):
+def usage(call, known, *first):
     """A line of the synopsis, cut if it is too long: these words, and these options without --help and the like."""
     known = [option for option in known if not option.at_once]
     letters = "".join(option.short for option in known if option.short and not option.value)
     words = [f"[-{letters}]"] if letters else []
     words += [f"[-{option.short} {option.value}]" for option in known if option.value]
     words += [f"[--{option.long}]" for option in known if not option.short]
-    lines = [tool]
+    lines = [call]
     for word in [*first, *words, "[FILE]..."]:
         if len(lines[-1]) + len(word) >= WIDTH - 8:
-            lines.append(" " * len(tool))
+            lines.append(" " * len(call))
         lines[-1] += " " + word
     marked = [re.sub(r"--?[a-z-]+", r"`\g<0>`", re.sub(r"\b[A-Z]+\b", r"{\g<0>}", line)) for line in lines]
-    return [inline(re.sub(r"^\w+", r"`\g<0>`", line)) for line in marked]
+    return [inline(re.sub(f"^{call}", r"`\g<0>`", line)) for line in marked]
 
 
 def option_item(option, said):
@@ -94,16 +103,18 @@ def option_item(option, said):
     return item(short + long, f"{says} {said.get(option.long, '')}".rstrip())
 
 
-def see_also(*names):
-    return [", ".join(f"`{name}`(1)" for name in names)]
+def see_also(folder, *names):
+    return [", ".join(f"`{page_title(name, folder)}`(1)" for name in names)]
 
 
-def page_of_tool(tool, known, said):
-    of_gnu, tag, bits, standard = TOOLS[tool]
+def page_of_tool(tool, folder, known, said):
+    _, tag, bits, standard = TOOLS[tool]
+    name = page_title(tool, folder)
+    call = name.replace("-", " ")
     *names, last = (f"`--{option.long}`" for option in taken(known, NEVER) or known)
-    words = {"tool": tool, "tag": tag, "standard": standard, "bits": str(bits), "digits": str((bits or 0) // 4),
-             "fewer": FEWER if tool == "b2sum" else "", "refused": f"{', '.join(names)} and {last}",
-             "tags": ", ".join(f"`{it.tag}`" for it in DIGESTS.values()),
+    words = {"tool": tool, "call": call, "tag": tag, "standard": standard, "bits": str(bits),
+             "digits": str((bits or 0) // 4), "fewer": FEWER if tool == "b2sum" else "",
+             "refused": f"{', '.join(names)} and {last}", "tags": ", ".join(f"`{it.tag}`" for it in DIGESTS.values()),
              "SUMS": "CHECKSUMS" if tag is None else f"{tool[:-3].upper()}SUMS"}
     writing = [option for option in taken(known, ALWAYS, WITHOUT_CHECK) if option.long != "check"]
     items = [option_item(option, said) for option in taken(known, ALWAYS)]
@@ -111,22 +122,22 @@ def page_of_tool(tool, known, said):
         group = [option_item(option, said) for option in taken(known, where)]
         items += [title, *group] if group else []
     purpose = f"print or check {tag} checksums" if tag else "check lists of tagged checksums"
-    return page_of(tool, "tool.txt", words, {
-        "NAME": [[f"{tool} \\- {purpose}"]], "OPTIONS": items,
-        "SEE ALSO": see_also(*(it for it in TOOLS if it != tool)),
-        "SYNOPSIS": [[".nf", *(usage(tool, writing) if taken(known, WITHOUT_CHECK) else ()),
-                      *usage(tool, taken(known, WITH_CHECK), "-c"), ".fi"]]})
+    return page_of(tool, folder, "tool.txt", words, {
+        "NAME": [[f"{escaped(name)} \\- {purpose}"]], "OPTIONS": items,
+        "SEE ALSO": see_also(folder, *(it for it in TOOLS if it != tool)),
+        "SYNOPSIS": [[".nf", *(usage(call, writing) if taken(known, WITHOUT_CHECK) else ()),
+                      *usage(call, taken(known, WITH_CHECK), "-c"), ".fi"]]})
 
 
-def page_of_program():
+def page_of_program(folder):
     """The page of the program that has all tools in it."""
     tools = [item(f"`{tool}`", f"{it.tag} ({it.standard}), {it.bits} bits{FEWER * (tool == 'b2sum')}" if it.tag else
                   "checks lists of all these", str(max(map(len, TOOLS)) + 3)) for tool, it in TOOLS.items()]
-    uses = ("`digests` {TOOL} [{OPTION}]... [{FILE}]...", "{TOOL} [{OPTION}]... [{FILE}]...")
-    return page_of("digests", "digests.txt", {}, {
+    uses = ["`digests` {TOOL} [{OPTION}]... [{FILE}]..."] + ["{TOOL} [{OPTION}]... [{FILE}]..."] * (folder != OWN)
+    return page_of("digests", folder, "digests.txt", {}, {
         "NAME": [["digests \\- print or check checksums"]], "SYNOPSIS": [[".nf", *map(inline, uses), ".fi"]],
         "TOOLS": [tools[0], [".PD 0"], *tools[1:], [".PD"]],
-        "SEE ALSO": see_also(*TOOLS, "comm", "find", "grep", "split", "xargs")})
+        "SEE ALSO": see_also(folder, *TOOLS, "comm", "find", "grep", "split", "xargs")})
 
 
 def made(program):
@@ -137,8 +148,10 @@ def made(program):
     unknown = {name.lstrip("!") for name in said} - {option.long for them in known.values() for option in them}
     if unknown:
         sys.exit(f"pages.py: pages/options.txt has a word on no option: {', '.join(sorted(unknown))}")
-    files = {f"man/{tool}.1": page_of_tool(tool, known[tool], said) for tool in TOOLS}
-    files["man/digests.1"] = page_of_program()
+    files = {}
+    for folder in ("man", OWN):
+        pages = {"digests": page_of_program(folder), **{it: page_of_tool(it, folder, known[it], said) for it in TOOLS}}
+        files.update({f"{folder}/{page_title(name, folder)}.1": text for name, text in pages.items()})
     files.update({f"completions/{name}": text for name, text in shells.completions(known).items()})
     return files
 
@@ -163,7 +176,8 @@ def main():
     asked = reader.parse_args()
     files = made(asked.program)
     others = [name for name in files if not write(os.path.join(TOP, name), files[name], asked.check)]
-    there = {f"{folder}/{name}" for folder in ("man", "completions") for name in os.listdir(os.path.join(TOP, folder))}
+    there = {f"{folder}/{it}" for folder in ("man", OWN, "completions") for it in os.listdir(os.path.join(TOP, folder))}
+    there.discard(OWN)
     for name in sorted(there - set(files)):
         print(f"{name}: not of this script's making")
     for name in others:
