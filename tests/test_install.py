@@ -1,10 +1,12 @@
 """The script `install`, in a copy of the repository: what it puts below a prefix, leaves there and takes away."""
 
 import os
+import re
 import shutil
+import subprocess
 
 import harness
-from harness import GNU_TOOLS, NAMES, TOOLS, Ran
+from harness import GNU_TOOLS, NAMES, RUN_SECONDS, TOOLS, Ran
 from repository import DEFAULT, FAST, Repository
 
 OWN_NAMES = [name for name in NAMES if name not in GNU_TOOLS]
@@ -12,6 +14,18 @@ LIST = "share/digests/installed"
 BASH, FISH, ZSH = "share/bash-completion/completions", "share/fish/vendor_completions.d", "share/zsh/site-functions"
 FOLDERS = ["/", "bin/", "share/", "share/bash-completion/", BASH + "/", "share/digests/", "share/fish/", FISH + "/",
            "share/man/", "share/man/man1/", "share/zsh/", ZSH + "/"]
+
+# In the place of each of these commands: something happens before the call of a number.
+COMMANDS = ("chmod", "cp", "ln", "mkdir", "mv", "sed", "sort")
+COMMAND = """#!/bin/sh
+echo >>"$CALLS"
+[ "$(wc -l <"$CALLS")" -ne "$AT" ] || eval "$DOES"
+PATH=${PATH#*:} exec "${0##*/}" "$@"
+"""
+
+# What it says at last if it doesn't get to its end.
+UNCHANGED = ["install: stopped, and nothing was changed"]
+CHANGED = ["install: stopped in the middle: install once more, or with --remove"]
 
 
 class Install(Repository):
@@ -29,34 +43,31 @@ class Install(Repository):
         return (ran.out + ran.err).decode()
 
     def tree(self):
-        """The files below the prefix: contents, or what a link says."""
-        paths = [os.path.join(folder, name) for folder, _, names in os.walk(self.prefix) for name in names]
-        return {os.path.relpath(path, self.prefix): os.readlink(path) if os.path.islink(path) else self.read(path)
-                for path in paths}
+        """What is below the prefix: contents, what a link says, and empty folders."""
+        paths = [os.path.join(at, name) for at, inner, names in os.walk(self.prefix)
+                 for name in (names if inner or names else [""])]
+        return {os.path.relpath(path, self.prefix): os.readlink(path) if os.path.islink(path) else
+                os.path.isfile(path) and self.read(path) for path in paths}
 
-    def completion(self, name, own_names):
-        """A completion of the repository, for all names or for those that are none of GNU's."""
-        text = self.read(self.in_top(f"completions/{name}"))
-        every, own = (" ".join(["", "digests", *names]).encode() for names in (NAMES, OWN_NAMES))
-        self.assertEqual(text.count(every), 1)
-        return text.replace(every, own) if own_names else text
-
-    def wanted(self, level, own_names=False):
+    def wanted(self, level=DEFAULT, own_names=False):
         """What an installation below a new prefix has, with the list of it."""
-        wanted = {"bin/digests": self.read(self.in_top(f"out/{level}/digests")),
-                  f"{ZSH}/_digests": self.completion("_digests", own_names)}
-        for name in ["digests", *(OWN_NAMES if own_names else NAMES)]:
-            wanted |= {} if name == "digests" else {f"bin/{name}": "digests"}
-            wanted |= {f"share/man/man1/{name}.1": self.read(self.in_top(f"man/{name}.1")),
-                       f"{BASH}/{name}": self.completion("digests.bash", own_names),
-                       f"{FISH}/{name}.fish": self.completion("digests.fish", own_names)}
+        every, own = (" ".join(["", "digests", *names]).encode() for names in (NAMES, OWN_NAMES))
+        bash, fish, zsh = (self.read(self.in_top(f"completions/{name}")).replace(every, own if own_names else every)
+                           for name in ("digests.bash", "digests.fish", "_digests"))
+        wanted = {"bin/digests": self.read(self.in_top(f"out/{level}/digests")), f"{ZSH}/_digests": zsh}
+        for name in ["digests", *NAMES]:
+            page = f"digests-{name}.1" if own_names and name in GNU_TOOLS else f"{name}.1"
+            wanted[f"share/man/man1/{page}"] = self.read(self.in_top(("man/own-names/" if own_names else "man/") + page))
+            if page == f"{name}.1":
+                wanted |= {} if name == "digests" else {f"bin/{name}": "digests"}
+                wanted |= {f"{BASH}/{name}": bash, f"{FISH}/{name}.fish": fish}
         return wanted | {LIST: "".join(f"{path}\n" for path in sorted([*wanted, *FOLDERS, LIST])).encode()}
 
     def test_what_is_put_there(self):
         """All of it is on the list, and for all to read, whatever the mask; it needs the repository no more."""
         said = self.installs(umask=0o077)
         self.assertIn(f"installed for the level {DEFAULT}; {self.prefix}/{LIST} lists what is where\n", said)
-        self.assertEqual(self.tree(), self.wanted(DEFAULT))
+        self.assertEqual(self.tree(), self.wanted())
         shutil.rmtree(self.top)
         closed = ["find", self.prefix, "!", "-perm", "-a=r", "-o", "-type", "d", "!", "-perm", "-a=rx"]
         self.assertEqual(self.run_command(closed), Ran(0, b"", b""))
@@ -65,14 +76,18 @@ class Install(Repository):
             self.assertEqual(ran, Ran(0, f"{of_abc}  a\n{of_nothing}  e\n".encode(), b""))
 
     def test_own_names(self):
-        """Without GNU's names, no completion is one of GNU's tools; and names of an earlier installation are taken
-        away, and nothing else."""
+        """Nothing is called by GNU's names or points to them, and names of an earlier installation are taken away."""
         for theirs in ({}, {"share/man/man1/theirs.1": b"theirs"}):
             for name in theirs:
-                self.installs()
+                self.assertIn("/usr/bin/sha256sum", self.installs())
                 self.write(os.path.join(self.prefix, name), theirs[name])
-            self.installs("--only-own-names", self.prefix)
-            self.assertEqual(self.tree(), self.wanted(DEFAULT, own_names=True) | theirs)
+            self.assertNotRegex(self.installs("--only-own-names", self.prefix), r"\d*sum\b(?<!anysum)")
+            self.assertEqual(self.tree(), self.wanted(own_names=True) | theirs)
+        for name in GNU_TOOLS:
+            page = self.read(os.path.join(self.prefix, f"share/man/man1/digests-{name}.1")).decode()
+            self.assertRegex(page, rf"\.TH DIGESTS-{name.upper()} 1 .*\n\.SH NAME\ndigests\\-{name} \\- ")
+        pages = b"".join(text for name, text in self.tree().items() if name.endswith("sum.1"))
+        self.assertEqual(set(re.findall(rb"(\S+)(?:md5|sha\d+|b2)sum\\fR\(1\)", pages)), {rb"\%\fBdigests\-"})
         self.installs("--remove", self.prefix)
         self.assertEqual(self.tree(), theirs)
 
@@ -86,23 +101,54 @@ class Install(Repository):
         os.link(self.in_top(f"out/{DEFAULT}/digests"), self.in_top("out/digests"))
         self.assertIn(f"installed for the level {DEFAULT};", self.installs("--cpu", "native", self.prefix))
 
-    def test_again_and_away(self):
-        """What others put there stays, and so do its folders."""
-        for own_names in (False, True):
-            self.installs(*["--only-own-names"][:own_names], self.prefix)
-            self.write(os.path.join(self.prefix, "bin/theirs"), "")
-        self.assertEqual(self.installs("--remove", self.prefix), "")
-        self.assertEqual([names for _, *names in os.walk(self.prefix)], [[["bin"], []], [[], ["theirs"]]])
-        self.assertIn("nothing is installed", self.installs("--remove", self.prefix, status=1))
+    def watched(self, at=0, does=""):
+        """The environment in which this happens before the call of that number."""
+        for name in COMMANDS:
+            self.write_command(name, COMMAND)
+        self.write("calls", "")
+        return {"CALLS": f"{self.folder}/calls", "AT": str(at), "DOES": does}
 
-    def test_folders(self):
-        """Those that were made are taken away, and those that were there stay."""
-        for left in ([], [".", "share", "share/man"]):
-            if left:
-                os.makedirs(os.path.join(self.prefix, left[-1]))
-            self.installs()
-            self.installs("--remove", self.prefix)
-            self.assertEqual([os.path.relpath(at, self.prefix) for at, _, _ in os.walk(self.prefix)], left)
+    def test_an_end_at_any_call(self):
+        """By a signal to its group, or since a command fails: nothing is changed, or all is there. `--remove` then
+        leaves what was there before."""
+        self.installs(**self.watched())
+        calls, said = self.read("calls").count(b"\n"), []
+        for at in range(1, calls + 1, 2):
+            shutil.rmtree(self.prefix, ignore_errors=True)
+            if at % 3:
+                os.makedirs(f"{self.prefix}/share/man")
+                self.write(f"{self.prefix}/share/theirs", "theirs")
+            before, does = self.tree(), ("exit 1", "kill -TERM 0", "kill -INT 0", "kill -HUP 0")[at % 5 % 4]
+            ran = self.script("install", self.prefix, start_new_session=True, **self.watched(at, does))
+            said.append(ran.err.decode().splitlines()[-1:])
+            self.assertIn(said[-1], [[], CHANGED, UNCHANGED])
+            if said[-1] == UNCHANGED:
+                self.assertEqual(self.tree(), before)
+            elif said[-1] == []:
+                self.assertLessEqual(set(self.wanted()), set(self.tree()))
+            self.assertEqual(self.script("install", "--remove", self.prefix).status, said[-1] == UNCHANGED)
+            self.assertEqual(self.tree(), before)
+        self.assertGreater(said.count(UNCHANGED), 20)
+
+    def test_a_full_disk(self):
+        """Here a limit on the size of a file."""
+        for size in (0, 1000, 100000):
+            said = self.installs(status=1, preexec_fn=harness.limits(file_size=size))
+            self.assertTrue(said.endswith("install: stopped, and nothing was changed\n"), said)
+            self.assertFalse(os.path.exists(self.prefix))
+
+    def test_two_at_once(self):
+        """The second waits for the first."""
+        env = {**self.env, **self.watched(1, f"until [ -e '{self.folder}/go' ]; do sleep 0.01; done")}
+        started = []
+        for words in ([self.prefix], ["--only-own-names", self.prefix]):
+            with open(self.path("said"), "wb") as said:
+                started.append(subprocess.Popen([self.in_top("install"), *words], env=env, stdout=said, stderr=said))
+            self.until(lambda: self.read("calls" if len(started) == 1 else "said"), "it is called, or waits")
+        self.assertEqual(self.read("said"), b"install: waiting for another one to end\n")
+        self.write("go", "")
+        self.assertEqual([it.wait(timeout=RUN_SECONDS) for it in started], [0, 0])
+        self.assertEqual(self.tree(), self.wanted(own_names=True))
 
     def test_a_name_that_is_taken(self):
         """It is named, and nothing is installed or taken away; nor if a file is in the place of a folder."""
@@ -133,7 +179,7 @@ class Install(Repository):
             self.installs(*words)
             self.assertTrue(os.path.exists(self.path(f"{prefix}/bin/b2sum")))
             self.installs("--remove", "--", words[-1])
-            self.assertFalse(os.path.exists(self.path(f"{prefix}/bin/b2sum")))
+            self.assertFalse(os.path.exists(self.path(prefix)))
         advice = f"to call the tools by their names, put {self.prefix}/bin first on the PATH\n"
         os.symlink(self.prefix, self.path("same"))
         for first, wanted in ((self.prefix, False), (f"{self.folder}/same", False), (f"{self.folder}/other", True)):

@@ -48,7 +48,7 @@ class Test(Repository):
     def test_everything(self):
         """The last line is the gate's, which counts wrong bodies that no contract refuses as failed."""
         said, good, bad = "rt: must-fail low/one.edit: ", "5 passed, 0 failed", "5 passed, 1 failed"
-        weak = ["test: low/one.edit: refused, but not by a contract", "4 passed, 1 failed"]
+        weak = ["test: low/one.edit: refused, but by no contract", "4 passed, 1 failed"]
         for line, gate, ends, status, last in (
                 ("a", good, 0, 0, ["tests ", "0022", "a", good]), ("a", bad, 1, 1, ["a", bad]),
                 ("a", "killed", 1, 1, ["a", "killed"]), ("a", good, 137, 1, [good, "test: the gate was broken off"]),
