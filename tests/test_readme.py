@@ -50,7 +50,7 @@ class Stranger(Repository):
         self.run_command(["git", "-C", self.top, "clean", "-fdq"])  # what the examples made
         put, away = commands("Installing")[:2]
         ran = self.shell(put)
-        self.assertEqual((ran.status, ran.err, ran.out.count(b"\n")), (0, b"", 1))
+        self.assertEqual((ran.status, ran.err, ran.out.count(b"\n")), (0, b"", 2))
         for name in NAMES:
             self.assertEqual(self.shell(f"{name} --version").out.decode(), f"{name} (digests), profile 2\n")
         for step in (self.see_the_pages, self.complete_in_bash):
