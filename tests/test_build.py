@@ -74,10 +74,9 @@ class Build(Repository):
         """One line says what is missing and where README has it, before anything is made."""
         os.remove(self.path("commands/rt"))
         folders = [folder for folder in self.env["PATH"].split(os.pathsep) if not os.path.exists(f"{folder}/rt")]
+        said = b"digests: rt, the command of the Rattle kit, isn't on the PATH: see Set-up in README.md\n"
         for words in (["digests", "md5sum", "a"], ["install", "prefix"]):
-            ran = self.script(*words, PATH=os.pathsep.join(folders))
-            said = b"digests: rt, the command of the Rattle kit, isn't on the PATH: see Set-up in README.md\n"
-            self.assertEqual(ran, Ran(1, b"", said))
+            self.assertEqual(self.script(*words, PATH=os.pathsep.join(folders)), Ran(1, b"", said))
         self.assertIn("\n## Set-up\n", self.read(os.path.join(TOP, "README.md")).decode())
         self.assertFalse(os.path.exists(self.in_top("out")) or os.path.exists(self.path("prefix")))
 
@@ -102,14 +101,6 @@ class Build(Repository):
             out, err = build.communicate(timeout=harness.RUN_SECONDS)
             self.assertEqual((build.returncode, out), (0, OF_A.out), err)
         self.assertEqual(self.read(self.notes).decode().splitlines(), BOTH)
-
-    def test_the_best_level(self):
-        self.write_command("later", "#!/bin/sh\nexit 127\n")
-        for fast, level in ((harness.PROGRAM, FAST), (self.path("commands/later"), DEFAULT)):
-            shutil.rmtree(self.in_top("out"), ignore_errors=True)
-            self.build(RT_FAST=fast)
-            self.assertTrue(os.path.samefile(self.in_top("out/digests"), self.in_top(f"out/{level}/digests")))
-            self.assertEqual(self.script("digests", "md5sum", "a"), OF_A)
 
 
 class Launcher(Repository):

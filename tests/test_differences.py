@@ -159,16 +159,6 @@ class Checks(Described):
         self.expect_both("md5sum -c two one", (0, ["a: OK"] * 2, b""), (1, ["a: OK"], none))
         for name in ("one", "two"):
             self.expect_alike(["md5sum", "-c", name], 0, ["a: OK"])
-        for first in (M, f"{M} ", f"{M}x y"):  # none of these decides
-            self.write("list", [first, f"{M}  a"])
-            self.expect_alike("md5sum -c list", 0, ["a: OK"], [bad(1)])
-
-    def test_names_of_one_byte(self):
-        """A space or a star that nothing follows is a name."""
-        for name in (" ", "*"):
-            self.write(name, "abc")
-            self.write("list", [f"{M} {name}", f"{M} a"])
-            self.expect_alike("md5sum -c --strict list", 0, [f"{name}: OK", "a: OK"])
 
     def test_spacing_of_tagged_lines(self):
         """One space or none after the tag, and blanks around the equals sign, are read by both tools; GNU's b2sum also
@@ -191,7 +181,7 @@ class Checks(Described):
 
     def test_a_byte_0(self):
         """GNU's tools take a name that isn't escaped, or a tagged line's digits, up to it; of a list that was written
-        with `--zero` they check the first file, and answer 0. A line that begins with `#` may hold it."""
+        with `--zero` they check the first file, and answer 0."""
         self.write("b", "other")
         for command in ([harness.PROGRAM, "md5sum"], [gnu("md5sum")]):
             self.write("list", self.run_command([*command, "-z", "a", "b", "e"]).out)
@@ -204,11 +194,6 @@ class Checks(Described):
         for line in (f"MD5 (a\0b) = {M}", f"MD5 (a) = {M}\0", f"\\MD5 (a) = {M}\0more"):
             self.write("list", [line])
             self.expect_both("md5sum -c -w --strict list", (1, b"", said), (0, ["a: OK"], b""))
-        for line in (f"\\{M}  a\0b", f"\\MD5 (a\0b) = {M}", f"{M}\0  a", f"MD5 (a)\0 = {M}"):
-            self.write("list", [line])
-            self.expect_alike("md5sum -c -w --strict list", 1, err=said)
-        self.write("list", ["#\0", f"{M}  a"])
-        self.expect_alike("md5sum -c --strict list", 0, ["a: OK"])
 
     def test_a_name_that_hides_what_follows(self):
         """If a list was written with `--zero`, a newline and `#` in a name hide all that follows, in both."""
@@ -216,12 +201,6 @@ class Checks(Described):
         self.write("list", self.run_words(["md5sum", "-z", "a\n#", "e"]).out)
         self.write("e", "changed")
         self.expect_alike("md5sum -c --strict list", 0, ["a: OK"])
-
-    def test_a_byte_order_mark(self):
-        """The line after it is improperly formatted, and the status shows it with `--strict` alone."""
-        self.write("list", f"\ufeff{M}  a\n{E}  e\n")
-        for status, strict in ((0, []), (1, ["--strict"])):
-            self.expect_alike(["md5sum", "-c", *strict, "list"], status, ["e: OK"], [bad(1)])
 
     def test_a_line_without_memory(self):
         """GNU's tools take it for the end of the list."""
@@ -274,27 +253,6 @@ class Checks(Described):
         self.write("list", written)
         self.expect_both("md5sum -c list", (0, ["\\q\\\\\\rz: OK"], b""), (0, ["q\\\rz: OK"], b""))
 
-    def test_what_status_still_tells(self):
-        """What can't be read, and a manifest that lists nothing; not that no file was verified."""
-        self.write("list", [f"{M}  x", f"{M}  e", "junk"])
-        self.write("junk", ["junk"])
-        self.write("gone", [f"{M}  x"])
-        self.expect_alike("md5sum -c --status list", 1, err=["md5sum: x: No such file or directory"])
-        self.expect_alike("md5sum -c --status x", 1, err=["md5sum: x: No such file or directory"])
-        for option in ("--status", "--quiet", "--strict"):
-            none = ["md5sum: junk: no properly formatted checksum lines found"]
-            self.expect_alike(["md5sum", "-c", option, "junk"], 1, err=none)
-        self.expect_alike("md5sum -c --status --ignore-missing gone", 1)
-        self.expect_alike("md5sum -c --ignore-missing gone", 1, err=["md5sum: gone: no file was verified"])
-
-    def test_the_last_of_three(self):
-        """Of `--quiet`, `--status` and `--warn` the last counts."""
-        self.write("list", [f"{M}  a", f"{M}  e", "junk"])
-        for words in ("--quiet --status", "--status --quiet", "-w --status", "--status -w", "--quiet -w", "-w --quiet"):
-            ours, theirs = self.both(f"md5sum -c {words} list")
-            self.assertEqual(ours, theirs, words)
-            self.assertEqual(ours, self.both(f"md5sum -c {words.split(' ')[-1]} list")[0], words)
-
     def test_statuses(self):
         """Status 0 means the same, and comes alike."""
         self.write("good", [f"{M}  a", f"{E}  e"])
@@ -324,14 +282,6 @@ class Checks(Described):
 
 
 class Writing(Described):
-    def test_tag_and_text(self):
-        """`--tag` is refused where `--text` is the last of `--binary`, `--tag` and `--text`, and only there."""
-        tagged, more = [f"MD5 (a) = {M}"], "Try 'md5sum --help' for more information."
-        for words in ("--tag", "-t --tag", "--tag -b", "--tag -t -b", "-t --tag -b", "-b -t --tag", "-t -b --tag"):
-            self.expect_alike(f"md5sum {words} a", 0, tagged)
-        for words in ("--tag -t", "--tag -b -t", "-b --tag -t", "-t --tag -t"):
-            self.expect_alike(f"md5sum {words} a", 1, err=["md5sum: --tag does not support --text mode", more])
-
     def test_an_output_that_fails(self):
         """It ends the run here, at standard error's first line, too; GNU's tools still read the other files, and name
         the reason of some faults."""

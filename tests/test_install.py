@@ -7,25 +7,22 @@ import subprocess
 
 import harness
 from harness import GNU_TOOLS, NAMES, RUN_SECONDS, TOOLS, Ran
-from repository import DEFAULT, FAST, Repository
+from repository import DEFAULT, FAST, OF_A, Repository
 
 OWN_NAMES = [name for name in NAMES if name not in GNU_TOOLS]
 LIST = "share/digests/installed"
 BASH, FISH, ZSH = "share/bash-completion/completions", "share/fish/vendor_completions.d", "share/zsh/site-functions"
-FOLDERS = ["/", "bin/", "share/", "share/bash-completion/", BASH + "/", "share/digests/", "share/fish/", FISH + "/",
-           "share/man/", "share/man/man1/", "share/zsh/", ZSH + "/"]
 
-# In the place of each of these commands: something happens before the call of a number.
-COMMANDS = ("chmod", "cp", "ln", "mkdir", "mv", "sed", "sort")
+# In the place of a command: something happens before the call of a number.
 COMMAND = """#!/bin/sh
 echo >>"$CALLS"
 [ "$(wc -l <"$CALLS")" -ne "$AT" ] || eval "$DOES"
 PATH=${PATH#*:} exec "${0##*/}" "$@"
 """
 
-# What it says at last if it doesn't get to its end.
-UNCHANGED = ["install: stopped, and nothing was changed"]
-CHANGED = ["install: stopped in the middle: install once more, or with --remove"]
+# What it says last if it doesn't get to its end.
+UNCHANGED = b"install: stopped, and nothing was changed\n"
+CHANGED = b"install: stopped in the middle: install once more, or with --remove\n"
 
 
 class Install(Repository):
@@ -56,15 +53,17 @@ class Install(Repository):
                            for name in ("digests.bash", "digests.fish", "_digests"))
         wanted = {"bin/digests": self.read(self.in_top(f"out/{level}/digests")), f"{ZSH}/_digests": zsh}
         for name in ["digests", *NAMES]:
-            page = f"digests-{name}.1" if own_names and name in GNU_TOOLS else f"{name}.1"
-            wanted[f"share/man/man1/{page}"] = self.read(self.in_top(("man/own-names/" if own_names else "man/") + page))
-            if page == f"{name}.1":
+            renamed = own_names and name in GNU_TOOLS
+            page, pages = f"digests-{name}.1" if renamed else f"{name}.1", "man/own-names" if own_names else "man"
+            wanted[f"share/man/man1/{page}"] = self.read(self.in_top(f"{pages}/{page}"))
+            if not renamed:
                 wanted |= {} if name == "digests" else {f"bin/{name}": "digests"}
                 wanted |= {f"{BASH}/{name}": bash, f"{FISH}/{name}.fish": fish}
-        return wanted | {LIST: "".join(f"{path}\n" for path in sorted([*wanted, *FOLDERS, LIST])).encode()}
+        folders = {path[:it.end()] for path in [*wanted, LIST] for it in re.finditer("/", path)}
+        return wanted | {LIST: "".join(f"{path}\n" for path in sorted([*wanted, *folders, "/", LIST])).encode()}
 
     def test_what_is_put_there(self):
-        """All of it is on the list, and for all to read, whatever the mask; it needs the repository no more."""
+        """All of it is on the list, and for all to read, whatever the mask; it needs no repository."""
         said = self.installs(umask=0o077)
         self.assertIn(f"installed for the level {DEFAULT}; {self.prefix}/{LIST} lists what is where\n", said)
         self.assertEqual(self.tree(), self.wanted())
@@ -93,17 +92,18 @@ class Install(Repository):
 
     def test_levels(self):
         """`native` is what ran here at the build; the runtime's names of levels are known, too."""
-        for word, level in ((DEFAULT, DEFAULT), (FAST, FAST), ("x86-64", DEFAULT), ("native", FAST),
-                            ("x86-64-v2", DEFAULT)):
+        for word, level in ((DEFAULT, DEFAULT), (FAST, FAST), ("x86-64-v2", DEFAULT), ("native", FAST)):
             self.assertIn(f"installed for the level {level};", self.installs("--cpu", word, self.prefix))
             self.assertEqual(self.tree(), self.wanted(level), word)
-        os.remove(self.in_top("out/digests"))
-        os.link(self.in_top(f"out/{DEFAULT}/digests"), self.in_top("out/digests"))
+        self.write_command("later", "#!/bin/sh\nexit 127\n")
+        shutil.rmtree(self.in_top("out"))
+        self.build(RT_FAST=self.path("commands/later"))
         self.assertIn(f"installed for the level {DEFAULT};", self.installs("--cpu", "native", self.prefix))
+        self.assertEqual(self.script("digests", "md5sum", "a"), OF_A)
 
     def watched(self, at=0, does=""):
         """The environment in which this happens before the call of that number."""
-        for name in COMMANDS:
+        for name in ("chmod", "cp", "ln", "mkdir", "mv", "sed", "sort"):
             self.write_command(name, COMMAND)
         self.write("calls", "")
         return {"CALLS": f"{self.folder}/calls", "AT": str(at), "DOES": does}
@@ -120,11 +120,11 @@ class Install(Repository):
                 self.write(f"{self.prefix}/share/theirs", "theirs")
             before, does = self.tree(), ("exit 1", "kill -TERM 0", "kill -INT 0", "kill -HUP 0")[at % 5 % 4]
             ran = self.script("install", self.prefix, start_new_session=True, **self.watched(at, does))
-            said.append(ran.err.decode().splitlines()[-1:])
-            self.assertIn(said[-1], [[], CHANGED, UNCHANGED])
+            said.append(b"".join(ran.err.splitlines(keepends=True)[-1:]))
+            self.assertIn(said[-1], (b"", CHANGED, UNCHANGED))
             if said[-1] == UNCHANGED:
                 self.assertEqual(self.tree(), before)
-            elif said[-1] == []:
+            elif ran.status == 0:
                 self.assertLessEqual(set(self.wanted()), set(self.tree()))
             self.assertEqual(self.script("install", "--remove", self.prefix).status, said[-1] == UNCHANGED)
             self.assertEqual(self.tree(), before)
@@ -134,16 +134,18 @@ class Install(Repository):
         """Here a limit on the size of a file."""
         for size in (0, 1000, 100000):
             said = self.installs(status=1, preexec_fn=harness.limits(file_size=size))
-            self.assertTrue(said.endswith("install: stopped, and nothing was changed\n"), said)
+            self.assertTrue(said.endswith(UNCHANGED.decode()), said)
             self.assertFalse(os.path.exists(self.prefix))
 
     def test_two_at_once(self):
         """The second waits for the first."""
-        env = {**self.env, **self.watched(1, f"until [ -e '{self.folder}/go' ]; do sleep 0.01; done")}
+        waits = 'while [ -e "$CALLS" ] && [ ! -e "${CALLS%calls}go" ]; do sleep 0.01; done'
+        env = {**self.env, **self.watched(1, waits)}
         started = []
         for words in ([self.prefix], ["--only-own-names", self.prefix]):
             with open(self.path("said"), "wb") as said:
-                started.append(subprocess.Popen([self.in_top("install"), *words], env=env, stdout=said, stderr=said))
+                how = {"env": env, "stdout": said, "stderr": said}
+                started.append(subprocess.Popen([self.in_top("install"), *words], **how))
             self.until(lambda: self.read("calls" if len(started) == 1 else "said"), "it is called, or waits")
         self.assertEqual(self.read("said"), b"install: waiting for another one to end\n")
         self.write("go", "")
@@ -152,13 +154,11 @@ class Install(Repository):
 
     def test_a_name_that_is_taken(self):
         """It is named, and nothing is installed or taken away; nor if a file is in the place of a folder."""
-        for name in ("bin/md5sum", "bin/sha1sum", "bin/b2sum", "share/man/man1/b2sum.1", LIST, "bin"):
+        makers = {"bin/sha1sum": os.mkdir, "bin/b2sum": lambda path: os.symlink("/nowhere", path)}
+        for name in ("bin/md5sum", *makers, "share/man/man1/b2sum.1", LIST, "bin"):
             path = os.path.join(self.prefix, name)
             os.makedirs(os.path.dirname(path))
-            if name == "bin/sha1sum":
-                os.mkdir(path)
-            else:
-                os.symlink("/nowhere", path) if name == "bin/b2sum" else self.write(path, "theirs")
+            makers.get(name, lambda path: self.write(path, "theirs"))(path)
             before = self.tree()
             said = self.installs(status=1)
             self.assertIn("" if name == "bin" else f"nothing was installed:\ninstall: {path}\n", said)
@@ -166,15 +166,12 @@ class Install(Repository):
             self.assertEqual(self.tree(), before)
             shutil.rmtree(self.prefix)
 
-    def test_a_stage(self):
-        """With DESTDIR all is below that folder, and nothing names it."""
-        self.prefix = os.path.join(self.folder, "a stage/usr")
-        self.assertNotIn("PATH", self.installs("/usr", DESTDIR=self.prefix[:-4]))
-        self.assertNotIn(b"stage", self.tree()[LIST])
-        self.installs("--remove", "/usr", DESTDIR=self.prefix[:-4])
-        self.assertEqual(os.listdir(self.prefix[:-4]), [])
-
     def test_prefixes(self):
+        """With DESTDIR all is below that folder."""
+        self.assertNotIn("PATH", self.installs("/usr", DESTDIR=f"{self.folder}/a stage"))
+        self.assertTrue(os.path.exists(self.path("a stage/usr/bin/b2sum")))
+        self.installs("--remove", "/usr", DESTDIR=f"{self.folder}/a stage")
+        self.assertEqual(os.listdir(self.path("a stage")), [])
         for words, prefix in ((["one/two/"], "one/two"), (["--", "-x"], "-x"), (["--cpu", FAST, "--", "a b"], "a b")):
             self.installs(*words)
             self.assertTrue(os.path.exists(self.path(f"{prefix}/bin/b2sum")))

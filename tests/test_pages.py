@@ -88,19 +88,16 @@ class Made(Case):
     of_the_repository = True
 
     def test_what_is_not_as_it_is_made(self):
-        """It is named, and made anew; nothing is made of a program without a help."""
+        """It is named, and made anew."""
         for name in ("tools", "man", "completions"):
             shutil.copytree(os.path.join(TOP, name), self.path(name).decode())
         shutil.copy(os.path.join(TOP, "CHANGELOG.md"), self.folder)
         command, page = [self.path("tools/pages.py"), "--program"], self.read("man/b2sum.1")
         self.write("man/b2sum.1", page + b"more\n")
         os.remove(self.path("completions/_digests"))
-        said = b"man/b2sum.1: is to be made anew\ncompletions/_digests: is to be made anew\n"
+        self.write("man/own-names/other.1", "")
+        said = b"man/own-names/other.1: not of this script's making\n"
+        said += b"man/b2sum.1: is to be made anew\ncompletions/_digests: is to be made anew\n"
         self.assertEqual(self.run_command([*command, harness.PROGRAM, "--check"]), Ran(1, said, b""))
-        self.assertEqual(self.run_command([*command, shutil.which("false")]),
-                         Ran(1, b"", b"md5sum has no help: status 1\n"))
-        self.assertEqual(self.run_command([*command, harness.PROGRAM]).status, 0)
+        self.assertEqual(self.run_command([*command, harness.PROGRAM]).status, 1)
         self.assertEqual(self.read("man/b2sum.1"), page)
-        self.write("man/other.1", "")
-        said = b"man/other.1: not of this script's making\n"
-        self.assertEqual(self.run_command([*command, harness.PROGRAM, "--check"]), Ran(1, said, b""))

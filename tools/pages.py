@@ -57,8 +57,8 @@ def page_title(name, folder):
 
 def page_of(name, folder, source, words, made):
     """The page of that name by its text in pages/, with these words in the place of @such@, and with made parts."""
-    sections, called = [], {name, "GNU" if name in TOOLS and TOOLS[name].of_gnu else "ours"}
-    called |= {"own"} if folder == OWN and name != "anysum" else set()  # which has one name in both
+    sections, of_gnu = [], name in TOOLS and TOOLS[name].of_gnu
+    called = {name, "GNU" if of_gnu else "ours", "own" if folder == OWN and name != "anysum" else ""}
     text = re.sub(r"`(\w+)`\(1\)", lambda it: f"`{page_title(it[1], folder)}`(1)", text_of("tools", "pages", source))
     for block in text.rstrip("\n").split("\n\n")[1:]:
         condition = re.match(r"\[(!?)([\w ]+)\]\n", block)
