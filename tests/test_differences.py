@@ -86,25 +86,16 @@ class Messages(Described):
             self.expect_both(["md5sum", word, "a"], *said)
 
     def test_lengths(self):
-        """GNU's tool takes blanks or a plus sign before the number, and reports a fault in other lines."""
+        """GNU's tool takes blanks or a plus sign before the number."""
         for value in (" 256", "\t256", "+256"):
             ours, theirs = self.both(["b2sum", "-l", value, "e"])
             self.assertEqual((ours.status, theirs.status, theirs.out), (1, 0, f"{harness.B}  e\n".encode()))
-        for value in ("x", "520", "12", "-8", ""):
-            ours, theirs = self.both(["b2sum", "-l", value, "e"])
-            self.assertEqual((ours.status, ours.out, theirs.status, theirs.out), (1, b"", 1, b""))
-            self.assertNotEqual(ours.err, theirs.err)
 
     def test_several_lengths(self):
-        """The last alone is looked at, and not where `--help` or `--version` stands; GNU's tool refuses some of the
-        others, too, but not one that is a multiple of 8 over 512."""
+        """The last alone is looked at, and none beside `--help` or `--version`; GNU's tool refuses others, too."""
         for words in ("-l x -l 256 e", "-l 7 -l 256 e", "-l x --help", "-l 7 --help", "-l 7 --version"):
             ours, theirs = self.both(f"b2sum {words}")
             self.assertEqual((ours.status, ours.err, theirs.status, theirs.out), (0, b"", 1, b""), words)
-        for words in ("-l 8 -l 256 e", "-l 520 -l 256 e"):
-            self.expect_alike(f"b2sum {words}", 0, [f"{harness.B}  e"])
-        for words in ("-l 520 --help", "-l 520 --version"):
-            self.assertEqual([ran.status for ran in self.both(f"b2sum {words}")], [0, 0], words)
 
     def test_standard_input_twice(self):
         """A second `-` is an empty file; GNU's tools read on, and report a fault again."""

@@ -1,6 +1,7 @@
 """The manual pages in man/: they are what tools/pages.py makes, and what they say of options and of faults is what the
 program does. test_recipes.py types what they show."""
 
+import glob
 import os
 import re
 import shutil
@@ -8,7 +9,7 @@ import shutil
 import harness
 from harness import NAMES, TOP, Case, Ran
 from options import takes
-from recipes import PAGES, path_of, sections_of
+from recipes import sections_of
 from reference import REASONS
 
 
@@ -40,12 +41,13 @@ class Pages(Case):
     def test_as_a_person_sees_them(self):
         if shutil.which("man") is None:
             self.skipTest("man isn't installed")
-        for name in PAGES:
+        pages = glob.glob(os.path.join(TOP, "man", "**", "*.1"), recursive=True)
+        for page in pages:
             env = {**os.environ, "MANWIDTH": "80", "LC_ALL": "C.UTF-8", "TERM": "dumb"}
-            ran = self.run_command(["man", "--warnings", "-l", path_of(name)], env=env)
-            self.assertEqual((ran.status, ran.err), (0, b""), name)
+            ran = self.run_command(["man", "--warnings", "-l", page], env=env)
+            self.assertEqual((ran.status, ran.err), (0, b""), page)
         if shutil.which("mandoc"):
-            self.assertEqual(self.run_command(["mandoc", "-T", "lint", *map(path_of, PAGES)]), Ran(0, b"", b""))
+            self.assertEqual(self.run_command(["mandoc", "-T", "lint", *pages]), Ran(0, b"", b""))
 
 
 class Said(Case):
