@@ -113,7 +113,7 @@ class Install(Repository):
         leaves what was there before."""
         self.installs(**self.watched())
         calls, said = self.read("calls").count(b"\n"), []
-        for at in range(1, calls + 1, 2):
+        for at in range(2, calls + 1, 2):  # the first is before it has changed anything
             shutil.rmtree(self.prefix, ignore_errors=True)
             if at % 3:
                 os.makedirs(f"{self.prefix}/share/man")
@@ -140,13 +140,13 @@ class Install(Repository):
     def test_two_at_once(self):
         """The second waits for the first."""
         waits = 'while [ -e "$CALLS" ] && [ ! -e "${CALLS%calls}go" ]; do sleep 0.01; done'
-        env = {**self.env, **self.watched(1, waits)}
+        env = {**self.env, **self.watched(2, waits)}
         started = []
         for words in ([self.prefix], ["--only-own-names", self.prefix]):
             with open(self.path("said"), "wb") as said:
                 how = {"env": env, "stdout": said, "stderr": said}
                 started.append(subprocess.Popen([self.in_top("install"), *words], **how))
-            self.until(lambda: self.read("calls" if len(started) == 1 else "said"), "it is called, or waits")
+            self.until(lambda: self.read("said") if started[1:] else self.read("calls") == b"\n\n", "it has the lock")
         self.assertEqual(self.read("said"), b"install: waiting for another one to end\n")
         self.write("go", "")
         self.assertEqual([it.wait(timeout=RUN_SECONDS) for it in started], [0, 0])
