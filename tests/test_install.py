@@ -64,11 +64,12 @@ class Install(Repository):
 
     def test_what_is_put_there(self):
         """All of it is on the list, and for all to read, whatever the mask; it needs no repository."""
+        self.prefix = os.path.join(self.folder, "a new/prefix")
         said = self.installs(umask=0o077)
         self.assertIn(f"installed for the level {DEFAULT}; {self.prefix}/{LIST} lists what is where\n", said)
         self.assertEqual(self.tree(), self.wanted())
         shutil.rmtree(self.top)
-        closed = ["find", self.prefix, "!", "-perm", "-a=r", "-o", "-type", "d", "!", "-perm", "-a=rx"]
+        closed = ["find", os.path.dirname(self.prefix), "!", "-perm", "-a=r", "-o", "-type", "d", "!", "-perm", "-a=rx"]
         self.assertEqual(self.run_command(closed), Ran(0, b"", b""))
         for tool, (_, of_nothing, of_abc) in TOOLS.items():
             ran = self.run_command([os.path.join(self.prefix, "bin", tool), "a", "e"])
