@@ -1,8 +1,8 @@
-//! One read that fails, after which all files go on: of a file that is hashed, of a manifest, of a file that it lists.
-use crate::checking::{files, plain};
+//! Files of which bytes follow a fault or an end: one that is hashed, a manifest, one that it lists. And a name that is
+//! opened again as another file.
+use crate::checking::plain;
 use digest_kinds::{Algo, Kind};
 use std::alloc::Global;
-use std::cell::Cell;
 use std::process::Abort;
 use std::test::Fail;
 use sum_engine::{
@@ -10,285 +10,285 @@ use sum_engine::{
     generate_one,
 };
 use sum_lines::{Mode, Style, ToldSink};
-use sum_sources::{Ending, Fault, LineStop, NoRoom, Phase, Source, Stdin, Told};
-use sum_sources_tests::fails_once::{FailsOnce, FilesFailOnce};
+use sum_sources::{Ending, Fault, LineStop, NoRoom, Phase, Source, Stdin};
+use sum_sources_tests::goes_on::{InTurn, TwoParts};
+
+const BROKEN: Ending = Ending::Broken(Fault::Denied);
 
 // A manifest that lists `a`, which holds "abc", and the empty `e` (RFC 1321).
 const MANIFEST: &[u8] =
     b"900150983cd24fb0d6963f7d28e17f72  a\nd41d8cd98f00b204e9800998ecf8427e  e\n";
 
+const CONTENTS: [&[u8]; 3] = [MANIFEST, b"abc", b""];
+
+// Which of the contents is cut, after how many bytes, and by which ending. The other bytes follow that.
+type Cut = (usize, usize, Ending);
+
 type Stage<'a> = Streams<
-    Inputs<FailsOnce<'a>, FilesFailOnce<'a, Global>>,
+    Inputs<TwoParts<'a>, InTurn<'a, Global>>,
     Outputs<ToldSink<1000>, ToldSink<1000>>,
 >;
 
-// What a run works on. The manifest is the file `l`. A read gives at most so many bytes.
+// What a run works on: files of these contents, in the order of opening. If the name is `-`, the first is standard
+// input.
 fn stage<'a>(
     alloc: Global,
-    input: &'a [u8],
-    piece: usize,
-    before: &'a Cell<usize>,
-) -> Result<Stage<'a>, NoRoom> {
-    Ok(Streams::new(
-        Stdin::new(FailsOnce::new(
-            Told::new(input, Ending::Whole, piece),
-            before,
-            Fault::Denied,
-        )),
-        FilesFailOnce::new(
-            files(alloc, piece, MANIFEST, Ending::Whole)?,
-            before,
-            Fault::Denied,
-        ),
-        ToldSink::new(1000),
-        ToldSink::new(1000),
-    ))
-}
-
-// No digest of a prefix, and none of what follows the fault.
-#[test]
-fn generating(rt: HostRuntime) -> Result<(), Fail> {
-    for before in 0..=4 {
-        generate(
-            &rt,
-            before,
-            "a",
-            "900150983cd24fb0d6963f7d28e17f72  a\n",
-            "md5sum: a: Permission denied\n",
-        )?;
-        generate(
-            &rt,
-            before,
-            "-",
-            "900150983cd24fb0d6963f7d28e17f72  -\n",
-            "md5sum: -: Permission denied\n",
-        )?;
-    }
-    Ok(())
-}
-
-// Generation for a name, if so many of the reads precede the one that fails; the fifth finds the end.
-fn generate(
-    rt: &(impl Abort + AllocGlobal),
-    before: usize,
     name: &str,
-    line: &str,
-    fault: &str,
-) -> Result<(), Fail> {
-    let settings = Settings {
+    contents: &[&'a [u8]],
+    (number, place, ending): Cut,
+) -> Result<Stage<'a>, NoRoom> {
+    let mut source = InTurn::new(alloc, 36);
+    let mut input = TwoParts::new(b"", 0, Ending::Whole, 36);
+    for (i, content) in contents.iter().enumerate() {
+        let (place, ending) = if i == number {
+            (place, ending)
+        } else {
+            (content.len(), Ending::Whole)
+        };
+        if i == 0 && name == "-" {
+            input = TwoParts::new(content, place, ending, 36);
+        } else {
+            source.add(content, place, ending)?;
+        }
+    }
+    let (out, err) = (ToldSink::new(1000), ToldSink::new(1000));
+    Ok(Streams::new(Stdin::new(input), source, out, err))
+}
+
+// That so much was written, and that files were counted so.
+fn assert_as(rt: &impl Abort, streams: &Stage, (out, err): (&str, &str), counts: (u64, u64, u64)) {
+    assert_eq!(rt; streams.outputs.out.bytes(), out.as_bytes());
+    assert_eq!(rt; streams.outputs.err.bytes(), err.as_bytes());
+    assert_eq!(rt; streams.inputs.source.counts(), counts);
+}
+
+fn md5() -> Settings {
+    Settings {
         kind: Kind::of(Algo::Md5),
         style: Style {
             mode: Mode::Text,
             zero: false,
         },
-    };
-    let count = Cell::new(before);
-    let mut streams = stage(rt.alloc(), b"abc", 1, &count)?;
-    let good = generate_one(&settings, "md5sum", name.as_bytes(), &mut streams);
-    let (out, err) = if before < 4 { ("", fault) } else { (line, "") };
-    assert_eq!(rt; good, Ok(before == 4), "{name} at {before}");
-    assert_eq!(rt;
-        streams.outputs.out.bytes(),
-        out.as_bytes(),
-        "{name} at {before}"
-    );
-    assert_eq!(rt;
-        streams.outputs.err.bytes(),
-        err.as_bytes(),
-        "{name} at {before}"
-    );
-    // The read that failed was the last.
-    let rest = if before < 4 { usize::MAX } else { 0 };
-    assert_eq!(rt; count.get(), rest, "{name} at {before}");
-    let opened = u64::from(name == "a");
-    let ended = if before < 4 { 0 } else { opened };
-    assert_eq!(rt;
-        streams.inputs.source.counts(),
-        (opened, ended),
-        "{name} at {before}"
-    );
+    }
+}
+
+// No digest of what precedes a fault, and none of what follows an end (RFC 1321).
+#[test]
+fn generating(rt: HostRuntime) -> Result<(), Fail> {
+    for (place, ending, digest) in [
+        (0, BROKEN, ""),
+        (1, BROKEN, ""),
+        (2, BROKEN, ""),
+        (3, BROKEN, ""),
+        (0, Ending::Whole, "d41d8cd98f00b204e9800998ecf8427e"),
+        (1, Ending::Whole, "0cc175b9c0f1b6a831c399e269772661"),
+        (3, Ending::Whole, "900150983cd24fb0d6963f7d28e17f72"),
+    ] {
+        generate(&rt, "a", (0, place, ending), digest)?;
+        generate(&rt, "-", (0, place, ending), digest)?;
+    }
     Ok(())
 }
 
-// Checking the manifest, a line a read, if so many reads precede the one that fails.
+fn generate(
+    rt: &(impl Abort + AllocGlobal),
+    name: &str,
+    cut: Cut,
+    digest: &str,
+) -> Result<(), Fail> {
+    let mut streams = stage(rt.alloc(), name, &[b"abc"], cut)?;
+    let good = generate_one(&md5(), "md5sum", name.as_bytes(), &mut streams);
+    let files = u64::from(name == "a");
+    if digest.is_empty() {
+        let err = format!(in rt.alloc(); "md5sum: {name}: Permission denied\n")?;
+        assert!(rt; good == Ok(false));
+        assert_as(rt, &streams, ("", err.as_str()), (files, 0, files));
+    } else {
+        let out = format!(in rt.alloc(); "{digest}  {name}\n")?;
+        assert!(rt; good == Ok(true));
+        assert_as(rt, &streams, (out.as_str(), ""), (files, files, 0));
+    }
+    Ok(())
+}
+
+// Each opening of a name is a file of its own (RFC 1321).
+#[test]
+fn another_file(rt: HostRuntime) -> Result<(), Fail> {
+    let whole = (0, 72, Ending::Whole);
+    let mut streams = stage(rt.alloc(), "a", &[b"abc", b""], whole)?;
+    for _ in 0..2 {
+        assert!(rt; generate_one(&md5(), "md5sum", b"a", &mut streams) == Ok(true));
+    }
+    let lines = "900150983cd24fb0d6963f7d28e17f72  a\nd41d8cd98f00b204e9800998ecf8427e  a\n";
+    assert_as(&rt, &streams, (lines, ""), (2, 2, 0));
+    let twice = b"900150983cd24fb0d6963f7d28e17f72  a\n900150983cd24fb0d6963f7d28e17f72  a\n";
+    let mut streams = stage(rt.alloc(), "l", &[twice, b"abc", b""], whole)?;
+    let good = check_one(rt.alloc(), plain(), "md5sum", b"l", &mut streams);
+    assert!(rt; good == Ok(false));
+    assert_as(&rt, &streams, ("a: OK\na: FAILED\n", WRONG), (3, 3, 0));
+    Ok(())
+}
+
+const WRONG: &str = "md5sum: WARNING: 1 computed checksum did NOT match\n";
+
+// Checking the manifest, if one of `CONTENTS` is cut, after so many bytes at least and at most.
 #[derive(Clone, Copy)]
 struct Row {
-    out: &'static str,
-    err: &'static str,
+    number: usize,
+    places: (usize, usize),
+    ending: Ending,
+    texts: (&'static str, &'static str),
     verdicts: &'static [Verdict],
-    // how many of the listed files were opened, and how many of these ended
-    counts: (u64, u64),
-    // whether the manifest fails
-    broken: bool,
 }
 
 const UNREAD: Verdict = Verdict::Unread(Fault::Denied);
 
-const OF_A: Row = Row {
-    out: "a: FAILED open or read\ne: OK\n",
-    err: "md5sum: a: Permission denied\nmd5sum: WARNING: 1 listed file could not be read\n",
-    verdicts: &[UNREAD, Verdict::Right],
-    counts: (2, 1),
-    broken: false,
-};
-
-// The manifest fails after these lines.
-fn of_list(out: &'static str, verdicts: &'static [Verdict], counts: (u64, u64)) -> Row {
-    Row {
-        out,
-        err: "md5sum: l: Permission denied\n",
-        verdicts,
-        counts,
-        broken: true,
-    }
-}
-
-fn rows() -> [Row; 7] {
+fn rows() -> [Row; 8] {
+    let (one, two) = ("a: OK\n", "a: OK\ne: OK\n");
+    let fault = "md5sum: l: Permission denied\n";
+    let right = &[Verdict::Right, Verdict::Right];
+    let no_a = "md5sum: a: Permission denied\n\
+        md5sum: WARNING: 1 listed file could not be read\n";
+    let no_e = "md5sum: e: Permission denied\n\
+        md5sum: WARNING: 1 listed file could not be read\n";
+    let unread_a = ("a: FAILED open or read\ne: OK\n", no_a);
+    let unread_e = ("a: OK\ne: FAILED open or read\n", no_e);
+    let wrong_a = ("a: FAILED\ne: OK\n", WRONG);
     [
-        of_list("", &[], (0, 0)),
-        // its bytes, and its end
-        OF_A,
-        OF_A,
-        of_list("a: OK\n", &[Verdict::Right], (1, 1)),
-        Row {
-            out: "a: OK\ne: FAILED open or read\n",
-            err: "md5sum: e: Permission denied\nmd5sum: WARNING: 1 listed file could not be read\n",
-            verdicts: &[Verdict::Right, UNREAD],
-            counts: (2, 1),
-            broken: false,
-        },
-        of_list("a: OK\ne: OK\n", &[Verdict::Right, Verdict::Right], (2, 2)),
-        Row {
-            out: "a: OK\ne: OK\n",
-            err: "",
-            verdicts: &[Verdict::Right, Verdict::Right],
-            counts: (2, 2),
-            broken: false,
-        },
+        row_of(0, (0, 35), BROKEN, ("", fault), &[]),
+        row_of(0, (36, 71), BROKEN, (one, fault), &[Verdict::Right]),
+        row_of(0, (72, 72), BROKEN, (two, fault), right),
+        row_of(0, (35, 36), Ending::Whole, (one, ""), &[Verdict::Right]),
+        row_of(0, (71, 72), Ending::Whole, (two, ""), right),
+        row_of(1, (0, 3), BROKEN, unread_a, &[UNREAD, Verdict::Right]),
+        row_of(
+            1,
+            (0, 2),
+            Ending::Whole,
+            wrong_a,
+            &[Verdict::Wrong, Verdict::Right],
+        ),
+        row_of(2, (0, 0), BROKEN, unread_e, &[Verdict::Right, UNREAD]),
     ]
 }
 
+fn row_of(
+    number: usize,
+    places: (usize, usize),
+    ending: Ending,
+    texts: (&'static str, &'static str),
+    verdicts: &'static [Verdict],
+) -> Row {
+    Row {
+        number,
+        places,
+        ending,
+        texts,
+        verdicts,
+    }
+}
+
 impl Row {
-    // Those of the listed files, and the manifest is a file, too.
-    fn counts_with_list(&self) -> (u64, u64) {
-        let (opened, ended) = self.counts;
-        let list = if self.broken { 0 } else { 1 };
-        (
-            u64::saturating_add(opened, 1),
-            u64::saturating_add(ended, list),
-        )
+    fn is_good(&self) -> bool {
+        self.texts.1.is_empty()
     }
 
     // How far the manifest was read: not again after its end or its fault.
     fn phase(&self) -> Phase {
-        if self.broken {
+        if self.number == 0 && self.ending == BROKEN {
             Phase::Failed
         } else {
             Phase::Ended
         }
     }
-}
 
-#[test]
-fn checking(rt: HostRuntime) -> Result<(), Fail> {
-    for (before, row) in rows().into_iter().enumerate() {
-        for (name, shown, counts) in [
-            ("l", "md5sum: l:", row.counts_with_list()),
-            ("-", "md5sum: standard input:", row.counts),
-        ] {
-            let count = Cell::new(before);
-            let mut streams = stage(rt.alloc(), MANIFEST, 36, &count)?;
-            let good = check_one(rt.alloc(), plain(), "md5sum", name.as_bytes(), &mut streams);
-            assert_eq!(rt; good, Ok(before == 6), "{name} at {before}");
-            assert_eq!(rt;
-                streams.outputs.out.bytes(),
-                row.out.as_bytes(),
-                "{name} at {before}"
-            );
-            let err = row.err.replace(rt.alloc(), "md5sum: l:", shown)?;
-            assert_eq!(rt;
-                streams.outputs.err.bytes(),
-                err.as_bytes(),
-                "{name} at {before}"
-            );
-            assert_eq!(rt;
-                streams.inputs.source.counts(),
-                counts,
-                "{name} at {before}"
-            );
-        }
-    }
-    Ok(())
-}
-
-#[test]
-fn step_by_step(rt: HostRuntime) -> Result<(), Fail> {
-    for (before, row) in rows().into_iter().enumerate() {
-        let count = Cell::new(before);
-        let mut streams = stage(rt.alloc(), b"", 36, &count)?;
-        let input = streams.inputs.source.open_file(b"l").ok().ok_or("l")?;
-        let mut checker = Checker::new(plain(), "md5sum", b"l", false, input);
-        let mut line = Vec::new(rt.alloc());
-        for _ in row.verdicts {
-            let step = checker.step(&mut line, &mut streams);
-            assert_eq!(rt; step, Ok(Progress::Going), "at {before}");
-        }
-        for _ in 0..2 {
-            let last = checker.step(&mut line, &mut streams);
-            assert_eq!(rt; last, Ok(Progress::Ended(before == 6)), "at {before}");
-            assert_eq!(rt;
-                streams.outputs.out.bytes(),
-                row.out.as_bytes(),
-                "at {before}"
-            );
-            assert_eq!(rt;
-                streams.outputs.err.bytes(),
-                row.err.as_bytes(),
-                "at {before}"
-            );
-        }
-        let input = checker.into_inner();
-        assert_eq!(rt; input.phase(), row.phase(), "at {before}");
-        streams.inputs.source.close_file(input);
-        assert_eq!(rt;
-            streams.inputs.source.counts(),
-            row.counts_with_list(),
-            "at {before}"
-        );
-    }
-    Ok(())
-}
-
-#[test]
-fn finding(rt: HostRuntime) -> Result<(), Fail> {
-    for (before, row) in rows().into_iter().enumerate() {
-        let count = Cell::new(before);
-        let streams = stage(rt.alloc(), b"", 36, &count)?;
-        let mut inputs = streams.inputs;
-        let input = inputs.source.open_file(b"l").ok().ok_or("l")?;
-        let mut finds = Verdicts::new(plain(), false, input);
-        let mut line = Vec::new(rt.alloc());
-        for verdict in row.verdicts {
-            let found = finds.next(&mut line, &mut inputs)?;
-            assert_eq!(rt; found.ok_or("no line")?.verdict, *verdict, "at {before}");
-        }
-        let end = if row.broken {
-            Err(LineStop::Fault(Fault::Denied))
-        } else {
-            Ok(None)
+    // How many files were opened, ended and failed: those that are listed, and the manifest, if it is one.
+    fn counts(&self, with_list: bool) -> (u64, u64, u64) {
+        let (mut ended, mut failed) = match self.phase() {
+            _ if !with_list => (0, 0),
+            Phase::Failed => (0, 1),
+            _ => (1, 0),
         };
-        for _ in 0..2 {
-            let last = finds.next(&mut line, &mut inputs);
-            assert_eq!(rt; (last, finds.is_good()), (end, before == 6), "at {before}");
+        for verdict in self.verdicts {
+            if *verdict == UNREAD {
+                failed = u64::saturating_add(failed, 1);
+            } else {
+                ended = u64::saturating_add(ended, 1);
+            }
         }
-        let input = finds.into_inner();
-        assert_eq!(rt; input.phase(), row.phase(), "at {before}");
-        inputs.source.close_file(input);
-        assert_eq!(rt;
-            inputs.source.counts(),
-            row.counts_with_list(),
-            "at {before}"
-        );
+        (u64::saturating_add(ended, failed), ended, failed)
     }
+}
+
+#[test]
+fn each_place(rt: HostRuntime) -> Result<(), Fail> {
+    for row in rows() {
+        for place in row.places.0..=row.places.1 {
+            let cut = (row.number, place, row.ending);
+            check(&rt, &row, cut, ("l", "md5sum: l:"))?;
+            check(&rt, &row, cut, ("-", "md5sum: standard input:"))?;
+            step_by_step(&rt, &row, cut)?;
+            find(&rt, &row, cut)?;
+        }
+    }
+    Ok(())
+}
+
+fn check(
+    rt: &(impl Abort + AllocGlobal),
+    row: &Row,
+    cut: Cut,
+    (name, shown): (&str, &str),
+) -> Result<(), Fail> {
+    let mut streams = stage(rt.alloc(), name, &CONTENTS, cut)?;
+    let good = check_one(rt.alloc(), plain(), "md5sum", name.as_bytes(), &mut streams);
+    assert_eq!(rt; good, Ok(row.is_good()), "at {cut:?}");
+    let (out, err) = row.texts;
+    let err = err.replace(rt.alloc(), "md5sum: l:", shown)?;
+    assert_as(rt, &streams, (out, err.as_str()), row.counts(name == "l"));
+    Ok(())
+}
+
+fn step_by_step(rt: &(impl Abort + AllocGlobal), row: &Row, cut: Cut) -> Result<(), Fail> {
+    let mut streams = stage(rt.alloc(), "l", &CONTENTS, cut)?;
+    let input = streams.inputs.source.open_file(b"l").ok().ok_or("l")?;
+    let mut checker = Checker::new(plain(), "md5sum", b"l", false, input);
+    let mut line = Vec::new(rt.alloc());
+    for _ in row.verdicts {
+        let step = checker.step(&mut line, &mut streams);
+        assert_eq!(rt; step, Ok(Progress::Going), "at {cut:?}");
+    }
+    for _ in 0..2 {
+        let last = checker.step(&mut line, &mut streams);
+        assert_eq!(rt; last, Ok(Progress::Ended(row.is_good())), "at {cut:?}");
+    }
+    let input = checker.into_inner();
+    assert_eq!(rt; input.phase(), row.phase(), "at {cut:?}");
+    streams.inputs.source.close_file(input);
+    assert_as(rt, &streams, row.texts, row.counts(true));
+    Ok(())
+}
+
+fn find(rt: &(impl Abort + AllocGlobal), row: &Row, cut: Cut) -> Result<(), Fail> {
+    let mut inputs = stage(rt.alloc(), "l", &CONTENTS, cut)?.inputs;
+    let input = inputs.source.open_file(b"l").ok().ok_or("l")?;
+    let mut finds = Verdicts::new(plain(), false, input);
+    let mut line = Vec::new(rt.alloc());
+    for verdict in row.verdicts {
+        let found = finds.next(&mut line, &mut inputs)?;
+        assert_eq!(rt; found.ok_or("no line")?.verdict, *verdict, "at {cut:?}");
+    }
+    let end = match row.phase() {
+        Phase::Failed => Err(LineStop::Fault(Fault::Denied)),
+        _ => Ok(None),
+    };
+    for _ in 0..2 {
+        let last = finds.next(&mut line, &mut inputs);
+        assert_eq!(rt; (last, finds.is_good()), (end, row.is_good()), "at {cut:?}");
+    }
+    let input = finds.into_inner();
+    assert_eq!(rt; input.phase(), row.phase(), "at {cut:?}");
+    inputs.source.close_file(input);
+    assert_eq!(rt; inputs.source.counts(), row.counts(true), "at {cut:?}");
     Ok(())
 }
