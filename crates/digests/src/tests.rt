@@ -3,6 +3,7 @@ mod checking;
 mod failing;
 mod flushing;
 mod generating;
+mod goes_on;
 mod growths;
 mod hostile;
 mod odd_names;

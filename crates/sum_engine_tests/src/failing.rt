@@ -111,7 +111,7 @@ fn generate(
     Ok(())
 }
 
-// Each opening of a name is a file of its own (RFC 1321).
+// A name that is opened again is another file (RFC 1321).
 #[test]
 fn another_file(rt: HostRuntime) -> Result<(), Fail> {
     let whole = (0, 72, Ending::Whole);
@@ -131,7 +131,7 @@ fn another_file(rt: HostRuntime) -> Result<(), Fail> {
 
 const WRONG: &str = "md5sum: WARNING: 1 computed checksum did NOT match\n";
 
-// Checking the manifest, if one of `CONTENTS` is cut, after so many bytes at least and at most.
+// Checking the manifest, if one of `CONTENTS` is cut, after `places.0` bytes or more, and fewer than `places.1`.
 #[derive(Clone, Copy)]
 struct Row {
     number: usize,
@@ -155,20 +155,20 @@ fn rows() -> [Row; 8] {
     let unread_e = ("a: OK\ne: FAILED open or read\n", no_e);
     let wrong_a = ("a: FAILED\ne: OK\n", WRONG);
     [
-        row_of(0, (0, 35), BROKEN, ("", fault), &[]),
-        row_of(0, (36, 71), BROKEN, (one, fault), &[Verdict::Right]),
-        row_of(0, (72, 72), BROKEN, (two, fault), right),
-        row_of(0, (35, 36), Ending::Whole, (one, ""), &[Verdict::Right]),
-        row_of(0, (71, 72), Ending::Whole, (two, ""), right),
-        row_of(1, (0, 3), BROKEN, unread_a, &[UNREAD, Verdict::Right]),
+        row_of(0, (0, 36), BROKEN, ("", fault), &[]),
+        row_of(0, (36, 72), BROKEN, (one, fault), &[Verdict::Right]),
+        row_of(0, (72, 73), BROKEN, (two, fault), right),
+        row_of(0, (35, 37), Ending::Whole, (one, ""), &[Verdict::Right]),
+        row_of(0, (71, 73), Ending::Whole, (two, ""), right),
+        row_of(1, (0, 4), BROKEN, unread_a, &[UNREAD, Verdict::Right]),
         row_of(
             1,
-            (0, 2),
+            (0, 3),
             Ending::Whole,
             wrong_a,
             &[Verdict::Wrong, Verdict::Right],
         ),
-        row_of(2, (0, 0), BROKEN, unread_e, &[Verdict::Right, UNREAD]),
+        row_of(2, (0, 1), BROKEN, unread_e, &[Verdict::Right, UNREAD]),
     ]
 }
 
@@ -202,7 +202,7 @@ impl Row {
         }
     }
 
-    // How many files were opened, ended and failed: those that are listed, and the manifest, if it is one.
+    // How many files were opened, ended and failed: those that the manifest lists, and itself if it is a file, too.
     fn counts(&self, with_list: bool) -> (u64, u64, u64) {
         let (mut ended, mut failed) = match self.phase() {
             _ if !with_list => (0, 0),
@@ -223,7 +223,7 @@ impl Row {
 #[test]
 fn each_place(rt: HostRuntime) -> Result<(), Fail> {
     for row in rows() {
-        for place in row.places.0..=row.places.1 {
+        for place in row.places.0..row.places.1 {
             let cut = (row.number, place, row.ending);
             check(&rt, &row, cut, ("l", "md5sum: l:"))?;
             check(&rt, &row, cut, ("-", "md5sum: standard input:"))?;

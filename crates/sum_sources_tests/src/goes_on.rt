@@ -1,5 +1,5 @@
-//! An input and a source that do all that real ones may: bytes follow an end or a fault, and a name that is opened again
-//! is another file. Both are known.
+//! A known input and a known source that do what real ones may: bytes follow an end or a fault, and a name that is
+//! opened again is another file.
 ghost use Rattle.std.specs.Prelude.{◌≡◌};
 
 use std::alloc::Allocator;

@@ -1,77 +1,13 @@
-//! One read of a run that fails, after which all files could be read further.
+//! Runs over files that go on after a fault or an end, and over a name that is opened again as another file.
+use super::goes_on::InTurn;
 use super::program::{shown, status_of};
-use super::{File, assert_text, joined, source_of, spelled};
+use super::{assert_text, joined, spelled};
 use std::alloc::Global;
-use std::cell::Cell;
 use std::process::Abort;
 use std::test::Fail;
-use sum_engine::{Outputs, Streams};
+use sum_engine::Streams;
 use sum_lines::ToldSink;
-use sum_sources::{Ending, Fault, Input, OpenFault, Phase, Source, Stdin, Told, ToldSource};
-
-// An input of which one read fails: the one that so many precede, of all inputs that share the count.
-#[derive(Drop)]
-struct FailsOnce<'a> {
-    bytes: Told<'a>,
-    before: &'a Cell<usize>,
-    phase: Phase,
-}
-
-impl<'a> Input for FailsOnce<'a> {
-    ghost use Rattle.std.specs.Prelude.{None};
-
-    ghost state = { λ s. record { content = None; phase = s.phase } };
-
-    fn read(&mut self, buf: &mut [u8]) -> Result<usize, Fault> {
-        let before = self.before.get();
-        self.before.set(before.wrapping_sub(1));
-        let result = if before == 0 {
-            Err(Fault::Other)
-        } else {
-            self.bytes.read(buf)
-        };
-        self.phase = self.phase.after(buf.len(), &result);
-        result
-    }
-}
-
-// The files of a source as such inputs, and how many came back read to their end.
-#[derive(Drop)]
-struct FilesFailOnce<'a> {
-    files: ToldSource<'a, Global>,
-    before: &'a Cell<usize>,
-    ended: u64,
-}
-
-impl<'a> Source for FilesFailOnce<'a> {
-    type File = FailsOnce<'a>;
-
-    ghost use Rattle.std.specs.Prelude.{None};
-
-    ghost state = { λ s. record {
-      known = None;
-      refusals = s.files.refusals;
-      opened = s.files.opened;
-      ended = s.ended;
-    } };
-
-    fn open_file(&mut self, name: &[u8]) -> Result<FailsOnce<'a>, OpenFault> {
-        match self.files.open_file(name) {
-            Ok(bytes) => Ok(FailsOnce {
-                bytes,
-                before: self.before,
-                phase: Phase::Reading,
-            }),
-            Err(fault) => Err(fault),
-        }
-    }
-
-    fn close_file(&mut self, file: FailsOnce<'a>) {
-        if file.phase == Phase::Ended {
-            self.ended = self.ended.saturating_add(1);
-        }
-    }
-}
+use sum_sources::{Ending, Fault, Stdin, Told};
 
 // Lines of the published digests of "abc", of nothing and of 56 bytes (FIPS 180-4).
 const LINE_A: &str = "$S  a\n";
@@ -80,117 +16,160 @@ const LINE_B: &str = "e3b0c44298fc1c149afbf4c8996fb92427ae41e4649b934ca495991b78
 
 const LINE_C: &str = "248d6a61d20638b8e5c026930c3e6039a33ce45964ff2167f6ecedd419db06c1  c\n";
 
-// That the program, called so, leaves these texts, if so many reads precede the one that fails. Each read gives at most
-// a line of the manifest `l`.
+// The files that a run opens, a letter each for their contents. The file of this number has this ending after so many
+// bytes, and goes on with the others.
+type Opened<'a> = (&'a str, usize, usize, Ending);
+
+const BROKEN: Ending = Ending::Broken(Fault::Other);
+
+// The source of these files. A read gives at most a line of the manifest.
+fn source_in_turn<'a>(
+    alloc: Global,
+    list: &'a str,
+    (letters, number, place, ending): Opened,
+) -> Result<InTurn<'a>, Fail> {
+    let mut source = InTurn::new(alloc, 68);
+    for (i, letter) in letters.bytes().enumerate() {
+        let content = match letter {
+            b'a' => b"abc".as_slice(),
+            b'b' => b"",
+            b'c' => b"abcdbcdecdefdefgefghfghighijhijkijkljklmklmnlmnomnopnopq",
+            b'd' => b"abcd",
+            _ => list.as_bytes(),
+        };
+        if i == number {
+            source.add(content, place, ending)?;
+        } else {
+            source.add(content, content.len(), Ending::Whole)?;
+        }
+    }
+    Ok(source)
+}
+
+// That the program, called so, leaves these texts. Each file is read to its end or its fault, and no further.
 fn assert_leaves(
     rt: &(impl Abort + AllocGlobal),
     arguments: &[&[u8]],
-    before: usize,
+    lists: &[&str],
+    opened: Opened,
     (out, err, status): (&str, &str, u8),
 ) -> Result<(), Fail> {
-    let list = spelled(rt.alloc(), joined(rt.alloc(), &[LINE_A, LINE_B])?.as_str())?;
-    let added: [File; 3] = [
-        ("b", b"", Ending::Whole),
-        (
-            "c",
-            b"abcdbcdecdefdefgefghfghighijhijkijkljklmklmnlmnomnopnopq",
-            Ending::Whole,
-        ),
-        ("l", list.as_bytes(), Ending::Whole),
-    ];
-    let count = Cell::new(before);
+    let list = spelled(rt.alloc(), joined(rt.alloc(), lists)?.as_str())?;
     let mut streams = Streams::new(
         Stdin::new(Told::new(b"", Ending::Whole, 1)),
-        FilesFailOnce {
-            files: source_of(rt.alloc(), &added, 68)?,
-            before: &count,
-            ended: 0,
-        },
+        source_in_turn(rt.alloc(), list.as_str(), opened)?,
         ToldSink::<1024>::new(1024),
         ToldSink::<1024>::new(1024),
     );
     let found = status_of(rt.alloc(), arguments, &mut streams);
-    let line = format!(in rt.alloc(); "{}, read {before}", shown(rt.alloc(), arguments)?.as_str())?;
-    let Outputs {
-        out: wrote,
-        err: reported,
-    } = streams.outputs;
-    assert_text(rt, wrote.bytes(), out, ("standard output", line.as_str()))?;
-    assert_text(rt, reported.bytes(), err, ("standard error", line.as_str()))?;
-    assert_eq!(rt; found, status, "the status of {}", line.as_str());
-    // Every file was opened; the one of which a read failed has no end, and no file has one by a read after its fault.
-    let unread = u64::saturating_sub(
-        streams.inputs.source.files.opened(),
-        streams.inputs.source.ended,
-    );
+    let line = format!(in rt.alloc(); "{}, {opened:?}", shown(rt.alloc(), arguments)?.as_str())?;
+    let line = line.as_str();
+    let outputs = &streams.outputs;
+    assert_text(rt, outputs.out.bytes(), out, ("standard output", line))?;
+    assert_text(rt, outputs.err.bytes(), err, ("standard error", line))?;
+    assert_eq!(rt; found, status, "the status of {line}");
+    let (letters, _, _, ending) = opened;
+    let (files, failed) = (letters.len() as u64, u64::from(ending == BROKEN));
+    let counts = (files, files.saturating_sub(failed), failed);
     assert_eq!(rt;
-        unread,
-        u64::from(status),
-        "files not read to their end by {}",
-        line.as_str()
+        streams.inputs.source.counts(),
+        counts,
+        "the files of {line}"
     );
     Ok(())
 }
 
-// The file of which a read fails has no line, and the others have theirs.
+// A file that fails has no line, and the others have theirs. Bytes that follow an end are not hashed.
 #[test]
-fn each_read_of_hashing(rt: HostRuntime) -> Result<(), Fail> {
+fn hashing(rt: HostRuntime) -> Result<(), Fail> {
     let arguments: [&[u8]; 4] = [b"sha256sum", b"a", b"b", b"c"];
-    let fault_of_a = "sha256sum: a: Input/output error\n";
-    let fault_of_c = "sha256sum: c: Input/output error\n";
-    let rows = [
-        ([LINE_B, LINE_C, ""], fault_of_a, 1),
-        ([LINE_B, LINE_C, ""], fault_of_a, 1),
+    for (number, last, lines, err) in [
+        (0, 3, [LINE_B, LINE_C], "sha256sum: a: Input/output error\n"),
+        (1, 0, [LINE_A, LINE_C], "sha256sum: b: Input/output error\n"),
         (
-            [LINE_A, LINE_C, ""],
-            "sha256sum: b: Input/output error\n",
-            1,
+            2,
+            56,
+            [LINE_A, LINE_B],
+            "sha256sum: c: Input/output error\n",
         ),
-        ([LINE_A, LINE_B, ""], fault_of_c, 1),
-        ([LINE_A, LINE_B, ""], fault_of_c, 1),
-        ([LINE_A, LINE_B, LINE_C], "", 0),
-    ];
-    for (before, (lines, err, status)) in rows.into_iter().enumerate() {
+    ] {
         let out = joined(rt.alloc(), &lines)?;
-        assert_leaves(&rt, &arguments, before, (out.as_str(), err, status))?;
+        for place in [0, last / 2, last] {
+            let opened = ("abc", number, place, BROKEN);
+            assert_leaves(&rt, &arguments, &[], opened, (out.as_str(), err, 1))?;
+        }
+    }
+    let out = joined(rt.alloc(), &[LINE_A, LINE_B, LINE_C])?;
+    for opened in [("abc", 0, 3, Ending::Whole), ("dbc", 0, 3, Ending::Whole)] {
+        assert_leaves(&rt, &arguments, &[], opened, (out.as_str(), "", 0))?;
     }
     Ok(())
 }
 
 // A manifest is read up to its fault, a file that it lists counts as not read, and the manifest after it is good.
 #[test]
-fn each_read_of_checking(rt: HostRuntime) -> Result<(), Fail> {
+fn checking(rt: HostRuntime) -> Result<(), Fail> {
     let arguments: [&[u8]; 4] = [b"sha256sum", b"-c", b"l", b"l"];
-    let fault_of_l = "sha256sum: l: Input/output error\n";
-    let of_a = (
-        "a: FAILED open or read\nb: OK\n",
-        "sha256sum: a: Input/output error\nsha256sum: WARNING: 1 listed file could not be read\n",
-        1,
-    );
-    let rows = [
-        ("", fault_of_l, 1),
-        of_a,
-        of_a,
-        ("a: OK\n", fault_of_l, 1),
+    let list = [LINE_A, LINE_B];
+    let fault = "sha256sum: l: Input/output error\n";
+    for (letters, number, places, first, err) in [
+        ("llab", 0, [0, 67], "", fault),
+        ("lalab", 0, [68, 135], "a: OK\n", fault),
+        ("lablab", 0, [136, 136], "a: OK\nb: OK\n", fault),
         (
+            "lablab",
+            1,
+            [0, 3],
+            "a: FAILED open or read\nb: OK\n",
+            "sha256sum: a: Input/output error\nsha256sum: WARNING: 1 listed file could not be read\n",
+        ),
+        (
+            "lablab",
+            2,
+            [0, 0],
             "a: OK\nb: FAILED open or read\n",
             "sha256sum: b: Input/output error\nsha256sum: WARNING: 1 listed file could not be read\n",
-            1,
         ),
-        ("a: OK\nb: OK\n", fault_of_l, 1),
-    ];
-    for (before, (first, err, status)) in rows.into_iter().enumerate() {
+        ("lablab", 3, [136, 136], "a: OK\nb: OK\n", fault),
+    ] {
         let out = joined(rt.alloc(), &[first, "a: OK\nb: OK\n"])?;
-        assert_leaves(&rt, &arguments, before, (out.as_str(), err, status))?;
+        for place in places {
+            let opened = (letters, number, place, BROKEN);
+            assert_leaves(&rt, &arguments, &list, opened, (out.as_str(), err, 1))?;
+        }
     }
-    // the last read of the second manifest, and none of all
-    for (before, err, status) in [(11, fault_of_l, 1), (12, "", 0)] {
-        assert_leaves(
-            &rt,
-            &arguments,
-            before,
-            ("a: OK\nb: OK\na: OK\nb: OK\n", err, status),
-        )?;
+    let texts = ("a: OK\nb: OK\na: OK\nb: OK\n", "", 0);
+    assert_leaves(
+        &rt,
+        &arguments,
+        &list,
+        ("lablab", 0, 136, Ending::Whole),
+        texts,
+    )
+}
+
+// A file that is opened again has another content, or is gone.
+#[test]
+fn one_name_twice(rt: HostRuntime) -> Result<(), Fail> {
+    let hashing: [&[u8]; 3] = [b"md5sum", b"a", b"a"];
+    let checking: [&[u8]; 3] = [b"md5sum", b"-c", b"l"];
+    let gone = "md5sum: a: No such file or directory\n";
+    let wrong = "md5sum: WARNING: 1 computed checksum did NOT match\n";
+    let unread = "md5sum: a: No such file or directory\n\
+                  md5sum: WARNING: 1 listed file could not be read\n";
+    let list = "$M  a\n$M  a\n";
+    for (arguments, letters, texts) in [
+        (hashing, "ab", ("$M  a\n$E  a\n", "", 0)),
+        (hashing, "a", ("$M  a\n", gone, 1)),
+        (checking, "lab", ("a: OK\na: FAILED\n", wrong, 1)),
+        (
+            checking,
+            "la",
+            ("a: OK\na: FAILED open or read\n", unread, 1),
+        ),
+    ] {
+        let opened = (letters, 0, 100, Ending::Whole);
+        assert_leaves(&rt, &arguments, &[list], opened, texts)?;
     }
     Ok(())
 }
