@@ -22,7 +22,7 @@ LINE = re.compile(r"rt: must-fail (\w+)/([\w.-]+)\.edit: (.*)")
 AT = re.compile(r"refused, as it must be: note: src/([\w/]+\.rt):(\d+):(\d+): [^(]*\(`([^`]*)`")
 IN_PROOF = re.compile(r"refused, as it must be: (?:note: )?(?:\./)?proofs/([\w/]+)\.antt:\d+:\d+: error: `([^`]*)`")
 # The head of an `impl`, the head of a function with its attributes, and the end of what is outermost.
-HEAD = re.compile(r"\bimpl(?:<[^{}]*?>)? (?:(?:\w+::)*\w+(?:<[^{}]*?>)? for )?(?:&mut )?(?:\w+::)*(?P<of>\w+)[^;{}]*\{"
+HEAD = re.compile(r"\bimpl(?:<[^{}]*?>)? (?:(?:\w+::)*\w+(?:<[^{}]*?>)? for )?(?:&mut )?(?:\w+::)*(?P<of>\w+)[^;{}]*\{(?!\})"
                   r"|(?:#\[.*\n\s*)*(?:pub(?:\([^)]*\))? )?\bfn (?P<fn>\w+)|(?m:^\}$)")
 
 
@@ -72,14 +72,14 @@ def function_of(crate, path, blocks):
 
 
 def goal_of(name):
-    """The clause of a goal, or what kind of goal it is."""
-    clause = re.search(r"-clause-(\w+)$", name)
-    callee = re.match(r"(\w+)-requires", name)
+    """What a goal shows: a clause, what a callee requires, what a loop keeps, or a part of the function's proof."""
+    clause, callee = re.search(r"-clause-(\w+)$", name), re.match(r"(\w+)-requires", name)
     if callee:
-        return f"requires of `{callee[1]}`"
-    if re.match("(returns|result)", name):
+        return f"what `{callee[1]}` requires"
+    if name.startswith("returns"):
         return clause[1] if clause else "result"
-    return f"invariant {clause[1]}" if clause else name
+    kept = re.match(r"loop-(\w+)-preserved", name)
+    return f"loop's `{kept[1]}`" if kept else "its proof"
 
 
 def rows(said):
