@@ -15,7 +15,7 @@ pub trait Input {
 
     /// Reads some of the remaining bytes into the front of `buf` and returns how many, at most its length. Returns 0
     /// for a `buf` that isn't empty only if the input has ended whole, and a fault only if no byte remains and the
-    /// input ends by that fault.
+    /// input ends by that fault. An input may go on after its end or its fault.
     fn read(&mut self, buf: &mut [u8]) -> Result<usize, Fault>
         ensures count { IfOk result (λ n. n ≤ length buf.new) }
         ensures bytes { IfKnown (state self.old).content (state self.new).content (λ c d.

@@ -56,7 +56,7 @@ impl<I: Input> Stdin<I> {
 }
 
 impl<I: Input + Drop> Stdin<I> {
-    /// Puts back what `take` gave, so that its phase is known from then on. What is put back first stays.
+    /// Puts back what `take` gave, so that its phase is known from then on. The first that has an input stays.
     pub fn put_back(&mut self, given: Given<I>)
         ensures returned { self.new ≡ record self.old { returned = option_or self.old.returned given } }
     {
