@@ -9,9 +9,6 @@ from library import parts_of
 from rattle import Code
 from reference_words import help_text, meaning
 
-WITH_CHECK = "meaningless when verifying checksums"
-WITHOUT_CHECK = "meaningful only when verifying checksums"
-
 
 class ToolNames(Case):
     """The first word names the tool, or the name by which the program is called does."""
@@ -154,43 +151,13 @@ class Lengths(Case):
 
 
 class Combinations(Case):
-    """Faults 8 to 17, and the order in which the faults from 6 on are tried."""
-
-    def test_the_order_with_check(self):
-        """Each line has all faults that come after its own, as far as they can be together."""
-        for words, text in (
-                ("-c --tag -z l", "the --zero option is not supported when verifying checksums"),
-                ("-t -c l", f"the --binary and --text options are {WITH_CHECK}"),
-                ("-c -l 12 -z l", "length is not a multiple of 8: '12'"),
-                ("-c -z -t --tag --text -l x l", "invalid length: 'x'"),
-                ("-c -z -t --tag --text -l 12 l", "length is not a multiple of 8: '12'"),
-                ("-c -z -t --tag --text l", "--tag does not support --text mode"),
-                ("-c -z -t --tag l", "the --zero option is not supported when verifying checksums"),
-                ("-c -t --tag l", f"the --tag option is {WITH_CHECK}"),
-                ("-c -t l", f"the --binary and --text options are {WITH_CHECK}")):
-            self.expect_fault(f"b2sum {words}", text)
-
-    def test_the_order_without_check(self):
-        for words, text in (
-                ("b2sum --strict --status --ignore-missing --tag -t -l x", "invalid length: 'x'"),
-                ("b2sum --strict --status --ignore-missing --tag -t -l 12", "length is not a multiple of 8: '12'"),
-                ("anysum --strict --status --ignore-missing --tag -t", "--tag does not support --text mode"),
-                ("anysum --strict --status --ignore-missing", f"the --ignore-missing option is {WITHOUT_CHECK}"),
-                ("anysum --strict --status", f"the --status option is {WITHOUT_CHECK}"),
-                ("anysum --strict --warn", f"the --warn option is {WITHOUT_CHECK}"),
-                ("anysum --strict --quiet", f"the --quiet option is {WITHOUT_CHECK}"),
-                ("anysum --strict", f"the --strict option is {WITHOUT_CHECK}"),
-                ("anysum", "--check is required"), ("anysum --tag m", "--check is required"),
-                ("md5sum --strict --ignore-missing a", f"the --ignore-missing option is {WITHOUT_CHECK}"),
-                ("md5sum --quiet -w --status a", f"the --status option is {WITHOUT_CHECK}"),
-                ("md5sum --status -w a", f"the --warn option is {WITHOUT_CHECK}"),
-                ("md5sum --status --quiet a", f"the --quiet option is {WITHOUT_CHECK}"),
-                ("sha256sum --str l", f"the --strict option is {WITHOUT_CHECK}")):
-            self.expect_fault(words, text)
+    """Faults 8 to 17; the order in which they are tried is proved, and unit tests have examples."""
 
     def test_tag_and_length(self):
         self.expect_fault("md5sum --tag -b -t a", "--tag does not support --text mode")
         self.expect("md5sum --tag -t -b a", out=[f"MD5 (a) = {M}"])
+        self.expect_fault("b2sum -c -z -t --tag -l 12 l", "length is not a multiple of 8: '12'")
+        self.expect_fault("anysum --strict --warn", "the --warn option is meaningful only when verifying checksums")
         self.write("l", [f"{B}  e"])
         self.expect("b2sum -c -l 8 l", out=["e: OK"])
 
