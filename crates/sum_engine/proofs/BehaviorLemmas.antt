@@ -8,8 +8,8 @@ use Rattle.sum_engine.specs.Execution.{Stop, Memory, Write, StreamsState, WorldS
 use Rattle.sum_engine.specs.Behavior.{World, Event, Step, Behavior, trace, events_of, single_step}
 use Rattle.sum_engine.specs.check.CheckerSteps.{step_then}
 use Rattle.sum_engine.specs.check.CheckerLaws.{EventsExtend}
-use Rattle.sum_engine.specs.refinement.FlushedWrites.{WritesAndFlushesBoth}
-use Rattle.sum_engine.proofs.ExecutionLemmas.{Asks, Writing, returned, step_performed, names-by, err-by, out-by, Happened-none, Happened-then, HappenedOrPrefix-by, refused_in}
+use Rattle.sum_engine.specs.refinement.FlushedWrites.{WritesAndFlushesBoth, Writing, returned}
+use Rattle.sum_engine.proofs.ExecutionLemmas.{Asks, step_performed, names-by, err-by, out-by, Happened-none, Happened-then, HappenedOrPrefix-by, refused_in}
 use Rattle.sum_engine.proofs.WorldLemmas.{InSomeWorld-map}
 
 -- ---- a behavior after a step, and one behavior after another

@@ -14,12 +14,12 @@ use Rattle.sum_engine.specs.check.CheckerLaws.{ManifestPerforms}
 use Rattle.sum_engine.specs.check.Verdicts.{Rules, all_verdicts}
 use Rattle.sum_engine.specs.Execution.{Phase, Reading, Stop, Memory, InputsState, OutputsState, StreamsState, KeepsStdin, IsFlushed, WorldState, in_world, InSomeWorld, AskedMore, Happened, PerformsSteps, Performs}
 use Rattle.sum_sources.specs.LineReaders.{IsReadSoFar}
-use Rattle.sum_engine.specs.refinement.FlushedWrites.{WritesAndFlushesBoth}
+use Rattle.sum_engine.specs.refinement.FlushedWrites.{Says}
 use Rattle.sum_engine.specs.Generation.{fault_line}
 use Rattle.sum_engine.specs.check.Reports.{LabelsValue}
 use Rattle.sum_engine.proofs.CountLemmas.{counts_then-none}
 use Rattle.sum_engine.specs.check.Checking.{CheckSettings, rules_of, labels_of, content_behavior, check_behavior_by, check_behavior}
-use Rattle.sum_engine.proofs.ExecutionLemmas.{Writing, returned, Happened-none, Happened-by, IsKept, kept_performs}
+use Rattle.sum_engine.proofs.ExecutionLemmas.{Happened-none, Happened-by, IsKept, kept_performs}
 use Rattle.sum_engine.specs.refinement.Openings.{stdin_taken_from}
 use Rattle.sum_engine.proofs.StepLemmas.{InSomeCheck-map, InSomeCheck-then, some_remains}
 use Rattle.sum_engine.proofs.WorldLemmas.{asked_none, dash_asked, file_asked, opened_file, opened_fault, opened_nothing, stdin_given, may-closed}
@@ -270,15 +270,15 @@ module _ {S : Type 0} (state : S → SourceState) (settings : CheckSettings) (to
           })
 
       -- it could not be opened, and the line of its fault was written, or a prefix of it
-      pub refused : (f : Fault) (outputs : OutputsState) (x : Writing) → is_dash name ≡ false
+      pub refused : (f : Fault) (outputs : OutputsState) (x : Result Bool Stop) → is_dash name ≡ false
           → IsAnswer (Err (open_faults.Fault f)) → (state m.source).refusals ≡ (state a.inputs.source).refusals
-          → WritesAndFlushesBoth a.outputs outputs (fault_line present tool name f) [] x
-          → Performed (record a { inputs = m; outputs = outputs }) (returned x false)
-      refused f outputs x is_file h refusals writes =
-          Performs-step state (λ w. check_behavior settings tool w name) (name ∷ []) (fault_line present tool name f) [] false
-          (λ g. g) a (record a { inputs = m; outputs = outputs }) x
+          → Says a.outputs outputs (fault_line present tool name f) [] false x
+          → Performed (record a { inputs = m; outputs = outputs }) x
+      refused f outputs x is_file h refusals said = rw said.returns
+          (Performs-step state (λ w. check_behavior settings tool w name) (name ∷ []) (fault_line present tool name f) []
+          false (λ g. g) a (record a { inputs = m; outputs = outputs }) said.writing
           (opened_fault state a.inputs m kept content name f is_file h)
-          (λ w v is. (rw (is.1, is_file) refl, search (rules, or-false, file_asked))) writes
+          (λ w v is. (rw (is.1, is_file) refl, search (rules, or-false, file_asked))) said.writes)
 
       -- there was no memory to open it
       pub no_room : IsAnswer (Err open_faults.Memory)

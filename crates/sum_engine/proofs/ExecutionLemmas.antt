@@ -11,7 +11,7 @@ use Rattle.sum_sources.specs.Contents.{SourceState}
 use Rattle.digest_kinds.specs.Limits.{one_more}
 use Rattle.sum_lines.specs.refinement.SinkStates.{AppendsPrefix}
 use Rattle.sum_engine.specs.Behavior.{World, is_dash, after, Event, Step, events_of, open_name, write_err, write_out, name_in, err_in, out_in}
-use Rattle.sum_engine.specs.refinement.FlushedWrites.{WritesBoth}
+use Rattle.sum_engine.specs.refinement.FlushedWrites.{WritesBoth, Writing, returned}
 use Rattle.sum_engine.specs.Execution.{InputsState, StreamsState, KeepsStdin, WorldState, in_world, AskedMore, Stop, Memory, Write, Happened, PrefixHappened, RefusedAt, PerformsSteps}
 use Rattle.sum_engine.proofs.WorldLemmas.{after-append, asked_none, asked_both}
 
@@ -97,10 +97,6 @@ prefix_out names err out asked all h =
     let rest : List Event = map write_out h.1.0 in
     (events_by names err h.0, (rest, search (rules, map-append, append_assoc)), Happened-by names err h.0 asked all h.2)
 
--- whether a call that writes did all of it, or failed
-abbrev pub Writing : Type 0
-Writing = Result (Unit {0}) (Unit {0})
-
 -- what it wrote happened, or a prefix of it if it failed
 abbrev pub HappenedOrPrefix : Writing → WorldState → WorldState → List Event → Type 0
 HappenedOrPrefix (Ok u) a b es = Happened a b es
@@ -112,11 +108,6 @@ pub HappenedOrPrefix-by : (a b : WorldState) (names : List (List ℕ)) (err out 
 HappenedOrPrefix-by a b names err out (Ok u) asked h = Happened-by names err out asked h.0 h.1
 HappenedOrPrefix-by a b names err out (Err e) asked (inl h) = prefix_err names err out asked h.0 h.1
 HappenedOrPrefix-by a b names err out (Err e) asked (inr h) = prefix_out names err out asked h.0 h.1
-
--- what a call returns that writes and then returns so
-abbrev pub returned : {A : Type 0} → Writing → A → Result A Stop
-returned (Ok u) x = Ok x
-returned (Err e) x = Err Write
 
 -- one step was performed, by what came of its events
 pub step_performed : {A : Type 0} (outcome : A) (a b : WorldState) (step : Step) (x : Writing)

@@ -6,8 +6,8 @@ use Rattle.sum_lines.specs.sinks.Sinks.{SinkState, Accepted, Flushes}
 use Rattle.digest_kinds.specs.Limits.{one_more}
 use Rattle.sum_lines.specs.refinement.SinkStates.{AppendsPrefix}
 use Rattle.sum_lines.proofs.SinkLemmas.{Accepted-flush_failed}
-use Rattle.sum_engine.specs.refinement.FlushedWrites.{WritesAndFlushes, WritesAndFlushesBoth}
-use Rattle.sum_engine.specs.Execution.{OutputsState}
+use Rattle.sum_engine.specs.refinement.FlushedWrites.{WritesAndFlushes, WritesAndFlushesBoth, returned, Says}
+use Rattle.sum_engine.specs.Execution.{OutputsState, Stop}
 
 -- ---- known bytes
 
@@ -63,3 +63,9 @@ pub out_alone : {E : Type 0} (a b : OutputsState) (text : List ℕ) (r : Result 
     → WritesAndFlushes a.out b.out text r → b.err ≡ a.err → WritesAndFlushesBoth a b [] text r
 out_alone a b text (Ok u) h same = search (rules, Appends-nil)
 out_alone a b text (Err e) h same = search (rules, Appends-nil)
+
+-- these texts were written, and then x was returned
+pub says : {E A : Type 0} {a b : OutputsState} {err out : List ℕ} {x : A} {r : Result A Stop} (w : Result (Unit {0}) E)
+    → r ≡ returned w x → WritesAndFlushesBoth a b err out w → Says a b err out x r
+says (Ok u) is h = record { writing = Ok tt; returns = is; writes = h }
+says (Err e) is h = record { writing = Err tt; returns = is; writes = h }

@@ -8,7 +8,7 @@ ghost use Rattle.sum_engine.specs.Execution.{RefusalsMatch, Performs};
 
 use crate::hash_name::hash_name;
 use crate::inputs::Inputs;
-use crate::put_flushed::put_fault_line;
+use crate::put_flushed::{put_fault_line, then};
 use crate::settings::Settings;
 use crate::stop::Stop;
 use crate::streams::{Outputs, Streams};
@@ -42,12 +42,14 @@ pub fn generate_one<I: Input + Drop, S: Source, O: Sink, E: Sink>(
         None => Err(Stop::Memory),
         Some(outcome) => match outcome.into_result() {
             Ok(digest) => {
-                put_line_flushed(&mut streams.outputs, settings, name, &digest)?;
-                Ok(true)
+                let written = put_line_flushed(&mut streams.outputs, settings, name, &digest);
+                then(written, true)
             }
             Err(fault) => {
-                put_fault_line(&mut streams.outputs, tool, name, fault)?;
-                Ok(false)
+                then(
+                    put_fault_line(&mut streams.outputs, tool, name, fault),
+                    false,
+                )
             }
         },
     }

@@ -1,10 +1,11 @@
 //! Lines that are written and flushed at once.
-ghost use Rattle.std.specs.Prelude.{[]};
+ghost use Rattle.std.specs.Prelude.{◌≡◌, []};
 ghost use Rattle.sum_lines.specs.Escape.{present};
 ghost use Rattle.sum_lines.specs.refinement.PartTexts.{parts_text};
 ghost use Rattle.sum_engine.specs.Generation.{tool_line, fault_line};
-ghost use Rattle.sum_engine.specs.refinement.FlushedWrites.{WritesAndFlushes, WritesAndFlushesBoth};
+ghost use Rattle.sum_engine.specs.refinement.FlushedWrites.{WritesAndFlushes, WritesAndFlushesBoth, returned};
 
+use crate::stop::Stop;
 use crate::streams::Outputs;
 use sum_lines::{Part, Sink, SinkFault, put_parts};
 use sum_sources::Fault;
@@ -63,4 +64,13 @@ pub(crate) fn put_fault<E: Sink>(
     ensures { WritesAndFlushes (E.state err.old) (E.state err.new) (fault_line present tool.now name.now fault) result }
 {
     put_tool_line(err, tool, name, fault.text().as_bytes())
+}
+
+/// Returns the outcome of a call that has written what it has to write.
+#[inline(always)]
+pub(crate) fn then<T: Drop>(written: Result<(), SinkFault>, outcome: T) -> Result<T, Stop>
+    ensures { result ≡ returned written outcome }
+{
+    written?;
+    Ok(outcome)
 }

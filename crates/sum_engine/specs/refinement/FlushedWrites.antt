@@ -4,7 +4,7 @@ use Rattle.std.specs.Io.KnownBytes.{Appends}
 use Rattle.sum_lines.specs.sinks.Sinks.{SinkState}
 use Rattle.digest_kinds.specs.Limits.{one_more}
 use Rattle.sum_lines.specs.refinement.SinkStates.{AppendsPrefix}
-use Rattle.sum_engine.specs.Execution.{OutputsState, IsFlushed, NoneFailed, OneFailed}
+use Rattle.sum_engine.specs.Execution.{OutputsState, IsFlushed, NoneFailed, OneFailed, Stop, Write}
 
 -- a call that writes the text and flushes it, if the output is flushed before; then it is flushed after. A fault has one
 -- failure more of the output, and a prefix of the text was written
@@ -24,3 +24,18 @@ abbrev pub WritesAndFlushesBoth : {E : Type 0} → OutputsState → OutputsState
     → Type 0
 WritesAndFlushesBoth a b err out r = MatchResult r (λ u. NoneFailed a b) (λ e. OneFailed a b)
     × (IsFlushed a → IsFlushed b × WritesBoth a b err out r)
+
+-- whether a call that writes did all of it, or failed
+abbrev pub Writing : Type 0
+Writing = Result (Unit {0}) (Unit {0})
+
+-- what a call returns that writes and then returns so
+abbrev pub returned : {E A : Type 0} → Result (Unit {0}) E → A → Result A Stop
+returned (Ok u) x = Ok x
+returned (Err e) x = Err Write
+
+-- a call that writes these texts and flushes them, and then returns x; or a write fault
+pub record Says {A : Type 0} (a b : OutputsState) (err out : List ℕ) (x : A) (r : Result A Stop) : Type 0 where
+  pub writing : Writing
+  pub returns : r ≡ returned writing x
+  pub writes : WritesAndFlushesBoth a b err out writing

@@ -10,7 +10,7 @@ use crate::check::report::put_report;
 use crate::check::rules::{CheckRules, Labels};
 use crate::check::summary::{Counts, is_good, put_summary};
 use crate::inputs::Inputs;
-use crate::put_flushed::put_fault_line;
+use crate::put_flushed::{put_fault_line, then};
 use crate::stop::Stop;
 use crate::streams::{Outputs, Streams};
 use std::alloc::Allocator;
@@ -100,27 +100,28 @@ impl<I: Input> CheckCursor<I> {
         match self.next_verdict(line, &mut streams.inputs) {
             Err(LineStop::Memory) => Err(Stop::Memory),
             Err(LineStop::Fault(fault)) => {
-                put_fault_line(&mut streams.outputs, labels.tool, labels.manifest, fault)?;
-                Ok(Progress::Ended(false))
+                let (tool, manifest) = (labels.tool, labels.manifest);
+                let written = put_fault_line(&mut streams.outputs, tool, manifest, fault);
+                then(written, Progress::Ended(false))
             }
             Ok(None) => {
-                put_summary(&mut streams.outputs, self.rules, labels, self.counts)?;
-                Ok(Progress::Ended(is_good(self.rules, self.counts)))
+                let written = put_summary(&mut streams.outputs, self.rules, labels, self.counts);
+                then(written, Progress::Ended(is_good(self.rules, self.counts)))
             }
             Ok(Some(found)) => {
                 if let Verdict::Ignored = found.verdict {
                     return Ok(Progress::Going);
                 }
                 let name = found.name(line.as_slice());
-                put_report(
+                let written = put_report(
                     &mut streams.outputs,
                     self.rules,
                     labels,
                     found.number,
                     found.verdict,
                     name,
-                )?;
-                Ok(Progress::Going)
+                );
+                then(written, Progress::Going)
             }
         }
     }

@@ -1,10 +1,10 @@
-use Rattle.std.proofs.Common.{◌≡◌, true, false, Ok, Err, ap, rules}
-use Rattle.std.proofs.lemmas.Result.{err_from_is_err_and}
+use Rattle.std.proofs.Common.{◌≡◌, true, false, ap, rules}
 use Rattle.std.specs.Option.{option_map, option_or}
 use Rattle.sum_engine.specs.Behavior.{is_dash}
 use Rattle.sum_engine.specs.Execution.{InputsState}
 use Rattle.sum_engine.specs.check.Verdicts.{Rules}
 use Rattle.sum_engine.proofs.ReadToEndLemmas.{put_back-whole, ReadToEnd-around}
+use Rattle.sum_engine.proofs.FlushedWriteLemmas.{says}
 use Rattle.sum_engine.proofs.CheckOneLemmas.{check_dash, check_file, refused, no_room}
 use Rattle.sum_engine.proofs.check.check_one.check_one.Goals as goal
 
@@ -53,30 +53,16 @@ returns-in-Err-Memory-clause-behavior g c =
     no_room g.S.Source.state c.args.settings c.args.tool.now c.args.name.now c.args.streams.now g.S.File.Input.state
     c.open_file.new.self c.in-Err-Memory.ensures.stdin answer refused
 
--- it could not be opened, and the line of its fault was written
-pub returns-in_ok-put_fault_line-in-Err-Fault-clause-behavior :
-    goal.returns-in_ok-put_fault_line-in-Err-Fault-clause-behavior
-returns-in_ok-put_fault_line-in-Err-Fault-clause-behavior g c =
+-- it could not be opened, and the line of its fault was written, or a prefix of it
+pub returns-in-Err-Fault-clause-behavior : goal.returns-in-Err-Fault-clause-behavior
+returns-in-Err-Fault-clause-behavior g c =
     let dash : is_dash c.args.name.now ≡ false = search rules in
     let answer = rw c.in-Err-Fault.field-0-is at c.in-Err-Fault.ensures.answer in
     let refusals = rw c.in-Err-Fault.field-0-is at c.in-Err-Fault.ensures.refusals in
-    let written = rw c.in-Err-Fault.fault-is at c.in_ok-put_fault_line-in-Err-Fault.ensures in
+    let written = rw c.in-Err-Fault.fault-is at c.put_fault_line.ensures in
     refused g.S.Source.state c.args.settings c.args.tool.now c.args.name.now c.args.streams.now g.S.File.Input.state
-    c.open_file.new.self c.in-Err-Fault.ensures.stdin c.in-Err-Fault.fault c.put_fault_line.new.outputs (Ok tt) dash answer
-    refusals written
-
--- the line of its fault was cut off
-pub returns-in_err-put_fault_line-in-Err-Fault-clause-behavior :
-    goal.returns-in_err-put_fault_line-in-Err-Fault-clause-behavior
-returns-in_err-put_fault_line-in-Err-Fault-clause-behavior g c =
-    let dash : is_dash c.args.name.now ≡ false = search rules in
-    let answer = rw c.in-Err-Fault.field-0-is at c.in-Err-Fault.ensures.answer in
-    let refusals = rw c.in-Err-Fault.field-0-is at c.in-Err-Fault.ensures.refusals in
-    let cut = rw c.in-Err-Fault.fault-is at c.in_err-put_fault_line-in-Err-Fault.ensures in
-    let stop = err_from_is_err_and c.from_residual.result c.from_residual.ensures.1 in
-    rw (stop.1, stop.2) (refused g.S.Source.state c.args.settings c.args.tool.now c.args.name.now c.args.streams.now
-    g.S.File.Input.state c.open_file.new.self c.in-Err-Fault.ensures.stdin c.in-Err-Fault.fault
-    c.put_fault_line.new.outputs (Err tt) dash answer refusals cut)
+    c.open_file.new.self c.in-Err-Fault.ensures.stdin c.in-Err-Fault.fault c.put_fault_line.new.outputs c.then.result
+    dash answer refusals (says c.put_fault_line.result c.then.ensures written)
 
 -- it is a file
 pub returns-in-Ok-clause-behavior : goal.returns-in-Ok-clause-behavior
