@@ -1,18 +1,19 @@
 -- A run and its end, joined: what the whole program does.
 use Rattle.std.proofs.Common.{rules, ◌≡◌, ℕ, List, [], Option, None, Some, IfSome, Result, Ok, Err}
-use Rattle.std.proofs.Common.{sym, inl, inr, refl, subst, append-nil}
+use Rattle.std.proofs.Common.{false, sym, inl, inr, refl, subst, append-nil}
 use Rattle.sum_sources.specs.Contents.{SourceState}
 use Rattle.sum_engine.proofs.WorldLemmas.{InSomeWorld-map}
 use Rattle.sum_engine.specs.declared.stop.Stop.{Stop}
 use Rattle.sum_engine.specs.declared.stop.Stop.TheVariants.{Memory, Write}
-use Rattle.sum_engine.specs.Behavior.{World, Event, Behavior, trace}
+use Rattle.sum_engine.specs.Behavior.{World, Event, Behavior, trace, single_step}
 use Rattle.sum_engine.specs.Execution.{OutputsState, StreamsState, WorldState, IsFlushed, NoneFailed, OneFailed}
 use Rattle.sum_engine.specs.Execution.{FailuresMatch, Happened, Performs}
 use Rattle.sum_words.specs.Items.{ByteString}
 use Rattle.sum_words.specs.CommandLines.{CommandLineValue, command_line, NeedsMemory}
 use Rattle.digests.specs.Meaning.{status_of}
 use Rattle.digests.specs.Program.{CallPerforms, ProgramPerforms, call_behavior, call_stop_line}
-use Rattle.digests.specs.refinement.FinishRun.{KeepsBoth, FinishesRun}
+use Rattle.digests.specs.refinement.FinishRun.{KeepsBoth, FinishesRun, Refuses, tool_stop_line}
+use Rattle.digests.proofs.MessageLemmas.{Performs-texts, FailuresMatch-texts}
 
 -- ---- a run that answered, and its end
 
@@ -70,6 +71,18 @@ CallPerforms-finished state status line a b outputs (Ok x) ran failed (Err Memor
     absurd flushed
 CallPerforms-finished state status line a b outputs (Err stop) ran failed (later, m, flushed, kept, reports) =
     (Err stop, b, ran, failed, refl, rw (flushed.0, flushed.1) at reports)
+
+-- a call in whose place this text is written
+pub CallPerforms-refused : {S : Type 0} (state : S → SourceState) (status : ℕ) (line : Option CommandLineValue)
+    (a : StreamsState S) (outputs : OutputsState) (text : ByteString)
+    → call_behavior line ≡ (λ w. single_step [] text [] false) → call_stop_line line ≡ tool_stop_line None
+    → Refuses text a.outputs outputs status → IsFlushed a.outputs
+    → CallPerforms state line a (record a { outputs = outputs }) status
+CallPerforms-refused state status line a outputs text is stop refused flushed =
+    let (answer, between, said, finish) = refused flushed in
+    CallPerforms-finished state status line a (record a { outputs = between }) outputs answer
+    (rw is (Performs-texts state a between text [] false answer said))
+    (rw said.returns (FailuresMatch-texts a.outputs between text [] 1 said.written said.writes)) (rw stop finish)
 
 -- ---- by what was read of the arguments
 

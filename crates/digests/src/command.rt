@@ -2,6 +2,8 @@
 ghost use Rattle.std.specs.Prelude.{◌≡◌};
 ghost use Rattle.sum_engine.specs.Execution.{IsFlushed, NoneFailed, ReadToEnd};
 ghost use Rattle.digests.specs.Program.{ProgramPerforms};
+ghost use Rattle.digests.specs.refinement.FinishRun.{Refuses};
+ghost use Rattle.digests.specs.refinement.Messages.{message_text};
 
 use crate::finish::finish_run;
 use crate::messages::{Message, put_err_message};
@@ -39,15 +41,17 @@ pub fn command<A: Allocator + Copy, G: Arguments, I: Input + Drop, S: Source, O:
             let outcome = run(alloc, tool, &words, streams);
             finish_run(Some(tool), outcome, &mut streams.outputs)
         }
-        Ok(CommandLine::UnknownTool) => {
-            let outputs = &mut streams.outputs;
-            let outcome = status_after_write(put_err_message(outputs, Message::UnknownTool), 1);
-            finish_run(None, outcome, &mut streams.outputs)
-        }
-        Err(NotRead) => {
-            let outputs = &mut streams.outputs;
-            let outcome = status_after_write(put_err_message(outputs, Message::NotRead), 1);
-            finish_run(None, outcome, &mut streams.outputs)
-        }
+        Ok(CommandLine::UnknownTool) => refuse(Message::UnknownTool, &mut streams.outputs),
+        Err(NotRead) => refuse(Message::NotRead, &mut streams.outputs),
     }
+}
+
+// Writes why no tool is run, and returns the exit status.
+fn refuse<O: Sink, E: Sink>(text: Message, outputs: &mut Outputs<O, E>) -> u8
+    ensures refusal { Refuses (message_text text.entry) outputs.old outputs.new result }
+    ensures flushed { IsFlushed outputs.old → IsFlushed outputs.new }
+    ensures not_good { result ≡ 0 → ⊥ }
+{
+    let outcome = status_after_write(put_err_message(outputs, text), 1);
+    finish_run(None, outcome, outputs)
 }

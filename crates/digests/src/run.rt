@@ -2,11 +2,12 @@
 ghost use Rattle.std.specs.Prelude.{◌≡◌, ◌∷◌, true, Ok};
 ghost use Rattle.sum_engine.specs.Execution.{IsFlushed, FailuresMatch, ReadToEnd};
 ghost use Rattle.sum_engine.specs.Execution.{RefusalsMatch, StopHasCause, Performs};
+ghost use Rattle.sum_engine.specs.refinement.FlushedWrites.{outcome_after};
 ghost use Rattle.sum_words.specs.Tools.{name_of};
 ghost use Rattle.sum_words.specs.refinement.OptionScan.{result_of};
 ghost use Rattle.sum_words.specs.Request.{request};
 ghost use Rattle.digests.specs.Meaning.{operands_behavior, request_behavior, or_dash, meaning, status_of, RefusalsOf};
-ghost use Rattle.digests.specs.refinement.Operands.{operand_behavior, RefusalsOfJob, status_after_write};
+ghost use Rattle.digests.specs.refinement.Operands.{operand_behavior, RefusalsOfJob};
 
 use crate::messages::{Message, put_err_message, put_out_message};
 use std::alloc::Allocator;
@@ -77,7 +78,7 @@ fn run_request<A: Allocator + Copy, I: Input + Drop, S: Source, O: Sink, E: Sink
 
 // The status after a text was written.
 pub(crate) fn status_after_write(written: Result<(), SinkFault>, status: u8) -> Result<u8, Stop>
-    ensures { result ≡ status_after_write written status }
+    ensures { result ≡ outcome_after written status }
 {
     written?;
     Ok(status)
@@ -138,7 +139,7 @@ fn run_operands<A: Allocator + Copy, I: Input + Drop, S: Source, O: Sink, E: Sin
     let mut good = true;
     'operands: loop {
         match run_operand(alloc, job, tool, name, streams) {
-            Ok(this) => good = good && this,
+            Ok(this) => good &= this,
             Err(stop) => return Err(stop),
         }
         match operands.next() {

@@ -8,7 +8,7 @@ use Rattle.sum_engine.specs.Execution.{Stop, Memory, Write, StreamsState, WorldS
 use Rattle.sum_engine.specs.Behavior.{World, Event, Step, Behavior, trace, events_of, single_step}
 use Rattle.sum_engine.specs.check.CheckerSteps.{step_then}
 use Rattle.sum_engine.specs.check.CheckerLaws.{EventsExtend}
-use Rattle.sum_engine.specs.refinement.FlushedWrites.{WritesAndFlushesBoth, Writing, returned}
+use Rattle.sum_engine.specs.refinement.FlushedWrites.{WritesAndReturns}
 use Rattle.sum_engine.proofs.ExecutionLemmas.{Asks, step_performed, names-by, err-by, out-by, Happened-none, Happened-then, HappenedOrPrefix-by, refused_in}
 use Rattle.sum_engine.proofs.WorldLemmas.{InSomeWorld-map}
 
@@ -86,15 +86,14 @@ along_stops {a = a} {b = b} c x y step later stop h is k =
 
 -- the step was done, or a prefix of it
 pub Performs-step : {S A : Type 0} (state : S → SourceState) (run : World → Behavior) (names : List (List ℕ))
-    (err out : List ℕ) (good : Bool) (outcome : Bool → A) (a b : StreamsState S) (x : Writing)
+    (err out : List ℕ) (good : Bool) (outcome : Bool → A) (a b : StreamsState S) (x : Result A Stop)
     {P : World → World → Type 0} → InSomeWorld state a.inputs b.inputs P
     → ((w v : World) → P w v → (run w ≡ single_step names err out good)
     × Asks (in_world state a w) (in_world state b v) names)
-    → WritesAndFlushesBoth a.outputs b.outputs err out x
-    → Performs state run outcome a b (returned x (outcome good))
-Performs-step state run names err out good outcome a b x h is wrote = λ flushed. InSomeWorld-map h (λ w v p.
-    rw (is w v p).0 (step_performed (outcome good) (in_world state a w) (in_world state b v) _ x
-    (HappenedOrPrefix-by _ _ names err out x (is w v p).1 (wrote.1 flushed).1)))
+    → WritesAndReturns a.outputs b.outputs err out (outcome good) x → Performs state run outcome a b x
+Performs-step state run names err out good outcome a b x h is said = λ flushed. InSomeWorld-map h (λ w v p.
+    rw ((is w v p).0, said.returns) (step_performed (outcome good) (in_world state a w) (in_world state b v) _ said.written
+    (HappenedOrPrefix-by _ _ names err out said.written (is w v p).1 (said.writes.1 flushed).1)))
 
 -- the source had no memory to open the first step's name
 pub Performs-refused : {S A : Type 0} (state : S → SourceState) (run : World → Behavior) (outcome : Bool → A)

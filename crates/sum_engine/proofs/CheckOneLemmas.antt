@@ -14,7 +14,7 @@ use Rattle.sum_engine.specs.check.CheckerLaws.{ManifestPerforms}
 use Rattle.sum_engine.specs.check.Verdicts.{Rules, all_verdicts}
 use Rattle.sum_engine.specs.Execution.{Phase, Reading, Stop, Memory, InputsState, OutputsState, StreamsState, KeepsStdin, IsFlushed, WorldState, in_world, InSomeWorld, AskedMore, Happened, PerformsSteps, Performs}
 use Rattle.sum_sources.specs.LineReaders.{IsReadSoFar}
-use Rattle.sum_engine.specs.refinement.FlushedWrites.{Says}
+use Rattle.sum_engine.specs.refinement.FlushedWrites.{WritesAndReturns}
 use Rattle.sum_engine.specs.Generation.{fault_line}
 use Rattle.sum_engine.specs.check.Reports.{LabelsValue}
 use Rattle.sum_engine.proofs.CountLemmas.{counts_then-none}
@@ -272,13 +272,13 @@ module _ {S : Type 0} (state : S → SourceState) (settings : CheckSettings) (to
       -- it could not be opened, and the line of its fault was written, or a prefix of it
       pub refused : (f : Fault) (outputs : OutputsState) (x : Result Bool Stop) → is_dash name ≡ false
           → IsAnswer (Err (open_faults.Fault f)) → (state m.source).refusals ≡ (state a.inputs.source).refusals
-          → Says a.outputs outputs (fault_line present tool name f) [] false x
+          → WritesAndReturns a.outputs outputs (fault_line present tool name f) [] false x
           → Performed (record a { inputs = m; outputs = outputs }) x
-      refused f outputs x is_file h refusals said = rw said.returns
-          (Performs-step state (λ w. check_behavior settings tool w name) (name ∷ []) (fault_line present tool name f) []
-          false (λ g. g) a (record a { inputs = m; outputs = outputs }) said.writing
+      refused f outputs x is_file h refusals said =
+          Performs-step state (λ w. check_behavior settings tool w name) (name ∷ []) (fault_line present tool name f) []
+          false (λ g. g) a (record a { inputs = m; outputs = outputs }) x
           (opened_fault state a.inputs m kept content name f is_file h)
-          (λ w v is. (rw (is.1, is_file) refl, search (rules, or-false, file_asked))) said.writes)
+          (λ w v is. (rw (is.1, is_file) refl, search (rules, or-false, file_asked))) said
 
       -- there was no memory to open it
       pub no_room : IsAnswer (Err open_faults.Memory)

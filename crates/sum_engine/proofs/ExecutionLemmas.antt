@@ -11,7 +11,7 @@ use Rattle.sum_sources.specs.Contents.{SourceState}
 use Rattle.digest_kinds.specs.Limits.{one_more}
 use Rattle.sum_lines.specs.refinement.SinkStates.{AppendsPrefix}
 use Rattle.sum_engine.specs.Behavior.{World, is_dash, after, Event, Step, events_of, open_name, write_err, write_out, name_in, err_in, out_in}
-use Rattle.sum_engine.specs.refinement.FlushedWrites.{WritesBoth, Writing, returned}
+use Rattle.sum_engine.specs.refinement.FlushedWrites.{WritesBoth, outcome_after}
 use Rattle.sum_engine.specs.Execution.{InputsState, StreamsState, KeepsStdin, WorldState, in_world, AskedMore, Stop, Memory, Write, Happened, PrefixHappened, RefusedAt, PerformsSteps}
 use Rattle.sum_engine.proofs.WorldLemmas.{after-append, asked_none, asked_both}
 
@@ -98,20 +98,20 @@ prefix_out names err out asked all h =
     (events_by names err h.0, (rest, search (rules, map-append, append_assoc)), Happened-by names err h.0 asked all h.2)
 
 -- what it wrote happened, or a prefix of it if it failed
-abbrev pub HappenedOrPrefix : Writing → WorldState → WorldState → List Event → Type 0
+abbrev pub HappenedOrPrefix : {E : Type 0} → Result (Unit {0}) E → WorldState → WorldState → List Event → Type 0
 HappenedOrPrefix (Ok u) a b es = Happened a b es
 HappenedOrPrefix (Err e) a b es = PrefixHappened a b es
 
 -- the names were asked, and the two texts or a prefix of them were written
-pub HappenedOrPrefix-by : (a b : WorldState) (names : List (List ℕ)) (err out : List ℕ) (x : Writing) → Asks a b names
-    → WritesBoth a.outputs b.outputs err out x → HappenedOrPrefix x a b (events_by names err out)
+pub HappenedOrPrefix-by : {E : Type 0} (a b : WorldState) (names : List (List ℕ)) (err out : List ℕ)
+    (x : Result (Unit {0}) E) → Asks a b names → WritesBoth a.outputs b.outputs err out x → HappenedOrPrefix x a b (events_by names err out)
 HappenedOrPrefix-by a b names err out (Ok u) asked h = Happened-by names err out asked h.0 h.1
 HappenedOrPrefix-by a b names err out (Err e) asked (inl h) = prefix_err names err out asked h.0 h.1
 HappenedOrPrefix-by a b names err out (Err e) asked (inr h) = prefix_out names err out asked h.0 h.1
 
 -- one step was performed, by what came of its events
-pub step_performed : {A : Type 0} (outcome : A) (a b : WorldState) (step : Step) (x : Writing)
-    → HappenedOrPrefix x a b (events_of step) → PerformsSteps (step ∷ []) outcome a b (returned x outcome)
+pub step_performed : {E A : Type 0} (outcome : A) (a b : WorldState) (step : Step) (x : Result (Unit {0}) E)
+    → HappenedOrPrefix x a b (events_of step) → PerformsSteps (step ∷ []) outcome a b (outcome_after x outcome)
 step_performed outcome a b step (Ok u) came = rw (append-nil (events_of step)) (refl, came)
 step_performed outcome a b step (Err e) came = rw (append-nil (events_of step)) came
 

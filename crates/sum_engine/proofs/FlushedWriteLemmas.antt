@@ -6,7 +6,7 @@ use Rattle.sum_lines.specs.sinks.Sinks.{SinkState, Accepted, Flushes}
 use Rattle.digest_kinds.specs.Limits.{one_more}
 use Rattle.sum_lines.specs.refinement.SinkStates.{AppendsPrefix}
 use Rattle.sum_lines.proofs.SinkLemmas.{Accepted-flush_failed}
-use Rattle.sum_engine.specs.refinement.FlushedWrites.{WritesAndFlushes, WritesAndFlushesBoth, returned, Says}
+use Rattle.sum_engine.specs.refinement.FlushedWrites.{WritesAndFlushes, WritesAndFlushesBoth, outcome_after, WritesAndReturns}
 use Rattle.sum_engine.specs.Execution.{OutputsState, Stop}
 
 -- ---- known bytes
@@ -65,7 +65,7 @@ out_alone a b text (Ok u) h same = search (rules, Appends-nil)
 out_alone a b text (Err e) h same = search (rules, Appends-nil)
 
 -- these texts were written, and then x was returned
-pub says : {E A : Type 0} {a b : OutputsState} {err out : List ℕ} {x : A} {r : Result A Stop} (w : Result (Unit {0}) E)
-    → r ≡ returned w x → WritesAndFlushesBoth a b err out w → Says a b err out x r
-says (Ok u) is h = record { writing = Ok tt; returns = is; writes = h }
-says (Err e) is h = record { writing = Err tt; returns = is; writes = h }
+pub writes_and_returns : {E A : Type 0} {a b : OutputsState} {err out : List ℕ} {x : A} {r : Result A Stop}
+    (w : Result (Unit {0}) E) → r ≡ outcome_after w x → WritesAndFlushesBoth a b err out w → WritesAndReturns a b err out x r
+writes_and_returns (Ok u) is h = record { written = Ok tt; writes = h; returns = is }
+writes_and_returns (Err e) is h = record { written = Err tt; writes = h; returns = is }

@@ -7,7 +7,7 @@ use Rattle.sum_sources.specs.Contents.{Reply, SourceState}
 use Rattle.sum_engine.specs.refinement.HashName.{HashOutcome, digest_of_outcome, HashesName, IsHashOutcome}
 use Rattle.sum_engine.specs.Generation.{Settings, generate_behavior, generate_behavior_by}
 use Rattle.sum_engine.specs.Execution.{Stop, StreamsState, InSomeWorld, AskedMore, Performs}
-use Rattle.sum_engine.specs.refinement.FlushedWrites.{Says}
+use Rattle.sum_engine.specs.refinement.FlushedWrites.{WritesAndReturns}
 use Rattle.sum_engine.proofs.BehaviorLemmas.{Performs-step}
 
 -- the outcome is what the definitions say of the reply
@@ -24,11 +24,11 @@ pub generate-performed : {S : Type 0} (state : S → SourceState) (settings : Se
     → (state b.inputs.source).refusals ≡ (state a.inputs.source).refusals
     → found ≡ digest_of_outcome outcome
     → generate_behavior_by settings tool name found ≡ single_step (name ∷ []) err out good
-    → Says a.outputs b.outputs err out good x
+    → WritesAndReturns a.outputs b.outputs err out good x
     → Performs state (λ w. generate_behavior settings tool w name) (λ g. g) a b x
 generate-performed state settings tool name err out good a b outcome found x h asked taken refusals same is said =
-    rw said.returns (Performs-step state (λ w. generate_behavior settings tool w name) (name ∷ []) err out good (λ g. g)
-    a b said.writing h (λ w v hashed. (search (rules, digest_or_fault-is), search (rules, or-false))) said.writes)
+    Performs-step state (λ w. generate_behavior settings tool w name) (name ∷ []) err out good (λ g. g)
+    a b x h (λ w v hashed. (search (rules, digest_or_fault-is), search (rules, or-false))) said
 
 -- generation is one step
 pub one_step : (settings : Settings) (tool name : List ℕ) (x : Result (List ℕ) Fault)

@@ -14,7 +14,7 @@ use Rattle.sum_engine.specs.check.CheckerSteps.{CursorValue, state_at, InSomeChe
 use Rattle.sum_engine.specs.Execution.{Stop, Memory, InputsState, StreamsState, WorldState, InSomeWorld, in_world, AskedMore}
 use Rattle.sum_engine.specs.check.NextVerdict.{LineVerdict, VerdictResult, line_verdict_value, FindsVerdict, NoVerdictLeft, names_of_result, taken_after}
 use Rattle.sum_engine.specs.refinement.Judging.{TakesLine}
-use Rattle.sum_engine.specs.refinement.FlushedWrites.{Writing, returned, Says}
+use Rattle.sum_engine.specs.refinement.FlushedWrites.{outcome_after, WritesAndReturns}
 use Rattle.sum_engine.proofs.ExecutionLemmas.{Asks, asks_none, HappenedOrPrefix, step_performed, Happened-none, HappenedOrPrefix-by}
 use Rattle.sum_engine.proofs.CountLemmas.{counts_then-nil}
 use Rattle.sum_engine.proofs.RestLemmas.{line_step, behavior_by, first_step, found_first, going-before}
@@ -115,10 +115,10 @@ line_handled state p q reader c d w v line vector reads read takes few counted =
 
 -- a step of these events, or a prefix of them, by what remains after it
 step_by : (r : Rules) (labels : LabelsValue) (a b : CheckState) (s t : WorldState) (vector : List ℕ) (step : Step)
-    (later : Behavior) (progress : Progress) (x : Writing) → remaining_behavior r labels a ≡ step_then step later
-    → progress_before later ≡ progress → HappenedOrPrefix x s t (events_of step)
+    (later : Behavior) (progress : Progress) (x : Result (Unit {0}) (Unit {0}))
+    → remaining_behavior r labels a ≡ step_then step later → progress_before later ≡ progress → HappenedOrPrefix x s t (events_of step)
     → (progress ≡ Going → (later ≡ remaining_behavior r labels b) × LineHandled r a b vector)
-    → StepIs r labels vector a b s t (returned x progress)
+    → StepIs r labels vector a b s t (outcome_after x progress)
 step_by r labels a b s t vector step later progress x is next came going = record {
   step = step;
   later = later;
@@ -127,7 +127,7 @@ step_by r labels a b s t vector step later progress x is next came going = recor
   going = λ h. going (going_of x h);
 }
   where
-    going_of : (x : Writing) → returned x progress ≡ Ok Going → progress ≡ Going
+    going_of : (x : Result (Unit {0}) (Unit {0})) → outcome_after x progress ≡ Ok Going → progress ≡ Going
     going_of (Ok u) h = cc
     going_of (Err e) h = cc
 
@@ -148,7 +148,7 @@ module _ {I S : Type 0} (input : I → InputState) (state : S → SourceState) (
         → AskedMore (state a.inputs.source) (state b.inputs.source) (names_of_result vector (Ok (Some v)))
         → b.inputs.stdin_taken ≡ taken_after a.inputs.stdin_taken vector (Ok (Some v))
         → (state b.inputs.source).refusals ≡ (state a.inputs.source).refusals
-        → Says a.outputs b.outputs (err_by p.rules labels v.number v.verdict (line_verdict_value vector v).name)
+        → WritesAndReturns a.outputs b.outputs (err_by p.rules labels v.number v.verdict (line_verdict_value vector v).name)
         (out_by p.rules.profile labels.report v.verdict (line_verdict_value vector v).name) Going x
         → TakesStep input state vector labels p q a b x
     step_found labels vector v x found asked taken refusals said = λ flushed.
@@ -160,9 +160,9 @@ module _ {I S : Type 0} (input : I → InputState) (state : S → SourceState) (
         record { world = f.0.world; asked = asked; taken = taken; refusals = refusals } in
         step_by p.rules labels first next (in_world state a w) (in_world state b v') vector
         (line_step p.rules labels (length c.bytes) j) (remaining_behavior p.rules labels next) Going
-        said.writing
+        said.written
         (found_first p.rules labels first next j f.0.first f.0.counts f.1.rest) (going-before p.rules labels next)
-        (HappenedOrPrefix-by _ _ (asks_of j) _ _ said.writing asks (said.writes.1 flushed).1) (λ is. (refl, f.1))))
+        (HappenedOrPrefix-by _ _ (asks_of j) _ _ said.written asks (said.writes.1 flushed).1) (λ is. (refl, f.1))))
 
     -- memory ran out, and both outputs stayed
     pub step_refused : (labels : LabelsValue) (vector : List ℕ) → Found vector (Err line_stops.Memory)
@@ -194,7 +194,7 @@ module _ {I S : Type 0} (input : I → InputState) (state : S → SourceState) (
         → AskedMore (state a.inputs.source) (state b.inputs.source) [] → b.inputs.stdin_taken ≡ a.inputs.stdin_taken
         → (state b.inputs.source).refusals ≡ (state a.inputs.source).refusals → q.rules ≡ p.rules
         → outcome ≡ good q.rules e q.counts
-        → Says a.outputs b.outputs (end_text q.rules labels e q.counts) [] (Ended outcome) x
+        → WritesAndReturns a.outputs b.outputs (end_text q.rules labels e q.counts) [] (Ended outcome) x
         → TakesStep input state vector labels p q a b x
     step_end labels vector e outcome x found asked taken refusals same sum wrote = λ flushed.
         rw wrote.returns (InSomeCheck-map found (λ c d w v f.
@@ -205,7 +205,7 @@ module _ {I S : Type 0} (input : I → InputState) (state : S → SourceState) (
         let last : Behavior = record { steps = []; good = outcome } in
         let asks = asks_none f.world asked taken refusals in
         step_by r labels (state_at p c w) (state_at q d v) (in_world state a w) (in_world state b v) vector step
-        last (Ended outcome) wrote.writing
+        last (Ended outcome) wrote.written
         (ap (behavior_by r labels c.ending p.counts c) f.none
         ∙ rw (counts_then-nil p.counts, f.ending, sum, same, f.counts) refl) refl
-        (HappenedOrPrefix-by (in_world state a w) (in_world state b v) [] _ [] wrote.writing asks said) (λ h. cc)))
+        (HappenedOrPrefix-by (in_world state a w) (in_world state b v) [] _ [] wrote.written asks said) (λ h. cc)))

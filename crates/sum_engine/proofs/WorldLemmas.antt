@@ -1,5 +1,5 @@
 -- Asking names one after another, and worlds before and after.
-use Rattle.std.proofs.Common.{rules, ◌≡◌, ◌∙◌, ap, sym, refl, ℕ, Bool, true, false, if◌then◌else◌, List, [], ◌∷◌, ◌++◌, Option, None, Some, IfSome, Result, Ok, Err, append_assoc, append-nil}
+use Rattle.std.proofs.Common.{rules, ◌≡◌, ◌∙◌, ap, refl, ℕ, Bool, true, false, if◌then◌else◌, List, [], ◌∷◌, ◌++◌, Option, None, Some, IfSome, Result, Ok, Err, append_assoc, append-nil}
 use Rattle.std.proofs.lemmas.List.Elements.{filter-append}
 use Rattle.sum_sources.specs.Contents.{Content, empty_content, IfKnown, InputState, KnownSource, Reply, SourceState, AsksName, OpenOf, closed_state}
 use Rattle.sum_sources.specs.declared.sources.source.OpenFault.{OpenFault}

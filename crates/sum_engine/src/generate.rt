@@ -8,7 +8,7 @@ ghost use Rattle.sum_engine.specs.Execution.{RefusalsMatch, Performs};
 
 use crate::hash_name::hash_name;
 use crate::inputs::Inputs;
-use crate::put_flushed::{put_fault_line, then};
+use crate::put_flushed::{outcome_after, put_fault_line};
 use crate::settings::Settings;
 use crate::stop::Stop;
 use crate::streams::{Outputs, Streams};
@@ -43,13 +43,11 @@ pub fn generate_one<I: Input + Drop, S: Source, O: Sink, E: Sink>(
         Some(outcome) => match outcome.into_result() {
             Ok(digest) => {
                 let written = put_line_flushed(&mut streams.outputs, settings, name, &digest);
-                then(written, true)
+                outcome_after(written, true)
             }
             Err(fault) => {
-                then(
-                    put_fault_line(&mut streams.outputs, tool, name, fault),
-                    false,
-                )
+                let written = put_fault_line(&mut streams.outputs, tool, name, fault);
+                outcome_after(written, false)
             }
         },
     }

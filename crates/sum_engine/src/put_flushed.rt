@@ -3,7 +3,7 @@ ghost use Rattle.std.specs.Prelude.{◌≡◌, []};
 ghost use Rattle.sum_lines.specs.Escape.{present};
 ghost use Rattle.sum_lines.specs.refinement.PartTexts.{parts_text};
 ghost use Rattle.sum_engine.specs.Generation.{tool_line, fault_line};
-ghost use Rattle.sum_engine.specs.refinement.FlushedWrites.{WritesAndFlushes, WritesAndFlushesBoth, returned};
+ghost use Rattle.sum_engine.specs.refinement.FlushedWrites.{WritesAndFlushes, WritesAndFlushesBoth, outcome_after};
 
 use crate::stop::Stop;
 use crate::streams::Outputs;
@@ -66,10 +66,10 @@ pub(crate) fn put_fault<E: Sink>(
     put_tool_line(err, tool, name, fault.text().as_bytes())
 }
 
-/// Returns the outcome of a call that has written what it has to write.
+/// The outcome of a call once its text was written; `Stop::Write` if that failed.
 #[inline(always)]
-pub(crate) fn then<T: Drop>(written: Result<(), SinkFault>, outcome: T) -> Result<T, Stop>
-    ensures { result ≡ returned written outcome }
+pub(crate) fn outcome_after<T: Drop>(written: Result<(), SinkFault>, outcome: T) -> Result<T, Stop>
+    ensures { result ≡ outcome_after written outcome }
 {
     written?;
     Ok(outcome)

@@ -3,7 +3,8 @@ use Rattle.std.specs.Prelude.{ℕ, ◌≡◌, [], Option, None, Some, Result, Ok
 use Rattle.std.specs.Io.KnownBytes.{Keeps}
 use Rattle.sum_engine.specs.declared.stop.Stop.{Stop}
 use Rattle.sum_engine.specs.declared.stop.Stop.TheVariants.{Memory, Write}
-use Rattle.sum_engine.specs.Execution.{OutputsState, NoneFailed, OneFailed}
+use Rattle.sum_engine.specs.Execution.{OutputsState, IsFlushed, NoneFailed, OneFailed}
+use Rattle.sum_engine.specs.refinement.FlushedWrites.{WritesAndReturns}
 use Rattle.sum_words.specs.Items.{ByteString}
 use Rattle.sum_words.specs.Texts.{stop_line}
 use Rattle.sum_words.specs.declared.tool.Tool.{Tool}
@@ -29,3 +30,8 @@ KeepsBoth a b = Keeps a.out.written b.out.written × Keeps a.err.written b.err.w
 abbrev pub FinishesRun : (Stop → ByteString) → Result ℕ Stop → OutputsState → OutputsState → ℕ → Type 0
 FinishesRun line answer a b status = (later : Result ℕ Stop) × (between : OutputsState)
     × FlushesBoth a between answer later × KeepsBoth a between × ReportsStop line later between b status
+
+-- in place of a run this text is written to standard error, and the status is 1
+abbrev pub Refuses : ByteString → OutputsState → OutputsState → ℕ → Type 0
+Refuses text a b status = IsFlushed a → (answer : Result ℕ Stop) × (between : OutputsState)
+    × WritesAndReturns a between text [] 1 answer × FinishesRun (tool_stop_line None) answer between b status

@@ -1,7 +1,5 @@
 -- Relates the calls of a run to its operands.
-use Rattle.std.specs.Prelude.{ℕ, Result, Ok, Err}
-use Rattle.sum_engine.specs.declared.stop.Stop.{Stop}
-use Rattle.sum_engine.specs.declared.stop.Stop.TheVariants.{Write}
+use Rattle.std.specs.Prelude.{ℕ}
 use Rattle.sum_engine.specs.Behavior.{World, Behavior}
 use Rattle.sum_engine.specs.Execution.{OneMore, OneMoreAtMost}
 use Rattle.sum_engine.specs.Generation.{generate_behavior}
@@ -19,8 +17,3 @@ operand_behavior (Check settings) tool w name = check_behavior settings tool w n
 abbrev pub RefusalsOfJob : Job → ℕ → ℕ → Type 0
 RefusalsOfJob (Generate settings) = OneMore
 RefusalsOfJob (Check settings) = OneMoreAtMost
-
--- the status after a text was written
-abbrev pub status_after_write : {U E : Type 0} → Result U E → ℕ → Result ℕ Stop
-status_after_write (Ok u) status = Ok status
-status_after_write (Err e) status = Err Write

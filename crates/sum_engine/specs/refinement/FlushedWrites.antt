@@ -25,17 +25,13 @@ abbrev pub WritesAndFlushesBoth : {E : Type 0} → OutputsState → OutputsState
 WritesAndFlushesBoth a b err out r = MatchResult r (λ u. NoneFailed a b) (λ e. OneFailed a b)
     × (IsFlushed a → IsFlushed b × WritesBoth a b err out r)
 
--- whether a call that writes did all of it, or failed
-abbrev pub Writing : Type 0
-Writing = Result (Unit {0}) (Unit {0})
+-- the outcome of a call once its text was written; a write fault if that failed
+abbrev pub outcome_after : {E A : Type 0} → Result (Unit {0}) E → A → Result A Stop
+outcome_after (Ok u) x = Ok x
+outcome_after (Err e) x = Err Write
 
--- what a call returns that writes and then returns so
-abbrev pub returned : {E A : Type 0} → Result (Unit {0}) E → A → Result A Stop
-returned (Ok u) x = Ok x
-returned (Err e) x = Err Write
-
--- a call that writes these texts and flushes them, and then returns x; or a write fault
-pub record Says {A : Type 0} (a b : OutputsState) (err out : List ℕ) (x : A) (r : Result A Stop) : Type 0 where
-  pub writing : Writing
-  pub returns : r ≡ returned writing x
-  pub writes : WritesAndFlushesBoth a b err out writing
+-- a call that writes these texts and flushes them, and then returns x; a write fault if that failed
+pub record WritesAndReturns {A : Type 0} (a b : OutputsState) (err out : List ℕ) (x : A) (r : Result A Stop) : Type 0 where
+  pub written : Result (Unit {0}) (Unit {0})
+  pub writes : WritesAndFlushesBoth a b err out written
+  pub returns : r ≡ outcome_after written x

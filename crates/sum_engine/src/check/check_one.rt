@@ -10,7 +10,7 @@ use crate::check::checker::Checker;
 use crate::check::progress::Progress;
 use crate::hash_name::is_dash;
 use crate::inputs::Inputs;
-use crate::put_flushed::{put_fault_line, then};
+use crate::put_flushed::{outcome_after, put_fault_line};
 use crate::settings::CheckSettings;
 use crate::stop::Stop;
 use crate::streams::{Outputs, Streams};
@@ -52,10 +52,8 @@ pub fn check_one<A: Allocator + Copy, J: Input + Drop, S: Source, O: Sink, E: Si
     match streams.inputs.open_file(name) {
         Err(OpenFault::Memory) => Err(Stop::Memory),
         Err(OpenFault::Fault(fault)) => {
-            then(
-                put_fault_line(&mut streams.outputs, tool, name, fault),
-                false,
-            )
+            let written = put_fault_line(&mut streams.outputs, tool, name, fault);
+            outcome_after(written, false)
         }
         Ok(file) => {
             let checker = Checker::new(settings, tool, name, false, file);

@@ -10,7 +10,7 @@ use crate::check::report::put_report;
 use crate::check::rules::{CheckRules, Labels};
 use crate::check::summary::{Counts, is_good, put_summary};
 use crate::inputs::Inputs;
-use crate::put_flushed::{put_fault_line, then};
+use crate::put_flushed::{outcome_after, put_fault_line};
 use crate::stop::Stop;
 use crate::streams::{Outputs, Streams};
 use std::alloc::Allocator;
@@ -102,11 +102,11 @@ impl<I: Input> CheckCursor<I> {
             Err(LineStop::Fault(fault)) => {
                 let (tool, manifest) = (labels.tool, labels.manifest);
                 let written = put_fault_line(&mut streams.outputs, tool, manifest, fault);
-                then(written, Progress::Ended(false))
+                outcome_after(written, Progress::Ended(false))
             }
             Ok(None) => {
                 let written = put_summary(&mut streams.outputs, self.rules, labels, self.counts);
-                then(written, Progress::Ended(is_good(self.rules, self.counts)))
+                outcome_after(written, Progress::Ended(is_good(self.rules, self.counts)))
             }
             Ok(Some(found)) => {
                 if let Verdict::Ignored = found.verdict {
@@ -121,7 +121,7 @@ impl<I: Input> CheckCursor<I> {
                     found.verdict,
                     name,
                 );
-                then(written, Progress::Going)
+                outcome_after(written, Progress::Going)
             }
         }
     }

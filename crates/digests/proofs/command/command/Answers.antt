@@ -1,7 +1,6 @@
-use Rattle.std.proofs.Common.{◌≡◌, Some, None, [], false}
+use Rattle.std.proofs.Common.{Some, None, refl}
 use Rattle.sum_words.specs.CommandLines.{invoke, unknown_tool}
-use Rattle.digests.proofs.MessageLemmas.{Performs-texts, StopHasCause-texts}
-use Rattle.digests.proofs.ProgramLemmas.{CallPerforms-finished, ProgramPerforms-read, ProgramPerforms-unread}
+use Rattle.digests.proofs.ProgramLemmas.{CallPerforms-finished, CallPerforms-refused, ProgramPerforms-read, ProgramPerforms-unread}
 use Rattle.digests.proofs.command.command.Goals as goal
 
 -- the tool was run
@@ -19,28 +18,14 @@ returns-in-Ok-Invoke-clause-behavior g c =
 pub returns-in-Ok-UnknownTool-clause-behavior : goal.returns-in-Ok-UnknownTool-clause-behavior
 returns-in-Ok-UnknownTool-clause-behavior g c =
     let read = rw c.in-Ok-UnknownTool.field-0-is at c.in-Ok-UnknownTool.ensures.line in
-    let closed = rw c.status_after_write-outcome.ensures at c.finish_run-in-Ok-UnknownTool.ensures.finish in
-    let first = c.args.streams.now in
-    let wrote = c.put_err_message in
-    let next = record first { outputs = wrote.new.outputs } in
-    ProgramPerforms-read g.S.Source.state first _ c.finish_run-in-Ok-UnknownTool.result _ unknown_tool read (λ hold.
-    CallPerforms-finished g.S.Source.state c.finish_run-in-Ok-UnknownTool.result (Some unknown_tool) first next
-    c.finish_run-in-Ok-UnknownTool.new.outputs _
-    (Performs-texts g.S.Source.state first wrote.new.outputs _ [] false wrote.result wrote.ensures)
-    (StopHasCause-texts g.S.Source.state (λ n m. m ≡ n) first wrote.new.outputs _ [] 1 wrote.result
-    wrote.ensures).failures
-    (closed (wrote.ensures.1 hold).0))
+    ProgramPerforms-read g.S.Source.state c.args.streams.now _ c.refuse.result _ unknown_tool read
+    (CallPerforms-refused g.S.Source.state c.refuse.result (Some unknown_tool) c.args.streams.now c.refuse.new.outputs
+    _ refl refl c.refuse.ensures.refusal)
 
 -- the words couldn't be read: another line says so
 pub returns-in-Err-clause-behavior : goal.returns-in-Err-clause-behavior
 returns-in-Err-clause-behavior g c =
-    let closed = rw c.status_after_write-outcome-in-Err.ensures at c.finish_run-in-Err.ensures.finish in
-    let first = c.args.streams.now in
-    let wrote = c.put_err_message-in-Err in
-    let next = record first { outputs = wrote.new.outputs } in
-    ProgramPerforms-unread g.S.Source.state first _ c.finish_run-in-Err.result _ c.in-Err.ensures.not_read (λ hold.
-    CallPerforms-finished g.S.Source.state c.finish_run-in-Err.result None first next c.finish_run-in-Err.new.outputs _
-    (Performs-texts g.S.Source.state first wrote.new.outputs _ [] false wrote.result wrote.ensures)
-    (StopHasCause-texts g.S.Source.state (λ n m. m ≡ n) first wrote.new.outputs _ [] 1 wrote.result
-    wrote.ensures).failures
-    (closed (wrote.ensures.1 hold).0))
+    let refused = c.refuse-in-Err in
+    ProgramPerforms-unread g.S.Source.state c.args.streams.now _ refused.result _ c.in-Err.ensures.not_read
+    (CallPerforms-refused g.S.Source.state refused.result None c.args.streams.now refused.new.outputs _ refl refl
+    refused.ensures.refusal)

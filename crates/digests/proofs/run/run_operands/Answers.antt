@@ -1,8 +1,7 @@
-use Rattle.std.proofs.Common.{◌≡◌, ◌∙◌, rules, ◌&&◌, refl}
+use Rattle.std.proofs.Common.{rules, ◌&&◌, refl}
 use Rattle.sum_engine.proofs.ReadToEndLemmas.{ReadToEnd-none}
 use Rattle.digests.proofs.OperandLemmas.{operands_of, operands_done_start, operands_done_step}
 use Rattle.digests.proofs.OperandLemmas.{operands_done_end, operands_done_stop, read_step, read_end}
-use Rattle.digests.proofs.run.run_operands.Goals.{then-good, else-good}
 use Rattle.digests.proofs.run.run_operands.Goals as goal
 
 -- before the first operand nothing happened
@@ -28,47 +27,32 @@ returns-in-Err-clause-behavior g c =
 -- an operand happened, and another one is left
 pub operands-preserved : goal.operands-preserved
 operands-preserved g c =
-    let is : c.if-good.good ≡ (c.operands.good && c.in-Ok.this) =
-    elim c.if-good.branch [
-      | then-good w ↦ rw w.if-good.true w.good-is
-      | else-good w ↦ rw w.if-good.false (w.good-is ∙ w.if-good.false)
-    ] in
     let all = operands_of c.args.job.now c.args.tool c.args.operands in
     let so_far = c.operands.invariant in
     record {
-      reached = rw (is, ← c.in-Some.ensures.steps)
+      reached = rw (← c.in-Some.ensures.steps)
           (operands_done_step g.S.Source.state all c.operands.good c.in-Ok.this c.operands.name.now c.operands.operands
           c.args.streams.now c.operands.streams c.run_operand.new.streams so_far.reached so_far.so_far.flushed
           c.in-Ok.ensures.behavior);
       so_far = search rules;
-      whole = rw is (read_step g.S.Source.state c.operands.good c.in-Ok.this c.args.streams.now.inputs
-          c.operands.streams.inputs c.run_operand.new.streams.inputs so_far.whole c.in-Ok.ensures.read_to_end);
+      whole = read_step g.S.Source.state c.operands.good c.in-Ok.this c.args.streams.now.inputs
+          c.operands.streams.inputs c.run_operand.new.streams.inputs so_far.whole c.in-Ok.ensures.read_to_end;
     }
 
 -- an operand happened, and it was the last
 pub returns-in-None-clause-behavior : goal.returns-in-None-clause-behavior
 returns-in-None-clause-behavior g c =
-    let is : c.if-good.good ≡ (c.operands.good && c.in-Ok.this) =
-    elim c.if-good.branch [
-      | then-good w ↦ rw w.if-good.true w.good-is
-      | else-good w ↦ rw w.if-good.false (w.good-is ∙ w.if-good.false)
-    ] in
     let all = operands_of c.args.job.now c.args.tool c.args.operands in
     let so_far = c.operands.invariant in
     let reached = operands_done_step g.S.Source.state all c.operands.good c.in-Ok.this c.operands.name.now
     c.operands.operands c.args.streams.now c.operands.streams c.run_operand.new.streams so_far.reached
     so_far.so_far.flushed c.in-Ok.ensures.behavior in
     rw c.status.ensures (operands_done_end g.S.Source.state all _ c.args.streams.now c.run_operand.new.streams
-    (rw (← is, c.in-None.ensures.steps.0) at reached))
+    (rw c.in-None.ensures.steps.0 at reached))
 
 -- then all were read to the end, if all are good
 pub returns-in-None-clause-read_to_end : goal.returns-in-None-clause-read_to_end
 returns-in-None-clause-read_to_end g c =
-    let is : c.if-good.good ≡ (c.operands.good && c.in-Ok.this) =
-    elim c.if-good.branch [
-      | then-good w ↦ rw w.if-good.true w.good-is
-      | else-good w ↦ rw w.if-good.false (w.good-is ∙ w.if-good.false)
-    ] in
-    read_end c.status.result (c.operands.good && c.in-Ok.this) (rw (← is) c.status.ensures)
+    read_end c.status.result (c.operands.good && c.in-Ok.this) c.status.ensures
     (read_step g.S.Source.state c.operands.good c.in-Ok.this c.args.streams.now.inputs c.operands.streams.inputs
     c.run_operand.new.streams.inputs c.operands.invariant.whole c.in-Ok.ensures.read_to_end)

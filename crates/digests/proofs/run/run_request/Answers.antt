@@ -1,23 +1,25 @@
 use Rattle.std.proofs.Common.{true, false, []}
+use Rattle.sum_engine.proofs.FlushedWriteLemmas.{writes_and_returns}
 use Rattle.digests.proofs.MessageLemmas.{Performs-texts}
 use Rattle.digests.proofs.run.run_request.Goals as goal
 
 -- a fault's lines are written to standard error
 pub returns-in-Err-clause-behavior : goal.returns-in-Err-clause-behavior
-returns-in-Err-clause-behavior g c = rw (c.in-Err.is, c.status_after_write.ensures)
-    (Performs-texts g.S.Source.state c.args.streams.now _ _ [] false c.put_err_message.result
-    c.put_err_message.ensures)
+returns-in-Err-clause-behavior g c =
+    let wrote = c.put_err_message in
+    rw c.in-Err.is (Performs-texts g.S.Source.state c.args.streams.now _ _ [] false _
+    (writes_and_returns wrote.result c.status_after_write.ensures wrote.ensures))
 
 -- the help stands on standard output
 pub returns-in-Ok-Help-clause-behavior : goal.returns-in-Ok-Help-clause-behavior
 returns-in-Ok-Help-clause-behavior g c =
     let wrote = c.put_out_message in
-    rw (c.in-Ok-Help.is, c.in-Ok-Help.field-0-is, c.status_after_write-in-Ok-Help.ensures)
-    (Performs-texts g.S.Source.state c.args.streams.now _ [] _ true wrote.result wrote.ensures)
+    rw (c.in-Ok-Help.is, c.in-Ok-Help.field-0-is) (Performs-texts g.S.Source.state c.args.streams.now _ [] _ true _
+    (writes_and_returns wrote.result c.status_after_write-in-Ok-Help.ensures wrote.ensures))
 
 -- the version likewise
 pub returns-in-Ok-Version-clause-behavior : goal.returns-in-Ok-Version-clause-behavior
 returns-in-Ok-Version-clause-behavior g c =
     let wrote = c.put_out_message-in-Ok-Version in
-    rw (c.in-Ok-Version.is, c.in-Ok-Version.field-0-is, c.status_after_write-in-Ok-Version.ensures)
-    (Performs-texts g.S.Source.state c.args.streams.now _ [] _ true wrote.result wrote.ensures)
+    rw (c.in-Ok-Version.is, c.in-Ok-Version.field-0-is) (Performs-texts g.S.Source.state c.args.streams.now _ [] _ true _
+    (writes_and_returns wrote.result c.status_after_write-in-Ok-Version.ensures wrote.ensures))

@@ -4,7 +4,7 @@ use Rattle.sum_engine.specs.Behavior.{is_dash}
 use Rattle.sum_engine.specs.Execution.{InputsState}
 use Rattle.sum_engine.specs.check.Verdicts.{Rules}
 use Rattle.sum_engine.proofs.ReadToEndLemmas.{put_back-whole, ReadToEnd-around}
-use Rattle.sum_engine.proofs.FlushedWriteLemmas.{says}
+use Rattle.sum_engine.proofs.FlushedWriteLemmas.{writes_and_returns}
 use Rattle.sum_engine.proofs.CheckOneLemmas.{check_dash, check_file, refused, no_room}
 use Rattle.sum_engine.proofs.check.check_one.check_one.Goals as goal
 
@@ -59,10 +59,10 @@ returns-in-Err-Fault-clause-behavior g c =
     let dash : is_dash c.args.name.now ≡ false = search rules in
     let answer = rw c.in-Err-Fault.field-0-is at c.in-Err-Fault.ensures.answer in
     let refusals = rw c.in-Err-Fault.field-0-is at c.in-Err-Fault.ensures.refusals in
-    let written = rw c.in-Err-Fault.fault-is at c.put_fault_line.ensures in
+    let written = rw c.in-Err-Fault.fault-is at c.put_fault_line-written.ensures in
     refused g.S.Source.state c.args.settings c.args.tool.now c.args.name.now c.args.streams.now g.S.File.Input.state
-    c.open_file.new.self c.in-Err-Fault.ensures.stdin c.in-Err-Fault.fault c.put_fault_line.new.outputs c.then.result
-    dash answer refusals (says c.put_fault_line.result c.then.ensures written)
+    c.open_file.new.self c.in-Err-Fault.ensures.stdin c.in-Err-Fault.fault c.put_fault_line-written.new.outputs c.outcome_after.result
+    dash answer refusals (writes_and_returns c.put_fault_line-written.result c.outcome_after.ensures written)
 
 -- it is a file
 pub returns-in-Ok-clause-behavior : goal.returns-in-Ok-clause-behavior

@@ -4,7 +4,7 @@ use Rattle.sum_sources.specs.declared.fault.Ending.TheVariants.{Whole, Broken}
 use Rattle.sum_lines.specs.Escape.{present}
 use Rattle.sum_engine.specs.refinement.Cursors.{cursor_value, labels_in}
 use Rattle.sum_engine.specs.check.CheckerSteps.{Going}
-use Rattle.sum_engine.proofs.FlushedWriteLemmas.{says}
+use Rattle.sum_engine.proofs.FlushedWriteLemmas.{writes_and_returns}
 use Rattle.sum_engine.proofs.StepLemmas.{step_found, out_by-ignored, step_refused, step_end}
 use Rattle.sum_engine.proofs.check.cursor.CheckCursor.next.Goals as goal
 
@@ -26,9 +26,9 @@ returns-in-Err-Fault-clause-step g c =
     let written = rw c.in-Err-Fault.fault-is at c.put_fault_line-written.ensures in
     step_end g.I.Input.state g.S.Source.state _ _ c.args.streams.now
     (record { inputs = c.next_verdict.new.inputs; outputs = _ }) (labels_in c.args.labels.now)
-    c.next_verdict.new.line.items (Broken c.in-Err-Fault.fault) false c.then.result (rw is at done.verdict)
+    c.next_verdict.new.line.items (Broken c.in-Err-Fault.fault) false c.outcome_after.result (rw is at done.verdict)
     done.asked done.stdin_taken (rw is at done.out_of_memory) done.cursor.rules refl
-    (says c.put_fault_line-written.result c.then.ensures written)
+    (writes_and_returns c.put_fault_line-written.result c.outcome_after.ensures written)
 
 -- the summary was written, or a prefix of it
 pub returns-in-Ok-None-clause-step : goal.returns-in-Ok-None-clause-step
@@ -37,9 +37,9 @@ returns-in-Ok-None-clause-step g c =
     let is = c.in-Ok-None.field-0-is in
     step_end g.I.Input.state g.S.Source.state _ _ c.args.streams.now
     (record { inputs = c.next_verdict.new.inputs; outputs = _ }) (labels_in c.args.labels.now)
-    c.next_verdict.new.line.items Whole _ c.then-in-Ok-None.result (rw is at done.verdict) (rw is at done.asked)
+    c.next_verdict.new.line.items Whole _ c.outcome_after-in-Ok-None.result (rw is at done.verdict) (rw is at done.asked)
     (rw is at done.stdin_taken) (rw is at done.out_of_memory) done.cursor.rules c.is_good.ensures
-    (says c.put_summary-written.result c.then-in-Ok-None.ensures c.put_summary-written.ensures)
+    (writes_and_returns c.put_summary-written.result c.outcome_after-in-Ok-None.ensures c.put_summary-written.ensures)
 
 -- an ignored line was found, of which nothing is reported
 pub returns-in-Ignored-clause-step : goal.returns-in-Ignored-clause-step
@@ -50,7 +50,7 @@ returns-in-Ignored-clause-step g c =
     (cursor_value c.next_verdict.new.self) c.args.streams.now
     (record { inputs = c.next_verdict.new.inputs; outputs = _ }) (labels_in c.args.labels.now) _ c.in-Ok-Some.found
     (Ok Going) (rw is at done.verdict) (rw is at done.asked) (rw is at done.stdin_taken) (rw is at done.out_of_memory)
-    (says {E = Unit {0}} (Ok tt) refl (rw (c.in-Ignored.is, out_by-ignored present c.args.labels.now.report _)
+    (writes_and_returns {E = Unit {0}} (Ok tt) refl (rw (c.in-Ignored.is, out_by-ignored present c.args.labels.now.report _)
     ((refl, refl), λ flushed. (flushed, (Appends-nil _, Appends-nil _)))))
 
 -- a line was found, and its report was written, or a prefix of it
@@ -62,5 +62,5 @@ returns-in_default-clause-step g c =
     step_found g.I.Input.state g.S.Source.state (cursor_value c.args.self.now)
     (cursor_value c.next_verdict.new.self) c.args.streams.now
     (record { inputs = c.next_verdict.new.inputs; outputs = _ }) (labels_in c.args.labels.now) _ c.in-Ok-Some.found
-    c.then-in-Ok-Some.result (rw is at done.verdict) (rw is at done.asked) (rw is at done.stdin_taken)
-    (rw is at done.out_of_memory) (says c.put_report-written.result c.then-in-Ok-Some.ensures texts)
+    c.outcome_after-in-Ok-Some.result (rw is at done.verdict) (rw is at done.asked) (rw is at done.stdin_taken)
+    (rw is at done.out_of_memory) (writes_and_returns c.put_report-written.result c.outcome_after-in-Ok-Some.ensures texts)
