@@ -20,7 +20,8 @@ operands_behavior one w (n ∷ ns) = behavior_then (one w n) (operands_behavior 
 
 -- the operands, or `-` if there is none
 abbrev pub or_dash : List ByteString → List ByteString
-or_dash = elim [ [] ↦ codes "-" ∷ [] | names ↦ names ]
+or_dash [] = codes "-" ∷ []
+or_dash names = names
 
 -- the behavior that a request, or a fault in the words, asks for
 abbrev pub request_behavior : Tool → Result Request WordFaultValue → World → Behavior

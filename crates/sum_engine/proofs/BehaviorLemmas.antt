@@ -5,11 +5,11 @@ use Rattle.std.proofs.lemmas.List.Elements.{filter_map-append}
 use Rattle.sum_sources.specs.Contents.{SourceState}
 use Rattle.digest_kinds.specs.Limits.{one_more}
 use Rattle.sum_engine.specs.Execution.{Stop, Memory, Write, StreamsState, WorldState, in_world, InSomeWorld, AskedMore, Happened, PerformsSteps, Performs}
-use Rattle.sum_engine.specs.Behavior.{World, Event, Step, Behavior, trace, events_of, single_step}
+use Rattle.sum_engine.specs.Behavior.{World, after, Event, Step, Behavior, trace, events_of, single_step}
 use Rattle.sum_engine.specs.check.CheckerSteps.{step_then}
 use Rattle.sum_engine.specs.check.CheckerLaws.{EventsExtend}
 use Rattle.sum_engine.specs.refinement.FlushedWrites.{WritesAndReturns}
-use Rattle.sum_engine.proofs.ExecutionLemmas.{Asks, step_performed, names-by, err-by, out-by, Happened-none, Happened-then, HappenedOrPrefix-by, refused_in}
+use Rattle.sum_engine.proofs.ExecutionLemmas.{AsksNames, asks_in, step_performed, names-by, err-by, out-by, Happened-none, Happened-then, HappenedOrPrefix-by, refused_in}
 use Rattle.sum_engine.proofs.WorldLemmas.{InSomeWorld-map}
 
 -- ---- a behavior after a step, and one behavior after another
@@ -85,15 +85,17 @@ along_stops {a = a} {b = b} c x y step later stop h is k =
 -- ---- a run of one step
 
 -- the step was done, or a prefix of it
-pub Performs-step : {S A : Type 0} (state : S → SourceState) (run : World → Behavior) (names : List (List ℕ))
-    (err out : List ℕ) (good : Bool) (outcome : Bool → A) (a b : StreamsState S) (x : Result A Stop)
-    {P : World → World → Type 0} → InSomeWorld state a.inputs b.inputs P
-    → ((w v : World) → P w v → (run w ≡ single_step names err out good)
-    × Asks (in_world state a w) (in_world state b v) names)
+pub Performs-step : {S A : Type 0} (state : S → SourceState) (run : World → Behavior) (outcome : Bool → A) (good : Bool)
+    (a b : StreamsState S) {names : List (List ℕ)} {err out : List ℕ} {x : Result A Stop} {P : World → World → Type 0}
+    → InSomeWorld state a.inputs b.inputs P → AsksNames state a.inputs b.inputs names
+    → ((w v : World) → P w v → (run w ≡ single_step names err out good) × (v ≡ after w names))
     → WritesAndReturns a.outputs b.outputs err out (outcome good) x → Performs state run outcome a b x
-Performs-step state run names err out good outcome a b x h is said = λ flushed. InSomeWorld-map h (λ w v p.
-    rw ((is w v p).0, said.returns) (step_performed (outcome good) (in_world state a w) (in_world state b v) _ said.written
-    (HappenedOrPrefix-by _ _ names err out said.written (is w v p).1 (said.writes.1 flushed).1)))
+Performs-step state run outcome good a b {names} {err} {out} h asked is said = λ flushed.
+    InSomeWorld-map h (λ w v p.
+    let came = HappenedOrPrefix-by (in_world state a w) (in_world state b v) names err out said.written
+    (asks_in state a b asked (is w v p).1) (said.writes.1 flushed).1 in
+    rw ((is w v p).0, said.returns) (step_performed (outcome good) (in_world state a w) (in_world state b v) _
+    said.written came))
 
 -- the source had no memory to open the first step's name
 pub Performs-refused : {S A : Type 0} (state : S → SourceState) (run : World → Behavior) (outcome : Bool → A)

@@ -3,7 +3,7 @@ use Rattle.std.proofs.Common.{rules, ◌≡◌, ℕ, ◌||◌, List, [], ◌∷�
 use Rattle.std.specs.List.{list_any}
 use Rattle.std.specs.Io.KnownBytes.{Appends}
 use Rattle.std.proofs.KnownBytes.{Appends-nil, Appends-trans}
-use Rattle.std.proofs.Math.Bool.{or_assoc}
+use Rattle.std.proofs.Math.Bool.{or_assoc, or-false}
 use Rattle.std.proofs.lemmas.List.{map-append}
 use Rattle.std.proofs.lemmas.List.Elements.{filter_map-append}
 use Rattle.std.proofs.lemmas.List.Folds.{list_any-append}
@@ -58,6 +58,24 @@ pub record Asks (a b : WorldState) (names : List (List ℕ)) : Type 0 where
 pub asks_none : {a b : WorldState} → b.world ≡ a.world → AskedMore a.source b.source []
     → b.stdin_taken ≡ a.stdin_taken → b.source.refusals ≡ a.source.refusals → Asks a b []
 asks_none {a} world asked taken refusals = search rules
+
+-- these names were asked between inputs, whatever the worlds
+pub record AsksNames {S : Type 0} (state : S → SourceState) (a b : InputsState S) (names : List (List ℕ)) : Type 0 where
+  pub asked : AskedMore (state a.source) (state b.source) names
+  pub taken : b.stdin_taken ≡ a.stdin_taken || list_any is_dash names
+  pub refusals : (state b.source).refusals ≡ (state a.source).refusals
+
+-- one name was
+pub asks_name : {S : Type 0} {state : S → SourceState} {a b : InputsState S} {name : List ℕ}
+    → AskedMore (state a.source) (state b.source) (name ∷ []) → b.stdin_taken ≡ a.stdin_taken || is_dash name
+    → (state b.source).refusals ≡ (state a.source).refusals → AsksNames state a b (name ∷ [])
+asks_name asked taken refusals =
+    record { asked = asked; taken = search (rules, or-false); refusals = refusals }
+
+-- so they were in each world
+pub asks_in : {S : Type 0} (state : S → SourceState) (a b : StreamsState S) {names : List (List ℕ)} {w v : World}
+    → AsksNames state a.inputs b.inputs names → v ≡ after w names → Asks (in_world state a w) (in_world state b v) names
+asks_in state a b h world = record { world = world; asked = h.asked; taken = h.taken; refusals = h.refusals }
 
 -- so it is if they were opened, and nothing was written
 pub asks_by : {a b : WorldState} (names : List (List ℕ)) → Happened a b (map open_name names) → Asks a b names

@@ -14,7 +14,7 @@ use Rattle.sum_engine.specs.check.CheckerLaws.{StepsGoing, StepsJoin, EndsManife
 use Rattle.sum_engine.proofs.RestLemmas.{past_next}
 use Rattle.sum_engine.proofs.ExecutionLemmas.{Happened-none, err-by, out-by, names-by}
 use Rattle.sum_engine.proofs.BehaviorLemmas.{Along, along_stops, behavior_then-happened, events_extend}
-use Rattle.sum_engine.proofs.CheckOneLemmas.{remaining-initial, none_left, along_last}
+use Rattle.sum_engine.proofs.CheckLinesLemmas.{remaining-initial, none_left, along_last}
 
 -- ---- the reports of the first steps
 
@@ -171,6 +171,6 @@ steps_join r labels c b s t vectors going =
       taken = omega (arith, h.taken, h.consumed);
       vector_lens = vectors_fit r labels (initial_state c s.world) b s t vectors going;
       end = ends r labels c s h;
-      cut = λ vector d z e. along_stops z all.good (progress_before e.later) e.step e.later Write
+      cut = λ vector d z e. along_stops z all.good (progress_before e.later.steps e.later.good) e.step e.later Write
           (along r labels c s h) e.is e.performs;
     }

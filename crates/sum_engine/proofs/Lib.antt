@@ -12,6 +12,7 @@ pub mod EndLemmas
 pub mod NextVerdictLemmas
 pub mod BehaviorLemmas
 pub mod JoinLemmas
+pub mod CheckLinesLemmas
 pub mod CheckOneLemmas
 pub mod SamePrefix
 pub mod ReturnLemmas

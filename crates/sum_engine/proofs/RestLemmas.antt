@@ -66,13 +66,13 @@ found_first r labels a b j first counted rest = search rules
 
 -- a step always remains
 pub going-before : (r : Rules) (labels : LabelsValue) (a : CheckState)
-    → progress_before (remaining_behavior r labels a) ≡ Going
+    → let left = remaining_behavior r labels a in progress_before left.steps left.good ≡ Going
 going-before r labels a =
     let js = remaining_verdicts r a in
     by (end_text r labels a.rest.ending (counts_then a.counts (counts_of js))) a.rest js _
   where
     by : (end : List ℕ) (c : Content) (js : List LineVerdictValue) (good : Bool)
-        → progress_before (record { steps = line_steps r labels end c js; good = good }) ≡ Going
+        → progress_before (line_steps r labels end c js) good ≡ Going
     by end c [] good = refl
     by end c (j ∷ js) good = refl
 

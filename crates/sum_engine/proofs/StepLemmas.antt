@@ -116,7 +116,7 @@ line_handled state p q reader c d w v line vector reads read takes few counted =
 -- a step of these events, or a prefix of them, by what remains after it
 step_by : (r : Rules) (labels : LabelsValue) (a b : CheckState) (s t : WorldState) (vector : List ℕ) (step : Step)
     (later : Behavior) (progress : Progress) (x : Result (Unit {0}) (Unit {0}))
-    → remaining_behavior r labels a ≡ step_then step later → progress_before later ≡ progress → HappenedOrPrefix x s t (events_of step)
+    → remaining_behavior r labels a ≡ step_then step later → progress_before later.steps later.good ≡ progress → HappenedOrPrefix x s t (events_of step)
     → (progress ≡ Going → (later ≡ remaining_behavior r labels b) × LineHandled r a b vector)
     → StepIs r labels vector a b s t (outcome_after x progress)
 step_by r labels a b s t vector step later progress x is next came going = record {

@@ -30,10 +30,15 @@ abbrev pub after : World → List (List ℕ) → World
 after w [] = w
 after w (name ∷ names) = after (after_one w name) names
 
+-- what reading these bytes gives that end so: their digest, or the fault
+abbrev pub digest_by : KindValue → List ℕ → Ending → Result (List ℕ) Fault
+digest_by kind bytes Whole = Ok (digest kind bytes)
+digest_by kind bytes (Broken f) = Err f
+
 -- what reading a reply gives: the digest of all its bytes, or the fault of opening or reading it
 abbrev pub digest_or_fault : KindValue → Reply → Result (List ℕ) Fault
 digest_or_fault kind (Err f) = Err f
-digest_or_fault kind (Ok c) = elim (clip c).ending [ Whole ↦ Ok (digest kind (clip c).bytes) | Broken f ↦ Err f ]
+digest_or_fault kind (Ok c) = digest_by kind (clip c).bytes (clip c).ending
 
 -- a name is opened (`-` is standard input); or a byte is written to standard error, or to standard output
 pub data Event : Type 0 where
@@ -62,13 +67,16 @@ trace steps = flat_map events_of steps
 
 -- an event as an opened name, as a byte of standard error, or as one of standard output
 abbrev pub name_in : Event → Option (List ℕ)
-name_in = elim [ open_name name ↦ Some name | event ↦ None ]
+name_in (open_name name) = Some name
+name_in event = None
 
 abbrev pub err_in : Event → Option ℕ
-err_in = elim [ write_err b ↦ Some b | event ↦ None ]
+err_in (write_err b) = Some b
+err_in event = None
 
 abbrev pub out_in : Event → Option ℕ
-out_in = elim [ write_out b ↦ Some b | event ↦ None ]
+out_in (write_out b) = Some b
+out_in event = None
 
 -- one behavior after another
 abbrev pub behavior_then : Behavior → Behavior → Behavior

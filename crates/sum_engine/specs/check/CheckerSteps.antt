@@ -1,5 +1,5 @@
 -- A checker: its state in its manifest, what remains there, and what its next step does.
-use Rattle.std.specs.Prelude.{ℕ, ◌≡◌, ◌+◌, ◌≤◌, ◌⊎◌, ◌<◌, List, [], ◌∷◌, length, Option, None, Some, Result, Ok, Err, IfSome, true, option_map}
+use Rattle.std.specs.Prelude.{ℕ, Bool, ◌≡◌, ◌+◌, ◌≤◌, ◌⊎◌, ◌<◌, List, [], ◌∷◌, length, Option, None, Some, Result, Ok, Err, IfSome, true, option_map}
 use Rattle.digest_kinds.specs.Limits.{one_more}
 use Rattle.sum_sources.specs.declared.line_reader.LineReader.{LineReader}
 use Rattle.sum_sources.specs.Contents.{Content, IfKnown, SourceState, InputState, clip}
@@ -93,9 +93,10 @@ pub record LineHandled (r : Rules) (a b : CheckState) (vector : List ℕ) : Type
   pub counts : b.counts ≡ counts_with a.counts (next_judged r a line).verdict
   pub vector_len : length vector ≤ length line
 
--- what a step returns before this: Going, if steps remain, and otherwise whether all is good
-abbrev pub progress_before : Behavior → Progress
-progress_before r = elim r.steps [ [] ↦ Ended r.good | steps ↦ Going ]
+-- what a step returns before these steps: Going, if there are any, and otherwise whether all is good
+abbrev pub progress_before : List Step → Bool → Progress
+progress_before [] good = Ended good
+progress_before steps good = Going
 
 -- what a step does from a to b, and of the streams from s to t: it performs the first step of the behavior that
 -- remained; if it returns Going, a line was handled, and the others remain
@@ -104,7 +105,7 @@ pub record StepIs (r : Rules) (labels : LabelsValue) (vector : List ℕ) (a b : 
   pub step : Step
   pub later : Behavior
   pub is : remaining_behavior r labels a ≡ step_then step later
-  pub performs : PerformsSteps (step ∷ []) (progress_before later) s t x
+  pub performs : PerformsSteps (step ∷ []) (progress_before later.steps later.good) s t x
   pub going : x ≡ Ok Going → (later ≡ remaining_behavior r labels b) × LineHandled r a b vector
 
 -- out of memory, known or not: the source was refused it, or bytes of the manifest remained

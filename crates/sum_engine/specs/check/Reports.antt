@@ -48,9 +48,18 @@ abbrev pub bad_line : Rules → LabelsValue → ℕ → List ℕ
 bad_line r labels n = concat (labels.tool ∷ codes ": " ∷ escape_by r.profile labels.manifest ∷ codes ": " ∷ decimal n
     ∷ codes ": improperly formatted " ∷ tag_word r.algo ∷ codes " checksum line\n" ∷ [])
 
+-- a text that is shown under `Warn` alone, and one that is not shown under `Status`
+abbrev pub if_warn : Report → List ℕ → List ℕ
+if_warn Warn text = text
+if_warn report text = []
+
+abbrev pub unless_status : Report → List ℕ → List ℕ
+unless_status Status text = []
+unless_status report text = text
+
 -- a line's report on standard error: one that is improperly formatted is named under `Warn` alone
 abbrev pub err_by : Rules → LabelsValue → ℕ → Verdict → List ℕ → List ℕ
-err_by r labels n Bad name = elim labels.report [ Warn ↦ bad_line r labels n | report ↦ [] ]
+err_by r labels n Bad name = if_warn labels.report (bad_line r labels n)
 err_by r labels n (Unread f) name = fault_line r.profile labels.tool name f
 err_by r labels n v name = []
 
@@ -104,7 +113,7 @@ warnings r labels c = let tool = labels.tool in
 abbrev pub end_text : Rules → LabelsValue → Ending → CountsValue → List ℕ
 end_text r labels Whole c = if entries c == 0
     then tool_line r.profile labels.tool labels.manifest (codes "no properly formatted checksum lines found")
-    else elim labels.report [ Status ↦ [] | report ↦ warnings r labels c ]
+    else unless_status labels.report (warnings r labels c)
 end_text r labels (Broken f) c = fault_line r.profile labels.tool labels.manifest f
 
 -- good: it was read whole, a line is Right, none is Wrong or Unread, and under the strict setting none is Bad

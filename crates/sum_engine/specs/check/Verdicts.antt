@@ -1,7 +1,7 @@
 -- The verdicts of a manifest's lines.
-use Rattle.std.specs.Prelude.{ℕ, ◌+◌, ◌&&◌, Bool, true, false, List, [], ◌∷◌, Ok, Err, if◌then◌else◌, bytes_eq}
+use Rattle.std.specs.Prelude.{ℕ, ◌+◌, ◌&&◌, Bool, true, false, List, [], ◌∷◌, Result, Ok, Err, if◌then◌else◌, bytes_eq}
 pub use Rattle.digest_kinds.specs.declared.algo.Algos.{Algos}
-use Rattle.sum_engine.specs.Behavior.{World, is_dash, reply, after, digest_or_fault}
+use Rattle.sum_engine.specs.Behavior.{Fault, World, is_dash, reply, after, digest_or_fault}
 use Rattle.sum_sources.specs.declared.fault.Fault.TheVariants.{NotFound}
 use Rattle.sum_sources.specs.Contents.{Content, Reply}
 use Rattle.sum_sources.specs.ManifestLines.{lines, raw_lines}
@@ -31,12 +31,17 @@ abbrev pub not_found : Reply → Bool
 not_found (Err NotFound) = true
 not_found r = false
 
+-- the verdict of an entry with this digest, by what reading the file gives
+abbrev pub verdict_by : List ℕ → Result (List ℕ) Fault → Verdict
+verdict_by digest (Ok d) = if bytes_eq d digest then Right else Wrong
+verdict_by digest (Err f) = Unread f
+
 -- the verdict of an entry
 abbrev pub verdict_of : Rules → World → EntryValue → Verdict
 verdict_of r w s = let c = reply w s.name in
     if r.from_stdin && is_dash s.name then Bad
     else if r.ignore_missing && not_found c then Missing
-    else elim (digest_or_fault s.kind c) [ Ok d ↦ if bytes_eq d s.digest then Right else Wrong | Err f ↦ Unread f ]
+    else verdict_by s.digest (digest_or_fault s.kind c)
 
 -- the verdict of line n, which says this
 abbrev pub judge : Rules → World → ℕ → ParsedLine → LineVerdictValue

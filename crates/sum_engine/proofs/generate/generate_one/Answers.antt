@@ -2,6 +2,7 @@ use Rattle.std.proofs.Common.{refl, ap, Ok, Err}
 use Rattle.sum_engine.specs.Behavior.{reply, digest_or_fault}
 use Rattle.sum_engine.specs.Execution.{InputsState}
 use Rattle.sum_engine.specs.Generation.{generate_behavior}
+use Rattle.sum_engine.proofs.ExecutionLemmas.{asks_name}
 use Rattle.sum_engine.proofs.BehaviorLemmas.{Performs-refused}
 use Rattle.sum_engine.proofs.FlushedWriteLemmas.{writes_and_returns}
 use Rattle.sum_engine.proofs.GenerateLemmas.{generate-performed, one_step}
@@ -23,16 +24,16 @@ returns-in-None-clause-behavior g c =
 pub returns-in-Ok-clause-behavior : goal.returns-in-Ok-clause-behavior
 returns-in-Ok-clause-behavior g c =
     let done = c.in-Some.ensures in
-    generate-performed g.S.Source.state _ _ c.args.name.now _ _ _ c.args.streams.now
-    (record { inputs = c.hash_name.new.inputs; outputs = _ }) _ (Ok _) c.outcome_after.result done.outcome
-    done.asked done.stdin_taken done.refusals c.in-Ok.ensures refl
+    generate-performed g.S.Source.state _ _ c.args.name.now _ c.args.streams.now
+    (record { inputs = c.hash_name.new.inputs; outputs = _ }) _ (Ok _) done.outcome
+    (asks_name done.asked done.stdin_taken done.refusals) c.in-Ok.ensures refl
     (writes_and_returns c.put_line_flushed-written.result c.outcome_after.ensures c.put_line_flushed-written.ensures)
 
 -- it could not be opened or read, and the line of its fault was written
 pub returns-in-Err-clause-behavior : goal.returns-in-Err-clause-behavior
 returns-in-Err-clause-behavior g c =
     let done = c.in-Some.ensures in
-    generate-performed g.S.Source.state _ _ c.args.name.now _ _ _ c.args.streams.now
-    (record { inputs = c.hash_name.new.inputs; outputs = _ }) _ (Err _) c.outcome_after-in-Err.result done.outcome
-    done.asked done.stdin_taken done.refusals c.in-Err.ensures refl
+    generate-performed g.S.Source.state _ _ c.args.name.now _ c.args.streams.now
+    (record { inputs = c.hash_name.new.inputs; outputs = _ }) _ (Err _) done.outcome
+    (asks_name done.asked done.stdin_taken done.refusals) c.in-Err.ensures refl
     (writes_and_returns c.put_fault_line-written.result c.outcome_after-in-Err.ensures c.put_fault_line-written.ensures)

@@ -1,7 +1,7 @@
 use Rattle.std.proofs.Common.{◌≡◌, true, Ok, Err, ap, sym, ◌∙◌, arith, rules}
 use Rattle.sum_engine.specs.check.CheckerSteps.{Ended}
 use Rattle.sum_engine.proofs.ExecutionLemmas.{KeepsStdin-trans}
-use Rattle.sum_engine.proofs.CheckOneLemmas.{IsAlong-none, IsAlong-more, IsAlong-last, phase-initial}
+use Rattle.sum_engine.proofs.CheckLinesLemmas.{IsAlong-none, IsAlong-more, IsAlong-last, phase-initial}
 use Rattle.sum_engine.proofs.ReadToEndLemmas.{ReadToEnd-none, ReadToEnd-trans}
 use Rattle.sum_engine.proofs.check.check_one.check_lines.Goals as goal
 
@@ -12,23 +12,18 @@ lines-init g c = search (rules, IsAlong-none, phase-initial, ReadToEnd-none)
 pub returns-in-Err-clause-behavior : goal.returns-in-Err-clause-behavior
 returns-in-Err-clause-behavior g c =
     let so_far = c.lines.invariant in
-    let first = c.args.checker.now in
-    IsAlong-last g.I.Input.state g.S.Source.state first.cursor.rules first.labels first.cursor c.args.streams.now
-    c.lines.checker.labels first.cursor.reader.input c.lines.checker.cursor c.step.new.self.cursor c.lines.streams
-    c.step.new.streams c.step.new.line.items (Err c.in-Err.stop) c.requires.start so_far.rules so_far.labels
-    so_far.along so_far.so_far.flushed (c.in-Err.ensures.advances so_far.going).cursor.bounds
-    (c.in-Err.ensures.step so_far.going)
+    IsAlong-last g.I.Input.state g.S.Source.state c.args.checker.now c.args.streams.now c.lines.checker c.step.new.self
+    c.lines.streams c.step.new.streams c.step.new.line.items (Err c.in-Err.stop) c.requires.start so_far.along
+    (c.in-Err.ensures.advances so_far.going).cursor.bounds (c.in-Err.ensures.step so_far.going)
 
 -- the end was handled
 pub returns-in-Ok-Ended-clause-behavior : goal.returns-in-Ok-Ended-clause-behavior
 returns-in-Ok-Ended-clause-behavior g c =
     let so_far = c.lines.invariant in
-    let first = c.args.checker.now in
     let step = rw c.in-Ok-Ended.field-0-is at (c.in-Ok-Ended.ensures.step so_far.going) in
-    IsAlong-last g.I.Input.state g.S.Source.state first.cursor.rules first.labels first.cursor c.args.streams.now
-    c.lines.checker.labels first.cursor.reader.input c.lines.checker.cursor c.step.new.self.cursor c.lines.streams
-    c.step.new.streams c.step.new.line.items (Ok c.in-Ok-Ended.good) c.requires.start so_far.rules so_far.labels
-    so_far.along so_far.so_far.flushed (c.in-Ok-Ended.ensures.advances so_far.going).cursor.bounds step
+    IsAlong-last g.I.Input.state g.S.Source.state c.args.checker.now c.args.streams.now c.lines.checker c.step.new.self
+    c.lines.streams c.step.new.streams c.step.new.line.items (Ok c.in-Ok-Ended.good) c.requires.start so_far.along
+    (c.in-Ok-Ended.ensures.advances so_far.going).cursor.bounds step
 
 -- a good manifest has no file that could not be read
 pub returns-in-Ok-Ended-clause-read_to_end : goal.returns-in-Ok-Ended-clause-read_to_end
@@ -40,19 +35,17 @@ returns-in-Ok-Ended-clause-read_to_end g c = λ good.
     let before : c.lines.checker.cursor.counts.unread ≡ 0 = omega (arith, advances.files.unread, none) in
     ReadToEnd-trans (so_far.read_to_end before) (advances.files.read_to_end (none ∙ sym before))
 
+-- one line more was handled
 pub lines-preserved : goal.lines-preserved
 lines-preserved g c =
     let so_far = c.lines.invariant in
-    let first = c.args.checker.now in
-    let advances = c.in-Ok-Going.ensures.advances so_far.going in
+    let done = c.in-Ok-Going.ensures in
+    let advances = rw c.in-Ok-Going.field-0-is at (done.advances so_far.going) in
     record {
-      along = IsAlong-more g.I.Input.state g.S.Source.state first.cursor.rules first.labels first.cursor
-          c.args.streams.now c.lines.checker.labels c.lines.checker.cursor c.step.new.self.cursor c.lines.streams
-          c.step.new.streams c.step.new.line.items so_far.rules so_far.labels so_far.along so_far.so_far.flushed
-          (rw c.in-Ok-Going.field-0-is at (c.in-Ok-Going.ensures.step so_far.going));
-      rules = advances.cursor.rules ∙ so_far.rules;
-      labels = advances.labels ∙ so_far.labels;
-      going = advances.final_answer ∙ search rules;
+      along = IsAlong-more g.I.Input.state g.S.Source.state c.args.checker.now c.args.streams.now c.lines.checker
+          c.step.new.self c.lines.streams c.step.new.streams c.step.new.line.items so_far.along advances done.flushed
+          (rw c.in-Ok-Going.field-0-is at (done.step so_far.going));
+      going = advances.final_answer;
       so_far = search rules;
       phase = λ reading. advances.cursor.phase (so_far.phase reading);
       read_to_end = λ none.
@@ -60,5 +53,5 @@ lines-preserved g c =
           ReadToEnd-trans (so_far.read_to_end before) (advances.files.read_to_end (none ∙ sym before));
       stdin = λ from.
           KeepsStdin-trans c.args.streams.now.inputs c.lines.streams.inputs c.step.new.streams.inputs (so_far.stdin from)
-          (advances.files.stdin (ap (λ r. r.from_stdin) so_far.rules ∙ from));
+          (advances.files.stdin (ap (λ r. r.from_stdin) so_far.along.rules ∙ from));
     }
