@@ -18,9 +18,11 @@ from rattle import TOP, crates, text_of  # noqa: E402  (nothing is to be left be
 PAGE = os.path.join(TOP, "docs", "TESTING.md")
 MARKS = "<!-- made by tools/refusals.py: what stands below -->\n", "\n<!-- and above this line -->"
 LINE = re.compile(r"rt: must-fail (\w+)/([\w.-]+)\.edit: (.*)")
-# A goal of a function's own, at a line of the code; or in a proof, of the function that the folders name.
+# A goal of a function's own, at a line of the code; or in a proof, of the function that the folders name. A proof that
+# names a goal which is gone shows nothing.
 AT = re.compile(r"refused, as it must be: note: src/([\w/]+\.rt):(\d+):\d+: [^(]*\(`([^`]*)`")
-IN_PROOF = re.compile(r"refused, as it must be: (?:note: )?(?:\./)?proofs/([\w/]+)\.antt:\d+:\d+: error: `([^`]*)`")
+IN_PROOF = re.compile(r"refused, as it must be: (?:note: )?(?:\./)?proofs/([\w/]+)\.antt:\d+:\d+: error: `([^`]*)`: "
+                      r"(?!`goal\.)")
 
 
 def function_at(text, line):
@@ -31,7 +33,8 @@ def function_at(text, line):
     for it in lines[:line]:
         block = re.match(r"impl(?:<.*?>)? (?:.*? for (?:&mut )?)?(?:\w+::)*(\w+)|\}$", it)
         function = re.match(r" *(?:pub(?:\([^)]*\))? )?fn (\w+)", it)
-        of = (block[1] and f"{block[1]}::" or "") if block else of
+        if block:
+            of = f"{block[1]}::" if block[1] and not it.endswith("}") else ""
         found = of + function[1] if function else found
     return found
 
@@ -48,8 +51,8 @@ def function_of(crate, path):
 
 def goal_of(name):
     """What a goal shows: a clause, what a callee requires, what a loop keeps, or a part of the function's proof."""
-    for pattern, says in ((r"returns.*-clause-(\w+)$", "{}"), (r"(\w+)-requires", "what `{}` requires"),
-                          (r"loop-(\w+)-preserved", "loop's `{}`"), (r"(returns)", "result")):
+    for pattern, says in ((r"returns.*-clause-(\w+)$", "{}"), (r"(\w+)[\w-]*-requires", "what `{}` requires"),
+                          (r"loop-(\w+)-(?:init|preserved)", "loop's `{}`"), (r"(returns)", "result")):
         found = re.match(pattern, name)
         if found:
             return says.format(found[1])
