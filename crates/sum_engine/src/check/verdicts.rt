@@ -1,5 +1,5 @@
 //! The verdicts of a manifest, without any text.
-ghost use Rattle.std.specs.Prelude.{◌≡◌, ◌≤◌, ◌^◌, ◌&&◌, None, IfOk, IfSome};
+ghost use Rattle.std.specs.Prelude.{◌≡◌, ◌&&◌, None, IfOk, IfSome};
 ghost use Rattle.std.specs.Option.{option_and_then};
 ghost use Rattle.sum_engine.specs.check.Checking.{rules_of};
 ghost use Rattle.sum_engine.specs.check.NextVerdict.{final_answer_of_next};
