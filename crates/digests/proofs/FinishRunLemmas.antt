@@ -1,10 +1,8 @@
 -- The end of a program: a run that answered, both outputs flushed once more, and the line for a stop.
-use Rattle.std.proofs.Common.{rules, ◌≡◌, [], ◌∷◌, ◌++◌, Option, Result, refl}
+use Rattle.std.proofs.Common.{rules, ◌≡◌, [], ◌∷◌, ◌++◌, Option, refl}
 use Rattle.std.specs.Io.KnownBytes.{Keeps, Appends}
 use Rattle.sum_lines.specs.sinks.Sinks.{SinkState, FlushFailed}
-use Rattle.sum_engine.specs.refinement.FlushedWrites.{WritesAndFlushes}
 use Rattle.sum_words.specs.Items.{ByteString}
-use Rattle.digests.specs.Program.{WritesLine}
 
 -- nothing has no prefix but nothing
 no_prefix : (prefix rest : ByteString) → [] ≡ prefix ++ rest → prefix ≡ []
@@ -19,8 +17,3 @@ flushed-none = search rules
 pub flush_failed-none : (a b : SinkState) → FlushFailed a b → a.buffered ≡ [] → Keeps a.written b.written
 flush_failed-none a b h none =
     flushed-none a.written b.written h.written.2 (no_prefix h.written.0 h.written.1.0 (rw none at h.written.1.1))
-
--- the line for a stop was written, or a prefix of it
-pub writes-stop : {E : Type 0} (line : ByteString) (a b : SinkState) (r : Result (Unit {0}) E) → a.buffered ≡ []
-    → WritesAndFlushes a b line r → WritesLine line a b
-writes-stop = search rules

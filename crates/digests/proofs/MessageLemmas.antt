@@ -5,6 +5,7 @@ use Rattle.sum_engine.specs.declared.stop.Stop.{Stop}
 use Rattle.sum_engine.specs.Behavior.{single_step}
 use Rattle.sum_engine.specs.Execution.{OutputsState, StreamsState, Performs, FailuresMatch}
 use Rattle.sum_engine.specs.refinement.FlushedWrites.{WritesAndFlushesBoth, WritesAndReturns, outcome_after}
+use Rattle.sum_engine.proofs.ExecutionLemmas.{asks_none}
 use Rattle.sum_engine.proofs.WorldLemmas.{InSomeWorld-none, asked_none}
 use Rattle.sum_engine.proofs.BehaviorLemmas.{Performs-step}
 use Rattle.sum_words.specs.Items.{ByteString}
@@ -18,8 +19,7 @@ pub Performs-texts : {S : Type 0} (state : S → SourceState) (a : StreamsState 
 Performs-texts state a outputs err out good x said =
     Performs-step state (λ w. single_step [] err out good) status_of good a (record a { outputs = outputs })
     (InSomeWorld-none state a.inputs)
-    (record { asked = asked_none (state a.inputs.source); taken = search rules; refusals = refl })
-    (λ w v same. (refl, same)) said
+    (asks_none (asked_none (state a.inputs.source)) refl refl) (λ w v same. (refl, same)) said
 
 -- if that failed, one output did
 pub FailuresMatch-texts : {E : Type 0} (a b : OutputsState) (err out : ByteString) (status : ℕ)

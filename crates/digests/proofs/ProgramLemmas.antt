@@ -6,7 +6,7 @@ use Rattle.sum_engine.proofs.WorldLemmas.{InSomeWorld-map}
 use Rattle.sum_engine.specs.declared.stop.Stop.{Stop}
 use Rattle.sum_engine.specs.declared.stop.Stop.TheVariants.{Memory, Write}
 use Rattle.sum_engine.specs.Behavior.{World, Event, Behavior, trace, single_step}
-use Rattle.sum_engine.specs.Execution.{OutputsState, StreamsState, WorldState, IsFlushed, NoneFailed, OneFailed}
+use Rattle.sum_engine.specs.Execution.{OutputsState, StreamsState, WorldState, IsFlushed}
 use Rattle.sum_engine.specs.Execution.{FailuresMatch, Happened, Performs}
 use Rattle.sum_words.specs.Items.{ByteString}
 use Rattle.sum_words.specs.CommandLines.{CommandLineValue, command_line, NeedsMemory}
@@ -16,15 +16,6 @@ use Rattle.digests.specs.refinement.FinishRun.{KeepsBoth, FinishesRun, Refuses, 
 use Rattle.digests.proofs.MessageLemmas.{Performs-texts, FailuresMatch-texts}
 
 -- ---- a run that answered, and its end
-
--- one output failed, and none had before
-failed_since : (a b c : OutputsState) (x : ℕ) → FailuresMatch a b (Ok x) → OneFailed b c
-    → FailuresMatch {A = ℕ} a c (Err Write)
-failed_since = search rules
-
--- nor has one since
-none_since : (a b c : OutputsState) (x y : ℕ) → FailuresMatch a b (Ok x) → NoneFailed b c → FailuresMatch a c (Ok y)
-none_since = search rules
 
 -- nothing more was done
 Happened-kept : {a b : WorldState} (es : List Event) (outputs : OutputsState) → Happened a b es
@@ -54,7 +45,7 @@ CallPerforms-finished state status line a b outputs (Ok x) ran failed (Ok y, m, 
   Ok y,
   record b { outputs = m },
   rw flushed.0 (Performs-kept state (call_behavior line) a b m x ran kept),
-  none_since a.outputs b.outputs m x y failed flushed.1,
+  search rules,
   refl,
   reports,
 )
@@ -63,7 +54,7 @@ CallPerforms-finished state status line a b outputs (Ok x) ran failed (Err Write
   record b { outputs = m },
   Performs-failed state (call_behavior line) a (record b { outputs = m }) x
       (Performs-kept state (call_behavior line) a b m x ran kept),
-  failed_since a.outputs b.outputs m x failed flushed,
+  search rules,
   refl,
   reports,
 )

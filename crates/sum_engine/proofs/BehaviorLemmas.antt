@@ -57,6 +57,10 @@ pub record Along (whole left : Behavior) (a b : WorldState) : Type 0 where
   pub good : left.good ≡ whole.good
   pub happened : Happened a b (trace done)
 
+-- nothing happened so far
+pub along_none : (whole : Behavior) (a : WorldState) → Along whole whole a a
+along_none whole a = record { done = []; steps = refl; good = refl; happened = Happened-none a }
+
 -- one step more happened
 pub along_more : {a b c : WorldState} {whole left : Behavior} (step : Step) (later : Behavior) → Along whole left a b
     → left ≡ step_then step later → Happened b c (trace (step ∷ [])) → Along whole later a c

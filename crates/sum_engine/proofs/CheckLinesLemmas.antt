@@ -12,9 +12,8 @@ use Rattle.sum_engine.specs.Execution.{Reading, Stop, StreamsState, IsFlushed, W
 use Rattle.sum_engine.specs.check.Reports.{LabelsValue}
 use Rattle.sum_engine.specs.check.Checking.{content_behavior}
 use Rattle.sum_engine.proofs.CountLemmas.{counts_then-none}
-use Rattle.sum_engine.proofs.ExecutionLemmas.{Happened-none}
 use Rattle.sum_engine.proofs.StepLemmas.{InSomeCheck-map, InSomeCheck-then, some_remains}
-use Rattle.sum_engine.proofs.BehaviorLemmas.{Along, along_more, along_end, along_stops}
+use Rattle.sum_engine.proofs.BehaviorLemmas.{Along, along_none, along_more, along_end, along_stops}
 
 -- ---- before the first step
 
@@ -101,13 +100,8 @@ module _ {I S : Type 0} (input : I → InputState) (state : S → SourceState) (
       labels = refl;
       flushed = λ flushed. flushed;
       happened = λ flushed. record {
-        before = λ d v may fits. (
-          d,
-          v,
-          may,
-          fits,
-          record { done = []; steps = refl; good = refl; happened = Happened-none (in_world state m v) },
-        );
+        before = λ d v may fits.
+            (d, v, may, fits, along_none (remaining (state_at first.cursor d v)) (in_world state m v));
       };
     }
 

@@ -54,18 +54,18 @@ pub record Asks (a b : WorldState) (names : List (List ℕ)) : Type 0 where
   pub taken : b.stdin_taken ≡ a.stdin_taken || list_any is_dash names
   pub refusals : b.source.refusals ≡ a.source.refusals
 
--- no name was
-pub asks_none : {a b : WorldState} → b.world ≡ a.world → AskedMore a.source b.source []
-    → b.stdin_taken ≡ a.stdin_taken → b.source.refusals ≡ a.source.refusals → Asks a b []
-asks_none {a} world asked taken refusals = search rules
-
 -- these names were asked between inputs, whatever the worlds
 pub record AsksNames {S : Type 0} (state : S → SourceState) (a b : InputsState S) (names : List (List ℕ)) : Type 0 where
   pub asked : AskedMore (state a.source) (state b.source) names
   pub taken : b.stdin_taken ≡ a.stdin_taken || list_any is_dash names
   pub refusals : (state b.source).refusals ≡ (state a.source).refusals
 
--- one name was
+-- no name was, or one
+pub asks_none : {S : Type 0} {state : S → SourceState} {a b : InputsState S}
+    → AskedMore (state a.source) (state b.source) [] → b.stdin_taken ≡ a.stdin_taken
+    → (state b.source).refusals ≡ (state a.source).refusals → AsksNames state a b []
+asks_none asked taken refusals = record { asked = asked; taken = search (rules, or-false); refusals = refusals }
+
 pub asks_name : {S : Type 0} {state : S → SourceState} {a b : InputsState S} {name : List ℕ}
     → AskedMore (state a.source) (state b.source) (name ∷ []) → b.stdin_taken ≡ a.stdin_taken || is_dash name
     → (state b.source).refusals ≡ (state a.source).refusals → AsksNames state a b (name ∷ [])

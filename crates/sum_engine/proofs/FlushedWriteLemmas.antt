@@ -53,12 +53,7 @@ part_more a b x y e h = (h.0, λ none. ((h.1 none).0, prefix_more a.written b.wr
 
 -- ---- both outputs
 
--- standard error alone was written to, or standard output
-pub err_alone : {E : Type 0} (a b : OutputsState) (text : List ℕ) (r : Result (Unit {0}) E)
-    → WritesAndFlushes a.err b.err text r → b.out ≡ a.out → WritesAndFlushesBoth a b text [] r
-err_alone a b text (Ok u) h same = search rules
-err_alone a b text (Err e) h same = search rules
-
+-- standard output alone was written to
 pub out_alone : {E : Type 0} (a b : OutputsState) (text : List ℕ) (r : Result (Unit {0}) E)
     → WritesAndFlushes a.out b.out text r → b.err ≡ a.err → WritesAndFlushesBoth a b [] text r
 out_alone a b text (Ok u) h same = search (rules, Appends-nil)

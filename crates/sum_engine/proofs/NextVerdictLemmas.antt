@@ -1,5 +1,5 @@
 -- `CheckCursor::next_verdict`: the next verdict of a manifest, by what reading and judging its line did.
-use Rattle.std.proofs.Common.{rules, ◌≡◌, ◌∙◌, ℕ, ◌+◌, ◌<◌, ◌≤◌, true, false, List, [], length, slice_range, Option, None, Some, Result, Ok, Err, refl, inr, arith}
+use Rattle.std.proofs.Common.{rules, ◌≡◌, ◌∙◌, ℕ, ◌+◌, ◌<◌, ◌≤◌, true, List, [], length, slice_range, Option, None, Some, Result, Ok, Err, refl, inr, arith}
 use Rattle.sum_sources.specs.declared.line_reader.LineStop.TheVariants.{Fault, Memory}
 use Rattle.sum_sources.specs.Contents.{Content, InputState, IfKnown, SourceState}
 use Rattle.sum_sources.specs.declared.line_reader.Next.{Next}
@@ -12,12 +12,12 @@ use Rattle.sum_sources.specs.declared.line_reader.LineReader.{LineReader}
 use Rattle.sum_sources.proofs.LineLemmas.{line-some}
 use Rattle.sum_sources.proofs.RemainLemmas.{MayRemain-known}
 use Rattle.sum_lines.specs.grammar.ParsedLines.{ParsedLine}
-use Rattle.sum_engine.specs.check.Reports.{CountsValue, is_unread}
+use Rattle.sum_engine.specs.check.Reports.{CountsValue}
 use Rattle.sum_engine.specs.check.NextVerdict.{LineVerdict, line_verdict_value, NoVerdictLeft, FindsVerdict, progress_of}
 use Rattle.sum_engine.specs.check.Verdicts.{Verdict, lines_by}
 use Rattle.sum_engine.specs.Behavior.{Ending, Whole, Broken, World}
-use Rattle.sum_engine.specs.Execution.{Stop, InputsState, KeepsStdin, ReadToEnd, InSomeWorld}
-use Rattle.sum_engine.specs.check.CheckerSteps.{Progress, Going, Ended, AdvancesCursor, ReadsListedFile, CursorValue, counts_with, state_at, InSomeCheck, MemoryStopHasCause, CheckState, next_judged}
+use Rattle.sum_engine.specs.Execution.{Stop, InputsState, InSomeWorld}
+use Rattle.sum_engine.specs.check.CheckerSteps.{Progress, Going, Ended, AdvancesCursor, CursorValue, counts_with, state_at, InSomeCheck, MemoryStopHasCause, CheckState, next_judged}
 use Rattle.sum_engine.specs.refinement.Judging.{JudgeOf, name_in_line, TakesLine, JudgeLineOf, parsed_at}
 use Rattle.sum_engine.proofs.RestLemmas.{rest_on}
 use Rattle.sum_engine.proofs.StepLemmas.{InSomeCheck-made, some_remains, lines_now, ReadsLine, line_handled}
@@ -121,12 +121,3 @@ pub cursor-advanced : {I : Type 0} (state : I → InputState) (p q : CursorValue
     → Bounded reader → (x ≡ Ok Going → n ≡ Ok Line) → (x ≡ Ok (Ended true) → n ≡ Ok NoMore)
     → AdvancesCursor state p q x
 cursor-advanced state p q reader n x is rules lines sum bounds going ended = grind (arith)
-
--- how far the file was read whose line has this verdict
-pub files-found : {I S : Type 0} (state : S → SourceState) (p q : CursorValue I) (a b : InputsState S)
-    (v : LineVerdict)
-    (x : Result Progress Stop) → q.counts ≡ counts_with p.counts v.verdict
-    → (is_unread v.verdict ≡ false → ReadToEnd state a b)
-    → (p.rules.from_stdin ≡ true → KeepsStdin a b)
-    → (x ≡ Ok (Ended true) → ⊥) → ReadsListedFile state p q a b x
-files-found state p q a b v x counted read stdin going = search rules

@@ -1,4 +1,8 @@
--- One step of a checker, by the verdict that it found: `CheckCursor::next` from `next_verdict` and what is written.
+-- One step of a checker, `CheckCursor::next`: the next verdict was found, and its text was written.
+--
+-- `step_found`: a line had a verdict; its report is written, and the lines after it remain.
+-- `step_end`: no line was left; the end is written, and nothing remains.
+-- `step_refused`: memory ran out before the verdict; nothing is written, and all remains.
 use Rattle.std.proofs.Common.{◌≡◌, ℕ, ◌+◌, ◌^◌, ◌<◌, ◌≤◌, Bool, List, [], ◌∷◌, length, Option, None, Some, MatchOption, Result, Ok, Err, inl, inr, ◌⊎◌, refl, ap, sym, ◌∙◌, rules, arith}
 use Rattle.sum_sources.specs.declared.line_reader.Next.TheVariants.{Line}
 use Rattle.sum_sources.specs.declared.line_reader.LineReader.{LineReader}
@@ -12,10 +16,10 @@ use Rattle.sum_engine.specs.check.Reports.{Report, LabelsValue, err_by, out_by, 
 use Rattle.sum_engine.specs.check.Verdicts.{Ignored, lines_by, Rules, asks_of}
 use Rattle.sum_engine.specs.check.CheckerSteps.{CursorValue, state_at, InSomeCheck, Progress, Going, Ended, CheckState, counts_with, step_then, progress_before, LineHandled, StepIs, TakesStep, MemoryStopHasCause, next_judged, remaining_verdicts, remaining_behavior}
 use Rattle.sum_engine.specs.Execution.{Stop, Memory, InputsState, StreamsState, WorldState, InSomeWorld, in_world, AskedMore}
-use Rattle.sum_engine.specs.check.NextVerdict.{LineVerdict, VerdictResult, line_verdict_value, FindsVerdict, NoVerdictLeft, names_of_result, taken_after}
+use Rattle.sum_engine.specs.check.NextVerdict.{LineVerdict, VerdictResult, line_verdict_value, FindsVerdict, NoVerdictLeft}
 use Rattle.sum_engine.specs.refinement.Judging.{TakesLine}
 use Rattle.sum_engine.specs.refinement.FlushedWrites.{outcome_after, WritesAndReturns}
-use Rattle.sum_engine.proofs.ExecutionLemmas.{Asks, asks_none, HappenedOrPrefix, step_performed, Happened-none, HappenedOrPrefix-by}
+use Rattle.sum_engine.proofs.ExecutionLemmas.{AsksNames, asks_in, HappenedOrPrefix, step_performed, Happened-none, HappenedOrPrefix-by}
 use Rattle.sum_engine.proofs.CountLemmas.{counts_then-nil}
 use Rattle.sum_engine.proofs.RestLemmas.{line_step, behavior_by, first_step, found_first, going-before}
 use Rattle.sum_sources.specs.declared.line_reader.LineStop.TheVariants as line_stops
@@ -145,24 +149,20 @@ module _ {I S : Type 0} (input : I → InputState) (state : S → SourceState) (
     -- a line was found, and its report was written, or a prefix of it
     pub step_found : (labels : LabelsValue) (vector : List ℕ) (v : LineVerdict) (x : Result Progress Stop)
         → Found vector (Ok (Some v))
-        → AskedMore (state a.inputs.source) (state b.inputs.source) (names_of_result vector (Ok (Some v)))
-        → b.inputs.stdin_taken ≡ taken_after a.inputs.stdin_taken vector (Ok (Some v))
-        → (state b.inputs.source).refusals ≡ (state a.inputs.source).refusals
+        → AsksNames state a.inputs b.inputs (asks_of (line_verdict_value vector v))
         → WritesAndReturns a.outputs b.outputs (err_by p.rules labels v.number v.verdict (line_verdict_value vector v).name)
         (out_by p.rules.profile labels.report v.verdict (line_verdict_value vector v).name) Going x
         → TakesStep input state vector labels p q a b x
-    step_found labels vector v x found asked taken refusals said = λ flushed.
+    step_found labels vector v x found asked said = λ flushed.
         rw said.returns (InSomeCheck-map found (λ c d w v' f.
         let j = line_verdict_value vector v in
         let first = state_at p c w in
         let next = state_at q d v' in
-        let asks : Asks (in_world state a w) (in_world state b v') (asks_of j) =
-        record { world = f.0.world; asked = asked; taken = taken; refusals = refusals } in
         step_by p.rules labels first next (in_world state a w) (in_world state b v') vector
         (line_step p.rules labels (length c.bytes) j) (remaining_behavior p.rules labels next) Going
         said.written
         (found_first p.rules labels first next j f.0.first f.0.counts f.1.rest) (going-before p.rules labels next)
-        (HappenedOrPrefix-by _ _ (asks_of j) _ _ said.written asks (said.writes.1 flushed).1) (λ is. (refl, f.1))))
+        (HappenedOrPrefix-by _ _ (asks_of j) _ _ said.written (asks_in state a b asked f.0.world) (said.writes.1 flushed).1) (λ is. (refl, f.1))))
 
     -- memory ran out, and both outputs stayed
     pub step_refused : (labels : LabelsValue) (vector : List ℕ) → Found vector (Err line_stops.Memory)
@@ -191,21 +191,20 @@ module _ {I S : Type 0} (input : I → InputState) (state : S → SourceState) (
     -- the end was found, and its text was written, or a prefix of it
     pub step_end : (labels : LabelsValue) (vector : List ℕ) (e : Ending) (outcome : Bool) (x : Result Progress Stop)
         → InSomeCheck input state p q a.inputs b.inputs (NoVerdictLeft p.rules e)
-        → AskedMore (state a.inputs.source) (state b.inputs.source) [] → b.inputs.stdin_taken ≡ a.inputs.stdin_taken
-        → (state b.inputs.source).refusals ≡ (state a.inputs.source).refusals → q.rules ≡ p.rules
+        → AsksNames state a.inputs b.inputs [] → q.rules ≡ p.rules
         → outcome ≡ good q.rules e q.counts
         → WritesAndReturns a.outputs b.outputs (end_text q.rules labels e q.counts) [] (Ended outcome) x
         → TakesStep input state vector labels p q a b x
-    step_end labels vector e outcome x found asked taken refusals same sum wrote = λ flushed.
+    step_end labels vector e outcome x found asked same sum wrote = λ flushed.
         rw wrote.returns (InSomeCheck-map found (λ c d w v f.
         let r = p.rules in
         let said = rw (same, f.counts) at (wrote.writes.1 flushed).1 in
         let step : Step =
         record { names = []; err = end_text r labels e p.counts; out = []; remaining = length c.bytes } in
         let last : Behavior = record { steps = []; good = outcome } in
-        let asks = asks_none f.world asked taken refusals in
         step_by r labels (state_at p c w) (state_at q d v) (in_world state a w) (in_world state b v) vector step
         last (Ended outcome) wrote.written
         (ap (behavior_by r labels c.ending p.counts c) f.none
         ∙ rw (counts_then-nil p.counts, f.ending, sum, same, f.counts) refl) refl
-        (HappenedOrPrefix-by (in_world state a w) (in_world state b v) [] _ [] wrote.written asks said) (λ h. cc)))
+        (HappenedOrPrefix-by (in_world state a w) (in_world state b v) [] _ [] wrote.written
+        (asks_in state a b asked f.world) said) (λ h. cc)))
