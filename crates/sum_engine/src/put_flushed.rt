@@ -67,7 +67,6 @@ pub(crate) fn put_fault<E: Sink>(
 }
 
 /// The outcome of a call once its text was written; `Stop::Write` if that failed.
-#[inline(always)]
 pub(crate) fn outcome_after<T: Drop>(written: Result<(), SinkFault>, outcome: T) -> Result<T, Stop>
     ensures { result ≡ outcome_after written outcome }
 {
