@@ -149,23 +149,13 @@ def speed(times, name):
     return f"{times[GNU].least / times[name].least:.2f}" if GNU in times and name in times else "-"
 
 
-def bound(times, name):
-    """What most of a program's time goes into, as far as this run tells."""
-    if times[name].least < 0.005:  # too short for the system to tell the kernel's share
-        return "the start of a process"
-    if BARE in times and times[BARE].least > 0.93 * times[name].least:
-        return "the kit's digest"
-    share = f"{times[name].kernel:.0%}"
-    return f"the kernel ({share})" if times[name].kernel > 0.5 else f"ours (the kernel {share})"
-
-
 def print_speeds(bench):
     """The table of speeds, and the one of the times that they come from."""
     ours = list(bench.ours)
     names = [*ours, BARE, OPENSSL]
     names = [name for name in names if any(name in times for _, times in bench.rows)]
-    rows = [[work, *(speed(times, name) for name in names), bound(times, ours[0])] for work, times in bench.rows]
-    table(["times as fast as GNU", *names, "bound by"], rows)
+    rows = [[work, *(speed(times, name) for name in names), f"{times[ours[0]].kernel:.0%}"] for work, times in bench.rows]
+    table(["times as fast as GNU", *names, "the kernel's share"], rows)
     names = [name for name in (GNU, *ours) if any(name in times for _, times in bench.rows)]
     rows = [[work, *(spread(times.get(name)) for name in names)] for work, times in bench.rows]
     table(["milliseconds: least, quartiles", *names], rows)
@@ -244,27 +234,6 @@ TIMED = {"hashing": hashing, "start": start, "files": files, "reading": reading}
 OTHER = {"memory": memory}
 
 
-class Reader(argparse.ArgumentParser):
-    """Reads the words; what is wrong with them is told in one line."""
-
-    def error(self, message):
-        sys.exit(f"run.py: {message}")
-
-
-def at_least_one(word):
-    """The number that a word is, where it is one and at least 1."""
-    if not (word.isascii() and word.isdecimal()) or int(word) < 1:
-        raise argparse.ArgumentTypeError(f"a whole number from 1 on is wanted, not '{word}'")
-    return int(word)
-
-
-def program(word):
-    """The path of a program, where there is one."""
-    if not os.path.isfile(word) or not os.access(word, os.X_OK):
-        raise argparse.ArgumentTypeError(f"there is no program '{word}'")
-    return word
-
-
 def print_conditions(bench, rounds):
     """What the numbers depend on."""
     (processor,) = os.sched_getaffinity(0)
@@ -279,12 +248,12 @@ def print_conditions(bench, rounds):
 
 
 def main():
-    reader = Reader(description="Measures the programs beside others.", allow_abbrev=False)
-    number = {"type": at_least_one, "metavar": "N"}
+    reader = argparse.ArgumentParser(description="Measures the programs beside others.", allow_abbrev=False)
+    number = {"type": int, "metavar": "N"}
     reader.add_argument("--size", default=256, help="size of the large input in MiB (256)", **number)
     reader.add_argument("--rounds", default=5, help="rounds at least, of which the least counts (5)", **number)
     reader.add_argument("--only", choices=[*TIMED, *OTHER], action="append", help="only this part; may be repeated")
-    reader.add_argument("--program", type=program, metavar="FILE", action="append",
+    reader.add_argument("--program", metavar="FILE", action="append",
                         help="this program, in place of the two levels'; may be repeated")
     reader.add_argument("--no-bare", action="store_true", help="leave out the bare loops")
     asked = reader.parse_args()
