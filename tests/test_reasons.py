@@ -69,14 +69,6 @@ class Reasons(Case):
             missing, opened = number == errno.ENOENT, number == errno.EISDIR
             self.expect_each(name, REASONS[number], missing, opened, **self.nobody())
 
-    def test_a_folder_of_them(self):
-        """A directory, a loop, a socket and a file without permission give GNU's four lines."""
-        err = ["md5sum: d: Is a directory", "md5sum: loop: Too many levels of symbolic links",
-               "md5sum: s: No such device or address", "md5sum: shut: Permission denied"]
-        for folder in self.tools:
-            ran = self.run_tool(folder, "d loop s shut", **self.nobody())
-            self.assertEqual(ran, Ran(1, b"", as_bytes(err)))
-
     def test_standard_input(self):
         """A directory, a file that is open for writing alone, a pipe and a terminal that have nothing yet and don't
         wait, a terminal whose other side is closed, and nothing."""

@@ -27,15 +27,6 @@ class StandardInput(Case):
                 file.seek(position)
                 self.expect("md5sum", stdin=file, out=[f"{M}  -"])
 
-    def test_that_does_not_wait(self):
-        """A pipe that gives bytes, and then answers that it has no more yet, is a fault, and no end."""
-        reads, writes = os.pipe()
-        self.addCleanup(os.close, reads)
-        self.addCleanup(os.close, writes)
-        os.set_blocking(reads, False)
-        os.write(writes, b"abc")
-        self.expect("md5sum", stdin=reads, err=["md5sum: -: Resource temporarily unavailable"], status=1)
-
     def test_a_terminal(self):
         """The end that is typed at a terminal is the end: nothing is read after it."""
         shows, writes = pty.openpty()
@@ -100,11 +91,6 @@ class Outputs(Case):
             started.stdout.close()
             self.assertEqual(started.stderr.read(), WRITE_ERROR)
             self.assertEqual(started.wait(timeout=harness.RUN_SECONDS), 1)
-
-    def test_a_pipe_into_head(self):
-        script = 'exec 3>&1; { "$0" md5sum "$@"; echo "$?" >&3; } | head -c 10 >/dev/null'
-        ran = self.run_command(["sh", "-c", script, harness.PROGRAM, *["a"] * 20000])
-        self.assertEqual(ran, Ran(0, b"1\n", WRITE_ERROR))
 
     def test_a_terminal_and_a_pipe_as_standard_error(self):
         os.mkfifo(self.path("p"))
