@@ -1,5 +1,5 @@
 -- Contents of inputs, and what counts of them; states of inputs and of sources, and what a read and an opening change.
-use Rattle.std.specs.Prelude.{ℕ, zero, suc, ℤ, pos, ◌≡◌, ◌<◌, ◌-◌, ◌^◌, List, [], ◌++◌, take, length, Option, None, Some, Result, Ok, Err, ⊤, nat_lt, if◌then◌else◌, codes, ◌∷◌, ◌||◌, Bool, is_none, is_some, option_map}
+use Rattle.std.specs.Prelude.{ℕ, zero, suc, pos, ◌≡◌, ◌-◌, ◌^◌, List, [], ◌++◌, take, length, Option, None, Some, Result, Ok, Err, ⊤, nat_lt, if◌then◌else◌, ◌∷◌, ◌||◌, Bool, is_none, is_some, option_map}
 use Rattle.std.specs.Option.{option_or, option_map_or}
 use Rattle.digest_kinds.specs.Kinds.{digest, KindValue}
 use Rattle.digest_kinds.specs.Limits.{one_more}

@@ -1,5 +1,5 @@
 -- The state of a reader of lines, and what a call changes in it.
-use Rattle.std.specs.Prelude.{ℕ, ◌≡◌, ◌+◌, ◌-◌, ◌^◌, ◌<◌, ◌≤◌, ◌⊎◌, ⊤, List, [], ◌++◌, length, Option, None, Some, Result, Ok, Err, OnOk, MatchOption, option_map}
+use Rattle.std.specs.Prelude.{ℕ, ◌≡◌, ◌+◌, ◌-◌, ◌^◌, ◌<◌, ◌≤◌, ◌⊎◌, ⊤, List, [], length, Option, None, Some, Result, Ok, Err, OnOk, MatchOption, option_map}
 use Rattle.sum_sources.specs.Contents.{Fault, Broken, Content, InputState, limit, clip_to, empty_content, with_prefix}
 use Rattle.sum_sources.specs.ManifestLines.{Next, Line, NoMore, LineStop, NoNewline, NextLineIs, lines_after}
 use Rattle.sum_sources.specs.Phases.{Phase, Reading, Ended}

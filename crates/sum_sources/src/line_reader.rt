@@ -182,7 +182,8 @@ impl<I: Input> LineReader<I> {
         requires empty { line.old.items ≡ [] }
         requires going { self.old.final_answer ≡ None }
         ensures line { ReadsSomeLine I.state self.old self.new result (strip_carriage_return line.new.items) }
-        ensures input { self.new.final_answer ≡ None → IfKnown (I.state self.old.input).content (I.state self.new.input).content
+        ensures input { self.new.final_answer ≡ None
+            → IfKnown (I.state self.old.input).content (I.state self.new.input).content
             (λ c d. self.new.taken + length d.bytes ≡ self.old.taken + length c.bytes) }
         ensures some { result ≡ Ok Next.Line → consumed self.old < consumed self.new }
         ensures lines { self.new.lines ≡ self.old.lines }
@@ -226,7 +227,8 @@ impl<I: Input> LineReader<I> {
         // Known or not: the lines counted, how far the input was read, and which answers are final.
         ensures reader { AdvancesLines I.state self.old self.new result }
         // Bytes taken and bytes that remain in the input add up to the same.
-        ensures input { self.new.final_answer ≡ None → IfKnown (I.state self.old.input).content (I.state self.new.input).content
+        ensures input { self.new.final_answer ≡ None
+            → IfKnown (I.state self.old.input).content (I.state self.new.input).content
             (λ c d. self.new.taken + length d.bytes ≡ self.old.taken + length c.bytes) }
         // At most 8192 bytes are read ahead of the lines, and no count passes its limit.
         ensures bounds { Bounded self.new }

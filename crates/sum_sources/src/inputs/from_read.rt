@@ -24,8 +24,8 @@ impl<R> Model for FromRead<R> {
 }
 
 impl<R: Read> FromRead<R> {
-    /// The input that reads from `reader`. The number of the reader's error decides which fault it is, or its kind if it
-    /// has none. The 1,000th interruption in a row within one read is `Fault::Other`.
+    /// The input that reads from `reader`. The number of the reader's error decides which fault it is, or its kind if
+    /// it has none. The 1,000th interruption in a row within one read is `Fault::Other`.
     pub fn new(reader: R) -> Self
         ensures { result ≡ record { reader = reader; phase = Phase.Reading } }
     {

@@ -13,8 +13,8 @@ pub enum Phase {
     Ended,
     /// A read failed.
     Failed,
-    /// It was read again after its end or a fault, or a read asked for no bytes. It stays so for ever. A type that keeps
-    /// no phase counts as this.
+    /// It was read again after its end or a fault, or a read asked for no bytes. It stays so for ever. A type that
+    /// keeps no phase counts as this.
     Past,
 }
 

@@ -89,8 +89,8 @@ impl<'a, A: Allocator + Copy> ToldSource<'a, A> {
         }
     }
 
-    /// Adds a pair of a name and its answer. If an earlier pair has that name, it still answers. After `NoRoom` the pairs
-    /// are as before.
+    /// Adds a pair of a name and its answer. If an earlier pair has that name, it still answers. After `NoRoom` the
+    /// pairs are as before.
     pub fn add(&mut self, name: &[u8], answer: Answer<'a>) -> Result<(), NoRoom>
         ensures ok { OnOk result (self.new ≡ record self.old {
           pairs = self.old.pairs ++ record { name = name.now; reply = reply_of answer.entry } ∷ [];
