@@ -1,5 +1,5 @@
--- `check_lines`: a new checker runs to its end, one step after another. What happened so far and what remains is the whole
--- behavior (`IsAlong`). A step that goes on keeps it; the step that ends or stops proves the contract by it.
+-- `check_lines`: a new checker runs to its end. What happened so far and what remains is the whole behavior (`IsAlong`).
+-- A step that goes on keeps this. The step that ends or stops proves the contract by it.
 use Rattle.std.proofs.Common.{rules, ◌+◌, ◌<◌, ◌≡◌, ℕ, Bool, List, [], ◌∷◌, length, Option, None, Some, Result, Ok, Err, refl, sym, ◌∙◌, subst, option_map, IfSome, MatchOption, arith}
 use Rattle.sum_engine.specs.Behavior.{World, Step, Behavior}
 use Rattle.sum_sources.specs.Contents.{Content, InputState, clip, limit, SourceState}
@@ -132,8 +132,8 @@ module _ {I S : Type 0} (input : I → InputState) (state : S → SourceState) (
           (step.going refl).0 (along_more step.step step.later along step.is step.performs.1));
     }
 
-    -- the step that ends completes the manifest's behavior. One that stops leaves a prefix of it after a write fault, and
-    -- whole steps if memory ran out
+    -- the step that ends completes the manifest's behavior. One that stops leaves a prefix of it after a write fault,
+    -- and whole steps if memory ran out
     pub IsAlong-last : (q last : CheckerValue I) (n o : StreamsState S) (vector : List ℕ) (x : Result Bool Stop)
         → IsAtStart input first.cursor first.cursor.reader.input → IsAlong q n → Bounded last.cursor.reader
         → TakesStep input state vector q.labels q.cursor last.cursor n o (ends x)
@@ -142,6 +142,7 @@ module _ {I S : Type 0} (input : I → InputState) (state : S → SourceState) (
       before = λ v fits.
           let left = some_remains input last.cursor.reader bounds in
           let some = (ended flushed).before left.0 v left.1 fits in
+          let manifest = manifest_behavior first.cursor.rules first.labels in
           let c = some.0 in
           let w = some.1 in
           let whole = whole_content input first.cursor first.cursor.reader.input c start some.2 in
@@ -150,9 +151,6 @@ module _ {I S : Type 0} (input : I → InputState) (state : S → SourceState) (
           (w, some.3, (whole.0, whole.1, subst (λ c. PerformsAll o x (manifest c w) w v) (sym whole.2) did));
     }
       where
-        manifest : Content → World → Behavior
-        manifest = manifest_behavior first.cursor.rules first.labels
-
         ended : Leads last.cursor o (λ a d. PerformsAll o x (remaining a) a.world d.world)
         ended = one_more_step last o vector (ends x) h step (λ a b d t along step.
             along_last (in_world state o d.world) step.step step.later x along step.is step.performs)

@@ -1,5 +1,5 @@
--- `check_one`: a manifest is opened, its checker runs to its end, and it is closed. Each of these is some world for the one
--- before it, so the proof goes backwards: `closed` joins the closing to the run, and `opened` the opening to both.
+-- `check_one`: a manifest is opened, its checker runs to its end, and it is closed. Each of the three needs a world that
+-- the one before it leaves. So the closing is joined to the run (`closed`), and the opening to both (`opened`).
 use Rattle.std.proofs.Common.{rules, ◌≡◌, ℕ, Bool, true, false, List, [], ◌∷◌, Option, IfSome, Result, Ok, Err, cond, refl, ap, codes}
 use Rattle.std.proofs.KnownBytes.{Appends-nil}
 use Rattle.std.proofs.Math.Bool.{or-false}
@@ -39,7 +39,8 @@ closed state r labels known m b n x run end = λ flushed. InSomeWorld-then (run 
       ran.1,
       kept_performs all.steps all.good (in_world state m u) (in_world state b v)
           (in_world state (record b { inputs = n }) w) x
-          (record { world = same; known = end.known; refusals = end.refusals; taken = end.taken; outputs = refl }) ran.2,
+          (record { world = same; known = end.known; refusals = end.refusals; taken = end.taken; outputs = refl })
+          ran.2,
     ))
 
 -- the step that opens a manifest of that name
@@ -72,15 +73,15 @@ module _ {S : Type 0} (state : S → SourceState) (settings : CheckSettings) (to
       before = λ v fits.
           let ran = (run flushed).before v fits in
           let first = (answer ran.2.0 ran.2.1).before ran.0 ran.1 in
-          let did : Happened (in_world state a first.0) (in_world state (from_inputs m) ran.0) (events_of (opening name)) =
-          Happened-by (name ∷ []) [] [] (asks_in state a (from_inputs m) asked first.2.0) (Appends-nil _) (Appends-nil _)
-          in
+          let did : Happened (in_world state a first.0) (in_world state (from_inputs m) ran.0)
+          (events_of (opening name)) = Happened-by (name ∷ []) [] []
+          (asks_in state a (from_inputs m) asked first.2.0) (Appends-nil _) (Appends-nil _) in
           let of : World → Behavior =
           manifest_behavior (rules_of settings (is_dash name)) (labels_of settings tool name) (clip ran.2.0) in (
             first.0,
             first.1,
-            rw (first.2.1, ← first.2.0) (behind_step (in_world state b v) (of ran.0).good (opening name) (of ran.0).steps
-                x did (rw (← is) at ran.2.2)),
+            rw (first.2.1, ← first.2.0) (behind_step (in_world state b v) (of ran.0).good (opening name)
+                (of ran.0).steps x did (rw (← is) at ran.2.2)),
           );
     }
 
@@ -108,7 +109,8 @@ module _ {S : Type 0} (state : S → SourceState) (settings : CheckSettings) (to
           → (x ≡ Err open_faults.Memory → ⊥) → (state m.source).refusals ≡ (state a.inputs.source).refusals
           → AsksNames state a.inputs m (name ∷ [])
       asks_manifest x is_file h some refusals =
-          asks_name (file_asked content (state a.inputs.source) (state m.source) name x is_file h some) (search (rules, or-false)) refusals
+          asks_name (file_asked content (state a.inputs.source) (state m.source) name x is_file h some)
+          (search (rules, or-false)) refusals
 
       -- it is a file, which is closed
       pub check_file : (b : StreamsState S) (n : InputsState S) (p : Phase) (file : F) (x : Result Bool Stop)

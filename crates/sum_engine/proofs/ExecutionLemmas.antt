@@ -122,7 +122,8 @@ HappenedOrPrefix (Err e) a b es = PrefixHappened a b es
 
 -- the names were asked, and the two texts or a prefix of them were written
 pub HappenedOrPrefix-by : {E : Type 0} (a b : WorldState) (names : List (List ℕ)) (err out : List ℕ)
-    (x : Result (Unit {0}) E) → Asks a b names → WritesBoth a.outputs b.outputs err out x → HappenedOrPrefix x a b (events_by names err out)
+    (x : Result (Unit {0}) E) → Asks a b names → WritesBoth a.outputs b.outputs err out x
+    → HappenedOrPrefix x a b (events_by names err out)
 HappenedOrPrefix-by a b names err out (Ok u) asked h = Happened-by names err out asked h.0 h.1
 HappenedOrPrefix-by a b names err out (Err e) asked (inl h) = prefix_err names err out asked h.0 h.1
 HappenedOrPrefix-by a b names err out (Err e) asked (inr h) = prefix_out names err out asked h.0 h.1

@@ -61,6 +61,7 @@ out_alone a b text (Err e) h same = search (rules, Appends-nil)
 
 -- these texts were written, and then x was returned
 pub writes_and_returns : {E A : Type 0} {a b : OutputsState} {err out : List ℕ} {x : A} {r : Result A Stop}
-    (w : Result (Unit {0}) E) → r ≡ outcome_after w x → WritesAndFlushesBoth a b err out w → WritesAndReturns a b err out x r
+    (w : Result (Unit {0}) E) → r ≡ outcome_after w x → WritesAndFlushesBoth a b err out w
+    → WritesAndReturns a b err out x r
 writes_and_returns (Ok u) is h = record { written = Ok tt; writes = h; returns = is }
 writes_and_returns (Err e) is h = record { written = Err tt; writes = h; returns = is }

@@ -18,7 +18,8 @@ digest_or_fault-is kind r a h = search rules
 -- the name was asked, with this digest or fault, and the line of that was written, or a prefix of it
 pub generate-performed : {S : Type 0} (state : S → SourceState) (settings : Settings) (tool name : List ℕ) (good : Bool)
     (a b : StreamsState S) (outcome : HashOutcome) (found : Result (List ℕ) Fault) {err out : List ℕ}
-    {x : Result Bool Stop} → InSomeWorld state a.inputs b.inputs (λ w v. HashesName settings.kind w v name (Some outcome))
+    {x : Result Bool Stop}
+    → InSomeWorld state a.inputs b.inputs (λ w v. HashesName settings.kind w v name (Some outcome))
     → AsksNames state a.inputs b.inputs (name ∷ []) → found ≡ digest_of_outcome outcome
     → generate_behavior_by settings tool name found ≡ single_step (name ∷ []) err out good
     → WritesAndReturns a.outputs b.outputs err out good x

@@ -1,5 +1,4 @@
 -- One step of a checker, `CheckCursor::next`: the next verdict was found, and its text was written.
---
 -- `step_found`: a line had a verdict; its report is written, and the lines after it remain.
 -- `step_end`: no line was left; the end is written, and nothing remains.
 -- `step_refused`: memory ran out before the verdict; nothing is written, and all remains.
@@ -12,7 +11,7 @@ use Rattle.sum_sources.specs.Contents.{Content, InputState, SourceState, empty_c
 use Rattle.sum_sources.specs.ManifestLines.{NextLineIs, lines}
 use Rattle.sum_sources.specs.LineReaders.{remaining_content, MayRemain, Bounded, consumed}
 use Rattle.sum_lines.specs.Escape.{Profile, present}
-use Rattle.sum_engine.specs.check.Reports.{Report, LabelsValue, err_by, out_by, end_text, good}
+use Rattle.sum_engine.specs.check.Reports.{Report, LabelsValue, err_of, out_of, out_by, end_text, good}
 use Rattle.sum_engine.specs.check.Verdicts.{Ignored, lines_by, Rules, asks_of}
 use Rattle.sum_engine.specs.check.CheckerSteps.{CursorValue, state_at, InSomeCheck, Progress, Going, Ended, CheckState, counts_with, step_then, progress_before, LineHandled, StepIs, TakesStep, MemoryStopHasCause, next_judged, remaining_verdicts, remaining_behavior}
 use Rattle.sum_engine.specs.Execution.{Stop, Memory, InputsState, StreamsState, WorldState, InSomeWorld, in_world, AskedMore}
@@ -120,7 +119,8 @@ line_handled state p q reader c d w v line vector reads read takes few counted =
 -- a step of these events, or a prefix of them, by what remains after it
 step_by : (r : Rules) (labels : LabelsValue) (a b : CheckState) (s t : WorldState) (vector : List ℕ) (step : Step)
     (later : Behavior) (progress : Progress) (x : Result (Unit {0}) (Unit {0}))
-    → remaining_behavior r labels a ≡ step_then step later → progress_before later.steps later.good ≡ progress → HappenedOrPrefix x s t (events_of step)
+    → remaining_behavior r labels a ≡ step_then step later → progress_before later.steps later.good ≡ progress
+    → HappenedOrPrefix x s t (events_of step)
     → (progress ≡ Going → (later ≡ remaining_behavior r labels b) × LineHandled r a b vector)
     → StepIs r labels vector a b s t (outcome_after x progress)
 step_by r labels a b s t vector step later progress x is next came going = record {
@@ -150,8 +150,8 @@ module _ {I S : Type 0} (input : I → InputState) (state : S → SourceState) (
     pub step_found : (labels : LabelsValue) (vector : List ℕ) (v : LineVerdict) (x : Result Progress Stop)
         → Found vector (Ok (Some v))
         → AsksNames state a.inputs b.inputs (asks_of (line_verdict_value vector v))
-        → WritesAndReturns a.outputs b.outputs (err_by p.rules labels v.number v.verdict (line_verdict_value vector v).name)
-        (out_by p.rules.profile labels.report v.verdict (line_verdict_value vector v).name) Going x
+        → WritesAndReturns a.outputs b.outputs (err_of p.rules labels (line_verdict_value vector v))
+        (out_of p.rules labels (line_verdict_value vector v)) Going x
         → TakesStep input state vector labels p q a b x
     step_found labels vector v x found asked said = λ flushed.
         rw said.returns (InSomeCheck-map found (λ c d w v' f.
@@ -159,10 +159,10 @@ module _ {I S : Type 0} (input : I → InputState) (state : S → SourceState) (
         let first = state_at p c w in
         let next = state_at q d v' in
         step_by p.rules labels first next (in_world state a w) (in_world state b v') vector
-        (line_step p.rules labels (length c.bytes) j) (remaining_behavior p.rules labels next) Going
-        said.written
+        (line_step p.rules labels (length c.bytes) j) (remaining_behavior p.rules labels next) Going said.written
         (found_first p.rules labels first next j f.0.first f.0.counts f.1.rest) (going-before p.rules labels next)
-        (HappenedOrPrefix-by _ _ (asks_of j) _ _ said.written (asks_in state a b asked f.0.world) (said.writes.1 flushed).1) (λ is. (refl, f.1))))
+        (HappenedOrPrefix-by _ _ (asks_of j) _ _ said.written (asks_in state a b asked f.0.world) (said.writes.1 flushed).1)
+        (λ is. (refl, f.1))))
 
     -- memory ran out, and both outputs stayed
     pub step_refused : (labels : LabelsValue) (vector : List ℕ) → Found vector (Err line_stops.Memory)

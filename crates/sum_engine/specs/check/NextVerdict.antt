@@ -53,7 +53,8 @@ abbrev pub FindsVerdict : {I S : Type 0} → (I → InputState) → (S → Sourc
     → InputsState S → InputsState S → VerdictResult → Type 0
 FindsVerdict input source vector p q a b x = InSomeCheck input source p q a b (λ c d. NextVerdictIs p.rules vector c d x)
 
--- the progress of a checker that finds this: a line, the end, or out of memory
+-- what stands for this in `AdvancesCursor` and `MemoryStopHasCause`. There `Ended true` is that no line is left, whether
+-- the manifest is good or not
 abbrev pub progress_of : VerdictResult → Result Progress Stop
 progress_of (Ok (Some v)) = Ok Going
 progress_of (Ok None) = Ok (Ended true)

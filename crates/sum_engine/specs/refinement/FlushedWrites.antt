@@ -31,7 +31,8 @@ outcome_after (Ok u) x = Ok x
 outcome_after (Err e) x = Err Write
 
 -- a call that writes these texts and flushes them, and then returns x; a write fault if that failed
-pub record WritesAndReturns {A : Type 0} (a b : OutputsState) (err out : List ℕ) (x : A) (r : Result A Stop) : Type 0 where
-  pub written : Result (Unit {0}) (Unit {0})
-  pub writes : WritesAndFlushesBoth a b err out written
-  pub returns : r ≡ outcome_after written x
+pub record WritesAndReturns {A : Type 0} (a b : OutputsState) (err out : List ℕ) (x : A) (r : Result A Stop) : Type 0
+  where
+    pub written : Result (Unit {0}) (Unit {0})
+    pub writes : WritesAndFlushesBoth a b err out written
+    pub returns : r ≡ outcome_after written x

@@ -21,5 +21,5 @@ returns-in-Ok-Help-clause-behavior g c =
 pub returns-in-Ok-Version-clause-behavior : goal.returns-in-Ok-Version-clause-behavior
 returns-in-Ok-Version-clause-behavior g c =
     let wrote = c.put_out_message-in-Ok-Version in
-    rw (c.in-Ok-Version.is, c.in-Ok-Version.field-0-is) (Performs-texts g.S.Source.state c.args.streams.now _ [] _ true _
-    (writes_and_returns wrote.result c.status_after_write-in-Ok-Version.ensures wrote.ensures))
+    rw (c.in-Ok-Version.is, c.in-Ok-Version.field-0-is) (Performs-texts g.S.Source.state c.args.streams.now _ [] _ true
+    _ (writes_and_returns wrote.result c.status_after_write-in-Ok-Version.ensures wrote.ensures))

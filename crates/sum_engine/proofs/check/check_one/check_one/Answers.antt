@@ -61,7 +61,7 @@ returns-in-Err-Fault-clause-behavior g c =
     let refusals = rw c.in-Err-Fault.field-0-is at c.in-Err-Fault.ensures.refusals in
     let written = rw c.in-Err-Fault.fault-is at c.put_fault_line-written.ensures in
     refused g.S.Source.state c.args.settings c.args.tool.now c.args.name.now c.args.streams.now g.S.File.Input.state
-    c.open_file.new.self c.in-Err-Fault.ensures.stdin c.in-Err-Fault.fault c.put_fault_line-written.new.outputs c.outcome_after.result
+    c.open_file.new.self c.in-Err-Fault.ensures.stdin c.in-Err-Fault.fault c.put_fault_line-written.new.outputs _
     dash answer refusals (writes_and_returns c.put_fault_line-written.result c.outcome_after.ensures written)
 
 -- it is a file

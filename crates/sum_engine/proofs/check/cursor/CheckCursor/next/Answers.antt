@@ -53,7 +53,8 @@ returns-in-Ignored-clause-step g c =
     (record { inputs = c.next_verdict.new.inputs; outputs = _ }) (labels_in c.args.labels.now) _ c.in-Ok-Some.found
     (Ok Going) (rw is at done.verdict)
     (record { asked = rw is at done.asked; taken = rw is at done.stdin_taken; refusals = rw is at done.out_of_memory })
-    (writes_and_returns {E = Unit {0}} (Ok tt) refl (rw (c.in-Ignored.is, out_by-ignored present c.args.labels.now.report _)
+    (writes_and_returns {E = Unit {0}} (Ok tt) refl
+    (rw (c.in-Ignored.is, out_by-ignored present c.args.labels.now.report _)
     ((refl, refl), λ flushed. (flushed, (Appends-nil _, Appends-nil _)))))
 
 -- a line was found, and its report was written, or a prefix of it
