@@ -40,8 +40,7 @@ def function_at(text, line):
 
 
 def function_of(crate, path):
-    """The function whose proof is in a file, or the file, if it is a lemma's. A trait's name after a type's is left
-    out."""
+    """The function whose proof is in a file, or the file, if it is a lemma's; without a trait's name after a type's."""
     parts = path.split("/")
     for count in range(len(parts) - 1, 0, -1):
         if os.path.exists(os.path.join(TOP, "crates", crate, "src", *parts[:count]) + ".rt") and parts[count:-1]:
@@ -73,11 +72,8 @@ def rows(said):
 
 
 def main():
-    if sys.argv[1:]:
-        with open(sys.argv[1], encoding="utf-8") as it:
-            said = it.read()
-    else:
-        said = subprocess.run(["rt", "must-fail"], cwd=TOP, stdout=subprocess.PIPE, encoding="utf-8").stdout
+    said = text_of(os.path.abspath(sys.argv[1])) if sys.argv[1:] else subprocess.run(
+        ["rt", "must-fail"], cwd=TOP, stdout=subprocess.PIPE, encoding="utf-8").stdout
     found = rows(it.groups() for it in LINE.finditer(said))
     lines = ["|crate|function|clause: wrong versions|", "|---|---|---|"]
     for crate, function in sorted(found, key=lambda it: (crates().index(it[0]), it[1])):
