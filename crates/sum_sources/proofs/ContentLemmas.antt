@@ -2,7 +2,8 @@
 use Rattle.std.proofs.Common.{◌≡◌, ℕ, ◌^◌, ◌<◌, List, [], ◌++◌, length, Option, None, Some, IfSome, Ok, Err, refl, nat_lt, arith}
 use Rattle.std.proofs.lemmas.Bool.{cond-true, lt-ltb}
 use Rattle.digest_kinds.specs.Kinds.{KindValue, digest}
-use Rattle.sum_sources.specs.Contents.{Content, Fault, Whole, Broken, Hashes, clip_to, clip, limit, with_prefix}
+use Rattle.sum_sources.specs.Contents.{Content, Whole, Broken, Hashes, clip_to, clip, limit, with_prefix}
+use Rattle.sum_sources.specs.Faults.{Fault}
 
 -- these bytes were read between the two
 abbrev pub Gave : Content → Content → List ℕ → Type 0

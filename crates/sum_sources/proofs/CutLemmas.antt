@@ -3,13 +3,13 @@ use Rattle.std.proofs.Common.{◌≡◌, ℕ, List, [], ◌∷◌, ◌++◌, ref
 use Rattle.std.proofs.lemmas.Bool.Decides.{eqb_tells}
 use Rattle.std.proofs.lemmas.List.Elements.{All-nil, All-cons, All-head, All-tail}
 use Rattle.sum_sources.specs.declared.fault.Ending.{Ending}
-use Rattle.sum_sources.specs.ManifestLines.{NoNewline, bytes_of_lines, last_line, raw_lines}
+use Rattle.sum_sources.specs.ManifestLines.{HasNoNewline, bytes_of_lines, last_line, raw_lines}
 use Rattle.sum_sources.proofs.LineLemmas.{pieces-newline, pieces-last}
 
 -- the bytes can be cut
 abbrev pub IsCut : List ℕ → Type 0
 IsCut bytes = (ended : List (List ℕ)) × (tail : List ℕ)
-    × (bytes ≡ bytes_of_lines ended tail) × All NoNewline ended × NoNewline tail
+    × (bytes ≡ bytes_of_lines ended tail) × All HasNoNewline ended × HasNoNewline tail
 
 -- the byte is no newline
 abbrev IsPlain : ℕ → Type 0
@@ -19,29 +19,29 @@ IsPlain b = (b == 10) ≡ false
 cut_plain : (b : ℕ) (bs : List ℕ) → IsPlain b → IsCut bs → IsCut (b ∷ bs)
 cut_plain b bs plain ([], tail, is, all, none) = grind arith
 cut_plain b bs plain (p ∷ ps, tail, is, all, none) =
-    let longer : NoNewline (b ∷ p) = All-cons IsPlain b p plain (All-head NoNewline p ps all) in
-    let rest : All NoNewline ps = All-tail NoNewline p ps all in
-    ((b ∷ p) ∷ ps, tail, ap (λ l. b ∷ l) is, All-cons NoNewline (b ∷ p) ps longer rest, none)
+    let longer : HasNoNewline (b ∷ p) = All-cons IsPlain b p plain (All-head HasNoNewline p ps all) in
+    let rest : All HasNoNewline ps = All-tail HasNoNewline p ps all in
+    ((b ∷ p) ∷ ps, tail, ap (λ l. b ∷ l) is, All-cons HasNoNewline (b ∷ p) ps longer rest, none)
 
 -- so a byte before them can be cut, too; a newline begins an empty piece
 cut_more : (b : ℕ) (bs : List ℕ) → IsCut bs → IsCut (b ∷ bs)
 cut_more b bs (ended, tail, is, all, none) = elim (eqb_tells b 10) [
   | inl newline ↦
-      let more : All NoNewline ([] ∷ ended) = All-cons NoNewline [] ended (All-nil IsPlain) all in
+      let more : All HasNoNewline ([] ∷ ended) = All-cons HasNoNewline [] ended (All-nil IsPlain) all in
       ([] ∷ ended, tail, rw newline.1 (ap (λ l. 10 ∷ l) is), more, none)
   | inr other ↦ cut_plain b bs other.0 (ended, tail, is, all, none)
 ]
 
 -- all bytes can be cut
 pub cut : (bytes : List ℕ) → IsCut bytes
-cut [] = ([], [], refl, All-nil NoNewline, All-nil IsPlain)
+cut [] = ([], [], refl, All-nil HasNoNewline, All-nil IsPlain)
 cut (b ∷ bs) = cut_more b bs (cut bs)
 
 -- the pieces of bytes that were cut are those of the cut, and the last line
-pub raw_lines-joined : (ending : Ending) (ended : List (List ℕ)) (tail : List ℕ) → All NoNewline ended → NoNewline tail
+pub raw_lines-joined : (ending : Ending) (ended : List (List ℕ)) (tail : List ℕ) → All HasNoNewline ended → HasNoNewline tail
     → raw_lines (record { bytes = bytes_of_lines ended tail; ending = ending }) ≡ ended ++ last_line ending tail
 raw_lines-joined ending [] tail plain none = pieces-last ending tail none
 raw_lines-joined ending (p ∷ ps) tail plain none =
     simp append_assoc (
-    pieces-newline ending p (bytes_of_lines ps tail) (All-head NoNewline p ps plain)
-    ∙ ap (λ ls. p ∷ ls) (raw_lines-joined ending ps tail (All-tail NoNewline p ps plain) none))
+    pieces-newline ending p (bytes_of_lines ps tail) (All-head HasNoNewline p ps plain)
+    ∙ ap (λ ls. p ∷ ls) (raw_lines-joined ending ps tail (All-tail HasNoNewline p ps plain) none))

@@ -4,7 +4,8 @@ use Rattle.std.proofs.Common.{◌≡◌, ◌∙◌, ℕ, zero, suc, ◌+◌, ◌
 use Rattle.std.proofs.lemmas.Bool.{cond-false, le-ltb, cases_lt}
 use Rattle.std.proofs.lemmas.List.{length-take-le, take-append-le}
 use Rattle.std.proofs.Math.Seq.{take-append-add}
-use Rattle.sum_sources.specs.Contents.{Fault, Other, Broken, Content, limit, clip_to, IfKnown, ReadsFrom, empty_content, with_prefix}
+use Rattle.sum_sources.specs.Faults.{Fault, Other}
+use Rattle.sum_sources.specs.Contents.{Broken, Content, limit, clip_to, IfKnown, ReadsFrom, empty_content, with_prefix}
 use Rattle.sum_sources.proofs.ContentLemmas.{limit-value, clip_to-short}
 
 -- a content of n bytes or more is cut

@@ -6,26 +6,27 @@ use Rattle.std.specs.Str.Lines.{strip_carriage_return}
 use Rattle.std.proofs.lemmas.List.{append-nil}
 use Rattle.std.proofs.lemmas.List.Splits.{slice_split_at, slice_split_none, length-slice_split}
 use Rattle.std.proofs.lemmas.List.Elements.{All-head, All-tail}
-use Rattle.sum_sources.specs.Contents.{Fault, Ending, Whole, Broken, Content, empty_content}
-use Rattle.sum_sources.specs.ManifestLines.{Line, NoMore, last_line, raw_lines, lines, NoNewline, NextLineIs}
+use Rattle.sum_sources.specs.Faults.{Fault}
+use Rattle.sum_sources.specs.Contents.{Ending, Whole, Broken, Content, empty_content}
+use Rattle.sum_sources.specs.ManifestLines.{Line, NoMore, last_line, raw_lines, lines, HasNoNewline, IsNextLine}
 use Rattle.sum_sources.proofs.ContentLemmas.{Gave, Gave-is}
 use Rattle.sum_sources.specs.declared.line_reader.LineStop.TheVariants as stops
 
 -- a newline ends the first piece
-pub pieces-newline : (e : Ending) (piece rest : List ℕ) → NoNewline piece
+pub pieces-newline : (e : Ending) (piece rest : List ℕ) → HasNoNewline piece
     → raw_lines (record { bytes = piece ++ (10 ∷ rest); ending = e })
     ≡ piece ∷ raw_lines (record { bytes = rest; ending = e })
 unfolding raw_lines
 pieces-newline e piece rest none = grind (arith, length-slice_split, slice_split_at)
 
 -- bytes without a newline are the last piece
-pub pieces-last : (e : Ending) (piece : List ℕ) → NoNewline piece
+pub pieces-last : (e : Ending) (piece : List ℕ) → HasNoNewline piece
     → raw_lines (record { bytes = piece; ending = e }) ≡ last_line e piece
 unfolding raw_lines
 pieces-last e piece none = rw (slice_split_none (λ b. b == 10) piece none) refl
 
 -- the first newline is past a piece that has none
-after_piece : (piece rest : List ℕ) → NoNewline piece
+after_piece : (piece rest : List ℕ) → HasNoNewline piece
     → after_first (λ b. b == 10) (piece ++ rest) ≡ after_first (λ b. b == 10) rest
 after_piece [] rest none = refl
 after_piece (b ∷ bs) rest none =
@@ -40,24 +41,24 @@ pub lines-nil : (e : Ending) → lines (record { bytes = []; ending = e }) ≡ [
 lines-nil e = ap (map strip_carriage_return) (pieces-nil e)
 
 -- a newline ends the first line
-pub NextLineIs-ended : (c d : Content) (piece : List ℕ) → NoNewline piece → Gave c d (piece ++ 10 ∷ [])
-    → NextLineIs c d (Ok Line) (strip_carriage_return piece)
-NextLineIs-ended c d piece none gave = grind (arith, append_assoc, after_piece, pieces-newline)
+pub IsNextLine-ended : (c d : Content) (piece : List ℕ) → HasNoNewline piece → Gave c d (piece ++ 10 ∷ [])
+    → IsNextLine c d (Ok Line) (strip_carriage_return piece)
+IsNextLine-ended c d piece none gave = grind (arith, append_assoc, after_piece, pieces-newline)
 
 -- a last piece that isn't empty is the only line left
-pub NextLineIs-last : (c : Content) (piece : List ℕ) → NoNewline piece → 0 < length piece → Gave c empty_content piece
-    → NextLineIs c empty_content (Ok Line) (strip_carriage_return piece)
-NextLineIs-last c piece none some gave = search (rules, after_piece, pieces-last)
+pub IsNextLine-last : (c : Content) (piece : List ℕ) → HasNoNewline piece → 0 < length piece → Gave c empty_content piece
+    → IsNextLine c empty_content (Ok Line) (strip_carriage_return piece)
+IsNextLine-last c piece none some gave = search (rules, after_piece, pieces-last)
 
 -- if nothing remains, there is no line
-pub NextLineIs-none : (c : Content) (line : List ℕ) → Gave c empty_content []
-    → NextLineIs c empty_content (Ok NoMore) line
-NextLineIs-none c line gave = rw (Gave-is c empty_content [] gave) (lines-nil Whole, refl)
+pub IsNextLine-none : (c : Content) (line : List ℕ) → Gave c empty_content []
+    → IsNextLine c empty_content (Ok NoMore) line
+IsNextLine-none c line gave = rw (Gave-is c empty_content [] gave) (lines-nil Whole, refl)
 
 -- a fault leaves no line, whatever precedes it
-pub NextLineIs-fault : (c d : Content) (f : Fault) (piece : List ℕ) → NoNewline piece
-    → Gave c (record { bytes = []; ending = Broken f }) piece → NextLineIs c d (Err (stops.Fault f)) []
-NextLineIs-fault c d f piece none gave =
+pub IsNextLine-fault : (c d : Content) (f : Fault) (piece : List ℕ) → HasNoNewline piece
+    → Gave c (record { bytes = []; ending = Broken f }) piece → IsNextLine c d (Err (stops.Fault f)) []
+IsNextLine-fault c d f piece none gave =
     rw (Gave-is c (record { bytes = []; ending = Broken f }) piece gave, append-nil)
     (ap (map strip_carriage_return) (pieces-last (Broken f) piece none), refl)
 
@@ -66,5 +67,5 @@ some_bytes : (bytes line : List ℕ) (e : Ending) (ls : List (List ℕ))
     → lines (record { bytes = bytes; ending = e }) ≡ line ∷ ls → 0 < length bytes
 some_bytes bytes line e ls is = grind (arith, common_steps, lines-nil)
 
-pub line-some : (c d : Content) (line : List ℕ) → NextLineIs c d (Ok Line) line → 0 < length c.bytes
+pub line-some : (c d : Content) (line : List ℕ) → IsNextLine c d (Ok Line) line → 0 < length c.bytes
 line-some c d line is = some_bytes c.bytes line c.ending (lines d) is.0

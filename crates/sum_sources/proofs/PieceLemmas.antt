@@ -5,7 +5,7 @@ use Rattle.std.proofs.lemmas.Bool.{false_from_ne_true}
 use Rattle.std.proofs.lemmas.List.Elements.{All-from_get_or}
 use Rattle.std.proofs.Math.Seq.{split_at, take-length}
 use Rattle.memchr.specs.Find.{Nowhere, Passes, is_byte}
-use Rattle.sum_sources.specs.ManifestLines.{NoNewline}
+use Rattle.sum_sources.specs.ManifestLines.{HasNoNewline}
 
 -- how many bytes are between the buffer's places
 pub length-buffered : (buf : List ℕ) (s e : ℕ) → s ≤ e → e ≤ length buf → length (take (e - s) (drop s buf)) ≡ e - s
@@ -17,13 +17,13 @@ some_buffered buf s e low high = rw (length-buffered buf s e (omega arith) high)
 
 -- the bytes before the first newline that is found have none
 pub plain_prefix : (bytes : List ℕ) (n : ℕ) → n ≤ length bytes → Nowhere (Passes (is_byte 10) bytes) 0 n
-    → NoNewline (take n bytes)
+    → HasNoNewline (take n bytes)
 plain_prefix bytes n few none = All-from_get_or (λ b. (b == 10) ≡ false) (take n bytes) 0 (λ k low.
     let below : k < n = omega (arith, low, length-take-le n bytes few) in
     rw (get_or-take n bytes k 0 below) (false_from_ne_true _ (none k (omega arith) below)))
 
 -- nor have all bytes, if none is found
-pub plain_piece : (bytes : List ℕ) → Nowhere (Passes (is_byte 10) bytes) 0 (length bytes) → NoNewline bytes
+pub plain_piece : (bytes : List ℕ) → Nowhere (Passes (is_byte 10) bytes) 0 (length bytes) → HasNoNewline bytes
 plain_piece bytes none = rw take-length at (plain_prefix bytes (length bytes) (omega arith) none)
 
 -- the buffer is cut at a newline

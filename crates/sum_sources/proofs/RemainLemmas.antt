@@ -1,8 +1,8 @@
 -- Contents that may remain, and what may have remained before them.
 use Rattle.std.proofs.Common.{◌≡◌, ℕ, ◌+◌, ◌-◌, ◌^◌, ◌<◌, ◌≤◌, List, length, Option, None, Some, IfSome, MatchOption, Result, OnOk, option_map, refl, subst, arith, length-append}
 use Rattle.sum_sources.specs.Contents.{Content, Whole, InputState, IfKnown, limit, clip_to, with_prefix}
-use Rattle.sum_sources.specs.ManifestLines.{Next, LineStop, NextLineIs}
-use Rattle.sum_sources.specs.LineReaders.{LineReaderValue, MayRemain, remaining_content, consumed}
+use Rattle.sum_sources.specs.ManifestLines.{Next, LineStop, IsNextLine}
+use Rattle.sum_sources.specs.LineReaders.{LineReaderValue, MayRemain, remaining_content, consumed_count}
 use Rattle.sum_sources.proofs.ContentLemmas.{Gave, limit-value}
 use Rattle.sum_sources.proofs.LimitLemmas.{length-clip_to}
 
@@ -11,7 +11,7 @@ pub MayRemain-known : {I : Type 0} (state : I → InputState) (r : LineReaderVal
     → (c : Content) × MayRemain state r c × P c → IfSome (remaining_content state r) P
 MayRemain-known state r P some = by (remaining_content state r) some.0 some.1 some.2
   where
-    by : (x : Option Content) (c : Content) → MatchOption x (consumed r + length c.bytes < limit) (λ d. c ≡ d) → P c
+    by : (x : Option Content) (c : Content) → MatchOption x (consumed_count r + length c.bytes < limit) (λ d. c ≡ d) → P c
         → IfSome x P
     by None c may p = tt
     by (Some d) c is p = subst P is p
@@ -42,8 +42,8 @@ some_ahead (Some c) ahead taken few some =
 pub some_line : (F : Type 0) (x y : Option Content) (r : Result Next LineStop) (line bytes : List ℕ) (n m : ℕ) (d e : Content)
     → IfKnown x y (λ c d. Gave c d bytes) → MatchOption y F (λ b. d ≡ b) → n + (length bytes + length d.bytes) < 2 ^ 61
     → OnOk r (m + length e.bytes ≡ n + (length bytes + length d.bytes))
-    → ((c : Content) → Gave c d bytes → NextLineIs c e r line)
-    → (c : Content) × MatchOption x (n + length c.bytes < limit) (λ a. c ≡ a) × NextLineIs c e r line
+    → ((c : Content) → Gave c d bytes → IsNextLine c e r line)
+    → (c : Content) × MatchOption x (n + length c.bytes < limit) (λ a. c ≡ a) × IsNextLine c e r line
     × OnOk r (m + length e.bytes ≡ n + length c.bytes)
 some_line F None y r line bytes n m d e read known fits sum of =
     let c = with_prefix bytes d in

@@ -1,6 +1,9 @@
 -- Inputs and sources in memory.
 use Rattle.std.specs.Prelude.{ℕ, List, [], ◌∷◌, if◌then◌else◌, bytes_eq, Err}
-use Rattle.sum_sources.specs.Contents.{NotFound, Content, Reply, KnownSource}
+use Rattle.digest_kinds.specs.Basics.{ByteString}
+use Rattle.sum_sources.specs.Contents.{Content}
+use Rattle.sum_sources.specs.Faults.{NotFound}
+use Rattle.sum_sources.specs.Sources.{Reply, KnownSource, FileCounts}
 use Rattle.sum_sources.specs.Phases.{Phase}
 
 -- an input in memory
@@ -11,22 +14,20 @@ pub record ToldContent : Type 0 where
 
 -- a name with the reply to it
 pub record Pair : Type 0 where
-  pub name : List ℕ
+  pub name : ByteString
   pub reply : Reply
 
 -- the reply of the first pair with the name; a name without a pair is not found
-abbrev pub first_reply : List Pair → List ℕ → Reply
+abbrev pub first_reply : List Pair → ByteString → Reply
 first_reply [] name = Err NotFound
 first_reply (p ∷ ps) name = if bytes_eq p.name name then p.reply else first_reply ps name
 
 -- a source in memory
 pub record ToldFiles : Type 0 where
   pub pairs : List Pair  -- in the order in which they were added
-  pub asked : List (List ℕ)  -- the names asked
+  pub asked : List ByteString  -- the names asked
   pub piece : ℕ  -- the most bytes that one read of its files gives
-  pub refusals : ℕ
-  pub opened : ℕ
-  pub ended : ℕ
+  pub counts : FileCounts
 
 -- what is known of it
 abbrev pub known_source : ToldFiles → KnownSource

@@ -4,4 +4,6 @@ pub mod InMemory
 pub mod LineReaders
 pub mod ManifestLines
 pub mod Phases
+pub mod Sources
+pub mod StandardInput
 pub mod refinement

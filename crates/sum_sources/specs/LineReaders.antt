@@ -1,24 +1,26 @@
 -- The state of a reader of lines, and what a call changes in it.
-use Rattle.std.specs.Prelude.{ℕ, ◌≡◌, ◌+◌, ◌-◌, ◌^◌, ◌<◌, ◌≤◌, ◌⊎◌, ⊤, List, [], length, Option, None, Some, Result, Ok, Err, OnOk, MatchOption, option_map}
-use Rattle.sum_sources.specs.Contents.{Fault, Broken, Content, InputState, limit, clip_to, empty_content, with_prefix}
-use Rattle.sum_sources.specs.ManifestLines.{Next, Line, NoMore, LineStop, NoNewline, NextLineIs, lines_after}
-use Rattle.sum_sources.specs.Phases.{Phase, Reading, Ended}
+use Rattle.std.specs.Prelude.{ℕ, ◌≡◌, ◌+◌, ◌-◌, ◌^◌, ◌<◌, ◌≤◌, ◌⊎◌, ⊤, [], length, Option, None, Some, Result, Ok, Err, OnOk, MatchOption, option_map}
+use Rattle.digest_kinds.specs.Basics.{ByteString}
+use Rattle.sum_sources.specs.Contents.{Broken, Content, InputState, limit, clip_to, empty_content, with_prefix}
+use Rattle.sum_sources.specs.Faults.{Fault}
+use Rattle.sum_sources.specs.ManifestLines.{Next, Line, NoMore, LineStop, HasNoNewline, IsNextLine, lines_after}
+use Rattle.sum_sources.specs.Phases.{Phase, Unfinished, AtEnd}
 use Rattle.sum_sources.specs.declared.line_reader.LineStop.TheVariants as stops
 
 -- a reader of lines
 pub record LineReaderValue (I : Type 0) : Type 0 where
   pub input : I  -- its input, past the bytes that were read from it
-  pub ahead : List ℕ  -- of these bytes, those that were not moved into a line
+  pub ahead : ByteString  -- of these bytes, those that were not moved into a line
   pub taken : ℕ  -- how many bytes were read from the input
   pub lines : ℕ  -- how many lines were returned
   pub final_answer : Option (Result Next LineStop)  -- what every later call returns, if that is settled
 
 -- how many bytes made up lines, newlines included; after a stop also those of a line that was begun
-abbrev pub consumed : {I : Type 0} → LineReaderValue I → ℕ
-consumed r = r.taken - length r.ahead
+abbrev pub consumed_count : {I : Type 0} → LineReaderValue I → ℕ
+consumed_count r = r.taken - length r.ahead
 
 -- what holds of every reader: each line consumed a byte at least, at most 8,192 bytes are ahead, and taken is bounded
-pub record Bounded {I : Type 0} (r : LineReaderValue I) : Type 0 where
+pub record IsBounded {I : Type 0} (r : LineReaderValue I) : Type 0 where
   pub lines : r.lines + length r.ahead ≤ r.taken
   pub ahead : length r.ahead ≤ 8192
   pub taken : r.taken ≤ 2 ^ 61
@@ -26,48 +28,48 @@ pub record Bounded {I : Type 0} (r : LineReaderValue I) : Type 0 where
   pub under : (r.taken < 2 ^ 61) ⊎ ((f : Fault) × (r.final_answer ≡ Some (Err (stops.Fault f))))
 
 -- the remaining content, given the final answer: nothing after the end, and just the fault after a fault
-abbrev pub left_by : Option (Result Next LineStop) → Option Content → Option Content
-left_by (Some (Ok n)) c = Some empty_content
-left_by (Some (Err (stops.Fault f))) c = Some (record { bytes = []; ending = Broken f })
-left_by _ c = c
+abbrev pub remaining_by : Option (Result Next LineStop) → Option Content → Option Content
+remaining_by (Some (Ok n)) c = Some empty_content
+remaining_by (Some (Err (stops.Fault f))) c = Some (record { bytes = []; ending = Broken f })
+remaining_by _ c = c
 
 -- the remaining content, if known: the bytes read ahead and then the input's content, as far as the limit allows
 abbrev pub remaining_content : {I : Type 0} → (I → InputState) → LineReaderValue I → Option Content
 remaining_content state r =
-    left_by r.final_answer (option_map (λ c. with_prefix r.ahead (clip_to (limit - r.taken) c)) (state r.input).content)
+    remaining_by r.final_answer (option_map (λ c. with_prefix r.ahead (clip_to (limit - r.taken) c)) (state r.input).content)
 
 -- a content that may remain: the known one, or any that the limit allows
 abbrev pub MayRemain : {I : Type 0} → (I → InputState) → LineReaderValue I → Content → Type 0
-MayRemain state r c = MatchOption (remaining_content state r) (consumed r + length c.bytes < limit) (λ d. c ≡ d)
+MayRemain state r c = MatchOption (remaining_content state r) (consumed_count r + length c.bytes < limit) (λ d. c ≡ d)
 
 -- the next line was read: each content that may remain is what it left of one that may have remained; and if `Ok`,
 -- bytes consumed and remaining add up to the same
 abbrev pub ReadsSomeLine : {I : Type 0} → (I → InputState) → LineReaderValue I → LineReaderValue I
-    → Result Next LineStop → List ℕ → Type 0
+    → Result Next LineStop → ByteString → Type 0
 ReadsSomeLine state old new result line = (d : Content) → MayRemain state new d → (c : Content) × MayRemain state old c
-    × NextLineIs c d result line × OnOk result (consumed new + length d.bytes ≡ consumed old + length c.bytes)
+    × IsNextLine c d result line × OnOk result (consumed_count new + length d.bytes ≡ consumed_count old + length c.bytes)
 
 -- what every later call returns, once this was returned: after a line nothing is settled, or the end; after the end or
 -- a stop, the same
-abbrev pub FinalAnswerAfter : Result Next LineStop → Option (Result Next LineStop) → Type 0
-FinalAnswerAfter (Ok Line) later = (later ≡ None) ⊎ (later ≡ Some (Ok NoMore))
-FinalAnswerAfter answer later = later ≡ Some answer
+abbrev pub IsFinalAnswerAfter : Result Next LineStop → Option (Result Next LineStop) → Type 0
+IsFinalAnswerAfter (Ok Line) later = (later ≡ None) ⊎ (later ≡ Some (Ok NoMore))
+IsFinalAnswerAfter answer later = later ≡ Some answer
 
 -- an input of this phase was read as far as the final answer says: it is being read until there is one, and at its end
 -- if that is an end; a stop says nothing
-abbrev pub ReadSoFar : Option (Result Next LineStop) → Phase → Type 0
-ReadSoFar None phase = phase ≡ Reading
-ReadSoFar (Some (Ok n)) phase = phase ≡ Ended
-ReadSoFar (Some (Err e)) phase = ⊤
+abbrev pub MatchesPhase : Option (Result Next LineStop) → Phase → Type 0
+MatchesPhase None phase = phase ≡ Unfinished
+MatchesPhase (Some (Ok n)) phase = phase ≡ AtEnd
+MatchesPhase (Some (Err e)) phase = ⊤
 
 -- the reader's input was read as far as its answers say
 abbrev pub IsReadSoFar : {I : Type 0} → (I → InputState) → LineReaderValue I → Type 0
-IsReadSoFar state r = ReadSoFar r.final_answer (state r.input).phase
+IsReadSoFar state r = MatchesPhase r.final_answer (state r.input).phase
 
 -- what a call of next_line changes in a reader, known or not
 pub record AdvancesLines {I : Type 0} (state : I → InputState) (old new : LineReaderValue I)
     (result : Result Next LineStop) : Type 0 where
-  pub final_answer : FinalAnswerAfter result new.final_answer  -- what later calls return
+  pub final_answer : IsFinalAnswerAfter result new.final_answer  -- what later calls return
   pub lines : new.lines ≡ lines_after old.lines result  -- a line that is returned is counted
-  pub ahead : ¬ NoNewline old.ahead → new.input ≡ old.input  -- the input isn't read if a whole line was read ahead
+  pub ahead : ¬ HasNoNewline old.ahead → new.input ≡ old.input  -- the input isn't read if a whole line was read ahead
   pub phase : IsReadSoFar state old → IsReadSoFar state new  -- nor is it read again after its end

@@ -2,6 +2,7 @@
 use Rattle.std.specs.Prelude.{ℕ, zero, suc, ◌≡◌, ◌+◌, ◌==◌, false, List, [], ◌∷◌, ◌++◌, map, All, ◌<◌, ◌-◌, take, length, slice_index_or, Result, Ok, Err, flat_map}
 use Rattle.std.specs.List.{slice_split, after_first}
 use Rattle.std.specs.Str.Lines.{strip_carriage_return}
+use Rattle.digest_kinds.specs.Basics.{ByteString}
 use Rattle.sum_sources.specs.Contents.{Ending, Whole, Broken, Content}
 pub use Rattle.sum_sources.specs.declared.line_reader.Next.{Next}
 pub use Rattle.sum_sources.specs.declared.line_reader.Next.TheVariants.{Line, NoMore}
@@ -9,17 +10,17 @@ pub use Rattle.sum_sources.specs.declared.line_reader.LineStop.{LineStop}
 use Rattle.sum_sources.specs.declared.line_reader.LineStop.TheVariants as stops
 
 -- the last piece, which no newline ended, is a line if it isn't empty and the content ends whole
-abbrev pub last_line : Ending → List ℕ → List (List ℕ)
+abbrev pub last_line : Ending → ByteString → List ByteString
 last_line Whole (b ∷ bs) = (b ∷ bs) ∷ []
 last_line _ _ = []
 
 -- the lines of a content with their carriage returns: each piece that a newline ended, and the last one by its own rule
-unfoldable pub raw_lines : Content → List (List ℕ)
+unfoldable pub raw_lines : Content → List ByteString
 raw_lines c = let all = slice_split (λ b. b == 10) c.bytes in
     take (length all - 1) all ++ last_line c.ending (slice_index_or all (length all - 1) [])
 
 -- the lines of a content: each without one carriage return at its end, if it has one
-abbrev pub lines : Content → List (List ℕ)
+abbrev pub lines : Content → List ByteString
 lines c = map strip_carriage_return (raw_lines c)
 
 -- the content past the first line
@@ -27,20 +28,20 @@ abbrev pub past_line : Content → Content
 past_line c = record { bytes = after_first (λ b. b == 10) c.bytes; ending = c.ending }
 
 -- no byte is a newline
-abbrev pub NoNewline : List ℕ → Type 0
-NoNewline piece = All (λ b. (b == 10) ≡ false) piece
+abbrev pub HasNoNewline : ByteString → Type 0
+HasNoNewline piece = All (λ b. (b == 10) ≡ false) piece
 
 -- these pieces, each ended by a newline, and then the tail
-abbrev pub bytes_of_lines : List (List ℕ) → List ℕ → List ℕ
+abbrev pub bytes_of_lines : List ByteString → ByteString → ByteString
 bytes_of_lines ended tail = flat_map (λ piece. piece ++ 10 ∷ []) ended ++ tail
 
 -- what next_line returns: the first line, and the content past it remains; or that none remains, by the ending; or that
 -- memory was refused, only if something remains
-abbrev pub NextLineIs : Content → Content → Result Next LineStop → List ℕ → Type 0
-NextLineIs c d (Ok Line) line = (lines c ≡ line ∷ lines d) × (d ≡ past_line c)
-NextLineIs c d (Ok NoMore) line = (lines c ≡ []) × (c.ending ≡ Whole)
-NextLineIs c d (Err (stops.Fault f)) line = (lines c ≡ []) × (c.ending ≡ Broken f)
-NextLineIs c d (Err stops.Memory) line = 0 < length c.bytes
+abbrev pub IsNextLine : Content → Content → Result Next LineStop → ByteString → Type 0
+IsNextLine c d (Ok Line) line = (lines c ≡ line ∷ lines d) × (d ≡ past_line c)
+IsNextLine c d (Ok NoMore) line = (lines c ≡ []) × (c.ending ≡ Whole)
+IsNextLine c d (Err (stops.Fault f)) line = (lines c ≡ []) × (c.ending ≡ Broken f)
+IsNextLine c d (Err stops.Memory) line = 0 < length c.bytes
 
 -- only a line changes the count of lines
 abbrev pub lines_after : ℕ → Result Next LineStop → ℕ

@@ -25,6 +25,9 @@ pub enum Fault {
 // The text of a reason that isn't known, and that of the system's number 5, EIO.
 const OTHER: &str = "Input/output error";
 
+/// The system's number for a descriptor that isn't open.
+pub const EBADF: i32 = 9;
+
 // No such file or directory.
 const ENOENT: i32 = 2;
 
@@ -114,7 +117,7 @@ fn file_reason(number: i32) -> Option<&'static str>
         3 => Some("No such process"),
         4 => Some("Interrupted system call"),
         6 => Some("No such device or address"),
-        9 => Some("Bad file descriptor"),
+        EBADF => Some("Bad file descriptor"),
         11 => Some("Resource temporarily unavailable"),
         12 => Some("Cannot allocate memory"),
         16 => Some("Device or resource busy"),

@@ -2,10 +2,10 @@
 
 pub(crate) mod closable;
 pub(crate) mod from_read;
+mod from_read_uninterrupted;
 pub(crate) mod hash_input;
 pub(crate) mod input;
 pub(crate) mod phase;
 pub(crate) mod size_limit;
 pub(crate) mod stdin;
 pub(crate) mod told;
-mod uninterrupted;

@@ -14,8 +14,8 @@ pub mod laws;
 mod line_reader;
 mod sources;
 
-pub use fault::{Ending, Fault, NoRoom};
-pub use inputs::closable::{Closable, EBADF};
+pub use fault::{EBADF, Ending, Fault, NoRoom};
+pub use inputs::closable::Closable;
 pub use inputs::from_read::FromRead;
 pub use inputs::hash_input::{hash_input, hash_input_over};
 pub use inputs::input::{Input, PIECE};
@@ -23,6 +23,7 @@ pub use inputs::phase::Phase;
 pub use inputs::stdin::{Given, Stdin};
 pub use inputs::told::Told;
 pub use line_reader::{LineReader, LineStop, Next};
+pub use sources::file_counts::FileCounts;
 pub use sources::files::Files;
 pub use sources::source::{OpenFault, Source};
 pub use sources::told_source::{Answer, ToldSource};

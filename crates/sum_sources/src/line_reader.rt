@@ -2,7 +2,7 @@
 ghost use Rattle.std.specs.Prelude.{◌≡◌, ◌≤◌, ◌<◌, ◌+◌, ◌^◌, [], true, false, length};
 ghost use Rattle.std.specs.Prelude.{None, Some, Err, IfOk, IfSome, IsErr, MatchResult, if◌then◌else◌};
 ghost use Rattle.std.specs.Str.Lines.{strip_carriage_return};
-ghost use Rattle.sum_sources.specs.Contents.{IfKnown};
+ghost use Rattle.sum_sources.specs.Contents.{IfKnown, KeepsTotal};
 
 use crate::inputs::size_limit::read_limited;
 use crate::{Fault, Input, PIECE, Phase};
@@ -21,7 +21,7 @@ pub enum Next {
 }
 
 /// Why there is no next line: the input ended by this `Fault`, after every line that a newline ended; or there was no
-/// `Memory` for the line, or to open the file that the line names.
+/// `Memory` for the line.
 #[derive(Clone, Copy, Debug, PartialEq, Eq, Error)]
 pub enum LineStop {
     #[error(transparent)]
@@ -38,7 +38,7 @@ enum ReaderState {
 }
 
 /// Reads an input line by line, at most [`PIECE`](crate::PIECE) bytes ahead.
-#[derive(Drop)]
+#[derive(Debug, Drop)]
 pub struct LineReader<I> {
     input: I,
     // how many bytes were read from the input
@@ -75,10 +75,10 @@ fn drop_return<A: Allocator>(line: &mut Vec<u8, A>)
 impl<I: Input> LineReader<I> {
     ghost use Rattle.std.specs.Option.{option_map};
     ghost use Rattle.sum_sources.specs.Contents.{clip};
-    ghost use Rattle.sum_sources.specs.ManifestLines.{NoNewline};
-    ghost use Rattle.sum_sources.specs.LineReaders.{remaining_content, consumed, Bounded, FinalAnswerAfter};
+    ghost use Rattle.sum_sources.specs.ManifestLines.{HasNoNewline};
+    ghost use Rattle.sum_sources.specs.LineReaders.{remaining_content, consumed_count, IsBounded, IsFinalAnswerAfter};
     ghost use Rattle.sum_sources.specs.LineReaders.{AdvancesLines, IsReadSoFar, ReadsSomeLine};
-    ghost use Rattle.sum_sources.specs.refinement.LineStates.{FillOf, TakesPiece};
+    ghost use Rattle.sum_sources.specs.refinement.LineStates.{FillsBuffer, TakesPiece};
 
     /// A reader of the lines of `input`. An input of `LIMIT` bytes or more counts as its first
     /// `LIMIT - 1` bytes and then `Fault::Other`.
@@ -124,16 +124,16 @@ impl<I: Input> LineReader<I> {
         requires empty { self.old.ahead ≡ [] }
         requires going { self.old.final_answer ≡ None }
         ensures content { IfKnown (remaining_content I.state self.old) (remaining_content I.state self.new)
-            (λ c d. FillOf c d result) }
+            (λ c d. FillsBuffer c d result) }
         ensures more { result ≡ Ok true → self.old.taken < self.new.taken }
-        ensures consumed { IfOk result (λ _. consumed self.new ≡ consumed self.old) }
-        ensures input { result ≡ Ok true → IfKnown (I.state self.old.input).content (I.state self.new.input).content
-            (λ c d. self.new.taken + length d.bytes ≡ self.old.taken + length c.bytes) }
+        ensures consumed { IfOk result (λ _. consumed_count self.new ≡ consumed_count self.old) }
+        ensures total { result ≡ Ok true → KeepsTotal self.old.taken (I.state self.old.input)
+            self.new.taken (I.state self.new.input) }
         ensures lines { self.new.lines ≡ self.old.lines }
         ensures final_answer { MatchResult result (λ _. self.new.final_answer ≡ None)
             (λ fault. self.new.final_answer ≡ Some (Err (LineStop.Fault fault))) }
-        ensures phase { IfOk result (λ more. (I.state self.old.input).phase ≡ Phase.Reading
-            → (I.state self.new.input).phase ≡ (if more then Phase.Reading else Phase.Ended)) }
+        ensures phase { IfOk result (λ more. (I.state self.old.input).phase ≡ Phase.Unfinished
+            → (I.state self.new.input).phase ≡ (if more then Phase.Unfinished else Phase.AtEnd)) }
     {
         self.start = 0;
         self.end = 0;
@@ -154,8 +154,8 @@ impl<I: Input> LineReader<I> {
         ensures piece { IfOk result (λ ended.
             TakesPiece ended self.old.ahead self.new.ahead line.old.items line.new.items) }
         ensures memory { IsErr result → (self.new ≡ self.old) × (0 < length self.old.ahead) }
-        ensures consumed { IfOk result (λ ended. consumed self.new + length line.old.items
-            ≡ consumed self.old + length line.new.items + (if ended then 1 else 0)) }
+        ensures consumed { IfOk result (λ ended. consumed_count self.new + length line.old.items
+            ≡ consumed_count self.old + length line.new.items + (if ended then 1 else 0)) }
         ensures same { self.new ≡ record self.old { ahead = self.new.ahead } }
         ensures few { (self.new.taken < 2 ^ 61) × (length self.old.ahead ≤ self.new.taken) }
     {
@@ -182,14 +182,13 @@ impl<I: Input> LineReader<I> {
         requires empty { line.old.items ≡ [] }
         requires going { self.old.final_answer ≡ None }
         ensures line { ReadsSomeLine I.state self.old self.new result (strip_carriage_return line.new.items) }
-        ensures input { self.new.final_answer ≡ None
-            → IfKnown (I.state self.old.input).content (I.state self.new.input).content
-            (λ c d. self.new.taken + length d.bytes ≡ self.old.taken + length c.bytes) }
-        ensures some { result ≡ Ok Next.Line → consumed self.old < consumed self.new }
+        ensures total { self.new.final_answer ≡ None → KeepsTotal self.old.taken (I.state self.old.input)
+            self.new.taken (I.state self.new.input) }
+        ensures some { result ≡ Ok Next.Line → consumed_count self.old < consumed_count self.new }
         ensures lines { self.new.lines ≡ self.old.lines }
-        ensures final_answer { FinalAnswerAfter result self.new.final_answer }
+        ensures final_answer { IsFinalAnswerAfter result self.new.final_answer }
         ensures phase { IsReadSoFar I.state self.old → IsReadSoFar I.state self.new }
-        ensures ahead { ¬ NoNewline self.old.ahead → self.new.input ≡ self.old.input }
+        ensures ahead { ¬ HasNoNewline self.old.ahead → self.new.input ≡ self.old.input }
     {
         loop {
             match self.take_piece(line) {
@@ -227,11 +226,10 @@ impl<I: Input> LineReader<I> {
         // Known or not: the lines counted, how far the input was read, and which answers are final.
         ensures reader { AdvancesLines I.state self.old self.new result }
         // Bytes taken and bytes that remain in the input add up to the same.
-        ensures input { self.new.final_answer ≡ None
-            → IfKnown (I.state self.old.input).content (I.state self.new.input).content
-            (λ c d. self.new.taken + length d.bytes ≡ self.old.taken + length c.bytes) }
+        ensures total { self.new.final_answer ≡ None → KeepsTotal self.old.taken (I.state self.old.input)
+            self.new.taken (I.state self.new.input) }
         // At most 8192 bytes are read ahead of the lines, and no count passes its limit.
-        ensures bounds { Bounded self.new }
+        ensures bounds { IsBounded self.new }
     {
         match self.state {
             ReaderState::Done => return Ok(Next::NoMore),

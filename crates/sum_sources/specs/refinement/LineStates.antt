@@ -1,10 +1,12 @@
 -- The view of a reader of lines, its invariant, and what its steps change.
-use Rattle.std.specs.Prelude.{◌≡◌, ◌+◌, ◌-◌, ◌^◌, ◌<◌, ◌≤◌, ◌⊎◌, take, drop, Option, None, Some, Result, Ok, Err, Bool, true, false, ℕ, List, [], ◌∷◌, ◌++◌}
-use Rattle.sum_sources.specs.Contents.{Fault, Broken, Content, empty_content}
+use Rattle.std.specs.Prelude.{◌≡◌, ◌+◌, ◌-◌, ◌^◌, ◌<◌, ◌≤◌, ◌⊎◌, take, drop, Option, None, Some, Result, Ok, Err, Bool, true, false, [], ◌∷◌, ◌++◌}
+use Rattle.sum_sources.specs.Contents.{Broken, Content, empty_content}
+use Rattle.sum_sources.specs.Faults.{Fault}
+use Rattle.digest_kinds.specs.Basics.{ByteString}
 use Rattle.sum_sources.specs.declared.line_reader.LineReader.TheInside.{Inside}
 use Rattle.sum_sources.specs.declared.line_reader.ReaderState.{ReaderState}
 use Rattle.sum_sources.specs.declared.line_reader.ReaderState.TheVariants.{Active, Done, Stopped}
-use Rattle.sum_sources.specs.ManifestLines.{Next, NoMore, LineStop, NoNewline}
+use Rattle.sum_sources.specs.ManifestLines.{Next, NoMore, LineStop, HasNoNewline}
 use Rattle.sum_sources.specs.LineReaders.{LineReaderValue}
 use Rattle.sum_sources.specs.declared.line_reader.LineStop.TheVariants as stops
 
@@ -34,13 +36,13 @@ pub record LineReaderInvariant {I : Type 0} (s : Inside I) : Type 0 where
   pub wants : s.state ≡ Stopped stops.Memory → s.start < s.end
 
 -- filling the empty buffer: the remaining content stays, or nothing remains, by the ending
-abbrev pub FillOf : Content → Content → Result Bool Fault → Type 0
-FillOf c d (Ok true) = d ≡ c
-FillOf c d (Ok false) = c ≡ empty_content
-FillOf c d (Err f) = c ≡ record { bytes = []; ending = Broken f }
+abbrev pub FillsBuffer : Content → Content → Result Bool Fault → Type 0
+FillsBuffer c d (Ok true) = d ≡ c
+FillsBuffer c d (Ok false) = c ≡ empty_content
+FillsBuffer c d (Err f) = c ≡ record { bytes = []; ending = Broken f }
 
 -- a piece moves from the front of the buffer to the line's end: up to a newline, which is dropped, or the whole buffer
-abbrev pub TakesPiece : Bool → List ℕ → List ℕ → List ℕ → List ℕ → Type 0
-TakesPiece true old new line line' = (piece : List ℕ) × NoNewline piece × (old ≡ piece ++ (10 ∷ new))
+abbrev pub TakesPiece : Bool → ByteString → ByteString → ByteString → ByteString → Type 0
+TakesPiece true old new line line' = (piece : ByteString) × HasNoNewline piece × (old ≡ piece ++ (10 ∷ new))
     × (line' ≡ line ++ piece)
-TakesPiece false old new line line' = NoNewline old × (new ≡ []) × (line' ≡ line ++ old)
+TakesPiece false old new line line' = HasNoNewline old × (new ≡ []) × (line' ≡ line ++ old)

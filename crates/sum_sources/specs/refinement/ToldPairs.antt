@@ -3,7 +3,7 @@ use Rattle.std.specs.Prelude.{Ok, Err}
 use Rattle.sum_sources.specs.declared.sources.told_source.Answer.{Answer}
 use Rattle.sum_sources.specs.declared.sources.told_source.StoredPair.{StoredPair}
 use Rattle.sum_sources.specs.InMemory.{Pair}
-use Rattle.sum_sources.specs.Contents.{Reply}
+use Rattle.sum_sources.specs.Sources.{Reply}
 use Rattle.sum_sources.specs.declared.sources.told_source.Answer.TheVariants as answers
 
 -- the reply that an answer means

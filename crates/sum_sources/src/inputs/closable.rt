@@ -1,14 +1,12 @@
 //! An input that may be closed from the start.
 ghost use Rattle.std.specs.Prelude.{◌≡◌};
-ghost use Rattle.sum_sources.specs.Contents.{unless_closed};
+ghost use Rattle.sum_sources.specs.StandardInput.{unless_closed};
 
+use crate::fault::EBADF;
 use crate::{Fault, Input, Phase};
 
-/// The system's number for "bad file descriptor".
-pub const EBADF: i32 = 9;
-
-/// An input that may be closed. Each read of a closed one fails with `Fault::Os(9)`, *Bad file descriptor*.
-#[derive(Drop)]
+/// An input that may be closed. Each read of a closed one fails with `Fault::Os(EBADF)`, *Bad file descriptor*.
+#[derive(Debug, Drop)]
 pub enum Closable<I> {
     /// This input.
     Open(I),
@@ -19,9 +17,9 @@ pub enum Closable<I> {
 impl<I> Closable<I> {
     /// A closed input, which was not read yet.
     pub fn closed() -> Self
-        ensures { result ≡ Closable.Closed Phase.Reading }
+        ensures { result ≡ Closable.Closed Phase.Unfinished }
     {
-        Closable::Closed(Phase::Reading)
+        Closable::Closed(Phase::Unfinished)
     }
 }
 

@@ -9,7 +9,7 @@ use std::io::{ErrorKind, Read};
 use std::marker::Model;
 
 /// An input over a reader. Its bytes aren't known; each read has the contract of std's `Read`.
-#[derive(Drop)]
+#[derive(Debug, Drop)]
 pub struct FromRead<R> {
     reader: R,
     phase: Phase,
@@ -27,11 +27,11 @@ impl<R: Read> FromRead<R> {
     /// The input that reads from `reader`. The number of the reader's error decides which fault it is, or its kind if
     /// it has none. The 1,000th interruption in a row within one read is `Fault::Other`.
     pub fn new(reader: R) -> Self
-        ensures { result ≡ record { reader = reader; phase = Phase.Reading } }
+        ensures { result ≡ record { reader = reader; phase = Phase.Unfinished } }
     {
         FromRead {
             reader,
-            phase: Phase::Reading,
+            phase: Phase::Unfinished,
         }
     }
 

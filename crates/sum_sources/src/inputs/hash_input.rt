@@ -1,9 +1,9 @@
 //! The digest of an input.
-ghost use Rattle.std.specs.Prelude.{◌≡◌, [], length, IfOk, IfSome};
-ghost use Rattle.sum_sources.specs.Contents.{Content, clip, Hashes};
+ghost use Rattle.std.specs.Prelude.{◌≡◌, [], length, IfOk};
+ghost use Rattle.sum_sources.specs.Contents.{HashesInput};
 
 use crate::inputs::size_limit::read_limited;
-use crate::{Fault, Input, PIECE, Phase};
+use crate::{Fault, Input, PIECE};
 use digest_kinds::{Digest, Hasher};
 
 /// Reads `input` once, in order and to its end, in pieces of at most `PIECE` bytes. Returns the digest that `hasher`
@@ -11,12 +11,7 @@ use digest_kinds::{Digest, Hasher};
 /// hasher has to be a new one.
 pub fn hash_input<I: Input, H: Hasher + Drop>(input: &mut I, hasher: H) -> Result<Digest, Fault>
     requires { H.holds hasher [] }
-    // Known or not: that of some content, which is the known one, if it is known.
-    ensures digest { (c : Content) × IfSome (I.state input.old).content (λ d. c ≡ d)
-        × Hashes (H.kind_of hasher) (clip c) result }
-    // If the input was being read before: a digest only if no read failed, and none came after its end.
-    ensures phase { IfOk result (λ _. (I.state input.old).phase ≡ Phase.Reading
-        → (I.state input.new).phase ≡ Phase.Ended) }
+    ensures input { HashesInput (H.kind_of hasher) (I.state input.old) (I.state input.new) result }
 {
     let mut buffer: [u8; PIECE] = [0; PIECE];
     hash_input_over(input, hasher, &mut buffer)
@@ -30,13 +25,8 @@ pub fn hash_input_over<I: Input, H: Hasher + Drop>(
     buffer: &mut [u8; PIECE],
 ) -> Result<Digest, Fault>
     requires { H.holds hasher [] }
-    // Known or not: that of some content, which is the known one, if it is known.
-    ensures digest { (c : Content) × IfSome (I.state input.old).content (λ d. c ≡ d)
-        × Hashes (H.kind_of hasher) (clip c) result }
+    ensures input { HashesInput (H.kind_of hasher) (I.state input.old) (I.state input.new) result }
     ensures len { IfOk result (λ d. length d ≡ (H.kind_of hasher).len) }
-    // If the input was being read before: a digest only if no read failed, and none came after its end.
-    ensures phase { IfOk result (λ _. (I.state input.old).phase ≡ Phase.Reading
-        → (I.state input.new).phase ≡ Phase.Ended) }
 {
     let mut taken = 0;
     loop {

@@ -1,4 +1,4 @@
-//! What can be read.
+//! The trait of an input, and how much is read at once.
 ghost use Rattle.std.specs.Prelude.{◌≡◌, ◌≤◌, length, None, IfOk};
 ghost use Rattle.sum_sources.specs.Contents.{InputState, IfKnown, ReadsFrom};
 ghost use Rattle.sum_sources.specs.Phases.{Past, phase_after};

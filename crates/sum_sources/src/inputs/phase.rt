@@ -7,14 +7,14 @@ use crate::Fault;
 /// How far an input was read.
 #[derive(Clone, Copy, Debug, PartialEq, Eq)]
 pub enum Phase {
-    /// It is being read.
-    Reading,
-    /// It gave its end.
-    Ended,
-    /// A read failed.
+    /// Each read so far gave bytes, or there was none.
+    Unfinished,
+    /// The last read gave its end.
+    AtEnd,
+    /// The last read failed.
     Failed,
-    /// It was read again after its end or a fault, or a read asked for no bytes. It stays so for ever. A type that
-    /// keeps no phase counts as this.
+    /// It was read again after its end or a fault, or a read asked for no bytes. It stays `Past` from then on. A type
+    /// that keeps no phase is always `Past`.
     Past,
 }
 
@@ -27,9 +27,9 @@ impl Phase {
             return Phase::Past;
         }
         match (self, read) {
-            (Phase::Reading, Ok(0)) => Phase::Ended,
-            (Phase::Reading, Ok(_)) => Phase::Reading,
-            (Phase::Reading, Err(_)) => Phase::Failed,
+            (Phase::Unfinished, Ok(0)) => Phase::AtEnd,
+            (Phase::Unfinished, Ok(_)) => Phase::Unfinished,
+            (Phase::Unfinished, Err(_)) => Phase::Failed,
             _ => Phase::Past,
         }
     }

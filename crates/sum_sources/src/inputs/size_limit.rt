@@ -1,6 +1,6 @@
 //! An input ends at the limit.
 ghost use Rattle.std.specs.Prelude.{◌≡◌, ◌≤◌, ◌<◌, ◌+◌, ◌-◌, ◌^◌, length, IfOk, OnOk};
-ghost use Rattle.sum_sources.specs.Contents.{IfKnown, ReadsFrom, limit, clip_to};
+ghost use Rattle.sum_sources.specs.Contents.{IfKnown, ReadsFrom, limit, clip_to, KeepsTotal};
 ghost use Rattle.sum_sources.specs.Phases.{phase_after};
 
 use crate::{Fault, Input, PIECE};
@@ -22,8 +22,8 @@ pub(crate) fn read_limited<I: Input>(
     ensures few { IfOk result (λ _. taken.new < 2 ^ 61) }
     ensures bytes { IfKnown (I.state input.old).content (I.state input.new).content (λ c d.
         ReadsFrom (clip_to (limit - taken.old) c) (clip_to (limit - taken.new) d) result buffer.new) }
-    ensures input { IfOk result (λ n. 0 < n → IfKnown (I.state input.old).content (I.state input.new).content
-        (λ c d. taken.new + length d.bytes ≡ taken.old + length c.bytes)) }
+    ensures total { IfOk result (λ n. 0 < n
+        → KeepsTotal taken.old (I.state input.old) taken.new (I.state input.new)) }
     ensures phase { OnOk result ((I.state input.new).phase ≡ phase_after (I.state input.old).phase 8192 result) }
 {
     if *taken == LIMIT {

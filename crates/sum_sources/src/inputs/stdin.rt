@@ -6,14 +6,14 @@ use crate::{Fault, Input};
 use std::marker::Model;
 
 /// An input that can be taken once, and is put back.
-#[derive(Drop)]
+#[derive(Debug, Drop)]
 pub struct Stdin<I> {
     input: Option<I>,
     returned: Option<I>,
 }
 
 impl<I> Model for Stdin<I> {
-    ghost use Rattle.sum_sources.specs.Contents.{StdinValue};
+    ghost use Rattle.sum_sources.specs.StandardInput.{StdinValue};
 
     ghost Value = { StdinValue I };
 
@@ -21,6 +21,7 @@ impl<I> Model for Stdin<I> {
 }
 
 /// Standard input that was taken: its input, or an empty one. It can't be dropped: who took it puts it back.
+#[derive(Debug)]
 pub struct Given<I> {
     input: Option<I>,
 }
@@ -68,7 +69,7 @@ impl<I: Input + Drop> Stdin<I> {
 }
 
 impl<I: Input> Input for Given<I> {
-    ghost use Rattle.sum_sources.specs.Contents.{given_state};
+    ghost use Rattle.sum_sources.specs.StandardInput.{given_state};
 
     ghost state = { λ s. given_state I.state s };
 

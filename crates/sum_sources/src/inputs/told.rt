@@ -7,7 +7,7 @@ use crate::{Ending, Fault, Input, Phase};
 use std::marker::Model;
 
 /// An input of bytes in memory, which are known. It gives its end, or its fault, again and again.
-#[derive(Drop)]
+#[derive(Debug, Drop)]
 pub struct Told<'a> {
     rest: &'a [u8],
     ending: Ending,
@@ -36,14 +36,14 @@ impl<'a> Told<'a> {
         ensures { result ≡ record {
           content = record { bytes = content.entry.now; ending = ending };
           piece = max piece 1;
-          phase = Phase.Reading;
+          phase = Phase.Unfinished;
         } }
     {
         Told {
             rest: content,
             ending,
             piece: piece.max(1),
-            phase: Phase::Reading,
+            phase: Phase::Unfinished,
         }
     }
 

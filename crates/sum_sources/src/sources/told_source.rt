@@ -2,16 +2,16 @@
 ghost use Rattle.std.specs.Prelude.{◌≡◌, ◌++◌, ◌∷◌, [], OnOk, OnErr, IfOk, map, max, slice_get};
 ghost use Rattle.std.specs.Option.{option_map};
 ghost use Rattle.sum_sources.specs.InMemory.{first_reply, known_source};
-ghost use Rattle.sum_sources.specs.Contents.{OpenOf, refusals_after, opened_after};
+ghost use Rattle.sum_sources.specs.Sources.{OpensName, counts_after_opening};
 ghost use Rattle.digest_kinds.specs.Limits.{one_more};
 ghost use Rattle.sum_sources.specs.refinement.ToldPairs.{pair_of, reply_of};
 
-use crate::{Ending, Fault, Input, NoRoom, OpenFault, Phase, Source, Told};
+use crate::{Ending, Fault, FileCounts, Input, NoRoom, OpenFault, Phase, Source, Told};
 use std::alloc::Allocator;
 use std::marker::Model;
 
 /// What a source in memory answers for a name.
-#[derive(Clone, Copy)]
+#[derive(Clone, Copy, Debug)]
 pub enum Answer<'a> {
     /// The file can't be opened.
     Fault(Fault),
@@ -19,22 +19,20 @@ pub enum Answer<'a> {
     Content(&'a [u8], Ending),
 }
 
-#[derive(Drop)]
+#[derive(Debug, Drop)]
 struct StoredPair<'a, A: Allocator> {
     name: Vec<u8, A>,
     answer: Answer<'a>,
 }
 
 /// A source that answers from pairs of names and answers, which are known.
-#[derive(Drop)]
+#[derive(Debug, Drop)]
 pub struct ToldSource<'a, A: Allocator + Copy> {
     pairs: Vec<StoredPair<'a, A>, A>,
     asked: Vec<Vec<u8, A>, A>,
     alloc: A,
     piece: usize,
-    refusals: u64,
-    opened: u64,
-    ended: u64,
+    counts: FileCounts,
 }
 
 impl<'a, A: Allocator + Copy> Model for ToldSource<'a, A> {
@@ -48,9 +46,7 @@ impl<'a, A: Allocator + Copy> Model for ToldSource<'a, A> {
       pairs = map pair_of s.pairs.items;
       asked = map (λ v. v.items) s.asked.items;
       piece = s.piece;
-      refusals = s.refusals;
-      opened = s.opened;
-      ended = s.ended;
+      counts = s.counts;
     } };
 }
 
@@ -73,9 +69,7 @@ impl<'a, A: Allocator + Copy> ToldSource<'a, A> {
           pairs = [];
           asked = [];
           piece = max piece 1;
-          refusals = 0;
-          opened = 0;
-          ended = 0;
+          counts = record { refusals = 0; opened = 0; ended = 0 };
         } }
     {
         ToldSource {
@@ -83,14 +77,12 @@ impl<'a, A: Allocator + Copy> ToldSource<'a, A> {
             asked: Vec::new(alloc),
             alloc,
             piece: piece.max(1),
-            refusals: 0,
-            opened: 0,
-            ended: 0,
+            counts: FileCounts::NONE,
         }
     }
 
-    /// Adds a pair of a name and its answer. If an earlier pair has that name, it still answers. After `NoRoom` the
-    /// pairs are as before.
+    /// Adds a pair of a name and its answer. An earlier pair with that name still answers for it. `NoRoom` if memory is
+    /// refused; the pairs are then as before.
     pub fn add(&mut self, name: &[u8], answer: Answer<'a>) -> Result<(), NoRoom>
         ensures ok { OnOk result (self.new ≡ record self.old {
           pairs = self.old.pairs ++ record { name = name.now; reply = reply_of answer.entry } ∷ [];
@@ -109,7 +101,9 @@ impl<'a, A: Allocator + Copy> ToldSource<'a, A> {
     // Records the name as asked, or counts the refusal.
     fn record_asked(&mut self, name: &[u8]) -> Result<(), NoRoom>
         ensures ok { OnOk result (self.new ≡ record self.old { asked = self.old.asked ++ name.now ∷ [] }) }
-        ensures err { OnErr result (self.new ≡ record self.old { refusals = one_more self.old.refusals }) }
+        ensures err { OnErr result (self.new ≡ record self.old {
+          counts = record self.old.counts { refusals = one_more self.old.counts.refusals };
+        }) }
     {
         let asked = match Vec::from_slice(self.alloc, name) {
             Ok(name) => self.asked.push(name).is_ok(),
@@ -118,7 +112,7 @@ impl<'a, A: Allocator + Copy> ToldSource<'a, A> {
         if asked {
             return Ok(());
         }
-        self.refusals = self.refusals.saturating_add(1);
+        self.counts.refused();
         Err(NoRoom)
     }
 
@@ -132,18 +126,11 @@ impl<'a, A: Allocator + Copy> ToldSource<'a, A> {
         }
     }
 
-    /// How many files were opened.
-    pub fn opened(&self) -> u64
-        ensures { result ≡ self.now.opened }
+    /// What was counted so far.
+    pub fn counts(&self) -> FileCounts
+        ensures { result ≡ self.now.counts }
     {
-        self.opened
-    }
-
-    /// How many of these were closed at their end, and not read again after it.
-    pub fn ended(&self) -> u64
-        ensures { result ≡ self.now.ended }
-    {
-        self.ended
+        self.counts
     }
 }
 
@@ -153,19 +140,13 @@ impl<'a, A: Allocator + Copy> Source for ToldSource<'a, A> {
     ghost use Rattle.std.specs.Prelude.{Some};
     ghost use Rattle.sum_sources.specs.InMemory.{known_source};
 
-    ghost state = { λ s. record {
-      known = Some (known_source s);
-      refusals = s.refusals;
-      opened = s.opened;
-      ended = s.ended;
-    } };
+    ghost state = { λ s. record { known = Some (known_source s); counts = s.counts } };
 
     fn open_file(&mut self, name: &[u8]) -> Result<Told<'a>, OpenFault>
-        ensures answer { OpenOf ⟦<Told<'a> as Input>⟧.state
+        ensures answer { OpensName ⟦<Told<'a> as Input>⟧.state
             (known_source self.old) (known_source self.new) name.now result }
-        ensures refusals { self.new.refusals ≡ refusals_after self.old.refusals result }
-        ensures opened { (self.new.opened ≡ opened_after self.old.opened result) × (self.new.ended ≡ self.old.ended) }
-        ensures phase { IfOk result (λ file. file.phase ≡ Phase.Reading) }
+        ensures counts { self.new.counts ≡ counts_after_opening self.old.counts result }
+        ensures phase { IfOk result (λ file. file.phase ≡ Phase.Unfinished) }
         ensures piece { IfOk result (λ file. file.piece ≡ max self.old.piece 1) }
         ensures same { (self.new.pairs ≡ self.old.pairs) × (self.new.piece ≡ self.old.piece) }
     {
@@ -175,15 +156,13 @@ impl<'a, A: Allocator + Copy> Source for ToldSource<'a, A> {
         match answer_to(&self.pairs, name) {
             Answer::Fault(fault) => Err(OpenFault::Fault(fault)),
             Answer::Content(content, ending) => {
-                self.opened = self.opened.saturating_add(1);
+                self.counts.opened();
                 Ok(Told::new(content, ending, self.piece))
             }
         }
     }
 
     fn close_file(&mut self, file: Told<'a>) {
-        if file.phase() == Phase::Ended {
-            self.ended = self.ended.saturating_add(1);
-        }
+        self.counts.closed(file.phase());
     }
 }

@@ -1,6 +1,6 @@
 use Rattle.std.proofs.Common.{◌≡◌, ℕ, ◌^◌, ◌<◌, ◌-◌, List}
 use Rattle.sum_sources.specs.Contents.{IfKnown, clip_to, clip, limit}
-use Rattle.sum_sources.specs.Phases.{Reading}
+use Rattle.sum_sources.specs.Phases.{Unfinished}
 use Rattle.sum_sources.proofs.ContentLemmas.{Gave}
 use Rattle.sum_sources.proofs.inputs.hash_input.hash_input_over.Given as goal
 
@@ -11,7 +11,7 @@ invariant-loop-hasher g l = record {
       × IfKnown (g.I.Input.state l.fn.input).content (g.I.Input.state l.input).content
       (λ c d. Gave (clip c) (clip_to (limit - l.taken) d) m);
   taken : g.H.Hasher.taken_of l.hasher ≡ l.taken;
-  phase : (g.I.Input.state l.fn.input).phase ≡ Reading → (g.I.Input.state l.input).phase ≡ Reading;
+  phase : (g.I.Input.state l.fn.input).phase ≡ Unfinished → (g.I.Input.state l.input).phase ≡ Unfinished;
   few : l.taken < 2 ^ 61;
   kind : g.H.Hasher.kind_of l.hasher ≡ g.H.Hasher.kind_of l.fn.hasher;
 }

@@ -3,7 +3,7 @@ use Rattle.std.proofs.lemmas.List.{nil_from_length}
 use Rattle.sum_sources.specs.Contents.{empty_content}
 use Rattle.sum_sources.specs.ManifestLines.{Line, NoMore}
 use Rattle.sum_sources.specs.declared.line_reader.LineStop.TheVariants as stops
-use Rattle.sum_sources.proofs.LineLemmas.{NextLineIs-last, NextLineIs-none, NextLineIs-fault}
+use Rattle.sum_sources.proofs.LineLemmas.{IsNextLine-last, IsNextLine-none, IsNextLine-fault}
 use Rattle.sum_sources.proofs.ReadOnLemmas.{LineSoFar, LineSoFar-piece, ends_line, ends_at, no_memory}
 use Rattle.sum_sources.proofs.line_reader.LineReader.read_on.Goals.{In-Ok-false}
 use Rattle.sum_sources.proofs.line_reader.LineReader.read_on.Given as given
@@ -32,7 +32,7 @@ returns-then-is_empty-clause-line g c =
     λ d is.
     rw is
     (ends_at _ empty_content (Ok NoMore) [] _ empty_content so_far ended (omega (arith, so_far.sum, c.take_piece.ensures.few))
-    (omega (arith, so_far.sum)) (λ e gave. NextLineIs-none e [] (rw none at gave)))
+    (omega (arith, so_far.sum)) (λ e gave. IsNextLine-none e [] (rw none at gave)))
 
 -- the input has ended after a last line
 pub returns-in-Ok-false-fill-clause-line : goal.returns-in-Ok-false-fill-clause-line
@@ -43,7 +43,7 @@ returns-in-Ok-false-fill-clause-line g c =
     λ d is.
     rw is
     (ends_at _ empty_content (Ok Line) _ _ empty_content so_far ended (omega (arith, so_far.sum, c.take_piece.ensures.few))
-    (omega (arith, so_far.sum)) (λ e. NextLineIs-last e _ so_far.plain (search rules)))
+    (omega (arith, so_far.sum)) (λ e. IsNextLine-last e _ so_far.plain (search rules)))
 
 -- the input has a fault
 pub returns-in-Err-fill-clause-line : goal.returns-in-Err-fill-clause-line
@@ -51,7 +51,7 @@ returns-in-Err-fill-clause-line g c =
     let so_far = moved g (goal.at.returns-in-Err-fill-clause-line g c).In-Ok-false in
     λ d is.
     ends_at _ _ (Err (stops.Fault _)) [] 0 d so_far c.in-Err-fill.ensures.content (omega (arith, so_far.sum, c.take_piece.ensures.few)) tt
-    (λ e. NextLineIs-fault e d _ _ so_far.plain)
+    (λ e. IsNextLine-fault e d _ _ so_far.plain)
 
 -- memory was refused
 pub returns-in-Err-clause-line : goal.returns-in-Err-clause-line

@@ -1,19 +1,18 @@
-use Rattle.std.proofs.Common.{◌≡◌, length, ◌^◌, ◌-◌, ◌+◌, ◌⊎◌}
-use Rattle.sum_sources.specs.Contents.{IfKnown}
+use Rattle.std.proofs.Common.{◌≡◌, ◌^◌, ◌-◌, ◌⊎◌}
+use Rattle.sum_sources.specs.Contents.{KeepsTotal}
 use Rattle.sum_sources.proofs.ReadOnLemmas.{LineSoFar}
-use Rattle.sum_sources.specs.ManifestLines.{NoNewline}
-use Rattle.sum_sources.specs.Phases.{Reading}
+use Rattle.sum_sources.specs.ManifestLines.{HasNoNewline}
+use Rattle.sum_sources.specs.Phases.{Unfinished}
 use Rattle.sum_sources.proofs.line_reader.LineReader.read_on.Given as goal
 
 -- the line so far, and the sums that stay
 abbrev pub invariant-loop-self : goal.invariant-loop-self
 invariant-loop-self g l = record {
   so_far : LineSoFar g.I.Input.state l.fn.self l.self l.line.items;
-  input : IfKnown (g.I.Input.state l.fn.self.input).content (g.I.Input.state l.self.input).content
-      (λ c d. l.self.taken + length d.bytes ≡ l.fn.self.taken + length c.bytes);
+  total : KeepsTotal l.fn.self.taken (g.I.Input.state l.fn.self.input) l.self.taken (g.I.Input.state l.self.input);
   lines : l.self.lines ≡ l.fn.self.lines;
-  unread : (l.self ≡ l.fn.self) ⊎ NoNewline l.fn.self.ahead;
-  phase : (g.I.Input.state l.fn.self.input).phase ≡ Reading → (g.I.Input.state l.self.input).phase ≡ Reading;
+  unread : (l.self ≡ l.fn.self) ⊎ HasNoNewline l.fn.self.ahead;
+  phase : (g.I.Input.state l.fn.self.input).phase ≡ Unfinished → (g.I.Input.state l.self.input).phase ≡ Unfinished;
 }
 
 -- the bytes that may still come

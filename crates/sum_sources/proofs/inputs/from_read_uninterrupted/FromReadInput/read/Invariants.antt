@@ -1,6 +1,6 @@
 use Rattle.std.proofs.Common.{◌≡◌}
 use Rattle.std.specs.Io.KnownBytes.{Keeps}
-use Rattle.sum_sources.proofs.inputs.uninterrupted.FromReadInput.read.Given as goal
+use Rattle.sum_sources.proofs.inputs.from_read_uninterrupted.FromReadInput.read.Given as goal
 
 -- interruptions take no byte, and end nothing
 abbrev pub invariant-loop : goal.invariant-loop
