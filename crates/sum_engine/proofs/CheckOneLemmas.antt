@@ -5,7 +5,9 @@ use Rattle.std.proofs.KnownBytes.{Appends-nil}
 use Rattle.std.proofs.Math.Bool.{or-false}
 use Rattle.sum_engine.specs.Behavior.{Fault, World, is_dash, reply, after, Step, Behavior, events_of}
 use Rattle.sum_sources.specs.declared.sources.source.OpenFault.{OpenFault}
-use Rattle.sum_sources.specs.Contents.{Content, InputState, IfKnown, OpenOf, clip, SourceState, Reply, closed_state}
+use Rattle.sum_sources.specs.Contents.{Content, InputState, IfKnown, clip}
+use Rattle.sum_sources.specs.Sources.{closed_state}
+use Rattle.sum_sources.specs.Sources.{OpensName, SourceState, Reply}
 use Rattle.digest_kinds.specs.Limits.{one_more}
 use Rattle.sum_lines.specs.Escape.{present}
 use Rattle.sum_engine.specs.check.CheckerLaws.{ManifestPerforms}
@@ -26,7 +28,7 @@ use Rattle.sum_sources.specs.declared.sources.source.OpenFault.TheVariants as op
 record IsClosed {S : Type 0} (state : S → SourceState) (b n : InputsState S) : Type 0 where
   pub world : InSomeWorld state b n (λ w v. v ≡ w)
   pub known : (state n.source).known ≡ (state b.source).known
-  pub refusals : (state n.source).refusals ≡ (state b.source).refusals
+  pub refusals : (state n.source).counts.refusals ≡ (state b.source).counts.refusals
   pub taken : n.stdin_taken ≡ b.stdin_taken
 
 -- a run that was performed up to the closing was performed up to what follows it
@@ -102,11 +104,11 @@ module _ {S : Type 0} (state : S → SourceState) (settings : CheckSettings) (to
     -- the source was asked to open the manifest
     module _ {F : Type 0} (content : F → InputState) (m : InputsState S) (kept : KeepsStdin a.inputs m) where
       abbrev IsAnswer : Result F OpenFault → Type 0
-      IsAnswer x = IfKnown (state a.inputs.source).known (state m.source).known (λ s t. OpenOf content s t name x)
+      IsAnswer x = IfKnown (state a.inputs.source).known (state m.source).known (λ s t. OpensName content s t name x)
 
       -- so its name was, if there was memory
       asks_manifest : (x : Result F OpenFault) → is_dash name ≡ false → IsAnswer x
-          → (x ≡ Err open_faults.Memory → ⊥) → (state m.source).refusals ≡ (state a.inputs.source).refusals
+          → (x ≡ Err open_faults.Memory → ⊥) → (state m.source).counts.refusals ≡ (state a.inputs.source).counts.refusals
           → AsksNames state a.inputs m (name ∷ [])
       asks_manifest x is_file h some refusals =
           asks_name (file_asked content (state a.inputs.source) (state m.source) name x is_file h some)
@@ -114,7 +116,7 @@ module _ {S : Type 0} (state : S → SourceState) (settings : CheckSettings) (to
 
       -- it is a file, which is closed
       pub check_file : (b : StreamsState S) (n : InputsState S) (p : Phase) (file : F) (x : Result Bool Stop)
-          → is_dash name ≡ false → IsAnswer (Ok file) → (state m.source).refusals ≡ (state a.inputs.source).refusals
+          → is_dash name ≡ false → IsAnswer (Ok file) → (state m.source).counts.refusals ≡ (state a.inputs.source).counts.refusals
           → ManifestPerforms state (rules_of settings false) (labels_if false) (content file).content (from_inputs m) b x
           → KeepsStdin b.inputs n → state n.source ≡ closed_state (state b.inputs.source) p
           → Performed (record b { inputs = n }) x
@@ -132,7 +134,7 @@ module _ {S : Type 0} (state : S → SourceState) (settings : CheckSettings) (to
 
       -- it could not be opened, and the line of its fault was written, or a prefix of it
       pub refused : (f : Fault) (outputs : OutputsState) (x : Result Bool Stop) → is_dash name ≡ false
-          → IsAnswer (Err (open_faults.Fault f)) → (state m.source).refusals ≡ (state a.inputs.source).refusals
+          → IsAnswer (Err (open_faults.Fault f)) → (state m.source).counts.refusals ≡ (state a.inputs.source).counts.refusals
           → WritesAndReturns a.outputs outputs (fault_line present tool name f) [] false x
           → Performed (record a { inputs = m; outputs = outputs }) x
       refused f outputs x is_file h refusals said =
@@ -143,7 +145,7 @@ module _ {S : Type 0} (state : S → SourceState) (settings : CheckSettings) (to
 
       -- there was no memory to open it
       pub no_room : IsAnswer (Err open_faults.Memory)
-          → (state m.source).refusals ≡ one_more (state a.inputs.source).refusals → Performed (from_inputs m) (Err Memory)
+          → (state m.source).counts.refusals ≡ one_more (state a.inputs.source).counts.refusals → Performed (from_inputs m) (Err Memory)
       no_room h refused =
           Performs-refused state (λ w. check_behavior settings tool w name) (λ g. g) a (from_inputs m)
           (λ w. begins (after w (name ∷ [])) (reply w name)) (opened_nothing state a.inputs m kept h)

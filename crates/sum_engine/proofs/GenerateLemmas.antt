@@ -2,7 +2,7 @@
 use Rattle.std.proofs.Common.{rules, ◌≡◌, ℕ, Bool, List, [], ◌∷◌, Some, Result, Ok, Err, refl}
 use Rattle.digest_kinds.specs.Kinds.{KindValue}
 use Rattle.sum_engine.specs.Behavior.{Fault, digest_or_fault, Step, single_step}
-use Rattle.sum_sources.specs.Contents.{Reply, SourceState}
+use Rattle.sum_sources.specs.Sources.{Reply, SourceState}
 use Rattle.sum_engine.specs.refinement.HashName.{HashOutcome, digest_of_outcome, HashesName, IsHashOutcome}
 use Rattle.sum_engine.specs.Generation.{Settings, generate_behavior, generate_behavior_by}
 use Rattle.sum_engine.specs.Execution.{Stop, StreamsState, InSomeWorld, Performs}

@@ -9,7 +9,8 @@ use Rattle.sum_engine.specs.check.Verdicts.{Algos, Form, Right, Rules, LineVerdi
 use Rattle.sum_lines.specs.Escape.{present, escape}
 use Rattle.sum_lines.specs.grammar.Entries.{IsEntry, form}
 use Rattle.sum_engine.specs.Behavior.{Whole, World, reply, after, Behavior, out_text, err_text, is_dash}
-use Rattle.sum_sources.specs.Contents.{Content, Reply, limit}
+use Rattle.sum_sources.specs.Contents.{Content, limit}
+use Rattle.sum_sources.specs.Sources.{Reply}
 use Rattle.sum_sources.proofs.ContentLemmas.{limit-value, clip-short}
 use Rattle.sum_engine.specs.check.CheckerSteps.{step_then}
 use Rattle.sum_lines.specs.grammar.ParsedLines.{parse_line}

@@ -15,8 +15,9 @@ use Rattle.sum_lines.specs.grammar.Entries.{EntryValue, IsEntry, form}
 use Rattle.sum_lines.specs.grammar.LineLaws.{ReadBy, Writable}
 use Rattle.sum_lines.proofs.PutLineLemmas.{prefix_of, read_back}
 use Rattle.sum_engine.specs.Behavior.{Whole, is_dash}
-use Rattle.sum_sources.specs.Contents.{Content, limit, Reply}
-use Rattle.sum_sources.specs.ManifestLines.{NoNewline, lines, raw_lines}
+use Rattle.sum_sources.specs.Contents.{Content, limit}
+use Rattle.sum_sources.specs.Sources.{Reply}
+use Rattle.sum_sources.specs.ManifestLines.{HasNoNewline, lines, raw_lines}
 use Rattle.sum_sources.proofs.CutLemmas.{raw_lines-joined}
 use Rattle.sum_engine.specs.check.OldVerdicts.{NoReturn}
 use Rattle.sum_engine.proofs.ReturnLemmas.{strips-kept}
@@ -106,7 +107,7 @@ pub lines-are : (algos : Algos) (answer : List ℕ → Reply) (is : List Item) �
 lines-are algos answer is all =
     let plain = plain-lines algos answer is all in
     let make : List ℕ → Content = λ bytes. record { bytes = bytes; ending = Whole } in
-    let none = All-weaker Plainly NoNewline (λ l h k d lt. ne_eqb _ 10 (h k d lt).0) (map prefix is) plain in
+    let none = All-weaker Plainly HasNoNewline (λ l h k d lt. ne_eqb _ 10 (h k d lt).0) (map prefix is) plain in
     let cut = raw_lines-joined Whole (map prefix is) [] none (All-nil (λ b. (b == 10) ≡ false)) in
     ap (map strip_carriage_return) (ap (λ b. raw_lines (make b)) (texts is ∙ sym (append-nil _)) ∙ cut
     ∙ append-nil (map prefix is))

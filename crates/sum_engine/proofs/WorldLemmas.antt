@@ -1,7 +1,9 @@
 -- Asking names one after another, and worlds before and after.
 use Rattle.std.proofs.Common.{rules, ◌≡◌, ◌∙◌, ap, refl, ℕ, Bool, true, false, if◌then◌else◌, List, [], ◌∷◌, ◌++◌, Option, None, Some, IfSome, Result, Ok, Err, append_assoc, append-nil}
 use Rattle.std.proofs.lemmas.List.Elements.{filter-append}
-use Rattle.sum_sources.specs.Contents.{Content, empty_content, IfKnown, InputState, KnownSource, Reply, SourceState, AsksName, OpenOf, closed_state}
+use Rattle.sum_sources.specs.Contents.{Content, empty_content, IfKnown, InputState}
+use Rattle.sum_sources.specs.Sources.{closed_state}
+use Rattle.sum_sources.specs.Sources.{KnownSource, Reply, SourceState, AsksName, OpensName}
 use Rattle.sum_sources.specs.declared.sources.source.OpenFault.{OpenFault}
 use Rattle.sum_sources.specs.declared.sources.source.OpenFault.TheVariants as faults
 use Rattle.sum_sources.proofs.KnownLemmas.{IfKnown-then}
@@ -38,7 +40,7 @@ dash_asked a name dash = search (rules, append-nil)
 
 -- a file that is opened, or isn't, was asked
 pub file_asked : {F : Type 0} (content : F → InputState) (a b : SourceState) (name : List ℕ) (x : Result F OpenFault)
-    → is_dash name ≡ false → IfKnown a.known b.known (λ s t. OpenOf content s t name x)
+    → is_dash name ≡ false → IfKnown a.known b.known (λ s t. OpensName content s t name x)
     → (x ≡ Err faults.Memory → ⊥) → AskedMore a b (name ∷ [])
 file_asked content a b name (Ok file) is_file h some = search rules
 file_asked content a b name (Err (faults.Fault f)) is_file h some = search rules
@@ -111,14 +113,14 @@ module _ {S : Type 0} (state : S → SourceState) (a b : InputsState S) (kept : 
   module _ {F : Type 0} (content : F → InputState) (name : List ℕ) where
     -- a content that the file may have
     pub opened_file : (file : F) (c : Content) → is_dash name ≡ false → IfSome (content file).content (λ d. c ≡ d)
-        → IfKnown (state a.source).known (state b.source).known (λ s t. OpenOf content s t name (Ok file))
+        → IfKnown (state a.source).known (state b.source).known (λ s t. OpensName content s t name (Ok file))
         → Replies name (Ok c)
     opened_file file c is_file may h = opened name (Ok c) is_file (search rules)
 
     -- the fault of opening
     pub opened_fault : (f : Fault) → is_dash name ≡ false
         → IfKnown (state a.source).known (state b.source).known
-        (λ s t. OpenOf content s t name (Err (faults.Fault f))) → Replies name (Err f)
+        (λ s t. OpensName content s t name (Err (faults.Fault f))) → Replies name (Err f)
     opened_fault f is_file h = opened name (Err f) is_file (search rules)
 
   -- without memory nothing was asked

@@ -35,6 +35,10 @@ abbrev pub counts_after_closing : FileCounts → Phase → FileCounts
 counts_after_closing c AtEnd = record c { ended = one_more c.ended }
 counts_after_closing c phase = c
 
+-- the state of a source after a file of this phase was closed
+abbrev pub closed_state : SourceState → Phase → SourceState
+closed_state s phase = record s { counts = counts_after_closing s.counts phase }
+
 -- a source is asked one name more, and this is its reply
 abbrev pub AsksName : KnownSource → KnownSource → ByteString → Option Reply → Type 0
 AsksName s t name reply = (t ≡ record { answer = λ asked. s.answer (name ∷ asked); asked = s.asked ++ name ∷ [] })

@@ -3,7 +3,8 @@ use Rattle.std.specs.Prelude.{ℕ, ◌≡◌, ◌+◌, ◌≤◌, ◌↔◌, Boo
 use Rattle.std.specs.Io.KnownBytes.{Appends}
 use Rattle.digest_kinds.specs.Kinds.{KindValue}
 use Rattle.sum_sources.specs.declared.line_reader.LineStop.TheVariants.{Fault}
-use Rattle.sum_sources.specs.Contents.{Content, SourceState, clip}
+use Rattle.sum_sources.specs.Contents.{Content, clip}
+use Rattle.sum_sources.specs.Sources.{SourceState}
 use Rattle.sum_sources.specs.ManifestLines.{past_lines}
 use Rattle.sum_lines.specs.Escape.{escape}
 use Rattle.sum_lines.specs.grammar.Shapes.{Plain}

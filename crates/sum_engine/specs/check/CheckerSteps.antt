@@ -2,10 +2,11 @@
 use Rattle.std.specs.Prelude.{ℕ, Bool, ◌≡◌, ◌+◌, ◌≤◌, ◌⊎◌, ◌<◌, List, [], ◌∷◌, length, Option, None, Some, Result, Ok, Err, IfSome, true, option_map}
 use Rattle.digest_kinds.specs.Limits.{one_more}
 use Rattle.sum_sources.specs.declared.line_reader.LineReader.{LineReader}
-use Rattle.sum_sources.specs.Contents.{Content, IfKnown, SourceState, InputState, clip}
-use Rattle.sum_sources.specs.ManifestLines.{past_line, NoNewline}
+use Rattle.sum_sources.specs.Contents.{Content, IfKnown, InputState, clip}
+use Rattle.sum_sources.specs.Sources.{SourceState}
+use Rattle.sum_sources.specs.ManifestLines.{past_line, HasNoNewline}
 use Rattle.sum_sources.specs.declared.line_reader.Next.TheVariants.{NoMore}
-use Rattle.sum_sources.specs.LineReaders.{remaining_content, MayRemain, consumed, Bounded, IsReadSoFar}
+use Rattle.sum_sources.specs.LineReaders.{remaining_content, MayRemain, consumed_count, IsBounded, IsReadSoFar}
 use Rattle.sum_lines.specs.declared.reading.read_line.Form.TheVariants.{Undecided}
 use Rattle.sum_lines.specs.grammar.Entries.{form_then, line_form, form}
 use Rattle.sum_lines.specs.grammar.ParsedLines.{parse_line}
@@ -110,9 +111,9 @@ pub record StepIs (r : Rules) (labels : LabelsValue) (vector : List ℕ) (a b : 
 
 -- out of memory, known or not: the source was refused it, or bytes of the manifest remained
 abbrev pub MemoryStopHasCause : SourceState → SourceState → Option Content → Result Progress Stop → Type 0
-MemoryStopHasCause a b c (Err Memory) = (b.refusals ≡ one_more a.refusals)
-    ⊎ ((b.refusals ≡ a.refusals) × IfSome c (λ d. 0 < length d.bytes))
-MemoryStopHasCause a b c x = b.refusals ≡ a.refusals
+MemoryStopHasCause a b c (Err Memory) = (b.counts.refusals ≡ one_more a.counts.refusals)
+    ⊎ ((b.counts.refusals ≡ a.counts.refusals) × IfSome c (λ d. 0 < length d.bytes))
+MemoryStopHasCause a b c x = b.counts.refusals ≡ a.counts.refusals
 
 -- a place in a manifest: its rules, its reader, and the form and the counts of its lines so far
 pub record CursorValue (I : Type 0) : Type 0 where
@@ -137,7 +138,7 @@ abbrev pub state_at : {I : Type 0} → CursorValue I → Content → World → C
 state_at p c w = record {
   rest = c;
   number = p.reader.lines;
-  consumed = consumed p.reader;
+  consumed = consumed_count p.reader;
   taken = p.reader.taken;
   form = p.form;
   counts = p.counts;
@@ -170,8 +171,8 @@ pub record AdvancesCursor {I : Type 0} (state : I → InputState) (a b : CursorV
   pub phase : IsReadSoFar state a.reader → IsReadSoFar state b.reader
   pub end : x ≡ Ok (Ended true) → b.reader.final_answer ≡ Some (Ok NoMore)
   -- if a whole line is read ahead, the input isn't read
-  pub ahead : ¬ NoNewline a.reader.ahead → b.reader.input ≡ a.reader.input
-  pub bounds : Bounded b.reader
+  pub ahead : ¬ HasNoNewline a.reader.ahead → b.reader.input ≡ a.reader.input
+  pub bounds : IsBounded b.reader
 
 -- how far a step read the listed file that it opened, known or not
 pub record ReadsListedFile {I S : Type 0} (source : S → SourceState) (p q : CursorValue I) (a b : InputsState S)

@@ -1,6 +1,7 @@
 -- The behavior of checking one manifest.
 use Rattle.std.specs.Prelude.{ℕ, true, false, List, [], ◌∷◌, length, codes, Bool, if◌then◌else◌, Ok, Err}
-use Rattle.sum_sources.specs.Contents.{Content, clip, Reply}
+use Rattle.sum_sources.specs.Contents.{Content, clip}
+use Rattle.sum_sources.specs.Sources.{Reply}
 use Rattle.sum_sources.specs.ManifestLines.{past_line}
 use Rattle.sum_engine.specs.check.Verdicts.{Rules, LineVerdictValue, asks_of, all_verdicts}
 use Rattle.sum_engine.specs.Behavior.{World, is_dash, reply, after, behavior_then, Step, Behavior, single_step}

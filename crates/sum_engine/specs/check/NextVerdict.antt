@@ -4,7 +4,8 @@ use Rattle.std.specs.List.{list_any}
 use Rattle.sum_engine.specs.Behavior.{Ending, Whole, Broken, is_dash, after}
 pub use Rattle.sum_sources.specs.declared.line_reader.LineStop.{LineStop}
 use Rattle.sum_sources.specs.declared.line_reader.LineStop.TheVariants.{Fault, Memory}
-use Rattle.sum_sources.specs.Contents.{InputState, SourceState}
+use Rattle.sum_sources.specs.Contents.{InputState}
+use Rattle.sum_sources.specs.Sources.{SourceState}
 use Rattle.sum_sources.specs.LineReaders.{remaining_content}
 use Rattle.sum_engine.specs.Execution.{InputsState, Stop, ReadToEnd, AskedMore}
 use Rattle.sum_engine.specs.check.CheckerSteps.{Progress, Going, Ended, CheckState, CursorValue, counts_with, LineHandled, remaining_verdicts, InSomeCheck, AdvancesCursor, MemoryStopHasCause}

@@ -2,7 +2,8 @@
 use Rattle.std.specs.Prelude.{ℕ, ◌≡◌, ◌≢◌, ◌<◌, false, List, [], ◌∷◌, length, map, codes, All, Ok}
 use Rattle.sum_engine.specs.check.Reports.{LabelsValue, out_of, err_of, counts_of, end_text, good}
 use Rattle.sum_engine.specs.Behavior.{Whole, World}
-use Rattle.sum_sources.specs.Contents.{Content, clip, Reply}
+use Rattle.sum_sources.specs.Contents.{Content, clip}
+use Rattle.sum_sources.specs.Sources.{Reply}
 use Rattle.sum_sources.specs.ManifestLines.{raw_lines}
 use Rattle.sum_engine.specs.check.Verdicts.{Algos, Form, lines_by, Rules, all_verdicts}
 use Rattle.sum_lines.specs.Escape.{Profile, present, escape, escape_by}

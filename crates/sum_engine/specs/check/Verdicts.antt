@@ -3,7 +3,8 @@ use Rattle.std.specs.Prelude.{ℕ, ◌+◌, ◌&&◌, Bool, true, false, List, [
 pub use Rattle.digest_kinds.specs.declared.algo.Algos.{Algos}
 use Rattle.sum_engine.specs.Behavior.{Fault, World, is_dash, reply, after, digest_or_fault}
 use Rattle.sum_sources.specs.declared.fault.Fault.TheVariants.{NotFound}
-use Rattle.sum_sources.specs.Contents.{Content, Reply}
+use Rattle.sum_sources.specs.Contents.{Content}
+use Rattle.sum_sources.specs.Sources.{Reply}
 use Rattle.sum_sources.specs.ManifestLines.{lines, raw_lines}
 pub use Rattle.sum_lines.specs.declared.reading.read_line.Form.{Form}
 use Rattle.sum_lines.specs.grammar.Entries.{EntryValue, form}

@@ -1,7 +1,8 @@
 -- Relates hashing one name to the world.
 use Rattle.std.specs.Prelude.{ℕ, ◌≡◌, List, [], ◌∷◌, length, Option, None, Some, Result, Ok, Err, ⊤}
 use Rattle.digest_kinds.specs.Kinds.{KindValue}
-use Rattle.sum_sources.specs.Contents.{Content, Reply, SourceState}
+use Rattle.sum_sources.specs.Contents.{Content}
+use Rattle.sum_sources.specs.Sources.{Reply, SourceState}
 use Rattle.digest_kinds.specs.Limits.{one_more}
 pub use Rattle.sum_engine.specs.declared.hash_name.HashOutcome.{HashOutcome}
 use Rattle.sum_engine.specs.Behavior.{Fault, World, after, digest_or_fault, reply}
@@ -42,5 +43,5 @@ HasKindLen kind outcome = ⊤
 
 -- `None` only if the source was refused memory, which is one refusal more
 abbrev pub RefusedUnless : {A : Type 0} → SourceState → SourceState → Option A → Type 0
-RefusedUnless a b None = b.refusals ≡ one_more a.refusals
-RefusedUnless a b (Some x) = b.refusals ≡ a.refusals
+RefusedUnless a b None = b.counts.refusals ≡ one_more a.counts.refusals
+RefusedUnless a b (Some x) = b.counts.refusals ≡ a.counts.refusals

@@ -1,7 +1,7 @@
 //! The trait of a source of files, and why a file could not be opened.
 ghost use Rattle.std.specs.Prelude.{◌≡◌, IfOk};
 ghost use Rattle.sum_sources.specs.Contents.{IfKnown};
-ghost use Rattle.sum_sources.specs.Sources.{SourceState, OpensName, counts_after_opening, counts_after_closing};
+ghost use Rattle.sum_sources.specs.Sources.{SourceState, OpensName, counts_after_opening, closed_state};
 
 use crate::{Fault, Input, Phase};
 use thiserror::Error;
@@ -34,7 +34,5 @@ pub trait Source {
 
     /// Closes a file, and counts it if it is at its end.
     fn close_file(&mut self, file: Self::File)
-        ensures closed { state self.new ≡ record (state self.old) {
-          counts = counts_after_closing (state self.old).counts (Self.File.state file).phase;
-        } };
+        ensures closed { state self.new ≡ closed_state (state self.old) (Self.File.state file).phase };
 }
