@@ -1,10 +1,16 @@
 //! Where bytes come from: inputs and sources of files, in memory and real ones, the digest of an input, and the lines
-//! of a manifest. Who opened a file closes it; `files.ended()` counts those that were read to their end.
+//! of a manifest. The crate calls `digest_kinds` and no other of ours.
+//!
+//! Whoever opened a file closes it. The source counts the files that were at their end when they were closed.
 //!
 //! ```rust
+//! let mut files = ToldSource::new(alloc, PIECE);
+//! files.add(b"notes.txt", Answer::Content(b"abc", Ending::Whole))?;
 //! let mut file = files.open_file(b"notes.txt")?;
-//! let digest = hash_input(&mut file, Md5Hasher::new());
+//! let digest = hash_input(&mut file, Md5Hasher::new())?;
 //! files.close_file(file);
+//! assert!(digest.same(&"900150983cd24fb0d6963f7d28e17f72".parse()?));
+//! assert!(files.counts().ended == 1);
 //! ```
 #![tactic(auto)]
 

@@ -85,20 +85,32 @@ fn through_wrappers(rt: HostRuntime) {
 #[test]
 fn phases(rt: HostRuntime) {
     let broken = Ending::Broken(Fault::Other);
-    let (reading, past) = (Phase::Reading, Phase::Past);
+    let (unfinished, past) = (Phase::Unfinished, Phase::Past);
     for (place, ending, phases) in [
         (0, broken, [Phase::Failed, past, past, past, past]),
-        (2, broken, [reading, reading, Phase::Failed, past, past]),
-        (3, broken, [reading, reading, reading, Phase::Failed, past]),
-        (1, Ending::Whole, [reading, Phase::Ended, past, past, past]),
+        (
+            2,
+            broken,
+            [unfinished, unfinished, Phase::Failed, past, past],
+        ),
+        (
+            3,
+            broken,
+            [unfinished, unfinished, unfinished, Phase::Failed, past],
+        ),
+        (
+            1,
+            Ending::Whole,
+            [unfinished, Phase::AtEnd, past, past, past],
+        ),
         (
             3,
             Ending::Whole,
-            [reading, reading, reading, Phase::Ended, past],
+            [unfinished, unfinished, unfinished, Phase::AtEnd, past],
         ),
     ] {
         let mut input = reader_of(abc(place, ending), ErrorKind::Other);
-        assert!(rt; input.phase() == reading);
+        assert!(rt; input.phase() == unfinished);
         for phase in phases {
             let _ = input.read(&mut [0; 4]);
             assert_eq!(rt; input.phase(), phase, "{place}");
@@ -148,7 +160,7 @@ fn assert_hashed(
         Ok(digest) => {
             let mut digits = [0; 128];
             assert!(rt; digest.hex_into(&mut digits) == 32 && digits.starts_with(hex));
-            assert!(rt; (ending, phase) == (Ending::Whole, Phase::Ended));
+            assert!(rt; (ending, phase) == (Ending::Whole, Phase::AtEnd));
         }
         Err(fault) => assert!(rt; (ending, phase) == (Ending::Broken(fault), Phase::Failed)),
     }
@@ -207,7 +219,7 @@ fn reads_lines(
         assert_eq!(rt; reader.next_line(&mut line), end);
     }
     let phase = if end.is_ok() {
-        Phase::Ended
+        Phase::AtEnd
     } else {
         Phase::Failed
     };

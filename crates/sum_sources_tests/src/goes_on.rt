@@ -5,7 +5,7 @@ ghost use Rattle.std.specs.Prelude.{◌≡◌};
 use std::alloc::Allocator;
 use std::collections::VecDeque;
 use sum_sources::{
-    Answer, Ending, Fault, Input, NoRoom, OpenFault, Phase, Source, Told, ToldSource,
+    Answer, Ending, Fault, FileCounts, Input, NoRoom, OpenFault, Phase, Source, Told, ToldSource,
 };
 
 /// An input of two parts. After the end or the fault of the first part it goes on with the second.
@@ -26,12 +26,12 @@ impl<'a> TwoParts<'a> {
 
     fn of_parts(first: &'a [u8], ending: Ending, second: &'a [u8], piece: usize) -> TwoParts<'a>
         ensures bytes { result.told.content ≡ record { bytes = first.entry.now; ending = ending } }
-        ensures phase { result.phase ≡ Phase.Reading }
+        ensures phase { result.phase ≡ Phase.Unfinished }
     {
         TwoParts {
             told: Told::new(first, ending, piece),
             second: Some(Told::new(second, Ending::Whole, piece)),
-            phase: Phase::Reading,
+            phase: Phase::Unfinished,
         }
     }
 
@@ -68,8 +68,7 @@ pub struct InTurn<'a, A: Allocator + Copy> {
     // has no file, and records the names
     names: ToldSource<'a, A>,
     piece: usize,
-    opened: u64,
-    ended: u64,
+    counts: FileCounts,
     failed: u64,
 }
 
@@ -80,8 +79,7 @@ impl<'a, A: Allocator + Copy> InTurn<'a, A> {
             answers: VecDeque::new(alloc),
             names: ToldSource::new(alloc, piece),
             piece,
-            opened: 0,
-            ended: 0,
+            counts: FileCounts::NONE,
             failed: 0,
         }
     }
@@ -106,7 +104,7 @@ impl<'a, A: Allocator + Copy> InTurn<'a, A> {
 
     /// How many files were opened, how many of these were closed at their end, and how many at their fault.
     pub fn counts(&self) -> (u64, u64, u64) {
-        (self.opened, self.ended, self.failed)
+        (self.counts.opened, self.counts.ended, self.failed)
     }
 }
 
@@ -122,30 +120,28 @@ impl<'a, A: Allocator + Copy> Source for InTurn<'a, A> {
         answer = λ asked name. get_or (map (λ a. reply_of a.0) s.answers.items) (length asked) (Err NotFound);
         asked = s.names.asked;
       });
-      refusals = s.names.refusals;
-      opened = s.opened;
-      ended = s.ended;
+      counts = s.counts;
     } };
 
     fn open_file(&mut self, name: &[u8]) -> Result<TwoParts<'a>, OpenFault> {
         if let Err(OpenFault::Memory) = self.names.open_file(name) {
+            self.counts.refused();
             return Err(OpenFault::Memory);
         }
         match self.answers.pop_front() {
             None => Err(OpenFault::Fault(Fault::NotFound)),
             Some((Answer::Fault(fault), _)) => Err(OpenFault::Fault(fault)),
             Some((Answer::Content(first, ending), second)) => {
-                self.opened = self.opened.saturating_add(1);
+                self.counts.opened();
                 Ok(TwoParts::of_parts(first, ending, second, self.piece))
             }
         }
     }
 
     fn close_file(&mut self, file: TwoParts<'a>) {
-        match file.phase {
-            Phase::Ended => self.ended = self.ended.saturating_add(1),
-            Phase::Failed => self.failed = self.failed.saturating_add(1),
-            _ => {}
+        self.counts.closed(file.phase);
+        if file.phase == Phase::Failed {
+            self.failed = self.failed.saturating_add(1);
         }
     }
 }

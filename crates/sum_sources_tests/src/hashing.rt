@@ -2,7 +2,22 @@
 use digest_kinds::{Hasher, Md5Hasher, Sha256Hasher};
 use std::process::Abort;
 use std::test::Fail;
-use sum_sources::{Ending, Fault, PIECE, Told, hash_input, hash_input_over};
+use sum_sources::{
+    Answer, Ending, Fault, PIECE, Source, Told, ToldSource, hash_input, hash_input_over,
+};
+
+// The lines of the crate's front page.
+#[test]
+fn front_page(rt: HostRuntime) -> Result<(), Fail> {
+    let mut files = ToldSource::new(rt.alloc(), PIECE);
+    files.add(b"notes.txt", Answer::Content(b"abc", Ending::Whole))?;
+    let mut file = files.open_file(b"notes.txt")?;
+    let digest = hash_input(&mut file, Md5Hasher::new())?;
+    files.close_file(file);
+    assert!(rt; digest.same(&"900150983cd24fb0d6963f7d28e17f72".parse()?));
+    assert!(rt; files.counts().ended == 1);
+    Ok(())
+}
 
 const PIECES: [usize; 4] = [1, 127, 8191, 8192];
 

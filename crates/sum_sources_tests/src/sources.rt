@@ -6,9 +6,18 @@ use std::io::{self, ErrorKind};
 use std::rt;
 use std::test::Fail;
 use sum_sources::{
-    Answer, Closable, Ending, Fault, Files, Input, NoRoom, OpenFault, Phase, Source, Told,
-    ToldSource,
+    Answer, Closable, EBADF, Ending, Fault, FileCounts, Files, Input, NoRoom, OpenFault, Phase,
+    Source, Told, ToldSource,
 };
+
+// What a source counts that was refused no memory.
+fn counts(opened: u64, ended: u64) -> FileCounts {
+    FileCounts {
+        refusals: 0,
+        opened,
+        ended,
+    }
+}
 
 #[test]
 fn told_source(rt: HostRuntime) -> Result<(), Fail> {
@@ -22,15 +31,15 @@ fn told_source(rt: HostRuntime) -> Result<(), Fail> {
     assert_eq!(rt; buf, *b"ab\0\0");
     assert!(rt; source.open_file(b"d").err() == Some(OpenFault::Fault(Fault::Denied)));
     assert!(rt; source.open_file(b"").err() == Some(OpenFault::Fault(Fault::NotFound)));
-    assert!(rt; source.opened() == 1);
+    assert!(rt; source.counts().opened == 1);
     source.close_file(file);
     let mut again = source.open_file(b"a").ok().ok_or("a again")?;
     for n in [2, 1, 0] {
-        assert!(rt; source.ended() == 0);
+        assert!(rt; source.counts().ended == 0);
         assert_eq!(rt; again.read(&mut buf), Ok(n));
     }
     source.close_file(again);
-    assert!(rt; (source.opened(), source.ended()) == (2, 1));
+    assert_eq!(rt; source.counts(), counts(2, 1));
     for (i, name) in [b"a".as_slice(), b"d", b"", b"a"].into_iter().enumerate() {
         assert_eq!(rt; source.asked_name(i).ok_or("asked")?, name, "{i}");
     }
@@ -68,12 +77,12 @@ fn real_files(rt: HostRuntime) -> Result<(), Fail> {
     assert!(rt; buf.starts_with(b"abc"));
     assert!(rt; file.read(&mut buf) == Ok(0));
     files.close_file(file);
-    assert!(rt; (files.opened(), files.ended()) == (1, 1));
+    assert_eq!(rt; files.counts(), counts(1, 1));
     // A directory opens, and can't be read.
     let mut directory = files.open_file(b".").ok().ok_or("not opened")?;
     assert!(rt; directory.read(&mut buf) == Err(Fault::Os(21)));
     files.close_file(directory);
-    assert!(rt; (files.opened(), files.ended()) == (2, 1));
+    assert_eq!(rt; files.counts(), counts(2, 1));
     for (name, fault) in [
         (b"sum_sources_real/".as_slice(), Fault::Os(20)),
         (b"sum_sources_real/x", Fault::Os(20)),
@@ -159,7 +168,7 @@ fn no_memory_to_open(rt: HostRuntime) {
         assert!(rt; files.open_file(b"a").err() == Some(OpenFault::Memory));
     }
     assert!(rt; files.open_file(b"\xff").err() == Some(OpenFault::Fault(Fault::Other)));
-    assert!(rt; (files.opened(), files.ended()) == (0, 0));
+    assert!(rt; files.counts().refusals == 3 && files.counts().opened == 0);
 }
 
 // An open one gives what its input gives; each read of a closed one fails.
@@ -171,10 +180,10 @@ fn closable(rt: HostRuntime) -> Result<(), Fail> {
     assert!(rt; open.read(&mut buf) == Ok(1));
     assert!(rt; open.read(&mut buf) == Err(Fault::Denied));
     let mut closed: Closable<Told> = Closable::closed();
-    assert!(rt; matches!(closed, Closable::Closed(Phase::Reading)));
-    assert!(rt; closed.read(&mut buf) == Err(Fault::Os(9)));
+    assert!(rt; matches!(closed, Closable::Closed(Phase::Unfinished)));
+    assert!(rt; closed.read(&mut buf) == Err(Fault::Os(EBADF)));
     assert!(rt; matches!(closed, Closable::Closed(Phase::Failed)));
-    assert!(rt; closed.read(&mut buf) == Err(Fault::Os(9)));
+    assert!(rt; closed.read(&mut buf) == Err(Fault::Os(EBADF)));
     assert!(rt; matches!(closed, Closable::Closed(Phase::Past)));
     Ok(())
 }
