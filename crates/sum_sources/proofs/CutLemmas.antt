@@ -38,7 +38,8 @@ cut [] = ([], [], refl, All-nil HasNoNewline, All-nil IsPlain)
 cut (b ∷ bs) = cut_more b bs (cut bs)
 
 -- the pieces of bytes that were cut are those of the cut, and the last line
-pub raw_lines-joined : (ending : Ending) (ended : List (List ℕ)) (tail : List ℕ) → All HasNoNewline ended → HasNoNewline tail
+pub raw_lines-joined : (ending : Ending) (ended : List (List ℕ)) (tail : List ℕ) → All HasNoNewline ended
+    → HasNoNewline tail
     → raw_lines (record { bytes = bytes_of_lines ended tail; ending = ending }) ≡ ended ++ last_line ending tail
 raw_lines-joined ending [] tail plain none = pieces-last ending tail none
 raw_lines-joined ending (p ∷ ps) tail plain none =

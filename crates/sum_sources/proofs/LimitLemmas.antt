@@ -42,7 +42,8 @@ clipped-bytes c d (b ∷ part) rest (suc n) t few some fits read =
     rw read
     (clip_to-with_prefix (limit - t) (limit - (t + suc n)) (take (suc n) (b ∷ part)) d
     (rw limit-value (omega arith)) (rw limit-value (omega arith))
-    ∙ ap (λ bytes. with_prefix bytes (clip_to (limit - (t + suc n)) d)) (sym (take-append-le (suc n) (b ∷ part) rest few)))
+    ∙ ap (λ bytes. with_prefix bytes (clip_to (limit - (t + suc n)) d))
+    (sym (take-append-le (suc n) (b ∷ part) rest few)))
 
 -- a fault
 pub clipped-fault : (c d : Content) (f : Fault) (t : ℕ) → t < 2 ^ 61 → ReadsFrom c d (Err f) []

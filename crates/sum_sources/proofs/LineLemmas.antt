@@ -46,7 +46,8 @@ pub IsNextLine-ended : (c d : Content) (piece : List ℕ) → HasNoNewline piece
 IsNextLine-ended c d piece none gave = grind (arith, append_assoc, after_piece, pieces-newline)
 
 -- a last piece that isn't empty is the only line left
-pub IsNextLine-last : (c : Content) (piece : List ℕ) → HasNoNewline piece → 0 < length piece → Gave c empty_content piece
+pub IsNextLine-last : (c : Content) (piece : List ℕ) → HasNoNewline piece → 0 < length piece
+    → Gave c empty_content piece
     → IsNextLine c empty_content (Ok Line) (strip_carriage_return piece)
 IsNextLine-last c piece none some gave = search (rules, after_piece, pieces-last)
 

@@ -50,7 +50,11 @@ ends_line {I = I} {state = state} {old = old} {s = s} {s' = s'} {line = line} {l
     let more = length-append line' (10 ∷ []) in
     some_line _ (remaining_content state old) (remaining_content state s') (Ok Line) (strip_carriage_return line')
     (line' ++ 10 ∷ []) (consumed_count old) (consumed_count s') d d read may
-    (omega (arith, below_limit (state s'.input).content s'.ahead s'.taken d (few.0, omega arith) (rw going at may))) (omega arith)
+    (omega (
+      arith,
+      below_limit (state s'.input).content s'.ahead s'.taken d
+          (few.0, omega arith) (rw going at may),
+    )) (omega arith)
     (λ c. IsNextLine-ended c d line' none)
 
 -- if just the rest remains, the line is all that was read before it
@@ -64,7 +68,8 @@ pub ends_at : {I : Type 0} {state : I → InputState} {old s : LineReaderValue I
     × OnOk r (m + length d.bytes ≡ consumed_count old + length c.bytes)
 ends_at {state = state} {old = old} {line = line} y rest r line' m d h is few sum of =
     let read : IfKnown (remaining_content state old) (Some rest) (λ c d. Gave c d line) = grind arith in
-    some_line ⊤ (remaining_content state old) (Some rest) r line' line (consumed_count old) m rest d read refl few sum of
+    some_line ⊤ (remaining_content state old) (Some rest) r line' line (consumed_count old)
+    m rest d read refl few sum of
 
 -- want of memory means that something remained
 pub no_memory : {I : Type 0} {state : I → InputState} {old s : LineReaderValue I} {line : List ℕ}
@@ -74,7 +79,8 @@ no_memory {state = state} {old = old} {s = s} {line = line} h few some =
     let x = (state s.input).content in
     let (d, remains, more) = some_ahead x s.ahead s.taken few some in
     let known : MayRemain state s d = rw h.going remains in
-    some_line _ (remaining_content state old) (remaining_content state s) (Err stops.Memory) [] line (consumed_count old) 0 d d
+    some_line _ (remaining_content state old) (remaining_content state s) (Err stops.Memory)
+    [] line (consumed_count old) 0 d d
     h.read known (omega (arith, h.sum, below_limit x s.ahead s.taken d few remains)) tt
     (λ c gave. rw (gave.0, length-append) (omega arith))
 

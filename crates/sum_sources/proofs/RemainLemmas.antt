@@ -11,8 +11,8 @@ pub MayRemain-known : {I : Type 0} (state : I → InputState) (r : LineReaderVal
     → (c : Content) × MayRemain state r c × P c → IfSome (remaining_content state r) P
 MayRemain-known state r P some = by (remaining_content state r) some.0 some.1 some.2
   where
-    by : (x : Option Content) (c : Content) → MatchOption x (consumed_count r + length c.bytes < limit) (λ d. c ≡ d) → P c
-        → IfSome x P
+    by : (x : Option Content) (c : Content)
+        → MatchOption x (consumed_count r + length c.bytes < limit) (λ d. c ≡ d) → P c → IfSome x P
     by None c may p = tt
     by (Some d) c is p = subst P is p
 
@@ -39,7 +39,8 @@ some_ahead (Some c) ahead taken few some =
     (with_prefix ahead (clip_to (limit - taken) c), refl, rw length-append (omega arith))
 
 -- a line of some content that may have remained before these bytes were read of it: of the known one, if it is known
-pub some_line : (F : Type 0) (x y : Option Content) (r : Result Next LineStop) (line bytes : List ℕ) (n m : ℕ) (d e : Content)
+pub some_line : (F : Type 0) (x y : Option Content) (r : Result Next LineStop) (line bytes : List ℕ) (n m : ℕ)
+    (d e : Content)
     → IfKnown x y (λ c d. Gave c d bytes) → MatchOption y F (λ b. d ≡ b) → n + (length bytes + length d.bytes) < 2 ^ 61
     → OnOk r (m + length e.bytes ≡ n + (length bytes + length d.bytes))
     → ((c : Content) → Gave c d bytes → IsNextLine c e r line)

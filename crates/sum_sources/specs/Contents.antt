@@ -17,18 +17,18 @@ pub record InputState : Type 0 where
   pub content : Option Content
   pub phase : Phase
 
--- an input of so many bytes or more is too long
+-- an input of so many bytes is too long
 unfoldable pub limit : ℕ
 limit = 2 ^ 61
 
--- a content of which fewer than n bytes count; a longer one counts as its prefix and then a fault
+-- a content, if it has fewer than n bytes; otherwise its first n - 1 bytes, and then a fault
 abbrev pub clip_to : ℕ → Content → Content
 clip_to n c = if nat_lt (length c.bytes) n then c else record { bytes = take (n - 1) c.bytes; ending = Broken Other }
 
 abbrev pub clip : Content → Content
 clip = clip_to limit
 
--- P holds between the values before and after, if they are known; what is known stays known
+-- P holds between the values before and after a call, if they are known. What is known stays known
 abbrev pub IfKnown : {A : Type 0} → Option A → Option A → (A → A → Type 0) → Type 0
 IfKnown None new P = ⊤
 IfKnown (Some a) None P = ⊥
@@ -42,8 +42,8 @@ empty_content = record { bytes = []; ending = Whole }
 abbrev pub with_prefix : ByteString → Content → Content
 with_prefix prefix c = record { bytes = prefix ++ c.bytes; ending = c.ending }
 
--- a read takes the first bytes, some if there is room; or if none remains, it gives the end or the fault of the content,
--- and what remains after that is open
+-- a read takes some of the first bytes. If no byte remains, it gives the end or the fault of the content. What remains
+-- after that may be anything. A read of no bytes may take nothing
 abbrev pub ReadsFrom : Content → Content → Result ℕ Fault → ByteString → Type 0
 ReadsFrom c d (Ok zero) [] = d ≡ c
 ReadsFrom c d (Ok zero) (b ∷ buf) = c ≡ empty_content
@@ -55,8 +55,8 @@ abbrev pub Hashes : KindValue → Content → Result ByteString Fault → Type 0
 Hashes kind c (Ok d) = (c.ending ≡ Whole) × (d ≡ digest kind c.bytes)
 Hashes kind c (Err f) = c.ending ≡ Broken f
 
--- the digest, or the fault, of some content that an input had, which is the known one, if it is known; and a digest only if
--- the input, unfinished before, is at its end
+-- the digest, or the fault, of some content that an input had: of the known one, if it is known. If the input was
+-- unfinished before, a digest is returned only if it is at its end
 pub record HashesInput (kind : KindValue) (a b : InputState) (r : Result ByteString Fault) : Type 0 where
   pub digest : (c : Content) × IfSome a.content (λ d. c ≡ d) × Hashes kind (clip c) r
   pub phase : IfOk r (λ d. a.phase ≡ Unfinished → b.phase ≡ AtEnd)

@@ -17,7 +17,7 @@ pub record Pair : Type 0 where
   pub name : ByteString
   pub reply : Reply
 
--- the reply of the first pair with the name; a name without a pair is not found
+-- the reply of the first pair with the name. A name without a pair isn't found
 abbrev pub first_reply : List Pair → ByteString → Reply
 first_reply [] name = Err NotFound
 first_reply (p ∷ ps) name = if bytes_eq p.name name then p.reply else first_reply ps name

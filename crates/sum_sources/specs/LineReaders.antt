@@ -19,12 +19,12 @@ pub record LineReaderValue (I : Type 0) : Type 0 where
 abbrev pub consumed_count : {I : Type 0} → LineReaderValue I → ℕ
 consumed_count r = r.taken - length r.ahead
 
--- what holds of every reader: each line consumed a byte at least, at most 8,192 bytes are ahead, and taken is bounded
+-- what holds of every reader: each line consumed at least one byte, and at most 8,192 bytes are ahead
 pub record IsBounded {I : Type 0} (r : LineReaderValue I) : Type 0 where
   pub lines : r.lines + length r.ahead ≤ r.taken
   pub ahead : length r.ahead ≤ 8192
   pub taken : r.taken ≤ 2 ^ 61
-  -- only a fault may come with the limit
+  -- only a fault may come at the limit
   pub under : (r.taken < 2 ^ 61) ⊎ ((f : Fault) × (r.final_answer ≡ Some (Err (stops.Fault f))))
 
 -- the remaining content, given the final answer: nothing after the end, and just the fault after a fault
@@ -36,27 +36,29 @@ remaining_by _ c = c
 -- the remaining content, if known: the bytes read ahead and then the input's content, as far as the limit allows
 abbrev pub remaining_content : {I : Type 0} → (I → InputState) → LineReaderValue I → Option Content
 remaining_content state r =
-    remaining_by r.final_answer (option_map (λ c. with_prefix r.ahead (clip_to (limit - r.taken) c)) (state r.input).content)
+    remaining_by r.final_answer (option_map (λ c. with_prefix r.ahead (clip_to (limit - r.taken) c))
+    (state r.input).content)
 
 -- a content that may remain: the known one, or any that the limit allows
 abbrev pub MayRemain : {I : Type 0} → (I → InputState) → LineReaderValue I → Content → Type 0
 MayRemain state r c = MatchOption (remaining_content state r) (consumed_count r + length c.bytes < limit) (λ d. c ≡ d)
 
--- the next line was read: each content that may remain is what it left of one that may have remained; and if `Ok`,
--- bytes consumed and remaining add up to the same
+-- the next line was read: for each content that may remain now there is one that may have remained before, whose next
+-- line it is. If the result is `Ok`, bytes consumed and remaining add up to the same
 abbrev pub ReadsSomeLine : {I : Type 0} → (I → InputState) → LineReaderValue I → LineReaderValue I
     → Result Next LineStop → ByteString → Type 0
 ReadsSomeLine state old new result line = (d : Content) → MayRemain state new d → (c : Content) × MayRemain state old c
-    × IsNextLine c d result line × OnOk result (consumed_count new + length d.bytes ≡ consumed_count old + length c.bytes)
+    × IsNextLine c d result line × OnOk result (consumed_count new + length d.bytes
+    ≡ consumed_count old + length c.bytes)
 
--- what every later call returns, once this was returned: after a line nothing is settled, or the end; after the end or
--- a stop, the same
+-- what every later call returns, once this was returned. After the end or a stop, the same. After a line, either
+-- nothing is settled or it is the end
 abbrev pub IsFinalAnswerAfter : Result Next LineStop → Option (Result Next LineStop) → Type 0
 IsFinalAnswerAfter (Ok Line) later = (later ≡ None) ⊎ (later ≡ Some (Ok NoMore))
 IsFinalAnswerAfter answer later = later ≡ Some answer
 
--- an input of this phase was read as far as the final answer says: it is being read until there is one, and at its end
--- if that is an end; a stop says nothing
+-- the phase of an input matches the final answer: unfinished if there is none yet, and at the end if that is the
+-- answer. A stop says nothing of the phase
 abbrev pub MatchesPhase : Option (Result Next LineStop) → Phase → Type 0
 MatchesPhase None phase = phase ≡ Unfinished
 MatchesPhase (Some (Ok n)) phase = phase ≡ AtEnd

@@ -13,8 +13,8 @@ use Rattle.sum_sources.specs.declared.sources.source.OpenFault.TheVariants as fa
 abbrev pub Reply : Type 0
 Reply = Result Content Fault
 
--- what is known of a source: its reply to each name, given the names asked so far; and the names that it was asked, in
--- order
+-- what is known of a source: its reply to each name, given the names that are asked before it from now on; and the
+-- names that it was asked so far
 pub record KnownSource : Type 0 where
   pub answer : List ByteString → ByteString → Reply
   pub asked : List ByteString
@@ -24,13 +24,13 @@ pub record SourceState : Type 0 where
   pub known : Option KnownSource
   pub counts : FileCounts
 
--- the counts after an opening: one file more, one refusal more for want of memory, or neither
+-- the counts after an opening: one file more, or one refusal more for want of memory. A fault isn't counted
 abbrev pub counts_after_opening : {F : Type 0} → FileCounts → Result F OpenFault → FileCounts
 counts_after_opening c (Ok file) = record c { opened = one_more c.opened }
 counts_after_opening c (Err faults.Memory) = record c { refusals = one_more c.refusals }
 counts_after_opening c (Err (faults.Fault f)) = c
 
--- the counts after a file of this phase was closed: it is counted only at its end
+-- the counts after a file of this phase was closed. A file is counted only if it is at its end
 abbrev pub counts_after_closing : FileCounts → Phase → FileCounts
 counts_after_closing c AtEnd = record c { ended = one_more c.ended }
 counts_after_closing c phase = c
@@ -44,7 +44,8 @@ abbrev pub AsksName : KnownSource → KnownSource → ByteString → Option Repl
 AsksName s t name reply = (t ≡ record { answer = λ asked. s.answer (name ∷ asked); asked = s.asked ++ name ∷ [] })
     × (reply ≡ Some (s.answer [] name))
 
--- opening a name: nothing changes for want of memory; else it was asked, and its reply is the file's content or fault
+-- what opening a name gives: the reply to it, which is the file's content, or the fault. For want of memory the name
+-- wasn't asked
 abbrev pub OpensName : {F : Type 0} → (F → InputState) → KnownSource → KnownSource → ByteString → Result F OpenFault
     → Type 0
 OpensName state s t name (Ok file) = AsksName s t name (option_map Ok (state file).content)

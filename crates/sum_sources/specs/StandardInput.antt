@@ -12,11 +12,11 @@ pub record StdinValue (I : Type 0) : Type 0 where
   pub input : Option I  -- its input, until that is taken
   pub returned : Option I  -- the input that was put back, if one was
 
--- the state of standard input: that of its input until that is taken; then nothing remains, and it is past its end
+-- the state of standard input: that of its input until this is taken. Then nothing remains, and it is past its end
 abbrev pub stdin_state : {I : Type 0} → (I → InputState) → StdinValue I → InputState
 stdin_state state stdin = option_map_or state stdin.input (record { content = Some empty_content; phase = Past })
 
--- the state of what was taken of it, an input or none: as if it were still there
+-- the state of what was taken, an input or none: that of standard input before it was taken
 abbrev pub given_state : {I : Type 0} → (I → InputState) → Option I → InputState
 given_state state given = stdin_state state (record { input = given; returned = None })
 
@@ -24,11 +24,12 @@ given_state state given = stdin_state state (record { input = given; returned = 
 abbrev pub stdin_taken : {I : Type 0} → StdinValue I → Bool
 stdin_taken stdin = is_none stdin.input || is_some stdin.returned
 
--- how far standard input was read; nothing is known of it until it was put back
+-- how far standard input was read. Nothing is known of that between the taking and the putting back
 abbrev pub stdin_phase : {I : Type 0} → (I → InputState) → StdinValue I → Option Phase
 stdin_phase state stdin = option_map (λ i. (state i).phase) (option_or stdin.returned stdin.input)
 
--- the state of an input that may be closed: then only a fault remains, by which each read fails
+-- the state of an input that may be closed. If it is, only a fault remains: each read fails by it
 abbrev pub unless_closed : {I : Type 0} → (I → InputState) → Closable I → InputState
 unless_closed state (Open i) = state i
-unless_closed state (Closed p) = record { content = Some (record { bytes = []; ending = Broken (Os (pos ebadf)) }); phase = p }
+unless_closed state (Closed p) =
+    record { content = Some (record { bytes = []; ending = Broken (Os (pos ebadf)) }); phase = p }

@@ -16,9 +16,9 @@ pub enum Fault {
     NotFound,
     /// The file may not be read.
     Denied,
-    /// None of the others.
+    /// Any other reason. Its text is *Input/output error*.
     Other,
-    /// Another reason of the system, by its number (`errno`).
+    /// A reason of the system that has a text of its own, by its number (`errno`): 21 is *Is a directory*.
     Os(i32),
 }
 
@@ -60,7 +60,7 @@ impl fmt::Display for Fault {
 
 impl error::Error for Fault {}
 
-/// The fault for an error of std's. Its number decides; if it has none, its kind does.
+/// The fault for an error of std's. Its number decides. If it has no number, its kind decides.
 pub(crate) fn fault_of(error: &io::Error) -> Fault
     ensures { result ≡ fault_of_error (error_kind error.now) (raw_os_error error.now) }
 {
@@ -93,8 +93,8 @@ fn fault_of_kind(kind: ErrorKind) -> Fault
     }
 }
 
-// The system's text for one of its numbers, as the C library has it; `None` if opening and reading don't give that
-// number. It is three tables, since the prover takes no longer ones.
+// The system's text for one of its numbers, as the C library has it. `None` if opening and reading don't give that
+// number. There are three tables, since the prover takes no `match` of all numbers.
 fn reason(number: i32) -> Option<&'static str>
     ensures { option_map (λ text. text.now) result ≡ reason number }
 {
@@ -192,6 +192,6 @@ pub struct NoRoom;
 pub enum Ending {
     /// All bytes were read.
     Whole,
-    /// Then a read fails by this fault.
+    /// After the last byte a read fails by this fault.
     Broken(Fault),
 }

@@ -1,11 +1,11 @@
-//! Laws over the definitions alone.
+//! A law of the lines of a content.
 ghost use Rattle.std.specs.Prelude.{◌≡◌, ℕ, ◌++◌, List, All};
 ghost use Rattle.sum_sources.specs.declared.fault.Ending.{Ending as EndingValue};
 ghost use Rattle.sum_sources.specs.ManifestLines.{HasNoNewline, bytes_of_lines, last_line, raw_lines};
 
-/// Any bytes are pieces without a newline, each ended by one, and then a tail without a newline. If bytes are such
-/// pieces and a tail, their lines, before a carriage return is dropped, are just these pieces and then the tail, if it
-/// counts as the last line.
+/// All bytes can be cut into pieces that a newline ends, and a tail. Neither a piece nor the tail has a newline. The
+/// lines of the bytes, before a carriage return is dropped, are these pieces. The tail follows if it isn't empty and
+/// the content ends whole.
 pub fn raw_lines_of_bytes()
     ensures exist { (bytes : List ℕ) → (ended : List (List ℕ)) × (tail : List ℕ)
         × (bytes ≡ bytes_of_lines ended tail) × All HasNoNewline ended × HasNoNewline tail }

@@ -20,8 +20,8 @@ pub enum Next {
     NoMore,
 }
 
-/// Why there is no next line: the input ended by this `Fault`, after every line that a newline ended; or there was no
-/// `Memory` for the line.
+/// Why there is no next line. `Fault`: the input ended by this fault, after all lines that a newline ended. `Memory`:
+/// there was no memory for the line.
 #[derive(Clone, Copy, Debug, PartialEq, Eq, Error)]
 pub enum LineStop {
     #[error(transparent)]
@@ -80,8 +80,8 @@ impl<I: Input> LineReader<I> {
     ghost use Rattle.sum_sources.specs.LineReaders.{AdvancesLines, IsReadSoFar, ReadsSomeLine};
     ghost use Rattle.sum_sources.specs.refinement.LineStates.{FillsBuffer, TakesPiece};
 
-    /// A reader of the lines of `input`. An input of `LIMIT` bytes or more counts as its first
-    /// `LIMIT - 1` bytes and then `Fault::Other`.
+    /// A reader of the lines of `input`. If the input has `LIMIT` bytes or more, its first `LIMIT - 1` bytes count, and
+    /// then `Fault::Other`.
     pub fn new(input: I) -> Self
         ensures is { result ≡ record { input = input; ahead = []; taken = 0; lines = 0; final_answer = None } }
         ensures remaining_content { remaining_content I.state result ≡ option_map clip (I.state input).content }
@@ -112,14 +112,14 @@ impl<I: Input> LineReader<I> {
         self.lines
     }
 
-    /// The input, past the bytes that were read from it; those read ahead of the last line are lost.
+    /// The input, past the bytes that were read from it. Bytes that were read ahead of the last line are lost.
     pub fn into_inner(self) -> I
         ensures { result ≡ self.input }
     {
         self.input
     }
 
-    // Reads into the empty buffer. Returns false if the input has ended. A fault is final.
+    // Reads into the empty buffer. Returns false if the input has ended. Every later call returns the same fault.
     fn fill(&mut self) -> Result<bool, Fault>
         requires empty { self.old.ahead ≡ [] }
         requires going { self.old.final_answer ≡ None }
@@ -147,8 +147,8 @@ impl<I: Input> LineReader<I> {
         Ok(self.end != 0)
     }
 
-    // Moves the buffer's bytes up to its first newline to the line's end, and drops that newline. Returns false if
-    // there is none, and all bytes were moved.
+    // Moves the buffer's bytes up to its first newline to the line's end, and drops that newline. If the buffer has no
+    // newline, all its bytes are moved, and the result is false.
     fn take_piece<A: Allocator>(&mut self, line: &mut Vec<u8, A>) -> Result<bool, AllocError>
         requires going { self.old.final_answer ≡ None }
         ensures piece { IfOk result (λ ended.
@@ -213,19 +213,20 @@ impl<I: Input> LineReader<I> {
         }
     }
 
-    /// Puts the next line into `line`, without its newline and without one carriage return at its end. `NoMore` if none
-    /// remains and the input ended whole, `LineStop::Fault` if it ended by that fault, `LineStop::Memory` if memory for
-    /// the line was refused. Every later call returns the same, and doesn't read the input. The content of `line` is
-    /// unspecified after these, and doesn't matter before.
+    /// Puts the next line into `line`, without its newline and without one carriage return at its end. What `line` had
+    /// before doesn't matter.
+    ///
+    /// `NoMore` if no line remains and the input ended whole. `LineStop::Fault` if it ended by that fault.
+    /// `LineStop::Memory` if memory for the line was refused; bytes of the manifest were then still to come. After any
+    /// of these the content of `line` is unspecified, and every later call returns the same and doesn't read the input.
     pub fn next_line<A: Allocator>(&mut self, line: &mut Vec<u8, A>) -> Result<Next, LineStop>
-        // Known or not: the next line of some content that remained, which is the known one, if it is known; and if
-        // `Ok`, bytes consumed and remaining add up to the same.
+        // The next line of some content that remained: of the known one, if it is known.
         ensures line { ReadsSomeLine I.state self.old self.new result line.new.items }
-        // A final answer is returned again; the reader stays as it is.
+        // A final answer is returned again, and the reader stays as it is.
         ensures repeats { IfSome self.old.final_answer (λ answer. (result ≡ answer) × (self.new ≡ self.old)) }
         // Known or not: the lines counted, how far the input was read, and which answers are final.
         ensures reader { AdvancesLines I.state self.old self.new result }
-        // Bytes taken and bytes that remain in the input add up to the same.
+        // Bytes taken from the input and bytes that remain in it add up to the same.
         ensures total { self.new.final_answer ≡ None → KeepsTotal self.old.taken (I.state self.old.input)
             self.new.taken (I.state self.new.input) }
         // At most 8192 bytes are read ahead of the lines, and no count passes its limit.

@@ -35,7 +35,7 @@ pub record LineReaderInvariant {I : Type 0} (s : Inside I) : Type 0 where
   pub under : (s.taken < 2 ^ 61) ⊎ ((f : Fault) × (s.state ≡ Stopped (stops.Fault f)))
   pub wants : s.state ≡ Stopped stops.Memory → s.start < s.end
 
--- filling the empty buffer: the remaining content stays, or nothing remains, by the ending
+-- the empty buffer was filled, and the remaining content stays. Or nothing remains, and this is the ending
 abbrev pub FillsBuffer : Content → Content → Result Bool Fault → Type 0
 FillsBuffer c d (Ok true) = d ≡ c
 FillsBuffer c d (Ok false) = c ≡ empty_content

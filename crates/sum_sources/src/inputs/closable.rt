@@ -15,7 +15,7 @@ pub enum Closable<I> {
 }
 
 impl<I> Closable<I> {
-    /// A closed input, which was not read yet.
+    /// A closed input that was not read yet.
     pub fn closed() -> Self
         ensures { result ≡ Closable.Closed Phase.Unfinished }
     {

@@ -8,7 +8,7 @@ use crate::{Fault, Phase};
 use std::io::{ErrorKind, Read};
 use std::marker::Model;
 
-/// An input over a reader. Its bytes aren't known; each read has the contract of std's `Read`.
+/// An input over a reader of std's. Contracts on contents don't know its bytes. Each read has the contract of `Read`.
 #[derive(Debug, Drop)]
 pub struct FromRead<R> {
     reader: R,
@@ -24,8 +24,8 @@ impl<R> Model for FromRead<R> {
 }
 
 impl<R: Read> FromRead<R> {
-    /// The input that reads from `reader`. The number of the reader's error decides which fault it is, or its kind if
-    /// it has none. The 1,000th interruption in a row within one read is `Fault::Other`.
+    /// The input that reads from `reader`. Which fault an error of the reader is, its number decides. If the error has
+    /// no number, its kind decides. The 1,000th interruption in a row within one read is `Fault::Other`.
     pub fn new(reader: R) -> Self
         ensures { result ≡ record { reader = reader; phase = Phase.Unfinished } }
     {
@@ -49,7 +49,7 @@ impl<R: Read> FromRead<R> {
         self.reader
     }
 
-    // Calls the reader once, which nothing else does, and keeps in the phase what it returned. `None` if it was
+    // Calls the reader once, and keeps in the phase what it returned. Nothing else calls the reader. `None` if it was
     // interrupted.
     pub(crate) fn read_once(&mut self, buf: &mut [u8]) -> Option<Result<usize, Fault>>
         ensures count { IfSome result (λ read. IfOk read (λ n. n ≤ length buf.new)) }
@@ -67,7 +67,7 @@ impl<R: Read> FromRead<R> {
         Some(read)
     }
 
-    // A read of so many bytes that fails by this fault, without the reader.
+    // A read of `size` bytes that fails by this fault. The reader isn't called.
     pub(crate) fn fail(&mut self, size: usize, fault: Fault) -> Result<usize, Fault>
         ensures fault { result ≡ Err fault }
         ensures phase { self.new ≡ record self.old { phase = phase_after self.old.phase size result } }

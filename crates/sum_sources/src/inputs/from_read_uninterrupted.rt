@@ -1,4 +1,5 @@
-//! Reads that go on after interruptions, where a reader and its phase can't be touched.
+//! Reads that go on after interruptions. They stand apart from `FromRead`, so that they can't touch its reader and
+//! phase.
 ghost use Rattle.std.specs.Prelude.{◌≡◌, ◌≤◌, length, IfOk};
 ghost use Rattle.std.specs.Io.KnownBytes.{ReadConsumes};
 ghost use Rattle.sum_sources.specs.Phases.{phase_after};

@@ -6,9 +6,8 @@ use crate::inputs::size_limit::read_limited;
 use crate::{Fault, Input, PIECE};
 use digest_kinds::{Digest, Hasher};
 
-/// Reads `input` once, in order and to its end, in pieces of at most `PIECE` bytes. Returns the digest that `hasher`
-/// makes of its bytes, or the fault that the input ends by. An input of `LIMIT` bytes or more is `Fault::Other`. The
-/// hasher has to be a new one.
+/// Reads `input` to its end and returns the digest that `hasher`, a new one, makes of its bytes; or the fault by which
+/// the input ends. An input of `LIMIT` bytes or more is `Fault::Other`.
 pub fn hash_input<I: Input, H: Hasher + Drop>(input: &mut I, hasher: H) -> Result<Digest, Fault>
     requires { H.holds hasher [] }
     ensures input { HashesInput (H.kind_of hasher) (I.state input.old) (I.state input.new) result }
@@ -17,8 +16,8 @@ pub fn hash_input<I: Input, H: Hasher + Drop>(input: &mut I, hasher: H) -> Resul
     hash_input_over(input, hasher, &mut buffer)
 }
 
-/// As `hash_input`, but reads into the caller's buffer, so that one buffer serves many inputs. Its content doesn't
-/// matter before, and is open after.
+/// As `hash_input`, but reads into the caller's buffer, so that one buffer serves many inputs. What the buffer has
+/// before doesn't matter. What it has afterwards is unspecified.
 pub fn hash_input_over<I: Input, H: Hasher + Drop>(
     input: &mut I,
     mut hasher: H,

@@ -10,12 +10,12 @@ pub const PIECE: usize = 8192;
 
 /// An input: bytes, and then an end or a fault.
 pub trait Input {
-    /// What remains, if it is known; and how far the input was read, `Past` if it doesn't keep that.
+    /// What remains, if it is known; and how far the input was read. That is `Past` if the input doesn't keep it.
     ghost state: { Self → InputState } = { λ _. record { content = None; phase = Past } };
 
-    /// Reads some of the remaining bytes into the front of `buf` and returns how many, at most its length. Returns 0
-    /// for a `buf` that isn't empty only if the input has ended whole, and a fault only if no byte remains and the
-    /// input ends by that fault. An input may go on after its end or its fault.
+    /// Reads some of the remaining bytes into the front of `buf`, and returns how many: at most its length. Returns 0
+    /// for a `buf` that isn't empty only if the input has ended whole. Returns a fault only if no byte remains and the
+    /// input ends by that fault. After its end or its fault an input may go on.
     fn read(&mut self, buf: &mut [u8]) -> Result<usize, Fault>
         ensures count { IfOk result (λ n. n ≤ length buf.new) }
         ensures bytes { IfKnown (state self.old).content (state self.new).content (λ c d.

@@ -1,4 +1,4 @@
-//! An input ends at the limit.
+//! Reading up to the limit of 2^61 bytes.
 ghost use Rattle.std.specs.Prelude.{◌≡◌, ◌≤◌, ◌<◌, ◌+◌, ◌-◌, ◌^◌, length, IfOk, OnOk};
 ghost use Rattle.sum_sources.specs.Contents.{IfKnown, ReadsFrom, limit, clip_to, KeepsTotal};
 ghost use Rattle.sum_sources.specs.Phases.{phase_after};
@@ -6,8 +6,8 @@ ghost use Rattle.sum_sources.specs.Phases.{phase_after};
 use crate::{Fault, Input, PIECE};
 use digest_kinds::LIMIT;
 
-/// Reads as `Input::read` from an input from which `taken` bytes were read, of which `LIMIT - 1` count: one byte more
-/// is `Fault::Other`.
+/// Reads as `Input::read`, from an input that has given `taken` bytes so far. At most `LIMIT - 1` of its bytes count.
+/// If it has one byte more, that is `Fault::Other`.
 pub(crate) fn read_limited<I: Input>(
     input: &mut I,
     taken: &mut u64,

@@ -5,7 +5,7 @@ ghost use Rattle.std.specs.Option.{option_or};
 use crate::{Fault, Input};
 use std::marker::Model;
 
-/// An input that can be taken once, and is put back.
+/// Standard input. Its input can be taken once, and is put back.
 #[derive(Debug, Drop)]
 pub struct Stdin<I> {
     input: Option<I>,
@@ -20,7 +20,8 @@ impl<I> Model for Stdin<I> {
     ghost view = { λ s. record { input = s.input; returned = s.returned } };
 }
 
-/// Standard input that was taken: its input, or an empty one. It can't be dropped: who took it puts it back.
+/// What [`Stdin::take`] gives: the input of standard input, or an empty one. It can't be dropped, so whoever took it
+/// puts it back.
 #[derive(Debug)]
 pub struct Given<I> {
     input: Option<I>,
@@ -35,7 +36,7 @@ impl<I> Model for Given<I> {
 }
 
 impl<I: Input> Stdin<I> {
-    /// Standard input whose input is `input`.
+    /// Standard input that gives `input` when it is taken.
     pub fn new(input: I) -> Self
         ensures { result ≡ record { input = Some input; returned = None } }
     {
@@ -57,7 +58,8 @@ impl<I: Input> Stdin<I> {
 }
 
 impl<I: Input + Drop> Stdin<I> {
-    /// Puts back what `take` gave, so that its phase is known from then on. The first that has an input stays.
+    /// Puts back what `take` gave, so that its phase is known from then on. If an input was put back before, that one
+    /// stays, and this one is dropped.
     pub fn put_back(&mut self, given: Given<I>)
         ensures returned { self.new ≡ record self.old { returned = option_or self.old.returned given } }
     {

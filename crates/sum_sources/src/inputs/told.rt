@@ -6,7 +6,7 @@ ghost use Rattle.sum_sources.specs.Phases.{phase_after};
 use crate::{Ending, Fault, Input, Phase};
 use std::marker::Model;
 
-/// An input of bytes in memory, which are known. It gives its end, or its fault, again and again.
+/// An input of bytes in memory, which are known. At its end, or its fault, each read gives that again.
 #[derive(Debug, Drop)]
 pub struct Told<'a> {
     rest: &'a [u8],

@@ -9,7 +9,7 @@ use std::io::{self, ErrorKind, Read};
 use std::marker::Model;
 use std::{fs, rt};
 
-/// The files that the runtime opens. Nothing is known of them but counts.
+/// The files that the runtime opens. Contracts know their counts and nothing else of them.
 #[derive(Debug, Drop)]
 pub struct Files<R> {
     rt: R,
@@ -43,7 +43,8 @@ impl<R: rt::Files + Drop> Files<R> {
     }
 }
 
-// Whether the runtime had no memory for a call. If the system has none, its error has a number: a fault of that file.
+// Whether the runtime had no memory for a call. If the system has none, its error has a number, and is a fault of that
+// file.
 fn is_refusal(error: &io::Error) -> bool {
     error.kind() == ErrorKind::OutOfMemory && error.raw_os_error().is_none()
 }
@@ -58,8 +59,8 @@ where
 
     ghost state = { λ s. record { known = None; counts = s } };
 
-    /// Opens the file. A name that isn't UTF-8 is `Fault::Other`, since the runtime's paths are texts. Other faults are
-    /// those of the system. `OpenFault::Memory` if the runtime has no memory for the call.
+    /// Opens the file. A name that isn't UTF-8 is `Fault::Other`, since the runtime's paths are texts. Any other fault
+    /// is the system's. `OpenFault::Memory` if the runtime has no memory for the call.
     fn open_file(&mut self, name: &[u8]) -> Result<FromRead<R::File>, OpenFault>
         ensures counts { self.new ≡ counts_after_opening self.old result }
         ensures phase { IfOk result (λ file. file.phase ≡ Phase.Unfinished) }

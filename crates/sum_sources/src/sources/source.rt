@@ -6,7 +6,8 @@ ghost use Rattle.sum_sources.specs.Sources.{SourceState, OpensName, counts_after
 use crate::{Fault, Input, Phase};
 use thiserror::Error;
 
-/// Why a file could not be opened: this `Fault`, or want of `Memory`; then the file may be there.
+/// Why a file could not be opened: by this `Fault`, or for want of `Memory`. After `Memory` nothing is known of the
+/// file.
 #[derive(Clone, Copy, Debug, PartialEq, Eq, Error)]
 pub enum OpenFault {
     #[error(transparent)]
@@ -15,17 +16,17 @@ pub enum OpenFault {
     Memory,
 }
 
-/// A source of files. Whoever writes one keeps a [`FileCounts`](crate::FileCounts), and calls it as the clauses say.
+/// A source of files. Whoever writes one keeps a [`FileCounts`](crate::FileCounts), and tells it of each opening and
+/// closing.
 pub trait Source {
-    /// The input that reads an open file. It need not be `Drop`: then who opened it has to close it.
+    /// The input that reads an open file. If its type isn't `Drop`, whoever opened it has to close it.
     type File: Input;
 
-    /// What the source answers for each name, given the names asked so far, and these names, if both are known; and
-    /// what it counts.
+    /// What the source answers for each name, given the names asked so far, if that is known; and what it counts.
     ghost state: { Self → SourceState };
 
-    /// Opens the file of that name. `OpenFault::Fault` if it can't be opened, `OpenFault::Memory` only if memory was
-    /// refused; the name is then not recorded as asked.
+    /// Opens the file of that name. `OpenFault::Fault` if it can't be opened. `OpenFault::Memory` only if memory was
+    /// refused; then the name isn't recorded as asked.
     fn open_file(&mut self, name: &[u8]) -> Result<Self::File, OpenFault>
         ensures answer { IfKnown (state self.old).known (state self.new).known (λ s t.
             OpensName Self.File.state s t name.now result) }

@@ -1,4 +1,4 @@
-//! A source in memory.
+//! A source of files in memory.
 ghost use Rattle.std.specs.Prelude.{◌≡◌, ◌++◌, ◌∷◌, [], OnOk, OnErr, IfOk, map, max, slice_get};
 ghost use Rattle.std.specs.Option.{option_map};
 ghost use Rattle.sum_sources.specs.InMemory.{first_reply, known_source};
@@ -25,7 +25,7 @@ struct StoredPair<'a, A: Allocator> {
     answer: Answer<'a>,
 }
 
-/// A source that answers from pairs of names and answers, which are known.
+/// A source in memory: a list of names, each with its answer. Contracts know its files.
 #[derive(Debug, Drop)]
 pub struct ToldSource<'a, A: Allocator + Copy> {
     pairs: Vec<StoredPair<'a, A>, A>,

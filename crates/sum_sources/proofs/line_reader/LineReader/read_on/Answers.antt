@@ -31,7 +31,8 @@ returns-then-is_empty-clause-line g c =
     let none : c.take_piece.new.line.items ≡ [] = nil_from_length _ (search rules) in
     λ d is.
     rw is
-    (ends_at _ empty_content (Ok NoMore) [] _ empty_content so_far ended (omega (arith, so_far.sum, c.take_piece.ensures.few))
+    (ends_at _ empty_content (Ok NoMore) [] _ empty_content so_far ended
+    (omega (arith, so_far.sum, c.take_piece.ensures.few))
     (omega (arith, so_far.sum)) (λ e gave. IsNextLine-none e [] (rw none at gave)))
 
 -- the input has ended after a last line
@@ -42,7 +43,8 @@ returns-in-Ok-false-fill-clause-line g c =
     let so_far = moved g (goal.at.returns-in-Ok-false-fill-clause-line g c).In-Ok-false in
     λ d is.
     rw is
-    (ends_at _ empty_content (Ok Line) _ _ empty_content so_far ended (omega (arith, so_far.sum, c.take_piece.ensures.few))
+    (ends_at _ empty_content (Ok Line) _ _ empty_content so_far ended
+    (omega (arith, so_far.sum, c.take_piece.ensures.few))
     (omega (arith, so_far.sum)) (λ e. IsNextLine-last e _ so_far.plain (search rules)))
 
 -- the input has a fault
@@ -50,7 +52,8 @@ pub returns-in-Err-fill-clause-line : goal.returns-in-Err-fill-clause-line
 returns-in-Err-fill-clause-line g c =
     let so_far = moved g (goal.at.returns-in-Err-fill-clause-line g c).In-Ok-false in
     λ d is.
-    ends_at _ _ (Err (stops.Fault _)) [] 0 d so_far c.in-Err-fill.ensures.content (omega (arith, so_far.sum, c.take_piece.ensures.few)) tt
+    ends_at _ _ (Err (stops.Fault _)) [] 0 d so_far c.in-Err-fill.ensures.content
+    (omega (arith, so_far.sum, c.take_piece.ensures.few)) tt
     (λ e. IsNextLine-fault e d _ _ so_far.plain)
 
 -- memory was refused
