@@ -3,11 +3,11 @@
 use Rattle.std.proofs.Common.{rules, ◌≡◌, ℕ, Bool, true, false, List, [], ◌∷◌, Option, IfSome, Result, Ok, Err, cond, refl, ap, codes}
 use Rattle.std.proofs.KnownBytes.{Appends-nil}
 use Rattle.std.proofs.Math.Bool.{or-false}
-use Rattle.sum_engine.specs.Behavior.{Fault, World, is_dash, reply, after, Step, Behavior, events_of}
+use Rattle.sum_engine.specs.Behavior.{Fault, World, is_dash, answer_to, after, Step, Behavior, events_of}
 use Rattle.sum_sources.specs.declared.sources.source.OpenFault.{OpenFault}
 use Rattle.sum_sources.specs.Contents.{Content, InputState, IfKnown, clip}
 use Rattle.sum_sources.specs.Sources.{closed_state}
-use Rattle.sum_sources.specs.Sources.{OpensName, SourceState, Reply}
+use Rattle.sum_sources.specs.Sources.{OpensName, SourceState, Answer}
 use Rattle.digest_kinds.specs.Limits.{one_more}
 use Rattle.sum_lines.specs.Escape.{present}
 use Rattle.sum_engine.specs.check.CheckerLaws.{ManifestPerforms}
@@ -68,7 +68,7 @@ module _ {S : Type 0} (state : S → SourceState) (settings : CheckSettings) (to
     opened : (dash : Bool) (known : Option Content) (m : InputsState S) (b : StreamsState S) (x : Result Bool Stop)
         → is_dash name ≡ dash
         → ((c : Content) → IfSome known (λ d. c ≡ d)
-        → InSomeWorld state a.inputs m (λ w v. (v ≡ after w (name ∷ [])) × (reply w name ≡ Ok c)))
+        → InSomeWorld state a.inputs m (λ w v. (v ≡ after w (name ∷ [])) × (answer_to w name ≡ Ok c)))
         → AsksNames state a.inputs m (name ∷ [])
         → ManifestPerforms state (rules_of settings dash) (labels_if dash) known (from_inputs m) b x → Performed b x
     opened dash known m b x is answer asked run = λ flushed. record {
@@ -148,11 +148,11 @@ module _ {S : Type 0} (state : S → SourceState) (settings : CheckSettings) (to
           → (state m.source).counts.refusals ≡ one_more (state a.inputs.source).counts.refusals → Performed (from_inputs m) (Err Memory)
       no_room h refused =
           Performs-refused state (λ w. check_behavior settings tool w name) (λ g. g) a (from_inputs m)
-          (λ w. begins (after w (name ∷ [])) (reply w name)) (opened_nothing state a.inputs m kept h)
+          (λ w. begins (after w (name ∷ [])) (answer_to w name)) (opened_nothing state a.inputs m kept h)
           (search (rules, asked_none)) (ap (λ (m : InputsState S). m.stdin_taken) kept) refl refused
         where
           -- checking begins with a step
-          begins : (w : World) (reply : Reply) → (next : Step) × (rest : List Step) × ((check_behavior_by
-              (rules_of settings (is_dash name)) (labels_of settings tool name) name w reply).steps ≡ next ∷ rest)
+          begins : (w : World) (answer : Answer) → (next : Step) × (rest : List Step) × ((check_behavior_by
+              (rules_of settings (is_dash name)) (labels_of settings tool name) name w answer).steps ≡ next ∷ rest)
           begins w (Err f) = (_, [], refl)
           begins w (Ok c) = (opening name, _, refl)

@@ -3,7 +3,7 @@ use Rattle.std.specs.Prelude.{ℕ, List, [], ◌∷◌, if◌then◌else◌, byt
 use Rattle.digest_kinds.specs.Basics.{ByteString}
 use Rattle.sum_sources.specs.Contents.{Content}
 use Rattle.sum_sources.specs.Faults.{NotFound}
-use Rattle.sum_sources.specs.Sources.{Reply, KnownSource, FileCounts}
+use Rattle.sum_sources.specs.Sources.{Answer, KnownSource, FileCounts}
 use Rattle.sum_sources.specs.Phases.{Phase}
 
 -- an input in memory
@@ -12,15 +12,15 @@ pub record ToldContent : Type 0 where
   pub piece : ℕ  -- the most bytes that one read gives
   pub phase : Phase
 
--- a name with the reply to it
+-- a name, and the answer to it
 pub record Pair : Type 0 where
   pub name : ByteString
-  pub reply : Reply
+  pub answer : Answer
 
--- the reply of the first pair with the name. A name without a pair isn't found
-abbrev pub first_reply : List Pair → ByteString → Reply
-first_reply [] name = Err NotFound
-first_reply (p ∷ ps) name = if bytes_eq p.name name then p.reply else first_reply ps name
+-- the answer of the first pair with the name. A name without a pair isn't found
+abbrev pub first_answer : List Pair → ByteString → Answer
+first_answer [] name = Err NotFound
+first_answer (p ∷ ps) name = if bytes_eq p.name name then p.answer else first_answer ps name
 
 -- a source in memory
 pub record ToldFiles : Type 0 where
@@ -31,4 +31,4 @@ pub record ToldFiles : Type 0 where
 
 -- what is known of it
 abbrev pub known_source : ToldFiles → KnownSource
-known_source s = record { answer = λ _. first_reply s.pairs; asked = s.asked }
+known_source s = record { answer = λ _. first_answer s.pairs; asked = s.asked }

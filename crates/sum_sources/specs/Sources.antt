@@ -10,16 +10,16 @@ use Rattle.sum_sources.specs.declared.sources.source.OpenFault.{OpenFault}
 use Rattle.sum_sources.specs.declared.sources.source.OpenFault.TheVariants as faults
 
 -- what a source has for a name: a content, or the fault of opening
-abbrev pub Reply : Type 0
-Reply = Result Content Fault
+abbrev pub Answer : Type 0
+Answer = Result Content Fault
 
--- what is known of a source: its reply to each name, given the names that are asked before it from now on; and the
+-- what is known of a source: its answer to each name, given the names that are asked before it from now on; and the
 -- names that it was asked so far
 pub record KnownSource : Type 0 where
-  pub answer : List ByteString → ByteString → Reply
+  pub answer : List ByteString → ByteString → Answer
   pub asked : List ByteString
 
--- the state of a source: its replies and the names asked, if known; and what it counts
+-- the state of a source: its answers and the names asked, if known; and what it counts
 pub record SourceState : Type 0 where
   pub known : Option KnownSource
   pub counts : FileCounts
@@ -39,12 +39,12 @@ counts_after_closing c phase = c
 abbrev pub closed_state : SourceState → Phase → SourceState
 closed_state s phase = record s { counts = counts_after_closing s.counts phase }
 
--- a source is asked one name more, and this is its reply
-abbrev pub AsksName : KnownSource → KnownSource → ByteString → Option Reply → Type 0
-AsksName s t name reply = (t ≡ record { answer = λ asked. s.answer (name ∷ asked); asked = s.asked ++ name ∷ [] })
-    × (reply ≡ Some (s.answer [] name))
+-- a source is asked one name more, and this is its answer
+abbrev pub AsksName : KnownSource → KnownSource → ByteString → Option Answer → Type 0
+AsksName s t name answer = (t ≡ record { answer = λ asked. s.answer (name ∷ asked); asked = s.asked ++ name ∷ [] })
+    × (answer ≡ Some (s.answer [] name))
 
--- what opening a name gives: the reply to it, which is the file's content, or the fault. For want of memory the name
+-- what opening a name gives: the answer to it, which is the file's content, or the fault. For want of memory the name
 -- wasn't asked
 abbrev pub OpensName : {F : Type 0} → (F → InputState) → KnownSource → KnownSource → ByteString → Result F OpenFault
     → Type 0

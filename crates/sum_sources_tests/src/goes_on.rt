@@ -113,11 +113,11 @@ impl<'a, A: Allocator + Copy> Source for InTurn<'a, A> {
 
     ghost use Rattle.std.specs.Prelude.{Some, Err, map, get_or, length};
     ghost use Rattle.sum_sources.specs.declared.fault.Fault.TheVariants.{NotFound};
-    ghost use Rattle.sum_sources.specs.refinement.ToldPairs.{reply_of};
+    ghost use Rattle.sum_sources.specs.refinement.ToldPairs.{answer_value};
 
     ghost state = { λ s. record {
       known = Some (record {
-        answer = λ asked name. get_or (map (λ a. reply_of a.0) s.answers.items) (length asked) (Err NotFound);
+        answer = λ asked name. get_or (map (λ a. answer_value a.0) s.answers.items) (length asked) (Err NotFound);
         asked = s.names.asked;
       });
       counts = s.counts;

@@ -3,7 +3,7 @@ use Rattle.std.specs.Prelude.{ℕ, ◌≡◌, ◌≢◌, ◌<◌, false, List, [
 use Rattle.sum_engine.specs.check.Reports.{LabelsValue, out_of, err_of, counts_of, end_text, good}
 use Rattle.sum_engine.specs.Behavior.{Whole, World}
 use Rattle.sum_sources.specs.Contents.{Content, clip}
-use Rattle.sum_sources.specs.Sources.{Reply}
+use Rattle.sum_sources.specs.Sources.{Answer}
 use Rattle.sum_sources.specs.ManifestLines.{raw_lines}
 use Rattle.sum_engine.specs.check.Verdicts.{Algos, Form, lines_by, Rules, all_verdicts}
 use Rattle.sum_lines.specs.Escape.{Profile, present, escape, escape_by}
@@ -52,10 +52,10 @@ OldVerdicts = (r : Rules) (labels : LabelsValue) (w : World) (c : Content) → I
 
 -- so its whole behavior is the same, also if the manifest can't be opened
 abbrev pub OldOutcomes : Type 0
-OldOutcomes = (r : Rules) (labels : LabelsValue) (name : List ℕ) (w : World) (reply : Reply) → NoReturn labels.manifest
-    → ((c : Content) → reply ≡ Ok c → IsOldManifest r labels (clip c))
-    → check_behavior_by (rules_under older r) labels name w reply
-    ≡ check_behavior_by (rules_under present r) labels name w reply
+OldOutcomes = (r : Rules) (labels : LabelsValue) (name : List ℕ) (w : World) (answer : Answer) → NoReturn labels.manifest
+    → ((c : Content) → answer ≡ Ok c → IsOldManifest r labels (clip c))
+    → check_behavior_by (rules_under older r) labels name w answer
+    ≡ check_behavior_by (rules_under present r) labels name w answer
 
 -- how the older profile differs: a carriage return in a name isn't escaped, one at a line's end stays, and an empty
 -- line is improperly formatted

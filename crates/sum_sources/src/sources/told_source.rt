@@ -1,10 +1,10 @@
 //! A source of files in memory.
 ghost use Rattle.std.specs.Prelude.{◌≡◌, ◌++◌, ◌∷◌, [], OnOk, OnErr, IfOk, map, max, slice_get};
 ghost use Rattle.std.specs.Option.{option_map};
-ghost use Rattle.sum_sources.specs.InMemory.{first_reply, known_source};
+ghost use Rattle.sum_sources.specs.InMemory.{first_answer, known_source};
 ghost use Rattle.sum_sources.specs.Sources.{OpensName, counts_after_opening};
 ghost use Rattle.digest_kinds.specs.Limits.{one_more};
-ghost use Rattle.sum_sources.specs.refinement.ToldPairs.{pair_of, reply_of};
+ghost use Rattle.sum_sources.specs.refinement.ToldPairs.{pair_of, answer_value};
 
 use crate::{Ending, Fault, FileCounts, Input, NoRoom, OpenFault, Phase, Source, Told};
 use std::alloc::Allocator;
@@ -52,7 +52,7 @@ impl<'a, A: Allocator + Copy> Model for ToldSource<'a, A> {
 
 // The answer of the first pair with the name.
 fn answer_to<'a, A: Allocator>(pairs: &[StoredPair<'a, A>], name: &[u8]) -> Answer<'a>
-    ensures { reply_of result ≡ first_reply (map pair_of pairs.now) name.now }
+    ensures { answer_value result ≡ first_answer (map pair_of pairs.now) name.now }
 {
     for pair in pairs {
         if pair.name.as_slice() == name {
@@ -85,7 +85,7 @@ impl<'a, A: Allocator + Copy> ToldSource<'a, A> {
     /// refused; the pairs are then as before.
     pub fn add(&mut self, name: &[u8], answer: Answer<'a>) -> Result<(), NoRoom>
         ensures ok { OnOk result (self.new ≡ record self.old {
-          pairs = self.old.pairs ++ record { name = name.now; reply = reply_of answer.entry } ∷ [];
+          pairs = self.old.pairs ++ record { name = name.now; answer = answer_value answer.entry } ∷ [];
         }) }
         ensures err { OnErr result (self.new ≡ self.old) }
     {
