@@ -5,6 +5,7 @@ use Rattle.std.specs.List.{range_with_len}
 use Rattle.std.proofs.lemmas.List.Sums.{fold-append}
 use Rattle.std.specs.Simd.{first_chunks}
 use Rattle.byteorder.specs.Endian.{little_bytes}
+use Rattle.blake2b_core.specs.Bytes.{ByteString}
 use Rattle.blake2b_core.specs.Compression.{compress}
 use Rattle.blake2b_core.specs.Digest.{blocks, blake2b}
 use Rattle.blake2b_core.specs.refinement.Chaining.{initial, hash_after}
@@ -16,23 +17,23 @@ abbrev pub block_count : ℕ → ℕ
 block_count n = max 1 ((n + 127) / 128)
 
 -- the message, and the fewest zero bytes that fill its blocks
-abbrev pub padded : List ℕ → List ℕ
-padded m = m ++ replicate (128 * block_count (length m) - length m) 0
+abbrev pub padded_message : ByteString → ByteString
+padded_message m = m ++ replicate (128 * block_count (length m) - length m) 0
 
 -- a block that the message fills
-pub whole_block : (m : List ℕ) (i : ℕ) → 128 * (i + 1) ≤ length m
+pub whole_block : (m : ByteString) (i : ℕ) → 128 * (i + 1) ≤ length m
     → slice_index_or (blocks m) i [] ≡ take 128 (drop (128 * i) m)
 unfolding blocks
 whole_block m i fits =
-    let zeros : List ℕ = replicate (128 * block_count (length m) - length m) 0 in
+    let zeros : ByteString = replicate (128 * block_count (length m) - length m) 0 in
     let here : i < block_count (length m) = omega arith in
     let within : 128 * i ≤ length m = omega arith in
     let long : 128 ≤ length (drop (128 * i) m) = omega (arith, length-drop (128 * i) m) in
-    get_or-first_chunks 128 (block_count (length m)) (padded m) i [] here
+    get_or-first_chunks 128 (block_count (length m)) (padded_message m) i [] here
     ∙ ap (take 128) (drop-append-le (128 * i) m zeros within) ∙ take-append-le 128 (drop (128 * i) m) zeros long
 
 -- the blocks of a message from one of them on
-pub are_blocks : (m : List ℕ) (k count : ℕ) → 128 * (k + count) ≤ length m
+pub are_blocks : (m : ByteString) (k count : ℕ) → 128 * (k + count) ≤ length m
     → AreBlocksFrom m k (first_chunks 128 count (drop (128 * k) m))
 are_blocks m k count fits = grind (arith, length-first_chunks, get_or-first_chunks, drop-drop, whole_block)
 
@@ -49,27 +50,27 @@ first_chunks-take n (suc k) xs j fits =
     rw (front, back, first_chunks-take n k (drop n xs) (j - n) (omega arith)) refl
 
 -- the last block of a message is the one that begins at byte 128 * k
-pub record IsLast (m : List ℕ) (k : ℕ) : Type 0 where
+pub record IsLast (m : ByteString) (k : ℕ) : Type 0 where
   pub starts : 128 * k ≤ length m
   pub ends : length m ≤ 128 * (k + 1)
   pub some : 0 < k → 128 * k < length m
 
 -- the last block is the one before the count
-block_count-last : (m : List ℕ) (k : ℕ) → IsLast m k → block_count (length m) ≡ k + 1
+block_count-last : (m : ByteString) (k : ℕ) → IsLast m k → block_count (length m) ≡ k + 1
 block_count-last m k l = grind arith
 
 -- the blocks of a message, counted
-length-blocks : (m : List ℕ) → length (blocks m) ≡ block_count (length m)
+length-blocks : (m : ByteString) → length (blocks m) ≡ block_count (length m)
 unfolding blocks
-length-blocks m = length-first_chunks 128 (block_count (length m)) (padded m)
+length-blocks m = length-first_chunks 128 (block_count (length m)) (padded_message m)
 
 -- the bytes from block k on, filled up with zeros
-abbrev filled_from : List ℕ → ℕ → List ℕ
-filled_from m k = drop (128 * k) m ++ replicate (128 - length (drop (128 * k) m)) 0
+abbrev padded_rest : ByteString → ℕ → ByteString
+padded_rest m k = drop (128 * k) m ++ replicate (128 - length (drop (128 * k) m)) 0
 
 -- so is the last block
-last_block : (m : List ℕ) (k : ℕ) → IsLast m k
-    → slice_index_or (blocks m) k [] ≡ filled_from m k
+last_block : (m : ByteString) (k : ℕ) → IsLast m k
+    → slice_index_or (blocks m) k [] ≡ padded_rest m k
 unfolding blocks
 last_block m k l =
     let starts : 128 * k ≤ length m = l.starts in
@@ -80,19 +81,19 @@ last_block m k l =
     let pad : fill ≡ 128 - length (drop (128 * k) m) = omega arith in
     let size : length (drop (128 * k) m ++ replicate fill 0) ≡ 128 =
     omega (arith, length-append (drop (128 * k) m) (replicate fill 0), length-replicate {A = ℕ} fill 0) in
-    get_or-first_chunks 128 (block_count (length m)) (padded m) k [] (omega arith)
+    get_or-first_chunks 128 (block_count (length m)) (padded_message m) k [] (omega arith)
     ∙ ap (take 128) (drop-append-le (128 * k) m (replicate fill 0) starts)
     ∙ take_all 128 (drop (128 * k) m ++ replicate fill 0) (omega arith)
     ∙ ap (λ z. drop (128 * k) m ++ replicate z 0) pad
 
 -- one more block
-pub hash_after-more : (n : ℕ) (d : List (List ℕ)) (k : ℕ)
+pub hash_after-more : (n : ℕ) (d : List ByteString) (k : ℕ)
     → hash_after n d (k + 1) ≡ compress (hash_after n d k) (slice_index_or d k []) (128 * (k + 1)) false
 unfolding hash_after
 hash_after-more n d k = let next : k + 1 ≡ suc k = omega arith in ap (hash_after n d) next
 
 -- what follows the first blocks doesn't change the hash after them
-pub hash_after-append : (n : ℕ) (m x : List ℕ) (k : ℕ) → 128 * k ≤ length m
+pub hash_after-append : (n : ℕ) (m x : ByteString) (k : ℕ) → 128 * k ≤ length m
     → hash_after n (blocks (m ++ x)) k ≡ hash_after n (blocks m) k
 unfolding hash_after
 hash_after-append n m x zero fits = refl
@@ -109,7 +110,7 @@ hash_after-append n m x (suc k) fits =
     rw (before, block) refl
 
 -- a full block that bytes follow
-pub hash_after-full : {h : List ℕ} {len t : ℕ} (n : ℕ) (buffer m : List ℕ) (k : ℕ)
+pub hash_after-full : {h : List ℕ} {len t : ℕ} (n : ℕ) (buffer m : ByteString) (k : ℕ)
     → length buffer ≡ 128 → len ≡ 128 → t ≡ length m → 128 * k + len ≡ length m
     → h ≡ hash_after n (blocks m) k → take len buffer ≡ drop (128 * k) m
     → compress h buffer t false ≡ hash_after n (blocks m) (k + 1)
@@ -121,7 +122,7 @@ range-more a zero j at = let here : a ≡ j = omega arith in rw here refl
 range-more a (suc n) j at = ap (λ l. a ∷ l) (range-more (a + 1) n j (omega arith))
 
 -- one block after another, from the first
-hash_after-is : (n : ℕ) (d : List (List ℕ)) (k : ℕ)
+hash_after-is : (n : ℕ) (d : List ByteString) (k : ℕ)
     → fold (λ h i. compress h (slice_index_or d i []) (128 * (i + 1)) false) (initial n) (range_with_len 0 k)
     ≡ hash_after n d k
 unfolding hash_after
@@ -132,14 +133,14 @@ hash_after-is n d (suc k) =
     rw (range-more 0 k k (omega arith), split, hash_after-is n d k) refl
 
 -- the digest, by the last block
-blake2b-last : (n : ℕ) (m : List ℕ) (k : ℕ) → IsLast m k
+blake2b-last : (n : ℕ) (m : ByteString) (k : ℕ) → IsLast m k
     → blake2b n m
-    ≡ take n (flat_map (little_bytes 8) (compress (hash_after n (blocks m) k) (filled_from m k) (length m) true))
+    ≡ take n (flat_map (little_bytes 8) (compress (hash_after n (blocks m) k) (padded_rest m k) (length m) true))
 unfolding blake2b
 blake2b-last n m k l = grind (arith, length-blocks, hash_after-is, last_block)
 
 -- the digest, from the hash before the last block and that block's bytes
-pub blake2b-from : {m h last bytes : List ℕ} {k t : ℕ} (n : ℕ) → IsLast m k → h ≡ hash_after n (blocks m) k
+pub blake2b-from : {m last bytes : ByteString} {h : List ℕ} {k t : ℕ} (n : ℕ) → IsLast m k → h ≡ hash_after n (blocks m) k
     → last ≡ bytes ++ replicate (128 - length bytes) 0 → bytes ≡ drop (128 * k) m → t ≡ length m
     → take n (flat_map (little_bytes 8) (compress h last t true)) ≡ blake2b n m
 blake2b-from {m = m} {k = k} n l hash filled rest total = rw (hash, filled, rest, total) (sym (blake2b-last n m k l))

@@ -9,7 +9,7 @@ use Rattle.std.specs.Simd.Lanes.{all_below, pick_l}
 use lib.Dec.{T}
 use Rattle.byteorder.specs.Endian.{little_number}
 use Rattle.blake2b_core.specs.Compression.{◌!◌, ◌⊻◌, sigma, iv, start}
-use Rattle.blake2b_core.specs.refinement.Columns.{block_words, scheduled}
+use Rattle.blake2b_core.specs.refinement.Columns.{block_words, schedule}
 
 -- row k of SIGMA
 abbrev pub sigma_row : ℕ → List ℕ
@@ -17,8 +17,8 @@ sigma_row k = map (λ i. slice_index_or sigma k [] ! i) (range_with_len 0 16)
 
 -- what a swizzle picks by row k, out of the vector and a second copy of it
 pub picked-row : (m : List ℕ) (r k : ℕ) → length m ≡ 16 → T (all_below 16 (sigma_row k)) → r % 10 ≡ k
-    → pick_l 0 (m ++ m) (sigma_row k) ≡ scheduled m r
-unfolding scheduled
+    → pick_l 0 (m ++ m) (sigma_row k) ≡ schedule m r
+unfolding schedule
 picked-row m r k size below row = pick_l_left 0 m m 16 (sigma_row k) size below ∙ rw row refl
 
 -- the working vector before the first round, written out

@@ -1,10 +1,11 @@
--- The compression function F of BLAKE2b (RFC 7693, 2.6, 2.7, 3.1 and 3.2). A word is a number below 2 ^ 64, a block a
--- list of 128 bytes.
+-- The compression function F of BLAKE2b (RFC 7693, 2.6, 2.7, 3.1 and 3.2). A word is a number below 2 ^ 64. A block is
+-- a list of 128 bytes.
 use Rattle.std.specs.Prelude.{ℕ, ◌+◌, ◌/◌, ◌%◌, ◌^◌, Bool, List, [], ◌∷◌, ◌++◌, map, fold, bit_xor, slice_index, slice_index_or, slice_set, if◌then◌else◌}
 use Rattle.std.specs.List.{range_with_len}
 use Rattle.std.specs.Int.{w64, bit_not, rotate_right}
 use Rattle.std.specs.Simd.{first_chunks}
 use Rattle.byteorder.specs.Endian.{little_number}
+use Rattle.blake2b_core.specs.Bytes.{ByteString}
 
 -- IV, the initialization vector
 abbrev pub iv : List ℕ
@@ -78,7 +79,7 @@ start h t last = let v = h ++ iv in
     if last then slice_set v 14 (bit_not w64 (v ! 14)) else v
 
 -- the compression function F (3.2); m has the sixteen words of the block, each of eight bytes, the lowest first
-unfoldable pub compress : List ℕ → List ℕ → ℕ → Bool → List ℕ
+unfoldable pub compress : List ℕ → ByteString → ℕ → Bool → List ℕ
 compress h block t last = let m = map (little_number 8) (first_chunks 8 16 block) in
     let v = fold (round m) (start h t last) (range_with_len 0 12) in
     map (λ i. h ! i ⊻ v ! i ⊻ v ! (i + 8)) (range_with_len 0 8)

@@ -3,15 +3,16 @@ use Rattle.std.specs.Prelude.{ℕ, ◌+◌, ◌-◌, ◌*◌, ◌/◌, max, true
 use Rattle.std.specs.List.{range_with_len}
 use Rattle.std.specs.Simd.{first_chunks}
 use Rattle.byteorder.specs.Endian.{little_bytes}
+use Rattle.blake2b_core.specs.Bytes.{ByteString}
 use Rattle.blake2b_core.specs.Compression.{◌!◌, ◌⊻◌, iv, compress}
 
--- the blocks of the message m, 128 bytes each, the last one filled up with zeros; the empty message has one block
-unfoldable pub blocks : List ℕ → List (List ℕ)
+-- the blocks of the message m, each of 128 bytes: zeros fill up the last one, and the empty message has one block
+unfoldable pub blocks : ByteString → List ByteString
 blocks m = let count = max 1 ((length m + 127) / 128) in
     first_chunks 128 count (m ++ replicate (128 * count - length m) 0)
 
--- the digest of n bytes, at most 64: a block is compressed with the number of the message's bytes up to the block's end
-unfoldable pub blake2b : ℕ → List ℕ → List ℕ
+-- the digest of n bytes, at most 64: F takes each block with the number of the message's bytes up to the block's end
+unfoldable pub blake2b : ℕ → ByteString → ByteString
 blake2b n m = let d = blocks m in
     let last = length d - 1 in
     let h = slice_set iv 0 (iv ! 0 ⊻ (0x01010000 ⊻ n)) in

@@ -2,9 +2,10 @@
 use Rattle.std.specs.Prelude.{◌≡◌, ℕ, ◌<◌, List, [], ◌++◌, length, replicate, All, codes}
 use Rattle.std.specs.List.{concat}
 use Rattle.byteorder.specs.Endian.{big_bytes}
+use Rattle.blake2b_core.specs.Bytes.{ByteString}
 use Rattle.blake2b_core.specs.Digest.{blake2b}
 
--- known digests: the example of RFC 7693, and two that other implementations give
+-- known digests: the example of RFC 7693, and two that other programs compute
 pub record HasVectors : Type 0 where
   pub empty : blake2b 64 [] ≡ big_bytes 32 0x786a02f742015903c6c6fd852552d272912f4740e15847618a86e217f71f5419
       ++ big_bytes 32 0xd25e1031afee585313896444934eb04b903a685b1448b755d56f701afe9be2ce
@@ -12,8 +13,8 @@ pub record HasVectors : Type 0 where
       ++ big_bytes 32 0x7d87c5392aab792dc252d5de4533cc9518d38aa8dbf1925ab92386edd4009923
   pub empty_short : blake2b 32 [] ≡ big_bytes 32 0x0e5751c026e543b2e8ab2eb06099daa1d1e5df47778f7787faab45cdf12fe3a8
 
--- bs are lists of 128 bytes whose join is m and zeros: fewer than a block has or, if m is empty, one block of them
-pub record IsBlocksOf (bs : List (List ℕ)) (m : List ℕ) : Type 0 where
+-- each of bs has 128 bytes, and together they are m and then zeros: fewer than 128, or 128 if m is empty
+pub record IsBlocksOf (bs : List ByteString) (m : ByteString) : Type 0 where
   pub sizes : All (λ b. length b ≡ 128) bs
   pub zeros : ℕ
   pub join : concat bs ≡ m ++ replicate zeros 0

@@ -1,3 +1,4 @@
+pub mod Bytes
 pub mod Compression
 pub mod Digest
 pub mod Laws

@@ -8,7 +8,7 @@ use std::simd::u64x4;
 
 // The exclusive ors of the lanes, rotated to the right.
 #[inline(always)]
-fn rotated(x: u64x4, y: u64x4, bits: u64) -> u64x4
+fn xor_rotate(x: u64x4, y: u64x4, bits: u64) -> u64x4
     requires low { 0 < bits }
     requires high { bits < 64 }
     ensures { (j : ℕ) → j < 4 → result ! j ≡ (x ! j ⊻ y ! j) ⋙ bits }
@@ -32,13 +32,13 @@ pub(crate) fn mixed_columns(v: [u64x4; 4], x: u64x4, y: u64x4) -> [u64x4; 4]
 {
     let [a, b, c, d] = v;
     let a = sums(sums(a, b), x);
-    let d = rotated(d, a, 32);
+    let d = xor_rotate(d, a, 32);
     let c = sums(c, d);
-    let b = rotated(b, c, 24);
+    let b = xor_rotate(b, c, 24);
     let a = sums(sums(a, b), y);
-    let d = rotated(d, a, 16);
+    let d = xor_rotate(d, a, 16);
     let c = sums(c, d);
-    let b = rotated(b, c, 63);
+    let b = xor_rotate(b, c, 63);
     [a, b, c, d]
 }
 

@@ -1,7 +1,7 @@
 //! The compression function F of RFC 7693, sections 3.1 and 3.2, with the constants of 2.6 and 2.7.
 ghost use Rattle.std.specs.Prelude.{◌≡◌};
 ghost use Rattle.blake2b_core.specs.Compression.{compress, round, start};
-ghost use Rattle.blake2b_core.specs.refinement.Columns.{block_words, fed_forward, scheduled, words};
+ghost use Rattle.blake2b_core.specs.refinement.Columns.{block_words, next_state, schedule, words};
 
 use crate::columns::{mixed_columns, mixed_diagonals};
 use byteorder::{ByteOrder, LittleEndian};
@@ -22,8 +22,8 @@ pub(crate) const IV: [u64; 8] = [
 // compiler picks the row.
 #[inline(always)]
 #[rattlefmt::skip]
-fn scheduled(m: Simd<u64, 16>, r: usize) -> Simd<u64, 16>
-    ensures { result ≡ scheduled m r }
+fn schedule(m: Simd<u64, 16>, r: usize) -> Simd<u64, 16>
+    ensures { result ≡ schedule m r }
 {
     match r % 10 {
         0 => m.swizzle([0, 1, 2, 3, 4, 5, 6, 7, 8, 9, 10, 11, 12, 13, 14, 15]),
@@ -44,7 +44,7 @@ fn scheduled(m: Simd<u64, 16>, r: usize) -> Simd<u64, 16>
 fn round(m: Simd<u64, 16>, v: [u64x4; 4], r: usize) -> [u64x4; 4]
     ensures { words result ≡ round m (words v) r }
 {
-    let m = scheduled(m, r);
+    let m = schedule(m, r);
     let v = mixed_columns(v, m.swizzle([0, 2, 4, 6]), m.swizzle([1, 3, 5, 7]));
     mixed_diagonals(v, m.swizzle([8, 10, 12, 14]), m.swizzle([9, 11, 13, 15]))
 }
@@ -78,7 +78,7 @@ fn block_words(block: &[u8; 128]) -> [u64; 16]
 // The state after the last round: the old one and both halves of the working vector.
 #[inline(always)]
 fn feed_forward(h: &mut [u64; 8], v: [u64x4; 4])
-    ensures { h.new ≡ fed_forward h.old (words v) }
+    ensures { h.new ≡ next_state h.old (words v) }
 {
     let [a, b, c, d] = v;
     let low = u64x4::from_array([h[0], h[1], h[2], h[3]]) ^ a ^ c;

@@ -1,9 +1,9 @@
 //! The digest of a message that comes in pieces.
-ghost use Rattle.std.specs.Prelude.{◌≡◌, ◌↔◌, ◌⊎◌, ℕ, ◌+◌, ◌-◌, ◌*◌, ◌/◌, ◌^◌, ◌<◌, ◌≤◌, List, [], ◌++◌, length};
+ghost use Rattle.std.specs.Prelude.{◌≡◌, ◌↔◌, ◌⊎◌, ℕ, ◌+◌, ◌-◌, ◌*◌, ◌/◌, ◌^◌, ◌<◌, ◌≤◌, [], ◌++◌, length};
 ghost use Rattle.std.specs.Prelude.{take, IsNone, IfSome};
 
 use crate::compression::compress;
-use crate::one_shot::{BLOCK, chained, followed_blocks, initial, zero_filled};
+use crate::one_shot::{BLOCK, followed_blocks, initial, padded_block, state_after};
 use crate::output::Output;
 
 /// A message that comes in pieces has fewer bytes than this. FIPS 180-4 defines SHA-1, SHA-224 and SHA-256 for messages
@@ -26,6 +26,7 @@ pub struct Blake2b {
 }
 
 impl Blake2b {
+    ghost use Rattle.blake2b_core.specs.Bytes.{ByteString};
     ghost use Rattle.blake2b_core.specs.Digest.{blake2b};
     ghost use Rattle.blake2b_core.specs.refinement.Holding.{Holds, HoldsSoFar, digest_len, taken};
 
@@ -65,7 +66,7 @@ impl Blake2b {
     fn buffer_bytes(&mut self, bytes: &[u8])
         requires room { self.old.buffer_len + length bytes.now ≤ 128 }
         requires fits { self.old.taken + length bytes.now < 2 ^ 61 }
-        ensures holds { (m : List ℕ) → HoldsSoFar self.old m → HoldsSoFar self.new (m ++ bytes.now) }
+        ensures holds { (m : ByteString) → HoldsSoFar self.old m → HoldsSoFar self.new (m ++ bytes.now) }
         ensures size { length self.new.buffer ≡ 128 }
         ensures buffer_len { self.new.buffer_len ≡ self.old.buffer_len + length bytes.now }
         ensures taken { self.new.taken ≡ self.old.taken + length bytes.now }
@@ -81,7 +82,7 @@ impl Blake2b {
     // Returns how many bytes it took.
     fn fill(&mut self, piece: &[u8]) -> usize
         requires { self.old.taken + length piece.now < 2 ^ 61 }
-        ensures holds { (m : List ℕ) → HoldsSoFar self.old m → HoldsSoFar self.new (m ++ take result piece.now) }
+        ensures holds { (m : ByteString) → HoldsSoFar self.old m → HoldsSoFar self.new (m ++ take result piece.now) }
         ensures below { 0 < length piece.now → result < length piece.now }
         ensures empty_piece { length piece.now ≡ 0 → (result ≡ 0) × (self.new.buffer_len ≡ self.old.buffer_len) }
         ensures room { 128 < self.new.buffer_len + (length piece.now - result) → self.new.buffer_len ≡ 0 }
@@ -103,7 +104,7 @@ impl Blake2b {
     fn absorb(&mut self, piece: &[u8]) -> usize
         requires fits { self.old.taken + length piece.now < 2 ^ 61 }
         requires room { 128 < self.old.buffer_len + length piece.now → self.old.buffer_len ≡ 0 }
-        ensures holds { (m : List ℕ) → HoldsSoFar self.old m → HoldsSoFar self.new (m ++ take result piece.now) }
+        ensures holds { (m : ByteString) → HoldsSoFar self.old m → HoldsSoFar self.new (m ++ take result piece.now) }
         ensures below { 0 < length piece.now → result < length piece.now }
         ensures empty_piece { length piece.now ≡ 0 → result ≡ 0 }
         ensures room { self.new.buffer_len + (length piece.now - result) ≤ 128 }
@@ -115,7 +116,7 @@ impl Blake2b {
             return 0;
         }
         let blocks = followed_blocks(piece);
-        self.h = chained(self.h, blocks, self.taken);
+        self.h = state_after(self.h, blocks, self.taken);
         self.taken += (BLOCK * blocks.len()) as u64;
         BLOCK * blocks.len()
     }
@@ -124,7 +125,7 @@ impl Blake2b {
     pub fn update(&mut self, piece: &[u8])
         requires { taken self.old + length piece.now < 2 ^ 61 }
         // For each message that the state may have taken: it has then taken that and the piece.
-        ensures holds { (m : List ℕ) → Holds self.old m → Holds self.new (m ++ piece.now) }
+        ensures holds { (m : ByteString) → Holds self.old m → Holds self.new (m ++ piece.now) }
         ensures taken { taken self.new ≡ taken self.old + length piece.now }
         ensures len { digest_len self.new ≡ digest_len self.old }
     {
@@ -136,10 +137,10 @@ impl Blake2b {
 
     /// The digest of the message (RFC 7693, 3.3).
     pub fn finish(self) -> Output
-        ensures digest { (m : List ℕ) → Holds self m → result ≡ blake2b (digest_len self) m }
+        ensures digest { (m : ByteString) → Holds self m → result ≡ blake2b (digest_len self) m }
         ensures len { length result ≡ digest_len self }
     {
-        let last = zero_filled(&self.buffer[..self.buffer_len]);
+        let last = padded_block(&self.buffer[..self.buffer_len]);
         let h = compress(&self.h, &last, u128::from(self.taken), true);
         Output::of_state(&h, self.len)
     }

@@ -1,10 +1,15 @@
 //! BLAKE2b without a key (RFC 7693): the compression function, the digest of a whole message, and the digest of a
-//! message in pieces. Nothing here takes memory.
+//! message in pieces.
+//!
+//! Only what RFC 7693 defines belongs here. The crate calls `std` and `byteorder` and no other crate, and it takes no
+//! memory.
 //!
 //! ```rust
 //! let mut hasher = Blake2b::new(64).ok_or("no such length")?;
-//! hasher.update(b"abc");
-//! println!(rt; "{}", hex::encode(rt.alloc(), hasher.finish().as_slice())?)?;
+//! hasher.update(b"a");
+//! hasher.update(b"bc");
+//! let whole = blake2b(64, b"abc").ok_or("no such length")?;
+//! assert_eq!(rt; hasher.finish().as_slice(), whole.as_slice());
 //! ```
 #![tactic(auto)]
 

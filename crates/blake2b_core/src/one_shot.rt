@@ -1,7 +1,8 @@
 //! The digest of a whole message (RFC 7693, 3.3).
-ghost use Rattle.std.specs.Prelude.{◌≡◌, ◌↔◌, ◌⊎◌, ℕ, ◌+◌, ◌-◌, ◌*◌, ◌/◌, ◌^◌, ◌<◌, ◌≤◌, List, ◌++◌, length};
+ghost use Rattle.std.specs.Prelude.{◌≡◌, ◌↔◌, ◌⊎◌, ℕ, ◌+◌, ◌-◌, ◌*◌, ◌/◌, ◌^◌, ◌<◌, ◌≤◌, ◌++◌, length};
 ghost use Rattle.std.specs.Prelude.{replicate, IsNone, IfSome};
 ghost use Rattle.std.specs.Simd.{first_chunks};
+ghost use Rattle.blake2b_core.specs.Bytes.{ByteString};
 ghost use Rattle.blake2b_core.specs.Digest.{blake2b, blocks};
 ghost use Rattle.blake2b_core.specs.refinement.Chaining.{hash_after, initial};
 ghost use Rattle.blake2b_core.specs.refinement.Holding.{AreBlocksFrom};
@@ -33,9 +34,9 @@ pub(crate) fn followed_blocks(bytes: &[u8]) -> &[[u8; 128]]
 
 // The state after the blocks `followed`, none of which is the last, from the state `h` after the `before` bytes that
 // precede them.
-pub(crate) fn chained(mut h: [u64; 8], followed: &[[u8; 128]], before: u64) -> [u64; 8]
+pub(crate) fn state_after(mut h: [u64; 8], followed: &[[u8; 128]], before: u64) -> [u64; 8]
     requires { before + 128 * length followed.now < 2 ^ 64 }
-    ensures { (n : ℕ) (m : List ℕ) (k : ℕ) → 128 * k ≡ before → AreBlocksFrom m k followed.now
+    ensures { (n : ℕ) (m : ByteString) (k : ℕ) → 128 * k ≡ before → AreBlocksFrom m k followed.now
         → h ≡ hash_after n (blocks m) k → result ≡ hash_after n (blocks m) (k + length followed.now) }
 {
     let mut taken = before;
@@ -47,7 +48,7 @@ pub(crate) fn chained(mut h: [u64; 8], followed: &[[u8; 128]], before: u64) -> [
 }
 
 // The bytes, and zeros that fill them up to a block.
-pub(crate) fn zero_filled(bytes: &[u8]) -> [u8; 128]
+pub(crate) fn padded_block(bytes: &[u8]) -> [u8; 128]
     requires { length bytes.now ≤ 128 }
     ensures { result ≡ bytes.now ++ replicate (128 - length bytes.now) 0 }
 {
@@ -66,8 +67,8 @@ pub fn blake2b(len: usize, message: &[u8]) -> Option<Output>
         return None;
     }
     let front = followed_blocks(message);
-    let last = zero_filled(&message[BLOCK * front.len()..]);
-    let h = chained(initial(len), front, 0);
+    let last = padded_block(&message[BLOCK * front.len()..]);
+    let h = state_after(initial(len), front, 0);
     let h = compress(&h, &last, message.len() as u128, true);
     Some(Output::of_state(&h, len))
 }

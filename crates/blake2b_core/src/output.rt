@@ -1,4 +1,4 @@
-//! A digest.
+//! The bytes of a BLAKE2b digest.
 ghost use Rattle.std.specs.Prelude.{◌≡◌, ◌≤◌, length, take};
 ghost use Rattle.std.specs.List.{flat_map};
 ghost use Rattle.byteorder.specs.Endian.{little_bytes};
@@ -14,9 +14,10 @@ pub struct Output {
 }
 
 impl Model for Output {
-    ghost use Rattle.std.specs.Prelude.{ℕ, ◌≤◌, List, take};
+    ghost use Rattle.std.specs.Prelude.{◌≤◌, take};
+    ghost use Rattle.blake2b_core.specs.Bytes.{ByteString};
 
-    ghost Value = { List ℕ };
+    ghost Value = { ByteString };
 
     ghost view = { λ o. take o.len o.bytes };
 

@@ -1,4 +1,4 @@
-//! The vectors, the compression function beside one in plain words, and messages in pieces.
+//! Tests of known digests, of the compression function beside a plain one, and of messages in pieces.
 mod compressed;
 mod incremental;
 mod plain;

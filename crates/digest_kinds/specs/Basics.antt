@@ -1,11 +1,13 @@
 -- General words, for the definitions of all crates.
-use Rattle.std.specs.Prelude.{ℕ, List, Option, option_and_then}
-
--- a list of bytes
-abbrev pub ByteString : Type 0
-ByteString = List ℕ
+use Rattle.std.specs.Prelude.{ℕ, Bool, Option, option_and_then, drop}
+use Rattle.std.specs.List.{prefix_len}
+pub use Rattle.blake2b_core.specs.Bytes.{ByteString}
 
 -- o >>= f: the next step f on what o has, if it has something
 infixl 10 ◌>>=◌
 abbrev pub ◌>>=◌ : {A B : Type 0} → Option A → (A → Option B) → Option B
 o >>= f = option_and_then f o
+
+-- what follows the longest prefix that passes
+abbrev pub after_while : (ℕ → Bool) → ByteString → ByteString
+after_while p xs = drop (prefix_len p xs) xs

@@ -18,14 +18,14 @@ pub use Rattle.digest_kinds.specs.declared.algo.Algos.{Algos}
 abbrev pub all_algos : List Algo
 all_algos = Md5 ∷ Sha1 ∷ Sha224 ∷ Sha256 ∷ Sha384 ∷ Sha512 ∷ Blake2b ∷ []
 
--- what is known of an algorithm: the full digest's length in bytes, the tag in lines, and the digest, whose length
--- BLAKE2b alone reads
+-- the facts of an algorithm: the length in bytes of its full digest, its tag in lines, and its digest of n bytes of a
+-- message; only BLAKE2b has digests of more than one length, so only it reads n
 pub record AlgoFacts : Type 0 where
   pub full_len : ℕ
   pub tag : ByteString
   pub digest : ℕ → ByteString → ByteString
 
--- the facts of each
+-- the facts of each algorithm
 abbrev pub about : Algo → AlgoFacts
 about Md5 = record { full_len = 16; tag = codes "MD5"; digest = λ n m. md5 m }
 about Sha1 = record { full_len = 20; tag = codes "SHA1"; digest = λ n m. sha1 m }
@@ -77,8 +77,8 @@ abbrev pub BeginsWithTag : ByteString → Algo → Type 0
 BeginsWithTag bytes a = (rest : ByteString) × (bytes ≡ tag a ++ rest)
 
 -- no tag is a prefix of another
-abbrev pub TagsApart : Type 0
-TagsApart = (a b : Algo) → BeginsWithTag (tag b) a → a ≡ b
+abbrev pub TagsAreApart : Type 0
+TagsAreApart = (a b : Algo) → BeginsWithTag (tag b) a → a ≡ b
 
 -- the text is 2 to 128 hexadecimal digits of an even count, each of either case
 pub record IsDigits (text : ByteString) : Type 0 where

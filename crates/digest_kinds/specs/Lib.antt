@@ -1,4 +1,5 @@
 pub mod Basics
 pub mod Kinds
+pub mod KindTexts
 pub mod Limits
 pub mod refinement

@@ -37,7 +37,8 @@ pub enum Algos {
 }
 
 impl Algo {
-    const ALL: [Algo; 7] = [
+    /// All algorithms, in the order of the variants.
+    pub const ALL: [Algo; 7] = [
         Algo::Md5,
         Algo::Sha1,
         Algo::Sha224,

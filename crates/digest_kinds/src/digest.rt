@@ -1,9 +1,12 @@
-//! A digest.
+//! A digest of any kind, and its digits.
 
 ghost use Rattle.std.specs.Prelude.{◌≡◌, ◌*◌, ◌++◌, ◌≤◌, ◌↔◌, IsTrue, drop, length, IsSome, IfSome, Ok, IsOk, IfOk};
 ghost use Rattle.digest_kinds.specs.Kinds.{IsDigits};
 ghost use Rattle.hex.specs.Hex.{decode_of, encode_lower};
 
+use std::cmp::Ordering;
+use std::convert::AsSlice;
+use std::hash::{Hash, Hasher};
 use std::marker::Model;
 use std::str::FromStr;
 use std::{fmt, str};
@@ -17,9 +20,10 @@ pub struct Digest {
 }
 
 impl Model for Digest {
-    ghost use Rattle.std.specs.Prelude.{ℕ, ◌≤◌, List, take};
+    ghost use Rattle.std.specs.Prelude.{◌≤◌, take};
+    ghost use Rattle.digest_kinds.specs.Basics.{ByteString};
 
-    ghost Value = { List ℕ };
+    ghost Value = { ByteString };
 
     ghost view = { λ d. take d.len d.bytes };
 
@@ -121,6 +125,62 @@ impl Eq for Digest {
     ghost use Rattle.std.proofs.Common.{rules};
 
     ghost laws = { Prim.search (comparing, rules) };
+}
+
+impl PartialOrd for Digest {
+    ghost use Rattle.std.specs.Prelude.{Some};
+    ghost use Rattle.std.specs.Ordering.{nat_cmp};
+    ghost use Rattle.std.specs.Cmp.Lexicographic.{slice_cmp, texts_po};
+
+    ghost partial_cmp = { λ d e. Some (slice_cmp nat_cmp d e) };
+
+    ghost laws = { texts_po };
+
+    fn partial_cmp(&self, other: &Digest) -> Option<Ordering> {
+        Some(self.cmp(other))
+    }
+}
+
+impl Ord for Digest {
+    ghost use Rattle.std.specs.Prelude.{refl};
+    ghost use Rattle.std.specs.Ordering.{nat_cmp};
+    ghost use Rattle.std.specs.Cmp.Lexicographic.{nat_list_cmp_total, slice_cmp, texts_ties};
+
+    ghost cmp = { slice_cmp nat_cmp };
+
+    ghost total = { nat_list_cmp_total };
+
+    ghost matches_partial_cmp = { λ _ _. refl };
+
+    ghost matches_eq = { texts_ties };
+
+    /// Compares the bytes, the first before the others.
+    fn cmp(&self, other: &Digest) -> Ordering {
+        self.as_slice().cmp(other.as_slice())
+    }
+}
+
+impl Hash for Digest {
+    ghost use Rattle.std.specs.Hash as fed;
+    ghost use Rattle.std.specs.Cmp.Rules.{hashing};
+    ghost use Rattle.std.proofs.Common.{rules};
+
+    ghost hash_input = { fed.slice fed.u8 };
+
+    ghost respects_eq = { Prim.search (hashing, rules) };
+
+    fn hash<H: Hasher>(&self, state: &mut H) {
+        self.as_slice().hash(state);
+    }
+}
+
+impl AsSlice<u8> for Digest {
+    ghost items = { λ d. d };
+
+    /// The digest's bytes. This is the kit's `AsRef<[u8]>`.
+    fn as_slice(&self) -> &[u8] {
+        Digest::as_slice(self)
+    }
 }
 
 impl fmt::Display for Digest {

@@ -4,10 +4,14 @@
 //! [`Digest`]. For BLAKE2b, without a key, the definition of that is `blake2b_core`'s, after RFC 7693. For MD5
 //! (RFC 1321), SHA-1 and SHA-2 (FIPS 180-4) it is the kit's, and published vectors test that it is the standard's.
 //!
+//! What all other crates say of algorithms and digests belongs here, and nothing of lines, files or tools. The crate
+//! calls `blake2b_core`, the kit's digests, `hex`, `itoa` and `std`, and it takes no memory.
+//!
 //! ```rust
-//! let mut hasher = AnyHasher::new(Kind::of(Algo::Sha256));
+//! let kind: Kind = "BLAKE2b-256".parse()?;
+//! let mut hasher = AnyHasher::new(kind);
 //! hasher.update(b"abc");
-//! println!(rt; "{}", hasher.finish())?;
+//! let text = format!(in rt.alloc(); "{kind} {}", hasher.finish())?;
 //! ```
 #![tactic(auto)]
 
@@ -15,7 +19,9 @@ mod algo;
 mod digest;
 mod hashers;
 mod kind;
+mod kind_text;
 pub mod laws;
+mod limits;
 #[cfg(test)]
 mod tests;
 
@@ -27,3 +33,5 @@ pub use hashers::kit_hashers::{
     Md5Hasher, Sha1Hasher, Sha224Hasher, Sha256Hasher, Sha384Hasher, Sha512Hasher,
 };
 pub use kind::{Kind, LengthFault};
+pub use kind_text::{KindPrefix, UnknownKind};
+pub use limits::INTERRUPTIONS;

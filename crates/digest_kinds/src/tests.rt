@@ -1,4 +1,4 @@
-//! Published digests, by each hasher, and one call of each function, with an expected value from outside.
+//! Tests of published digests, by each hasher, and of one call of each function with a value from outside.
 mod digests;
 mod hashers;
 mod kinds;

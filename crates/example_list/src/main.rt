@@ -1,5 +1,5 @@
-//! Lists what the tagged lines of a manifest on standard input say: of each entry its algorithm, its digest and its
-//! file's name.
+//! Lists what the tagged lines of a manifest on standard input say: of each entry its kind, its digest and its file's
+//! name. This is the use that the front page of `sum_lines` shows.
 #![tactic(auto)]
 
 use digest_kinds::Algos;
@@ -29,8 +29,7 @@ fn main(rt: HostRuntime) -> io::Result<()> {
                 stop,
             } => {
                 let name = String::from_utf8_lossy(rt.alloc(), &line[start..stop])?;
-                let digits = hex::encode(rt.alloc(), digest.as_slice())?;
-                println!(rt; "{} {digits} of {name:?}", kind.tag())?;
+                println!(rt; "{kind} {digest} of {name:?}")?;
             }
         }
     }

@@ -13,27 +13,27 @@ use Rattle.sum_lines.proofs.ScanLemmas.{decoded-size, decoded-digits}
 use Rattle.std.proofs.lemmas.List.Elements.{All-get_or}
 use Rattle.std.proofs.lemmas.Option.{cond_some}
 use Rattle.std.proofs.lemmas.Bool.Decides.{Decides-eqb}
-use Rattle.std.proofs.lemmas.List.Prefix.{front_fits}
 use Rattle.std.proofs.lemmas.Slice.Eq.{starts_is}
 use Rattle.hex.specs.Hex.{decode_of, is_hex_digit}
 use Rattle.hex.proofs.HexLemmas.{decode_of-ok}
-use Rattle.digest_kinds.specs.Kinds.{KindValue, full_len, has_len, tag, IsDigits}
+use Rattle.digest_kinds.specs.Kinds.{BeginsWithTag, KindValue, full_len, has_len, tag, IsDigits}
 use Rattle.digest_kinds.proofs.KindLemmas.{has_len-full}
 use Rattle.digest_kinds.specs.declared.algo.Algo.TheVariants.{Blake2b}
-use Rattle.sum_lines.specs.refinement.Beginnings.{Cut, EndsAt, EndsDigits, LeadsTo}
-use Rattle.sum_lines.proofs.PrefixLemmas.{none_of, text}
+use Rattle.sum_lines.specs.refinement.Beginnings.{BeginsWithDigits, EndsAt, EndsDigits, IsReadAs}
+use Rattle.sum_lines.proofs.PrefixLemmas.{text}
+use Rattle.digest_kinds.proofs.PrefixLemmas.{none_of}
 use Rattle.sum_lines.proofs.TaggedLemmas.{hex-no_blank, tag_in-some}
 use Rattle.sum_lines.specs.declared.reading.beginnings.Beginning.TheVariants as beginnings
 
 -- a cut has two digits for each byte of its digest, and so few that the search meets its blank
-cut-size : {a : Algo} {s d : List ℕ} → Cut a s d → (position_or_len is_blank s ≡ 2 * length d) × (length d ≤ 64)
+cut-size : {a : Algo} {s d : List ℕ} → BeginsWithDigits a s d → (position_or_len is_blank s ≡ 2 * length d) × (length d ≤ 64)
 cut-size cut = search (rules, cut-within, decoded-size)
 
 -- ---- the tag
 
 -- a line that begins with a tag is read from there on, and isn't plain
 pub by-tag : (algos : Algos) (line : List ℕ) (a : Algo) → tag_in algos (text line).1 ≡ Some a
-    → LeadsTo algos line (beginnings.Tag a)
+    → IsReadAs algos line (beginnings.Tag a)
 unfolding tagged_parts
 by-tag algos line a h =
     let s : List ℕ = (text line).1 in
@@ -54,10 +54,9 @@ pub no_tag : (algos : Algos) (line : List ℕ) → tag_in algos (text line).1 �
 unfolding tagged_parts
 no_tag algos line h = rw h refl
 
--- a text that begins with a tag is as long
-pub tag-within : {a : Algo} {front : List ℕ} (s : List ℕ) → front ≡ tag a → tag_in (One a) s ≡ Some a
-    → length front ≤ length s
-tag-within {a} s is h = let found = tag_in-some {algos = One a} {s = s} h in rw is (front_fits s (tag a) _ found.is)
+-- a text in which the tag is found begins with it
+pub tag-begins : {a : Algo} (s : List ℕ) → tag_in (One a) s ≡ Some a → BeginsWithTag s a
+tag-begins {a} s h = let found = tag_in-some {algos = One a} {s = s} h in (drop (length (tag a)) s, found.is)
 
 -- ---- the blank after the digits
 
@@ -70,7 +69,7 @@ fixed-len a s n other is = λ d cut.
 
 -- if no blank is found among the first bytes, the line isn't plain
 pub search-none : (a : Algo) (s : List ℕ) {n : ℕ} (r : Option ℕ) → n ≡ min (length s) 129
-    → IsFirstByte (is_byte2 32 9) (take n s) r → IfNone r ((d : List ℕ) → ¬ Cut a s d)
+    → IsFirstByte (is_byte2 32 9) (take n s) r → IfNone r ((d : List ℕ) → ¬ BeginsWithDigits a s d)
 search-none a s {n} None is none = λ d cut.
     let at : ℕ = position_or_len is_blank s in
     let within = cut-within cut in
@@ -87,7 +86,7 @@ search-some a s r is none = search (rules, position_or_len_is, get_or-take)
 
 -- a blank ends the digits of a plain line, and something follows it
 pub end-none : (a : Algo) (s : List ℕ) (at : ℕ) → EndsAt a s at
-    → (at + 1 < length s → is_blank (get_or s at 0) ≡ true → ⊥) → (d : List ℕ) → ¬ Cut a s d
+    → (at + 1 < length s → is_blank (get_or s at 0) ≡ true → ⊥) → (d : List ℕ) → ¬ BeginsWithDigits a s d
 end-none a s at place other d = grind (arith, length-drop, passes_at_first)
 
 -- no blank precedes the blank after digits
@@ -107,12 +106,12 @@ first-blank s d at within blank spelled =
 -- no digest is as long as such digits say
 pub kind-none : {a : Algo} {s : List ℕ} {at : ℕ} → EndsDigits a s at
     → ◌≡◌ {A = Option KindValue} None (cond (has_len a (at / 2)) (Some (record { algo = a; len = at / 2 })) None)
-    → (d : List ℕ) → ¬ Cut a s d
+    → (d : List ℕ) → ¬ BeginsWithDigits a s d
 kind-none ends none d = grind (arith, cut-size)
 
 -- or they are none
 pub digits-none : {a : Algo} {s : List ℕ} {at : ℕ} → EndsDigits a s at → (IsDigits (take at s) → ⊥)
-    → (d : List ℕ) → ¬ Cut a s d
+    → (d : List ℕ) → ¬ BeginsWithDigits a s d
 digits-none ends none d = grind (arith, decoded-digits)
 
 -- what is found so is read as the line's parts

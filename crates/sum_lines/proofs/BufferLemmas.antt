@@ -1,7 +1,7 @@
 -- A buffer over a sink: the calls of the sink below, as calls of the buffer.
 use Rattle.std.proofs.lemmas.Grind.{common_steps}
 use Rattle.std.proofs.Common.{ℕ, ◌≡◌, List, [], Result, arith, rules}
-use Rattle.sum_lines.specs.sinks.Sinks.{SinkState, Accepted, Flushes, WritesAll}
+use Rattle.sum_lines.specs.sinks.Sinks.{SinkState, Accepts, Flushes, WritesAll}
 use Rattle.sum_lines.specs.sinks.Buffers.{with_buffered}
 use Rattle.sum_lines.specs.refinement.SinkStates.{FlushesBuffer}
 use Rattle.sum_lines.proofs.SinkLemmas.{Flushes-with_buffered}
@@ -13,5 +13,5 @@ Emptied a b own r h = grind (arith, common_steps)
 
 -- the buffer was emptied, and then the sink below was flushed
 pub Flushed-below : {E : Type 0} {a : SinkState} (b c : SinkState) (own : List ℕ) (r : Result (Unit {0}) E)
-    → Accepted a (with_buffered b own) [] → own ≡ [] → Flushes b c r → Flushes a (with_buffered c own) r
+    → Accepts a (with_buffered b own) [] → own ≡ [] → Flushes b c r → Flushes a (with_buffered c own) r
 Flushed-below b c own r emptied none h = search (rules, Flushes-with_buffered)

@@ -3,24 +3,24 @@ use Rattle.std.proofs.lemmas.Grind.{common_steps}
 use Rattle.std.proofs.Common.{ℕ, ◌≡◌, Bool, true, false, List, [], ◌∷◌, ◌++◌, Option, None, Some, refl, sym, ◌∙◌, ◌⊎◌, inl, inr, arith}
 use Rattle.std.specs.List.{AllPass}
 use Rattle.digest_kinds.specs.Kinds.{KindValue}
-use Rattle.sum_lines.specs.grammar.Shapes.{Algos, is_blank, mark, Plain, Tagged}
-use Rattle.sum_lines.specs.grammar.Entries.{Form, Undecided, is_ignored, DecidesForm, IsForm, EntryValue, ByTag, ByTail, form_then, line_form, form}
+use Rattle.sum_lines.specs.grammar.Shapes.{Algos, is_blank, mark, IsPlain, IsTagged}
+use Rattle.sum_lines.specs.grammar.Entries.{Form, Undecided, is_ignored, DecidesForm, IsForm, EntryValue, SpellsByTag, SpellsByTail, form_then, line_form, form}
 use Rattle.sum_lines.specs.grammar.LineParts.{LinePartsValue, plain_parts}
-use Rattle.sum_lines.specs.grammar.LineLaws.{OneForm}
-use Rattle.sum_lines.proofs.PrefixLemmas.{none_of}
-use Rattle.sum_lines.proofs.TaggedLemmas.{Begins}
+use Rattle.sum_lines.specs.grammar.LineLaws.{HasOneForm}
+use Rattle.digest_kinds.proofs.PrefixLemmas.{none_of}
+use Rattle.sum_lines.proofs.TaggedLemmas.{BeginsText}
 use Rattle.sum_lines.proofs.PlainLemmas.{plain-digits, plain_is_read, read_is_plain}
 
 -- ---- the parts of an entry
 
 -- the parts of an entry's line, tagged or plain
 abbrev pub tag_parts : {escaped : List ℕ → List ℕ} {algos : Algos} {line : List ℕ} {s : EntryValue}
-    → ByTag escaped algos line s → LinePartsValue
+    → SpellsByTag escaped algos line s → LinePartsValue
 tag_parts {s = s} by = record { escaped = by.escaped; kind = s.kind; digest = s.digest; text = by.raw }
 
 -- those of a plain line
 abbrev pub tail_parts : {escaped : List ℕ → List ℕ} {algos : Algos} {f : Form} {line : List ℕ} {s : EntryValue}
-    → ByTail escaped algos f line s → LinePartsValue
+    → SpellsByTail escaped algos f line s → LinePartsValue
 tail_parts {s = s} by = record { escaped = by.escaped; kind = s.kind; digest = s.digest; text = by.tail }
 
 -- ---- one form
@@ -36,20 +36,20 @@ decides-form {algos} {line} d =
     (rw (plain_is_read (decided_parts d) d.plain) (sym d.is), λ g. rw d.is (grind arith))
 
 -- a line of either shape isn't ignored
-not_ignored : (blanks : List ℕ) (e : Bool) (xs rest : List ℕ) → AllPass is_blank blanks → Begins xs
+not_ignored : (blanks : List ℕ) (e : Bool) (xs rest : List ℕ) → AllPass is_blank blanks → BeginsText xs
     → is_ignored (blanks ++ (mark e ++ (xs ++ rest))) ≡ false
 not_ignored blanks e xs rest all b = grind (arith, common_steps)
 
 -- so a plain line isn't
 pub plain-not_ignored : {algos : Algos} {line : List ℕ} {e : Bool} {kind : KindValue} {d tail : List ℕ}
-    → Plain algos line e kind d tail → is_ignored line ≡ false
+    → IsPlain algos line e kind d tail → is_ignored line ≡ false
 plain-not_ignored {e = e} {tail = tail} p =
     let digits = plain-digits p in
     rw p.whole (not_ignored p.blanks e p.digits (p.blank ∷ tail) p.are_blanks digits.begins)
 
 -- and a tagged one
 pub tagged-not_ignored : {algos : Algos} {line : List ℕ} {e : Bool} {kind : KindValue} {d raw : List ℕ}
-    → Tagged algos line e kind d raw → is_ignored line ≡ false
+    → IsTagged algos line e kind d raw → is_ignored line ≡ false
 tagged-not_ignored t = grind (arith, not_ignored)
 
 -- a line that is found to be plain decides its own form; any other decides nothing
@@ -100,7 +100,7 @@ form-is algos (line ∷ later) f (inr none) = elim (decides-or algos line) [
 ]
 
 -- a list of lines has the computed form, and no other
-pub one_form : OneForm
+pub one_form : HasOneForm
 one_form algos lines f = (form-is algos lines f, λ e. rw e (is-form algos lines))
 
 -- ---- lines after lines

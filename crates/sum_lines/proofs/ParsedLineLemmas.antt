@@ -4,13 +4,13 @@ use Rattle.std.specs.Option.{option_or}
 use Rattle.std.proofs.lemmas.Option.{same_Some}
 use Rattle.digest_kinds.specs.Basics.{◌>>=◌}
 use Rattle.digest_kinds.specs.Kinds.{KindValue}
-use Rattle.sum_lines.specs.grammar.Shapes.{Algos, Plain}
-use Rattle.sum_lines.specs.grammar.Entries.{Form, Undecided, Standard, Reversed, EntryValue, IsEntry, RawOf, is_ignored_by}
+use Rattle.sum_lines.specs.grammar.Shapes.{Algos, IsPlain}
+use Rattle.sum_lines.specs.grammar.Entries.{Form, Undecided, Standard, Reversed, EntryValue, IsEntry, IsRawName, is_ignored_by}
 use Rattle.sum_lines.specs.Escape.{Profile, present, escape_by}
 use Rattle.sum_lines.specs.grammar.LineParts.{LinePartsValue, tagged_parts, plain_parts}
 use Rattle.sum_lines.specs.grammar.ParsedLines.{with_raw, entry_of_parts, entry_of, ParsedLine, parse_line}
-use Rattle.sum_lines.specs.grammar.LineLaws.{OneEntry, ParseMatches, ParseIsGrammar}
-use Rattle.sum_lines.proofs.PrefixLemmas.{bind_some, none_of}
+use Rattle.sum_lines.specs.grammar.LineLaws.{HasOneEntry, MatchesGrammar, ParsesByGrammar}
+use Rattle.digest_kinds.proofs.PrefixLemmas.{bind_some, none_of}
 use Rattle.sum_lines.proofs.PlainLemmas.{apart, plain_is_read, read_is_plain}
 use Rattle.sum_lines.proofs.TaggedLemmas.{tagged_is_read, read_is_tagged}
 use Rattle.sum_lines.proofs.EntryLemmas.{tag_parts, tail_parts, plain-not_ignored, tagged-not_ignored}
@@ -27,12 +27,12 @@ abbrev with_text : LinePartsValue → List ℕ → LinePartsValue
 with_text t raw = record { escaped = t.escaped; kind = t.kind; digest = t.digest; text = raw }
 
 -- the raw name of a tail is found
-raw-is : (f : Form) (t : LinePartsValue) (raw : List ℕ) → RawOf f t.text raw → with_raw f t ≡ Some (with_text t raw)
+raw-is : (f : Form) (t : LinePartsValue) (raw : List ℕ) → IsRawName f t.text raw → with_raw f t ≡ Some (with_text t raw)
 raw-is f t raw h = grind arith
 
 -- what is found in place of a tail is its raw name
 is-raw : (f : Form) (t q : LinePartsValue) → with_raw f t ≡ Some q
-    → (raw : List ℕ) × RawOf f t.text raw × (with_text t raw ≡ q)
+    → (raw : List ℕ) × IsRawName f t.text raw × (with_text t raw ≡ q)
 is-raw Undecided t q h = cc
 is-raw Reversed t q h = (t.text, refl, cc)
 is-raw Standard t q h = grind arith
@@ -41,7 +41,7 @@ module _ (p : Profile) (algos : Algos) (f : Form) (line : List ℕ) where
   -- ---- the entry that a line has is computed
 
   -- a plain line isn't found to be tagged
-  not-tagged : {e : Bool} {kind : KindValue} {d tail : List ℕ} → Plain algos line e kind d tail
+  not-tagged : {e : Bool} {kind : KindValue} {d tail : List ℕ} → IsPlain algos line e kind d tail
       → None ≡ tagged_parts algos line
   not-tagged plain = none_of (tagged_parts algos line) (λ q h. apart plain (read_is_tagged h))
 
@@ -67,7 +67,7 @@ module _ (p : Profile) (algos : Algos) (f : Form) (line : List ℕ) where
       (tagged-not_ignored tagged, inl (record { escaped = t.escaped; raw = t.text; tagged = tagged; spells = name.1 }))
 
   -- what a plain line's spell, with the raw name of its tail
-  by-tail : (s : EntryValue) (t : LinePartsValue) (raw : List ℕ) → plain_parts algos line ≡ Some t → RawOf f t.text raw
+  by-tail : (s : EntryValue) (t : LinePartsValue) (raw : List ℕ) → plain_parts algos line ≡ Some t → IsRawName f t.text raw
       → entry_of_parts p (with_text t raw) ≡ Some s → IsEntry (escape_by p) algos f line s
   by-tail s t raw found is h =
       let name = is-spelled p (with_text t raw) s h in
@@ -93,14 +93,14 @@ module _ (p : Profile) (algos : Algos) (f : Form) (line : List ℕ) where
   value_entry s h = by-parts s (tagged_parts algos line) (plain_parts algos line) refl refl h
 
 -- a line has at most one entry
-pub one_entry : OneEntry
+pub one_entry : HasOneEntry
 one_entry algos f line s t p q =
     same_Some s t (sym (entry_value present algos f line s p) ∙ entry_value present algos f line t q)
 
 -- ---- what a line says
 
 -- what is computed is what the grammar says, whichever the profile
-pub parse_is_grammar : ParseIsGrammar
+pub parse_is_grammar : ParsesByGrammar
 parse_is_grammar p algos f line =
     let skipped = is_ignored_by p line in
     let found = entry_of p algos f line in
@@ -120,5 +120,5 @@ parse_is_grammar p algos f line =
 
 -- so is what equals it
 pub matches : {p : Profile} {algos : Algos} {f : Form} {line : List ℕ} {said : ParsedLine}
-    → said ≡ parse_line p algos f line → ParseMatches p algos f line said
+    → said ≡ parse_line p algos f line → MatchesGrammar p algos f line said
 matches {p} {algos} {f} {line} h = rw h (parse_is_grammar p algos f line)

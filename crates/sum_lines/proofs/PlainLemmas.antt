@@ -10,38 +10,40 @@ use Rattle.hex.specs.Hex.{decode_of, is_hex_digit}
 use Rattle.hex.proofs.HexLemmas.{decode_of-ok}
 use Rattle.digest_kinds.specs.Kinds.{KindValue, tag}
 use Rattle.digest_kinds.proofs.KindLemmas.{no_digits}
-use Rattle.sum_lines.specs.grammar.Shapes.{Algo, Algos, One, Any, is_blank, Plain, Tagged}
-use Rattle.sum_lines.specs.grammar.LineParts.{LinePartsValue, after_while, plain_parts}
-use Rattle.sum_lines.specs.refinement.Beginnings.{Cut}
-use Rattle.sum_lines.proofs.PrefixLemmas.{text, prefix_passes, prefix-and-rest, prefix_len-stop, rest-seam, mark_and_rest-is}
-use Rattle.sum_lines.proofs.TaggedLemmas.{Begins, begins-by, passes-other, after_tag, hex-no_blank, tagged-prefix, mark_and_rest-prefix}
+use Rattle.sum_lines.specs.grammar.Shapes.{Algo, Algos, One, Any, is_blank, IsPlain, IsTagged}
+use Rattle.sum_lines.specs.grammar.LineParts.{LinePartsValue, plain_parts}
+use Rattle.digest_kinds.specs.Basics.{after_while}
+use Rattle.sum_lines.specs.refinement.Beginnings.{BeginsWithDigits}
+use Rattle.sum_lines.proofs.PrefixLemmas.{text, rest-seam, mark_and_rest-is}
+use Rattle.digest_kinds.proofs.PrefixLemmas.{prefix_passes, prefix-and-rest, prefix_len-stop}
+use Rattle.sum_lines.proofs.TaggedLemmas.{BeginsText, begins-by, passes-other, after_tag, hex-no_blank, tagged-prefix, mark_and_rest-prefix}
 
 -- the parts are those of a plain line
-abbrev pub IsPlain : Algos → List ℕ → LinePartsValue → Type 0
-IsPlain algos line p = Plain algos line p.escaped p.kind p.digest p.text
+abbrev pub HasPlainParts : Algos → List ℕ → LinePartsValue → Type 0
+HasPlainParts algos line p = IsPlain algos line p.escaped p.kind p.digest p.text
 
 -- ---- what is read joins to the line
 
 -- what is read is such a cut
 plain_parts-some : {a : Algo} (line : List ℕ) {p : LinePartsValue} → plain_parts (One a) line ≡ Some p
     → let t = text line in let tail = after_first is_blank t.1 in
-    (d : List ℕ) × Cut a t.1 d
+    (d : List ℕ) × BeginsWithDigits a t.1 d
     × (record { escaped = t.0; kind = record { algo = a; len = length d }; digest = d; text = tail } ≡ p)
 unfolding plain_parts
 plain_parts-some line h = grind arith
 
 -- without a cut no line is plain
-pub uncut : {a : Algo} (line : List ℕ) → ((d : List ℕ) → ¬ Cut a (text line).1 d)
+pub uncut : {a : Algo} (line : List ℕ) → ((d : List ℕ) → ¬ BeginsWithDigits a (text line).1 d)
     → None ≡ plain_parts (One a) line
 uncut line none = grind (arith, plain_parts-some)
 
 -- such a text has a blank
-pub cut-within : {a : Algo} {s d : List ℕ} → Cut a s d → position_or_len is_blank s < length s
+pub cut-within : {a : Algo} {s d : List ℕ} → BeginsWithDigits a s d → position_or_len is_blank s < length s
 cut-within cut = grind (arith, length-drop)
 
 -- a line that is read as plain is plain
 pub read_is_plain : {algos : Algos} {line : List ℕ} {p : LinePartsValue} → plain_parts algos line ≡ Some p
-    → IsPlain algos line p
+    → HasPlainParts algos line p
 unfolding plain_parts
 read_is_plain {algos = One a} {line} {p} h =
     let s : List ℕ = (text line).1 in
@@ -67,22 +69,22 @@ read_is_plain {algos = Any} h = cc
 -- ---- what joins to the line is read
 
 -- a byte that is a hexadecimal digit
-abbrev Hex : ℕ → Type 0
-Hex x = is_hex_digit x ≡ true
+abbrev IsHex : ℕ → Type 0
+IsHex x = is_hex_digit x ≡ true
 
 -- the digits of a digest: two at least, and a line may begin with them
-pub record Digits (ds : List ℕ) : Type 0 where
+pub record AreDigits (ds : List ℕ) : Type 0 where
   pub are : AllPass is_hex_digit ds
   pub two : 2 ≤ length ds
-  pub begins : Begins ds
+  pub begins : BeginsText ds
 
 -- what decodes to a digest is such digits
-pub digits-of : (ds d : List ℕ) → decode_of ds ≡ Ok d → 0 < length d → Digits ds
+pub digits-of : (ds d : List ℕ) → decode_of ds ≡ Ok d → 0 < length d → AreDigits ds
 digits-of [] d h lt = let k = decode_of-ok [] d h in absurd (let e = k.2 in omega arith)
 digits-of (x ∷ xs) d h lt =
     let k = decode_of-ok (x ∷ xs) d h in
     let size : length (x ∷ xs) ≡ 2 * length d = k.2 in
-    let first : is_hex_digit x ≡ true = All-head Hex x xs k.1 in
+    let first : is_hex_digit x ≡ true = All-head IsHex x xs k.1 in
     record {
       are = k.1;
       two = omega arith;
@@ -96,9 +98,9 @@ first-at : (xs : List ℕ) (b : ℕ) (ys : List ℕ) → AllPass (λ x. not (is_
 first-at xs b ys all blank = grind (arith, prefix_len-stop, take_at, rest-seam)
 
 module _ {algos : Algos} {line : List ℕ} {e : Bool} {kind : KindValue} {d tail : List ℕ}
-    (t : Plain algos line e kind d tail) where
+    (t : IsPlain algos line e kind d tail) where
   -- the digits of a plain line are those of a digest
-  pub plain-digits : Digits t.digits
+  pub plain-digits : AreDigits t.digits
   plain-digits = search (rules, digits-of)
 
   -- its blanks and its backslash are passed over
@@ -106,13 +108,13 @@ module _ {algos : Algos} {line : List ℕ} {e : Bool} {kind : KindValue} {d tail
   plain-prefix = grind (arith, plain-digits, mark_and_rest-prefix)
 
 -- so the line is read as its parts
-pub plain_is_read : {algos : Algos} {line : List ℕ} (p : LinePartsValue) → IsPlain algos line p
+pub plain_is_read : {algos : Algos} {line : List ℕ} (p : LinePartsValue) → HasPlainParts algos line p
     → plain_parts algos line ≡ Some p
 unfolding plain_parts
 plain_is_read p t =
     let digits = plain-digits t in
     let no_blanks : AllPass (λ x. not (is_blank x)) t.digits =
-    All-weaker Hex (λ x. not (is_blank x) ≡ true) (λ x hex. ap not (hex-no_blank x hex)) t.digits digits.are in
+    All-weaker IsHex (λ x. not (is_blank x) ≡ true) (λ x hex. ap not (hex-no_blank x hex)) t.digits digits.are in
     let cut = first-at t.digits t.blank p.text no_blanks t.is_one_blank in
     rw (t.one, plain-prefix t, cut.0, cut.1, t.spelled, t.size, t.has, lt-ltb 0 (length p.text) t.some) refl
 
@@ -121,12 +123,12 @@ plain_is_read p t =
 -- a plain line's digits begin no tag
 pub no_prefix : (a : Algo) (ds s rest : List ℕ) → AllPass is_hex_digit ds → 2 ≤ length ds → ds ++ s ≡ tag a ++ rest → ⊥
 no_prefix a (x ∷ y ∷ xs) s rest all two e =
-    no_digits a x y (xs ++ s) rest (All-head Hex x (y ∷ xs) all) (All-head Hex y xs (All-tail Hex x (y ∷ xs) all)) e
+    no_digits a x y (xs ++ s) rest (All-head IsHex x (y ∷ xs) all) (All-head IsHex y xs (All-tail IsHex x (y ∷ xs) all)) e
 no_prefix a ds s rest all two e = absurd (omega arith)
 
 -- no line is both plain and tagged
 pub apart : {algos others : Algos} {line : List ℕ} {e f : Bool} {kind other : KindValue} {d c tail raw : List ℕ}
-    → Plain algos line e kind d tail → Tagged others line f other c raw → ⊥
+    → IsPlain algos line e kind d tail → IsTagged others line f other c raw → ⊥
 apart {e = e} {f = f} {other = other} {tail = tail} p t =
     let digits = plain-digits p in
     let same : (e, p.digits ++ (p.blank ∷ tail)) ≡ (f, tag other.algo ++ after_tag t) =

@@ -3,17 +3,18 @@ use Rattle.std.proofs.Common.{ℕ, ◌≡◌, Bool, true, List, [], ◌∷◌, �
 use Rattle.std.proofs.lemmas.List.{append-nil}
 use Rattle.hex.specs.Hex.{encode_lower}
 use Rattle.digest_kinds.specs.Kinds.{KindValue}
-use Rattle.sum_lines.specs.grammar.Shapes.{Algos, One, mark, Width, Allows, Tagged}
+use Rattle.sum_lines.specs.grammar.Shapes.{Algos, One, mark, Allows, IsTagged}
+use Rattle.digest_kinds.specs.KindTexts.{IsWidth}
 use Rattle.sum_lines.specs.grammar.Entries.{Form, Undecided, Standard, EntryValue, IsEntry, line_form, form}
 use Rattle.sum_lines.specs.declared.writing.put_line.Mode.{Mode}
 use Rattle.sum_lines.specs.Escape.{present, escape, escape_differs}
 use Rattle.sum_lines.specs.grammar.LineParts.{plain_parts}
-use Rattle.sum_lines.specs.grammar.LineLaws.{Writable, SpellsBack, ReadBack}
+use Rattle.sum_lines.specs.grammar.LineLaws.{IsWritable, SpellsBack, IsReadBack}
 use Rattle.sum_lines.proofs.PlainLemmas.{apart, read_is_plain}
-use Rattle.sum_lines.proofs.PrefixLemmas.{none_of}
+use Rattle.digest_kinds.proofs.PrefixLemmas.{none_of}
 use Rattle.sum_lines.proofs.EntryLemmas.{form_at}
 use Rattle.sum_lines.proofs.ParsedLineLemmas.{one_entry}
-use Rattle.sum_lines.proofs.PutLineShapes.{Inline, inline, plain_line, tagged_line, written_for, is_space_or_star, plain-form, plain-entry, tagged-written, tagged-entry, Inline-plain, Inline-tagged}
+use Rattle.sum_lines.proofs.PutLineShapes.{IsInline, inline, plain_line, tagged_line, written_for, is_space_or_star, plain-form, plain-entry, tagged-written, tagged-entry, IsInline-plain, IsInline-tagged}
 use Rattle.sum_lines.specs.Lines as lines
 
 -- a line that ends with a newline, without it
@@ -24,22 +25,22 @@ prefix_of mode kind name digest =
 -- ---- the form after a written line
 
 -- written lines may follow lines of either form
-abbrev Readable : Form → Type 0
-Readable f = (f ≡ Undecided) ⊎ (f ≡ Standard)
+abbrev IsReadable : Form → Type 0
+IsReadable f = (f ≡ Undecided) ⊎ (f ≡ Standard)
 
 -- a line that makes a list Standard does so after any readable lines
 form-after : (algos : Algos) (before later : List (List ℕ)) (line : List ℕ) → line_form algos line ≡ Standard
-    → Readable (form algos before) → form algos (before ++ (line ∷ later)) ≡ Standard
+    → IsReadable (form algos before) → form algos (before ++ (line ∷ later)) ≡ Standard
 form-after algos before later line own readable = grind (arith, form_at)
 
 -- a line that decides nothing leaves the form as it is
 form-kept : (algos : Algos) (before : List (List ℕ)) (line : List ℕ) → line_form algos line ≡ Undecided
-    → Readable (form algos before) → Readable (form algos (before ++ (line ∷ [])))
+    → IsReadable (form algos before) → IsReadable (form algos (before ++ (line ∷ [])))
 form-kept algos before line own readable = grind (arith, form_at)
 
 -- a tagged line is no plain one, and decides nothing
 tagged-undecided : {algos : Algos} {line : List ℕ} {e : Bool} {kind : KindValue} {d raw : List ℕ}
-    → Tagged algos line e kind d raw → line_form algos line ≡ Undecided
+    → IsTagged algos line e kind d raw → line_form algos line ≡ Undecided
 tagged-undecided {algos} {line} tagged =
     rw (← none_of (plain_parts algos line) (λ p h. apart (read_is_plain h) tagged)) refl
 
@@ -47,9 +48,9 @@ tagged-undecided {algos} {line} tagged =
 
 -- a line with an entry is read back, since a line spells at most one
 back : {algos : Algos} {before later : List (List ℕ)} {kind : KindValue} {name digest prefix : List ℕ}
-    → All Inline prefix
+    → All IsInline prefix
     → IsEntry escape algos (form algos (before ++ (prefix ∷ later))) prefix (written_for kind name digest)
-    → Readable (form algos (before ++ (prefix ∷ [])))
+    → IsReadable (form algos (before ++ (prefix ∷ [])))
     → SpellsBack algos before later (prefix ++ (10 ∷ [])) kind name digest
 back {algos} {before} {later} {kind} {name} {digest} {prefix} one has keeps =
     let f : Form = form algos (before ++ (prefix ∷ later)) in
@@ -62,26 +63,26 @@ back {algos} {before} {later} {kind} {name} {digest} {prefix} one has keeps =
       keeps = keeps;
     }
 
-module _ {kind : KindValue} {name digest : List ℕ} (before later : List (List ℕ)) (w : Writable kind name digest) where
+module _ {kind : KindValue} {name digest : List ℕ} (before later : List (List ℕ)) (w : IsWritable kind name digest) where
   -- a plain line
-  plain-back : (x : ℕ) → is_space_or_star x ≡ true → inline x ≡ true → Readable (form (One kind.algo) before)
+  plain-back : (x : ℕ) → is_space_or_star x ≡ true → inline x ≡ true → IsReadable (form (One kind.algo) before)
       → SpellsBack (One kind.algo) before later (plain_line x name digest ++ (10 ∷ [])) kind name digest
   plain-back x star one_line readable =
       let line : List ℕ = plain_line x name digest in
       let now : (others : List (List ℕ)) → form (One kind.algo) (before ++ (line ∷ others)) ≡ Standard =
       λ others. form-after (One kind.algo) before others line (plain-form w x star) readable in
-      back (Inline-plain w x one_line) (plain-entry w x _ star (now later)) (inr (now []))
+      back (IsInline-plain w x one_line) (plain-entry w x _ star (now later)) (inr (now []))
 
   -- and a tagged one
-  tagged-back : (algos : Algos) (width : List ℕ) → Allows algos kind.algo → Width kind width
-      → Readable (form algos before)
+  tagged-back : (algos : Algos) (width : List ℕ) → Allows algos kind.algo → IsWidth kind width
+      → IsReadable (form algos before)
       → SpellsBack algos before later (tagged_line kind width name digest ++ (10 ∷ [])) kind name digest
   tagged-back algos width allowed is_width readable =
       let line : List ℕ = tagged_line kind width name digest in
       let undecided = tagged-undecided (tagged-written w algos width allowed is_width) in
-      back (Inline-tagged w width is_width) (tagged-entry w algos width _ allowed is_width)
+      back (IsInline-tagged w width is_width) (tagged-entry w algos width _ allowed is_width)
       (form-kept algos before line undecided readable)
 
 -- each of the three layouts is read back
-pub read_back : ReadBack
+pub read_back : IsReadBack
 read_back = grind (arith, append-nil, plain-back, append_assoc, tagged-back)

@@ -7,33 +7,34 @@ use Rattle.std.proofs.lemmas.List.Folds.{list_all-append}
 use Rattle.std.proofs.lemmas.List.Sums.{list_all-from_AllPass}
 use Rattle.std.proofs.lemmas.List.Elements.{All-cons, All-nil}
 use Rattle.digest_kinds.specs.Kinds.{KindValue, tag}
-use Rattle.sum_lines.specs.grammar.Shapes.{mark, Width, is_blank, Allows, Plain, Tagged, Algos, One}
+use Rattle.sum_lines.specs.grammar.Shapes.{mark, is_blank, Allows, IsPlain, IsTagged, Algos, One}
+use Rattle.digest_kinds.specs.KindTexts.{IsWidth}
 use Rattle.digest_kinds.specs.declared.algo.Algo.TheVariants.{Blake2b}
 use Rattle.sum_lines.specs.Escape.{present, escape, escape_of, escape_differs}
 use Rattle.std.specs.Char.{is_ascii_digit}
-use Rattle.sum_lines.proofs.BitsLemmas.{decimal-digits}
+use Rattle.digest_kinds.proofs.BitsLemmas.{decimal-digits}
 use Rattle.digest_kinds.proofs.KindLemmas.{has_len-range}
 use Rattle.std.proofs.lemmas.Slice.Eq.{bytes_eq-Decides}
 use Rattle.hex.specs.Hex.{encode_lower, is_hex_digit}
 use Rattle.hex.proofs.HexLemmas.{decode_of-encode_lower}
 use Rattle.sum_lines.specs.grammar.Entries.{Form, Standard, begins_standard, line_form, Spells, EntryValue, IsEntry}
 use Rattle.sum_lines.specs.grammar.LineParts.{LinePartsValue}
-use Rattle.sum_lines.specs.grammar.LineLaws.{Writable}
-use Rattle.sum_lines.proofs.PlainLemmas.{Digits, digits-of, plain_is_read}
+use Rattle.sum_lines.specs.grammar.LineLaws.{IsWritable}
+use Rattle.sum_lines.proofs.PlainLemmas.{AreDigits, digits-of, plain_is_read}
 use Rattle.sum_lines.proofs.EntryLemmas.{plain-not_ignored}
 use Rattle.sum_lines.proofs.EscapeLemmas.{length-escape}
 
 -- a byte that may be within a line
-abbrev pub Inline : ℕ → Type 0
-Inline b = (b ≢ 10) × (b ≢ 13)
+abbrev pub IsInline : ℕ → Type 0
+IsInline b = (b ≢ 10) × (b ≢ 13)
 
 -- its test
 abbrev pub inline : ℕ → Bool
 inline b = not (b == 10 || b == 13)
 
 -- bytes that pass it may
-pub Inline-by_test : (xs : List ℕ) → list_all inline xs ≡ true → All Inline xs
-Inline-by_test xs h = grind (arith, common_steps)
+pub IsInline-by_test : (xs : List ℕ) → list_all inline xs ≡ true → All IsInline xs
+IsInline-by_test xs h = grind (arith, common_steps)
 
 -- so do bytes of a kind that a newline and a carriage return aren't
 pub inline-all : (test : ℕ → Bool) (xs : List ℕ) → test 10 ≡ false → test 13 ≡ false → AllPass test xs
@@ -41,7 +42,7 @@ pub inline-all : (test : ℕ → Bool) (xs : List ℕ) → test 10 ≡ false →
 inline-all test xs ten thirteen all = grind (arith, list_all-from_AllPass)
 
 -- what may come between the tag and the name
-pub inline-width : (kind : KindValue) (w : List ℕ) → Width kind w → list_all inline w ≡ true
+pub inline-width : (kind : KindValue) (w : List ℕ) → IsWidth kind w → list_all inline w ≡ true
 inline-width kind w (inl none) = rw none.0 refl
 inline-width kind w (inr bits) =
     let digits = decimal-digits kind.len (has_len-range Blake2b kind.len bits.2).1 in
@@ -86,13 +87,13 @@ standard : (x : ℕ) (name : List ℕ) → 0 < length name → is_space_or_star 
     → begins_standard (x ∷ escape name) ≡ true
 standard x name lt star = let some : 0 < length (escape name) = omega (arith, lt, length-escape name) in grind arith
 
-module _ {kind : KindValue} {name digest : List ℕ} (w : Writable kind name digest) where
+module _ {kind : KindValue} {name digest : List ℕ} (w : IsWritable kind name digest) where
   -- what is written spells the name
   name-spelled : Spells escape (escape_differs present name) (escape name) name
   name-spelled = record { no_nul = w.no_nul; is = name-written name }
 
   -- the digest's digits are read back
-  pub digits-written : Digits (encode_lower digest)
+  pub digits-written : AreDigits (encode_lower digest)
   digits-written =
       let some = (has_len-range kind.algo kind.len w.has).0 in
       let size = w.size in
@@ -100,7 +101,7 @@ module _ {kind : KindValue} {name digest : List ℕ} (w : Writable kind name dig
 
   -- a plain line has that shape
   plain-written : (x : ℕ)
-      → Plain (One kind.algo) (plain_line x name digest) (escape_differs present name) kind digest (x ∷ escape name)
+      → IsPlain (One kind.algo) (plain_line x name digest) (escape_differs present name) kind digest (x ∷ escape name)
   plain-written x = record {
     blanks = [];
     digits = encode_lower digest;
@@ -139,8 +140,8 @@ module _ {kind : KindValue} {name digest : List ℕ} (w : Writable kind name dig
   )
 
   -- a tagged line has that shape
-  pub tagged-written : (algos : Algos) (width : List ℕ) → Allows algos kind.algo → Width kind width
-      → Tagged algos (tagged_line kind width name digest) (escape_differs present name) kind digest (escape name)
+  pub tagged-written : (algos : Algos) (width : List ℕ) → Allows algos kind.algo → IsWidth kind width
+      → IsTagged algos (tagged_line kind width name digest) (escape_differs present name) kind digest (escape name)
   tagged-written algos width allowed is_width =
       let space : AllPass is_blank (32 ∷ []) =
       All-cons (λ b. is_blank b ≡ true) 32 [] refl (All-nil (λ b. is_blank b ≡ true)) in
@@ -163,7 +164,7 @@ module _ {kind : KindValue} {name digest : List ℕ} (w : Writable kind name dig
       }
 
   -- whatever the form, it spells what it was written for
-  pub tagged-entry : (algos : Algos) (width : List ℕ) (f : Form) → Allows algos kind.algo → Width kind width
+  pub tagged-entry : (algos : Algos) (width : List ℕ) (f : Form) → Allows algos kind.algo → IsWidth kind width
       → IsEntry escape algos f (tagged_line kind width name digest) (written_for kind name digest)
   tagged-entry algos width f allowed is_width = grind (arith, tagged-written, name-spelled)
 
@@ -172,10 +173,10 @@ module _ {kind : KindValue} {name digest : List ℕ} (w : Writable kind name dig
   inline-digits = let ds = digits-written in inline-all is_hex_digit (encode_lower digest) refl refl ds.are
 
   -- a plain line has no end of a line
-  pub Inline-plain : (x : ℕ) → inline x ≡ true → All Inline (plain_line x name digest)
-  Inline-plain x h = grind (arith, Inline-by_test, list_all-append, inline-digits, inline-escape)
+  pub IsInline-plain : (x : ℕ) → inline x ≡ true → All IsInline (plain_line x name digest)
+  IsInline-plain x h = grind (arith, IsInline-by_test, list_all-append, inline-digits, inline-escape)
 
   -- nor does a tagged one
-  pub Inline-tagged : (width : List ℕ) → Width kind width → All Inline (tagged_line kind width name digest)
-  Inline-tagged width is_width =
-      grind (arith, Inline-by_test, list_all-append, inline-width, inline-escape, inline-digits)
+  pub IsInline-tagged : (width : List ℕ) → IsWidth kind width → All IsInline (tagged_line kind width name digest)
+  IsInline-tagged width is_width =
+      grind (arith, IsInline-by_test, list_all-append, inline-width, inline-escape, inline-digits)

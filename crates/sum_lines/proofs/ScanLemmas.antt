@@ -7,15 +7,17 @@ use Rattle.std.proofs.lemmas.Bool.{lt-ltb}
 use Rattle.memchr.specs.Find.{Nowhere, Passes, IsLastByte, is_byte}
 use Rattle.hex.specs.Hex.{decode_of}
 use Rattle.hex.proofs.HexLemmas.{decode_of-ok}
-use Rattle.digest_kinds.specs.Basics.{◌>>=◌}
+use Rattle.digest_kinds.specs.Basics.{◌>>=◌, after_while}
 use Rattle.digest_kinds.specs.Kinds.{KindValue, tag, IsDigits}
 use Rattle.sum_lines.specs.grammar.Shapes.{Algo, One, is_blank, optional}
 use Rattle.std.proofs.lemmas.List.{take-append-drop}
-use Rattle.sum_lines.specs.grammar.LineParts.{LinePartsValue, after_while, strip_prefix, tag_in, width_at, tagged_parts}
+use Rattle.sum_lines.specs.grammar.LineParts.{LinePartsValue, strip_prefix, tag_in, tagged_parts}
+use Rattle.digest_kinds.specs.KindTexts.{kind_and_rest}
 use Rattle.sum_lines.specs.refinement.LinePartRanges.{IsFront}
 use Rattle.sum_lines.specs.declared.reading.line_parts.Front.{Front}
-use Rattle.sum_lines.proofs.PrefixLemmas.{none_of, text, strip_prefix-some, strip_prefix-append, opened-some, rfind-at, rfind-none, rsplit-some}
-use Rattle.sum_lines.proofs.TaggedLemmas.{width_at-some}
+use Rattle.sum_lines.proofs.PrefixLemmas.{text, strip_prefix-some, strip_prefix-append, opened-some, rfind-at, rfind-none, rsplit-some}
+use Rattle.digest_kinds.proofs.PrefixLemmas.{none_of}
+use Rattle.digest_kinds.proofs.KindTextLemmas.{kind_and_rest-some}
 use Rattle.std.proofs.lemmas.Grind.{common_steps}
 
 -- ---- a text at the start
@@ -79,7 +81,7 @@ place raw rest ends is = grind (arith, common_steps)
 
 -- so has the name after the parenthesis
 pub name_place : {line s inner : List ℕ} {name : List ℕ × List ℕ} (a : Algo) (w : KindValue × List ℕ) → EndsIn line s
-    → Some w ≡ width_at a (drop (length (tag a)) s)
+    → Some w ≡ kind_and_rest a (drop (length (tag a)) s)
     → Some inner ≡ option_or (strip_prefix (32 ∷ 40 ∷ []) w.1) (strip_prefix (40 ∷ []) w.1)
     → Some name ≡ rsplit_once 41 inner
     → (length inner ≤ length line) × (length line - length inner + length name.0 ≤ length line)
@@ -87,7 +89,7 @@ pub name_place : {line s inner : List ℕ} {name : List ℕ × List ℕ} (a : Al
 name_place {s = s} {inner = inner} {name = name} a w ends wide opened split =
     let tag_len : ℕ = length (tag a) in
     let after_tag = ends-after (take tag_len s) (drop tag_len s) ends (sym (take-append-drop tag_len s)) in
-    let width = width_at-some a (drop tag_len s) w (sym wide) in
+    let width = kind_and_rest-some a (drop tag_len s) w (sym wide) in
     let gap = opened-some w.1 inner (sym opened) in
     let behind_width = ends-after width.width w.1 after_tag width.whole in
     let behind_gap = ends-after (optional gap.0 (32 ∷ [])) (40 ∷ inner) behind_width gap.1 in
@@ -107,7 +109,7 @@ none_of_size r n m p none = grind arith
 -- what was read step by step after the tag; no step looks which algorithm it is
 module _ {w : KindValue × List ℕ} {inner digits : List ℕ} {name : List ℕ × List ℕ} (a : Algo) (line : List ℕ)
     (found : tag_in (One a) (text line).1 ≡ Some a)
-    (width : Some w ≡ width_at a (drop (length (tag a)) (text line).1))
+    (width : Some w ≡ kind_and_rest a (drop (length (tag a)) (text line).1))
     (opened : Some inner ≡ option_or (strip_prefix (32 ∷ 40 ∷ []) w.1) (strip_prefix (40 ∷ []) w.1))
     (split : Some name ≡ rsplit_once 41 inner)
     (sign : Some digits ≡ strip_prefix (61 ∷ []) (after_while is_blank name.1)) where

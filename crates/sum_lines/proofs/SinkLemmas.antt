@@ -4,19 +4,19 @@ use Rattle.std.proofs.Common.{ℕ, ◌≡◌, ◌<◌, ◌-◌, List, [], ◌++�
 use Rattle.std.proofs.lemmas.List.{take_rest, append_cancel_left}
 use Rattle.std.specs.Io.KnownBytes.{Appends, append_known}
 use Rattle.std.proofs.KnownBytes.{Appends-trans}
-use Rattle.sum_lines.specs.sinks.Sinks.{AppendsProperPrefix, SinkState, Accepted, WriteFailed, FlushFailed, WritesAll, Flushes}
+use Rattle.sum_lines.specs.sinks.Sinks.{AppendsProperPrefix, SinkState, Accepts, FailsToWrite, FailsToFlush, WritesAll, Flushes}
 use Rattle.digest_kinds.specs.Limits.{one_more}
 use Rattle.sum_lines.specs.refinement.SinkStates.{Grows, AppendsPrefix}
 
 -- ---- two calls, one after the other
 
 -- nothing is accepted if nothing is done
-pub Accepted-nil : {a : SinkState} → Accepted a a []
-Accepted-nil = search rules
+pub Accepts-nil : {a : SinkState} → Accepts a a []
+Accepts-nil = search rules
 
 -- one text was accepted, and then another
-pub Accepted-trans : {a b c : SinkState} (xs ys : List ℕ) → Accepted a b xs → Accepted b c ys → Accepted a c (xs ++ ys)
-Accepted-trans xs ys first second = grind (arith, Appends-trans)
+pub Accepts-trans : {a b c : SinkState} (xs ys : List ℕ) → Accepts a b xs → Accepts b c ys → Accepts a c (xs ++ ys)
+Accepts-trans xs ys first second = grind (arith, Appends-trans)
 
 -- a text was accepted, and then a prefix of the buffered bytes was written
 written_prefix : (a b c : Option (List ℕ)) (buffered_before buffered_after text : List ℕ) → Grows a b
@@ -45,25 +45,25 @@ written_proper_prefix (Some x) b c buffered_before buffered_after text piece lat
 
 -- a text was accepted, and then a call without a text failed: a prefix of the bytes buffered before and the text was
 -- written
-pub Accepted-flush_failed : {a b c : SinkState} (text : List ℕ) → Accepted a b text → FlushFailed b c
+pub Accepts-flush_failed : {a b c : SinkState} (text : List ℕ) → Accepts a b text → FailsToFlush b c
     → AppendsPrefix a.written c.written (a.buffered ++ text)
-Accepted-flush_failed {a} {b} {c} text wrote dropped =
+Accepts-flush_failed {a} {b} {c} text wrote dropped =
     written_prefix a.written b.written c.written a.buffered b.buffered text wrote.written wrote.accepted dropped.written
 
 -- nothing was written, and then a flush came
-pub Flushes-with_buffered : {E : Type 0} {a : SinkState} (b c : SinkState) (r : Result (Unit {0}) E) → Accepted a b []
+pub Flushes-with_buffered : {E : Type 0} {a : SinkState} (b c : SinkState) (r : Result (Unit {0}) E) → Accepts a b []
     → Flushes b c r → Flushes a c r
 Flushes-with_buffered {a = a} b c (Ok u) wrote flushed = search rules
 Flushes-with_buffered b c (Err e) wrote dropped = record {
-  written = rw append-nil at (Accepted-flush_failed [] wrote dropped);
+  written = rw append-nil at (Accepts-flush_failed [] wrote dropped);
   buffered = dropped.buffered;
   failures = dropped.failures ∙ ap one_more wrote.failures;
 }
 
 -- a write failed that was to accept some of a text
-pub FlushFailed-write_failed : {a b : SinkState} {text : List ℕ} → FlushFailed a b → 0 < length text
-    → WriteFailed a b text
-FlushFailed-write_failed {text = text} dropped some =
+pub FailsToFlush-write_failed : {a b : SinkState} {text : List ℕ} → FailsToFlush a b → 0 < length text
+    → FailsToWrite a b text
+FailsToFlush-write_failed {text = text} dropped some =
     let prefix = dropped.written.0 in
     let rest = dropped.written.1.0 in
     let cut = dropped.written.1.1 in
@@ -76,36 +76,36 @@ FlushFailed-write_failed {text = text} dropped some =
     }
 
 -- a sink whose bytes are known, and that buffers nothing, accepted a piece
-pub Accepted-known : (old new piece : List ℕ) (failures : ℕ) → new ≡ old ++ piece
-    → Accepted (record { written = Some old; buffered = []; failures = failures })
+pub Accepts-known : (old new piece : List ℕ) (failures : ℕ) → new ≡ old ++ piece
+    → Accepts (record { written = Some old; buffered = []; failures = failures })
     (record { written = Some new; buffered = []; failures = failures }) piece
-Accepted-known old new piece failures is = search rules
+Accepts-known old new piece failures is = search rules
 
 -- ---- a text, piece after piece
 
 -- of this text all but the rest was accepted, and no call failed
-pub record Left (a b : SinkState) (text rest : List ℕ) : Type 0 where
+pub record HasLeft (a b : SinkState) (text rest : List ℕ) : Type 0 where
   pub prefix : List ℕ
   pub cut : text ≡ prefix ++ rest
-  pub wrote : Accepted a b prefix
+  pub wrote : Accepts a b prefix
 
 -- before the first piece, all of the text is left
-pub Left-all : {a : SinkState} {text : List ℕ} → Left a a text text
-Left-all = record { prefix = []; cut = refl; wrote = Accepted-nil }
+pub HasLeft-all : {a : SinkState} {text : List ℕ} → HasLeft a a text text
+HasLeft-all = record { prefix = []; cut = refl; wrote = Accepts-nil }
 
 -- a piece of the rest was accepted
-pub Left-step : {a b c : SinkState} {text rest more : List ℕ} (piece : List ℕ) → Left a b text rest
-    → rest ≡ piece ++ more → Accepted b c piece → Left a c text more
-Left-step {more = more} piece left cut written = record {
+pub HasLeft-step : {a b c : SinkState} {text rest more : List ℕ} (piece : List ℕ) → HasLeft a b text rest
+    → rest ≡ piece ++ more → Accepts b c piece → HasLeft a c text more
+HasLeft-step {more = more} piece left cut written = record {
   prefix = left.prefix ++ piece;
   cut = left.cut ∙ ap (λ l. left.prefix ++ l) cut ∙ sym (append_assoc left.prefix piece more);
-  wrote = Accepted-trans left.prefix piece left.wrote written;
+  wrote = Accepts-trans left.prefix piece left.wrote written;
 }
 
 -- a piece of the rest failed: so did the whole text
-pub Left-stop : {a b c : SinkState} {text rest piece : List ℕ} (more : List ℕ) → Left a b text rest
-    → rest ≡ piece ++ more → WriteFailed b c piece → WriteFailed a c text
-Left-stop {a} {b} {c} {piece = piece} more left cut failed =
+pub HasLeft-stop : {a b c : SinkState} {text rest piece : List ℕ} (more : List ℕ) → HasLeft a b text rest
+    → rest ≡ piece ++ more → FailsToWrite b c piece → FailsToWrite a c text
+HasLeft-stop {a} {b} {c} {piece = piece} more left cut failed =
     let whole = left.cut ∙ ap (λ l. left.prefix ++ l) cut in
     let size = length-append left.prefix (piece ++ more) in
     record {
@@ -117,14 +117,14 @@ Left-stop {a} {b} {c} {piece = piece} more left cut failed =
     }
 
 -- the last piece is all of the rest: its result is that of the whole text
-pub Left-last : {E : Type 0} {a b : SinkState} {text rest : List ℕ} (c : SinkState) (r : Result (Unit {0}) E)
-    → Left a b text rest → WritesAll b c rest r → WritesAll a c text r
-Left-last {rest = rest} c (Ok u) left last = rw left.cut (Accepted-trans left.prefix rest left.wrote last)
-Left-last {rest = rest} c (Err e) left last = Left-stop [] left (sym (append-nil rest)) last
+pub HasLeft-last : {E : Type 0} {a b : SinkState} {text rest : List ℕ} (c : SinkState) (r : Result (Unit {0}) E)
+    → HasLeft a b text rest → WritesAll b c rest r → WritesAll a c text r
+HasLeft-last {rest = rest} c (Ok u) left last = rw left.cut (Accepts-trans left.prefix rest left.wrote last)
+HasLeft-last {rest = rest} c (Err e) left last = HasLeft-stop [] left (sym (append-nil rest)) last
 
 -- nothing is left: all of the text was accepted
-pub Left-none : {a b : SinkState} {text rest : List ℕ} → Left a b text rest → rest ≡ [] → Accepted a b text
-Left-none left none = rw (left.cut, none, append-nil) left.wrote
+pub HasLeft-none : {a b : SinkState} {text rest : List ℕ} → HasLeft a b text rest → rest ≡ [] → Accepts a b text
+HasLeft-none left none = rw (left.cut, none, append-nil) left.wrote
 
 -- a rest is what a write accepts of it, and what is left after that
 pub cut_at : (rest : List ℕ) (n : ℕ) → rest ≡ take n rest ++ take (length rest - n) (drop n rest)

@@ -1,25 +1,28 @@
 -- What is read of a tagged line joins to the line, and a line that joins from the parts of a tagged line is read as
 -- these parts.
 use Rattle.std.proofs.lemmas.Grind.{common_steps}
-use Rattle.std.proofs.Common.{ℕ, ◌≡◌, Bool, true, ◌==◌, ◌&&◌, List, [], ◌∷◌, ◌++◌, length, drop, Some, refl, ap, inl, inr, ◌≢◌, false, eq-eqb, arith, nat_lt, take_while, All, option_map, rules}
+use Rattle.std.proofs.Common.{ℕ, ◌≡◌, Bool, true, ◌==◌, ◌&&◌, List, [], ◌∷◌, ◌++◌, length, drop, Some, refl, ap, ◌≢◌, false, eq-eqb, arith, nat_lt, take_while, All, rules}
 use Rattle.std.specs.Char.{is_ascii_digit}
 use Rattle.std.specs.List.{starts_with, AllPass}
 use Rattle.std.specs.Option.{option_or}
 use Rattle.std.specs.Path.{rsplit_once}
 use Rattle.std.specs.Result.{result_ok}
-use Rattle.std.proofs.lemmas.Bool.{eqb-true, ltb-true, and_from, and_parts, le-leb, lt-ltb}
-use Rattle.std.proofs.lemmas.Bool.Decides.{Decides-eqb, eqb_tells}
+use Rattle.std.proofs.lemmas.Bool.{eqb-true, ltb-true, and_parts, lt-ltb}
+use Rattle.std.proofs.lemmas.Bool.Decides.{Decides-eqb}
 use Rattle.std.proofs.lemmas.List.Prefix.{front_rest}
 use Rattle.std.proofs.lemmas.Slice.Eq.{starts_is}
-use Rattle.std.proofs.lemmas.Option.{cond_some, same_Some}
+use Rattle.std.proofs.lemmas.Option.{cond_some}
 use Rattle.hex.specs.Hex.{decode_of, is_hex_digit}
-use Rattle.digest_kinds.specs.Kinds.{KindValue, all_algos, full_kind, has_len, tag}
+use Rattle.digest_kinds.specs.Kinds.{KindValue, all_algos, tag}
+use Rattle.digest_kinds.proofs.KindTextLemmas.{kind_and_rest-some}
 use Rattle.digest_kinds.proofs.TagLemmas.{IfSome-find-begins, find-begins}
-use Rattle.sum_lines.specs.grammar.Shapes.{Algo, Algos, One, Any, is_blank, Width, Allows, Tagged, mark, optional}
-use Rattle.digest_kinds.specs.declared.algo.Algo.TheVariants.{Blake2b}
-use Rattle.sum_lines.specs.grammar.LineParts.{LinePartsValue, after_while, strip_prefix, mark_and_rest, tag_in, kind_at, width_at, tagged_parts}
-use Rattle.sum_lines.proofs.PrefixLemmas.{text, bind_some, map_some, ok_some, prefix_passes, prefix-and-rest, mark_and_rest-is, strip_prefix-some, opened-some, rsplit-some, parts-at, prefix_len-all, opened-at, rsplit-at, starts-append}
-use Rattle.sum_lines.proofs.BitsLemmas.{kind_at-some, kind_at-bits, decimal-digits}
+use Rattle.sum_lines.specs.grammar.Shapes.{Algo, Algos, One, Any, is_blank, Allows, IsTagged, mark, optional}
+use Rattle.digest_kinds.specs.KindTexts.{IsWidth, kind_and_rest}
+use Rattle.sum_lines.specs.grammar.LineParts.{LinePartsValue, strip_prefix, mark_and_rest, tag_in, tagged_parts}
+use Rattle.digest_kinds.specs.Basics.{after_while}
+use Rattle.sum_lines.proofs.PrefixLemmas.{text, mark_and_rest-is, strip_prefix-some, opened-some, rsplit-some, opened-at, rsplit-at, starts-append}
+use Rattle.digest_kinds.proofs.PrefixLemmas.{bind_some, ok_some, prefix_passes, prefix-and-rest, parts-at, prefix_len-all}
+use Rattle.digest_kinds.proofs.BitsLemmas.{kind_of_digits-bits, decimal-digits}
 use Rattle.std.proofs.lemmas.List.{drop_at}
 use Rattle.std.proofs.lemmas.List.Elements.{All-cons, All-head, All-append, All-weaker}
 use Rattle.hex.proofs.HexLemmas.{decode_of-ok}
@@ -27,11 +30,11 @@ use Rattle.hex.proofs.HexLemmas.{decode_of-ok}
 -- ---- the tag
 
 -- the algorithm that is found is allowed, and its tag begins the bytes
-pub record TagFound (algos : Algos) (s : List ℕ) (a : Algo) : Type 0 where
+pub record HasTag (algos : Algos) (s : List ℕ) (a : Algo) : Type 0 where
   pub allowed : Allows algos a
   pub is : s ≡ tag a ++ drop (length (tag a)) s
 
-pub tag_in-some : {algos : Algos} {s : List ℕ} {a : Algo} → tag_in algos s ≡ Some a → TagFound algos s a
+pub tag_in-some : {algos : Algos} {s : List ℕ} {a : Algo} → tag_in algos s ≡ Some a → HasTag algos s a
 tag_in-some {algos = One b} {s} {a} h =
     let found = cond_some (starts_with ◌==◌ s (tag b)) b a h in
     let is = (starts_is Decides-eqb s (tag b) (starts_with ◌==◌ s (tag b)) refl).0 found.0 in
@@ -40,60 +43,21 @@ tag_in-some {algos = Any} {s} {a} h =
     let found = rw h at (IfSome-find-begins s all_algos) in
     record { allowed = tt; is = rw (front_rest s (tag a) found.0 found.1) found.1 }
 
--- ---- between the tag and the name
-
--- what follows an algorithm's tag is a width of its kinds, and what is left
-pub record Wide (a : Algo) (s : List ℕ) (w : KindValue × List ℕ) : Type 0 where
-  pub is_algo : w.0.algo ≡ a
-  pub width : List ℕ
-  pub is_width : Width w.0 width
-  pub whole : s ≡ width ++ w.1
-
--- nothing, for the full length
-wide-none : (a : Algo) (s : List ℕ) (w : KindValue × List ℕ) → Some (full_kind a, s) ≡ Some w → Wide a s w
-wide-none a s w h = rw (← same_Some (full_kind a, s) w h)
-    (record { is_algo = refl; width = []; is_width = inl (refl, refl); whole = refl })
-
--- the bits of BLAKE2b
-wide-bits : (s : List ℕ) (w : KindValue × List ℕ)
-    → option_map (λ k. (k, after_while is_ascii_digit s)) (kind_at (take_while is_ascii_digit s)) ≡ Some w
-    → Wide Blake2b (45 ∷ s) w
-wide-bits s w h =
-    let k = map_some (λ k. (k, after_while is_ascii_digit s)) (kind_at (take_while is_ascii_digit s)) h in
-    let bits = kind_at-some (take_while is_ascii_digit s) k.0 k.1 in
-    let has : has_len Blake2b bits.len ≡ true =
-    and_from _ _ (le-leb 1 bits.len bits.some) (le-leb bits.len 64 bits.few) in
-    rw (← k.2, bits.is) (record {
-      is_algo = refl;
-      width = 45 ∷ take_while is_ascii_digit s;
-      is_width = inr (ap (λ l. 45 ∷ l) bits.digits, refl, has);
-      whole = ap (λ l. 45 ∷ l) (prefix-and-rest is_ascii_digit s);
-    })
-
--- either of them, as a `-` follows BLAKE2b's tag or not
-pub width_at-some : (a : Algo) (s : List ℕ) (w : KindValue × List ℕ) → width_at a s ≡ Some w → Wide a s w
-width_at-some Blake2b [] w h = wide-none Blake2b [] w h
-width_at-some Blake2b (b ∷ bs) w h = elim (eqb_tells b 45) [
-  | inl same ↦ rw same.1 (wide-bits bs w (rw same.0 at h))
-  | inr other ↦ wide-none Blake2b (b ∷ bs) w (rw other.0 at h)
-]
-width_at-some a s w h = wide-none a s w h
-
 -- ---- the whole line
 
 -- the parts are those of a tagged line
-abbrev pub IsTagged : Algos → List ℕ → LinePartsValue → Type 0
-IsTagged algos line p = Tagged algos line p.escaped p.kind p.digest p.text
+abbrev pub HasTaggedParts : Algos → List ℕ → LinePartsValue → Type 0
+HasTaggedParts algos line p = IsTagged algos line p.escaped p.kind p.digest p.text
 
 -- a line that is read as tagged is tagged
 pub read_is_tagged : {algos : Algos} {line : List ℕ} {p : LinePartsValue} → tagged_parts algos line ≡ Some p
-    → IsTagged algos line p
+    → HasTaggedParts algos line p
 unfolding tagged_parts
 read_is_tagged {algos} {line} {p} h =
     let t : Bool × List ℕ = text line in
     let algo = bind_some (tag_in algos t.1) _ h in
     let rest : List ℕ = drop (length (tag algo.0)) t.1 in
-    let width = bind_some (width_at algo.0 rest) _ algo.2 in
+    let width = bind_some (kind_and_rest algo.0 rest) _ algo.2 in
     let w : List ℕ = width.0.1 in
     let inner = bind_some (option_or (strip_prefix (32 ∷ 40 ∷ []) w) (strip_prefix (40 ∷ []) w)) _ width.2 in
     let name = bind_some (rsplit_once 41 inner.0) _ inner.2 in
@@ -102,7 +66,7 @@ read_is_tagged {algos} {line} {p} h =
     let is = cond_some (length digest.0 == width.0.0.len && nat_lt 0 (length name.0.0)) _ p digest.2 in
     let fits = and_parts (length digest.0 == width.0.0.len) (nat_lt 0 (length name.0.0)) is.0 in
     let found = tag_in-some {algos = algos} {s = t.1} {a = algo.0} algo.1 in
-    let wide = width_at-some algo.0 rest width.0 width.1 in
+    let wide = kind_and_rest-some algo.0 rest width.0 width.1 in
     let gap = opened-some w inner.0 inner.1 in
     rw (← is.1) (record {
       blanks = take_while is_blank line;
@@ -135,7 +99,7 @@ read_is_tagged {algos} {line} {p} h =
 -- ---- bytes that a line may begin with
 
 -- their first is no blank, no backslash and no `#`
-pub record Begins (xs : List ℕ) : Type 0 where
+pub record BeginsText (xs : List ℕ) : Type 0 where
   pub first : ℕ
   pub more : List ℕ
   pub are : xs ≡ first ∷ more
@@ -144,11 +108,11 @@ pub record Begins (xs : List ℕ) : Type 0 where
   pub no_hash : (first == 35) ≡ false
 
 -- such bytes, by their first
-pub begins-by : (x : ℕ) (xs : List ℕ) → is_blank x ≡ false → (x == 92) ≡ false → (x == 35) ≡ false → Begins (x ∷ xs)
+pub begins-by : (x : ℕ) (xs : List ℕ) → is_blank x ≡ false → (x == 92) ≡ false → (x == 35) ≡ false → BeginsText (x ∷ xs)
 begins-by x xs no_blank no_mark no_hash = grind arith
 
 -- after a line's blanks the backslash is read, if there is one
-pub mark_and_rest-prefix : (blanks : List ℕ) (e : Bool) (xs rest : List ℕ) → AllPass is_blank blanks → Begins xs
+pub mark_and_rest-prefix : (blanks : List ℕ) (e : Bool) (xs rest : List ℕ) → AllPass is_blank blanks → BeginsText xs
     → mark_and_rest (after_while is_blank (blanks ++ (mark e ++ (xs ++ rest)))) ≡ (e, xs ++ rest)
 mark_and_rest-prefix blanks true xs rest are b = ap mark_and_rest (parts-at is_blank blanks 92 (xs ++ rest) are refl).1
 mark_and_rest-prefix blanks false xs rest are b =
@@ -179,9 +143,9 @@ digits-end ds true s all = parts-at is_ascii_digit ds 32 (40 ∷ s) all refl
 digits-end ds false s all = parts-at is_ascii_digit ds 40 s all refl
 
 -- a kind's width is read as that kind
-pub width_at-of : (kind : KindValue) (w : List ℕ) (g : Bool) (s : List ℕ) → Width kind w
-    → width_at kind.algo (w ++ opening g s) ≡ Some (kind, opening g s)
-width_at-of kind w g s h = search (rules, digits-end, decimal-digits, kind_at-bits)
+pub kind_and_rest-of : (kind : KindValue) (w : List ℕ) (g : Bool) (s : List ℕ) → IsWidth kind w
+    → kind_and_rest kind.algo (w ++ opening g s) ≡ Some (kind, opening g s)
+kind_and_rest-of kind w g s h = search (rules, digits-end, decimal-digits, kind_of_digits-bits)
 
 -- ---- the tag
 
@@ -200,21 +164,21 @@ rest-hex blanks (d ∷ ds) are all =
     (parts-at is_blank blanks d ds are (hex-no_blank d (All-head (λ x. is_hex_digit x ≡ true) d ds all))).1
 
 -- a byte that is no closing parenthesis
-abbrev Not41 : ℕ → Type 0
-Not41 x = x ≢ 41
+abbrev IsNot41 : ℕ → Type 0
+IsNot41 x = x ≢ 41
 
 -- a blank is none
-blank-not41 : (x : ℕ) → is_blank x ≡ true → Not41 x
+blank-not41 : (x : ℕ) → is_blank x ≡ true → IsNot41 x
 blank-not41 x h = λ e. let bad = rw e at h in cc
 
 -- nor is a digit
-hex-not41 : (x : ℕ) → is_hex_digit x ≡ true → Not41 x
+hex-not41 : (x : ℕ) → is_hex_digit x ≡ true → IsNot41 x
 hex-not41 x h = λ e. let bad = rw e at h in cc
 
 -- ---- a tagged line
 
 module _ {algos : Algos} {line : List ℕ} {e : Bool} {kind : KindValue} {d raw : List ℕ}
-    (t : Tagged algos line e kind d raw) where
+    (t : IsTagged algos line e kind d raw) where
   -- what follows the closing parenthesis in it
   abbrev pub after_name : List ℕ
   after_name = t.before ++ (61 ∷ (t.after ++ t.digits))
@@ -231,7 +195,7 @@ module _ {algos : Algos} {line : List ℕ} {e : Bool} {kind : KindValue} {d raw 
   pub tagged-prefix : text line ≡ (e, tag kind.algo ++ after_tag)
   tagged-prefix = grind (arith, mark_and_rest-prefix)
 
-module _ {algos : Algos} {line : List ℕ} (p : LinePartsValue) (t : IsTagged algos line p) where
+module _ {algos : Algos} {line : List ℕ} (p : LinePartsValue) (t : HasTaggedParts algos line p) where
   -- after the closing parenthesis come `=` and the digits
   sign-found : after_while is_blank (after_name t) ≡ 61 ∷ (t.after ++ t.digits)
   sign-found = (parts-at is_blank t.before 61 (t.after ++ t.digits) t.before_blanks refl).1
@@ -245,15 +209,15 @@ module _ {algos : Algos} {line : List ℕ} (p : LinePartsValue) (t : IsTagged al
   digits-found = rest-hex t.after t.digits t.after_blanks digits-are
 
   -- it is the last parenthesis
-  after-free : All Not41 (after_name t)
+  after-free : All IsNot41 (after_name t)
   after-free =
-      let end : All Not41 (t.after ++ t.digits) =
-      All-append Not41 t.after t.digits
-      (All-weaker _ Not41 blank-not41 t.after t.after_blanks)
-      (All-weaker _ Not41 hex-not41 t.digits digits-are) in
-      All-append Not41 t.before (61 ∷ (t.after ++ t.digits))
-      (All-weaker _ Not41 blank-not41 t.before t.before_blanks)
-      (All-cons Not41 61 (t.after ++ t.digits) (λ e. cc) end)
+      let end : All IsNot41 (t.after ++ t.digits) =
+      All-append IsNot41 t.after t.digits
+      (All-weaker _ IsNot41 blank-not41 t.after t.after_blanks)
+      (All-weaker _ IsNot41 hex-not41 t.digits digits-are) in
+      All-append IsNot41 t.before (61 ∷ (t.after ++ t.digits))
+      (All-weaker _ IsNot41 blank-not41 t.before t.before_blanks)
+      (All-cons IsNot41 61 (t.after ++ t.digits) (λ e. cc) end)
 
   -- so the line is read as these parts
   pub tagged_is_read : tagged_parts algos line ≡ Some p
@@ -262,7 +226,7 @@ module _ {algos : Algos} {line : List ℕ} (p : LinePartsValue) (t : IsTagged al
     tagged-prefix t,
     tag_in-tag algos p.kind.algo (after_tag t) t.allowed,
     drop_at (tag p.kind.algo) (after_tag t) (length (tag p.kind.algo)) refl,
-    width_at-of p.kind t.width t.gap (inner_of t) t.is_width,
+    kind_and_rest-of p.kind t.width t.gap (inner_of t) t.is_width,
     opened-at t.gap (inner_of t),
     rsplit-at 41 p.text (after_name t) after-free,
     sign-found,

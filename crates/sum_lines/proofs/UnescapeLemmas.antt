@@ -8,7 +8,7 @@ use Rattle.sum_lines.specs.Escape.{Profile, present, escape_of, escape_by, escap
 use Rattle.sum_lines.specs.grammar.Entries.{Spells, EntryValue}
 use Rattle.sum_lines.specs.grammar.ParsedLines.{unescaped_bytes, unescape, entry_of_parts}
 use Rattle.sum_lines.specs.grammar.LineParts.{LinePartsValue}
-use Rattle.sum_lines.proofs.PrefixLemmas.{bind_some}
+use Rattle.digest_kinds.proofs.PrefixLemmas.{bind_some}
 use Rattle.std.proofs.lemmas.Grind.{flat_map-append, common_steps}
 use Rattle.std.proofs.Math.Seq.{take-append-add}
 
@@ -84,28 +84,28 @@ escape-apart a b h =
     sym (unescaped_bytes-escape present a) ∙ ap unescaped_bytes h ∙ unescaped_bytes-escape present b
 
 -- what the loop keeps: the escape of what it wrote, and then what it has still to read, are the bytes at its start
-pub record Half (start bytes : List ℕ) (read write : ℕ) : Type 0 where
+pub record IsHalfUnescaped (start bytes : List ℕ) (read write : ℕ) : Type 0 where
   pub behind : write ≤ read
   pub within : read ≤ length bytes
   pub size : length bytes ≡ length start
   pub whole : escape (take write bytes) ++ drop read bytes ≡ start
 
 -- one more byte was read and written
-pub Half-more : {start bytes : List ℕ} {read write : ℕ} (b width : ℕ) → Half start bytes read write
+pub IsHalfUnescaped-more : {start bytes : List ℕ} {read write : ℕ} (b width : ℕ) → IsHalfUnescaped start bytes read write
     → drop read bytes ≡ escape_of present b ++ drop width (drop read bytes) → 0 < width
     → width ≤ length (drop read bytes)
-    → Half start (set bytes write b) (read + width) (write + 1)
-Half-more b width h here some fits = grind (arith, common_steps)
+    → IsHalfUnescaped start (set bytes write b) (read + width) (write + 1)
+IsHalfUnescaped-more b width h here some fits = grind (arith, common_steps)
 
 -- what was read is within the bytes
-pub Half-fits : {start bytes : List ℕ} {read write : ℕ} (width : ℕ) → Half start bytes read write
+pub IsHalfUnescaped-fits : {start bytes : List ℕ} {read write : ℕ} (width : ℕ) → IsHalfUnescaped start bytes read write
     → width ≤ length (drop read bytes) → read + width ≤ length start
-Half-fits {bytes = bytes} {read = read} width h fits = omega (arith, fits, h.within, h.size, length-drop read bytes)
+IsHalfUnescaped-fits {bytes = bytes} {read = read} width h fits = omega (arith, fits, h.within, h.size, length-drop read bytes)
 
 -- a rest that no escape begins
-pub Half-refused : {start bytes : List ℕ} {read write : ℕ} → Half start bytes read write → read < length bytes
+pub IsHalfUnescaped-refused : {start bytes : List ℕ} {read write : ℕ} → IsHalfUnescaped start bytes read write → read < length bytes
     → ((b : ℕ) (rest : List ℕ) → drop read bytes ≢ escape_of present b ++ rest) → ¬ IsEscaped start
-Half-refused {bytes = bytes} {read = read} {write = write} h some none = λ e.
+IsHalfUnescaped-refused {bytes = bytes} {read = read} {write = write} h some none = λ e.
     let rest = escape-rest (take write bytes) e.0 (drop read bytes) (h.whole ∙ e.1) in
     elim rest.0 as (λ m. drop read bytes ≡ escape m → ⊥) [
       | [] ↦ λ is. omega (arith, length-drop read bytes, ap length is)

@@ -4,18 +4,18 @@ pub use Rattle.digest_kinds.specs.Basics.{ByteString}
 
 -- whether a carriage return in a name is escaped, one at a line's end is left out, and an empty line is ignored
 pub record Profile : Type 0 where
-  pub escapes_return : Bool
-  pub drops_return : Bool
+  pub escapes_carriage_return : Bool
+  pub drops_carriage_return : Bool
   pub ignores_empty : Bool
 
 -- the profile of the tools here
 abbrev pub present : Profile
-present = record { escapes_return = true; drops_return = true; ignores_empty = true }
+present = record { escapes_carriage_return = true; drops_carriage_return = true; ignores_empty = true }
 
 -- a backslash (92) becomes `\\`, a newline (10) `\n`, a carriage return (13) `\r` if the profile says so; others stay
 abbrev pub escape_of : Profile → ℕ → ByteString
 escape_of p b = if b == 92 then codes "\\\\" else if b == 10 then codes "\\n"
-    else if p.escapes_return && (b == 13) then codes "\\r" else b ∷ []
+    else if p.escapes_carriage_return && (b == 13) then codes "\\r" else b ∷ []
 
 -- the escape of a name, by the profile
 abbrev pub escape_by : Profile → ByteString → ByteString

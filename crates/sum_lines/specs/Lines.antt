@@ -1,23 +1,20 @@
 -- The line that is written for a name and its digest.
-use Rattle.std.specs.Prelude.{◌*◌, ◌==◌, [], ◌∷◌, ◌++◌, codes, decimal, if◌then◌else◌}
+use Rattle.std.specs.Prelude.{[], ◌∷◌, ◌++◌, codes, if◌then◌else◌}
 use Rattle.std.specs.List.{concat}
 use Rattle.hex.specs.Hex.{encode_lower}
-use Rattle.digest_kinds.specs.Kinds.{KindValue, full_len, tag}
+use Rattle.digest_kinds.specs.Kinds.{KindValue}
+use Rattle.digest_kinds.specs.KindTexts.{kind_text}
 pub use Rattle.sum_lines.specs.declared.writing.put_line.Style.{Style}
 pub use Rattle.sum_lines.specs.declared.writing.put_line.Mode.{Mode}
 use Rattle.sum_lines.specs.declared.writing.put_line.Mode.TheVariants.{Text, Binary, Tag}
 use Rattle.sum_lines.specs.Escape.{present, escape, escape_differs}
 use Rattle.sum_lines.specs.grammar.Shapes.{ByteString, mark}
 
--- the tag of a line; for a BLAKE2b digest that isn't full, with its bits, as `BLAKE2b-256`
-abbrev pub line_tag : KindValue → ByteString
-line_tag kind = tag kind.algo ++ (if kind.len == full_len kind.algo then [] else codes "-" ++ decimal (8 * kind.len))
-
 -- a line without its end and without the backslash that may begin it
 abbrev pub layout : Mode → KindValue → ByteString → ByteString → ByteString
 layout Text kind name digits = concat (digits ∷ codes "  " ∷ name ∷ [])
 layout Binary kind name digits = concat (digits ∷ codes " *" ∷ name ∷ [])
-layout Tag kind name digits = concat (line_tag kind ∷ codes " (" ∷ name ∷ codes ") = " ∷ digits ∷ [])
+layout Tag kind name digits = concat (kind_text kind ∷ codes " (" ∷ name ∷ codes ") = " ∷ digits ∷ [])
 
 -- the whole line: it ends with a newline and its name is escaped, or it ends with NUL and the name is as it is
 abbrev pub line : Style → KindValue → ByteString → ByteString → ByteString

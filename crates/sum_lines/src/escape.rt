@@ -1,7 +1,7 @@
 //! The escape of names in lines and diagnostics.
-ghost use Rattle.std.specs.Prelude.{◌≡◌, ◌≢◌, ◌↔◌, ◌+◌, ◌<◌, ◌≤◌, ◌++◌, ℕ, List, length, vec_len, take, drop};
+ghost use Rattle.std.specs.Prelude.{◌≡◌, ◌≢◌, ◌↔◌, ◌+◌, ◌<◌, ◌≤◌, ◌++◌, ℕ, length, vec_len, take, drop};
 ghost use Rattle.std.specs.Prelude.{slice_index, is_some, true, IfSome, IfNone, MatchOption};
-ghost use Rattle.sum_lines.specs.sinks.Sinks.{WritesAll};
+ghost use Rattle.sum_lines.specs.sinks.Sinks.{ByteString, WritesAll};
 ghost use Rattle.sum_lines.specs.Escape.{present, IsEscaped, escape, escape_of, escape_differs};
 
 use crate::sinks::sink::{Sink, SinkFault, put_all};
@@ -59,7 +59,7 @@ fn put_escape<S: Sink>(sink: &mut S, byte: u8) -> Result<(), SinkFault>
 pub fn unescape_in<A: Allocator>(line: &mut Vec<u8, A>, from: usize) -> bool
     requires { from ≤ vec_len line.old }
     // For each name: the bytes were its escape if and only if the call returns true and leaves it there.
-    ensures name { (n : List ℕ) → (drop from line.old.items ≡ escape n)
+    ensures name { (n : ByteString) → (drop from line.old.items ≡ escape n)
         ↔ ((result ≡ true) × (line.new.items ≡ take from line.old.items ++ n)) }
     ensures before { take from line.new.items ≡ take from line.old.items }
     ensures len { vec_len line.new ≤ vec_len line.old }
@@ -94,7 +94,7 @@ fn unescape(bytes: &mut [u8]) -> Option<usize>
 fn first_escaped(bytes: &[u8]) -> Option<(u8, usize)>
     ensures some { IfSome result (λ r. bytes.now ≡ escape_of present r.0 ++ drop r.1 bytes.now) }
     ensures width { IfSome result (λ r. (0 < r.1) × (r.1 ≤ length bytes.now)) }
-    ensures none { IfNone result ((b : ℕ) (rest : List ℕ) → bytes.now ≢ escape_of present b ++ rest) }
+    ensures none { IfNone result ((b : ℕ) (rest : ByteString) → bytes.now ≢ escape_of present b ++ rest) }
 {
     match bytes {
         [b'\\', b'\\', ..] => Some((b'\\', 2)),

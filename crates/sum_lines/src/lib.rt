@@ -1,10 +1,13 @@
 //! Lines of checksums: how they are written to a sink, how a name is escaped in them, and how they are read.
 //!
+//! The format of a line belongs here, and the sinks that lines are written to, but nothing of files or of whole
+//! manifests. The crate calls `digest_kinds`, `hex`, `itoa`, `memchr` and `std`, and it takes no memory.
+//!
 //! ```rust
 //! let (reading, form) = read_line(Algos::Any, Form::Undecided, &mut line);
 //! if let Reading::Entry { kind, digest, start, stop } = reading {
 //!     let name = String::from_utf8_lossy(rt.alloc(), &line[start..stop])?;
-//!     println!(rt; "{} {digest} of {name:?}", kind.tag())?;
+//!     println!(rt; "{kind} {digest} of {name:?}")?;
 //! }
 //! ```
 #![tactic(auto)]

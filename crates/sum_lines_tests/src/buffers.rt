@@ -100,9 +100,9 @@ fn take(rt: &impl Abort, buffer: &mut Buffered<Recorder>, step: Step) {
             assert_eq!(rt; offer(buffer, piece), answer, "{}", piece.escape_ascii())
         }
         Flush(answer) => assert_eq!(rt; flush(buffer), answer),
-        Asked(asked) => assert_eq!(rt; buffer.sink().asked.bytes(), asked),
+        Asked(asked) => assert_eq!(rt; buffer.get_ref().asked.bytes(), asked),
         Lens(lens, end) => check_lens(rt, buffer, lens, end),
-        Failed(count) => assert_eq!(rt; buffer.sink().failures, count),
+        Failed(count) => assert_eq!(rt; buffer.get_ref().failures, count),
     }
 }
 
@@ -118,7 +118,7 @@ fn follow(rt: &impl Abort, (most, fails_at): (usize, u64), steps: &[Step], taken
 
 // The pieces that the sink below was offered have these lengths, and then this follows.
 fn check_lens(rt: &impl Abort, buffer: &Buffered<Recorder>, lens: &[usize], end: &[u8]) {
-    let mut asked = buffer.sink().asked.bytes();
+    let mut asked = buffer.get_ref().asked.bytes();
     for len in lens {
         assert!(rt; *len < asked.len());
         let (piece, after) = asked.split_at(*len);
@@ -154,12 +154,12 @@ fn check_line(rt: &impl Abort, style: Style, name: &[u8], line: [&[u8]; 3]) {
     check_lens(rt, &buffer, &[], b"");
     assert_eq!(rt; flush(&mut buffer), Ok(()));
     check_lens(rt, &buffer, &[want.bytes().len()], b"!");
-    assert_eq!(rt; buffer.sink().taken.bytes(), want.bytes());
+    assert_eq!(rt; buffer.get_ref().taken.bytes(), want.bytes());
 }
 
 #[test]
 fn a_line_before_a_flush_is_one_piece(rt: HostRuntime) {
-    let rows: [(Mode, bool, &[u8], [&[u8]; 3]); 6] = [
+    let examples: [(Mode, bool, &[u8], [&[u8]; 3]); 6] = [
         (Mode::Text, false, b"a", [b"", DIGITS, b"  a\n"]),
         (Mode::Binary, false, b"a", [b"", DIGITS, b" *a\n"]),
         (Mode::Tag, false, b"a", [b"MD5 (a) = ", DIGITS, b"\n"]),
@@ -172,7 +172,7 @@ fn a_line_before_a_flush_is_one_piece(rt: HostRuntime) {
         (Mode::Binary, true, b"\n", [b"", DIGITS, b" *\n\0"]),
         (Mode::Tag, true, b"a\nb", [b"MD5 (a\nb) = ", DIGITS, b"\0"]),
     ];
-    for (mode, zero, name, line) in rows {
+    for (mode, zero, name, line) in examples {
         check_line(&rt, Style { mode, zero }, name, line);
     }
 }
@@ -206,7 +206,7 @@ fn check_long(rt: &impl Abort, len: usize, step: usize, before: usize, lens: &[u
     check_lens(rt, &buffer, &lens[..before.min(lens.len())], b"");
     assert_eq!(rt; flush(&mut buffer), Ok(()));
     check_lens(rt, &buffer, lens, b"!");
-    assert_eq!(rt; buffer.sink().taken.bytes(), &long[..len.min(20000)]);
+    assert_eq!(rt; buffer.get_ref().taken.bytes(), &long[..len.min(20000)]);
 }
 
 #[test]
@@ -347,5 +347,5 @@ fn a_buffer_stands_on_a_buffer(rt: HostRuntime) {
     let mut twice = Buffered::new(recorded(8192, 0));
     assert_eq!(rt; put(&mut twice, b"ab"), Ok(()));
     assert_eq!(rt; flush(&mut twice), Ok(()));
-    check_lens(&rt, twice.sink(), &[2], b"!");
+    check_lens(&rt, twice.get_ref(), &[2], b"!");
 }

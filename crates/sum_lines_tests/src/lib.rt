@@ -1,4 +1,4 @@
-//! Tests of `sum_lines`: worked lines, written and read, and what no contract says of sinks.
+//! Tests of `sum_lines`: worked examples of lines that are written and read, and what no contract says of sinks.
 #![tactic(auto)]
 
 #[cfg(test)]

@@ -1,4 +1,4 @@
-//! Worked lines of manifests.
+//! Worked examples of lines that are read.
 
 use digest_kinds::{Algo, Algos, Digest, Kind};
 use std::alloc::Global;
@@ -29,8 +29,9 @@ enum Want<'a> {
 
 use Want::{Bad, Entry, Ignored};
 
-// A line, as what precedes its digits, the digits and what follows them, what it is to say, and the form with it.
-type Row<'a> = (&'a [u8], &'a [u8], &'a [u8], Want<'a>, Form);
+// A worked example: what precedes the digits of a line, the digits, what follows them, what the line says, and the form
+// with it.
+type Example<'a> = (&'a [u8], &'a [u8], &'a [u8], Want<'a>, Form);
 
 // What is said of the line. There is no contract, so that tests don't know more than they see.
 fn said(algos: Algos, form: Form, line: &mut Vec<u8>) -> (Reading, Form) {
@@ -48,16 +49,16 @@ fn found<'a>(reading: &Reading, line: &'a [u8]) -> Want<'a> {
     }
 }
 
-// Reads the row's line, which is that text, in a manifest of that form, and returns the form with it.
+// Reads the example's line, whose text that is, in a manifest of that form, and returns the form with it.
 fn check_line(
     rt: &impl Abort,
     (algos, kind): (Algos, Kind),
     form: Form,
     line: &mut Vec<u8>,
     text: &str,
-    row: Row,
+    example: Example,
 ) -> Form {
-    let (_, digits, _, want, after) = row;
+    let (_, digits, _, want, after) = example;
     let before = line.len();
     let (reading, form) = said(algos, form, line);
     assert_eq!(rt; (found(&reading, line), form), (want, after), "{text}");
@@ -77,42 +78,42 @@ fn check_line(
     form
 }
 
-// Reads the rows' lines as those of one manifest.
+// Reads the lines of the examples as one manifest.
 fn check_manifest(
     rt: &impl Abort,
     alloc: Global,
     algos: Algos,
     kind: Kind,
-    rows: &[Row],
+    examples: &[Example],
 ) -> Result<(), Fail> {
     let mut form = Form::Undecided;
-    for row in rows {
-        let mut line = row.0.to_vec(alloc)?;
-        line.extend_from_slice(row.1)?;
-        line.extend_from_slice(row.2)?;
+    for example in examples {
+        let mut line = example.0.to_vec(alloc)?;
+        line.extend_from_slice(example.1)?;
+        line.extend_from_slice(example.2)?;
         let text = String::from_utf8_lossy(alloc, &line)?;
-        form = check_line(rt, (algos, kind), form, &mut line, text.as_str(), *row);
+        form = check_line(rt, (algos, kind), form, &mut line, text.as_str(), *example);
     }
     Ok(())
 }
 
-// Reads the line of each row as that of a manifest of its own.
+// Reads the line of each example as a manifest of its own.
 fn check_each(
     rt: &impl Abort,
     alloc: Global,
     algos: Algos,
     kind: Kind,
-    rows: &[Row],
+    examples: &[Example],
 ) -> Result<(), Fail> {
-    for row in rows {
-        check_manifest(rt, alloc, algos, kind, &[*row])?;
+    for example in examples {
+        check_manifest(rt, alloc, algos, kind, &[*example])?;
     }
     Ok(())
 }
 
 #[test]
 fn plain_lines(rt: HostRuntime) -> Result<(), Fail> {
-    let rows: [Row; 12] = [
+    let examples: [Example; 12] = [
         (b"", M, b"  a", Entry(b"a", 34, 35), Form::Standard),
         (b"", M, b" a", Entry(b"a", 33, 34), Form::Reversed),
         (b"  ", M, b"  a", Entry(b"a", 36, 37), Form::Standard),
@@ -126,12 +127,12 @@ fn plain_lines(rt: HostRuntime) -> Result<(), Fail> {
         (b"\\", M, b"  a\rb", Bad, Form::Standard),
         (b"", M, b"  a\rb", Entry(b"a\rb", 34, 37), Form::Standard),
     ];
-    check_each(&rt, rt.alloc(), MD5, Kind::of(Algo::Md5), &rows)
+    check_each(&rt, rt.alloc(), MD5, Kind::of(Algo::Md5), &examples)
 }
 
 #[test]
 fn tagged_lines(rt: HostRuntime) -> Result<(), Fail> {
-    let rows: [Row; 8] = [
+    let examples: [Example; 8] = [
         (b"MD5 (a) = ", M, b"", Entry(b"a", 5, 6), Form::Undecided),
         (b"MD5 (a)) = ", M, b"", Entry(b"a)", 5, 7), Form::Undecided),
         (
@@ -147,12 +148,12 @@ fn tagged_lines(rt: HostRuntime) -> Result<(), Fail> {
         (b"md5 (a) = ", M, b"", Bad, Form::Undecided),
         (b"MD5 (a) = ", M, b" ", Bad, Form::Undecided),
     ];
-    check_each(&rt, rt.alloc(), MD5, Kind::of(Algo::Md5), &rows)
+    check_each(&rt, rt.alloc(), MD5, Kind::of(Algo::Md5), &examples)
 }
 
 #[test]
 fn lengths_of_blake2b(rt: HostRuntime) -> Result<(), Fail> {
-    let rows: [Row; 5] = [
+    let examples: [Example; 5] = [
         (b"BLAKE2b-08 (e) = ", b"00", b"", Bad, Form::Undecided),
         (b"BLAKE2b-520 (e) = ", B, b"", Bad, Form::Undecided),
         (b"BLAKE2b-256 (e) = ", M, b"", Bad, Form::Undecided),
@@ -165,7 +166,7 @@ fn lengths_of_blake2b(rt: HostRuntime) -> Result<(), Fail> {
             Form::Undecided,
         ),
     ];
-    check_each(&rt, rt.alloc(), BLAKE2B, Kind::blake2b_bits(8)?, &rows)
+    check_each(&rt, rt.alloc(), BLAKE2B, Kind::blake2b_bits(8)?, &examples)
 }
 
 #[test]
@@ -174,7 +175,7 @@ fn as_many_digits_as_a_digest_has(rt: HostRuntime) -> Result<(), Fail> {
     const D: &[u8] = b"ddaf35a193617abacc417349ae20413112e6fa4e89a97ea20a9eeee64b55d39a\
         2192992a274fc1a836ba3c23a3feebbd454d4423643ce80e2a9ac94fa54ca49fab";
     let letters = [b'a'; 1000];
-    let rows: [Row; 5] = [
+    let examples: [Example; 5] = [
         (
             b"",
             &D[..128],
@@ -188,12 +189,18 @@ fn as_many_digits_as_a_digest_has(rt: HostRuntime) -> Result<(), Fail> {
         (b"", &letters, b"  a", Bad, Form::Undecided),
     ];
     let sha512 = Algo::Sha512;
-    check_each(&rt, rt.alloc(), Algos::One(sha512), Kind::of(sha512), &rows)
+    check_each(
+        &rt,
+        rt.alloc(),
+        Algos::One(sha512),
+        Kind::of(sha512),
+        &examples,
+    )
 }
 
 #[test]
 fn other_tags_and_ignored_lines(rt: HostRuntime) -> Result<(), Fail> {
-    let rows: [Row; 3] = [
+    let examples: [Example; 3] = [
         (b"SHA512 (a) = ", S, b"", Bad, Form::Undecided),
         (b"#", b"", b"", Ignored, Form::Undecided),
         (b"", b"", b"", Ignored, Form::Undecided),
@@ -203,14 +210,14 @@ fn other_tags_and_ignored_lines(rt: HostRuntime) -> Result<(), Fail> {
         rt.alloc(),
         Algos::One(Algo::Sha256),
         Kind::of(Algo::Sha256),
-        &rows,
+        &examples,
     )
 }
 
 #[test]
 fn the_first_plain_line_decides(rt: HostRuntime) -> Result<(), Fail> {
     let md5 = Kind::of(Algo::Md5);
-    let upper: [Row; 1] = [(
+    let upper: [Example; 1] = [(
         b"",
         b"900150983CD24FB0D6963F7D28E17F72",
         b"  a",
@@ -218,17 +225,17 @@ fn the_first_plain_line_decides(rt: HostRuntime) -> Result<(), Fail> {
         Form::Standard,
     )];
     check_manifest(&rt, rt.alloc(), MD5, md5, &upper)?;
-    let reversed: [Row; 2] = [
+    let reversed: [Example; 2] = [
         (b"", M, b" a", Entry(b"a", 33, 34), Form::Reversed),
         (b"", M, b"  a", Entry(b" a", 33, 35), Form::Reversed),
     ];
     check_manifest(&rt, rt.alloc(), MD5, md5, &reversed)?;
-    let standard: [Row; 2] = [
+    let standard: [Example; 2] = [
         (b"", M, b"  a", Entry(b"a", 34, 35), Form::Standard),
         (b"", M, b" a", Bad, Form::Standard),
     ];
     check_manifest(&rt, rt.alloc(), MD5, md5, &standard)?;
-    let tagged_between: [Row; 4] = [
+    let tagged_between: [Example; 4] = [
         (b"MD5 (a) = ", M, b"", Entry(b"a", 5, 6), Form::Undecided),
         (b"", M, b" a", Entry(b"a", 33, 34), Form::Reversed),
         (b"MD5 (e) = ", E, b"", Entry(b"e", 5, 6), Form::Reversed),
@@ -239,7 +246,7 @@ fn the_first_plain_line_decides(rt: HostRuntime) -> Result<(), Fail> {
 
 #[test]
 fn escaped_names(rt: HostRuntime) -> Result<(), Fail> {
-    let rows: [Row; 5] = [
+    let examples: [Example; 5] = [
         (
             b"\\",
             M,
@@ -252,12 +259,12 @@ fn escaped_names(rt: HostRuntime) -> Result<(), Fail> {
         (b"\\", M, b"  a\\r", Entry(b"a\r", 35, 37), Form::Standard),
         (b"", M, b"  q\\x", Entry(b"q\\x", 34, 37), Form::Standard),
     ];
-    check_manifest(&rt, rt.alloc(), MD5, Kind::of(Algo::Md5), &rows)
+    check_manifest(&rt, rt.alloc(), MD5, Kind::of(Algo::Md5), &examples)
 }
 
 #[test]
 fn a_blake2b_manifest(rt: HostRuntime) -> Result<(), Fail> {
-    let rows: [Row; 4] = [
+    let examples: [Example; 4] = [
         (b"", B, b"  e", Entry(b"e", 66, 67), Form::Standard),
         (
             b"BLAKE2b-256 (e) = ",
@@ -269,13 +276,19 @@ fn a_blake2b_manifest(rt: HostRuntime) -> Result<(), Fail> {
         (b"", b"0e5", b" e", Bad, Form::Standard),
         (b"BLAKE2b-256 (e) = ", &B[..62], b"", Bad, Form::Standard),
     ];
-    check_manifest(&rt, rt.alloc(), BLAKE2B, Kind::blake2b_bits(256)?, &rows)
+    check_manifest(
+        &rt,
+        rt.alloc(),
+        BLAKE2B,
+        Kind::blake2b_bits(256)?,
+        &examples,
+    )
 }
 
 #[test]
 fn any_algorithm(rt: HostRuntime) -> Result<(), Fail> {
     let short = Kind::blake2b_bits(256)?;
-    let rows: [(Kind, Row); 5] = [
+    let examples: [(Kind, Example); 5] = [
         (Kind::of(Algo::Md5), (b"", M, b"  a", Bad, Form::Undecided)),
         (
             Kind::of(Algo::Sha256),
@@ -300,8 +313,8 @@ fn any_algorithm(rt: HostRuntime) -> Result<(), Fail> {
             ),
         ),
     ];
-    for (kind, row) in rows {
-        check_manifest(&rt, rt.alloc(), Algos::Any, kind, &[row])?;
+    for (kind, example) in examples {
+        check_manifest(&rt, rt.alloc(), Algos::Any, kind, &[example])?;
     }
     Ok(())
 }
@@ -313,7 +326,7 @@ fn hostile_lines(rt: HostRuntime) -> Result<(), Fail> {
     let nuls = [0; 1000];
     let mut comment = [b'y'; 8193];
     comment[0] = b'#';
-    let nothing: [Row; 6] = [
+    let nothing: [Example; 6] = [
         (&letters, b"", b"", Bad, Form::Undecided),
         (&nuls, b"", b"", Bad, Form::Undecided),
         (b"   \t", b"", b"", Bad, Form::Undecided),
@@ -322,7 +335,7 @@ fn hostile_lines(rt: HostRuntime) -> Result<(), Fail> {
         (&comment, b"", b"", Ignored, Form::Undecided),
     ];
     check_manifest(&rt, rt.alloc(), MD5, md5, &nothing)?;
-    let backslashes: [Row; 5] = [
+    let backslashes: [Example; 5] = [
         (b"\\", b"", b"", Bad, Form::Undecided),
         (b"\\\\", M, b"  a", Bad, Form::Undecided),
         (b"\\", M, b"  a\\", Bad, Form::Standard),
@@ -333,6 +346,6 @@ fn hostile_lines(rt: HostRuntime) -> Result<(), Fail> {
     let mut long = [b'y'; 1002];
     long[0] = b' ';
     long[1] = b' ';
-    let tails: [Row; 1] = [(b"", M, &long, Entry(&long[2..], 34, 1034), Form::Standard)];
+    let tails: [Example; 1] = [(b"", M, &long, Entry(&long[2..], 34, 1034), Form::Standard)];
     check_manifest(&rt, rt.alloc(), MD5, md5, &tails)
 }

@@ -236,3 +236,10 @@ fn texts_of_parts(rt: HostRuntime) {
     check_parts(&rt, 64, Ok(()), b"a\na\\n7");
     check_parts(&rt, 3, Err(SinkFault), b"a\na");
 }
+
+#[test]
+fn a_writer_is_given_back(rt: HostRuntime) {
+    let mut sink = FromWrite::new(Counts::new(2, None));
+    assert_eq!(rt; put(&mut sink, b"abc"), Ok(()));
+    assert_eq!(rt; sink.into_inner().writes, 2);
+}

@@ -1,4 +1,4 @@
-//! Worked lines, and worked names that are read back.
+//! Worked examples of lines that are written, and of names that are read back.
 
 use crate::calls::{known, put};
 use digest_kinds::{Algo, Digest, Kind};
@@ -35,9 +35,10 @@ const ZERO: Style = Style {
     zero: true,
 };
 
-// A name and its digest, and the line that is wanted for them: what precedes the digits and what follows them.
+// A worked example: a name and its digest, and the line that is written for them, as what precedes the digits and what
+// follows them.
 #[derive(Clone, Copy)]
-struct Row<'a> {
+struct Example<'a> {
     style: Style,
     kind: Kind,
     digits: &'a [u8],
@@ -46,23 +47,27 @@ struct Row<'a> {
     after: &'a [u8],
 }
 
-// Writes the row's line.
-fn put_row(rt: &impl Abort, sink: &mut ToldSink<256>, row: &Row) -> Result<(), SinkFault> {
-    let digest = Digest::from_hex(row.digits).expect(rt, "digits");
-    assert_eq!(rt; digest.as_slice().len(), row.kind.len());
-    put_line(sink, row.style, row.kind, row.name, &digest)
+// Writes the example's line.
+fn put_example(
+    rt: &impl Abort,
+    sink: &mut ToldSink<256>,
+    example: &Example,
+) -> Result<(), SinkFault> {
+    let digest = Digest::from_hex(example.digits).expect(rt, "digits");
+    assert_eq!(rt; digest.as_slice().len(), example.kind.len());
+    put_line(sink, example.style, example.kind, example.name, &digest)
 }
 
-// Writes the row's line into a sink that stops after each count of bytes up to the line's length.
-fn check_row(rt: &impl Abort, row: &Row) {
+// Writes the example's line into a sink that stops after each count of bytes up to the line's length.
+fn check_example(rt: &impl Abort, example: &Example) {
     let mut want: ToldSink<256> = known(256);
-    for piece in [row.before, row.digits, row.after] {
+    for piece in [example.before, example.digits, example.after] {
         assert_eq!(rt; put(&mut want, piece), Ok(()));
     }
     let want = want.bytes();
     for stop in 0..=want.len() {
         let mut sink: ToldSink<256> = known(stop);
-        let answer = put_row(rt, &mut sink, row);
+        let answer = put_example(rt, &mut sink, example);
         let whole = stop == want.len();
         let wanted = if whole { Ok(()) } else { Err(SinkFault) };
         assert_eq!(rt; answer, wanted, "{}, up to {stop}", want.escape_ascii());
@@ -73,7 +78,7 @@ fn check_row(rt: &impl Abort, row: &Row) {
 #[test]
 fn plain_lines(rt: HostRuntime) {
     let md5 = Kind::of(Algo::Md5);
-    let rows: [(Style, &[u8], &[u8], &[u8], &[u8]); 11] = [
+    let examples: [(Style, &[u8], &[u8], &[u8], &[u8]); 11] = [
         (TEXT, ABC, b"a", b"", b"  a\n"),
         (TEXT, EMPTY, b"e", b"", b"  e\n"),
         (BINARY, ABC, b"a", b"", b" *a\n"),
@@ -86,10 +91,10 @@ fn plain_lines(rt: HostRuntime) {
         (TEXT, ABC, b"\r", b"\\", b"  \\r\n"),
         (TAG, ABC, b"a", b"MD5 (a) = ", b"\n"),
     ];
-    for (style, digits, name, before, after) in rows {
-        check_row(
+    for (style, digits, name, before, after) in examples {
+        check_example(
             &rt,
-            &Row {
+            &Example {
                 style,
                 kind: md5,
                 digits,
@@ -105,7 +110,7 @@ fn plain_lines(rt: HostRuntime) {
 fn tagged_blake2b_lines(rt: HostRuntime) -> Result<(), Fail> {
     let short = Kind::blake2b_bits(256)?;
     let full = Kind::blake2b_bits(0)?;
-    let rows: [(Style, Kind, &[u8], &[u8], &[u8]); 4] = [
+    let examples: [(Style, Kind, &[u8], &[u8], &[u8]); 4] = [
         (TEXT, short, SHORT, b"", b"  e\n"),
         (TAG, short, SHORT, b"BLAKE2b-256 (e) = ", b"\n"),
         (TAG, full, LONG, b"BLAKE2b (e) = ", b"\n"),
@@ -120,10 +125,10 @@ fn tagged_blake2b_lines(rt: HostRuntime) -> Result<(), Fail> {
             b"\0",
         ),
     ];
-    for (style, kind, digits, before, after) in rows {
-        check_row(
+    for (style, kind, digits, before, after) in examples {
+        check_example(
             &rt,
-            &Row {
+            &Example {
                 style,
                 kind,
                 digits,
@@ -159,7 +164,7 @@ fn check_read_back(
 
 #[test]
 fn escaped_names_are_read_back(rt: HostRuntime) -> Result<(), Fail> {
-    let rows: [(&[u8], Option<&[u8]>); 8] = [
+    let examples: [(&[u8], Option<&[u8]>); 8] = [
         (b"x", Some(b"x")),
         (b"x\\n", Some(b"x\n")),
         (b"x\\r", Some(b"x\r")),
@@ -169,7 +174,7 @@ fn escaped_names_are_read_back(rt: HostRuntime) -> Result<(), Fail> {
         (b"x\n", None),
         (b"x\r", None),
     ];
-    for (bytes, want) in rows {
+    for (bytes, want) in examples {
         check_read_back(&rt, bytes, want)?;
     }
     Ok(())

@@ -1,5 +1,6 @@
 -- Joins the digest of a message to the state between its blocks.
 use Rattle.std.specs.Prelude.{ℕ, zero, suc, ◌+◌, ◌*◌, false, List, [], slice_index_or, slice_set}
+use Rattle.blake2b_core.specs.Bytes.{ByteString}
 use Rattle.blake2b_core.specs.Compression.{◌!◌, ◌⊻◌, iv, compress}
 
 -- h before the first block: IV, with the digest's length n in its first word
@@ -7,6 +8,6 @@ abbrev pub initial : ℕ → List ℕ
 initial n = slice_set iv 0 (iv ! 0 ⊻ (0x01010000 ⊻ n))
 
 -- h after so many of the first blocks of d, none of which is the last
-unfoldable pub hash_after : ℕ → List (List ℕ) → ℕ → List ℕ
+unfoldable pub hash_after : ℕ → List ByteString → ℕ → List ℕ
 hash_after n d zero = initial n
 hash_after n d (suc i) = compress (hash_after n d i) (slice_index_or d i []) (128 * (i + 1)) false

@@ -4,6 +4,7 @@ use Rattle.std.specs.Prelude.{ℕ, ◌+◌, ◌%◌, List, [], ◌∷◌, map, s
 use Rattle.std.specs.List.{range_with_len}
 use Rattle.std.specs.Simd.{first_chunks}
 use Rattle.byteorder.specs.Endian.{little_number}
+use Rattle.blake2b_core.specs.Bytes.{ByteString}
 use Rattle.blake2b_core.specs.Compression.{◌!◌, ◌⊻◌, sigma, mix}
 
 -- row i of v
@@ -25,12 +26,12 @@ abbrev pub rotated_row : List ℕ → ℕ → List ℕ
 rotated_row row k = map (λ j. row ! ((j + k) % 4)) (range_with_len 0 4)
 
 -- the sixteen words of a block, each of eight bytes, the lowest first
-abbrev pub block_words : List ℕ → List ℕ
+abbrev pub block_words : ByteString → List ℕ
 block_words block = map (little_number 8) (first_chunks 8 16 block)
 
 -- the words of the block m in the order in which round r takes them
-unfoldable pub scheduled : List ℕ → ℕ → List ℕ
-scheduled m r = map (λ i. m ! (slice_index_or sigma (r % 10) [] ! i)) (range_with_len 0 16)
+unfoldable pub schedule : List ℕ → ℕ → List ℕ
+schedule m r = map (λ i. m ! (slice_index_or sigma (r % 10) [] ! i)) (range_with_len 0 16)
 
 -- G on the four columns of v
 unfoldable pub columns : List ℕ → List ℕ → List ℕ → List ℕ
@@ -49,5 +50,5 @@ diagonals v x y =
     mix v 3 4 9 14 (x ! 3) (y ! 3)
 
 -- the new state, from the old one and the working vector after the last round
-abbrev pub fed_forward : List ℕ → List ℕ → List ℕ
-fed_forward h v = map (λ i. h ! i ⊻ v ! i ⊻ v ! (i + 8)) (range_with_len 0 8)
+abbrev pub next_state : List ℕ → List ℕ → List ℕ
+next_state h v = map (λ i. h ! i ⊻ v ! i ⊻ v ! (i + 8)) (range_with_len 0 8)

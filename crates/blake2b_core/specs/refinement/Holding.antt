@@ -1,12 +1,13 @@
--- Joins `new`, `update` and `finish` of `Blake2b`: which message a state may have taken. In the kit's word, a state
--- holds a message.
+-- Joins `new`, `update` and `finish` of `Blake2b`: which message a state may have taken. The kit says for that: the
+-- state holds the message.
 use Rattle.std.specs.Prelude.{◌≡◌, ℕ, ◌+◌, ◌*◌, ◌<◌, List, [], length, take, drop, slice_index_or}
+use Rattle.blake2b_core.specs.Bytes.{ByteString}
 use Rattle.blake2b_core.specs.Digest.{blocks}
 use Rattle.blake2b_core.specs.refinement.Chaining.{hash_after}
 use Rattle.blake2b_core.specs.declared.incremental.Blake2b.{Blake2b}
 
 -- bs are blocks of the message m, one after another from block k on
-abbrev pub AreBlocksFrom : List ℕ → ℕ → List (List ℕ) → Type 0
+abbrev pub AreBlocksFrom : ByteString → ℕ → List ByteString → Type 0
 AreBlocksFrom m k bs = (i : ℕ) → i < length bs → slice_index_or bs i [] ≡ slice_index_or (blocks m) (k + i) []
 
 -- the length of the digest that the state is made for
@@ -18,15 +19,15 @@ abbrev pub taken : Blake2b → ℕ
 taken s = s.taken
 
 -- some blocks of the message m, counted by `done`, were compressed, and the bytes after them are buffered
-pub record HoldsSoFar (s : Blake2b) (m : List ℕ) : Type 0 where
+pub record HoldsSoFar (s : Blake2b) (m : ByteString) : Type 0 where
   pub taken : s.taken ≡ length m
   pub done : ℕ
   pub count : 128 * done + s.buffer_len ≡ length m
   pub hash : s.h ≡ hash_after s.len (blocks m) done
   pub rest : take s.buffer_len s.buffer ≡ drop (128 * done) m
 
--- the state s holds the message m: besides, the last block is buffered, so that only the empty message leaves nothing
--- buffered
-pub record Holds (s : Blake2b) (m : List ℕ) : Type 0 where
+-- the state s holds the message m: so far it does, and the last block is buffered, so only the empty message leaves
+-- nothing buffered
+pub record Holds (s : Blake2b) (m : ByteString) : Type 0 where
   pub so_far : HoldsSoFar s m
   pub empty_buffer : s.buffer_len ≡ 0 → m ≡ []

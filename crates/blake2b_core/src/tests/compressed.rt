@@ -1,4 +1,4 @@
-//! The compression function.
+//! The compression function beside the plain one.
 use super::{ABC, digits, plain};
 use crate::compress;
 use crate::compression::IV;

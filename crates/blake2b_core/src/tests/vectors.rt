@@ -30,3 +30,14 @@ fn no_length_but_1_to_64(rt: HostRuntime) {
     assert!(rt; Blake2b::new(0).is_none() && Blake2b::new(65).is_none());
     assert!(rt; blake2b(0, b"").is_none() && blake2b(65, b"").is_none());
 }
+
+// The use that the crate's front page shows.
+#[test]
+fn front_page(rt: HostRuntime) -> Result<(), Fail> {
+    let mut hasher = Blake2b::new(64).ok_or("no such length")?;
+    hasher.update(b"a");
+    hasher.update(b"bc");
+    let whole = blake2b(64, b"abc").ok_or("no such length")?;
+    assert_eq!(rt; hasher.finish().as_slice(), whole.as_slice());
+    Ok(())
+}

@@ -50,6 +50,7 @@ impl AnyHasher {
     pub fn new(kind: Kind) -> AnyHasher
         ensures holds { ⟦<AnyHasher as Hasher>⟧.holds result [] }
         ensures kind { ⟦<AnyHasher as Hasher>⟧.kind_of result ≡ kind }
+        ensures taken { ⟦<AnyHasher as Hasher>⟧.taken_of result ≡ 0 }
     {
         let len = kind.len();
         match kind.algo() {

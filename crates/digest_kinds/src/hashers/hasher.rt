@@ -1,6 +1,6 @@
 //! The trait of a hasher.
 
-ghost use Rattle.std.specs.Prelude.{◌≡◌, ℕ, ◌+◌, ◌^◌, ◌<◌, List, ◌++◌, length};
+ghost use Rattle.std.specs.Prelude.{◌≡◌, ℕ, ◌+◌, ◌^◌, ◌<◌, ◌++◌, length};
 ghost use Rattle.digest_kinds.specs.Basics.{ByteString};
 ghost use Rattle.digest_kinds.specs.Kinds.{KindValue, digest};
 

@@ -1,5 +1,7 @@
 //! Digests and their digits.
 use crate::{Digest, NotDigits};
+use std::convert::AsSlice;
+use std::hash::{DefaultHasher, Hash, Hasher};
 use std::test::Fail;
 
 #[test]
@@ -45,5 +47,30 @@ fn compared(rt: HostRuntime) -> Result<(), Fail> {
         let other = Digest::from_hex(text).ok_or("no digest")?;
         assert_ne!(rt; other, digest, "{}", text.escape_ascii());
     }
+    Ok(())
+}
+
+// The bytes that a digest lends by the trait, and its hash.
+fn bytes_of(digest: &impl AsSlice<u8>) -> &[u8] {
+    digest.as_slice()
+}
+
+fn hash_of(digest: &Digest) -> u64 {
+    let mut hasher = DefaultHasher::new();
+    digest.hash(&mut hasher);
+    hasher.finish()
+}
+
+#[test]
+fn ordered_and_hashed(rt: HostRuntime) -> Result<(), Fail> {
+    let digest = Digest::from_hex(b"0aff").ok_or("no digest")?;
+    let same = Digest::from_hex(b"0AFF").ok_or("no digest")?;
+    for text in [b"0b".as_slice(), b"0aff00", b"ff00"] {
+        let later = Digest::from_hex(text).ok_or("no digest")?;
+        assert!(rt; digest < later, "{}", text.escape_ascii());
+    }
+    assert!(rt; digest <= same);
+    assert_eq!(rt; hash_of(&digest), hash_of(&same));
+    assert_eq!(rt; bytes_of(&digest), [10, 255].as_slice());
     Ok(())
 }

@@ -1,5 +1,5 @@
-//! Tags that begin bytes, and the lengths of BLAKE2b digests.
-use crate::{Algo, Kind, LengthFault, UnknownTag};
+//! Tags that begin bytes, the lengths of BLAKE2b digests, and the texts of kinds.
+use crate::{Algo, AnyHasher, Hasher, Kind, LengthFault, UnknownKind, UnknownTag, laws};
 use std::test::Fail;
 
 #[test]
@@ -59,5 +59,61 @@ fn algorithms_by_their_tags(rt: HostRuntime) -> Result<(), Fail> {
     }
     let tag = format!(in rt.alloc(); "{:>5}", Algo::Md5)?;
     assert_eq!(rt; tag.as_str(), "  MD5");
+    Ok(())
+}
+
+#[test]
+fn kinds_by_their_texts(rt: HostRuntime) -> Result<(), Fail> {
+    let short = Kind::blake2b_bytes(32).ok_or("32 bytes")?;
+    let one = Kind::blake2b_bytes(1).ok_or("1 byte")?;
+    for (kind, text) in [
+        (Kind::of(Algo::Sha256), "SHA256"),
+        (Kind::of(Algo::Blake2b), "BLAKE2b"),
+        (short, "BLAKE2b-256"),
+        (one, "BLAKE2b-8"),
+    ] {
+        let shown = format!(in rt.alloc(); "{kind}")?;
+        assert_eq!(rt; shown.as_str(), text);
+        assert_eq!(rt; text.parse::<Kind>(), Ok(kind));
+    }
+    let full = Kind::of(Algo::Blake2b);
+    assert_eq!(rt; "BLAKE2b-512".parse::<Kind>(), Ok(full));
+    let padded = format!(in rt.alloc(); "{short:>13}")?;
+    assert_eq!(rt; padded.as_str(), "  BLAKE2b-256");
+    laws::texts_name_kinds();
+    Ok(())
+}
+
+#[test]
+fn texts_of_no_kind(rt: HostRuntime) {
+    for text in [
+        "",
+        "SHA",
+        "sha256",
+        "SHA256 ",
+        "SHA256-256",
+        "BLAKE2b-",
+        "BLAKE2b-0",
+        "BLAKE2b-08",
+        "BLAKE2b-12",
+        "BLAKE2b-520",
+        "BLAKE2b-256 ",
+        "BLAKE2b256",
+    ] {
+        assert_eq!(rt; text.parse::<Kind>(), Err(UnknownKind), "{text}");
+    }
+}
+
+// The use that the crate's front page shows.
+#[test]
+fn front_page(rt: HostRuntime) -> Result<(), Fail> {
+    let kind: Kind = "BLAKE2b-256".parse()?;
+    let mut hasher = AnyHasher::new(kind);
+    hasher.update(b"abc");
+    let text = format!(in rt.alloc(); "{kind} {}", hasher.finish())?;
+    assert_eq!(rt;
+        text.as_str(),
+        "BLAKE2b-256 bddd813c634239723171ef3fee98579b94964e3bb1cb3e427262c8c068d52319"
+    );
     Ok(())
 }

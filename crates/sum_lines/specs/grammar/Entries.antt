@@ -2,7 +2,7 @@
 use Rattle.std.specs.Prelude.{ℕ, ◌≡◌, ◌<◌, ◌⊎◌, ◌==◌, ◌||◌, Bool, false, List, [], ◌∷◌, IsTrue, if◌then◌else◌, All}
 use Rattle.std.specs.Option.{option_map_or}
 use Rattle.digest_kinds.specs.Kinds.{KindValue}
-use Rattle.sum_lines.specs.grammar.Shapes.{ByteString, Algos, Plain, Tagged}
+use Rattle.sum_lines.specs.grammar.Shapes.{ByteString, Algos, IsPlain, IsTagged}
 use Rattle.sum_lines.specs.Escape.{Profile, present}
 use Rattle.sum_lines.specs.grammar.LineParts.{plain_parts}
 pub use Rattle.sum_lines.specs.declared.reading.read_line.Form.{Form}
@@ -29,7 +29,7 @@ pub record DecidesForm (algos : Algos) (line : ByteString) (form : Form) : Type 
   pub digest : ByteString
   pub tail : ByteString
   pub not_ignored : is_ignored line ≡ false
-  pub plain : Plain algos line escaped kind digest tail
+  pub plain : IsPlain algos line escaped kind digest tail
   pub is : form ≡ (if begins_standard tail then Standard else Reversed)
 
 -- The form of a list of lines: the first line that decides one decides it; without such a line it is Undecided.
@@ -46,10 +46,10 @@ pub record Spells (escape : ByteString → ByteString) (escaped : Bool) (raw nam
 
 -- the raw name in a plain line's tail: in a Reversed list all of it; in a Standard one all but its first byte, if that
 -- is a space or a star and more follows
-abbrev pub RawOf : Form → ByteString → ByteString → Type 0
-RawOf Undecided tail raw = ⊥
-RawOf Reversed tail raw = raw ≡ tail
-RawOf Standard tail raw = IsTrue (begins_standard tail) × (b : ℕ) × (tail ≡ b ∷ raw)
+abbrev pub IsRawName : Form → ByteString → ByteString → Type 0
+IsRawName Undecided tail raw = ⊥
+IsRawName Reversed tail raw = raw ≡ tail
+IsRawName Standard tail raw = IsTrue (begins_standard tail) × (b : ℕ) × (tail ≡ b ∷ raw)
 
 -- an entry: a digest of that kind, and the name of the file that has it
 pub record EntryValue : Type 0 where
@@ -58,26 +58,26 @@ pub record EntryValue : Type 0 where
   pub name : ByteString
 
 -- the entry of a tagged line, whose raw name spells the name
-pub record ByTag (escape : ByteString → ByteString) (algos : Algos) (line : ByteString) (s : EntryValue) : Type 0 where
+pub record SpellsByTag (escape : ByteString → ByteString) (algos : Algos) (line : ByteString) (s : EntryValue) : Type 0 where
   pub escaped : Bool
   pub raw : ByteString
-  pub tagged : Tagged algos line escaped s.kind s.digest raw
+  pub tagged : IsTagged algos line escaped s.kind s.digest raw
   pub spells : Spells escape escaped raw s.name
 
 -- the entry of a plain line, in whose tail the form finds the raw name
-pub record ByTail (escape : List ℕ → List ℕ) (algos : Algos) (form : Form) (line : List ℕ) (s : EntryValue) : Type 0
-  where
-    pub escaped : Bool
-    pub tail : ByteString
-    pub raw : ByteString
-    pub plain : Plain algos line escaped s.kind s.digest tail
-    pub is_raw : RawOf form tail raw
-    pub spells : Spells escape escaped raw s.name
+pub record SpellsByTail (escape : ByteString → ByteString) (algos : Algos) (form : Form) (line : ByteString)
+    (s : EntryValue) : Type 0 where
+  pub escaped : Bool
+  pub tail : ByteString
+  pub raw : ByteString
+  pub plain : IsPlain algos line escaped s.kind s.digest tail
+  pub is_raw : IsRawName form tail raw
+  pub spells : Spells escape escaped raw s.name
 
 -- The entry that a line spells in a list of that form, if it isn't ignored. Names are escaped by `escape`.
 abbrev pub IsEntry : (ByteString → ByteString) → Algos → Form → ByteString → EntryValue → Type 0
 IsEntry escape algos form line s = (is_ignored line ≡ false)
-    × (ByTag escape algos line s ⊎ ByTail escape algos form line s)
+    × (SpellsByTag escape algos line s ⊎ SpellsByTail escape algos form line s)
 
 -- The form of a list of lines, computed: its first plain line's. By the law `one_form` it need not be believed.
 abbrev pub form : Algos → List ByteString → Form

@@ -2,7 +2,7 @@
 use Rattle.std.specs.Prelude.{◌≡◌, ◌≢◌, ◌<◌, ◌↔◌, ◌⊎◌, Bool, true, false, List, [], ◌∷◌, ◌++◌, length, codes, IsTrue, All}
 use Rattle.hex.specs.Hex.{IsBytes}
 use Rattle.digest_kinds.specs.Kinds.{KindValue, has_len}
-use Rattle.sum_lines.specs.grammar.Shapes.{ByteString, Algo, Algos, One, Any, Plain, Tagged}
+use Rattle.sum_lines.specs.grammar.Shapes.{ByteString, Algo, Algos, One, Any, IsPlain, IsTagged}
 use Rattle.sum_lines.specs.grammar.Entries.{Form, Undecided, Standard, EntryValue, IsEntry, IsForm, is_ignored_by, form}
 use Rattle.sum_lines.specs.Lines.{Mode, line}
 use Rattle.sum_lines.specs.declared.writing.put_line.Mode.TheVariants.{Tag}
@@ -10,21 +10,21 @@ use Rattle.sum_lines.specs.Escape.{Profile, escape, escape_by}
 use Rattle.sum_lines.specs.grammar.ParsedLines.{ParsedLine, ignored, bad, entry, parse_line}
 
 -- for given algorithms and a given form a line spells at most one entry
-abbrev pub OneEntry : Type 0
-OneEntry = (algos : Algos) (f : Form) (line : ByteString) (s t : EntryValue) → IsEntry escape algos f line s
+abbrev pub HasOneEntry : Type 0
+HasOneEntry = (algos : Algos) (f : Form) (line : ByteString) (s t : EntryValue) → IsEntry escape algos f line s
     → IsEntry escape algos f line t → s ≡ t
 
 -- no line has both shapes, whichever algorithms they name
-abbrev pub Apart : Type 0
-Apart = (algos others : Algos) (line : ByteString) (e f : Bool) (kind other : KindValue) (d c tail raw : ByteString)
-    → Plain algos line e kind d tail → ¬ Tagged others line f other c raw
+abbrev pub AreApart : Type 0
+AreApart = (algos others : Algos) (line : ByteString) (e f : Bool) (kind other : KindValue) (d c tail raw : ByteString)
+    → IsPlain algos line e kind d tail → ¬ IsTagged others line f other c raw
 
 -- a list of lines has one form, which is the computed one
-abbrev pub OneForm : Type 0
-OneForm = (algos : Algos) (lines : List ByteString) (f : Form) → IsForm algos lines f ↔ (f ≡ form algos lines)
+abbrev pub HasOneForm : Type 0
+HasOneForm = (algos : Algos) (lines : List ByteString) (f : Form) → IsForm algos lines f ↔ (f ≡ form algos lines)
 
 -- What the grammar says of a line: it is ignored, its entry, or bad, each if and only if it is so.
-pub record ParseMatches (p : Profile) (algos : Algos) (f : Form) (line : ByteString) (said : ParsedLine) : Type 0 where
+pub record MatchesGrammar (p : Profile) (algos : Algos) (f : Form) (line : ByteString) (said : ParsedLine) : Type 0 where
   pub when_ignored : (said ≡ ignored) ↔ (is_ignored_by p line ≡ true)
   pub when_entry : (s : EntryValue) → (said ≡ entry s)
       ↔ ((is_ignored_by p line ≡ false) × IsEntry (escape_by p) algos f line s)
@@ -32,29 +32,29 @@ pub record ParseMatches (p : Profile) (algos : Algos) (f : Form) (line : ByteStr
       ↔ ((is_ignored_by p line ≡ false) × ((s : EntryValue) → ¬ IsEntry (escape_by p) algos f line s))
 
 -- what is computed of a line is what the grammar says of it, whichever the profile
-abbrev pub ParseIsGrammar : Type 0
-ParseIsGrammar = (p : Profile) (algos : Algos) (f : Form) (line : ByteString)
-    → ParseMatches p algos f line (parse_line p algos f line)
+abbrev pub ParsesByGrammar : Type 0
+ParsesByGrammar = (p : Profile) (algos : Algos) (f : Form) (line : ByteString)
+    → MatchesGrammar p algos f line (parse_line p algos f line)
 
 -- later lines don't change how a line parses
-abbrev pub SameParse : Type 0
-SameParse = (p : Profile) (algos : Algos) (before later others : List ByteString) (line : ByteString)
+abbrev pub KeepsParse : Type 0
+KeepsParse = (p : Profile) (algos : Algos) (before later others : List ByteString) (line : ByteString)
     → parse_line p algos (form algos (before ++ (line ∷ later))) line
     ≡ parse_line p algos (form algos (before ++ (line ∷ others))) line
 
 -- nor the form of the list, after a plain line
-abbrev pub SameForm : Type 0
-SameForm = (algos : Algos) (before later others : List ByteString) (line : ByteString)
-    → (e : Bool) (kind : KindValue) (d tail : ByteString) → Plain algos line e kind d tail
+abbrev pub KeepsForm : Type 0
+KeepsForm = (algos : Algos) (before later others : List ByteString) (line : ByteString)
+    → (e : Bool) (kind : KindValue) (d tail : ByteString) → IsPlain algos line e kind d tail
     → form algos (before ++ (line ∷ later)) ≡ form algos (before ++ (line ∷ others))
 
 -- the algorithms by which a line of that mode is read back: its own, and in tagged mode any
-abbrev pub ReadBy : Algos → Mode → Algo → Type 0
-ReadBy (One a) mode algo = a ≡ algo
-ReadBy Any mode algo = mode ≡ Tag
+abbrev pub AllowsMode : Algos → Mode → Algo → Type 0
+AllowsMode (One a) mode algo = a ≡ algo
+AllowsMode Any mode algo = mode ≡ Tag
 
 -- what can be read back: a name that isn't empty and has no NUL, and a digest of its kind's length
-pub record Writable (kind : KindValue) (name digest : ByteString) : Type 0 where
+pub record IsWritable (kind : KindValue) (name digest : ByteString) : Type 0 where
   pub some : 0 < length name
   pub no_nul : All (λ b. 0 < b) name
   pub bytes : IsBytes digest
@@ -72,8 +72,8 @@ pub record SpellsBack (algos : Algos) (before later : List ByteString) (text : B
   pub keeps : (form algos (before ++ (prefix ∷ [])) ≡ Undecided) ⊎ (form algos (before ++ (prefix ∷ [])) ≡ Standard)
 
 -- a line that is written not in zero style is read back, after lines whose form is Undecided or Standard
-abbrev pub ReadBack : Type 0
-ReadBack = (algos : Algos) (mode : Mode) (kind : KindValue) (name digest : ByteString) (before later : List ByteString)
-    → ReadBy algos mode kind.algo → Writable kind name digest
+abbrev pub IsReadBack : Type 0
+IsReadBack = (algos : Algos) (mode : Mode) (kind : KindValue) (name digest : ByteString) (before later : List ByteString)
+    → AllowsMode algos mode kind.algo → IsWritable kind name digest
     → (form algos before ≡ Undecided) ⊎ (form algos before ≡ Standard)
     → SpellsBack algos before later (line (record { mode = mode; zero = false }) kind name digest) kind name digest

@@ -1,16 +1,15 @@
 -- The parts of a line of either shape, computed. They need not be believed: by the law `parse_is_grammar` the entry
 -- that is made of them is the line grammar's.
-use Rattle.std.specs.Prelude.{ℕ, ◌*◌, ◌==◌, ◌&&◌, nat_lt, Bool, true, false, ◌∷◌, length, drop, bytes_eq, codes, decimal, Option, None, Some, option_map, if◌then◌else◌, take_while, find}
-use Rattle.std.specs.Char.{is_ascii_digit}
+use Rattle.std.specs.Prelude.{◌==◌, ◌&&◌, nat_lt, Bool, true, false, length, drop, codes, Option, None, Some, if◌then◌else◌, find}
 use Rattle.std.specs.Option.{option_or}
 use Rattle.std.specs.Result.{result_ok}
-use Rattle.std.specs.List.{prefix_len, range_with_len, starts_with, before_first, after_first}
+use Rattle.std.specs.List.{starts_with, before_first, after_first}
 use Rattle.std.specs.Path.{rsplit_once}
 use Rattle.hex.specs.Hex.{decode_of}
-use Rattle.digest_kinds.specs.Basics.{ByteString, ◌>>=◌}
-use Rattle.digest_kinds.specs.Kinds.{KindValue, all_algos, full_kind, blake2b_kind, has_len, tag}
+use Rattle.digest_kinds.specs.Basics.{ByteString, ◌>>=◌, after_while}
+use Rattle.digest_kinds.specs.Kinds.{KindValue, all_algos, has_len, tag}
+use Rattle.digest_kinds.specs.KindTexts.{kind_and_rest}
 use Rattle.sum_lines.specs.grammar.Shapes.{Algo, Algos, One, Any, is_blank}
-use Rattle.digest_kinds.specs.declared.algo.Algo.TheVariants.{Blake2b}
 
 -- the parts of a line; the text is the raw name of a tagged line, the tail of a plain one
 pub record LinePartsValue : Type 0 where
@@ -18,10 +17,6 @@ pub record LinePartsValue : Type 0 where
   pub kind : KindValue
   pub digest : ByteString
   pub text : ByteString
-
--- what follows the longest prefix that passes
-abbrev pub after_while : (ℕ → Bool) → ByteString → ByteString
-after_while p xs = drop (prefix_len p xs) xs
 
 -- whether a backslash begins the bytes, and what follows it
 abbrev pub mark_and_rest : ByteString → Bool × ByteString
@@ -45,22 +40,11 @@ abbrev pub tag_in : Algos → ByteString → Option Algo
 tag_in (One a) s = if starts_with ◌==◌ s (tag a) then Some a else None
 tag_in Any s = find (λ a. starts_with ◌==◌ s (tag a)) all_algos
 
--- BLAKE2b with as many bits as these digits write
-abbrev pub kind_at : ByteString → Option KindValue
-kind_at ds = option_map blake2b_kind (find (λ n. bytes_eq (decimal (8 * n)) ds) (range_with_len 1 64))
-
--- the kind that follows a tag, and what follows that: for BLAKE2b a `-` (45) may precede its bits
-abbrev pub width_at : Algo → ByteString → Option (KindValue × ByteString)
-width_at Blake2b (b ∷ bs) =
-    if b == 45 then option_map (λ k. (k, after_while is_ascii_digit bs)) (kind_at (take_while is_ascii_digit bs))
-    else Some (full_kind Blake2b, b ∷ bs)
-width_at a s = Some (full_kind a, s)
-
 -- a tagged line's parts; the last parenthesis ends the name
 unfoldable pub tagged_parts : Algos → ByteString → Option LinePartsValue
 tagged_parts algos line = let text = mark_and_rest (after_while is_blank line) in do
   a ← tag_in algos text.1
-  w ← width_at a (drop (length (tag a)) text.1)
+  w ← kind_and_rest a (drop (length (tag a)) text.1)
   inner ← option_or (strip_prefix (codes " (") w.1) (strip_prefix (codes "(") w.1)
   name ← rsplit_once 41 inner
   digits ← strip_prefix (codes "=") (after_while is_blank name.1)

@@ -49,14 +49,14 @@ abbrev pub parse_line : Profile → Algos → Form → ByteString → ParsedLine
 parse_line p algos f line = if is_ignored_by p line then ignored else option_map_or entry (entry_of p algos f line) bad
 
 -- what a reading says, whose name is a range of the line's vector
-abbrev pub parsed_line_by : ByteString → Reading → ParsedLine
-parsed_line_by line readings.Ignored = ignored
-parsed_line_by line readings.Bad = bad
-parsed_line_by line (readings.Entry kind digest start stop) =
+abbrev pub parsed_line_of : ByteString → Reading → ParsedLine
+parsed_line_of line readings.Ignored = ignored
+parsed_line_of line readings.Bad = bad
+parsed_line_of line (readings.Entry kind digest start stop) =
     entry (record { kind = kind; digest = digest; name = slice_range line start stop })
 
 -- the range of the name is in the line, and the digest is as long as the kind's
-abbrev pub Within : ByteString → Reading → Type 0
-Within line readings.Ignored = ⊤
-Within line readings.Bad = ⊤
-Within line (readings.Entry kind digest start stop) = (start ≤ stop) × (stop ≤ length line) × (length digest ≡ kind.len)
+abbrev pub IsWithin : ByteString → Reading → Type 0
+IsWithin line readings.Ignored = ⊤
+IsWithin line readings.Bad = ⊤
+IsWithin line (readings.Entry kind digest start stop) = (start ≤ stop) × (stop ≤ length line) × (length digest ≡ kind.len)

@@ -1,13 +1,13 @@
 -- The two shapes of a manifest's line: how the whole line is put together from its parts. These are relations, and no
 -- reading from the start: a line has a shape if some parts join to it. Either may begin with blanks and then one
 -- backslash, which says that the name is escaped.
-use Rattle.std.specs.Prelude.{ℕ, ◌≡◌, ◌*◌, ◌<◌, ◌⊎◌, ◌==◌, ◌||◌, ⊤, Bool, true, List, [], ◌∷◌, ◌++◌, length, codes, IsTrue, Ok, if◌then◌else◌, decimal}
+use Rattle.std.specs.Prelude.{ℕ, ◌≡◌, ◌<◌, ◌==◌, ◌||◌, ⊤, Bool, true, [], ◌∷◌, ◌++◌, length, codes, IsTrue, Ok, if◌then◌else◌}
 use Rattle.std.specs.List.{AllPass}
 use Rattle.hex.specs.Hex.{decode_of}
 pub use Rattle.digest_kinds.specs.Basics.{ByteString}
-use Rattle.digest_kinds.specs.Kinds.{KindValue, full_len, has_len, tag}
+use Rattle.digest_kinds.specs.Kinds.{KindValue, has_len, tag}
+use Rattle.digest_kinds.specs.KindTexts.{IsWidth}
 pub use Rattle.digest_kinds.specs.declared.algo.Algo.{Algo}
-use Rattle.digest_kinds.specs.declared.algo.Algo.TheVariants.{Blake2b}
 pub use Rattle.digest_kinds.specs.declared.algo.Algos.{Algos}
 pub use Rattle.digest_kinds.specs.declared.algo.Algos.TheVariants.{One, Any}
 
@@ -21,7 +21,7 @@ mark e = if e then codes "\\" else []
 
 -- A plain line: digits, one blank, and a tail that isn't empty. The digits are hexadecimal, in any case, and spell
 -- a digest of a length that the one algorithm has. If any algorithm may be named, no line is plain.
-pub record Plain (algos : Algos) (line : List ℕ) (e : Bool) (kind : KindValue) (digest tail : List ℕ) : Type 0 where
+pub record IsPlain (algos : Algos) (line : ByteString) (e : Bool) (kind : KindValue) (digest tail : ByteString) : Type 0 where
   pub blanks : ByteString
   pub digits : ByteString
   pub blank : ℕ
@@ -38,12 +38,6 @@ pub record Plain (algos : Algos) (line : List ℕ) (e : Bool) (kind : KindValue)
 abbrev pub optional : Bool → ByteString → ByteString
 optional there bytes = if there then bytes else []
 
--- What may follow the tag directly: nothing for the full length; for BLAKE2b a `-` and the number of bits, which are 8
--- to 512, in decimal.
-abbrev pub Width : KindValue → ByteString → Type 0
-Width kind width = ((width ≡ []) × (kind.len ≡ full_len kind.algo))
-    ⊎ ((width ≡ codes "-" ++ decimal (8 * kind.len)) × (kind.algo ≡ Blake2b) × IsTrue (has_len Blake2b kind.len))
-
 -- the algorithms that a list of lines may name
 abbrev pub Allows : Algos → Algo → Type 0
 Allows (One a) algo = algo ≡ a
@@ -51,7 +45,7 @@ Allows Any algo = ⊤
 
 -- A tagged line: the tag with its width, a name in parentheses that isn't empty, `=` between blanks or none, and the
 -- digits, up to the line's end.
-pub record Tagged (algos : Algos) (line : List ℕ) (e : Bool) (kind : KindValue) (digest raw : List ℕ) : Type 0 where
+pub record IsTagged (algos : Algos) (line : ByteString) (e : Bool) (kind : KindValue) (digest raw : ByteString) : Type 0 where
   pub blanks : ByteString
   pub width : ByteString
   pub gap : Bool
@@ -60,7 +54,7 @@ pub record Tagged (algos : Algos) (line : List ℕ) (e : Bool) (kind : KindValue
   pub digits : ByteString
   pub allowed : Allows algos kind.algo
   pub are_blanks : AllPass is_blank blanks
-  pub is_width : Width kind width
+  pub is_width : IsWidth kind width
   pub some : 0 < length raw
   pub before_blanks : AllPass is_blank before
   pub after_blanks : AllPass is_blank after

@@ -5,18 +5,19 @@ use Rattle.hex.specs.Hex.{decode_of}
 use Rattle.digest_kinds.specs.Kinds.{has_len}
 use Rattle.sum_lines.specs.grammar.Shapes.{ByteString, Algo, Algos, One, is_blank}
 use Rattle.sum_lines.specs.declared.reading.beginnings.Beginning.{Beginning}
-use Rattle.sum_lines.specs.grammar.LineParts.{after_while, mark_and_rest, plain_parts, tag_in, tagged_parts}
+use Rattle.sum_lines.specs.grammar.LineParts.{mark_and_rest, plain_parts, tag_in, tagged_parts}
+use Rattle.digest_kinds.specs.Basics.{after_while}
 use Rattle.sum_lines.specs.declared.reading.beginnings.Beginning.TheVariants as beginnings
 
 -- a plain line's text: its digits, up to the first blank, spell that digest, and something follows that
-pub record Cut (a : Algo) (s digest : ByteString) : Type 0 where
+pub record BeginsWithDigits (a : Algo) (s digest : ByteString) : Type 0 where
   pub spelled : decode_of (before_first is_blank s) ≡ Ok digest
   pub has : IsTrue (has_len a (length digest))
   pub some : 0 < length (after_first is_blank s)
 
 -- if the bytes are such a text, their first blank is at that place
 abbrev pub EndsAt : Algo → ByteString → ℕ → Type 0
-EndsAt a s at = (digest : ByteString) → Cut a s digest → at ≡ position_or_len is_blank s
+EndsAt a s at = (digest : ByteString) → BeginsWithDigits a s digest → at ≡ position_or_len is_blank s
 
 -- that place has a blank, something follows it, and the digits end there if the bytes are such a text
 pub record EndsDigits (a : Algo) (s : ByteString) (at : ℕ) : Type 0 where
@@ -25,8 +26,8 @@ pub record EndsDigits (a : Algo) (s : ByteString) (at : ℕ) : Type 0 where
   pub place : EndsAt a s at
 
 -- what a line that begins so is read as: as tagged after that tag, and not as plain; or as plain, and not as tagged
-abbrev pub LeadsTo : Algos → ByteString → Beginning → Type 0
-LeadsTo algos line (beginnings.Tag a) = (tag_in (One a) (mark_and_rest (after_while is_blank line)).1 ≡ Some a)
+abbrev pub IsReadAs : Algos → ByteString → Beginning → Type 0
+IsReadAs algos line (beginnings.Tag a) = (tag_in (One a) (mark_and_rest (after_while is_blank line)).1 ≡ Some a)
     × (tagged_parts algos line ≡ tagged_parts (One a) line) × (None ≡ plain_parts algos line)
-LeadsTo algos line (beginnings.Digits a at) = EndsDigits a (mark_and_rest (after_while is_blank line)).1 at
+IsReadAs algos line (beginnings.Digits a at) = EndsDigits a (mark_and_rest (after_while is_blank line)).1 at
     × (None ≡ tagged_parts algos line) × (plain_parts algos line ≡ plain_parts (One a) line)

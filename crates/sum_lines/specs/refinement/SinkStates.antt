@@ -1,7 +1,7 @@
 -- Joins the calls of a sink: what its known bytes grow by, how a buffer is flushed, and the state of a ToldSink.
-use Rattle.std.specs.Prelude.{ℕ, ◌-◌, [], take, Option, Some, Result, Ok, Err}
+use Rattle.std.specs.Prelude.{ℕ, ◌-◌, [], take, ⊤, Option, Some, Result, Ok, Err}
 use Rattle.std.specs.Io.KnownBytes.{Appends}
-use Rattle.sum_lines.specs.sinks.Sinks.{ByteString, SinkState, IsPrefix, Accepted, FlushFailed}
+use Rattle.sum_lines.specs.sinks.Sinks.{ByteString, SinkState, IsPrefix, Accepts, FailsToFlush}
 use Rattle.sum_lines.specs.declared.sinks.told_sink.ToldSink.{ToldSink}
 
 -- known bytes stay, and more may follow them
@@ -13,9 +13,9 @@ abbrev pub AppendsPrefix : Option ByteString → Option ByteString → ByteStrin
 AppendsPrefix old new text = (prefix : ByteString) × IsPrefix prefix text × Appends old new prefix
 
 -- a call that accepts nothing, or fails
-abbrev pub FlushesBuffer : {E : Type 0} → SinkState → SinkState → Result (Unit {0}) E → Type 0
-FlushesBuffer a b (Ok u) = Accepted a b []
-FlushesBuffer a b (Err e) = FlushFailed a b
+abbrev pub FlushesBuffer : {E : Type 0} → SinkState → SinkState → Result ⊤ E → Type 0
+FlushesBuffer a b (Ok u) = Accepts a b []
+FlushesBuffer a b (Err e) = FailsToFlush a b
 
 -- ---- a ToldSink
 

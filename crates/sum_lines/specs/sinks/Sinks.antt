@@ -1,7 +1,7 @@
 -- The state of a sink, and what writing and flushing do to it.
 pub use Rattle.digest_kinds.specs.Basics.{ByteString}
 use Rattle.digest_kinds.specs.Limits.{one_more}
-use Rattle.std.specs.Prelude.{ℕ, ◌≡◌, ◌<◌, ◌≤◌, List, [], ◌∷◌, ◌++◌, length, take, Option, Some, Result, Ok, Err, IfSome}
+use Rattle.std.specs.Prelude.{ℕ, ◌≡◌, ◌<◌, ◌≤◌, List, [], ◌∷◌, ◌++◌, length, take, ⊤, Option, Some, Result, Ok, Err, IfSome}
 use Rattle.std.specs.Io.KnownBytes.{append_known}
 pub use Rattle.std.specs.Io.KnownBytes.{Appends}
 
@@ -21,38 +21,38 @@ pub record SinkState : Type 0 where
   pub failures : ℕ
 
 -- the text was accepted: it follows the buffered bytes, and some of both may have been written
-pub record Accepted (a b : SinkState) (text : ByteString) : Type 0 where
+pub record Accepts (a b : SinkState) (text : ByteString) : Type 0 where
   pub accepted : Appends (append_known a.written a.buffered) (append_known b.written b.buffered) text
   pub written : (more : ByteString) × Appends a.written b.written more
   pub failures : b.failures ≡ a.failures
 
 -- a call failed: a proper prefix of the buffered bytes and the text, which isn't empty, was written; the rest is lost
-pub record WriteFailed (a b : SinkState) (text : ByteString) : Type 0 where
+pub record FailsToWrite (a b : SinkState) (text : ByteString) : Type 0 where
   pub nonempty : 0 < length text
   pub written : AppendsProperPrefix a.written b.written (a.buffered ++ text)
   pub buffered : b.buffered ≡ []
   pub failures : b.failures ≡ one_more a.failures
 
 -- a call failed: a prefix of the buffered bytes was written, and the rest is lost
-pub record FlushFailed (a b : SinkState) : Type 0 where
+pub record FailsToFlush (a b : SinkState) : Type 0 where
   pub written : (prefix : ByteString) × IsPrefix prefix a.buffered × Appends a.written b.written prefix
   pub buffered : b.buffered ≡ []
   pub failures : b.failures ≡ one_more a.failures
 
 -- a call that accepts all of the text, or fails; with an empty text it doesn't fail
-abbrev pub WritesAll : {E : Type 0} → SinkState → SinkState → ByteString → Result (Unit {0}) E → Type 0
-WritesAll a b text (Ok u) = Accepted a b text
-WritesAll a b text (Err e) = WriteFailed a b text
+abbrev pub WritesAll : {E : Type 0} → SinkState → SinkState → ByteString → Result ⊤ E → Type 0
+WritesAll a b text (Ok u) = Accepts a b text
+WritesAll a b text (Err e) = FailsToWrite a b text
 
 -- one write, which accepts the first bytes of a piece, at least one if it isn't empty, or fails
 abbrev pub WritesSome : {E : Type 0} → SinkState → SinkState → ByteString → Result ℕ E → Type 0
-WritesSome a b piece (Ok n) = (n ≤ length piece) × (0 < length piece → 0 < n) × Accepted a b (take n piece)
-WritesSome a b piece (Err e) = FlushFailed a b
+WritesSome a b piece (Ok n) = (n ≤ length piece) × (0 < length piece → 0 < n) × Accepts a b (take n piece)
+WritesSome a b piece (Err e) = FailsToFlush a b
 
 -- one flush, which writes all that is buffered, or fails
-abbrev pub Flushes : {E : Type 0} → SinkState → SinkState → Result (Unit {0}) E → Type 0
+abbrev pub Flushes : {E : Type 0} → SinkState → SinkState → Result ⊤ E → Type 0
 Flushes a b (Ok u) = Appends a.written b.written a.buffered × (b.buffered ≡ []) × (b.failures ≡ a.failures)
-Flushes a b (Err e) = FlushFailed a b
+Flushes a b (Err e) = FailsToFlush a b
 
 -- ---- what is offered
 
@@ -66,14 +66,14 @@ IsRest text rest = (prefix : ByteString) × (0 < length prefix) × (text ≡ pre
 
 -- each piece is a rest of the piece before it
 abbrev pub AreRests : ByteString → List ByteString → Type 0
-AreRests text [] = Unit {0}
+AreRests text [] = ⊤
 AreRests text (rest ∷ more) = IsRest text rest × AreRests rest more
 
 -- the pieces that are offered of a text: all of it, and then only what is left of the piece before; of no text none
-abbrev pub InOnePiece : ByteString → List ByteString → Type 0
-InOnePiece text [] = text ≡ []
-InOnePiece text (piece ∷ rests) = (0 < length text) × (piece ≡ text) × AreRests text rests
+abbrev pub IsInOnePiece : ByteString → List ByteString → Type 0
+IsInOnePiece text [] = text ≡ []
+IsInOnePiece text (piece ∷ rests) = (0 < length text) × (piece ≡ text) × AreRests text rests
 
 -- a sink was offered a text in one piece, and again only what was left of it
 abbrev pub OffersWhole : Option (List ByteString) → Option (List ByteString) → ByteString → Type 0
-OffersWhole old new text = (pieces : List ByteString) × Offers old new pieces × InOnePiece text pieces
+OffersWhole old new text = (pieces : List ByteString) × Offers old new pieces × IsInOnePiece text pieces

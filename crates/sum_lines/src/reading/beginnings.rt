@@ -1,8 +1,9 @@
 //! What a line begins with. Most bad lines show by that, and the rest of them isn't read.
 
-ghost use Rattle.std.specs.Prelude.{◌≡◌, ℕ, List, IfNone, IfSome, None};
+ghost use Rattle.std.specs.Prelude.{◌≡◌, IfNone, IfSome, None};
+ghost use Rattle.sum_lines.specs.grammar.Shapes.{ByteString};
 ghost use Rattle.sum_lines.specs.grammar.LineParts.{plain_parts, tag_in, tagged_parts};
-ghost use Rattle.sum_lines.specs.refinement.Beginnings.{Cut, LeadsTo, EndsAt, EndsDigits};
+ghost use Rattle.sum_lines.specs.refinement.Beginnings.{BeginsWithDigits, IsReadAs, EndsAt, EndsDigits};
 ghost use Rattle.sum_lines.specs.refinement.LinePartRanges.{IsFront};
 
 use crate::reading::line_parts::{Front, is_blank, text_after};
@@ -29,7 +30,7 @@ pub(crate) fn find_beginning(algos: Algos, line: &[u8], front: Front) -> Option<
     requires { IsFront line.now front }
     ensures tagged { IfNone result (None ≡ tagged_parts algos line.now) }
     ensures plain { IfNone result (None ≡ plain_parts algos line.now) }
-    ensures leads { IfSome result (LeadsTo algos line.now) }
+    ensures leads { IfSome result (IsReadAs algos line.now) }
 {
     let text = text_after(line, front);
     if let Some(algo) = tag_in(algos, text) {
@@ -59,7 +60,7 @@ fn tag_in(algos: Algos, text: &[u8]) -> Option<Algo>
 // The place of the blank after the digits, if something follows it. `None` only if no plain line has such a text. The
 // digits themselves aren't looked at.
 fn digits_end(algo: Algo, text: &[u8]) -> Option<usize>
-    ensures none { IfNone result ((d : List ℕ) → ¬ Cut algo text.now d) }
+    ensures none { IfNone result ((d : ByteString) → ¬ BeginsWithDigits algo text.now d) }
     ensures some { IfSome result (EndsDigits algo text.now) }
 {
     let at = digits_len(algo, text)?;
@@ -71,7 +72,7 @@ fn digits_end(algo: Algo, text: &[u8]) -> Option<usize>
 
 // How many digits the text has if it is a plain line's. `None` only if it is none's.
 fn digits_len(algo: Algo, text: &[u8]) -> Option<usize>
-    ensures none { IfNone result ((d : List ℕ) → ¬ Cut algo text.now d) }
+    ensures none { IfNone result ((d : ByteString) → ¬ BeginsWithDigits algo text.now d) }
     ensures some { IfSome result (EndsAt algo text.now) }
 {
     match algo {

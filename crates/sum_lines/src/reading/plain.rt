@@ -4,7 +4,8 @@ ghost use Rattle.std.specs.Prelude.{◌≡◌, ◌≤◌, IfSome, if◌then◌el
 ghost use Rattle.std.specs.Option.{option_map};
 ghost use Rattle.digest_kinds.specs.Kinds.{has_len};
 ghost use Rattle.sum_lines.specs.grammar.Shapes.{is_blank};
-ghost use Rattle.sum_lines.specs.grammar.LineParts.{after_while, mark_and_rest, plain_parts};
+ghost use Rattle.sum_lines.specs.grammar.LineParts.{mark_and_rest, plain_parts};
+ghost use Rattle.digest_kinds.specs.Basics.{after_while};
 ghost use Rattle.sum_lines.specs.refinement.Beginnings.{EndsDigits};
 ghost use Rattle.sum_lines.specs.refinement.LinePartRanges.{IsFront, line_parts};
 

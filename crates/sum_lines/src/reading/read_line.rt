@@ -4,11 +4,11 @@ ghost use Rattle.std.specs.Prelude.{◌≡◌, ◌≤◌, None, Some, drop, if�
 ghost use Rattle.std.specs.List.{list_all};
 ghost use Rattle.std.specs.Option.{option_and_then, option_map_or};
 ghost use Rattle.sum_lines.specs.grammar.Entries.{begins_standard, form_then, is_ignored, line_form};
-ghost use Rattle.sum_lines.specs.grammar.LineLaws.{ParseMatches};
+ghost use Rattle.sum_lines.specs.grammar.LineLaws.{MatchesGrammar};
 ghost use Rattle.sum_lines.specs.grammar.ParsedLines.{bad, entry, entry_of, entry_of_parts, parse_line, unescape};
-ghost use Rattle.sum_lines.specs.grammar.ParsedLines.{with_raw, Within, parsed_line_by};
+ghost use Rattle.sum_lines.specs.grammar.ParsedLines.{with_raw, IsWithin, parsed_line_of};
 ghost use Rattle.sum_lines.specs.Escape.{present};
-ghost use Rattle.sum_lines.specs.refinement.Beginnings.{LeadsTo};
+ghost use Rattle.sum_lines.specs.refinement.Beginnings.{IsReadAs};
 ghost use Rattle.sum_lines.specs.refinement.LinePartRanges.{IsFront, line_parts};
 
 use crate::escape::unescape_in;
@@ -69,11 +69,11 @@ pub fn read_line<A: Allocator>(algos: Algos, form: Form, line: &mut Vec<u8, A>) 
     // A form that is decided stays; otherwise a plain line decides it, even if its name makes it bad.
     ensures form { result.1 ≡ form_then form (line_form algos line.old.items) }
     // What the line says, as it is computed; of an entry the name is the range of the vector.
-    ensures parsed { parsed_line_by line.new.items result.0 ≡ parse_line present algos result.1 line.old.items }
+    ensures parsed { parsed_line_of line.new.items result.0 ≡ parse_line present algos result.1 line.old.items }
     // The same by the line grammar: ignored, an entry, or bad, each if and only if the grammar says so.
-    ensures grammar { ParseMatches present algos result.1 line.old.items (parsed_line_by line.new.items result.0) }
+    ensures grammar { MatchesGrammar present algos result.1 line.old.items (parsed_line_of line.new.items result.0) }
     // The range of an entry's name is in the vector, and its digest is as long as the kind's.
-    ensures within { Within line.new.items result.0 }
+    ensures within { IsWithin line.new.items result.0 }
     ensures ignored { result.0 ≡ Reading.Ignored → line.new ≡ line.old }
     ensures len { vec_len line.new ≤ vec_len line.old }
 {
@@ -99,11 +99,11 @@ fn read_begun<A: Allocator>(
     beginning: Beginning,
 ) -> (Reading, Form)
     requires front { IsFront line.old.items front }
-    requires leads { LeadsTo algos line.old.items beginning }
+    requires leads { IsReadAs algos line.old.items beginning }
     ensures form { result.1 ≡ form_then form (line_form algos line.old.items) }
-    ensures parsed { parsed_line_by line.new.items result.0
+    ensures parsed { parsed_line_of line.new.items result.0
         ≡ option_map_or entry (entry_of present algos result.1 line.old.items) bad }
-    ensures within { Within line.new.items result.0 }
+    ensures within { IsWithin line.new.items result.0 }
     ensures len { vec_len line.new ≤ vec_len line.old }
 {
     match beginning {
@@ -136,9 +136,9 @@ fn read_tail<A: Allocator>(form: Form, line: &mut Vec<u8, A>, found: LineParts) 
     requires within { found.stop ≤ length line.old.items }
     ensures form { result.1 ≡ form_then form
         (if begins_standard (line_parts line.old.items found).text then Form.Standard else Form.Reversed) }
-    ensures parsed { parsed_line_by line.new.items result.0 ≡ option_map_or entry
+    ensures parsed { parsed_line_of line.new.items result.0 ≡ option_map_or entry
         (option_and_then (entry_of_parts present) (with_raw result.1 (line_parts line.old.items found))) bad }
-    ensures within { Within line.new.items result.0 }
+    ensures within { IsWithin line.new.items result.0 }
     ensures len { vec_len line.new ≤ vec_len line.old }
 {
     let standard = begins_standard(&line[found.start..found.stop]);
@@ -177,9 +177,9 @@ fn read_name<A: Allocator>(line: &mut Vec<u8, A>, found: LineParts) -> Reading
     requires size { length found.digest ≡ found.kind.len }
     requires ordered { found.start ≤ found.stop }
     requires within { found.stop ≤ length line.old.items }
-    ensures parsed { parsed_line_by line.new.items result
+    ensures parsed { parsed_line_of line.new.items result
         ≡ option_map_or entry (entry_of_parts present (line_parts line.old.items found)) bad }
-    ensures within { Within line.new.items result }
+    ensures within { IsWithin line.new.items result }
     ensures len { vec_len line.new ≤ vec_len line.old }
 {
     line.truncate(found.stop);

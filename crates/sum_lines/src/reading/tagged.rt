@@ -1,14 +1,11 @@
 //! Tagged lines: a tag, a name in parentheses, `=`, digits.
 
-ghost use Rattle.std.specs.Prelude.{◌≡◌, ◌≤◌, codes, length, drop, IfSome, Some};
-ghost use Rattle.std.specs.Char.{is_ascii_digit as is_digit};
-ghost use Rattle.std.specs.List.{AllPass, prefix_len, take_while};
+ghost use Rattle.std.specs.Prelude.{◌≡◌, ◌≤◌, codes, length, IfSome, Some};
 ghost use Rattle.std.specs.Option.{option_copied, option_map, option_or};
-ghost use Rattle.digest_kinds.specs.Kinds.{tag};
+ghost use Rattle.digest_kinds.specs.Basics.{after_while};
 ghost use Rattle.sum_lines.specs.grammar.Shapes.{is_blank};
-ghost use Rattle.sum_lines.specs.grammar.LineParts.{after_while, mark_and_rest, strip_prefix, tag_in};
-ghost use Rattle.sum_lines.specs.grammar.LineParts.{kind_at, tagged_parts, width_at};
-ghost use Rattle.sum_lines.specs.refinement.LinePartRanges.{IsFront, line_parts, number_of};
+ghost use Rattle.sum_lines.specs.grammar.LineParts.{mark_and_rest, strip_prefix, tag_in, tagged_parts};
+ghost use Rattle.sum_lines.specs.refinement.LinePartRanges.{IsFront, line_parts};
 
 use crate::reading::line_parts::{
     Front, LineParts, past_text, skip_blanks, split_at_last, text_after,
@@ -26,11 +23,11 @@ pub(crate) fn tagged(algo: Algo, line: &[u8], front: Front) -> Option<LineParts>
 {
     let text = text_after(line, front);
     // Not by `?`, which the borrow checker doesn't cover for a struct with a reference.
-    let Some(width) = width(algo, text) else {
+    let Some(named) = Kind::of_tag_prefix(algo, text) else {
         return None;
     };
-    let kind = width.kind;
-    let inner = past_parenthesis(width.rest)?;
+    let kind = named.kind;
+    let inner = past_parenthesis(named.rest)?;
     // The name may contain `)`, and what follows the closing one can't.
     let (raw, after_name) = split_at_last(b')', inner)?;
     let digits = skip_blanks(past_text(b"=", skip_blanks(after_name))?);
@@ -50,92 +47,6 @@ pub(crate) fn tagged(algo: Algo, line: &[u8], front: Front) -> Option<LineParts>
         start,
         stop: start + raw.len(),
     })
-}
-
-// The kind by the bits that follow the tag, if they do, and what follows these.
-#[derive(Clone, Copy)]
-struct ReadWidth<'a> {
-    kind: Kind,
-    rest: &'a [u8],
-}
-
-// The kind that a text has which begins with the algorithm's tag, and what follows tag and bits.
-fn width(algo: Algo, text: &[u8]) -> Option<ReadWidth<'_>>
-    requires { tag_in (Algos.One algo) text.now ≡ Some algo }
-    ensures { option_map (λ w. (w.kind, w.rest.now)) result ≡ width_at algo (drop (length (tag algo)) text.now) }
-{
-    let rest = &text[algo.tag().len()..];
-    match algo {
-        Algo::Blake2b => blake2b_width(rest),
-        _ => {
-            let kind = Kind::of(algo);
-            Some(ReadWidth { kind, rest })
-        }
-    }
-}
-
-// The same for BLAKE2b, of what follows the tag.
-fn blake2b_width(s: &[u8]) -> Option<ReadWidth<'_>>
-    ensures { option_map (λ w. (w.kind, w.rest.now)) result ≡ width_at Algo.Blake2b s.now }
-{
-    match s {
-        [b'-', text @ ..] => {
-            let (digits, rest) = split_digits(text);
-            let kind = kind_of_bits(digits)?;
-            Some(ReadWidth { kind, rest })
-        }
-        _ => {
-            let kind = Kind::of(Algo::Blake2b);
-            Some(ReadWidth { kind, rest: s })
-        }
-    }
-}
-
-fn is_digit(byte: u8) -> bool
-    ensures { result ≡ is_digit byte }
-{
-    matches!(byte, b'0'..=b'9')
-}
-
-#[tactic(auto, using(crate::proofs::PrefixLemmas::prefix_passes))]
-fn split_digits(s: &[u8]) -> (&[u8], &[u8])
-    ensures digits { result.0.now ≡ take_while is_digit s.now }
-    ensures rest { result.1.now ≡ after_while is_digit s.now }
-    ensures are { AllPass is_digit result.0.now }
-{
-    s.split_at(digits(s))
-}
-
-fn digits(s: &[u8]) -> usize
-    ensures value { result ≡ prefix_len is_digit s.now }
-    ensures within { result ≤ length s.now }
-{
-    s.iter().take_while(|byte| is_digit(**byte)).count()
-}
-
-// BLAKE2b with as many bits as the digits write, a multiple of 8 up to 512.
-#[tactic(auto, using(crate::proofs::BitsLemmas::number_kind, crate::proofs::BitsLemmas::number_none))]
-fn kind_of_bits(digits: &[u8]) -> Option<Kind>
-    requires { AllPass is_digit digits.now }
-    ensures { result ≡ kind_at digits.now }
-{
-    Kind::blake2b_bits(number(digits)?).ok()
-}
-
-// The number that one to three digits without a leading zero write.
-fn number(digits: &[u8]) -> Option<u64>
-    requires { AllPass is_digit digits.now }
-    ensures { result ≡ number_of digits.now }
-{
-    match digits {
-        [b'0', ..] => None,
-        [a] => Some((*a - b'0') as u64),
-        [a, b] => Some((*a - b'0') as u64 * 10 + (*b - b'0') as u64),
-        [a, b, c] => {
-            Some(((*a - b'0') as u64 * 10 + (*b - b'0') as u64) * 10 + (*c - b'0') as u64)
-        }
-        _ => None,
-    }
 }
 
 // What follows the opening parenthesis, which a space may precede.

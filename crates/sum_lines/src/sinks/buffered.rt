@@ -43,7 +43,7 @@ impl<S> Buffered<S> {
     }
 
     /// The sink below it.
-    pub fn sink(&self) -> &S
+    pub fn get_ref(&self) -> &S
         ensures { result.now ≡ self.now.sink }
     {
         &self.sink

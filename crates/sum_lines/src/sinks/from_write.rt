@@ -3,10 +3,8 @@ ghost use Rattle.std.specs.Prelude.{◌≡◌, []};
 ghost use Rattle.digest_kinds.specs.Limits.{one_more};
 
 use crate::sinks::sink::{Sink, SinkFault};
+use digest_kinds::INTERRUPTIONS;
 use std::io::{ErrorKind, Write};
-
-/// How often in a row one call tries to write before an interruption is a fault.
-const TRIES: u32 = 1000;
 
 /// A sink that writes its bytes to a writer, and buffers none. They are known if the writer's are.
 #[derive(Debug, Drop)]
@@ -28,6 +26,13 @@ impl<W: Write> FromWrite<W> {
         }
     }
 
+    /// The writer, which this sink has lost nothing of: it buffers no bytes.
+    pub fn into_inner(self) -> W
+        ensures { result ≡ self.writer }
+    {
+        self.writer
+    }
+
     // Counts a failure, at most 2^64 - 1.
     fn fault(&mut self) -> SinkFault
         ensures writer { self.new.writer ≡ self.old.writer }
@@ -42,12 +47,12 @@ impl<W: Write> Sink for FromWrite<W> {
     ghost state = { λ s. record { written = W.contents s.writer; buffered = []; failures = s.failures } };
 
     /// Writes a piece that isn't empty to the writer, again after each interruption. `SinkFault` if the writer fails,
-    /// accepts nothing of it, or is interrupted a thousand times in a row.
+    /// accepts nothing of it, or is interrupted for the 1,000th time in a row ([`INTERRUPTIONS`]).
     fn write(&mut self, piece: &[u8]) -> Result<usize, SinkFault> {
         if piece.is_empty() {
             return Ok(0);
         }
-        for _ in 0..TRIES {
+        for _ in 0..INTERRUPTIONS {
             match self.writer.write(piece) {
                 Ok(0) => break,
                 Ok(count) => return Ok(count),

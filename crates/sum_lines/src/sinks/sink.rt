@@ -1,6 +1,6 @@
 //! The trait of a sink, to which bytes are written, and the call that writes all of a text.
-ghost use Rattle.std.specs.Prelude.{◌≡◌, ℕ, List, [], ◌∷◌, Option, None, Ok};
-ghost use Rattle.sum_lines.specs.sinks.Sinks.{SinkState, WritesSome, Flushes, Offers, OffersWhole, WritesAll};
+ghost use Rattle.std.specs.Prelude.{◌≡◌, List, [], ◌∷◌, Option, None, Ok};
+ghost use Rattle.sum_lines.specs.sinks.Sinks.{ByteString, SinkState, WritesSome, Flushes, Offers, OffersWhole, WritesAll};
 
 use thiserror::Error;
 
@@ -20,7 +20,7 @@ pub trait Sink {
     ghost state: { Self → SinkState };
 
     /// The pieces that it was offered, one by each write, if they are known.
-    ghost offered: { Self → Option (List (List ℕ)) } = { λ _. None };
+    ghost offered: { Self → Option (List ByteString) } = { λ _. None };
 
     /// Accepts the first bytes of the piece and returns how many: at least one of a piece that isn't empty, none of an
     /// empty one. `SinkFault` if it accepted nothing, of a piece that isn't empty.

@@ -27,7 +27,7 @@ pub struct Style {
     pub zero: bool,
 }
 
-ghost use Rattle.sum_lines.specs.Lines.{layout, line, line_tag};
+ghost use Rattle.sum_lines.specs.Lines.{layout, line};
 ghost use Rattle.hex.specs.Hex.{encode_lower};
 ghost use Rattle.sum_lines.specs.refinement.PartTexts.{part_text};
 ghost use Rattle.sum_lines.specs.Escape.{present, escape, escape_differs};
@@ -93,22 +93,11 @@ fn put_layout<'a, S: Sink>(
         Mode::Text => put_parts(sink, &[digits, Part::Bytes(b"  "), name]),
         Mode::Binary => put_parts(sink, &[digits, Part::Bytes(b" *"), name]),
         Mode::Tag => {
-            put_tag(sink, kind)?;
+            put_all(sink, kind.text_into(&mut [0; 11]).as_bytes())?;
             put_parts(
                 sink,
                 &[Part::Bytes(b" ("), name, Part::Bytes(b") = "), digits],
             )
         }
     }
-}
-
-// Writes the tag; for a BLAKE2b digest that isn't full, with its bits.
-fn put_tag<S: Sink>(sink: &mut S, kind: Kind) -> Result<(), SinkFault>
-    ensures { WritesAll (S.state sink.old) (S.state sink.new) (line_tag kind) result }
-{
-    let tag = Part::Bytes(kind.tag().as_bytes());
-    if kind.len() == Kind::of(kind.algo()).len() {
-        return put_parts(sink, &[tag]);
-    }
-    put_parts(sink, &[tag, Part::Bytes(b"-"), Part::Number(kind.bits())])
 }

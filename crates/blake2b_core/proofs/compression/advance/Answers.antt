@@ -1,7 +1,7 @@
 use Rattle.std.proofs.Common.{◌≡◌, ap, fold, refl, ◌∙◌}
 use Rattle.std.specs.List.{range_with_len}
 use Rattle.blake2b_core.specs.Compression.{compress, round, start}
-use Rattle.blake2b_core.specs.refinement.Columns.{block_words, fed_forward, words}
+use Rattle.blake2b_core.specs.refinement.Columns.{block_words, next_state, words}
 use Rattle.blake2b_core.proofs.compression.advance.Goals as goal
 
 -- twelve rounds, and the new state
@@ -26,4 +26,4 @@ returns c =
       c.start-v.ensures,
       c.block_words-m.ensures,
     ) refl in
-    c.feed_forward.ensures ∙ ap (fed_forward c.args.h.now) v
+    c.feed_forward.ensures ∙ ap (next_state c.args.h.now) v

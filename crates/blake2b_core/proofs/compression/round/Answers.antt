@@ -1,9 +1,9 @@
 use Rattle.std.proofs.Common.{refl}
-use Rattle.blake2b_core.specs.refinement.Columns.{columns, diagonals, scheduled}
+use Rattle.blake2b_core.specs.refinement.Columns.{columns, diagonals, schedule}
 use Rattle.blake2b_core.specs.Compression.{round}
 use Rattle.blake2b_core.proofs.compression.round.Goals as goal
 
 -- the columns, and then the diagonals
 pub returns : goal.returns
-unfolding round columns diagonals scheduled
-returns c = rw (c.mixed_diagonals.ensures, c.mixed_columns-v.ensures, c.scheduled-m.ensures) refl
+unfolding round columns diagonals schedule
+returns c = rw (c.mixed_diagonals.ensures, c.mixed_columns-v.ensures, c.schedule-m.ensures) refl

@@ -3,7 +3,7 @@ use Rattle.std.specs.List.{concat}
 use Rattle.std.proofs.lemmas.List.{take-append-drop, take-take, drop-take, take_all, length-append, length-replicate, length-take-le, length-drop}
 use Rattle.std.specs.Simd.{first_chunks}
 use Rattle.blake2b_core.specs.Digest.{blocks}
-use Rattle.blake2b_core.proofs.BlockLemmas.{block_count, padded}
+use Rattle.blake2b_core.proofs.BlockLemmas.{block_count, padded_message}
 use Rattle.blake2b_core.proofs.CompressionLemmas.{length-first_chunks, get_or-first_chunks}
 use Rattle.blake2b_core.proofs.laws.blocks.Goals as goal
 
@@ -23,16 +23,16 @@ unfolding blocks
 returns c = λ m.
     let count : ℕ = block_count (length m) in
     let zeros : ℕ = 128 * count - length m in
-    let size : length (padded m) ≡ 128 * count =
+    let size : length (padded_message m) ≡ 128 * count =
     omega (arith, length-append m (replicate zeros 0), length-replicate {A = ℕ} zeros 0) in
     record {
       sizes = λ k d below.
-          let place : k < count = omega (arith, length-first_chunks 128 count (padded m)) in
-          let long : 128 ≤ length (drop (128 * k) (padded m)) = omega (arith, length-drop (128 * k) (padded m)) in
-          ap length (get_or-first_chunks 128 count (padded m) k d place)
-          ∙ length-take-le 128 (drop (128 * k) (padded m)) long;
+          let place : k < count = omega (arith, length-first_chunks 128 count (padded_message m)) in
+          let long : 128 ≤ length (drop (128 * k) (padded_message m)) = omega (arith, length-drop (128 * k) (padded_message m)) in
+          ap length (get_or-first_chunks 128 count (padded_message m) k d place)
+          ∙ length-take-le 128 (drop (128 * k) (padded_message m)) long;
       zeros = zeros;
-      join = concat-first_chunks 128 count (padded m) ∙ take_all (128 * count) (padded m) (omega arith);
+      join = concat-first_chunks 128 count (padded_message m) ∙ take_all (128 * count) (padded_message m) (omega arith);
       fewest = λ some. omega arith;
       empty = λ none. omega arith;
     }

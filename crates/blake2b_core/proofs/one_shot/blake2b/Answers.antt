@@ -21,6 +21,6 @@ returns-clause-digest c =
     subst (AreBlocksFrom m 0) (sym c.followed_blocks-front.ensures.value)
     (are_blocks m 0 ((length m - 1) / 128) fits) in
     let from : 0 + length front ≡ length front = omega arith in
-    let hash = c.chained-h.ensures n m 0 refl are c.initial.ensures ∙ ap (hash_after n (blocks m)) from in
+    let hash = c.state_after-h.ensures n m 0 refl are c.initial.ensures ∙ ap (hash_after n (blocks m)) from in
     rw (c.of_state.ensures.value, c.compress-h.ensures)
-    (blake2b-from n last hash c.zero_filled-last.ensures (take_rest m (128 * length front)) refl)
+    (blake2b-from n last hash c.padded_block-last.ensures (take_rest m (128 * length front)) refl)

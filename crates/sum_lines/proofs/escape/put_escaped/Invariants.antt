@@ -1,11 +1,11 @@
 use Rattle.std.proofs.Common.{length}
 use Rattle.sum_lines.specs.Escape.{escape}
-use Rattle.sum_lines.proofs.SinkLemmas.{Left}
+use Rattle.sum_lines.proofs.SinkLemmas.{HasLeft}
 use Rattle.sum_lines.proofs.escape.put_escaped.Given as goal
 
 abbrev pub invariant-loop-at : goal.invariant-loop-at
 invariant-loop-at g l =
-    Left (g.S.Sink.state l.fn.sink) (g.S.Sink.state l.sink) (escape l.name) (escape l.rest)
+    HasLeft (g.S.Sink.state l.fn.sink) (g.S.Sink.state l.sink) (escape l.name) (escape l.rest)
 
 abbrev pub decreases-loop-at : goal.decreases-loop-at
 decreases-loop-at g l = length l.rest

@@ -1,9 +1,9 @@
 use Rattle.std.proofs.Common.{length, ◌-◌}
-use Rattle.sum_lines.proofs.UnescapeLemmas.{Half}
+use Rattle.sum_lines.proofs.UnescapeLemmas.{IsHalfUnescaped}
 use Rattle.sum_lines.proofs.escape.unescape.Given as goal
 
 abbrev pub invariant-loop-read : goal.invariant-loop-read
-invariant-loop-read l = Half l.fn.bytes l.bytes l.read l.write
+invariant-loop-read l = IsHalfUnescaped l.fn.bytes l.bytes l.read l.write
 
 abbrev pub decreases-loop-read : goal.decreases-loop-read
 decreases-loop-read l = length l.initial.bytes - l.read

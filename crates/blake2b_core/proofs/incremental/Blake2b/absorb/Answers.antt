@@ -36,7 +36,7 @@ returns-clause-holds c = λ m held.
       taken = let taken = held.taken in omega arith;
       done = held.done + length bs;
       count = omega arith;
-      hash = c.chained-self.ensures s.len (m ++ front) held.done (whole ∙ sym held.taken)
+      hash = c.state_after-self.ensures s.len (m ++ front) held.done (whole ∙ sym held.taken)
           (next_blocks m piece held.done (length bs) whole fits are) hash;
       rest = held.rest ∙ drop_all (128 * held.done) m (omega arith)
           ∙ sym (drop_all (128 * (held.done + length bs)) (m ++ front) (omega arith));

@@ -17,4 +17,4 @@ returns-clause-digest c = λ m held.
     } in
     let total = c.from.ensures ∙ held.so_far.taken in
     rw (c.of_state.ensures.value, c.compress-h.ensures)
-    (blake2b-from s.len last held.so_far.hash c.zero_filled-last.ensures held.so_far.rest total)
+    (blake2b-from s.len last held.so_far.hash c.padded_block-last.ensures held.so_far.rest total)

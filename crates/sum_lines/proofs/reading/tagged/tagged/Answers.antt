@@ -1,7 +1,12 @@
 use Rattle.std.proofs.Common.{sym, arith, length, ◌∙◌}
 use Rattle.std.proofs.lemmas.Bool.{eqb-false}
 use Rattle.sum_lines.proofs.ScanLemmas.{decoded-size, digest_none, digest_other, front-ends, name_place, tagged-none, tagged-read}
+use Rattle.sum_lines.proofs.BeginningLemmas.{tag-begins}
 use Rattle.sum_lines.proofs.reading.tagged.tagged.Goals as goal
+
+-- the text begins with the tag
+pub of_tag_prefix-requires : goal.of_tag_prefix-requires
+of_tag_prefix-requires c = rw c.text_after-text.ensures (tag-begins _ c.requires.tag)
 
 -- another number of digits than the kind's digests have
 pub returns-then-digits-len-clause-parts : goal.returns-then-digits-len-clause-parts

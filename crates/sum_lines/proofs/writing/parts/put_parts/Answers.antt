@@ -2,7 +2,7 @@ use Rattle.std.proofs.Common.{arith}
 use Rattle.std.proofs.lemmas.List.{at_drop_more}
 use Rattle.std.proofs.lemmas.Result.{err_from_is_err_and}
 use Rattle.sum_lines.specs.refinement.PartTexts.{parts_text}
-use Rattle.sum_lines.proofs.SinkLemmas.{Left-step, Left-stop}
+use Rattle.sum_lines.proofs.SinkLemmas.{HasLeft-step, HasLeft-stop}
 use Rattle.sum_lines.proofs.writing.parts.put_parts.Goals as goal
 
 -- a part failed
@@ -10,10 +10,10 @@ pub returns-in_err-put_part : goal.returns-in_err-put_part
 returns-in_err-put_part g c =
     let failed = err_from_is_err_and c.from_residual.result c.from_residual.ensures.1 in
     let cut = at_drop_more parts_text c.args.parts.now c.loop-part.part-index _ (omega arith) in
-    rw failed.1 (Left-stop _ c.loop-part.invariant cut c.in_err-put_part.ensures)
+    rw failed.1 (HasLeft-stop _ c.loop-part.invariant cut c.in_err-put_part.ensures)
 
 -- a part was written
 pub loop-part-preserved : goal.loop-part-preserved
 loop-part-preserved g c =
     let cut = at_drop_more parts_text c.args.parts.now c.loop-part.part-index _ (omega arith) in
-    Left-step _ c.loop-part.invariant cut c.in_ok-put_part.ensures
+    HasLeft-step _ c.loop-part.invariant cut c.in_ok-put_part.ensures

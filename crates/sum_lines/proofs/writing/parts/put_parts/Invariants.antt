@@ -1,9 +1,9 @@
 use Rattle.std.proofs.Common.{drop}
 use Rattle.sum_lines.specs.refinement.PartTexts.{parts_text}
-use Rattle.sum_lines.proofs.SinkLemmas.{Left}
+use Rattle.sum_lines.proofs.SinkLemmas.{HasLeft}
 use Rattle.sum_lines.proofs.writing.parts.put_parts.Given as goal
 
 abbrev pub invariant-loop-part : goal.invariant-loop-part
 invariant-loop-part g l =
-    Left (g.S.Sink.state l.fn.sink) (g.S.Sink.state l.sink) (parts_text l.parts)
+    HasLeft (g.S.Sink.state l.fn.sink) (g.S.Sink.state l.sink) (parts_text l.parts)
     (parts_text (drop l.part-index l.parts))

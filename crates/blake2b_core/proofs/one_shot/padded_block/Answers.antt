@@ -1,6 +1,6 @@
 use Rattle.std.proofs.Common.{ℕ, List, ◌++◌, length, ap}
 use Rattle.std.proofs.lemmas.List.{drop-replicate}
-use Rattle.blake2b_core.proofs.one_shot.zero_filled.Goals as goal
+use Rattle.blake2b_core.proofs.one_shot.padded_block.Goals as goal
 
 -- the bytes, and zeros after them
 pub returns : goal.returns

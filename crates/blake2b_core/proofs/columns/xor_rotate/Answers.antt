@@ -1,5 +1,5 @@
 use Rattle.blake2b_core.proofs.ColumnLemmas.{shifts_rotate}
-use Rattle.blake2b_core.proofs.columns.rotated.Goals as goal
+use Rattle.blake2b_core.proofs.columns.xor_rotate.Goals as goal
 
 -- two shifts and an or
 pub returns : goal.returns

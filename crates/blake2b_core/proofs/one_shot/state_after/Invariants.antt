@@ -2,7 +2,7 @@ use Rattle.std.proofs.Common.{◌≡◌, ℕ, ◌+◌, ◌*◌, List}
 use Rattle.blake2b_core.specs.Digest.{blocks}
 use Rattle.blake2b_core.specs.refinement.Chaining.{hash_after}
 use Rattle.blake2b_core.specs.refinement.Holding.{AreBlocksFrom}
-use Rattle.blake2b_core.proofs.one_shot.chained.Given as goal
+use Rattle.blake2b_core.proofs.one_shot.state_after.Given as goal
 
 -- the blocks so far were compressed, whatever message they begin at block k of
 abbrev pub invariant-loop-block : goal.invariant-loop-block

@@ -10,9 +10,9 @@ use Rattle.std.proofs.lemmas.Option.{cond_some}
 use Rattle.std.proofs.lemmas.Slice.Eq.{bytes_eq-Decides}
 use Rattle.std.proofs.lemmas.Str.Parse.{IsDigitsTest, IsNumeralModel, digits_value_short, numerals_by_value}
 use Rattle.digest_kinds.specs.Kinds.{KindValue, blake2b_kind, blake2b_of_bits}
-use Rattle.sum_lines.specs.grammar.LineParts.{kind_at}
-use Rattle.sum_lines.specs.refinement.LinePartRanges.{number_of}
-use Rattle.sum_lines.proofs.PrefixLemmas.{map_some, none_of}
+use Rattle.digest_kinds.specs.KindTexts.{kind_of_digits}
+use Rattle.digest_kinds.specs.refinement.ShortNumbers.{short_number}
+use Rattle.digest_kinds.proofs.PrefixLemmas.{map_some, none_of}
 use Rattle.std.specs.Str.Parse.{digits_value}
 
 -- ---- the one number in a range that passes
@@ -31,8 +31,8 @@ range-found p a (suc n) i low high pass one = grind (arith, range-found p (a + 1
 -- ---- digits and the kind that they give
 
 -- the digits that `decimal` writes for a number of bits give its kind
-pub kind_at-bits : (len : ℕ) → 0 < len → len ≤ 64 → kind_at (decimal (8 * len)) ≡ Some (blake2b_kind len)
-kind_at-bits len some few =
+pub kind_of_digits-bits : (len : ℕ) → 0 < len → len ≤ 64 → kind_of_digits (decimal (8 * len)) ≡ Some (blake2b_kind len)
+kind_of_digits-bits len some few =
     let text : List ℕ = decimal (8 * len) in
     ap (option_map blake2b_kind)
     (range-found (λ n. bytes_eq (decimal (8 * n)) text) 1 64 len (omega arith) (omega arith)
@@ -41,7 +41,7 @@ kind_at-bits len some few =
     ((bytes_eq-Decides (decimal (8 * k)) text).0 h) in omega (arith, same)))
 
 -- a kind that digits give, and its number of bytes
-pub record BitsOf (ds : List ℕ) (kind : KindValue) : Type 0 where
+pub record AreBitsOf (ds : List ℕ) (kind : KindValue) : Type 0 where
   pub len : ℕ
   pub some : 0 < len
   pub few : len ≤ 64
@@ -49,8 +49,8 @@ pub record BitsOf (ds : List ℕ) (kind : KindValue) : Type 0 where
   pub digits : ds ≡ decimal (8 * len)
 
 -- digits that give a kind are those of its bits
-pub kind_at-some : (ds : List ℕ) (kind : KindValue) → kind_at ds ≡ Some kind → BitsOf ds kind
-kind_at-some ds kind h =
+pub kind_of_digits-some : (ds : List ℕ) (kind : KindValue) → kind_of_digits ds ≡ Some kind → AreBitsOf ds kind
+kind_of_digits-some ds kind h =
     let n = map_some blake2b_kind (find (λ n. bytes_eq (decimal (8 * n)) ds) (range_with_len 1 64)) h in
     let found = found-range (λ n. bytes_eq (decimal (8 * n)) ds) 1 64 n.0 n.1 in
     let low = found.0 in
@@ -64,24 +64,24 @@ kind_at-some ds kind h =
     }
 
 -- digits that are those of no such number give none
-pub kind_at-none : (ds : List ℕ) → ((len : ℕ) → 0 < len → len ≤ 64 → ds ≡ decimal (8 * len) → ⊥) → None ≡ kind_at ds
-kind_at-none ds none =
-    none_of (kind_at ds) (λ k h. let bits = kind_at-some ds k h in none bits.len bits.some bits.few bits.digits)
+pub kind_of_digits-none : (ds : List ℕ) → ((len : ℕ) → 0 < len → len ≤ 64 → ds ≡ decimal (8 * len) → ⊥) → None ≡ kind_of_digits ds
+kind_of_digits-none ds none =
+    none_of (kind_of_digits ds) (λ k h. let bits = kind_of_digits-some ds k h in none bits.len bits.some bits.few bits.digits)
 
 -- ---- the number that the code makes of digits
 
 -- a byte that is a digit
-abbrev Digit : ℕ → Type 0
-Digit x = is_ascii_digit x ≡ true
+abbrev IsDigit : ℕ → Type 0
+IsDigit x = is_ascii_digit x ≡ true
 
--- bytes that are digits, as the library knows them
+-- bytes that are digits, as the library has them
 digits-test : IsDigitsTest (AllPass is_ascii_digit)
 digits-test = record {
-  empty = All-nil Digit;
+  empty = All-nil IsDigit;
   parts = λ c cs all.
-      let range = and_parts _ _ (All-head Digit c cs all) in
-      ((leb-true 48 c range.0, leb-true c 57 range.1), All-tail Digit c cs all);
-  more = λ c cs range all. All-cons Digit c cs (and_from _ _ (le-leb 48 c range.0) (le-leb c 57 range.1)) all;
+      let range = and_parts _ _ (All-head IsDigit c cs all) in
+      ((leb-true 48 c range.0, leb-true c 57 range.1), All-tail IsDigit c cs all);
+  more = λ c cs range all. All-cons IsDigit c cs (and_from _ _ (le-leb 48 c range.0) (le-leb c 57 range.1)) all;
 }
 
 -- and the number that they write
@@ -93,8 +93,8 @@ pub decimal-digits : (len : ℕ) → len ≤ 64 → AllPass is_ascii_digit (deci
 decimal-digits len few = digits_decimal numerals (8 * len) (omega (arith, few))
 
 -- a number of bits that no digest has
-no_bits : (v : ℕ) → v < 1000 → ((len : ℕ) → len ≤ 64 → v ≡ 8 * len → ⊥) → None ≡ kind_at (decimal v)
-no_bits v few none = kind_at-none (decimal v)
+no_bits : (v : ℕ) → v < 1000 → ((len : ℕ) → len ≤ 64 → v ≡ 8 * len → ⊥) → None ≡ kind_of_digits (decimal v)
+no_bits v few none = kind_of_digits-none (decimal v)
     (λ len some most h. none len most (decimal_injective v (8 * len) (omega (arith, few)) (omega (arith, most)) h))
 
 -- the numbers of bits that the code accepts, and the kind that it makes of one
@@ -107,20 +107,20 @@ bits-refused : (v : ℕ) → 0 < v → result_ok (blake2b_of_bits v) ≡ None �
 bits-refused v some h whole few = grind arith
 
 -- so its test of a number is the one of its digits
-bits-kind : (v : ℕ) → 0 < v → v < 1000 → result_ok (blake2b_of_bits v) ≡ kind_at (decimal v)
+bits-kind : (v : ℕ) → 0 < v → v < 1000 → result_ok (blake2b_of_bits v) ≡ kind_of_digits (decimal v)
 bits-kind v some few = go (result_ok (blake2b_of_bits v)) refl
   where
-    go : (o : Option KindValue) → result_ok (blake2b_of_bits v) ≡ o → o ≡ kind_at (decimal v)
+    go : (o : Option KindValue) → result_ok (blake2b_of_bits v) ≡ o → o ≡ kind_of_digits (decimal v)
     go None h = no_bits v few (λ len most e. bits-refused v some h (omega (arith, e)) (omega (arith, most, e)))
     go (Some k) h =
         let is = bits-accepted v k some h in
         let eight : v ≡ 8 * (v / 8) = omega (arith, is.0) in
-        rw is.2 (sym (ap (λ n. kind_at (decimal n)) eight
-        ∙ kind_at-bits (v / 8) (omega (arith, some, is.0)) (omega (arith, is.1))))
+        rw is.2 (sym (ap (λ n. kind_of_digits (decimal n)) eight
+        ∙ kind_of_digits-bits (v / 8) (omega (arith, some, is.0)) (omega (arith, is.1))))
 
 -- a number that the code makes of digits is the one that they write
-pub number_kind : (ds : List ℕ) (v : ℕ) → AllPass is_ascii_digit ds → number_of ds ≡ Some v
-    → result_ok (blake2b_of_bits v) ≡ kind_at ds
+pub number_kind : (ds : List ℕ) (v : ℕ) → AllPass is_ascii_digit ds → short_number ds ≡ Some v
+    → result_ok (blake2b_of_bits v) ≡ kind_of_digits ds
 number_kind [] v all h = cc
 number_kind (d ∷ ds) v all h =
     let is = cond_some (not (d == 48) && nat_lt (length ds) 3) (digits_value 10 (d ∷ ds)) v h in
@@ -133,15 +133,15 @@ number_kind (d ∷ ds) v all h =
     let some : digits_value 10 (d ∷ ds) ≢ 0 = λ none.
     let zero : 48 ∷ [] ≡ d ∷ ds = sym (decimal_digit 0 (omega arith)) ∙ ap decimal (sym none) ∙ text in
     lead (sym (ap (λ l. get_or l 0 0) zero)) in
-    rw (← is.1) (bits-kind (digits_value 10 (d ∷ ds)) (omega (arith, some)) (omega (arith, most)) ∙ ap kind_at text)
+    rw (← is.1) (bits-kind (digits_value 10 (d ∷ ds)) (omega (arith, some)) (omega (arith, most)) ∙ ap kind_of_digits text)
 
 -- and if it makes none, no number of bits is written so
-number-there : (ds : List ℕ) → 48 < get_or ds 0 0 → length ds ≤ 3 → number_of ds ≡ None → ⊥
+number-there : (ds : List ℕ) → 48 < get_or ds 0 0 → length ds ≤ 3 → short_number ds ≡ None → ⊥
 number-there ds lead few h = grind arith
 
 -- so its digits give no kind
-pub number_none : (ds : List ℕ) → number_of ds ≡ None → None ≡ kind_at ds
-number_none ds h = kind_at-none ds (λ len some few is.
+pub number_none : (ds : List ℕ) → short_number ds ≡ None → None ≡ kind_of_digits ds
+number_none ds h = kind_of_digits-none ds (λ len some few is.
     let bits : 8 * len < 1000 = omega (arith, few) in
     number-there (decimal (8 * len)) (first_decimal (8 * len) (omega (arith, some)) (omega (arith, bits)))
     (length-decimal-le 3 (8 * len) (omega arith) bits (omega (arith, bits))) (rw is at h))

@@ -2,7 +2,7 @@ use Rattle.std.proofs.Common.{◌≡◌, ◌+◌, ◌*◌, ap, sym, ◌∙◌, a
 use Rattle.blake2b_core.specs.Digest.{blocks}
 use Rattle.blake2b_core.specs.refinement.Chaining.{hash_after}
 use Rattle.blake2b_core.proofs.BlockLemmas.{hash_after-more}
-use Rattle.blake2b_core.proofs.one_shot.chained.Goals as goal
+use Rattle.blake2b_core.proofs.one_shot.state_after.Goals as goal
 
 -- one more block
 pub loop-block-preserved : goal.loop-block-preserved

@@ -1,0 +1,100 @@
+-- What follows a tag is read as the width of a kind, and the text of a kind names it.
+use Rattle.std.proofs.Common.{ℕ, ◌↔◌, ◌≤◌, IsUtf8, codes, append-nil, ◌≡◌, true, false, ◌==◌, List, [], ◌∷◌, ◌++◌, length, drop, Some, refl, ap, sym, ◌∙◌, inl, inr, arith, rules, take_while, option_map, decimal, ◌*◌}
+use Rattle.std.proofs.lemmas.Grind.{common_steps}
+use Rattle.std.specs.Char.{is_ascii_digit}
+use Rattle.std.specs.List.{AllPass}
+use Rattle.std.proofs.lemmas.Bool.{and_from, le-leb}
+use Rattle.std.proofs.lemmas.Bool.Decides.{eqb_tells}
+use Rattle.std.proofs.lemmas.Option.{same_Some}
+use Rattle.std.proofs.lemmas.Fmt.{IsAscii-decimal, length-decimal-le}
+use Rattle.std.proofs.lemmas.Str.{IsAscii-append, IsUtf8-from_ascii}
+use Rattle.std.proofs.lemmas.List.{drop_at}
+use Rattle.std.proofs.lemmas.List.Prefix.{front_rest}
+use Rattle.digest_kinds.proofs.TagLemmas.{find-begins}
+use Rattle.digest_kinds.proofs.KindLemmas.{has_len-full, has_len-range}
+use Rattle.digest_kinds.specs.Basics.{after_while}
+use Rattle.digest_kinds.specs.Kinds.{Algo, Blake2b, KindValue, BeginsWithTag, full_kind, full_len, has_len, tag}
+use Rattle.digest_kinds.specs.KindTexts.{IsWidth, NamesKind, kind_and_rest, kind_of_digits, kind_text}
+use Rattle.digest_kinds.proofs.BitsLemmas.{kind_of_digits-bits, kind_of_digits-some, decimal-digits}
+use Rattle.digest_kinds.proofs.PrefixLemmas.{map_some, prefix-and-rest, prefix_len-all}
+
+-- what follows an algorithm's tag is the width of a kind of that algorithm, and then what is left
+pub record HasWidth (a : Algo) (s : List ℕ) (w : KindValue × List ℕ) : Type 0 where
+  pub is_algo : w.0.algo ≡ a
+  pub width : List ℕ
+  pub is_width : IsWidth w.0 width
+  pub whole : s ≡ width ++ w.1
+
+-- nothing, for the full length
+width-none : (a : Algo) (s : List ℕ) (w : KindValue × List ℕ) → Some (full_kind a, s) ≡ Some w → HasWidth a s w
+width-none a s w h = rw (← same_Some (full_kind a, s) w h)
+    (record { is_algo = refl; width = []; is_width = inl (refl, refl); whole = refl })
+
+-- the bits of BLAKE2b
+width-bits : (s : List ℕ) (w : KindValue × List ℕ)
+    → option_map (λ k. (k, after_while is_ascii_digit s)) (kind_of_digits (take_while is_ascii_digit s)) ≡ Some w
+    → HasWidth Blake2b (45 ∷ s) w
+width-bits s w h =
+    let k = map_some (λ k. (k, after_while is_ascii_digit s)) (kind_of_digits (take_while is_ascii_digit s)) h in
+    let bits = kind_of_digits-some (take_while is_ascii_digit s) k.0 k.1 in
+    let has : has_len Blake2b bits.len ≡ true =
+    and_from _ _ (le-leb 1 bits.len bits.some) (le-leb bits.len 64 bits.few) in
+    rw (← k.2, bits.is) (record {
+      is_algo = refl;
+      width = 45 ∷ take_while is_ascii_digit s;
+      is_width = inr (ap (λ l. 45 ∷ l) bits.digits, refl, has);
+      whole = ap (λ l. 45 ∷ l) (prefix-and-rest is_ascii_digit s);
+    })
+
+-- either of them, as a `-` follows BLAKE2b's tag or not
+pub kind_and_rest-some : (a : Algo) (s : List ℕ) (w : KindValue × List ℕ) → kind_and_rest a s ≡ Some w → HasWidth a s w
+kind_and_rest-some Blake2b [] w h = width-none Blake2b [] w h
+kind_and_rest-some Blake2b (b ∷ bs) w h = elim (eqb_tells b 45) [
+  | inl same ↦ rw same.1 (width-bits bs w (rw same.0 at h))
+  | inr other ↦ width-none Blake2b (b ∷ bs) w (rw other.0 at h)
+]
+kind_and_rest-some a s w h = width-none a s w h
+
+-- ---- the width of a kind, and nothing after it
+
+-- digits alone are all that is taken of them
+digits-alone : (ds : List ℕ) → AllPass is_ascii_digit ds
+    → (take_while is_ascii_digit ds ≡ ds) × (after_while is_ascii_digit ds ≡ [])
+digits-alone ds all = grind (arith, common_steps, prefix_len-all)
+
+-- the width of a kind is read as that kind
+pub kind_and_rest-alone : (kind : KindValue) (width : List ℕ) → IsWidth kind width
+    → kind_and_rest kind.algo width ≡ Some (kind, [])
+kind_and_rest-alone kind width is = search (rules, digits-alone, decimal-digits, kind_of_digits-bits)
+
+-- so a text that begins with a tag names the kind that is read after the tag, if nothing follows
+pub names-read : (s : List ℕ) (a : Algo) → BeginsWithTag s a → (kind : KindValue)
+    → NamesKind s kind ↔ (kind_and_rest a (drop (length (tag a)) s) ≡ Some (kind, []))
+names-read s a begun kind = (
+  λ named.
+      let first = rw (← named.1) at (find-begins kind.algo named.0) in
+      let second = rw (← begun.1) at (find-begins a begun.0) in
+      let same : kind.algo ≡ a = same_Some kind.algo a (sym first ∙ second) in
+      rw (← same, named.1, drop_at (tag kind.algo) named.0 (length (tag kind.algo)) refl)
+      (kind_and_rest-alone kind named.0 named.2),
+  λ read.
+      let has = kind_and_rest-some a (drop (length (tag a)) s) (kind, []) read in
+      let whole : s ≡ tag a ++ drop (length (tag a)) s = rw (front_rest s (tag a) begun.0 begun.1) begun.1 in
+      let text = ap (λ l. tag a ++ l) (has.whole ∙ append-nil has.width) in
+      (has.width, whole ∙ text ∙ ap (λ b. tag b ++ has.width) (sym has.is_algo), has.is_width),
+)
+
+-- ---- the text of a kind
+
+-- only a BLAKE2b kind isn't full
+pub kind_text_short : (kind : KindValue) → has_len kind.algo kind.len ≡ true → (kind.len == full_len kind.algo) ≡ false
+    → codes "BLAKE2b-" ++ decimal (8 * kind.len) ≡ kind_text kind
+kind_text_short kind has short = grind (arith, has_len-full)
+
+-- its bits have at most three digits
+pub length_bits : (len : ℕ) → len ≤ 64 → length (decimal (8 * len)) ≤ 3
+length_bits len few = length-decimal-le 3 (8 * len) (omega arith) (omega (arith, few)) (omega (arith, few))
+
+-- the text is ASCII
+pub IsUtf8-kind_text : (kind : KindValue) → has_len kind.algo kind.len ≡ true → IsUtf8 (kind_text kind)
+IsUtf8-kind_text kind has = search (rules, IsUtf8-from_ascii, IsAscii-append, IsAscii-decimal, has_len-range)

@@ -1,0 +1,62 @@
+-- Options that have something, and the longest prefix that passes.
+use Rattle.std.proofs.Common.{ℕ, ◌≡◌, Bool, true, false, List, [], ◌∷◌, ◌++◌, length, Option, None, Some, Result, Ok, refl, sym, arith, inl, inr, take_while, option_map}
+use Rattle.std.specs.List.{AllPass, prefix_len}
+use Rattle.std.specs.Result.{result_ok}
+use Rattle.std.proofs.lemmas.Bool.{cases_Bool}
+use Rattle.std.proofs.lemmas.List.{take-append-drop, take_at, drop_at}
+use Rattle.std.proofs.lemmas.List.Sums.{take_while-cons}
+use Rattle.std.proofs.lemmas.List.Elements.{All-cons, All-head, All-tail, All-nil}
+use Rattle.digest_kinds.specs.Basics.{◌>>=◌, after_while}
+
+-- a step that gives something had something to go on with
+pub bind_some : {A B : Type 0} {y : B} (o : Option A) (f : A → Option B) → (o >>= f) ≡ Some y
+    → (x : A) × (o ≡ Some x) × (f x ≡ Some y)
+bind_some o f h = grind arith
+
+-- a mapped option has what its own element gives
+pub map_some : {A B : Type 0} {y : B} (f : A → B) (o : Option A) → option_map f o ≡ Some y
+    → (x : A) × (o ≡ Some x) × (f x ≡ y)
+map_some f o h = grind arith
+
+-- a result that gives something is good
+pub ok_some : {X E : Type 0} (r : Result X E) (x : X) → result_ok r ≡ Some x → r ≡ Ok x
+ok_some r x h = grind arith
+
+-- what cannot give anything gives nothing
+pub none_of : {A : Type 0} (o : Option A) → ((x : A) → o ≡ Some x → ⊥) → None ≡ o
+none_of o h = grind arith
+
+-- ---- the longest prefix that passes
+
+-- its bytes pass
+pub prefix_passes : (p : ℕ → Bool) (xs : List ℕ) → AllPass p (take_while p xs)
+prefix_passes p [] = All-nil (λ x. p x ≡ true)
+prefix_passes p (x ∷ xs) = elim (cases_Bool (p x)) [
+  | inl pass ↦ rw (take_while-cons p x xs, pass)
+      (All-cons (λ x. p x ≡ true) x (take_while p xs) pass (prefix_passes p xs))
+  | inr stop ↦ rw (take_while-cons p x xs, stop) (All-nil (λ x. p x ≡ true))
+]
+
+-- it joins with what follows it
+pub prefix-and-rest : (p : ℕ → Bool) (xs : List ℕ) → xs ≡ take_while p xs ++ after_while p xs
+prefix-and-rest p xs = sym (take-append-drop (prefix_len p xs) xs)
+
+-- it ends at the first byte that doesn't pass
+pub prefix_len-stop : (p : ℕ → Bool) (xs : List ℕ) (y : ℕ) (ys : List ℕ) → AllPass p xs → p y ≡ false
+    → prefix_len p (xs ++ (y ∷ ys)) ≡ length xs
+prefix_len-stop p [] y ys all stop = rw stop refl
+prefix_len-stop p (x ∷ xs) y ys all stop =
+    grind (arith, prefix_len-stop p xs y ys (All-tail (λ x. p x ≡ true) x xs all), All-head)
+
+-- or else at the end
+pub prefix_len-all : (p : ℕ → Bool) (xs : List ℕ) → AllPass p xs → prefix_len p xs ≡ length xs
+prefix_len-all p [] all = refl
+prefix_len-all p (x ∷ xs) all =
+    let head : p x ≡ true = All-head (λ x. p x ≡ true) x xs all in
+    let more = prefix_len-all p xs (All-tail (λ x. p x ≡ true) x xs all) in
+    rw head (omega arith)
+
+-- so that byte parts the prefix from the rest
+pub parts-at : (p : ℕ → Bool) (xs : List ℕ) (y : ℕ) (ys : List ℕ) → AllPass p xs → p y ≡ false
+    → (take_while p (xs ++ (y ∷ ys)) ≡ xs) × (after_while p (xs ++ (y ∷ ys)) ≡ y ∷ ys)
+parts-at p xs y ys all stop = grind (arith, prefix_len-stop, take_at, drop_at)

@@ -1,0 +1,37 @@
+-- The texts that name kinds: a tag and, for BLAKE2b, the digest's bits.
+use Rattle.std.specs.Prelude.{◌≡◌, ◌*◌, ◌⊎◌, ◌==◌, [], ◌∷◌, ◌++◌, codes, IsTrue, Option, Some, option_map, if◌then◌else◌, decimal, bytes_eq, find, take_while}
+use Rattle.std.specs.Char.{is_ascii_digit}
+use Rattle.std.specs.List.{range_with_len}
+use Rattle.digest_kinds.specs.Basics.{ByteString, after_while}
+use Rattle.digest_kinds.specs.Kinds.{Algo, Blake2b, KindValue, blake2b_kind, full_kind, full_len, has_len, tag}
+
+-- the text that names a kind: the tag and, for a BLAKE2b digest that isn't full, its bits, as `BLAKE2b-256`
+abbrev pub kind_text : KindValue → ByteString
+kind_text kind = tag kind.algo ++ (if kind.len == full_len kind.algo then [] else codes "-" ++ decimal (8 * kind.len))
+
+-- What may follow the tag directly: nothing for the full length; for BLAKE2b a `-` and the number of bits, which are 8
+-- to 512, in decimal.
+abbrev pub IsWidth : KindValue → ByteString → Type 0
+IsWidth kind width = ((width ≡ []) × (kind.len ≡ full_len kind.algo))
+    ⊎ ((width ≡ codes "-" ++ decimal (8 * kind.len)) × (kind.algo ≡ Blake2b) × IsTrue (has_len Blake2b kind.len))
+
+-- the text names the kind: as `kind_text` does, or by `BLAKE2b-512`
+abbrev pub NamesKind : ByteString → KindValue → Type 0
+NamesKind text kind = (width : ByteString) × (text ≡ tag kind.algo ++ width) × IsWidth kind width
+
+-- the text of each kind names it
+abbrev pub TextsNameKinds : Type 0
+TextsNameKinds = (kind : KindValue) → IsTrue (has_len kind.algo kind.len) → NamesKind (kind_text kind) kind
+
+-- ---- computed: these need not be believed
+
+-- BLAKE2b with as many bits as these digits write
+abbrev pub kind_of_digits : ByteString → Option KindValue
+kind_of_digits ds = option_map blake2b_kind (find (λ n. bytes_eq (decimal (8 * n)) ds) (range_with_len 1 64))
+
+-- the kind that follows a tag, and what follows that: for BLAKE2b a `-` (45) may precede its bits
+abbrev pub kind_and_rest : Algo → ByteString → Option (KindValue × ByteString)
+kind_and_rest Blake2b (b ∷ bs) =
+    if b == 45 then option_map (λ k. (k, after_while is_ascii_digit bs)) (kind_of_digits (take_while is_ascii_digit bs))
+    else Some (full_kind Blake2b, b ∷ bs)
+kind_and_rest a s = Some (full_kind a, s)
