@@ -12,7 +12,7 @@ use Rattle.sum_lines.specs.declared.writing.put_line.Mode.{Mode}
 use Rattle.sum_lines.specs.Escape.{escape}
 use Rattle.sum_lines.specs.Lines.{line}
 use Rattle.sum_lines.specs.grammar.Entries.{EntryValue, IsEntry, form}
-use Rattle.sum_lines.specs.grammar.LineLaws.{ReadBy, Writable}
+use Rattle.sum_lines.specs.grammar.LineLaws.{AllowsMode, IsWritable}
 use Rattle.sum_lines.proofs.PutLineLemmas.{prefix_of, read_back}
 use Rattle.sum_engine.specs.Behavior.{Whole, is_dash}
 use Rattle.sum_sources.specs.Contents.{Content, limit}
@@ -37,7 +37,7 @@ written_text i = line (record { mode = i.mode; zero = false }) i.kind i.name (di
 
 -- it is read back, and its file still has these bytes
 pub record Listed (algos : Algos) (answer : List ℕ → Answer) (i : Item) : Type 0 where
-  pub read_by : ReadBy algos i.mode i.kind.algo
+  pub read_by : AllowsMode algos i.mode i.kind.algo
   pub has : IsTrue (has_len i.kind.algo i.kind.len)
   pub some : 0 < length i.name
   pub no_nul : All (λ b. 0 < b) i.name
@@ -55,7 +55,7 @@ spelled_for i = record { kind = i.kind; digest = digest i.kind i.bytes; name = i
 
 -- it can be written so that it is read back
 writable : (algos : Algos) (answer : List ℕ → Answer) (i : Item) → Listed algos answer i
-    → Writable i.kind i.name (digest i.kind i.bytes)
+    → IsWritable i.kind i.name (digest i.kind i.bytes)
 writable algos answer i h = search (rules, IsBytes-digest, length-digest)
 
 -- ---- each line is read back

@@ -13,7 +13,7 @@ use Rattle.sum_engine.specs.check.Checking.{check_behavior_by}
 
 -- the profile of older versions
 abbrev pub older : Profile
-older = record { escapes_return = false; drops_return = false; ignores_empty = false }
+older = record { escapes_carriage_return = false; drops_carriage_return = false; ignores_empty = false }
 
 -- the same rules under a profile
 abbrev pub rules_under : Profile → Rules → Rules

@@ -61,7 +61,7 @@ asks_of j = asks_by j.verdict j.name
 
 -- the lines of a content, each without one carriage return at its end, unless the profile drops none
 abbrev pub lines_by : Profile → Content → List (List ℕ)
-lines_by p c = if p.drops_return then lines c else raw_lines c
+lines_by p c = if p.drops_carriage_return then lines c else raw_lines c
 
 -- the verdicts of the lines after line n in a manifest of that form, each after the asks of those before it
 abbrev pub verdicts : Rules → Form → World → ℕ → List (List ℕ) → List LineVerdictValue

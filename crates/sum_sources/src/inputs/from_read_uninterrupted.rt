@@ -5,10 +5,8 @@ ghost use Rattle.std.specs.Io.KnownBytes.{ReadConsumes};
 ghost use Rattle.sum_sources.specs.Phases.{phase_after};
 
 use crate::{Fault, FromRead, Input};
+use digest_kinds::INTERRUPTIONS;
 use std::io::Read;
-
-/// How many interruptions in a row are a fault.
-const INTERRUPTIONS: u32 = 1000;
 
 impl<R: Read> Input for FromRead<R> {
     ghost use Rattle.std.specs.Prelude.{None};
