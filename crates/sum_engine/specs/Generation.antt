@@ -1,7 +1,7 @@
 -- The behavior of hashing one name.
 use Rattle.std.specs.Prelude.{ℕ, true, false, List, [], ◌∷◌, codes, Result, Ok, Err}
 use Rattle.std.specs.List.{concat}
-use Rattle.sum_engine.specs.Behavior.{Fault, World, reply, digest_or_fault, Behavior, single_step}
+use Rattle.sum_engine.specs.Behavior.{Fault, World, answer_to, digest_or_fault, Behavior, single_step}
 use Rattle.sum_sources.specs.Faults.{fault_text}
 use Rattle.sum_lines.specs.Lines.{line}
 pub use Rattle.sum_engine.specs.declared.settings.Settings.{Settings}
@@ -22,4 +22,4 @@ generate_behavior_by s tool name (Err f) = single_step (name ∷ []) (fault_line
 
 -- the behavior of hashing a name in a world
 abbrev pub generate_behavior : Settings → List ℕ → World → List ℕ → Behavior
-generate_behavior s tool w name = generate_behavior_by s tool name (digest_or_fault s.kind (reply w name))
+generate_behavior s tool w name = generate_behavior_by s tool name (digest_or_fault s.kind (answer_to w name))

@@ -39,7 +39,7 @@ pub(crate) fn is_dash(name: &[u8]) -> bool
 
 ghost use Rattle.sum_engine.specs.refinement.HashName.{HashesName, IsRead, RefusedUnless, UnlessBroken};
 ghost use Rattle.sum_engine.specs.refinement.HashName.{HasKindLen, digest_of_outcome};
-ghost use Rattle.sum_engine.specs.Execution.{InSomeWorld, AskedMore, KeepsStdin, ReadToEnd, Reading, Ended};
+ghost use Rattle.sum_engine.specs.Execution.{InSomeWorld, AskedMore, KeepsStdin, ReadToEnd, Unfinished, AtEnd};
 
 /// Opens the name (`-` is standard input) and hashes it, through the buffer. `None` if the source is out of memory; the
 /// name is then not recorded as asked.
@@ -85,7 +85,7 @@ fn read_digest<F: Input, H: Hasher + Drop>(
     requires { H.holds hasher [] }
     ensures outcome { (c : Content) × IfSome (F.state file.old).content (λ d. c ≡ d)
         × IsRead (H.kind_of hasher) c result }
-    ensures phase { UnlessBroken (Some result) ((F.state file.old).phase ≡ Reading → (F.state file.new).phase ≡ Ended) }
+    ensures phase { UnlessBroken (Some result) ((F.state file.old).phase ≡ Unfinished → (F.state file.new).phase ≡ AtEnd) }
     ensures digest_len { HasKindLen (H.kind_of hasher) (Some result) }
 {
     match hash_input_over(file, hasher, buffer) {

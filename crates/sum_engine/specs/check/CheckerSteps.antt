@@ -3,7 +3,8 @@ use Rattle.std.specs.Prelude.{ℕ, Bool, true, false, ◌≡◌, List, [], ◌�
 pub use Rattle.sum_engine.specs.declared.check.progress.Progress.{Progress}
 pub use Rattle.sum_engine.specs.declared.check.progress.Progress.TheVariants.{Going, Ended}
 use Rattle.sum_sources.specs.declared.line_reader.LineStop.TheVariants.{Fault, Memory}
-use Rattle.sum_sources.specs.Contents.{SourceState, InputState}
+use Rattle.sum_sources.specs.Sources.{SourceState}
+use Rattle.sum_sources.specs.Contents.{InputState}
 use Rattle.sum_engine.specs.check.Verdicts.{Rules}
 use Rattle.sum_engine.specs.Execution.{Stop, Write, WorldState, PerformsSteps, StreamsState, IsFlushed, FailuresMatch, NoOutputOnMemory, in_world}
 use Rattle.sum_engine.specs.check.Reports.{LabelsValue, good}

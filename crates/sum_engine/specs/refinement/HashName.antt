@@ -1,10 +1,11 @@
 -- Relates hashing one name to the world.
 use Rattle.std.specs.Prelude.{ℕ, ◌≡◌, List, [], ◌∷◌, length, Option, None, Some, Result, Ok, Err, ⊤}
 use Rattle.digest_kinds.specs.Kinds.{KindValue}
-use Rattle.sum_sources.specs.Contents.{Content, Reply, SourceState}
+use Rattle.sum_sources.specs.Contents.{Content}
+use Rattle.sum_sources.specs.Sources.{Answer, SourceState}
 use Rattle.digest_kinds.specs.Limits.{one_more}
 pub use Rattle.sum_engine.specs.declared.hash_name.HashOutcome.{HashOutcome}
-use Rattle.sum_engine.specs.Behavior.{Fault, World, after, digest_or_fault, reply}
+use Rattle.sum_engine.specs.Behavior.{Fault, World, after, digest_or_fault, answer_to}
 use Rattle.sum_engine.specs.declared.hash_name.HashOutcome.TheVariants as asked
 
 -- the digest of an outcome, or the fault of opening or reading
@@ -13,8 +14,8 @@ digest_of_outcome (asked.Read d) = Ok d
 digest_of_outcome (asked.NotOpened f) = Err f
 digest_of_outcome (asked.Broken f) = Err f
 
--- the outcome of a reply
-abbrev pub IsHashOutcome : KindValue → Reply → HashOutcome → Type 0
+-- the outcome of a answer
+abbrev pub IsHashOutcome : KindValue → Answer → HashOutcome → Type 0
 IsHashOutcome kind r (asked.Read d) = (c : Content) × (r ≡ Ok c) × (digest_or_fault kind (Ok c) ≡ Ok d)
 IsHashOutcome kind r (asked.NotOpened f) = r ≡ Err f
 IsHashOutcome kind r (asked.Broken f) = (c : Content) × (r ≡ Ok c) × (digest_or_fault kind (Ok c) ≡ Err f)
@@ -28,7 +29,7 @@ IsRead kind c (asked.Broken f) = digest_or_fault kind (Ok c) ≡ Err f
 -- the name was asked, with this outcome; without memory it wasn't asked
 abbrev pub HashesName : KindValue → World → World → List ℕ → Option HashOutcome → Type 0
 HashesName kind w v name None = v ≡ w
-HashesName kind w v name (Some a) = (v ≡ after w (name ∷ [])) × IsHashOutcome kind (reply w name) a
+HashesName kind w v name (Some a) = (v ≡ after w (name ∷ [])) × IsHashOutcome kind (answer_to w name) a
 
 -- P, unless reading the file failed
 abbrev pub UnlessBroken : Option HashOutcome → Type 0 → Type 0
@@ -42,5 +43,5 @@ HasKindLen kind outcome = ⊤
 
 -- `None` only if the source was refused memory, which is one refusal more
 abbrev pub RefusedUnless : {A : Type 0} → SourceState → SourceState → Option A → Type 0
-RefusedUnless a b None = b.refusals ≡ one_more a.refusals
-RefusedUnless a b (Some x) = b.refusals ≡ a.refusals
+RefusedUnless a b None = b.counts.refusals ≡ one_more a.counts.refusals
+RefusedUnless a b (Some x) = b.counts.refusals ≡ a.counts.refusals

@@ -1,5 +1,5 @@
 use Rattle.std.proofs.Common.{refl, ap, Ok, Err}
-use Rattle.sum_engine.specs.Behavior.{reply, digest_or_fault}
+use Rattle.sum_engine.specs.Behavior.{answer_to, digest_or_fault}
 use Rattle.sum_engine.specs.Execution.{InputsState}
 use Rattle.sum_engine.specs.Generation.{generate_behavior}
 use Rattle.sum_engine.proofs.ExecutionLemmas.{asks_name}
@@ -17,7 +17,7 @@ returns-in-None-clause-behavior g c =
     let kept = ap (λ (m : InputsState g.row.S.Denot). m.stdin_taken) c.in-None.ensures.stdin_kept in
     Performs-refused g.S.Source.state (λ w. generate_behavior settings tool w name) (λ g. g) c.args.streams.now
     (record c.args.streams.now { inputs = c.hash_name.new.inputs })
-    (λ w. one_step settings tool name (digest_or_fault settings.kind (reply w name))) c.in-None.ensures.outcome
+    (λ w. one_step settings tool name (digest_or_fault settings.kind (answer_to w name))) c.in-None.ensures.outcome
     c.in-None.ensures.asked kept refl c.in-None.ensures.refusals
 
 -- the name was read, and its line written
