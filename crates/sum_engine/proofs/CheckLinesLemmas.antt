@@ -1,15 +1,18 @@
 -- `check_lines`: a new checker runs to its end. What happened so far and what remains is the whole behavior (`IsAlong`).
 -- A step that goes on keeps this. The step that ends or stops proves the contract by it.
-use Rattle.std.proofs.Common.{rules, ◌+◌, ◌<◌, ◌≡◌, ℕ, Bool, List, [], ◌∷◌, length, Option, None, Some, Result, Ok, Err, refl, sym, ◌∙◌, subst, option_map, IfSome, MatchOption, arith}
+use Rattle.sum_sources.specs.declared.line_reader.Next.TheVariants.{NoMore}
+use Rattle.sum_engine.specs.check.NextVerdict.{VerdictResult, LineVerdict, counts_after, UnlessUnread, MemoryStopHasCause}
+use Rattle.std.proofs.Common.{rules, ◌+◌, ◌<◌, ◌≡◌, ℕ, Bool, List, [], ◌∷◌, length, Option, None, Some, Result, Ok, Err, refl, sym, ◌∙◌, subst, option_map, IfSome, MatchOption, arith, true, ◌≤◌}
 use Rattle.sum_engine.specs.Behavior.{World, Step, Behavior}
 use Rattle.sum_sources.specs.Contents.{Content, InputState, clip, limit}
 use Rattle.sum_sources.specs.Sources.{SourceState}
-use Rattle.sum_engine.specs.check.CheckerSteps.{Progress, Going, Ended, CheckState, initial_state, IsAtStart, StepIs, TakesStep, step_then, progress_before, remaining_behavior, CursorValue, CheckerValue, AdvancesChecker, state_at, InSomeCheck}
-use Rattle.sum_sources.specs.LineReaders.{MayRemain, IsBounded, consumed_count, IsReadSoFar}
+use Rattle.sum_engine.specs.check.CheckStates.{CheckState, initial_state, IsAtStart, remaining_behavior, CursorValue, state_at, InSomeCheck}
+use Rattle.sum_engine.specs.check.CheckerSteps.{Progress, Going, Ended, StepIs, TakesStep, step_then, progress_before, CheckerValue, AdvancesChecker, step_answer}
+use Rattle.sum_sources.specs.LineReaders.{MayRemain, IsBounded, consumed_count, IsReadSoFar, remaining_content}
 use Rattle.sum_sources.proofs.ContentLemmas.{clip-short, limit-value}
 use Rattle.sum_engine.specs.check.CheckerLaws.{ManifestPerforms}
 use Rattle.sum_engine.specs.check.Verdicts.{Rules, all_verdicts}
-use Rattle.sum_engine.specs.Execution.{Unfinished, Stop, StreamsState, IsFlushed, WorldState, in_world, PerformsSteps}
+use Rattle.sum_engine.specs.Execution.{Unfinished, Stop, StreamsState, IsFlushed, WorldState, in_world, PerformsSteps, RefusalsMatch, ReadToEnd, OneMoreAtMost}
 use Rattle.sum_engine.specs.check.Reports.{LabelsValue}
 use Rattle.sum_engine.specs.check.Checking.{content_behavior}
 use Rattle.sum_engine.proofs.CountLemmas.{counts_then-none}
@@ -64,6 +67,51 @@ along_last c step later (Ok good) h is k =
     (last.1 ∙ all.0, all.1)
 along_last {whole} c step later (Err stop) h is k =
     along_stops c whole.good (progress_before later.steps later.good) step later stop h is k
+
+-- ---- what follows of a step, by what it returned
+
+module _ {I S : Type 0} {input : I → InputState} {source : S → SourceState} {vector : List ℕ} {p q : CheckerValue I}
+    {a b : StreamsState S} where
+  -- a line was handled
+  pub step-number : AdvancesChecker input source vector p q a b (Ok Going)
+      → q.cursor.reader.lines ≡ p.cursor.reader.lines + 1
+  step-number h = by h.found h.failed h.answer h.verdict.cursor.number
+    where
+      by : (found : VerdictResult) (failed : Bool) → Ok Going ≡ step_answer q.cursor found failed
+          → ((v : LineVerdict) → found ≡ Ok (Some v) → q.cursor.reader.lines ≡ p.cursor.reader.lines + 1)
+          → q.cursor.reader.lines ≡ p.cursor.reader.lines + 1
+      by found failed is number = search rules
+
+  -- a good manifest is at the end of its input, and has no file that could not be read
+  pub step-good : AdvancesChecker input source vector p q a b (Ok (Ended true))
+      → (q.cursor.reader.final_answer ≡ Some (Ok NoMore)) × (q.cursor.counts.unread ≡ 0)
+  step-good h = by h.found h.failed h.answer h.verdict.cursor.end
+    where
+      by : (found : VerdictResult) (failed : Bool) → Ok (Ended true) ≡ step_answer q.cursor found failed
+          → (found ≡ Ok None → q.cursor.reader.final_answer ≡ Some (Ok NoMore))
+          → (q.cursor.reader.final_answer ≡ Some (Ok NoMore)) × (q.cursor.counts.unread ≡ 0)
+      by found failed is end = search rules
+
+  -- the listed file that was opened was read to its end, unless it is one more that could not be read
+  pub step-files : {x : Result Progress Stop} → AdvancesChecker input source vector p q a b x
+      → (p.cursor.counts.unread ≤ q.cursor.counts.unread)
+      × (q.cursor.counts.unread ≡ p.cursor.counts.unread → ReadToEnd source a.inputs b.inputs)
+  step-files h = by h.found (ReadToEnd source a.inputs b.inputs) h.verdict.cursor.counts h.verdict.read_to_end
+    where
+      by : (found : VerdictResult) (P : Type 0) → q.cursor.counts ≡ counts_after p.cursor.counts found
+          → UnlessUnread found P → (p.cursor.counts.unread ≤ q.cursor.counts.unread)
+          × (q.cursor.counts.unread ≡ p.cursor.counts.unread → P)
+      by found P counts read = search (rules, arith)
+
+  -- the source was refused memory only if that stopped the step
+  pub step-refusals : {x : Result Progress Stop} → AdvancesChecker input source vector p q a b x
+      → RefusalsMatch source OneMoreAtMost a.inputs b.inputs x
+  step-refusals {x} h = by h.found h.failed h.answer h.verdict.out_of_memory
+    where
+      by : (found : VerdictResult) (failed : Bool) → x ≡ step_answer q.cursor found failed
+          → MemoryStopHasCause (source a.inputs.source) (source b.inputs.source) (remaining_content input p.cursor.reader) found
+          → RefusalsMatch source OneMoreAtMost a.inputs b.inputs x
+      by found failed is cause = search rules
 
 -- ---- from the first step on
 
@@ -122,10 +170,10 @@ module _ {I S : Type 0} (input : I → InputState) (state : S → SourceState) (
 
     -- a step that goes on comes one line further
     pub IsAlong-more : (q next : CheckerValue I) (n o : StreamsState S) (vector : List ℕ) → IsAlong q n
-        → AdvancesChecker input state q next n o (Ok Going) → (IsFlushed n.outputs → IsFlushed o.outputs)
+        → AdvancesChecker input state vector q next n o (Ok Going) → (IsFlushed n.outputs → IsFlushed o.outputs)
         → TakesStep input state vector q.labels q.cursor next.cursor n o (Ok Going) → IsAlong next o
     IsAlong-more q next n o vector h advances flushed step = record {
-      rules = advances.cursor.rules ∙ h.rules;
+      rules = advances.verdict.cursor.rules ∙ h.rules;
       labels = advances.labels ∙ h.labels;
       flushed = λ all. flushed (h.flushed all);
       happened = one_more_step next o vector (Ok Going) h step (λ a b d t along step.

@@ -6,8 +6,7 @@ use Rattle.std.proofs.Math.Bool.{or-false}
 use Rattle.sum_engine.specs.Behavior.{Fault, World, is_dash, answer_to, after, Step, Behavior, events_of}
 use Rattle.sum_sources.specs.declared.sources.source.OpenFault.{OpenFault}
 use Rattle.sum_sources.specs.Contents.{Content, InputState, IfKnown, clip}
-use Rattle.sum_sources.specs.Sources.{closed_state}
-use Rattle.sum_sources.specs.Sources.{OpensName, SourceState, Answer}
+use Rattle.sum_sources.specs.Sources.{OpensName, SourceState, Answer, closed_state}
 use Rattle.digest_kinds.specs.Limits.{one_more}
 use Rattle.sum_lines.specs.Escape.{present}
 use Rattle.sum_engine.specs.check.CheckerLaws.{ManifestPerforms}

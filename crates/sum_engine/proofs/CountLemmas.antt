@@ -1,12 +1,18 @@
 -- The counts of a summary are numbers of members, and the code's running counters are they.
-use Rattle.std.proofs.Common.{rules, ◌≡◌, []}
-use Rattle.sum_engine.specs.check.Reports.{CountsValue, counts_of}
-use Rattle.sum_engine.specs.check.CheckerSteps.{no_counts, counts_then}
+use Rattle.std.proofs.Common.{rules, arith, ◌≡◌, ◌≤◌, ◌+◌, []}
+use Rattle.sum_engine.specs.check.Reports.{Counts, counts_of}
+use Rattle.sum_engine.specs.check.CheckStates.{no_counts, counts_with, counts_then}
+use Rattle.sum_engine.specs.check.Verdicts.{Verdict}
+use Rattle.sum_engine.specs.refinement.Counters.{total}
+
+-- a line more is at most one more that is not ignored
+pub total-with : (n : Counts) (v : Verdict) → total (counts_with n v) ≤ total n + 1
+total-with n v = search (rules, arith)
 
 -- after no line
-pub counts_then-none : (n : CountsValue) → counts_then no_counts n ≡ n
+pub counts_then-none : (n : Counts) → counts_then no_counts n ≡ n
 counts_then-none n = search rules
 
 -- after some lines, no more
-pub counts_then-nil : (n : CountsValue) → counts_then n (counts_of []) ≡ n
+pub counts_then-nil : (n : Counts) → counts_then n (counts_of []) ≡ n
 counts_then-nil n = search rules

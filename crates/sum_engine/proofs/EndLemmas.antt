@@ -5,7 +5,7 @@ use Rattle.sum_engine.specs.check.NextVerdict.{LineStop, LineVerdict, NoVerdictL
 use Rattle.sum_sources.specs.ManifestLines.{lines, raw_lines}
 use Rattle.sum_sources.proofs.LineLemmas.{pieces-nil, lines-nil}
 use Rattle.sum_engine.specs.check.Verdicts.{Rules}
-use Rattle.sum_engine.specs.check.CheckerSteps.{CheckState, remaining_verdicts}
+use Rattle.sum_engine.specs.check.CheckStates.{CheckState, remaining_verdicts}
 use Rattle.sum_engine.specs.check.CheckerLaws.{ended_by}
 
 -- without bytes there is no line under any profile

@@ -4,7 +4,7 @@ use Rattle.std.proofs.lemmas.Bool.{ne_eqb}
 use Rattle.std.proofs.Math.Bool.{and-false, or-true}
 use Rattle.std.proofs.lemmas.List.Elements.{All-head, All-tail}
 use Rattle.std.proofs.lemmas.Slice.Eq.{bytes_eq-Decides}
-use Rattle.sum_engine.specs.check.Reports.{Report, LabelsValue, CountsValue, out_by, out_of, err_of, counts_of, end_text, good}
+use Rattle.sum_engine.specs.check.Reports.{Report, LabelsValue, Counts, out_by, out_of, err_of, counts_of, end_text, good}
 use Rattle.sum_engine.specs.check.Verdicts.{Algos, Form, Right, Rules, LineVerdictValue, verdict_of, judge, verdicts, all_verdicts}
 use Rattle.sum_lines.specs.Escape.{present, escape}
 use Rattle.sum_lines.specs.grammar.Entries.{IsEntry, form}
@@ -96,13 +96,13 @@ err_text-line_steps r labels end c (j ∷ js) =
     search (rules, append_assoc, err_text-line_steps r labels end (past_line c) js)
 
 -- the counts of k right lines
-abbrev right_counts : ℕ → CountsValue
+abbrev right_counts : ℕ → Counts
 right_counts k = record { right = k; wrong = 0; missing = 0; unread = 0; bad = 0 }
 
 -- as many as there are items
 counts-are : (n : ℕ) (is : List Item) → counts_of (rights n is) ≡ right_counts (length is)
 counts-are n [] = refl
-counts-are n (i ∷ is) = ap (λ (c : CountsValue). record c { right = suc c.right }) (counts-are (n + 1) is)
+counts-are n (i ∷ is) = ap (λ (c : Counts). record c { right = suc c.right }) (counts-are (n + 1) is)
 
 -- the whole summary is empty
 no-summary : (r : Rules) (labels : LabelsValue) (k : ℕ) → end_text r labels Whole (right_counts (suc k)) ≡ []

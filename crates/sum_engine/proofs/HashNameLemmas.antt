@@ -2,8 +2,7 @@
 use Rattle.std.proofs.Common.{rules, ◌≡◌, ◌∙◌, ℕ, true, false, List, Option, Some, IfSome, Ok, Err}
 use Rattle.digest_kinds.specs.Kinds.{KindValue}
 use Rattle.sum_sources.specs.Contents.{Content, IfKnown, InputState}
-use Rattle.sum_sources.specs.Sources.{closed_state}
-use Rattle.sum_sources.specs.Sources.{SourceState, OpensName}
+use Rattle.sum_sources.specs.Sources.{SourceState, OpensName, closed_state}
 use Rattle.sum_sources.specs.declared.sources.source.OpenFault.TheVariants as faults
 use Rattle.sum_engine.specs.Behavior.{Fault, is_dash}
 use Rattle.sum_engine.specs.Execution.{InputsState, Phase, KeepsStdin, InSomeWorld}

@@ -9,7 +9,8 @@ use Rattle.sum_engine.specs.Behavior.{World, after, Behavior, trace, events_of, 
 use Rattle.sum_engine.specs.check.Reports.{LabelsValue, out_of, err_of, counts_of, end_text}
 use Rattle.sum_engine.specs.check.Checking.{line_steps, content_behavior}
 use Rattle.sum_engine.specs.Execution.{Write, WorldState, Happened}
-use Rattle.sum_engine.specs.check.CheckerSteps.{Going, Ended, CheckState, StepIs, step_then, progress_before, counts_then, remaining_verdicts, remaining_behavior, initial_state}
+use Rattle.sum_engine.specs.check.CheckStates.{CheckState, counts_then, remaining_verdicts, remaining_behavior, initial_state}
+use Rattle.sum_engine.specs.check.CheckerSteps.{Going, Ended, StepIs, step_then, progress_before}
 use Rattle.sum_engine.specs.check.CheckerLaws.{StepsGoing, StepsJoin, EndsManifest}
 use Rattle.sum_engine.proofs.RestLemmas.{past_next}
 use Rattle.sum_engine.proofs.ExecutionLemmas.{Happened-none, err-by, out-by, names-by}

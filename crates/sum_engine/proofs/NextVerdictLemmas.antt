@@ -1,5 +1,5 @@
 -- `CheckCursor::next_verdict`: the next verdict of a manifest, by what reading and judging its line did.
-use Rattle.std.proofs.Common.{rules, ◌≡◌, ◌∙◌, ℕ, ◌+◌, ◌<◌, ◌≤◌, true, List, [], length, slice_range, Option, None, Some, Result, Ok, Err, refl, inr, arith}
+use Rattle.std.proofs.Common.{rules, ◌≡◌, ◌∙◌, ℕ, ◌+◌, ◌<◌, ◌≤◌, List, [], length, slice_range, Option, None, Some, Result, Ok, Err, refl, inr}
 use Rattle.sum_sources.specs.declared.line_reader.LineStop.TheVariants.{Fault, Memory}
 use Rattle.sum_sources.specs.Contents.{Content, InputState, IfKnown}
 use Rattle.sum_sources.specs.Sources.{SourceState}
@@ -13,18 +13,19 @@ use Rattle.sum_sources.specs.declared.line_reader.LineReader.{LineReader}
 use Rattle.sum_sources.proofs.LineLemmas.{line-some}
 use Rattle.sum_sources.proofs.RemainLemmas.{MayRemain-known}
 use Rattle.sum_lines.specs.grammar.ParsedLines.{ParsedLine}
-use Rattle.sum_engine.specs.check.Reports.{CountsValue}
-use Rattle.sum_engine.specs.check.NextVerdict.{LineVerdict, line_verdict_value, NoVerdictLeft, FindsVerdict, progress_of}
+use Rattle.sum_engine.specs.check.Reports.{Counts}
+use Rattle.sum_engine.specs.check.NextVerdict.{LineVerdict, line_verdict_value, NoVerdictLeft, FindsVerdict, VerdictResult, counts_after}
 use Rattle.sum_engine.specs.check.Verdicts.{Verdict, lines_by}
 use Rattle.sum_engine.specs.Behavior.{Ending, Whole, Broken, World}
-use Rattle.sum_engine.specs.Execution.{Stop, InputsState, InSomeWorld}
-use Rattle.sum_engine.specs.check.CheckerSteps.{Progress, Going, Ended, AdvancesCursor, CursorValue, counts_with, state_at, InSomeCheck, MemoryStopHasCause, CheckState, next_judged}
+use Rattle.sum_engine.specs.Execution.{InputsState, InSomeWorld}
+use Rattle.sum_engine.specs.check.CheckStates.{CursorValue, counts_with, state_at, InSomeCheck, CheckState, next_judged}
+use Rattle.sum_engine.specs.check.NextVerdict.{AdvancesCursor, MemoryStopHasCause}
 use Rattle.sum_engine.specs.refinement.Judging.{JudgeOf, name_in_line, TakesLine, JudgeLineOf, parsed_at}
 use Rattle.sum_engine.proofs.RestLemmas.{rest_on}
 use Rattle.sum_engine.proofs.StepLemmas.{InSomeCheck-made, some_remains, lines_now, ReadsLine, line_handled}
 
 -- a line was judged, and its name is at a range of the vector
-pub judged-line : {I : Type 0} (p : CursorValue I) (line : List ℕ) (said : ParsedLine) (k : ℕ) (d : CountsValue)
+pub judged-line : {I : Type 0} (p : CursorValue I) (line : List ℕ) (said : ParsedLine) (k : ℕ) (d : Counts)
     (vector : List ℕ)
     (w v : World) (verdict : Verdict) (start stop : ℕ) → parsed_at p line ≡ said
     → JudgeOf p.rules w v said (Some verdict) → d ≡ counts_with p.counts verdict
@@ -102,23 +103,33 @@ module _ {I S : Type 0} (input : I → InputState) (source : S → SourceState) 
     before = λ d v may fits. let some = reads d may in (some.0, v, some.1, fits, (refl, some.2));
   }
 
-  -- bytes remained if there was no memory for them
-  pub stop_cause : (stop : LineStop) → ReadsSomeLine input p.reader q.reader (Err stop) line → IsBounded q.reader
-      → MemoryStopHasCause (source a.source) (source a.source) (remaining_content input p.reader) (progress_of (Err stop))
-  stop_cause (Fault f) reads bounds = refl
-  stop_cause Memory reads bounds =
-      let left = some_remains input q.reader bounds in
-      let some = reads left.0 left.1 in
-      inr (refl, MayRemain-known input p.reader (λ d. 0 < length d.bytes) (some.0, some.1, some.2))
-
 -- ---- known or not
+
+-- bytes remained if there was no memory for them
+pub stop_cause : {I S : Type 0} (input : I → InputState) (source : S → SourceState) (r s : LineReader I)
+    (a : InputsState S) (line : List ℕ) (stop : LineStop) → ReadsSomeLine input r s (Err stop) line → IsBounded s
+    → MemoryStopHasCause (source a.source) (source a.source) (remaining_content input r) (Err stop)
+stop_cause input source r s a line (Fault f) reads bounds = refl
+stop_cause input source r s a line Memory reads bounds =
+    let left = some_remains input s bounds in
+    let some = reads left.0 left.1 in
+    inr (refl, MayRemain-known input r (λ d. 0 < length d.bytes) (some.0, some.1, some.2))
 
 -- how the place advanced, by what the reader returned
 pub cursor-advanced : {I : Type 0} (state : I → InputState) (p q : CursorValue I) (reader : LineReader I)
-    (n : Result Next LineStop) (x : Result Progress Stop) → q.reader ≡ reader → q.rules ≡ p.rules
-    → AdvancesLines state p.reader reader n
+    (n : Result Next LineStop) (x : VerdictResult) → q.reader ≡ reader → q.rules ≡ p.rules
+    → q.counts ≡ counts_after p.counts x → AdvancesLines state p.reader reader n
     → (reader.final_answer ≡ None → IfKnown (state p.reader.input).content (state reader.input).content
     (λ c d. reader.taken + length d.bytes ≡ p.reader.taken + length c.bytes))
-    → IsBounded reader → (x ≡ Ok Going → n ≡ Ok Line) → (x ≡ Ok (Ended true) → n ≡ Ok NoMore)
+    → IsBounded reader → ((v : LineVerdict) → x ≡ Ok (Some v) → n ≡ Ok Line) → (x ≡ Ok None → n ≡ Ok NoMore)
     → AdvancesCursor state p q x
-cursor-advanced state p q reader n x is rules lines sum bounds going ended = grind (arith)
+cursor-advanced state p q reader n x is rules counts lines sum bounds found none = rw is (record {
+  rules = rules;
+  counts = counts;
+  taken = sum;
+  number = λ v h. rw (found v h) at lines.lines;
+  phase = lines.phase;
+  end = λ h. rw (none h) at lines.final_answer;
+  ahead = lines.ahead;
+  bounds = bounds;
+})

@@ -1,7 +1,7 @@
 -- `old_verdicts`: a manifest of the time of older versions is checked alike under both profiles.
 use Rattle.std.proofs.Common.{rules, ◌≡◌, ℕ, ◌+◌, ◌<◌, List, [], ◌∷◌, length, map, refl, ap, sym, subst, append_assoc, ◌++◌, All, flat_map, Ok, Err}
 use Rattle.std.proofs.lemmas.List.Elements.{All-nil, All-cons, All-head, All-tail}
-use Rattle.sum_engine.specs.check.Reports.{Report, LabelsValue, CountsValue, out_by, err_by, end_text}
+use Rattle.sum_engine.specs.check.Reports.{Report, LabelsValue, Counts, out_by, err_by, end_text}
 use Rattle.sum_engine.specs.Behavior.{Ending, Whole, Broken, World, after}
 use Rattle.sum_sources.specs.Contents.{Content, clip}
 use Rattle.sum_sources.specs.ManifestLines.{raw_lines, last_line, past_line, bytes_of_lines}
@@ -98,7 +98,7 @@ err_same : (r : Rules) (labels : LabelsValue) (n : ℕ) (v : Verdict) (name : Li
 err_same r labels n v name own free = search (rules, same_escape)
 
 -- the text at its end
-end_same : (r : Rules) (labels : LabelsValue) (e : Ending) (c : CountsValue) → NoReturn labels.manifest
+end_same : (r : Rules) (labels : LabelsValue) (e : Ending) (c : Counts) → NoReturn labels.manifest
     → end_text (rules_under older r) labels e c ≡ end_text (rules_under present r) labels e c
 end_same r labels Whole c own = by labels.report
   where

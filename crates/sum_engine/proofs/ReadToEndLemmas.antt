@@ -2,9 +2,8 @@
 use Rattle.std.proofs.Common.{rules, ◌≡◌, ℕ, zero, suc, ◌+◌, false, Option, Some, ap, sym, subst, ◌∙◌, arith}
 use Rattle.std.specs.Option.{option_map, option_or}
 use Rattle.sum_sources.specs.Contents.{InputState}
-use Rattle.sum_sources.specs.Sources.{closed_state}
-use Rattle.sum_sources.specs.Sources.{SourceState}
 use Rattle.sum_sources.specs.declared.sources.file_counts.FileCounts.{FileCounts}
+use Rattle.sum_sources.specs.Sources.{SourceState, closed_state}
 use Rattle.sum_sources.specs.StandardInput.{given_state}
 use Rattle.digest_kinds.specs.Limits.{one_more}
 use Rattle.sum_engine.specs.Execution.{InputsState, Phase, Unfinished, AtEnd, raised, IsStdinWhole, KeepsStdin, ReadToEnd}

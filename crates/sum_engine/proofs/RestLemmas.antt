@@ -7,9 +7,10 @@ use Rattle.sum_lines.proofs.FormLemmas.{form_next, parse_stays}
 use Rattle.sum_engine.specs.Behavior.{after, Ending, Step, Behavior}
 use Rattle.sum_engine.specs.check.Verdicts.{lines_by, Rules, LineVerdictValue, asks_of, verdicts}
 use Rattle.sum_lines.specs.grammar.ParsedLines.{parse_line}
-use Rattle.sum_engine.specs.check.Reports.{LabelsValue, CountsValue, counts_of, out_of, err_of, end_text, good}
+use Rattle.sum_engine.specs.check.Reports.{LabelsValue, Counts, counts_of, out_of, err_of, end_text, good}
 use Rattle.sum_engine.specs.check.Checking.{line_steps}
-use Rattle.sum_engine.specs.check.CheckerSteps.{Going, counts_with, counts_then, step_then, progress_before, CheckState, LineHandled, next_judged, remaining_verdicts, remaining_behavior}
+use Rattle.sum_engine.specs.check.CheckStates.{counts_with, counts_then, CheckState, LineHandled, next_judged, remaining_verdicts, remaining_behavior}
+use Rattle.sum_engine.specs.check.CheckerSteps.{Going, step_then, progress_before}
 
 -- what a line says by the form of all lines is what it says by the form so far and its own
 parse_line_now : (r : Rules) (a : CheckState) (l : List ℕ) (ls : List (List ℕ)) →
@@ -37,20 +38,20 @@ line_step r labels remaining j =
     record { names = asks_of j; err = err_of r labels j; out = out_of r labels j; remaining = remaining }
 
 -- the behavior of these verdicts, after these counts
-abbrev pub behavior_by : Rules → LabelsValue → Ending → CountsValue → Content → List LineVerdictValue → Behavior
+abbrev pub behavior_by : Rules → LabelsValue → Ending → Counts → Content → List LineVerdictValue → Behavior
 behavior_by r labels e k c js =
     let counts = counts_then k (counts_of js) in
     record { steps = line_steps r labels (end_text r labels e counts) c js; good = good r e counts }
 
 -- it begins with the step of the first line
-behavior_by-cons : (r : Rules) (labels : LabelsValue) (e : Ending) (k : CountsValue) (c : Content)
+behavior_by-cons : (r : Rules) (labels : LabelsValue) (e : Ending) (k : Counts) (c : Content)
     (j : LineVerdictValue) (js : List LineVerdictValue)
     → behavior_by r labels e k c (j ∷ js) ≡ step_then (line_step r labels (length c.bytes) j)
     (behavior_by r labels e (counts_with k j.verdict) (past_line c) js)
 behavior_by-cons r labels e k c j js = search rules
 
 -- or with that of the end; before it all of the content remains
-pub first_step : (r : Rules) (labels : LabelsValue) (e : Ending) (k : CountsValue) (c : Content)
+pub first_step : (r : Rules) (labels : LabelsValue) (e : Ending) (k : Counts) (c : Content)
     (js : List LineVerdictValue) → (s : Step) × (rest : Behavior)
     × (behavior_by r labels e k c js ≡ step_then s rest) × (s.remaining ≡ length c.bytes)
 first_step r labels e k c [] = (_, record { steps = []; good = good r e (counts_then k (counts_of [])) }, refl, refl)

@@ -2,11 +2,11 @@
 -- `step_found`: a line had a verdict; its report is written, and the lines after it remain.
 -- `step_end`: no line was left; the end is written, and nothing remains.
 -- `step_refused`: memory ran out before the verdict; nothing is written, and all remains.
-use Rattle.std.proofs.Common.{◌≡◌, ℕ, ◌+◌, ◌^◌, ◌<◌, ◌≤◌, Bool, List, [], ◌∷◌, length, Option, None, Some, MatchOption, Result, Ok, Err, inl, inr, ◌⊎◌, refl, ap, sym, ◌∙◌, rules, arith}
+use Rattle.std.proofs.Common.{◌≡◌, ℕ, ◌+◌, ◌^◌, ◌<◌, ◌≤◌, Bool, true, false, is_err, option_map, if◌then◌else◌, List, [], ◌∷◌, length, Option, None, Some, MatchOption, Result, Ok, Err, inl, inr, ◌⊎◌, refl, ap, sym, ◌∙◌, rules, arith}
 use Rattle.sum_sources.specs.declared.line_reader.Next.TheVariants.{Line}
 use Rattle.sum_sources.specs.declared.line_reader.LineReader.{LineReader}
 use Rattle.sum_sources.proofs.ContentLemmas.{limit-value}
-use Rattle.sum_engine.specs.Behavior.{Ending, Broken, Fault, World, Step, Behavior, events_of}
+use Rattle.sum_engine.specs.Behavior.{Ending, Whole, Broken, Fault, World, Step, Behavior, events_of}
 use Rattle.sum_sources.specs.Contents.{Content, InputState, empty_content, limit}
 use Rattle.sum_sources.specs.Sources.{SourceState}
 use Rattle.sum_sources.specs.ManifestLines.{IsNextLine, lines}
@@ -14,12 +14,15 @@ use Rattle.sum_sources.specs.LineReaders.{remaining_content, MayRemain, IsBounde
 use Rattle.sum_lines.specs.Escape.{Profile, present}
 use Rattle.sum_engine.specs.check.Reports.{Report, LabelsValue, err_of, out_of, out_by, end_text, good}
 use Rattle.sum_engine.specs.check.Verdicts.{Ignored, lines_by, Rules, asks_of}
-use Rattle.sum_engine.specs.check.CheckerSteps.{CursorValue, state_at, InSomeCheck, Progress, Going, Ended, CheckState, counts_with, step_then, progress_before, LineHandled, StepIs, TakesStep, MemoryStopHasCause, next_judged, remaining_verdicts, remaining_behavior}
-use Rattle.sum_engine.specs.Execution.{Stop, Memory, InputsState, StreamsState, WorldState, InSomeWorld, in_world, AskedMore}
-use Rattle.sum_engine.specs.check.NextVerdict.{LineVerdict, VerdictResult, line_verdict_value, FindsVerdict, NoVerdictLeft}
+use Rattle.sum_engine.specs.check.CheckStates.{CursorValue, state_at, InSomeCheck, CheckState, counts_with, LineHandled, next_judged, remaining_verdicts, remaining_behavior}
+use Rattle.sum_engine.specs.check.CheckerSteps.{Progress, Going, Ended, step_then, progress_before, step_answer, StepIs, TakesStep}
+use Rattle.sum_engine.specs.Execution.{Stop, Memory, Write, InputsState, StreamsState, WorldState, InSomeWorld, in_world, AskedMore}
+use Rattle.sum_engine.specs.check.NextVerdict.{MemoryStopHasCause, AdvancesVerdicts, LineVerdict, VerdictResult, line_verdict_value, FindsVerdict, NoVerdictLeft}
 use Rattle.sum_engine.specs.refinement.Judging.{TakesLine}
-use Rattle.sum_engine.specs.refinement.FlushedWrites.{outcome_after, WritesAndReturns}
-use Rattle.sum_engine.proofs.ExecutionLemmas.{AsksNames, asks_in, HappenedOrPrefix, step_performed, Happened-none, HappenedOrPrefix-by}
+use Rattle.sum_engine.specs.refinement.FoundTexts.{found_err, found_out}
+use Rattle.sum_engine.proofs.FlushedWriteLemmas.{writes_and_returns}
+use Rattle.sum_engine.specs.refinement.FlushedWrites.{outcome_after, WritesAndFlushesBoth, WritesAndReturns}
+use Rattle.sum_engine.proofs.ExecutionLemmas.{AsksNames, asks_none, asks_in, HappenedOrPrefix, step_performed, Happened-none, HappenedOrPrefix-by}
 use Rattle.sum_engine.proofs.CountLemmas.{counts_then-nil}
 use Rattle.sum_engine.proofs.RestLemmas.{line_step, behavior_by, first_step, found_first, going-before}
 use Rattle.sum_sources.specs.declared.line_reader.LineStop.TheVariants as line_stops
@@ -136,6 +139,32 @@ step_by r labels a b s t vector step later progress x is next came going = recor
     going_of (Ok u) h = cc
     going_of (Err e) h = cc
 
+-- what a step returns whose text was written, or was not
+answered : {I E : Type 0} (q : CursorValue I) (x : VerdictResult) (progress : Progress) (w : Result (Unit {0}) E)
+    {y : Result Progress Stop} → step_answer q x false ≡ Ok progress → step_answer q x true ≡ Err Write
+    → y ≡ step_answer q x (is_err w) → y ≡ outcome_after w progress
+answered q x progress (Ok u) h k is = is ∙ h
+answered q x progress (Err e) h k is = is ∙ k
+
+-- no answer is final before the step
+pub not_final : {I : Type 0} (p : CursorValue I) (failed : Bool) (final : Option VerdictResult)
+    → (if failed then Some (Err Write) else option_map (λ found. step_answer p found false) final) ≡ None → final ≡ None
+not_final p true final h = cc
+not_final p false None h = refl
+not_final p false (Some x) h = cc
+
+-- writing failed
+abbrev failed : {E : Type 0} → E → Result (Unit {0}) E
+failed e = Err e
+
+-- then memory had not run out
+pub answer-failed : {I E : Type 0} (q : CursorValue I) (x : VerdictResult) (e : E)
+    → (x ≡ Err line_stops.Memory → failed e ≡ Ok tt) → Err Write ≡ step_answer q x true
+answer-failed q (Err line_stops.Memory) e h = let none = h refl in cc
+answer-failed q (Err (line_stops.Fault f)) e h = refl
+answer-failed q (Ok None) e h = refl
+answer-failed q (Ok (Some v)) e h = refl
+
 -- of an ignored line nothing is reported
 pub out_by-ignored : (p : Profile) (report : Report) (name : List ℕ) → out_by p report Ignored name ≡ []
 out_by-ignored p report name = search rules
@@ -169,7 +198,7 @@ module _ {I S : Type 0} (input : I → InputState) (state : S → SourceState) (
     pub step_refused : (labels : LabelsValue) (vector : List ℕ) → Found vector (Err line_stops.Memory)
         → AskedMore (state a.inputs.source) (state b.inputs.source) [] → b.inputs.stdin_taken ≡ a.inputs.stdin_taken
         → MemoryStopHasCause (state a.inputs.source) (state b.inputs.source) (remaining_content input p.reader)
-        (Err Memory) → b.outputs ≡ a.outputs → TakesStep input state vector labels p q a b (Err Memory)
+        (Err line_stops.Memory) → b.outputs ≡ a.outputs → TakesStep input state vector labels p q a b (Err Memory)
     step_refused labels vector found asked taken cause outputs = λ flushed.
         InSomeCheck-map found (λ c d w v f.
         let first = first_step p.rules labels c.ending p.counts c (remaining_verdicts p.rules (state_at p c w)) in
@@ -209,3 +238,24 @@ module _ {I S : Type 0} (input : I → InputState) (state : S → SourceState) (
         ∙ rw (counts_then-nil p.counts, f.ending, sum, same, f.counts) refl) refl
         (HappenedOrPrefix-by (in_world state a w) (in_world state b v) [] _ [] wrote.written
         (asks_in state a b asked f.world) said) (λ h. cc)))
+
+    -- the next verdict was found, and then its text was written, or a prefix of it
+    pub step_taken : {E : Type 0} (labels : LabelsValue) (vector : List ℕ) (x : VerdictResult) (w : Result (Unit {0}) E)
+        (y : Result Progress Stop) → Found vector x → AdvancesVerdicts input state vector p q a.inputs b.inputs x
+        → WritesAndFlushesBoth a.outputs b.outputs (found_err q labels vector x) (found_out q labels vector x) w
+        → (x ≡ Err line_stops.Memory → (w ≡ Ok tt) × (b.outputs ≡ a.outputs)) → y ≡ step_answer q x (is_err w)
+        → TakesStep input state vector labels p q a b y
+    step_taken labels vector (Ok (Some v)) w y found did wrote kept is =
+        step_found labels vector v y found
+        (record { asked = did.asked; taken = did.stdin_taken; refusals = did.out_of_memory })
+        (writes_and_returns w (answered q (Ok (Some v)) Going w refl refl is) (rw did.cursor.rules at wrote))
+    step_taken labels vector (Ok None) w y found did wrote kept is =
+        step_end labels vector Whole (good q.rules Whole q.counts) y found
+        (asks_none did.asked did.stdin_taken did.out_of_memory) did.cursor.rules refl
+        (writes_and_returns w (answered q (Ok None) (Ended (good q.rules Whole q.counts)) w refl refl is) wrote)
+    step_taken labels vector (Err (line_stops.Fault f)) w y found did wrote kept is =
+        step_end labels vector (Broken f) false y found (asks_none did.asked did.stdin_taken did.out_of_memory)
+        did.cursor.rules refl
+        (writes_and_returns w (answered q (Err (line_stops.Fault f)) (Ended false) w refl refl is) wrote)
+    step_taken labels vector (Err line_stops.Memory) w y found did wrote kept is =
+        rw is (step_refused labels vector found did.asked did.stdin_taken did.out_of_memory (kept refl).1)

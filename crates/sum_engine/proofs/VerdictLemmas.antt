@@ -1,5 +1,5 @@
 -- `judge`: the verdict of an entry, by the outcome of hashing its name.
-use Rattle.std.proofs.Common.{rules, ◌≡◌, ◌&&◌, false, [], ◌∷◌, Some}
+use Rattle.std.proofs.Common.{rules, ◌≡◌, ◌&&◌, Bool, false, [], ◌∷◌, Some}
 use Rattle.sum_lines.specs.grammar.Entries.{EntryValue}
 use Rattle.sum_engine.specs.refinement.HashName.{HashOutcome, HashesName}
 use Rattle.sum_engine.specs.check.Verdicts.{Verdict, Rules, asks_by}
@@ -15,6 +15,6 @@ pub judged_entry : (r : Rules) (w v : World) (s : EntryValue) (a : HashOutcome) 
 judged_entry r w v s a verdict dash h is = search rules
 
 -- the name that its verdict asks is the one that was hashed
-pub entry_asks : (r : Rules) (s : EntryValue) (a : HashOutcome) (verdict : Verdict)
-    → verdict ≡ verdict_of_outcome r.ignore_missing s.digest a → asks_by verdict s.name ≡ s.name ∷ []
-entry_asks r s a verdict is = search rules
+pub entry_asks : (ignore : Bool) (s : EntryValue) (a : HashOutcome) (verdict : Verdict)
+    → verdict ≡ verdict_of_outcome ignore s.digest a → asks_by verdict s.name ≡ s.name ∷ []
+entry_asks ignore s a verdict is = search rules

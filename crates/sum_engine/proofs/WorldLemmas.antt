@@ -2,8 +2,7 @@
 use Rattle.std.proofs.Common.{rules, ◌≡◌, ◌∙◌, ap, refl, ℕ, Bool, true, false, if◌then◌else◌, List, [], ◌∷◌, ◌++◌, Option, None, Some, IfSome, Result, Ok, Err, append_assoc, append-nil}
 use Rattle.std.proofs.lemmas.List.Elements.{filter-append}
 use Rattle.sum_sources.specs.Contents.{Content, empty_content, IfKnown, InputState}
-use Rattle.sum_sources.specs.Sources.{closed_state}
-use Rattle.sum_sources.specs.Sources.{KnownSource, Answer, SourceState, AsksName, OpensName}
+use Rattle.sum_sources.specs.Sources.{KnownSource, Answer, SourceState, AsksName, OpensName, closed_state}
 use Rattle.sum_sources.specs.declared.sources.source.OpenFault.{OpenFault}
 use Rattle.sum_sources.specs.declared.sources.source.OpenFault.TheVariants as faults
 use Rattle.sum_sources.proofs.KnownLemmas.{IfKnown-then}

@@ -2,7 +2,8 @@
 pub mod Verdicts
 pub mod Reports
 pub mod Checking
-pub mod CheckerSteps
+pub mod CheckStates
 pub mod NextVerdict
+pub mod CheckerSteps
 pub mod CheckerLaws
 pub mod OldVerdicts

@@ -4,5 +4,5 @@ pub mod Openings
 pub mod HashName
 pub mod FlushedWrites
 pub mod Counters
-pub mod Cursors
+pub mod FoundTexts
 pub mod Judging

@@ -2,8 +2,7 @@
 ghost use Rattle.std.specs.Prelude.{◌≡◌, false, true, Some, IfOk};
 ghost use Rattle.std.specs.Option.{option_map, option_or};
 ghost use Rattle.sum_sources.specs.Contents.{IfKnown};
-ghost use Rattle.sum_sources.specs.Sources.{closed_state};
-ghost use Rattle.sum_sources.specs.Sources.{OpensName, counts_after_opening};
+ghost use Rattle.sum_sources.specs.Sources.{OpensName, counts_after_opening, closed_state};
 ghost use Rattle.sum_sources.specs.StandardInput.{given_state};
 ghost use Rattle.sum_engine.specs.Execution.{KeepsStdin, Unfinished};
 ghost use Rattle.sum_engine.specs.refinement.Openings.{stdin_taken_from};

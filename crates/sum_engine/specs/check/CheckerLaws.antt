@@ -14,7 +14,8 @@ use Rattle.sum_engine.specs.Behavior.{after, Behavior, trace, out_text, err_text
 use Rattle.sum_engine.specs.check.Verdicts.{lines_by, Rules, LineVerdictValue, asks_of, all_verdicts, verdicts}
 use Rattle.sum_engine.specs.check.Reports.{LabelsValue, out_of, err_of, counts_of, end_text, good}
 use Rattle.sum_engine.specs.check.Checking.{content_behavior}
-use Rattle.sum_engine.specs.check.CheckerSteps.{Going, Ended, CheckState, StepIs, initial_state}
+use Rattle.sum_engine.specs.check.CheckStates.{CheckState, initial_state}
+use Rattle.sum_engine.specs.check.CheckerSteps.{Going, Ended, StepIs}
 use Rattle.sum_engine.specs.check.NextVerdict.{LineStop, LineVerdict, NoVerdictLeft, NextVerdictIs}
 
 -- a new checker ran to its end: in some world the behavior of its manifest, of which this is known

@@ -1,18 +1,20 @@
 -- What the next verdict of a manifest is; no text is written.
-use Rattle.std.specs.Prelude.{ℕ, ◌≡◌, ◌≤◌, ◌<◌, ◌||◌, List, [], ◌∷◌, length, slice_range, Bool, true, false, Option, None, Some, Result, Ok, Err}
+use Rattle.std.specs.Prelude.{ℕ, ◌≡◌, ◌+◌, ◌≤◌, ◌<◌, ◌⊎◌, ◌||◌, List, [], ◌∷◌, length, slice_range, Bool, true, false, Option, None, Some, IfSome, Result, Ok, Err}
 use Rattle.std.specs.List.{list_any}
+use Rattle.digest_kinds.specs.Limits.{one_more}
 use Rattle.sum_engine.specs.Behavior.{Ending, Whole, Broken, is_dash, after}
 pub use Rattle.sum_sources.specs.declared.line_reader.LineStop.{LineStop}
 use Rattle.sum_sources.specs.declared.line_reader.LineStop.TheVariants.{Fault, Memory}
-use Rattle.sum_sources.specs.Contents.{InputState}
+use Rattle.sum_sources.specs.declared.line_reader.Next.TheVariants.{NoMore}
+use Rattle.sum_sources.specs.Contents.{Content, IfKnown, InputState}
 use Rattle.sum_sources.specs.Sources.{SourceState}
-use Rattle.sum_sources.specs.LineReaders.{remaining_content}
-use Rattle.sum_engine.specs.Execution.{InputsState, Stop, ReadToEnd, AskedMore}
-use Rattle.sum_engine.specs.check.CheckerSteps.{Progress, Going, Ended, CheckState, CursorValue, counts_with, LineHandled, remaining_verdicts, InSomeCheck, AdvancesCursor, MemoryStopHasCause}
+use Rattle.sum_sources.specs.ManifestLines.{HasNoNewline}
+use Rattle.sum_sources.specs.LineReaders.{remaining_content, IsBounded, IsReadSoFar}
+use Rattle.sum_engine.specs.Execution.{InputsState, KeepsStdin, ReadToEnd, AskedMore}
+use Rattle.sum_engine.specs.check.CheckStates.{CheckState, CursorValue, counts_with, LineHandled, remaining_verdicts, InSomeCheck}
 pub use Rattle.sum_engine.specs.declared.check.judge.LineVerdict.{LineVerdict}
 use Rattle.sum_engine.specs.check.Verdicts.{Rules, LineVerdictValue, asks_of}
-use Rattle.sum_engine.specs.check.Reports.{CountsValue, is_unread}
-use Rattle.sum_engine.specs.declared.stop.Stop.TheVariants as stops
+use Rattle.sum_engine.specs.check.Reports.{Counts, is_unread}
 
 -- what a call for the next verdict returns
 abbrev pub VerdictResult : Type 0
@@ -54,14 +56,6 @@ abbrev pub FindsVerdict : {I S : Type 0} → (I → InputState) → (S → Sourc
     → InputsState S → InputsState S → VerdictResult → Type 0
 FindsVerdict input source vector p q a b x = InSomeCheck input source p q a b (λ c d. NextVerdictIs p.rules vector c d x)
 
--- what stands for this in `AdvancesCursor` and `MemoryStopHasCause`. There `Ended true` is that no line is left, whether
--- the manifest is good or not
-abbrev pub progress_of : VerdictResult → Result Progress Stop
-progress_of (Ok (Some v)) = Ok Going
-progress_of (Ok None) = Ok (Ended true)
-progress_of (Err (Fault f)) = Ok (Ended false)
-progress_of (Err Memory) = Err stops.Memory
-
 -- after a line there is no final answer yet, and any other answer is final
 abbrev pub final_answer_of_next : VerdictResult → Option VerdictResult
 final_answer_of_next (Ok (Some v)) = None
@@ -78,7 +72,7 @@ pub record VerdictsValue (I : Type 0) : Type 0 where
   pub final_answer : Option VerdictResult
 
 -- the counts after such a call
-abbrev pub counts_after : CountsValue → VerdictResult → CountsValue
+abbrev pub counts_after : Counts → VerdictResult → Counts
 counts_after c (Ok (Some v)) = counts_with c v.verdict
 counts_after c x = c
 
@@ -88,24 +82,45 @@ UnlessUnread (Ok (Some v)) P = is_unread v.verdict ≡ false → P
 UnlessUnread x P = P
 
 -- whether standard input is taken once that verdict was found
-abbrev pub taken_after : Bool → List ℕ → VerdictResult → Bool
-taken_after taken vector (Ok (Some v)) = taken || list_any is_dash (asks_of (line_verdict_value vector v))
-taken_after taken vector x = taken
+abbrev pub stdin_taken_after : Bool → List ℕ → VerdictResult → Bool
+stdin_taken_after taken vector (Ok (Some v)) = taken || list_any is_dash (asks_of (line_verdict_value vector v))
+stdin_taken_after taken vector x = taken
 
 -- the names that such a call asks
 abbrev pub names_of_result : List ℕ → VerdictResult → List (List ℕ)
 names_of_result vector (Ok (Some v)) = asks_of (line_verdict_value vector v)
 names_of_result vector x = []
 
--- what a call for the next verdict does, known or not
+-- out of memory, known or not: the source was refused it, or bytes of the manifest were still to come
+abbrev pub MemoryStopHasCause : SourceState → SourceState → Option Content → VerdictResult → Type 0
+MemoryStopHasCause a b c (Err Memory) = (b.counts.refusals ≡ one_more a.counts.refusals)
+    ⊎ ((b.counts.refusals ≡ a.counts.refusals) × IfSome c (λ d. 0 < length d.bytes))
+MemoryStopHasCause a b c x = b.counts.refusals ≡ a.counts.refusals
+
+-- what such a call does to the place, known or not
+pub record AdvancesCursor {I : Type 0} (state : I → InputState) (a b : CursorValue I) (x : VerdictResult)
+    : Type 0 where
+  pub rules : b.rules ≡ a.rules
+  pub counts : b.counts ≡ counts_after a.counts x
+  -- bytes taken and bytes left in the input add up to the same, until its end or a stop was met
+  pub taken : b.reader.final_answer ≡ None → IfKnown (state a.reader.input).content (state b.reader.input).content
+      (λ c d. b.reader.taken + length d.bytes ≡ a.reader.taken + length c.bytes)
+  pub number : (v : LineVerdict) → x ≡ Ok (Some v) → b.reader.lines ≡ a.reader.lines + 1
+  -- the input is read as far as the reader's answers say: if no line is left, to its end
+  pub phase : IsReadSoFar state a.reader → IsReadSoFar state b.reader
+  pub end : x ≡ Ok None → b.reader.final_answer ≡ Some (Ok NoMore)
+  -- if a whole line is read ahead, the input isn't read
+  pub ahead : ¬ HasNoNewline a.reader.ahead → b.reader.input ≡ a.reader.input
+  pub bounds : IsBounded b.reader
+
+-- what such a call does, known or not
 pub record AdvancesVerdicts {I S : Type 0} (input : I → InputState) (source : S → SourceState) (vector : List ℕ)
-    (p q : VerdictsValue I) (a b : InputsState S) (x : VerdictResult) : Type 0 where
-  pub final_answer : q.final_answer ≡ final_answer_of_next x
-  pub cursor : AdvancesCursor input p.cursor q.cursor (progress_of x)
-  -- out of memory only if the source was refused it, or bytes of the manifest remained
-  pub out_of_memory : MemoryStopHasCause (source a.source) (source b.source) (remaining_content input p.cursor.reader)
-      (progress_of x)
+    (p q : CursorValue I) (a b : InputsState S) (x : VerdictResult) : Type 0 where
+  pub cursor : AdvancesCursor input p q x
+  pub out_of_memory : MemoryStopHasCause (source a.source) (source b.source) (remaining_content input p.reader) x
   -- Right and Wrong only if the file that was opened was read to its end
   pub read_to_end : UnlessUnread x (ReadToEnd source a b)
   pub asked : AskedMore (source a.source) (source b.source) (names_of_result vector x)
-  pub stdin_taken : b.stdin_taken ≡ taken_after a.stdin_taken vector x
+  pub stdin_taken : b.stdin_taken ≡ stdin_taken_after a.stdin_taken vector x
+  -- the lines of standard input don't name it
+  pub stdin : p.rules.from_stdin ≡ true → KeepsStdin a b

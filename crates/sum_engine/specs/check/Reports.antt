@@ -6,6 +6,7 @@ use Rattle.sum_lines.specs.grammar.Shapes.{One, Any, mark}
 use Rattle.digest_kinds.specs.Kinds.{tag}
 use Rattle.sum_engine.specs.Behavior.{Ending, Whole, Broken}
 pub use Rattle.sum_engine.specs.declared.settings.Report.{Report}
+pub use Rattle.sum_engine.specs.declared.check.summary.Counts.{Counts}
 use Rattle.sum_engine.specs.declared.settings.Report.TheVariants.{Quiet, Warn, Status}
 use Rattle.sum_engine.specs.contracts.check.judge.Verdict.{the_type}
 use Rattle.sum_engine.specs.check.Verdicts.{Algos, Verdict, Bad, Right, Wrong, Missing, Unread, Rules, LineVerdictValue}
@@ -71,24 +72,16 @@ abbrev pub is_unread : Verdict → Bool
 is_unread (Unread f) = true
 is_unread v = false
 
--- how many lines have a verdict of each kind but `Ignored`
-pub record CountsValue : Type 0 where
-  pub right : ℕ
-  pub wrong : ℕ
-  pub missing : ℕ
-  pub unread : ℕ
-  pub bad : ℕ
-
 -- how many of the lines have such a verdict (`sameb` compares variants)
 abbrev pub number_of : (Verdict → Bool) → List LineVerdictValue → ℕ
 number_of is js = length (filter (λ j. is j.verdict) js)
 
-abbrev pub counts_of : List LineVerdictValue → CountsValue
+abbrev pub counts_of : List LineVerdictValue → Counts
 counts_of js = let n : Verdict → ℕ = λ v. number_of (sameb the_type v) js in
     record { right = n Right; wrong = n Wrong; missing = n Missing; unread = number_of is_unread js; bad = n Bad }
 
 -- how many lines are entries
-abbrev pub entries : CountsValue → ℕ
+abbrev pub entries : Counts → ℕ
 entries c = c.right + c.wrong + c.missing + c.unread
 
 -- TOOL: WARNING: N TEXT, unless the count is 0
@@ -97,12 +90,12 @@ warning tool n one many = if n == 0 then []
     else concat (tool ∷ codes ": WARNING: " ∷ decimal n ∷ (if n == 1 then one else many) ∷ codes "\n" ∷ [])
 
 -- the line that no file was verified, with `--ignore-missing`
-abbrev pub unverified_line : Rules → LabelsValue → CountsValue → List ℕ
+abbrev pub unverified_line : Rules → LabelsValue → Counts → List ℕ
 unverified_line r labels c = if r.ignore_missing && (c.right == 0)
     then tool_line r.profile labels.tool labels.manifest (codes "no file was verified") else []
 
 -- the warnings at a manifest's end
-abbrev pub warnings : Rules → LabelsValue → CountsValue → List ℕ
+abbrev pub warnings : Rules → LabelsValue → Counts → List ℕ
 warnings r labels c = let tool = labels.tool in
     warning tool c.bad (codes " line is improperly formatted") (codes " lines are improperly formatted")
     ++ (warning tool c.unread (codes " listed file could not be read") (codes " listed files could not be read")
@@ -110,13 +103,13 @@ warnings r labels c = let tool = labels.tool in
     ++ unverified_line r labels c))
 
 -- the end of a manifest on standard error: its summary, or the line of the fault that broke it
-abbrev pub end_text : Rules → LabelsValue → Ending → CountsValue → List ℕ
+abbrev pub end_text : Rules → LabelsValue → Ending → Counts → List ℕ
 end_text r labels Whole c = if entries c == 0
     then tool_line r.profile labels.tool labels.manifest (codes "no properly formatted checksum lines found")
     else unless_status labels.report (warnings r labels c)
 end_text r labels (Broken f) c = fault_line r.profile labels.tool labels.manifest f
 
 -- good: it was read whole, a line is Right, none is Wrong or Unread, and under the strict setting none is Bad
-abbrev pub good : Rules → Ending → CountsValue → Bool
+abbrev pub good : Rules → Ending → Counts → Bool
 good r Whole c = not (c.right == 0) && (c.wrong == 0) && (c.unread == 0) && (not r.strict || (c.bad == 0))
 good r (Broken f) c = false

@@ -7,10 +7,10 @@ use Rattle.sum_engine.specs.declared.hash_name.HashOutcome.{HashOutcome}
 use Rattle.sum_engine.specs.check.Verdicts.{Verdict, Right, Wrong, Missing, Unread, Rules, judge, asks_by, asks_of}
 use Rattle.sum_lines.specs.grammar.ParsedLines.{ParsedLine, ignored, bad, entry, parse_line}
 use Rattle.sum_engine.specs.Behavior.{World, after}
-use Rattle.sum_engine.specs.check.Reports.{CountsValue}
+use Rattle.sum_engine.specs.check.Reports.{Counts}
 use Rattle.sum_engine.specs.check.NextVerdict.{LineVerdict, VerdictResult, line_verdict_value}
 use Rattle.sum_sources.specs.declared.line_reader.LineStop.TheVariants.{Memory}
-use Rattle.sum_engine.specs.check.CheckerSteps.{CursorValue, counts_with}
+use Rattle.sum_engine.specs.check.CheckStates.{CursorValue, counts_with}
 use Rattle.sum_engine.specs.declared.hash_name.HashOutcome.TheVariants as asked
 
 -- the entry that a line spells
@@ -50,7 +50,7 @@ pub record TakesLine {I : Type 0} (a b : CursorValue I) (line : List ℕ) : Type
 
 -- the last line that was read was judged, and its name was asked, if its verdict asks it; d are the counts then
 abbrev pub JudgeLineOf :
-    {I : Type 0} → CursorValue I → List ℕ → CountsValue → List ℕ → World → World → Option LineVerdict → Type 0
+    {I : Type 0} → CursorValue I → List ℕ → Counts → List ℕ → World → World → Option LineVerdict → Type 0
 JudgeLineOf p line d vector w v None = v ≡ w
 JudgeLineOf p line d vector w v (Some found) =
     (judge p.rules w p.reader.lines (parsed_at p line) ≡ line_verdict_value vector found)

@@ -2,7 +2,7 @@
 ghost use Rattle.sum_engine.specs.check.Checking.{check_behavior};
 ghost use Rattle.sum_engine.specs.Execution.{IsFlushed, FailuresMatch, OneMoreAtMost, RefusalsMatch, StopHasCause};
 ghost use Rattle.sum_engine.specs.Execution.{Performs, KeepsStdin, ReadToEnd, Unfinished, AtEnd};
-ghost use Rattle.sum_engine.specs.check.CheckerSteps.{IsAtStart};
+ghost use Rattle.sum_engine.specs.check.CheckStates.{IsAtStart};
 ghost use Rattle.std.specs.Prelude.{◌≡◌, true, None, Ok};
 ghost use Rattle.sum_engine.specs.check.CheckerLaws.{ManifestPerforms};
 

@@ -2,9 +2,9 @@
 ghost use Rattle.std.specs.Prelude.{◌≡◌, ◌≤◌, ◌^◌, None, IfSome};
 ghost use Rattle.sum_engine.specs.check.Checking.{rules_of};
 
-use crate::check::cursor::CheckCursor;
 use crate::check::progress::Progress;
-use crate::check::rules::{CheckRules, Labels};
+use crate::check::rules::Labels;
+use crate::check::verdicts::Verdicts;
 use crate::inputs::Inputs;
 use crate::settings::CheckSettings;
 use crate::stop::Stop;
@@ -17,10 +17,10 @@ use sum_sources::{Input, Source};
 /// A manifest that is being checked. It takes a line, handles it, and only then takes the next.
 #[derive(Drop)]
 pub struct Checker<'a, I> {
-    cursor: CheckCursor<I>,
+    verdicts: Verdicts<I>,
     labels: Labels<'a>,
-    // what every later step returns, if anything is final
-    final_answer: Option<Result<Progress, Stop>>,
+    // whether writing the text of a step failed; every later step then returns that again
+    write_failed: bool,
 }
 
 impl<'a, I> Model for Checker<'a, I> {
@@ -28,18 +28,22 @@ impl<'a, I> Model for Checker<'a, I> {
 
     ghost Value = { CheckerValue I };
 
-    ghost use Rattle.sum_engine.specs.refinement.Cursors.{labels_in, cursor_value};
+    ghost use Rattle.std.specs.Prelude.{Some, Err, false, if◌then◌else◌, option_map};
+    ghost use Rattle.sum_engine.specs.Execution.{Write};
+    ghost use Rattle.sum_engine.specs.check.CheckerSteps.{step_answer};
 
     ghost view = { λ c. record {
-      cursor = cursor_value c.cursor;
-      labels = labels_in c.labels;
-      final_answer = c.final_answer;
+      cursor = c.verdicts.cursor;
+      labels = c.labels;
+      final_answer = if c.write_failed then Some (Err Write)
+          else option_map (λ found. step_answer c.verdicts.cursor found false) c.verdicts.final_answer;
     } };
 }
 
 impl<'a, I: Input> Checker<'a, I> {
     ghost use Rattle.sum_engine.specs.Execution.{IsFlushed};
-    ghost use Rattle.sum_engine.specs.check.CheckerSteps.{IsAtStart, TakesStep, AdvancesChecker};
+    ghost use Rattle.sum_engine.specs.check.CheckStates.{IsAtStart};
+    ghost use Rattle.sum_engine.specs.check.CheckerSteps.{TakesStep, AdvancesChecker};
 
     /// A checker of the manifest that `input` gives. Its diagnostics begin with `tool`, as with `md5sum`, and show the
     /// name `manifest`; `from_stdin` says whether it came from standard input, where a line that names `-` is
@@ -57,15 +61,14 @@ impl<'a, I: Input> Checker<'a, I> {
         ensures start { IsAtStart I.state result.cursor input }
         ensures final_answer { result.final_answer ≡ None }
     {
-        let rules = CheckRules::new(settings, from_stdin);
         Checker {
-            cursor: CheckCursor::new(rules, input),
+            verdicts: Verdicts::new(settings, from_stdin, input),
             labels: Labels {
                 tool,
                 manifest,
                 report: settings.report,
             },
-            final_answer: None,
+            write_failed: false,
         }
     }
 
@@ -74,14 +77,14 @@ impl<'a, I: Input> Checker<'a, I> {
         ensures value { result ≡ self.now.cursor.reader.taken }
         ensures at_most { result ≤ 2 ^ 61 }
     {
-        self.cursor.taken()
+        self.verdicts.cursor().taken()
     }
 
     /// The manifest's input, past the bytes that it has given; those read ahead of the last line are lost.
     pub fn into_inner(self) -> I
         ensures { result ≡ self.entry.cursor.reader.input }
     {
-        self.cursor.into_inner()
+        self.verdicts.into_inner()
     }
 
     /// Handles the next line, or the end: writes the line's report, or the summary, or the line of the fault that broke
@@ -104,17 +107,31 @@ impl<'a, I: Input> Checker<'a, I> {
             self.old.cursor self.new.cursor streams.old streams.new result }
         // Known or not: how far the manifest was read, the cause of a stop, and which answers are final.
         ensures advances { self.old.final_answer ≡ None
-            → AdvancesChecker I.state S.state self.old self.new streams.old streams.new result }
+            → AdvancesChecker I.state S.state line.new.items self.old self.new streams.old streams.new result }
         ensures flushed { IsFlushed streams.old.outputs → IsFlushed streams.new.outputs }
     {
-        if let Some(answer) = self.final_answer {
+        if let Some(answer) = self.final_answer() {
             return answer;
         }
-        let result = self.cursor.next(&self.labels, line, streams);
-        self.final_answer = match result {
-            Ok(Progress::Going) => None,
-            _ => Some(result),
-        };
-        result
+        let found = self.verdicts.next(line, &mut streams.inputs);
+        let cursor = self.verdicts.cursor();
+        match cursor.put_found(&self.labels, line, found, &mut streams.outputs) {
+            Ok(()) => cursor.answer(found),
+            Err(_) => {
+                self.write_failed = true;
+                Err(Stop::Write)
+            }
+        }
+    }
+
+    // What every later step returns, if that is settled.
+    fn final_answer(&self) -> Option<Result<Progress, Stop>>
+        ensures { result ≡ self.now.final_answer }
+    {
+        if self.write_failed {
+            return Some(Err(Stop::Write));
+        }
+        let found = self.verdicts.final_answer()?;
+        Some(self.verdicts.cursor().answer(found))
     }
 }

@@ -51,7 +51,6 @@ impl LineVerdict {
     }
 }
 
-ghost use Rattle.sum_engine.specs.refinement.Cursors.{rules_in};
 ghost use Rattle.sum_engine.specs.refinement.Judging.{JudgeOf};
 ghost use Rattle.sum_engine.specs.refinement.Judging.{verdict_of_outcome, listed_entry};
 ghost use Rattle.sum_engine.specs.Execution.{InSomeWorld, AskedMore, KeepsStdin, ReadToEnd};
@@ -72,7 +71,7 @@ pub(crate) fn judge<I: Input + Drop, S: Source>(
     buffer: &mut [u8; PIECE],
 ) -> Option<Verdict>
     ensures verdict { InSomeWorld S.state inputs.old inputs.new
-        (λ w v. JudgeOf (rules_in rules) w v (entry (listed_entry listed.now)) result) }
+        (λ w v. JudgeOf rules w v (entry (listed_entry listed.now)) result) }
     ensures asked { let asked = AskedMore (S.state inputs.old.source) (S.state inputs.new.source) in
         MatchOption result (asked []) (λ v. asked (asks_by v listed.now.name.now)) }
     ensures stdin_taken { MatchOption result (KeepsStdin inputs.old inputs.new)

@@ -4,7 +4,6 @@ ghost use Rattle.std.specs.List.{concat};
 ghost use Rattle.sum_lines.specs.Escape.{present, escape, escape_differs};
 ghost use Rattle.sum_lines.specs.grammar.Shapes.{mark};
 ghost use Rattle.sum_engine.specs.check.Reports.{verdict_line, bad_line, err_by, out_by};
-ghost use Rattle.sum_engine.specs.refinement.Cursors.{rules_in, labels_in};
 ghost use Rattle.sum_engine.specs.refinement.FlushedWrites.{WritesAndFlushes, WritesAndFlushesBoth};
 
 use crate::check::judge::Verdict;
@@ -25,7 +24,7 @@ pub(crate) fn put_report<O: Sink, E: Sink>(
     name: &[u8],
 ) -> Result<(), SinkFault>
     ensures { WritesAndFlushesBoth outputs.old outputs.new
-        (err_by (rules_in rules) (labels_in labels.now) number verdict name.now)
+        (err_by rules labels.now number verdict name.now)
         (out_by present labels.now.report verdict name.now) result }
 {
     put_err(&mut outputs.err, rules, labels, number, verdict, name)?;
@@ -75,8 +74,10 @@ fn put_err<E: Sink>(
     name: &[u8],
 ) -> Result<(), SinkFault>
     ensures { WritesAndFlushes (E.state err.old) (E.state err.new)
-        (err_by (rules_in rules) (labels_in labels.now) number verdict name.now) result }
+        (err_by rules labels.now number verdict name.now) result }
 {
+    // Read, so that the proof sees the profile of these rules.
+    let _algos = rules.algo;
     match verdict {
         Verdict::Ignored | Verdict::Right | Verdict::Wrong | Verdict::Missing => Ok(()),
         Verdict::Bad => match labels.report {
@@ -94,7 +95,7 @@ fn put_bad_line<E: Sink>(
     number: u64,
 ) -> Result<(), SinkFault>
     ensures { WritesAndFlushes (E.state err.old) (E.state err.new)
-        (bad_line (rules_in rules) (labels_in labels.now) number) result }
+        (bad_line rules labels.now number) result }
 {
     let word = tag_word(rules.algo);
     put_parts_flushed(

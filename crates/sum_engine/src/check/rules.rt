@@ -1,10 +1,10 @@
 //! By what a manifest's lines are judged, and what its reports show.
 ghost use Rattle.std.specs.Prelude.{◌≡◌};
 ghost use Rattle.sum_engine.specs.check.Checking.{rules_of};
-ghost use Rattle.sum_engine.specs.refinement.Cursors.{rules_in};
 
 use crate::settings::{CheckSettings, Report};
 use digest_kinds::Algos;
+use std::marker::Model;
 
 /// By what a manifest's lines are judged.
 #[derive(Clone, Copy, Debug)]
@@ -16,10 +16,32 @@ pub(crate) struct CheckRules {
     pub from_stdin: bool,
 }
 
+impl Model for CheckRules {
+    ghost use Rattle.sum_engine.specs.check.Verdicts.{Rules};
+    ghost use Rattle.sum_lines.specs.Escape.{present};
+
+    ghost Value = { Rules };
+
+    ghost view = { λ r. record {
+      profile = present;
+      algo = r.algo;
+      ignore_missing = r.ignore_missing;
+      strict = r.strict;
+      from_stdin = r.from_stdin;
+    } };
+
+    ghost inverse = { λ r. record {
+      algo = r.algo;
+      ignore_missing = r.ignore_missing;
+      strict = r.strict;
+      from_stdin = r.from_stdin;
+    } };
+}
+
 impl CheckRules {
     /// The rules of these settings.
     pub(crate) fn new(settings: CheckSettings, from_stdin: bool) -> Self
-        ensures { rules_in result ≡ rules_of settings from_stdin }
+        ensures { result ≡ rules_of settings from_stdin }
     {
         CheckRules {
             algo: settings.algo,
@@ -31,9 +53,17 @@ impl CheckRules {
 }
 
 /// What the reports of a manifest show: the tool's name and the manifest's, and which lines.
-#[derive(Clone, Copy, Debug)]
+#[derive(Debug, Drop)]
 pub(crate) struct Labels<'a> {
     pub tool: &'a str,
     pub manifest: &'a [u8],
     pub report: Report,
+}
+
+impl<'a> Model for Labels<'a> {
+    ghost use Rattle.sum_engine.specs.check.Reports.{LabelsValue};
+
+    ghost Value = { LabelsValue };
+
+    ghost view = { λ l. record { tool = l.tool.now; manifest = l.manifest.now; report = l.report } };
 }

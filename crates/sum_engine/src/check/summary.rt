@@ -19,9 +19,8 @@ pub(crate) struct Counts {
 }
 
 ghost use Rattle.sum_engine.specs.check.Reports.{warning, warnings, unverified_line, end_text, good, entries};
-ghost use Rattle.sum_engine.specs.check.CheckerSteps.{counts_with};
-ghost use Rattle.sum_engine.specs.refinement.Counters.{counts_value, total};
-ghost use Rattle.sum_engine.specs.refinement.Cursors.{rules_in, labels_in};
+ghost use Rattle.sum_engine.specs.check.CheckStates.{counts_with};
+ghost use Rattle.sum_engine.specs.refinement.Counters.{total};
 ghost use Rattle.sum_engine.specs.refinement.FlushedWrites.{WritesAndFlushes, WritesAndFlushesBoth};
 ghost use Rattle.sum_sources.specs.declared.fault.Ending.TheVariants.{Whole};
 
@@ -37,8 +36,8 @@ impl Counts {
 
     /// One more line, of that verdict.
     pub(crate) fn counted(self, verdict: Verdict) -> Counts
-        requires { total (counts_value self) < 2 ^ 63 }
-        ensures { counts_value result ≡ counts_with (counts_value self) verdict }
+        requires { total self < 2 ^ 63 }
+        ensures { result ≡ counts_with self verdict }
     {
         let mut counts = self;
         match verdict {
@@ -53,8 +52,8 @@ impl Counts {
     }
 
     fn entries(self) -> u64
-        requires { total (counts_value self) < 2 ^ 63 }
-        ensures { result ≡ entries (counts_value self) }
+        requires { total self < 2 ^ 63 }
+        ensures { result ≡ entries self }
     {
         self.right + self.wrong + self.missing + self.unread
     }
@@ -62,7 +61,7 @@ impl Counts {
 
 /// Whether a manifest that was read whole is good.
 pub(crate) fn is_good(rules: CheckRules, counts: Counts) -> bool
-    ensures { result ≡ good (rules_in rules) Whole (counts_value counts) }
+    ensures { result ≡ good rules Whole counts }
 {
     counts.right != 0
         && counts.wrong == 0
@@ -77,9 +76,9 @@ pub(crate) fn put_summary<O: Sink, E: Sink>(
     labels: &Labels,
     counts: Counts,
 ) -> Result<(), SinkFault>
-    requires { total (counts_value counts) < 2 ^ 63 }
+    requires { total counts < 2 ^ 63 }
     ensures { WritesAndFlushesBoth outputs.old outputs.new
-        (end_text (rules_in rules) (labels_in labels.now) Whole (counts_value counts)) [] result }
+        (end_text rules labels.now Whole counts) [] result }
 {
     put_end(&mut outputs.err, rules, labels, counts)
 }
@@ -90,10 +89,12 @@ fn put_end<E: Sink>(
     labels: &Labels,
     counts: Counts,
 ) -> Result<(), SinkFault>
-    requires { total (counts_value counts) < 2 ^ 63 }
+    requires { total counts < 2 ^ 63 }
     ensures { WritesAndFlushes (E.state err.old) (E.state err.new)
-        (end_text (rules_in rules) (labels_in labels.now) Whole (counts_value counts)) result }
+        (end_text rules labels.now Whole counts) result }
 {
+    // Read, so that the proof sees the profile of these rules.
+    let _algos = rules.algo;
     if counts.entries() == 0 {
         let text = b"no properly formatted checksum lines found";
         return put_tool_line(err, labels.tool, labels.manifest, text);
@@ -111,26 +112,25 @@ fn put_warnings<E: Sink>(
     counts: Counts,
 ) -> Result<(), SinkFault>
     ensures { WritesAndFlushes (E.state err.old) (E.state err.new)
-        (warnings (rules_in rules) (labels_in labels.now) (counts_value counts)) result }
+        (warnings rules labels.now counts) result }
 {
-    let tool = labels.tool;
     put_warning(
         err,
-        tool,
+        labels,
         counts.bad,
         b" line is improperly formatted",
         b" lines are improperly formatted",
     )?;
     put_warning(
         err,
-        tool,
+        labels,
         counts.unread,
         b" listed file could not be read",
         b" listed files could not be read",
     )?;
     put_warning(
         err,
-        tool,
+        labels,
         counts.wrong,
         b" computed checksum did NOT match",
         b" computed checksums did NOT match",
@@ -140,12 +140,12 @@ fn put_warnings<E: Sink>(
 
 fn put_warning<'a, E: Sink>(
     err: &mut E,
-    tool: &'a str,
+    labels: &'a Labels<'a>,
     count: u64,
     one: &'a [u8],
     many: &'a [u8],
 ) -> Result<(), SinkFault>
-    ensures { WritesAndFlushes (E.state err.old) (E.state err.new) (warning tool.now count one.now many.now) result }
+    ensures { WritesAndFlushes (E.state err.old) (E.state err.new) (warning labels.now.tool count one.now many.now) result }
 {
     if count == 0 {
         return Ok(());
@@ -154,7 +154,7 @@ fn put_warning<'a, E: Sink>(
     put_parts_flushed(
         err,
         &[
-            Part::Bytes(tool.as_bytes()),
+            Part::Bytes(labels.tool.as_bytes()),
             Part::Bytes(b": WARNING: "),
             Part::Number(count),
             Part::Bytes(text),
@@ -170,7 +170,7 @@ fn put_unverified<E: Sink>(
     counts: Counts,
 ) -> Result<(), SinkFault>
     ensures { WritesAndFlushes (E.state err.old) (E.state err.new)
-        (unverified_line (rules_in rules) (labels_in labels.now) (counts_value counts)) result }
+        (unverified_line rules labels.now counts) result }
 {
     if rules.ignore_missing && counts.right == 0 {
         return put_tool_line(err, labels.tool, labels.manifest, b"no file was verified");

@@ -6,7 +6,6 @@ ghost use Rattle.sum_engine.specs.check.NextVerdict.{final_answer_of_next};
 
 use crate::check::cursor::CheckCursor;
 use crate::check::judge::LineVerdict;
-use crate::check::rules::CheckRules;
 use crate::inputs::Inputs;
 use crate::settings::CheckSettings;
 use std::alloc::Allocator;
@@ -27,15 +26,13 @@ impl<I> Model for Verdicts<I> {
 
     ghost Value = { VerdictsValue I };
 
-    ghost use Rattle.sum_engine.specs.refinement.Cursors.{cursor_value};
-
-    ghost view = { λ v. record { cursor = cursor_value v.cursor; final_answer = v.final_answer } };
+    ghost view = { λ v. record { cursor = v.cursor; final_answer = v.final_answer } };
 }
 
 impl<I: Input> Verdicts<I> {
     ghost use Rattle.sum_sources.specs.declared.fault.Ending.TheVariants.{Whole};
     ghost use Rattle.sum_engine.specs.check.Reports.{good};
-    ghost use Rattle.sum_engine.specs.check.CheckerSteps.{IsAtStart};
+    ghost use Rattle.sum_engine.specs.check.CheckStates.{IsAtStart};
     ghost use Rattle.sum_engine.specs.check.NextVerdict.{HasNameRange, FindsVerdict};
     ghost use Rattle.sum_engine.specs.check.NextVerdict.{AdvancesVerdicts, is_whole};
 
@@ -47,7 +44,7 @@ impl<I: Input> Verdicts<I> {
         ensures final_answer { result.final_answer ≡ None }
     {
         Verdicts {
-            cursor: CheckCursor::new(CheckRules::new(settings, from_stdin), input),
+            cursor: CheckCursor::new(settings, from_stdin, input),
             final_answer: None,
         }
     }
@@ -85,9 +82,11 @@ impl<I: Input> Verdicts<I> {
         ensures verdict { self.old.final_answer ≡ None → FindsVerdict I.state S.state line.new.items
             self.old.cursor self.new.cursor inputs.old inputs.new result }
         ensures name_range { IfOk result (λ found. IfSome found (λ v. HasNameRange line.new.items v)) }
-        // Known or not: how far the manifest was read, the cause of a stop, and which answers are final.
-        ensures advances { self.old.final_answer ≡ None → AdvancesVerdicts I.state S.state line.new.items self.old
-            self.new inputs.old inputs.new result }
+        // After a line nothing is final; any other answer is.
+        ensures final_answer { self.old.final_answer ≡ None → self.new.final_answer ≡ final_answer_of_next result }
+        // Known or not: how far the manifest and the listed file were read, and the cause of a stop.
+        ensures advances { self.old.final_answer ≡ None → AdvancesVerdicts I.state S.state line.new.items
+            self.old.cursor self.new.cursor inputs.old inputs.new result }
     {
         if let Some(answer) = self.final_answer {
             return answer;
@@ -98,6 +97,20 @@ impl<I: Input> Verdicts<I> {
             _ => Some(found),
         };
         found
+    }
+
+    /// The place in the manifest.
+    pub(crate) fn cursor(&self) -> &CheckCursor<I>
+        ensures { result.now ≡ self.now.cursor }
+    {
+        &self.cursor
+    }
+
+    /// What every later call of `next` returns, if that is settled.
+    pub(crate) fn final_answer(&self) -> Option<Result<Option<LineVerdict>, LineStop>>
+        ensures { result ≡ self.now.final_answer }
+    {
+        self.final_answer
     }
 
     /// Whether the manifest is good; false before `next` has returned that no line is left.

@@ -1,7 +1,7 @@
 use Rattle.std.proofs.Common.{◌≡◌, true, Ok, Err, ap, sym, ◌∙◌, arith, rules}
 use Rattle.sum_engine.specs.check.CheckerSteps.{Ended}
 use Rattle.sum_engine.proofs.ExecutionLemmas.{KeepsStdin-trans}
-use Rattle.sum_engine.proofs.CheckLinesLemmas.{IsAlong-none, IsAlong-more, IsAlong-last, phase-initial}
+use Rattle.sum_engine.proofs.CheckLinesLemmas.{IsAlong-none, IsAlong-more, IsAlong-last, phase-initial, step-good, step-files, step-refusals}
 use Rattle.sum_engine.proofs.ReadToEndLemmas.{ReadToEnd-none, ReadToEnd-trans}
 use Rattle.sum_engine.proofs.check.check_one.check_lines.Goals as goal
 
@@ -14,7 +14,7 @@ returns-in-Err-clause-behavior g c =
     let so_far = c.lines.invariant in
     IsAlong-last g.I.Input.state g.S.Source.state c.args.checker.now c.args.streams.now c.lines.checker c.step.new.self
     c.lines.streams c.step.new.streams c.step.new.line.items (Err c.in-Err.stop) c.requires.start so_far.along
-    (c.in-Err.ensures.advances so_far.going).cursor.bounds (c.in-Err.ensures.step so_far.going)
+    (c.in-Err.ensures.advances so_far.going).verdict.cursor.bounds (c.in-Err.ensures.step so_far.going)
 
 -- the end was handled
 pub returns-in-Ok-Ended-clause-behavior : goal.returns-in-Ok-Ended-clause-behavior
@@ -23,17 +23,18 @@ returns-in-Ok-Ended-clause-behavior g c =
     let step = rw c.in-Ok-Ended.field-0-is at (c.in-Ok-Ended.ensures.step so_far.going) in
     IsAlong-last g.I.Input.state g.S.Source.state c.args.checker.now c.args.streams.now c.lines.checker c.step.new.self
     c.lines.streams c.step.new.streams c.step.new.line.items (Ok c.in-Ok-Ended.good) c.requires.start so_far.along
-    (c.in-Ok-Ended.ensures.advances so_far.going).cursor.bounds step
+    (c.in-Ok-Ended.ensures.advances so_far.going).verdict.cursor.bounds step
 
 -- a good manifest has no file that could not be read
 pub returns-in-Ok-Ended-clause-read_to_end : goal.returns-in-Ok-Ended-clause-read_to_end
 returns-in-Ok-Ended-clause-read_to_end g c = λ good.
     let so_far = c.lines.invariant in
-    let advances = c.in-Ok-Ended.ensures.advances so_far.going in
-    let ended : Ok c.in-Ok-Ended.field-0 ≡ Ok (Ended true) = rw c.in-Ok-Ended.field-0-is cc in
-    let none = advances.files.good ended in
-    let before : c.lines.checker.cursor.counts.unread ≡ 0 = omega (arith, advances.files.unread, none) in
-    ReadToEnd-trans (so_far.read_to_end before) (advances.files.read_to_end (none ∙ sym before))
+    let is : c.in-Ok-Ended.field-0 ≡ Ended true = rw c.in-Ok-Ended.field-0-is cc in
+    let advances = rw is at (c.in-Ok-Ended.ensures.advances so_far.going) in
+    let files = step-files advances in
+    let none = (step-good advances).1 in
+    let before : c.lines.checker.cursor.counts.unread ≡ 0 = omega (arith, files.0, none) in
+    ReadToEnd-trans (so_far.read_to_end before) (files.1 (none ∙ sym before))
 
 -- one line more was handled
 pub lines-preserved : goal.lines-preserved
@@ -41,17 +42,19 @@ lines-preserved g c =
     let so_far = c.lines.invariant in
     let done = c.in-Ok-Going.ensures in
     let advances = rw c.in-Ok-Going.field-0-is at (done.advances so_far.going) in
+    let files = step-files advances in
+    let refusals = step-refusals advances in
     record {
       along = IsAlong-more g.I.Input.state g.S.Source.state c.args.checker.now c.args.streams.now c.lines.checker
           c.step.new.self c.lines.streams c.step.new.streams c.step.new.line.items so_far.along advances done.flushed
           (rw c.in-Ok-Going.field-0-is at (done.step so_far.going));
       going = advances.final_answer;
       so_far = search rules;
-      phase = λ reading. advances.cursor.phase (so_far.phase reading);
+      phase = λ reading. advances.verdict.cursor.phase (so_far.phase reading);
       read_to_end = λ none.
-          let before : c.lines.checker.cursor.counts.unread ≡ 0 = omega (arith, advances.files.unread, none) in
-          ReadToEnd-trans (so_far.read_to_end before) (advances.files.read_to_end (none ∙ sym before));
+          let before : c.lines.checker.cursor.counts.unread ≡ 0 = omega (arith, files.0, none) in
+          ReadToEnd-trans (so_far.read_to_end before) (files.1 (none ∙ sym before));
       stdin = λ from.
           KeepsStdin-trans c.args.streams.now.inputs c.lines.streams.inputs c.step.new.streams.inputs (so_far.stdin from)
-          (advances.files.stdin (ap (λ r. r.from_stdin) so_far.along.rules ∙ from));
+          (advances.verdict.stdin (ap (λ r. r.from_stdin) so_far.along.rules ∙ from));
     }

@@ -3,7 +3,6 @@ use Rattle.sum_lines.specs.grammar.Entries.{EntryValue}
 use Rattle.sum_engine.specs.Behavior.{is_dash}
 use Rattle.sum_engine.specs.refinement.HashName.{HashesName}
 use Rattle.sum_engine.specs.refinement.Judging.{listed_entry}
-use Rattle.sum_engine.specs.refinement.Cursors.{rules_in}
 use Rattle.sum_engine.proofs.WorldLemmas.{InSomeWorld-map}
 use Rattle.sum_engine.proofs.VerdictLemmas.{judged_entry, entry_asks}
 use Rattle.sum_engine.proofs.check.judge.judge.Goals.{else-rules-via-then-rules+else-is_dash, else-rules-via-else-rules}
@@ -11,8 +10,9 @@ use Rattle.sum_engine.proofs.check.judge.judge.Goals as goal
 
 pub returns-clause-verdict : goal.returns-clause-verdict
 returns-clause-verdict g c =
+    let r = c.args.rules in
     let s : EntryValue = listed_entry c.args.listed.now in
-    let dash : c.args.rules.from_stdin && is_dash s.name ≡ false =
+    let dash : r.from_stdin && is_dash s.name ≡ false =
     elim c.else-rules.branch [
       | else-rules-via-then-rules+else-is_dash w ↦ search rules
       | else-rules-via-else-rules
@@ -20,9 +20,8 @@ returns-clause-verdict g c =
     ] in
     InSomeWorld-map {P = λ w v. HashesName s.kind w v s.name (Some c.in_ok-outcome.outcome)}
     c.in_ok-outcome.ensures.outcome (λ w v hashed.
-    judged_entry (rules_in c.args.rules) w v s c.in_ok-outcome.outcome _ dash hashed c.compare.ensures)
+    judged_entry r w v s c.in_ok-outcome.outcome _ dash hashed (rw (← c.rules.view_is) c.compare.ensures))
 
 pub returns-clause-asked : goal.returns-clause-asked
-returns-clause-asked g c =
-    let s : EntryValue = listed_entry c.args.listed.now in
-    rw (entry_asks (rules_in c.args.rules) s c.in_ok-outcome.outcome _ c.compare.ensures) c.in_ok-outcome.ensures.asked
+returns-clause-asked g c = rw (entry_asks c.rules.inside.ignore_missing (listed_entry c.args.listed.now)
+    c.in_ok-outcome.outcome _ c.compare.ensures) c.in_ok-outcome.ensures.asked

@@ -1,15 +1,13 @@
 use Rattle.std.proofs.Common.{◌≡◌, ◌==◌, refl, ◌∙◌}
 use Rattle.sum_sources.specs.declared.fault.Ending.TheVariants.{Whole}
-use Rattle.sum_engine.specs.check.Reports.{LabelsValue, CountsValue, Report, entries, warnings, unless_status, end_text}
+use Rattle.sum_engine.specs.check.Reports.{LabelsValue, Counts, Report, entries, warnings, unless_status, end_text}
 use Rattle.std.proofs.lemmas.Bool.{cond-false, ne_eqb}
 use Rattle.sum_engine.specs.declared.settings.Report.TheVariants.{Status}
 use Rattle.sum_engine.specs.check.Verdicts.{Rules}
-use Rattle.sum_engine.specs.refinement.Counters.{counts_value}
-use Rattle.sum_engine.specs.refinement.Cursors.{rules_in, labels_in}
 use Rattle.sum_engine.proofs.check.summary.put_end.Goals as goal
 
 -- if there are entries, and the setting isn't `--status`, the summary is the warnings
-end_text-shown : (r : Rules) (labels : LabelsValue) (c : CountsValue) → (entries c ≡ 0 → ⊥)
+end_text-shown : (r : Rules) (labels : LabelsValue) (c : Counts) → (entries c ≡ 0 → ⊥)
     → (labels.report ≡ Status → ⊥) → end_text r labels Whole c ≡ warnings r labels c
 end_text-shown r labels c some shown = cond-false (entries c == 0) _ _ (ne_eqb (entries c) 0 some)
     ∙ by labels.report shown
@@ -21,10 +19,11 @@ end_text-shown r labels c some shown = cond-false (entries c == 0) _ _ (ne_eqb (
 -- there are entries, and warnings are shown
 pub returns-in_default : goal.returns-in_default
 returns-in_default g c =
-    let shown = end_text-shown (rules_in c.args.rules) (labels_in c.args.labels.now) (counts_value c.args.counts)
-    (λ e. c.if-entries-eq0.false (c.entries.ensures ∙ e)) c.in_default.not-Status in
+    let shown = end_text-shown c.args.rules c.args.labels.now c.args.counts
+    (λ e. c.if-entries-eq0.false (c.entries.ensures ∙ e)) (rw (← c.labels.view_is) c.in_default.not-Status) in
     rw shown c.put_warnings.ensures
 
 -- there are none
 pub returns-then-entries-eq0 : goal.returns-then-entries-eq0
-returns-then-entries-eq0 g c = rw (← c.entries.ensures, c.if-entries-eq0.true) c.put_tool_line.ensures
+returns-then-entries-eq0 g c =
+    rw (← c.rules.view_is, ← c.labels.view_is, ← c.entries.ensures, c.if-entries-eq0.true) c.put_tool_line.ensures

@@ -1,0 +1,118 @@
+-- The states of a manifest's check: what remains of it, and what was found so far.
+use Rattle.std.specs.Prelude.{ℕ, ◌≡◌, ◌+◌, ◌≤◌, List, [], ◌∷◌, length, None, option_map}
+use Rattle.sum_sources.specs.declared.line_reader.LineReader.{LineReader}
+use Rattle.sum_sources.specs.Contents.{Content, InputState, clip}
+use Rattle.sum_sources.specs.Sources.{SourceState}
+use Rattle.sum_sources.specs.ManifestLines.{past_line}
+use Rattle.sum_sources.specs.LineReaders.{remaining_content, MayRemain, consumed_count}
+use Rattle.sum_lines.specs.declared.reading.read_line.Form.TheVariants.{Undecided}
+use Rattle.sum_lines.specs.grammar.Entries.{form_then, line_form, form}
+use Rattle.sum_lines.specs.grammar.ParsedLines.{parse_line}
+use Rattle.sum_engine.specs.check.Verdicts.{Form, Verdict, Ignored, Bad, Right, Wrong, Missing, Unread, lines_by, Rules, LineVerdictValue, judge, verdicts}
+use Rattle.sum_engine.specs.Execution.{InputsState, MayBeIn}
+use Rattle.sum_engine.specs.check.Reports.{LabelsValue, Counts, counts_of, end_text, good}
+use Rattle.sum_engine.specs.Behavior.{World, Behavior}
+use Rattle.sum_engine.specs.check.Checking.{line_steps}
+
+-- the counts of no line, those with one line more, and those of lines and then of others
+abbrev pub no_counts : Counts
+no_counts = record { right = 0; wrong = 0; missing = 0; unread = 0; bad = 0 }
+
+abbrev pub counts_with : Counts → Verdict → Counts
+counts_with c Ignored = c
+counts_with c Bad = record c { bad = c.bad + 1 }
+counts_with c Right = record c { right = c.right + 1 }
+counts_with c Wrong = record c { wrong = c.wrong + 1 }
+counts_with c Missing = record c { missing = c.missing + 1 }
+counts_with c (Unread f) = record c { unread = c.unread + 1 }
+
+abbrev pub counts_then : Counts → Counts → Counts
+counts_then c d = record {
+  right = c.right + d.right;
+  wrong = c.wrong + d.wrong;
+  missing = c.missing + d.missing;
+  unread = c.unread + d.unread;
+  bad = c.bad + d.bad;
+}
+
+-- the state of a manifest's check: what remains of it, the lines handled, the bytes that these consumed and those that
+-- its input has given, the form and the counts so far, and the world
+pub record CheckState : Type 0 where
+  pub rest : Content
+  pub number : ℕ
+  pub consumed : ℕ
+  pub taken : ℕ
+  pub form : Form
+  pub counts : Counts
+  pub world : World
+
+-- before the first line
+abbrev pub initial_state : Content → World → CheckState
+initial_state c w =
+    record { rest = c; number = 0; consumed = 0; taken = 0; form = Undecided; counts = no_counts; world = w }
+
+-- the next line's verdict
+abbrev pub next_judged : Rules → CheckState → List ℕ → LineVerdictValue
+next_judged r a l =
+    judge r a.world (a.number + 1) (parse_line r.profile r.algo (form_then a.form (line_form r.algo l)) l)
+
+-- the verdicts of the lines that remain
+abbrev pub remaining_verdicts : Rules → CheckState → List LineVerdictValue
+remaining_verdicts r a =
+    let ls = lines_by r.profile a.rest in
+    verdicts r (form_then a.form (form r.algo ls)) a.world a.number ls
+
+-- the behavior that remains
+abbrev pub remaining_behavior : Rules → LabelsValue → CheckState → Behavior
+remaining_behavior r labels a =
+    let js = remaining_verdicts r a in
+    let counts = counts_then a.counts (counts_of js) in
+    record {
+      steps = line_steps r labels (end_text r labels a.rest.ending counts) a.rest js;
+      good = good r a.rest.ending counts;
+    }
+
+-- one line was handled; the line's vector then holds this
+pub record LineHandled (r : Rules) (a b : CheckState) (vector : List ℕ) : Type 0 where
+  pub line : List ℕ
+  pub lines : lines_by r.profile a.rest ≡ line ∷ lines_by r.profile b.rest
+  pub rest : b.rest ≡ past_line a.rest
+  pub consumed : b.consumed + length b.rest.bytes ≡ a.consumed + length a.rest.bytes
+  pub taken : b.taken ≤ b.consumed + 8192  -- at most so many bytes are read ahead
+  pub number : b.number ≡ a.number + 1
+  pub form : b.form ≡ form_then a.form (line_form r.algo line)
+  pub counts : b.counts ≡ counts_with a.counts (next_judged r a line).verdict
+  pub vector_len : length vector ≤ length line
+
+-- a place in a manifest: its rules, its reader, and the form and the counts of its lines so far
+pub record CursorValue (I : Type 0) : Type 0 where
+  pub rules : Rules
+  pub reader : LineReader I
+  pub form : Form
+  pub counts : Counts
+
+-- the state of the check at a place, with this content in this world
+abbrev pub state_at : {I : Type 0} → CursorValue I → Content → World → CheckState
+state_at p c w = record {
+  rest = c;
+  number = p.reader.lines;
+  consumed = consumed_count p.reader;
+  taken = p.reader.taken;
+  form = p.form;
+  counts = p.counts;
+  world = w;
+}
+
+-- P holds between the check's states at two places and inputs: whatever remains after, in whatever world, there is a state
+-- before
+pub record InSomeCheck {I S : Type 0} (input : I → InputState) (source : S → SourceState) (p q : CursorValue I)
+    (a b : InputsState S) (P : CheckState → CheckState → Type 0) : Type 0 where
+  pub before : (d : Content) (v : World) → MayRemain input q.reader d → MayBeIn source b v
+      → (c : Content) × (w : World) × MayRemain input p.reader c × MayBeIn source a w × P (state_at p c w) (state_at q d v)
+
+-- it is at the first line of that input; nothing of it was read
+pub record IsAtStart {I : Type 0} (state : I → InputState) (p : CursorValue I) (input : I) : Type 0 where
+  pub reader : p.reader ≡ record { input = input; ahead = []; taken = 0; lines = 0; final_answer = None }
+  pub remaining : remaining_content state p.reader ≡ option_map clip (state input).content
+  pub form : p.form ≡ Undecided
+  pub counts : p.counts ≡ no_counts
