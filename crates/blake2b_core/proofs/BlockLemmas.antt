@@ -140,7 +140,8 @@ unfolding blake2b
 blake2b-last n m k l = grind (arith, length-blocks, hash_after-is, last_block)
 
 -- the digest, from the hash before the last block and that block's bytes
-pub blake2b-from : {m last bytes : ByteString} {h : List ℕ} {k t : ℕ} (n : ℕ) → IsLast m k → h ≡ hash_after n (blocks m) k
-    → last ≡ bytes ++ replicate (128 - length bytes) 0 → bytes ≡ drop (128 * k) m → t ≡ length m
+pub blake2b-from : {m last bytes : ByteString} {h : List ℕ} {k t : ℕ} (n : ℕ) → IsLast m k
+    → h ≡ hash_after n (blocks m) k → last ≡ bytes ++ replicate (128 - length bytes) 0
+    → bytes ≡ drop (128 * k) m → t ≡ length m
     → take n (flat_map (little_bytes 8) (compress h last t true)) ≡ blake2b n m
 blake2b-from {m = m} {k = k} n l hash filled rest total = rw (hash, filled, rest, total) (sym (blake2b-last n m k l))

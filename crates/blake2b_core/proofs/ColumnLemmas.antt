@@ -50,8 +50,8 @@ pub columns-rows : (r v : List (List ℕ)) (x y : List ℕ) → Mixes r v x y �
 unfolding mix columns
 columns-rows r v x y mixes = grind arith
 
--- four diagonals, as the columns of rows of which all but the second are rotated against it (a, c and d), and rotated
--- back (a', c' and d')
+-- four diagonals, as columns: all rows but the second are rotated (a, c and d), their columns are mixed, and then they
+-- are rotated back (a', c' and d')
 pub diagonals-rows : {a c d x' y' a' c' d' : List ℕ} (v r : List (List ℕ)) (x y : List ℕ)
     → a ≡ rotated_row (row v 0) 3 → c ≡ rotated_row (row v 2) 1 → d ≡ rotated_row (row v 3) 2 → x' ≡ rotated_row x 3
     → y' ≡ rotated_row y 3

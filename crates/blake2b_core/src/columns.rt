@@ -1,5 +1,5 @@
-//! The mixing function G of RFC 7693, 3.1, on four columns or diagonals at once: they share no word, so
-//! that each is a lane of four vectors, the rows of the working vector.
+//! The mixing function G of RFC 7693, 3.1, on four columns or four diagonals at once. The working vector is four rows
+//! of four words, and each row is a vector. No two columns share a word, so each column is a lane of these vectors.
 ghost use Rattle.std.specs.Prelude.{◌≡◌, ℕ, ◌<◌};
 ghost use Rattle.blake2b_core.specs.Compression.{◌!◌, ◌⊞◌, ◌⊻◌, ◌⋙◌};
 ghost use Rattle.blake2b_core.specs.refinement.Columns.{columns, diagonals, rotated_row, words};
@@ -56,8 +56,8 @@ fn rotated_row(row: u64x4, places: usize) -> u64x4
     }
 }
 
-// G on the diagonals: they are columns if the other rows are rotated against the second. That one stays, since G ends
-// with it and begins with it.
+// G on the diagonals. Three rows are rotated, so that the diagonals become columns, and are rotated back. The second
+// row stays, since G begins and ends with it.
 #[inline(always)]
 pub(crate) fn mixed_diagonals(v: [u64x4; 4], x: u64x4, y: u64x4) -> [u64x4; 4]
     ensures { words result ≡ diagonals (words v) x y }

@@ -7,7 +7,7 @@ use crate::one_shot::{BLOCK, followed_blocks, initial, padded_block, state_after
 use crate::output::Output;
 
 /// A message that comes in pieces has fewer bytes than this. FIPS 180-4 defines SHA-1, SHA-224 and SHA-256 for messages
-/// of fewer than 2^64 bits, which is 2^61 bytes; BLAKE2b would allow more, and has the same bound here.
+/// of fewer than 2^64 bits, which is 2^61 bytes. BLAKE2b would allow more, but has the same bound here.
 pub const LIMIT: u64 = 1 << 61;
 
 /// A BLAKE2b digest in the making: the message so far, of which at most one block is buffered.
@@ -78,7 +78,7 @@ impl Blake2b {
         self.taken += bytes.len() as u64;
     }
 
-    // Fills the buffered block up and compresses it, if some bytes are buffered and more follow than there is room for.
+    // If some bytes are buffered and the piece has more than there is room for: fills the buffer up and compresses it.
     // Returns how many bytes it took.
     fn fill(&mut self, piece: &[u8]) -> usize
         requires { self.old.taken + length piece.now < 2 ^ 61 }
@@ -99,8 +99,8 @@ impl Blake2b {
         room
     }
 
-    // Compresses the whole blocks at the front of the piece that a byte follows, if nothing is buffered. Returns how
-    // many bytes it took.
+    // If nothing is buffered: compresses the whole blocks at the front of the piece, but the last block only if a byte
+    // follows it. Returns how many bytes it took.
     fn absorb(&mut self, piece: &[u8]) -> usize
         requires fits { self.old.taken + length piece.now < 2 ^ 61 }
         requires room { 128 < self.old.buffer_len + length piece.now → self.old.buffer_len ≡ 0 }

@@ -23,7 +23,7 @@ pub(crate) fn initial(len: usize) -> [u64; 8]
     h
 }
 
-// The whole blocks at the front of `bytes` that a byte follows: none of them is a message's last block.
+// The whole blocks at the front of `bytes`, each of which a byte follows. So none of them is a message's last block.
 pub(crate) fn followed_blocks(bytes: &[u8]) -> &[[u8; 128]]
     ensures value { result.now ≡ first_chunks 128 ((length bytes.now - 1) / 128) bytes.now }
     ensures count { length result.now ≡ (length bytes.now - 1) / 128 }

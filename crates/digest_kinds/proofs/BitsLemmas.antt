@@ -64,9 +64,11 @@ kind_of_digits-some ds kind h =
     }
 
 -- digits that are those of no such number give none
-pub kind_of_digits-none : (ds : List ℕ) → ((len : ℕ) → 0 < len → len ≤ 64 → ds ≡ decimal (8 * len) → ⊥) → None ≡ kind_of_digits ds
+pub kind_of_digits-none : (ds : List ℕ) → ((len : ℕ) → 0 < len → len ≤ 64 → ds ≡ decimal (8 * len) → ⊥)
+    → None ≡ kind_of_digits ds
 kind_of_digits-none ds none =
-    none_of (kind_of_digits ds) (λ k h. let bits = kind_of_digits-some ds k h in none bits.len bits.some bits.few bits.digits)
+    none_of (kind_of_digits ds)
+    (λ k h. let bits = kind_of_digits-some ds k h in none bits.len bits.some bits.few bits.digits)
 
 -- ---- the number that the code makes of digits
 
@@ -133,7 +135,8 @@ number_kind (d ∷ ds) v all h =
     let some : digits_value 10 (d ∷ ds) ≢ 0 = λ none.
     let zero : 48 ∷ [] ≡ d ∷ ds = sym (decimal_digit 0 (omega arith)) ∙ ap decimal (sym none) ∙ text in
     lead (sym (ap (λ l. get_or l 0 0) zero)) in
-    rw (← is.1) (bits-kind (digits_value 10 (d ∷ ds)) (omega (arith, some)) (omega (arith, most)) ∙ ap kind_of_digits text)
+    rw (← is.1)
+    (bits-kind (digits_value 10 (d ∷ ds)) (omega (arith, some)) (omega (arith, most)) ∙ ap kind_of_digits text)
 
 -- and if it makes none, no number of bits is written so
 number-there : (ds : List ℕ) → 48 < get_or ds 0 0 → length ds ≤ 3 → short_number ds ≡ None → ⊥

@@ -1,4 +1,4 @@
--- What holds of each algorithm, seen one by one, so that no crate above has to.
+-- Facts of all algorithms. They are proved for one variant after another, so that no crate above has to do that.
 use Rattle.std.proofs.Common.{ℕ, ◌≡◌, ◌<◌, ◌≤◌, List, ◌∷◌, ◌++◌, true, arith}
 use Rattle.hex.specs.Hex.{is_hex_digit}
 use Rattle.digest_kinds.specs.Kinds.{Algo, Blake2b, full_len, has_len, tag}

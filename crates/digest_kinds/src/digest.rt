@@ -76,7 +76,7 @@ impl Digest {
         self == other
     }
 
-    /// Writes the digits, in lower case, to the front of `out`, whose rest stays, and returns their number.
+    /// Writes the digits, in lower case, to the front of `out`, and returns their number. The rest of `out` stays.
     pub fn hex_into(&self, out: &mut [u8; 128]) -> usize
         ensures number { result ≡ 2 * length self.now }
         ensures at_most { result ≤ 128 }

@@ -42,8 +42,8 @@ impl Kind {
         text
     }
 
-    /// The kind whose text begins the bytes, which begin with the algorithm's tag, and what follows that text. `None` if
-    /// a `-` follows BLAKE2b's tag, and no number of bits follows that.
+    /// The kind whose text begins the bytes, and what follows that text. The bytes begin with the algorithm's tag.
+    /// `None` if and only if a `-` follows BLAKE2b's tag, and no number of bits of a BLAKE2b digest follows the `-`.
     pub fn of_tag_prefix(algo: Algo, bytes: &[u8]) -> Option<KindPrefix<'_>>
         requires { BeginsWithTag bytes.now algo }
         ensures { option_map (λ w. (w.kind, w.rest.now)) result
@@ -74,7 +74,7 @@ fn put_bits(bits: u64, buffer: &mut [u8; 11]) -> usize
     end
 }
 
-// The same for BLAKE2b, of what follows the tag.
+// The same for BLAKE2b, if the bytes are what follows its tag.
 fn blake2b_prefix(bytes: &[u8]) -> Option<KindPrefix<'_>>
     ensures { option_map (λ w. (w.kind, w.rest.now)) result ≡ kind_and_rest Algo.Blake2b bytes.now }
 {

@@ -26,7 +26,8 @@ use Rattle.sum_lines.proofs.TaggedLemmas.{hex-no_blank, tag_in-some}
 use Rattle.sum_lines.specs.declared.reading.beginnings.Beginning.TheVariants as beginnings
 
 -- a cut has two digits for each byte of its digest, and so few that the search meets its blank
-cut-size : {a : Algo} {s d : List ℕ} → BeginsWithDigits a s d → (position_or_len is_blank s ≡ 2 * length d) × (length d ≤ 64)
+cut-size : {a : Algo} {s d : List ℕ} → BeginsWithDigits a s d
+    → (position_or_len is_blank s ≡ 2 * length d) × (length d ≤ 64)
 cut-size cut = search (rules, cut-within, decoded-size)
 
 -- ---- the tag

@@ -1,4 +1,4 @@
--- A buffer over a sink: the calls of the sink below, as calls of the buffer.
+-- A buffer over a sink: what a call of the sink below does to the buffer's state.
 use Rattle.std.proofs.lemmas.Grind.{common_steps}
 use Rattle.std.proofs.Common.{ℕ, ◌≡◌, List, [], Result, arith, rules}
 use Rattle.sum_lines.specs.sinks.Sinks.{SinkState, Accepts, Flushes, WritesAll}

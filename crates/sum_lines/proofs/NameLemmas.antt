@@ -1,4 +1,4 @@
--- The name that is left in place of a raw name, and the raw name in a tail.
+-- A raw name is replaced by the name that it spells; and the raw name in a plain line's tail.
 use Rattle.std.proofs.Common.{ℕ, ◌≡◌, ◌+◌, ◌-◌, ◌≤◌, ◌↔◌, Bool, true, false, not, cond, List, ◌++◌, take, drop, slice_range, Option, None, Some, refl, ap, sym, ◌∙◌, arith, nat_lt, rules}
 use Rattle.std.specs.List.{list_all}
 use Rattle.std.specs.Option.{is_some}

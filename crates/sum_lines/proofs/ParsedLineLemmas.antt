@@ -9,7 +9,7 @@ use Rattle.sum_lines.specs.grammar.Entries.{Form, Undecided, Standard, Reversed,
 use Rattle.sum_lines.specs.Escape.{Profile, present, escape_by}
 use Rattle.sum_lines.specs.grammar.LineParts.{LinePartsValue, tagged_parts, plain_parts}
 use Rattle.sum_lines.specs.grammar.ParsedLines.{with_raw, entry_of_parts, entry_of, ParsedLine, parse_line}
-use Rattle.sum_lines.specs.grammar.LineLaws.{HasOneEntry, MatchesGrammar, ParsesByGrammar}
+use Rattle.sum_lines.specs.grammar.LineLaws.{HasOneEntry, FitsGrammar, ParsesByGrammar}
 use Rattle.digest_kinds.proofs.PrefixLemmas.{bind_some, none_of}
 use Rattle.sum_lines.proofs.PlainLemmas.{apart, plain_is_read, read_is_plain}
 use Rattle.sum_lines.proofs.TaggedLemmas.{tagged_is_read, read_is_tagged}
@@ -67,8 +67,8 @@ module _ (p : Profile) (algos : Algos) (f : Form) (line : List ℕ) where
       (tagged-not_ignored tagged, inl (record { escaped = t.escaped; raw = t.text; tagged = tagged; spells = name.1 }))
 
   -- what a plain line's spell, with the raw name of its tail
-  by-tail : (s : EntryValue) (t : LinePartsValue) (raw : List ℕ) → plain_parts algos line ≡ Some t → IsRawName f t.text raw
-      → entry_of_parts p (with_text t raw) ≡ Some s → IsEntry (escape_by p) algos f line s
+  by-tail : (s : EntryValue) (t : LinePartsValue) (raw : List ℕ) → plain_parts algos line ≡ Some t
+      → IsRawName f t.text raw → entry_of_parts p (with_text t raw) ≡ Some s → IsEntry (escape_by p) algos f line s
   by-tail s t raw found is h =
       let name = is-spelled p (with_text t raw) s h in
       let plain = read_is_plain found in
@@ -120,5 +120,5 @@ parse_is_grammar p algos f line =
 
 -- so is what equals it
 pub matches : {p : Profile} {algos : Algos} {f : Form} {line : List ℕ} {said : ParsedLine}
-    → said ≡ parse_line p algos f line → MatchesGrammar p algos f line said
+    → said ≡ parse_line p algos f line → FitsGrammar p algos f line said
 matches {p} {algos} {f} {line} h = rw h (parse_is_grammar p algos f line)

@@ -1,5 +1,5 @@
--- A line that joins from the parts of a plain line is read as these parts, and no other line is read. No line is both
--- plain and tagged.
+-- A line that is put together from the parts of a plain line is read as these parts, and no other line is read as
+-- plain. No line is both plain and tagged.
 use Rattle.std.proofs.Common.{ℕ, ◌≡◌, ◌*◌, ◌<◌, ◌≤◌, not, Bool, true, List, [], ◌∷◌, ◌++◌, length, get_or, None, Some, Ok, refl, ap, sym, ◌∙◌, arith, length-drop, take_while, rules}
 use Rattle.std.specs.List.{AllPass, before_first, after_first, position_or_len}
 use Rattle.std.proofs.lemmas.Bool.{lt-ltb}
@@ -123,7 +123,8 @@ plain_is_read p t =
 -- a plain line's digits begin no tag
 pub no_prefix : (a : Algo) (ds s rest : List ℕ) → AllPass is_hex_digit ds → 2 ≤ length ds → ds ++ s ≡ tag a ++ rest → ⊥
 no_prefix a (x ∷ y ∷ xs) s rest all two e =
-    no_digits a x y (xs ++ s) rest (All-head IsHex x (y ∷ xs) all) (All-head IsHex y xs (All-tail IsHex x (y ∷ xs) all)) e
+    no_digits a x y (xs ++ s) rest (All-head IsHex x (y ∷ xs) all)
+    (All-head IsHex y xs (All-tail IsHex x (y ∷ xs) all)) e
 no_prefix a ds s rest all two e = absurd (omega arith)
 
 -- no line is both plain and tagged

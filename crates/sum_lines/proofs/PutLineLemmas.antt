@@ -63,25 +63,26 @@ back {algos} {before} {later} {kind} {name} {digest} {prefix} one has keeps =
       keeps = keeps;
     }
 
-module _ {kind : KindValue} {name digest : List ℕ} (before later : List (List ℕ)) (w : IsWritable kind name digest) where
-  -- a plain line
-  plain-back : (x : ℕ) → is_space_or_star x ≡ true → inline x ≡ true → IsReadable (form (One kind.algo) before)
-      → SpellsBack (One kind.algo) before later (plain_line x name digest ++ (10 ∷ [])) kind name digest
-  plain-back x star one_line readable =
-      let line : List ℕ = plain_line x name digest in
-      let now : (others : List (List ℕ)) → form (One kind.algo) (before ++ (line ∷ others)) ≡ Standard =
-      λ others. form-after (One kind.algo) before others line (plain-form w x star) readable in
-      back (IsInline-plain w x one_line) (plain-entry w x _ star (now later)) (inr (now []))
+module _ {kind : KindValue} {name digest : List ℕ} (before later : List (List ℕ)) (w : IsWritable kind name digest)
+  where
+    -- a plain line
+    plain-back : (x : ℕ) → is_space_or_star x ≡ true → inline x ≡ true → IsReadable (form (One kind.algo) before)
+        → SpellsBack (One kind.algo) before later (plain_line x name digest ++ (10 ∷ [])) kind name digest
+    plain-back x star one_line readable =
+        let line : List ℕ = plain_line x name digest in
+        let now : (others : List (List ℕ)) → form (One kind.algo) (before ++ (line ∷ others)) ≡ Standard =
+        λ others. form-after (One kind.algo) before others line (plain-form w x star) readable in
+        back (IsInline-plain w x one_line) (plain-entry w x _ star (now later)) (inr (now []))
 
-  -- and a tagged one
-  tagged-back : (algos : Algos) (width : List ℕ) → Allows algos kind.algo → IsWidth kind width
-      → IsReadable (form algos before)
-      → SpellsBack algos before later (tagged_line kind width name digest ++ (10 ∷ [])) kind name digest
-  tagged-back algos width allowed is_width readable =
-      let line : List ℕ = tagged_line kind width name digest in
-      let undecided = tagged-undecided (tagged-written w algos width allowed is_width) in
-      back (IsInline-tagged w width is_width) (tagged-entry w algos width _ allowed is_width)
-      (form-kept algos before line undecided readable)
+    -- and a tagged one
+    tagged-back : (algos : Algos) (width : List ℕ) → Allows algos kind.algo → IsWidth kind width
+        → IsReadable (form algos before)
+        → SpellsBack algos before later (tagged_line kind width name digest ++ (10 ∷ [])) kind name digest
+    tagged-back algos width allowed is_width readable =
+        let line : List ℕ = tagged_line kind width name digest in
+        let undecided = tagged-undecided (tagged-written w algos width allowed is_width) in
+        back (IsInline-tagged w width is_width) (tagged-entry w algos width _ allowed is_width)
+        (form-kept algos before line undecided readable)
 
 -- each of the three layouts is read back
 pub read_back : IsReadBack

@@ -1,5 +1,5 @@
--- The lines that are written, as they are put together: each has its shape, spells the name and the digest that it was
--- written for, and has no newline and no carriage return before its end.
+-- The lines that are written. Each has its shape, and spells the name and the digest that it was written for. It has no
+-- newline and no carriage return before its end.
 use Rattle.std.proofs.lemmas.Grind.{common_steps}
 use Rattle.std.proofs.Common.{ℕ, ◌≡◌, ◌≢◌, ◌*◌, ◌<◌, not, Bool, true, false, ◌==◌, ◌||◌, List, [], ◌∷◌, ◌++◌, length, refl, arith, inl, inr, cond, All, decimal}
 use Rattle.std.specs.List.{AllPass, list_all}

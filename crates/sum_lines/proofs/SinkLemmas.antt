@@ -1,5 +1,5 @@
--- A text that is written piece by piece: what is written of it when a piece was accepted, and when a write failed.
--- `a`, `b`, `c` are the sink before, between and after.
+-- A text is written piece by piece. The lemmas say what of it is written after a piece was accepted, and after a write
+-- failed. `a`, `b` and `c` are the sink before, between and after.
 use Rattle.std.proofs.Common.{ℕ, ◌≡◌, ◌<◌, ◌-◌, List, [], ◌++◌, length, take, drop, Option, None, Some, Result, Ok, Err, refl, ap, sym, ◌∙◌, append_assoc, append-nil, take-append-drop, length-append, arith, rules}
 use Rattle.std.proofs.lemmas.List.{take_rest, append_cancel_left}
 use Rattle.std.specs.Io.KnownBytes.{Appends, append_known}

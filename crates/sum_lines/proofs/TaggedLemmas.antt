@@ -1,5 +1,5 @@
--- What is read of a tagged line joins to the line, and a line that joins from the parts of a tagged line is read as
--- these parts.
+-- The parts that are read of a tagged line, put together, are the line. A line that is put together from the parts of a
+-- tagged line is read as these parts.
 use Rattle.std.proofs.lemmas.Grind.{common_steps}
 use Rattle.std.proofs.Common.{ℕ, ◌≡◌, Bool, true, ◌==◌, ◌&&◌, List, [], ◌∷◌, ◌++◌, length, drop, Some, refl, ap, ◌≢◌, false, eq-eqb, arith, nat_lt, take_while, All, rules}
 use Rattle.std.specs.Char.{is_ascii_digit}

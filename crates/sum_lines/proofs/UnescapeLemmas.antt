@@ -1,4 +1,5 @@
--- What is escaped can be read back: the name whose escape some bytes are, as it is computed, and as the code finds it.
+-- What is escaped can be read back. If some bytes are the escape of a name, both the definition and the code find the
+-- name.
 use Rattle.std.proofs.Common.{◌≡◌, ℕ, ◌<◌, ◌==◌, Bool, true, false, cond, List, [], ◌∷◌, ◌++◌, Some, refl, ap, sym, ◌∙◌, ◌≢◌, ◌+◌, ◌-◌, ◌≤◌, length, take, drop, set, append_assoc, arith, length-drop, All, nat_lt, rules}
 use Rattle.std.specs.List.{list_all}
 use Rattle.std.proofs.lemmas.List.{append-nil, append_cancel_left, length-take-le, take-take, take-append-le}
@@ -91,7 +92,8 @@ pub record IsHalfUnescaped (start bytes : List ℕ) (read write : ℕ) : Type 0 
   pub whole : escape (take write bytes) ++ drop read bytes ≡ start
 
 -- one more byte was read and written
-pub IsHalfUnescaped-more : {start bytes : List ℕ} {read write : ℕ} (b width : ℕ) → IsHalfUnescaped start bytes read write
+pub IsHalfUnescaped-more : {start bytes : List ℕ} {read write : ℕ} (b width : ℕ)
+    → IsHalfUnescaped start bytes read write
     → drop read bytes ≡ escape_of present b ++ drop width (drop read bytes) → 0 < width
     → width ≤ length (drop read bytes)
     → IsHalfUnescaped start (set bytes write b) (read + width) (write + 1)
@@ -100,11 +102,13 @@ IsHalfUnescaped-more b width h here some fits = grind (arith, common_steps)
 -- what was read is within the bytes
 pub IsHalfUnescaped-fits : {start bytes : List ℕ} {read write : ℕ} (width : ℕ) → IsHalfUnescaped start bytes read write
     → width ≤ length (drop read bytes) → read + width ≤ length start
-IsHalfUnescaped-fits {bytes = bytes} {read = read} width h fits = omega (arith, fits, h.within, h.size, length-drop read bytes)
+IsHalfUnescaped-fits {bytes = bytes} {read = read} width h fits =
+    omega (arith, fits, h.within, h.size, length-drop read bytes)
 
 -- a rest that no escape begins
-pub IsHalfUnescaped-refused : {start bytes : List ℕ} {read write : ℕ} → IsHalfUnescaped start bytes read write → read < length bytes
-    → ((b : ℕ) (rest : List ℕ) → drop read bytes ≢ escape_of present b ++ rest) → ¬ IsEscaped start
+pub IsHalfUnescaped-refused : {start bytes : List ℕ} {read write : ℕ} → IsHalfUnescaped start bytes read write
+    → read < length bytes → ((b : ℕ) (rest : List ℕ) → drop read bytes ≢ escape_of present b ++ rest)
+    → ¬ IsEscaped start
 IsHalfUnescaped-refused {bytes = bytes} {read = read} {write = write} h some none = λ e.
     let rest = escape-rest (take write bytes) e.0 (drop read bytes) (h.whole ∙ e.1) in
     elim rest.0 as (λ m. drop read bytes ≡ escape m → ⊥) [

@@ -1,8 +1,9 @@
--- How names are escaped, byte by byte, and what versions of the tools differ in, of escapes and of lines.
+-- How names are escaped, byte by byte. A profile says in what the versions of the tools differ.
 use Rattle.std.specs.Prelude.{◌≡◌, ℕ, ◌==◌, ◌&&◌, Bool, true, not, [], ◌∷◌, flat_map, bytes_eq, codes, if◌then◌else◌}
 pub use Rattle.digest_kinds.specs.Basics.{ByteString}
 
--- whether a carriage return in a name is escaped, one at a line's end is left out, and an empty line is ignored
+-- a profile: whether a carriage return in a name is escaped, whether one at a line's end is left out, and whether an
+-- empty line is ignored
 pub record Profile : Type 0 where
   pub escapes_carriage_return : Bool
   pub drops_carriage_return : Bool
@@ -12,7 +13,8 @@ pub record Profile : Type 0 where
 abbrev pub present : Profile
 present = record { escapes_carriage_return = true; drops_carriage_return = true; ignores_empty = true }
 
--- a backslash (92) becomes `\\`, a newline (10) `\n`, a carriage return (13) `\r` if the profile says so; others stay
+-- a byte's escape: a backslash (92) becomes `\\`, a newline (10) becomes `\n`, a carriage return (13) becomes `\r` if
+-- the profile says so, and any other byte stays
 abbrev pub escape_of : Profile → ℕ → ByteString
 escape_of p b = if b == 92 then codes "\\\\" else if b == 10 then codes "\\n"
     else if p.escapes_carriage_return && (b == 13) then codes "\\r" else b ∷ []

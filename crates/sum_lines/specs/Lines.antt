@@ -16,7 +16,7 @@ layout Text kind name digits = concat (digits ∷ codes "  " ∷ name ∷ [])
 layout Binary kind name digits = concat (digits ∷ codes " *" ∷ name ∷ [])
 layout Tag kind name digits = concat (kind_text kind ∷ codes " (" ∷ name ∷ codes ") = " ∷ digits ∷ [])
 
--- the whole line: it ends with a newline and its name is escaped, or it ends with NUL and the name is as it is
+-- the whole line: either it ends with a newline and its name is escaped, or it ends with NUL and its name isn't
 abbrev pub line : Style → KindValue → ByteString → ByteString → ByteString
 line style kind name digest = let digits = encode_lower digest in
     if style.zero then layout style.mode kind name digits ++ codes "\0"

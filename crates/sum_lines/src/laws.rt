@@ -1,10 +1,10 @@
-//! Laws of the line grammar: what holds of its definitions, whatever the code does.
+//! Laws of the line grammar. Each is the contract of a function that does nothing, and holds whatever the code does.
 
 ghost use Rattle.sum_lines.specs.grammar.LineLaws.{AreApart, HasOneEntry, HasOneForm, ParsesByGrammar, IsReadBack, KeepsForm};
 ghost use Rattle.sum_lines.specs.grammar.LineLaws.{KeepsParse};
 
-/// For given algorithms and a given form a line spells at most one entry; and no line is both plain and tagged,
-/// whichever algorithms these are.
+/// For given algorithms and a given form a line spells at most one entry. No line is both plain and tagged, even if the
+/// two have other algorithms.
 pub fn one_entry()
     ensures entry { HasOneEntry }
     ensures apart { AreApart }
@@ -16,8 +16,8 @@ pub fn one_form()
     ensures { HasOneForm }
 {}
 
-/// What a line says, as it is computed, is what the line grammar says of it, whichever the profile: it is ignored, an
-/// entry, or bad, each if and only if the grammar says so.
+/// What is computed of a line is what the line grammar says of it, whichever the profile. It is ignored, an entry, or
+/// bad, each if and only if the grammar says so.
 pub fn parse_is_grammar()
     ensures { ParsesByGrammar }
 {}
@@ -29,9 +29,9 @@ pub fn same_parse()
     ensures form { KeepsForm }
 {}
 
-/// A line that was written, not in zero style, for a name that isn't empty and has no NUL, is read back by its own
-/// algorithm's tool and, if it is tagged, by the one that takes any algorithm, if no earlier line makes the manifest
-/// `Reversed`. It spells the kind, the digest and the name that it was written for.
+/// A line that is written is read back: it spells the kind, the digest and the name that it was written for. It is read
+/// by its own algorithm or, if it is tagged, by any. The name isn't empty and has no NUL, the style isn't zero, and no
+/// earlier line makes the manifest `Reversed`.
 #[tactic(auto, using(crate::proofs::PutLineLemmas::read_back))]
 pub fn read_back()
     ensures { IsReadBack }

@@ -1,5 +1,5 @@
--- Joins the round of the compression function, G by G, and the code that mixes four columns at once: the working vector
--- as four rows of four words.
+-- Joins the definition of a round, one G after another, to the code, which mixes four columns at once. The working
+-- vector is four rows of four words.
 use Rattle.std.specs.Prelude.{ℕ, ◌+◌, ◌%◌, List, [], ◌∷◌, map, slice_index_or}
 use Rattle.std.specs.List.{range_with_len}
 use Rattle.std.specs.Simd.{first_chunks}

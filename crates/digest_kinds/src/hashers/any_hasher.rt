@@ -30,7 +30,7 @@ pub enum AnyHasher {
     Blake2b(Blake2b),
 }
 
-// The same of whichever hasher it is.
+// The result for the hasher that is in the value, whichever it is.
 macro_rules! each {
     ($any:expr, $hasher:ident => $result:expr) => {
         match $any {

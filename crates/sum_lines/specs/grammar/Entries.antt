@@ -1,4 +1,4 @@
--- What a manifest's lines say: the form, which the first plain line decides for all, and the entry that a line spells.
+-- What the lines of a manifest say. The first plain line decides the form of all; and a line spells an entry.
 use Rattle.std.specs.Prelude.{ℕ, ◌≡◌, ◌<◌, ◌⊎◌, ◌==◌, ◌||◌, Bool, false, List, [], ◌∷◌, IsTrue, if◌then◌else◌, All}
 use Rattle.std.specs.Option.{option_map_or}
 use Rattle.digest_kinds.specs.Kinds.{KindValue}
@@ -8,7 +8,7 @@ use Rattle.sum_lines.specs.grammar.LineParts.{plain_parts}
 pub use Rattle.sum_lines.specs.declared.reading.read_line.Form.{Form}
 pub use Rattle.sum_lines.specs.declared.reading.read_line.Form.TheVariants.{Undecided, Standard, Reversed}
 
--- whether a line is ignored: it begins with `#` (35), or it is empty, unless the profile has that for a bad line
+-- whether a line is ignored: it begins with `#` (35), or it is empty and the profile ignores empty lines
 abbrev pub is_ignored_by : Profile → ByteString → Bool
 is_ignored_by p [] = p.ignores_empty
 is_ignored_by p (b ∷ bs) = b == 35
@@ -22,7 +22,7 @@ abbrev pub begins_standard : ByteString → Bool
 begins_standard (b ∷ c ∷ bs) = b == 32 || b == 42
 begins_standard tail = false
 
--- A line decides the form of a list if it isn't ignored and is plain: by its tail.
+-- A line decides the form of a list if it isn't ignored and is plain. Its tail says which form.
 pub record DecidesForm (algos : Algos) (line : ByteString) (form : Form) : Type 0 where
   pub escaped : Bool
   pub kind : KindValue
@@ -38,14 +38,14 @@ IsForm algos [] form = form ≡ Undecided
 IsForm algos (line ∷ later) form = DecidesForm algos line form
     ⊎ (((f : Form) → ¬ DecidesForm algos line f) × IsForm algos later form)
 
--- The raw name, as the line has it, spells a name: the name has no NUL; the raw name is its escape if the line has the
--- backslash for that, and the name itself if not.
+-- A raw name, as the line has it, spells a name without NUL. If the line has the backslash for that, the raw name is
+-- the escape of the name; if not, it is the name itself.
 pub record Spells (escape : ByteString → ByteString) (escaped : Bool) (raw name : ByteString) : Type 0 where
   pub no_nul : All (λ b. 0 < b) name
   pub is : raw ≡ (if escaped then escape name else name)
 
--- the raw name in a plain line's tail: in a Reversed list all of it; in a Standard one all but its first byte, if that
--- is a space or a star and more follows
+-- the raw name in a plain line's tail: in a Reversed list it is the tail; in a Standard list the tail begins with a
+-- space or a star, more follows, and the raw name is what follows that byte
 abbrev pub IsRawName : Form → ByteString → ByteString → Type 0
 IsRawName Undecided tail raw = ⊥
 IsRawName Reversed tail raw = raw ≡ tail
@@ -58,11 +58,12 @@ pub record EntryValue : Type 0 where
   pub name : ByteString
 
 -- the entry of a tagged line, whose raw name spells the name
-pub record SpellsByTag (escape : ByteString → ByteString) (algos : Algos) (line : ByteString) (s : EntryValue) : Type 0 where
-  pub escaped : Bool
-  pub raw : ByteString
-  pub tagged : IsTagged algos line escaped s.kind s.digest raw
-  pub spells : Spells escape escaped raw s.name
+pub record SpellsByTag (escape : ByteString → ByteString) (algos : Algos) (line : ByteString) (s : EntryValue) : Type 0
+  where
+    pub escaped : Bool
+    pub raw : ByteString
+    pub tagged : IsTagged algos line escaped s.kind s.digest raw
+    pub spells : Spells escape escaped raw s.name
 
 -- the entry of a plain line, in whose tail the form finds the raw name
 pub record SpellsByTail (escape : ByteString → ByteString) (algos : Algos) (form : Form) (line : ByteString)

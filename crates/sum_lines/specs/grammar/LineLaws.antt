@@ -23,8 +23,8 @@ AreApart = (algos others : Algos) (line : ByteString) (e f : Bool) (kind other :
 abbrev pub HasOneForm : Type 0
 HasOneForm = (algos : Algos) (lines : List ByteString) (f : Form) → IsForm algos lines f ↔ (f ≡ form algos lines)
 
--- What the grammar says of a line: it is ignored, its entry, or bad, each if and only if it is so.
-pub record MatchesGrammar (p : Profile) (algos : Algos) (f : Form) (line : ByteString) (said : ParsedLine) : Type 0 where
+-- What is said of a line matches the grammar: it is ignored, an entry, or bad, each if and only if the grammar says so.
+pub record FitsGrammar (p : Profile) (algos : Algos) (f : Form) (line : ByteString) (said : ParsedLine) : Type 0 where
   pub when_ignored : (said ≡ ignored) ↔ (is_ignored_by p line ≡ true)
   pub when_entry : (s : EntryValue) → (said ≡ entry s)
       ↔ ((is_ignored_by p line ≡ false) × IsEntry (escape_by p) algos f line s)
@@ -34,7 +34,7 @@ pub record MatchesGrammar (p : Profile) (algos : Algos) (f : Form) (line : ByteS
 -- what is computed of a line is what the grammar says of it, whichever the profile
 abbrev pub ParsesByGrammar : Type 0
 ParsesByGrammar = (p : Profile) (algos : Algos) (f : Form) (line : ByteString)
-    → MatchesGrammar p algos f line (parse_line p algos f line)
+    → FitsGrammar p algos f line (parse_line p algos f line)
 
 -- later lines don't change how a line parses
 abbrev pub KeepsParse : Type 0
@@ -48,7 +48,7 @@ KeepsForm = (algos : Algos) (before later others : List ByteString) (line : Byte
     → (e : Bool) (kind : KindValue) (d tail : ByteString) → IsPlain algos line e kind d tail
     → form algos (before ++ (line ∷ later)) ≡ form algos (before ++ (line ∷ others))
 
--- the algorithms by which a line of that mode is read back: its own, and in tagged mode any
+-- the algorithms by which a line of that mode can be read back: its own or, in tagged mode, any
 abbrev pub AllowsMode : Algos → Mode → Algo → Type 0
 AllowsMode (One a) mode algo = a ≡ algo
 AllowsMode Any mode algo = mode ≡ Tag
@@ -61,7 +61,8 @@ pub record IsWritable (kind : KindValue) (name digest : ByteString) : Type 0 whe
   pub size : length digest ≡ kind.len
   pub has : IsTrue (has_len kind.algo kind.len)
 
--- what precedes the text's newline is one line and spells that entry, no other; the form stays Undecided or Standard
+-- what precedes the text's newline is one line; it spells that entry and no other; and the form stays Undecided or
+-- Standard
 pub record SpellsBack (algos : Algos) (before later : List ByteString) (text : ByteString) (kind : KindValue)
     (name digest : ByteString) : Type 0 where
   pub prefix : ByteString
@@ -71,9 +72,9 @@ pub record SpellsBack (algos : Algos) (before later : List ByteString) (text : B
       ↔ (s ≡ record { kind = kind; digest = digest; name = name })
   pub keeps : (form algos (before ++ (prefix ∷ [])) ≡ Undecided) ⊎ (form algos (before ++ (prefix ∷ [])) ≡ Standard)
 
--- a line that is written not in zero style is read back, after lines whose form is Undecided or Standard
+-- a line that is written, but not in zero style, is read back after lines whose form is Undecided or Standard
 abbrev pub IsReadBack : Type 0
-IsReadBack = (algos : Algos) (mode : Mode) (kind : KindValue) (name digest : ByteString) (before later : List ByteString)
-    → AllowsMode algos mode kind.algo → IsWritable kind name digest
+IsReadBack = (algos : Algos) (mode : Mode) (kind : KindValue) (name digest : ByteString)
+    (before later : List ByteString) → AllowsMode algos mode kind.algo → IsWritable kind name digest
     → (form algos before ≡ Undecided) ⊎ (form algos before ≡ Standard)
     → SpellsBack algos before later (line (record { mode = mode; zero = false }) kind name digest) kind name digest

@@ -1,5 +1,5 @@
--- How a line parses, computed; it need not be believed: by the law `parse_is_grammar` it is what the line grammar says.
--- And what a `Reading` says of a line.
+-- How a line parses, computed. It need not be believed: by the law `parse_is_grammar` it is what the line grammar says.
+-- After that, what a `Reading` says of a line.
 use Rattle.std.specs.Prelude.{◌≡◌, ◌≤◌, ◌==◌, ◌∷◌, length, drop, slice_range, nat_lt, bytes_eq, ⊤, Option, None, Some, if◌then◌else◌}
 use Rattle.std.specs.Option.{option_or, option_map_or}
 use Rattle.std.specs.List.{list_all}
@@ -28,7 +28,7 @@ with_raw Reversed q = Some q
 with_raw Standard q = if begins_standard q.text then Some (record q { text = drop 1 q.text }) else None
 with_raw Undecided q = None
 
--- the entry that a line's parts spell, whose text is a raw name, if it spells a name without NUL
+-- the entry that a line's parts spell, if their text is a raw name that spells a name without NUL
 abbrev pub entry_of_parts : Profile → LinePartsValue → Option EntryValue
 entry_of_parts p t = do
   name ← if t.escaped then unescape p t.text else Some t.text
@@ -48,7 +48,7 @@ pub data ParsedLine : Type 0 where
 abbrev pub parse_line : Profile → Algos → Form → ByteString → ParsedLine
 parse_line p algos f line = if is_ignored_by p line then ignored else option_map_or entry (entry_of p algos f line) bad
 
--- what a reading says, whose name is a range of the line's vector
+-- what a reading says of a line; the name of an entry is a range of the line's vector
 abbrev pub parsed_line_of : ByteString → Reading → ParsedLine
 parsed_line_of line readings.Ignored = ignored
 parsed_line_of line readings.Bad = bad
@@ -59,4 +59,4 @@ parsed_line_of line (readings.Entry kind digest start stop) =
 abbrev pub IsWithin : ByteString → Reading → Type 0
 IsWithin line readings.Ignored = ⊤
 IsWithin line readings.Bad = ⊤
-IsWithin line (readings.Entry kind digest start stop) = (start ≤ stop) × (stop ≤ length line) × (length digest ≡ kind.len)
+IsWithin line (readings.Entry k digest start stop) = (start ≤ stop) × (stop ≤ length line) × (length digest ≡ k.len)

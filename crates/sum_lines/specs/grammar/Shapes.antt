@@ -1,6 +1,5 @@
--- The two shapes of a manifest's line: how the whole line is put together from its parts. These are relations, and no
--- reading from the start: a line has a shape if some parts join to it. Either may begin with blanks and then one
--- backslash, which says that the name is escaped.
+-- The two shapes of a manifest's line, plain and tagged. A line has a shape if some parts, put together, are the line.
+-- Either shape may begin with blanks and then one backslash. The backslash says that the name is escaped.
 use Rattle.std.specs.Prelude.{ℕ, ◌≡◌, ◌<◌, ◌==◌, ◌||◌, ⊤, Bool, true, [], ◌∷◌, ◌++◌, length, codes, IsTrue, Ok, if◌then◌else◌}
 use Rattle.std.specs.List.{AllPass}
 use Rattle.hex.specs.Hex.{decode_of}
@@ -19,9 +18,10 @@ is_blank b = b == 32 || b == 9
 abbrev pub mark : Bool → ByteString
 mark e = if e then codes "\\" else []
 
--- A plain line: digits, one blank, and a tail that isn't empty. The digits are hexadecimal, in any case, and spell
+-- A plain line: digits, one blank, and a tail that isn't empty. The digits are hexadecimal, in either case. They spell
 -- a digest of a length that the one algorithm has. If any algorithm may be named, no line is plain.
-pub record IsPlain (algos : Algos) (line : ByteString) (e : Bool) (kind : KindValue) (digest tail : ByteString) : Type 0 where
+pub record IsPlain (algos : Algos) (line : ByteString) (e : Bool) (kind : KindValue)
+    (digest tail : ByteString) : Type 0 where
   pub blanks : ByteString
   pub digits : ByteString
   pub blank : ℕ
@@ -43,9 +43,10 @@ abbrev pub Allows : Algos → Algo → Type 0
 Allows (One a) algo = algo ≡ a
 Allows Any algo = ⊤
 
--- A tagged line: the tag with its width, a name in parentheses that isn't empty, `=` between blanks or none, and the
--- digits, up to the line's end.
-pub record IsTagged (algos : Algos) (line : ByteString) (e : Bool) (kind : KindValue) (digest raw : ByteString) : Type 0 where
+-- A tagged line: the tag with its width, a name in parentheses, `=`, and the digits, up to the line's end. The name
+-- isn't empty. A space may precede the parenthesis, and blanks may stand before and after `=`.
+pub record IsTagged (algos : Algos) (line : ByteString) (e : Bool) (kind : KindValue)
+    (digest raw : ByteString) : Type 0 where
   pub blanks : ByteString
   pub width : ByteString
   pub gap : Bool

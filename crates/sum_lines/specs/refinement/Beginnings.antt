@@ -9,23 +9,23 @@ use Rattle.sum_lines.specs.grammar.LineParts.{mark_and_rest, plain_parts, tag_in
 use Rattle.digest_kinds.specs.Basics.{after_while}
 use Rattle.sum_lines.specs.declared.reading.beginnings.Beginning.TheVariants as beginnings
 
--- a plain line's text: its digits, up to the first blank, spell that digest, and something follows that
+-- a plain line's text: what precedes its first blank spells that digest, and something follows the blank
 pub record BeginsWithDigits (a : Algo) (s digest : ByteString) : Type 0 where
   pub spelled : decode_of (before_first is_blank s) ≡ Ok digest
   pub has : IsTrue (has_len a (length digest))
   pub some : 0 < length (after_first is_blank s)
 
--- if the bytes are such a text, their first blank is at that place
+-- if the bytes are a plain line's text, their first blank is at that place
 abbrev pub EndsAt : Algo → ByteString → ℕ → Type 0
 EndsAt a s at = (digest : ByteString) → BeginsWithDigits a s digest → at ≡ position_or_len is_blank s
 
--- that place has a blank, something follows it, and the digits end there if the bytes are such a text
+-- a blank is at that place, something follows it, and the digits end there if the bytes are a plain line's text
 pub record EndsDigits (a : Algo) (s : ByteString) (at : ℕ) : Type 0 where
   pub within : at + 1 < length s
   pub blank : is_blank (get_or s at 0) ≡ true
   pub place : EndsAt a s at
 
--- what a line that begins so is read as: as tagged after that tag, and not as plain; or as plain, and not as tagged
+-- a line with that beginning is read as tagged, with that tag, and not as plain; or as plain, and not as tagged
 abbrev pub IsReadAs : Algos → ByteString → Beginning → Type 0
 IsReadAs algos line (beginnings.Tag a) = (tag_in (One a) (mark_and_rest (after_while is_blank line)).1 ≡ Some a)
     × (tagged_parts algos line ≡ tagged_parts (One a) line) × (None ≡ plain_parts algos line)

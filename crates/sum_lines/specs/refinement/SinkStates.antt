@@ -12,7 +12,7 @@ Grows old new = (more : ByteString) × Appends old new more
 abbrev pub AppendsPrefix : Option ByteString → Option ByteString → ByteString → Type 0
 AppendsPrefix old new text = (prefix : ByteString) × IsPrefix prefix text × Appends old new prefix
 
--- a call that accepts nothing, or fails
+-- the buffer is written to the sink below, or that fails; no new bytes are accepted
 abbrev pub FlushesBuffer : {E : Type 0} → SinkState → SinkState → Result ⊤ E → Type 0
 FlushesBuffer a b (Ok u) = Accepts a b []
 FlushesBuffer a b (Err e) = FailsToFlush a b

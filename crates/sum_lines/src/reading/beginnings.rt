@@ -1,4 +1,4 @@
-//! What a line begins with. Most bad lines show by that, and the rest of them isn't read.
+//! What a line begins with. Most bad lines don't begin as an entry does, so the rest of them isn't read.
 
 ghost use Rattle.std.specs.Prelude.{◌≡◌, IfNone, IfSome, None};
 ghost use Rattle.sum_lines.specs.grammar.Shapes.{ByteString};
@@ -10,7 +10,7 @@ use crate::reading::line_parts::{Front, is_blank, text_after};
 use digest_kinds::{Algo, Algos, Kind};
 use memchr::memchr2;
 
-// The digits of the longest digest.
+// How many digits the longest digest has.
 const MOST_DIGITS: usize = 128;
 
 /// What a line begins with after its blanks and its backslash, if it can be an entry.
@@ -18,19 +18,20 @@ const MOST_DIGITS: usize = 128;
 pub(crate) enum Beginning {
     /// The algorithm's tag.
     Tag(Algo),
-    /// As many bytes as the one algorithm has digits, or for BLAKE2b those before the first blank; then a blank.
+    /// So many bytes, and then a blank. For BLAKE2b they are all that precede the first blank; for another algorithm
+    /// they are as many as it has digits.
     Digits(Algo, usize),
 }
 
-/// What a line of these algorithms begins with. `None` only if it is neither tagged nor plain. A call of its own, so
-/// that an ignored line needs no room for it.
+/// What a line of these algorithms begins with. `None` only if the line is neither tagged nor plain. It is a call of
+/// its own, so that an ignored line needs no room for it.
 #[inline(never)]
 #[tactic(auto, using(crate::proofs::BeginningLemmas::no_tag), unfolding(crate::specs::grammar::LineParts::plain_parts))]
 pub(crate) fn find_beginning(algos: Algos, line: &[u8], front: Front) -> Option<Beginning>
     requires { IsFront line.now front }
     ensures tagged { IfNone result (None ≡ tagged_parts algos line.now) }
     ensures plain { IfNone result (None ≡ plain_parts algos line.now) }
-    ensures leads { IfSome result (IsReadAs algos line.now) }
+    ensures read_as { IfSome result (IsReadAs algos line.now) }
 {
     let text = text_after(line, front);
     if let Some(algo) = tag_in(algos, text) {
@@ -57,8 +58,8 @@ fn tag_in(algos: Algos, text: &[u8]) -> Option<Algo>
     }
 }
 
-// The place of the blank after the digits, if something follows it. `None` only if no plain line has such a text. The
-// digits themselves aren't looked at.
+// The place of the blank after the digits, if something follows the blank. `None` only if no plain line has such a
+// text. The digits themselves aren't looked at.
 fn digits_end(algo: Algo, text: &[u8]) -> Option<usize>
     ensures none { IfNone result ((d : ByteString) → ¬ BeginsWithDigits algo text.now d) }
     ensures some { IfSome result (EndsDigits algo text.now) }
@@ -70,7 +71,7 @@ fn digits_end(algo: Algo, text: &[u8]) -> Option<usize>
     }
 }
 
-// How many digits the text has if it is a plain line's. `None` only if it is none's.
+// How many digits the text has if it is that of a plain line. `None` only if no plain line has such a text.
 fn digits_len(algo: Algo, text: &[u8]) -> Option<usize>
     ensures none { IfNone result ((d : ByteString) → ¬ BeginsWithDigits algo text.now d) }
     ensures some { IfSome result (EndsAt algo text.now) }

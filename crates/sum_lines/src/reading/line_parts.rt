@@ -12,8 +12,8 @@ ghost use Rattle.sum_lines.specs.refinement.LinePartRanges.{IsFront};
 use digest_kinds::{Digest, Kind};
 use memchr::memrchr;
 
-/// The parts of a line of either shape. The text, a tagged line's raw name or a plain one's tail, is the range
-/// `start..stop` of the line.
+/// The parts of a line of either shape. The text is the range `start..stop` of the line: a tagged line's raw name, or a
+/// plain line's tail.
 #[derive(Debug, Drop)]
 pub(crate) struct LineParts {
     pub(crate) escaped: bool,
@@ -39,7 +39,7 @@ pub(crate) struct Front {
     pub(crate) start: usize,
 }
 
-/// What precedes the line's text. A call of its own, so that an ignored line needs no room for it.
+/// What precedes the line's text. It is a call of its own, so that an ignored line needs no room for it.
 #[inline(never)]
 pub(crate) fn front_of(line: &[u8]) -> Front
     ensures { IsFront line.now result }
@@ -57,7 +57,7 @@ pub(crate) fn front_of(line: &[u8]) -> Front
     }
 }
 
-/// The line's text, after that.
+/// The line's text, which follows its front.
 pub(crate) fn text_after(line: &[u8], front: Front) -> &[u8]
     requires { IsFront line.now front }
     ensures { result.now ≡ (mark_and_rest (after_while is_blank line.now)).1 }
@@ -80,7 +80,7 @@ fn blanks(s: &[u8]) -> usize
     s.iter().take_while(|byte| is_blank(**byte)).count()
 }
 
-/// What follows the text, if it begins the bytes.
+/// What follows the text, if the bytes begin with it.
 pub(crate) fn past_text<'a>(text: &[u8], s: &'a [u8]) -> Option<&'a [u8]>
     ensures { option_copied result ≡ strip_prefix text.now s.now }
 {

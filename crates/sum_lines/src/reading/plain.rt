@@ -12,8 +12,8 @@ ghost use Rattle.sum_lines.specs.refinement.LinePartRanges.{IsFront, line_parts}
 use crate::reading::line_parts::{Front, LineParts, text_after};
 use digest_kinds::{Algo, Algos, Digest, Kind};
 
-/// Reads a plain line of that algorithm; the place `at` of its text has the blank after its digits. `None` if the line
-/// isn't plain.
+/// Reads a plain line of that algorithm. In its text, the blank after the digits is at the place `at`. `None` if the
+/// line isn't plain.
 pub(crate) fn plain(algo: Algo, line: &[u8], front: Front, at: usize) -> Option<LineParts>
     requires front { IsFront line.now front }
     requires ends { EndsDigits algo (mark_and_rest (after_while is_blank line.now)).1 at }
@@ -23,7 +23,7 @@ pub(crate) fn plain(algo: Algo, line: &[u8], front: Front, at: usize) -> Option<
 {
     let text = text_after(line, front);
     let kind = kind_of_len(algo, at / 2)?;
-    // Last, since it costs the most.
+    // The digits are decoded last, since that costs the most.
     let digest = Digest::from_hex(&text[..at])?;
     let tail = &text[at + 1..];
     Some(LineParts {

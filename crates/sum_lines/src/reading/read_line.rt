@@ -4,7 +4,7 @@ ghost use Rattle.std.specs.Prelude.{◌≡◌, ◌≤◌, None, Some, drop, if�
 ghost use Rattle.std.specs.List.{list_all};
 ghost use Rattle.std.specs.Option.{option_and_then, option_map_or};
 ghost use Rattle.sum_lines.specs.grammar.Entries.{begins_standard, form_then, is_ignored, line_form};
-ghost use Rattle.sum_lines.specs.grammar.LineLaws.{MatchesGrammar};
+ghost use Rattle.sum_lines.specs.grammar.LineLaws.{FitsGrammar};
 ghost use Rattle.sum_lines.specs.grammar.ParsedLines.{bad, entry, entry_of, entry_of_parts, parse_line, unescape};
 ghost use Rattle.sum_lines.specs.grammar.ParsedLines.{with_raw, IsWithin, parsed_line_of};
 ghost use Rattle.sum_lines.specs.Escape.{present};
@@ -20,7 +20,7 @@ use digest_kinds::{Algos, Digest, Kind};
 use memchr::memchr;
 use std::alloc::Allocator;
 
-/// Where the plain lines of a manifest have their names. The first of them decides it.
+/// Where the plain lines of a manifest have their names. The first plain line decides it.
 #[derive(Clone, Copy, Debug, PartialEq, Eq)]
 pub enum Form {
     /// There is no plain line so far.
@@ -36,9 +36,9 @@ pub enum Form {
 pub enum Reading {
     /// Nothing: the line is empty, or begins with `#`.
     Ignored,
-    /// Nothing that can be read: the line is improperly formatted.
+    /// Nothing: the line is improperly formatted.
     Bad,
-    /// The digest of a file, with its kind, and the file's name: the range `start..stop` of the line's vector.
+    /// The digest of a file, with its kind. The file's name is the range `start..stop` of the line's vector.
     Entry {
         kind: Kind,
         digest: Digest,
@@ -47,31 +47,33 @@ pub enum Reading {
     },
 }
 
-/// Reads a line, without its end, in a manifest whose earlier lines have this form, and returns what it says and the
-/// form up to and with it. An entry's name, unescaped, is left in the line's vector, at the range in the result. An
-/// ignored line stays as it is; what a bad one leaves is unspecified. The vector never gets longer.
+/// Reads one line of a manifest. `line` has no line end, and `form` is what the earlier lines decided. Returns what the
+/// line says, and the form with this line. The name of an entry is unescaped in place: the vector has it at the range
+/// in the result. An ignored line stays as it is. What a bad one leaves in the vector is unspecified. The vector never
+/// gets longer.
 ///
-/// A line is ignored if it is empty or begins with `#`. Any other may begin with blanks (spaces and tabs) and then one
-/// backslash: its name is then escaped (`\\`, `\n`, `\r`). What follows is
+/// A line is ignored if it is empty or begins with `#`. Any other line may begin with blanks (spaces and tabs), and
+/// then with one backslash. After a backslash the name is escaped (`\\`, `\n`, `\r`). The rest of the line is one of
+/// these:
 ///
-/// - tagged, `TAG (NAME) = DIGITS`: the tag of one of these algorithms, for BLAKE2b with `-` and the digest's bits,
-///   which may be left out if it is full; a space or none; a name, which ends at the last parenthesis; and `=`, with
-///   blanks or none before and after it;
-/// - or, if there is one algorithm, plain, `DIGITS TAIL`: one blank, and a tail that isn't empty. The first plain line
-///   decides the form of all. If its tail begins with a space or `*` and goes on, that is `Standard`, and a name
-///   follows such a byte; if not, it is `Reversed`, and the tail is the name.
+/// - Tagged, as `BLAKE2b-256 (NAME) = DIGITS`. The tag is that of one of `algos`. Only after BLAKE2b's may `-` and the
+///   digest's bits follow; a full digest needs no bits. A space may precede the parenthesis. The name ends at the last
+///   parenthesis. Blanks may stand before and after `=`.
+/// - Plain, as `DIGITS  NAME`, if `algos` is one algorithm. One blank follows the digits, and then a tail that isn't
+///   empty. The first plain line decides the form of all. If its tail begins with a space or `*` and goes on, the form
+///   is `Standard`: a name follows such a byte. If not, the form is `Reversed`: the tail is the name.
 ///
-/// The digits are hexadecimal, in either case, and as many as the algorithm has, or the tag says. A name has no NUL and
-/// isn't empty. Any other line is bad.
+/// The digits are hexadecimal, in either case. They are as many as the tag says, or as the algorithm has. A name has no
+/// NUL and isn't empty. Any other line is bad.
 #[inline(always)] // most of what an ignored line costs is the call
 #[tactic(auto, using(crate::proofs::EntryLemmas::ignored_undecided))]
 pub fn read_line<A: Allocator>(algos: Algos, form: Form, line: &mut Vec<u8, A>) -> (Reading, Form)
     // A form that is decided stays; otherwise a plain line decides it, even if its name makes it bad.
     ensures form { result.1 ≡ form_then form (line_form algos line.old.items) }
-    // What the line says, as it is computed; of an entry the name is the range of the vector.
+    // What the line says, as it is computed. The name of an entry is a range of the vector.
     ensures parsed { parsed_line_of line.new.items result.0 ≡ parse_line present algos result.1 line.old.items }
     // The same by the line grammar: ignored, an entry, or bad, each if and only if the grammar says so.
-    ensures grammar { MatchesGrammar present algos result.1 line.old.items (parsed_line_of line.new.items result.0) }
+    ensures grammar { FitsGrammar present algos result.1 line.old.items (parsed_line_of line.new.items result.0) }
     // The range of an entry's name is in the vector, and its digest is as long as the kind's.
     ensures within { IsWithin line.new.items result.0 }
     ensures ignored { result.0 ≡ Reading.Ignored → line.new ≡ line.old }
@@ -87,8 +89,8 @@ pub fn read_line<A: Allocator>(algos: Algos, form: Form, line: &mut Vec<u8, A>) 
     }
 }
 
-// Reads a line that isn't ignored and begins so, which most bad ones don't. A call of its own, since it clears room for
-// an entry.
+// Reads a line that isn't ignored and has this beginning; most bad lines have none. It is a call of its own, since it
+// clears room for an entry.
 #[inline(never)]
 #[tactic(auto, unfolding(crate::specs::grammar::ParsedLines::entry_of))]
 fn read_begun<A: Allocator>(
@@ -99,7 +101,7 @@ fn read_begun<A: Allocator>(
     beginning: Beginning,
 ) -> (Reading, Form)
     requires front { IsFront line.old.items front }
-    requires leads { IsReadAs algos line.old.items beginning }
+    requires read_as { IsReadAs algos line.old.items beginning }
     ensures form { result.1 ≡ form_then form (line_form algos line.old.items) }
     ensures parsed { parsed_line_of line.new.items result.0
         ≡ option_map_or entry (entry_of present algos result.1 line.old.items) bad }
@@ -128,7 +130,7 @@ fn is_ignored(line: &[u8]) -> bool
     }
 }
 
-// Reads a plain line's tail. The first plain line of a manifest decides the form, whether it is bad or not.
+// Reads a plain line's tail. The first plain line of a manifest decides the form, even if its name makes it bad.
 #[tactic(auto, using(crate::proofs::NameLemmas::raw_standard))]
 fn read_tail<A: Allocator>(form: Form, line: &mut Vec<u8, A>, found: LineParts) -> (Reading, Form)
     requires size { length found.digest ≡ found.kind.len }
@@ -171,8 +173,8 @@ fn begins_standard(tail: &[u8]) -> bool
     matches!(tail, [b' ' | b'*', _, ..])
 }
 
-// The entry of the parts, if their text spells a name without a NUL: after a backslash the name whose escape it is, and
-// otherwise the text itself.
+// The entry of the parts, if their text spells a name without a NUL. After a backslash the text is the escape of the
+// name; without one it is the name.
 fn read_name<A: Allocator>(line: &mut Vec<u8, A>, found: LineParts) -> Reading
     requires size { length found.digest ≡ found.kind.len }
     requires ordered { found.start ≤ found.stop }
@@ -195,8 +197,8 @@ fn read_name<A: Allocator>(line: &mut Vec<u8, A>, found: LineParts) -> Reading
     }
 }
 
-// Leaves the name that the bytes from the place `start` on spell. False if they are no escape, though a backslash came
-// first.
+// Puts the name that the bytes from `start` on spell in their place. False if a backslash came first and they are no
+// escape.
 #[tactic(auto, using(crate::proofs::NameLemmas::unescaped))]
 fn unspell<A: Allocator>(line: &mut Vec<u8, A>, escaped: bool, start: usize) -> bool
     requires { start ≤ length line.old.items }
@@ -208,8 +210,8 @@ fn unspell<A: Allocator>(line: &mut Vec<u8, A>, escaped: bool, start: usize) -> 
     !escaped || unescape_in(line, start)
 }
 
-#[tactic(auto, using(crate::proofs::NameLemmas::no_nul))]
 // Whether a byte is NUL.
+#[tactic(auto, using(crate::proofs::NameLemmas::no_nul))]
 fn has_nul(bytes: &[u8]) -> bool
     ensures { not result ≡ list_all (nat_lt 0) bytes.now }
 {

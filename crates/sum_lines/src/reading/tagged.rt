@@ -28,10 +28,10 @@ pub(crate) fn tagged(algo: Algo, line: &[u8], front: Front) -> Option<LineParts>
     };
     let kind = named.kind;
     let inner = past_parenthesis(named.rest)?;
-    // The name may contain `)`, and what follows the closing one can't.
+    // The name may contain `)`. What follows the name can't contain one.
     let (raw, after_name) = split_at_last(b')', inner)?;
     let digits = skip_blanks(past_text(b"=", skip_blanks(after_name))?);
-    // They are decoded only if they are as many as the kind's.
+    // The digits are decoded only if they are as many as the kind has.
     if digits.len() != 2 * kind.len() {
         return None;
     }

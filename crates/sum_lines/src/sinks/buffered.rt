@@ -8,9 +8,9 @@ use std::marker::Model;
 /// How many bytes a buffer has room for.
 pub const CAPACITY: usize = 8192;
 
-/// A buffer over a sink. It buffers what it accepts until it is flushed, or is full and gets one more byte; then it
+/// A buffer over a sink. It buffers what it accepts until it is flushed, or is full and gets one more byte. Then it
 /// offers the sink all of that in one piece. So a line of at most [`CAPACITY`] bytes is offered in one piece if nothing
-/// was buffered before it and the buffer is flushed at its end.
+/// was buffered before the line and the buffer is flushed at its end.
 #[derive(Debug, Drop)]
 pub struct Buffered<S> {
     sink: S,

@@ -6,7 +6,7 @@ use crate::sinks::sink::{Sink, SinkFault};
 use digest_kinds::INTERRUPTIONS;
 use std::io::{ErrorKind, Write};
 
-/// A sink that writes its bytes to a writer, and buffers none. They are known if the writer's are.
+/// A sink that writes its bytes to a writer, and buffers none. It knows its bytes if its writer does.
 #[derive(Debug, Drop)]
 pub struct FromWrite<W> {
     writer: W,
@@ -14,7 +14,7 @@ pub struct FromWrite<W> {
 }
 
 impl<W: Write> FromWrite<W> {
-    /// A sink over the writer, which has written what the writer contains.
+    /// A sink over the writer. It has written what the writer contains.
     pub fn new(writer: W) -> Self
         // Known if the writer's bytes are.
         ensures written { (⟦<FromWrite<W> as Sink>⟧.state result).written ≡ W.contents writer }
@@ -26,7 +26,7 @@ impl<W: Write> FromWrite<W> {
         }
     }
 
-    /// The writer, which this sink has lost nothing of: it buffers no bytes.
+    /// The writer. Nothing is lost, since this sink buffers no bytes.
     pub fn into_inner(self) -> W
         ensures { result ≡ self.writer }
     {

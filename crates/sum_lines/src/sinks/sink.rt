@@ -11,19 +11,19 @@ pub struct SinkFault;
 
 /// Accepts bytes piece by piece, and writes them to what is below it when it is flushed, if not before.
 ///
-/// A call that returns `SinkFault` counts as one failure more and leaves nothing buffered. `write` and `flush` then
-/// wrote a prefix of the buffered bytes; a call that writes a whole text, as `put_all`, a proper prefix of the buffered
-/// bytes and the text. The rest is lost.
+/// A call that returns `SinkFault` counts as one failure more, and leaves nothing buffered. If `write` or `flush`
+/// fails, a prefix of the buffered bytes was written. If a call for a whole text fails, as `put_all`, a proper prefix
+/// of the buffered bytes and the text was written. The rest is lost.
 pub trait Sink {
-    /// The bytes that it has written, if they are known; those that it has accepted and still buffers; how many of its
-    /// calls have failed, at most 2^64 - 1.
+    /// The bytes that it has written, if they are known; the bytes that it has accepted and still buffers; and how many
+    /// of its calls have failed, at most 2^64 - 1.
     ghost state: { Self → SinkState };
 
     /// The pieces that it was offered, one by each write, if they are known.
     ghost offered: { Self → Option (List ByteString) } = { λ _. None };
 
-    /// Accepts the first bytes of the piece and returns how many: at least one of a piece that isn't empty, none of an
-    /// empty one. `SinkFault` if it accepted nothing, of a piece that isn't empty.
+    /// Accepts the first bytes of the piece and returns how many. Of an empty piece that is none. Of any other it is at
+    /// least one, or the call returns `SinkFault` and accepts nothing.
     fn write(&mut self, piece: &[u8]) -> Result<usize, SinkFault>
         // What is accepted, written and still buffered, and the count of failures.
         ensures bytes { WritesSome (state self.old) (state self.new) piece.now result }
@@ -37,8 +37,8 @@ pub trait Sink {
         ensures offers { offered self.new ≡ offered self.old };
 }
 
-/// Writes all of the bytes: offers them in one piece, and again only what remains of them. `SinkFault` if a write
-/// failed; as many of the buffered bytes and of these were then written as [`Sink`] says.
+/// Writes all of the bytes. It offers them in one piece, and after a write that accepts a part it offers what remains.
+/// `SinkFault` if a write failed; [`Sink`] says what was written then.
 pub fn put_all<S: Sink>(sink: &mut S, bytes: &[u8]) -> Result<(), SinkFault>
     ensures text { WritesAll (S.state sink.old) (S.state sink.new) bytes.now result }
     // If the pieces are known: the text in one piece, and again only what remains of it; of no text none.

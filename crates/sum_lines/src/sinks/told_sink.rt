@@ -45,8 +45,8 @@ impl<const N: usize> Sink for ToldSink<N> {
 
     ghost state = { told_sink_state };
 
-    /// Accepts what there is room for. `SinkFault` if and only if there is none and the piece isn't empty; there is
-    /// none from then on.
+    /// Accepts what there is room for. `SinkFault` if and only if there is no room and the piece isn't empty. There is
+    /// no room from then on.
     fn write(&mut self, piece: &[u8]) -> Result<usize, SinkFault>
         ensures bytes { WritesSome (told_sink_state self.old) (told_sink_state self.new) piece.now result }
         ensures empty { piece.now ≡ [] → result ≡ Ok 0 }

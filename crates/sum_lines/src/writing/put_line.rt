@@ -33,8 +33,8 @@ ghost use Rattle.sum_lines.specs.refinement.PartTexts.{part_text};
 ghost use Rattle.sum_lines.specs.Escape.{present, escape, escape_differs};
 ghost use Rattle.sum_lines.specs.grammar.Shapes.{mark};
 
-/// Gives the sink, which may buffer it, the line of a name and its digest, which has the kind's length. `SinkFault` as
-/// `put_all`.
+/// Gives the sink the line of a name and its digest. The digest has the kind's length. The sink isn't flushed, so it
+/// may buffer the line. `SinkFault` as `put_all`.
 pub fn put_line<S: Sink>(
     sink: &mut S,
     style: Style,
@@ -65,7 +65,8 @@ fn digits_of<'a>(digest: &Digest, buffer: &'a mut [u8; 128]) -> &'a [u8]
     &buffer[..count]
 }
 
-/// What begins a line, a backslash or nothing, and its name, escaped. A name that is its own escape is searched once.
+/// What begins a line, a backslash or nothing; and the name, escaped. A name that is its own escape is searched only
+/// once.
 pub fn mark_and_name(name: &[u8]) -> (&'static [u8], Part<'_>)
     ensures mark { result.0.now ≡ mark (escape_differs present name.now) }
     ensures name { part_text result.1 ≡ escape name.now }

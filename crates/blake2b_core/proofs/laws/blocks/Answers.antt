@@ -28,7 +28,8 @@ returns c = λ m.
     record {
       sizes = λ k d below.
           let place : k < count = omega (arith, length-first_chunks 128 count (padded_message m)) in
-          let long : 128 ≤ length (drop (128 * k) (padded_message m)) = omega (arith, length-drop (128 * k) (padded_message m)) in
+          let long : 128 ≤ length (drop (128 * k) (padded_message m)) =
+          omega (arith, length-drop (128 * k) (padded_message m)) in
           ap length (get_or-first_chunks 128 count (padded_message m) k d place)
           ∙ length-take-le 128 (drop (128 * k) (padded_message m)) long;
       zeros = zeros;

@@ -6,7 +6,8 @@ use Rattle.digest_kinds.proofs.kind.Kind.text_into.Goals as goal
 
 -- the bits are at most three digits
 pub put_bits-end-requires : goal.put_bits-end-requires
-put_bits-end-requires c = rw c.bits.ensures (length_bits c.args.self.len (rw c.len.ensures.value at c.len.ensures.at_most))
+put_bits-end-requires c =
+    rw c.bits.ensures (length_bits c.args.self.len (rw c.len.ensures.value at c.len.ensures.at_most))
 
 -- what was written is the text
 text : (c : After-put_bits-end) → take c.put_bits-end.result c.put_bits-end.new.buffer ≡ kind_text c.args.self

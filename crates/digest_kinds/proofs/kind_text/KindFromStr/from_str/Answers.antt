@@ -11,7 +11,8 @@ use Rattle.digest_kinds.proofs.kind_text.KindFromStr.from_str.Goals as goal
 
 -- the kinds that the text names, by what is read of it
 names : (c : After-of_tag_prefix-2) (kind : KindValue) → NamesKind c.args.s.now kind
-    ↔ (option_map {U = KindValue × List ℕ} (λ (w : KindPrefix). (w.kind, w.rest.now)) c.of_tag_prefix-2.result ≡ Some (kind, []))
+    ↔ (option_map {U = KindValue × List ℕ} (λ (w : KindPrefix). (w.kind, w.rest.now)) c.of_tag_prefix-2.result
+    ≡ Some (kind, []))
 names c kind = rw (c.of_tag_prefix-2.ensures, c.as_bytes-2.ensures.value)
     (names-read c.args.s.now c.in-Some.algo (rw c.as_bytes.ensures.value at c.in-Some.ensures.tagged) kind)
 

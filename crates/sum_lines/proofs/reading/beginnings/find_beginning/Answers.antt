@@ -4,8 +4,8 @@ use Rattle.sum_lines.proofs.PlainLemmas.{uncut}
 use Rattle.sum_lines.proofs.reading.beginnings.find_beginning.Goals as goal
 
 -- a tag begins the text
-pub returns-in-Some-clause-leads : goal.returns-in-Some-clause-leads
-returns-in-Some-clause-leads c =
+pub returns-in-Some-clause-read_as : goal.returns-in-Some-clause-read_as
+returns-in-Some-clause-read_as c =
     by-tag _ _ c.in-Some.algo (rw c.text_after-text.ensures at (sym c.in-Some.ensures))
 
 -- there is no blank where the digits would end
@@ -19,7 +19,7 @@ returns-in_err-digits_end-in-One-clause-plain c =
     (uncut _ (rw c.text_after-text.ensures at c.in_err-digits_end-in-One.ensures.none))
 
 -- there is one
-pub returns-in_ok-digits_end-in-One-clause-leads : goal.returns-in_ok-digits_end-in-One-clause-leads
-returns-in_ok-digits_end-in-One-clause-leads c =
+pub returns-in_ok-digits_end-in-One-clause-read_as : goal.returns-in_ok-digits_end-in-One-clause-read_as
+returns-in_ok-digits_end-in-One-clause-read_as c =
     let tagged = no_tag _ _ (rw c.text_after-text.ensures at (sym c.in_default.ensures)) in
     (rw c.text_after-text.ensures at c.in_ok-digits_end-in-One.ensures.some, tagged, rw c.in-One.is refl)
