@@ -2,8 +2,7 @@
 use Rattle.std.specs.Prelude.{◌≡◌, ℕ, ◌==◌, ◌&&◌, Bool, true, not, [], ◌∷◌, flat_map, bytes_eq, codes, if◌then◌else◌}
 pub use Rattle.digest_kinds.specs.Basics.{ByteString}
 
--- a profile: whether a carriage return in a name is escaped, whether one at a line's end is left out, and whether an
--- empty line is ignored
+-- whether a name's carriage return is escaped, whether a line's end drops one, and whether an empty line is ignored
 pub record Profile : Type 0 where
   pub escapes_carriage_return : Bool
   pub drops_carriage_return : Bool
@@ -13,8 +12,7 @@ pub record Profile : Type 0 where
 abbrev pub present : Profile
 present = record { escapes_carriage_return = true; drops_carriage_return = true; ignores_empty = true }
 
--- a byte's escape: a backslash (92) becomes `\\`, a newline (10) becomes `\n`, a carriage return (13) becomes `\r` if
--- the profile says so, and any other byte stays
+-- a backslash (92) becomes `\\`, a newline (10) `\n`, a carriage return (13) `\r` if the profile says so; others stay
 abbrev pub escape_of : Profile → ℕ → ByteString
 escape_of p b = if b == 92 then codes "\\\\" else if b == 10 then codes "\\n"
     else if p.escapes_carriage_return && (b == 13) then codes "\\r" else b ∷ []

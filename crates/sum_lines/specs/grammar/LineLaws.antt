@@ -61,8 +61,7 @@ pub record IsWritable (kind : KindValue) (name digest : ByteString) : Type 0 whe
   pub size : length digest ≡ kind.len
   pub has : IsTrue (has_len kind.algo kind.len)
 
--- what precedes the text's newline is one line; it spells that entry and no other; and the form stays Undecided or
--- Standard
+-- what precedes the text's newline is one line that spells only that entry; the form stays Undecided or Standard
 pub record SpellsBack (algos : Algos) (before later : List ByteString) (text : ByteString) (kind : KindValue)
     (name digest : ByteString) : Type 0 where
   pub prefix : ByteString

@@ -14,8 +14,7 @@ abbrev pub AppendsProperPrefix : Option ByteString → Option ByteString → Byt
 AppendsProperPrefix old new text =
     (prefix : ByteString) × (rest : ByteString) × (text ≡ prefix ++ rest) × (0 < length rest) × Appends old new prefix
 
--- the state of a sink: the bytes written, if they are known; the bytes accepted and still buffered; how many calls
--- failed
+-- a sink's state: the bytes written, if they are known; the bytes accepted and still buffered; how many calls failed
 pub record SinkState : Type 0 where
   pub written : Option ByteString
   pub buffered : ByteString
@@ -70,8 +69,7 @@ abbrev pub AreRests : ByteString → List ByteString → Type 0
 AreRests text [] = ⊤
 AreRests text (rest ∷ more) = IsRest text rest × AreRests rest more
 
--- the pieces of a text that are offered: first all of it, then only what is left of the piece before; none if the text
--- is empty
+-- the offered pieces of a text: first all of it, then only what is left of the piece before; none of an empty text
 abbrev pub IsInOnePiece : ByteString → List ByteString → Type 0
 IsInOnePiece text [] = text ≡ []
 IsInOnePiece text (piece ∷ rests) = (0 < length text) × (piece ≡ text) × AreRests text rests
