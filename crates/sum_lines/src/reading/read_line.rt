@@ -144,7 +144,7 @@ fn read_tail<A: Allocator>(form: Form, line: &mut Vec<u8, A>, found: LineParts) 
     ensures len { vec_len line.new ≤ vec_len line.old }
 {
     let standard = begins_standard(&line[found.start..found.stop]);
-    let form = decided(form, standard);
+    let form = form_after(form, standard);
     match form {
         Form::Standard if standard => {
             let start = found.start + 1;
@@ -156,7 +156,7 @@ fn read_tail<A: Allocator>(form: Form, line: &mut Vec<u8, A>, found: LineParts) 
 }
 
 // The form after a plain line, by whether its tail is that of a Standard one.
-fn decided(form: Form, standard: bool) -> Form
+fn form_after(form: Form, standard: bool) -> Form
     ensures { result ≡ form_then form (if standard then Form.Standard else Form.Reversed) }
 {
     match form {

@@ -107,7 +107,7 @@ impl<S: Sink> Sink for Buffered<S> {
         }
         self.make_room()?;
         let before = self.len;
-        let count = put_in(&mut self.buffer, before, piece);
+        let count = copy_after(&mut self.buffer, before, piece);
         self.len = before + count;
         Ok(count)
     }
@@ -123,7 +123,7 @@ impl<S: Sink> Sink for Buffered<S> {
 }
 
 // Copies as much of the piece as there is room for after the first `len` bytes of the buffer, and returns how much.
-fn put_in(buffer: &mut [u8], len: usize, piece: &[u8]) -> usize
+fn copy_after(buffer: &mut [u8], len: usize, piece: &[u8]) -> usize
     requires { len ≤ length buffer.old }
     ensures count { result ≡ min (length piece.now) (length buffer.old - len) }
     ensures bytes { take (len + result) buffer.new ≡ take len buffer.old ++ take result piece.now }
