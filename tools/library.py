@@ -86,7 +86,7 @@ class Library:
             mark = {"struct": "Fields", "enum": "Variants"}.get(item.kind)
             has = {mark: parts_of(item)} if mark else {}
             has |= {"Traits": self.traits(item)} if mark or item.kind == "type" else {}
-        return [f"*{mark}:* " + ", ".join(f"`{it}`" for it in them) for mark, them in has.items() if them]
+        return [f"*{mark}:* " + ", ".join(f"`{it}`" for it in parts) for mark, parts in has.items() if parts]
 
     def has(self, item, trait):
         return item.name not in self.aliases.values() and any(re.match(rf"{trait}\b", it) for it in self.traits(item))
@@ -119,17 +119,17 @@ class Library:
 
 
 def main():
-    library, is_so = Library(), text_of(PAGE)
+    library, written = Library(), text_of(PAGE)
     parts = "\n".join(line for crate in libraries() for line in library.described(crate))
-    has_to_be = is_so.split(BEGIN)[0] + BEGIN + "\n" + parts
+    wanted = written.split(BEGIN)[0] + BEGIN + "\n" + parts
     if sys.argv[1:] == ["--check"]:
-        if is_so != has_to_be:
+        if written != wanted:
             sys.exit("docs/LIBRARY.md: tools/library.py makes it anew")
     elif sys.argv[1:]:
         sys.exit("usage: library.py [--check]")
     else:
         with open(PAGE, "w", encoding="utf-8") as file:
-            file.write(has_to_be)
+            file.write(wanted)
 
 
 if __name__ == "__main__":

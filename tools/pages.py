@@ -145,7 +145,7 @@ def made(program):
     known = {tool: options_of(program, tool) for tool in TOOLS}
     said = re.sub(r"\n +", " ", text_of("tools", "pages", "options.txt").partition("\n\n")[2])
     said = dict(line.split(": ", 1) for line in said.splitlines())
-    unknown = {name.lstrip("!") for name in said} - {option.long for them in known.values() for option in them}
+    unknown = {name.lstrip("!") for name in said} - {option.long for options in known.values() for option in options}
     if unknown:
         sys.exit(f"pages.py: pages/options.txt has a word on no option: {', '.join(sorted(unknown))}")
     files = {}
