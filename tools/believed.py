@@ -160,7 +160,7 @@ def of_several(definitions):
 
 def rows_of(page):
     """The rows of tables in a page, or in a part of one: what each file says."""
-    rows = re.findall(r"^\| `(\w+)/specs/([\w/]+)\.antt` \| (.*?) \| \d+ \|", page, re.MULTILINE)
+    rows = re.findall(r"^\|`(\w+)/specs/([\w/]+)\.antt`\|(.*?)\|\d+\|", page, re.MULTILINE)
     return {(crate, file): says for crate, file, says in rows}
 
 
@@ -171,11 +171,11 @@ def tables(page):
     for claim in list(claims())[:len(CLAIMS)]:
         where = "besides the above:" if lines else "in these files:"
         lines += [f"**{claim.title}**{claim.of}: {counted(claim)}; {where}", "",
-                  "| definitions | what they say | lines |", "|---|---|---|"]
+                  "|definitions|what they say|lines|", "|---|---|---|"]
         says = rows_of(page.partition(f"**{claim.title}**")[2].partition("\n**")[0])
-        lines += [f"| `{crate}/specs/{file}.antt` | {says.get((crate, file), '?')} | {size(definitions)} |"
+        lines += [f"|`{crate}/specs/{file}.antt`|{says.get((crate, file), '?')}|{size(definitions)}|"
                   for (crate, file), definitions in claim.files.items()]
-        lines += [f"| of the code | the contract, traits, views, types and constants | {size(claim.new)} |", ""]
+        lines += [f"|of the code|the contract, traits, views, types and constants|{size(claim.new)}|", ""]
         if claim.apart:
             laws = " and ".join(f"`{law}`" for law in COMPUTED.values())
             lines += [f"Apart: {len(claim.apart)} definitions, {size(claim.apart)} lines, that compute what relations "
