@@ -79,10 +79,10 @@ def run_over(program, asked, again):
     return counts
 
 
-def print_counts(what, counts, seconds):
+def print_counts(title, counts, seconds):
     passed, failed, skipped = counts
     said = f"{passed} end-to-end tests passed, {failed} failed, {skipped} skipped, in {seconds:.0f} s"
-    print(f"{what}: {said}", flush=True)
+    print(f"{title}: {said}", flush=True)
 
 
 def take_usual_settings():

@@ -72,7 +72,7 @@ class Documents(Case):
     def test_commands_that_find_files(self):
         """Those of docs/AUDITING.md and docs/CHANGING.md find what they have to."""
         contracts = ["digests/src/run", "digests/src/command", "digests/src/laws", "sum_lines/src/sinks/sink"]
-        texts = ["sum_sources/specs/Faults", "sum_sources/src/fault", "digests/proofs/MeaningRows"]
+        texts = ["sum_sources/specs/Faults", "sum_sources/src/fault"]
         for page, command, wanted in (("AUDITING", r"    git diff OLD -- 'crates/\*/specs' (.*)", contracts),
                                       ("CHANGING", r" +grep -rnF 'No such file' (.*)", texts)):
             words = re.search(rf"(?m)^{command}$", text_of("docs", f"{page}.md"))[1]

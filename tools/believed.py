@@ -82,7 +82,8 @@ def in_files(definitions):
             files.setdefault(definition.file, []).insert(0, definition)
     order = graphlib.TopologicalSorter(dict.fromkeys(files, ()))
     for file in files:
-        for other in sorted({it.file for one in files[file] for it in specs.meant(one)} & files.keys() - {file}):
+        used = {it.file for definition in files[file] for it in specs.references(definition)}
+        for other in sorted(used & files.keys() - {file}):
             order.add(other, file)
     return {file: files[file] for file in sorted(order.static_order(), key=lambda file: -listed.index(file[0]))}
 
@@ -121,18 +122,18 @@ def counted(claim):
 def text():
     """A list of the parts, and these: of each crate, the highest first, the items of the code without their comments
     and the definitions of its files, after what the files say of themselves; all that only once."""
-    every = list(claims())
-    several = of_several(it for claim in every for definitions in claim.files.values() for it in definitions)
-    for claim in every:
+    all_claims = list(claims())
+    several = of_several(it for claim in all_claims for definitions in claim.files.values() for it in definitions)
+    for claim in all_claims:
         yield f"-- {claim.title}{claim.of.replace('`', '')}: {counted(claim)}"
         yield from (f"--   {crate} {file}: {size(definitions)} lines"
                     for (crate, file), definitions in claim.files.items())
-    for claim in every:
+    for claim in all_claims:
         yield f"\n-- ======== {claim.title}"
         for crate in reversed(crates()):
             for item in (it for it in claim.new if it.crate == crate):
                 yield "\n".join(["", f"-- {crate} src/{item.file}", *renamed([item], several), shown(item)])
-            for file, definitions in ((file, found) for (of, file), found in claim.files.items() if of == crate):
+            for file, definitions in ((file, found) for (owner, file), found in claim.files.items() if owner == crate):
                 head = [f"-- ---- {crate} {file}", *definitions[0].module.head, *renamed(definitions, several)]
                 yield "\n".join(["", *head, *("\n".join(["", *it.lines]) for it in definitions)])
 

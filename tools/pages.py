@@ -176,13 +176,14 @@ def main():
     asked = reader.parse_args()
     files = made(asked.program)
     others = [name for name in files if not write(os.path.join(TOP, name), files[name], asked.check)]
-    there = {f"{folder}/{it}" for folder in ("man", OWN, "completions") for it in os.listdir(os.path.join(TOP, folder))}
-    there.discard(OWN)
-    for name in sorted(there - set(files)):
+    present = {f"{folder}/{name}" for folder in ("man", OWN, "completions")
+               for name in os.listdir(os.path.join(TOP, folder))}
+    present.discard(OWN)
+    for name in sorted(present - set(files)):
         print(f"{name}: not of this script's making")
     for name in others:
         print(f"{name}: {'is to be made anew' if asked.check else 'written'}")
-    return 1 if there - set(files) or asked.check and others else 0
+    return 1 if present - set(files) or asked.check and others else 0
 
 
 if __name__ == "__main__":
