@@ -79,10 +79,10 @@ def run_over(program, asked, again):
     return counts
 
 
-def print_counts(what, counts, seconds):
+def print_counts(title, counts, seconds):
     passed, failed, skipped = counts
     said = f"{passed} end-to-end tests passed, {failed} failed, {skipped} skipped, in {seconds:.0f} s"
-    print(f"{what}: {said}", flush=True)
+    print(f"{title}: {said}", flush=True)
 
 
 def take_usual_settings():
@@ -124,7 +124,7 @@ def main():
         if counted is None and not counts:
             sys.exit(f"run.py: no test's name holds '{asked.only}'")
         counts += [counted] if counted else []
-    sums = [sum(them) for them in zip(*counts)] or [0, 0, 0]
+    sums = [sum(column) for column in zip(*counts)] or [0, 0, 0]
     if len(programs) > 1:
         print_counts("in all", sums, time.monotonic() - started)
     if sums[1] or not sums[0]:

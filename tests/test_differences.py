@@ -27,7 +27,7 @@ class Described(Case):
     def expect_both(self, words, ours, theirs, **how):
         """Expects of each a status, what it writes to standard output and, as lines, to standard error."""
         wanted = tuple(Ran(status, as_bytes(out), as_bytes(err)) for status, out, err in (ours, theirs))
-        self.assertEqual(self.both(words, **how), wanted, words)
+        self.assertEqual(self.ours_and_theirs(words, **how), wanted, words)
 
     def expect_alike(self, words, status, out=(), err=(), **how):
         self.expect_both(words, (status, out, err), (status, out, err), **how)
@@ -65,7 +65,7 @@ class Messages(Described):
 
     def test_help_and_version(self):
         for option in ("--help", "--version"):
-            ours, theirs = self.both(["md5sum", option])
+            ours, theirs = self.ours_and_theirs(["md5sum", option])
             self.assertEqual((ours.status, ours.err, theirs.status, theirs.err), (0, b"", 0, b""))
             self.assertNotEqual(ours.out, theirs.out)
 
@@ -88,13 +88,13 @@ class Messages(Described):
     def test_lengths(self):
         """GNU's tool takes blanks or a plus sign before the number."""
         for value in (" 256", "\t256", "+256"):
-            ours, theirs = self.both(["b2sum", "-l", value, "e"])
+            ours, theirs = self.ours_and_theirs(["b2sum", "-l", value, "e"])
             self.assertEqual((ours.status, theirs.status, theirs.out), (1, 0, f"{harness.B}  e\n".encode()))
 
     def test_several_lengths(self):
         """The last alone is looked at, and none beside `--help` or `--version`; GNU's tool refuses others, too."""
         for words in ("-l x -l 256 e", "-l 7 -l 256 e", "-l x --help", "-l 7 --help", "-l 7 --version"):
-            ours, theirs = self.both(f"b2sum {words}")
+            ours, theirs = self.ours_and_theirs(f"b2sum {words}")
             self.assertEqual((ours.status, ours.err, theirs.status, theirs.out), (0, b"", 1, b""), words)
 
     def test_standard_input_twice(self):
@@ -118,7 +118,7 @@ class Messages(Described):
 
     def test_what_has_no_effect(self):
         """The language changes GNU's quotes, and POSIXLY_CORRECT makes every word after a name one; here neither."""
-        ran = [self.both("b2sum -l x e", env={**os.environ, "LC_ALL": name}) for name in ("C", "C.UTF-8")]
+        ran = [self.ours_and_theirs("b2sum -l x e", env={**os.environ, "LC_ALL": name}) for name in ("C", "C.UTF-8")]
         self.assertEqual(ran[0][0], ran[1][0])
         if ran[0][1] != ran[1][1]:  # if that language is there
             self.assertIn("\u2018x\u2019", ran[1][1].err.decode())
@@ -256,7 +256,7 @@ class Checks(Described):
                               ("-c --ignore-missing some", 0), ("-c --ignore-missing gone", 1),
                               ("-c --ignore-missing good gone", 1), ("-c wrong", 1), ("-c --ignore-missing wrong", 1)):
             for more in ((), ("--status",), ("--quiet",)) if words.startswith("-c") else ((),):
-                ours, theirs = self.both(["md5sum", *words.split(" "), *more])
+                ours, theirs = self.ours_and_theirs(["md5sum", *words.split(" "), *more])
                 self.assertEqual((ours.status, theirs.status), (status, status), (words, more))
 
     def test_cksum(self):

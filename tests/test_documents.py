@@ -13,10 +13,11 @@ class Documents(Case):
     of_the_repository = True
 
     def test_what_is_believed(self):
-        is_so, has_to_be = believed.page()
-        self.assertEqual(is_so, has_to_be, "tests/believed.py --write makes the tables anew")
-        for (crate, file), says in believed.rows_of(is_so).items():
+        written, wanted = believed.page()
+        self.assertEqual(written, wanted, "tools/believed.py --write makes the tables anew")
+        for (crate, file), says in believed.rows_of(written).items():
             self.assertNotEqual(says, "?", f"docs/PROMISES.md doesn't say what {file} of {crate} is")
+        self.assertEqual(believed.in_refinement(), [])
 
     def test_contracts_that_are_quoted(self):
         """docs/PROMISES.md shows the clauses of `run` and of `command` as they are, and docs/LIBRARY.md `same`."""
@@ -39,7 +40,7 @@ class Documents(Case):
 
     def test_text(self):
         """`--text` begins with the headline, counted as on the page, and goes down to BLAKE2b."""
-        ran = self.run_command([os.path.join(TOP, "tests", "believed.py"), "--text"])
+        ran = self.run_command([os.path.join(TOP, "tools", "believed.py"), "--text"])
         counted = re.search(r"\*\*The headline\*\* \(`run` of `digests`\): (.*);", believed.page()[1])[1]
         said = ran.out.decode()
         self.assertEqual((ran.status, ran.err, said.split("\n")[0]),
@@ -71,7 +72,7 @@ class Documents(Case):
     def test_commands_that_find_files(self):
         """Those of docs/AUDITING.md and docs/CHANGING.md find what they have to."""
         contracts = ["digests/src/run", "digests/src/command", "digests/src/laws", "sum_lines/src/sinks/sink"]
-        texts = ["sum_sources/specs/Faults", "sum_sources/src/fault", "digests/proofs/MeaningRows"]
+        texts = ["sum_sources/specs/Faults", "sum_sources/src/fault"]
         for page, command, wanted in (("AUDITING", r"    git diff OLD -- 'crates/\*/specs' (.*)", contracts),
                                       ("CHANGING", r" +grep -rnF 'No such file' (.*)", texts)):
             words = re.search(rf"(?m)^{command}$", text_of("docs", f"{page}.md"))[1]

@@ -42,12 +42,12 @@ class SameLines(Beside):
         for tool in GNU_TOOLS:
             for style in STYLES:
                 for names in (["--", *self.names, *BACKSLASH_NAMES], []):
-                    ours, theirs = self.both([tool, *style, *names], stdin=b"some bytes\r\n\0")
+                    ours, theirs = self.ours_and_theirs([tool, *style, *names], stdin=b"some bytes\r\n\0")
                     self.assertEqual((ours, ours.status), (theirs, 0))
 
     def test_lengths(self):
         for bits in range(8, 513, 8):
-            ours, theirs = self.both(["b2sum", "-l", str(bits), "--tag", "a", "d/f", "back\\slash"])
+            ours, theirs = self.ours_and_theirs(["b2sum", "-l", str(bits), "--tag", "a", "d/f", "back\\slash"])
             self.assertEqual(ours, theirs)
 
     def test_sizes_and_missing_files(self):
@@ -57,9 +57,9 @@ class SameLines(Beside):
             names.append(f"n{size}")
             self.write(names[-1], chance.randbytes(size))
         for tool in GNU_TOOLS:
-            ours, theirs = self.both([tool, *names])
+            ours, theirs = self.ours_and_theirs([tool, *names])
             self.assertEqual(ours, theirs)
-        ours, theirs = self.both(["md5sum", "a", "x", "e"])
+        ours, theirs = self.ours_and_theirs(["md5sum", "a", "x", "e"])
         self.assertEqual((ours.status, ours.out), (theirs.status, theirs.out))
         self.assertEqual(ours.err, b"md5sum: x: No such file or directory\n")
 
@@ -85,7 +85,7 @@ class SameLines(Beside):
 
 
 class Verified(Beside):
-    def each(self, styles=STYLES[:3]):
+    def each_manifest(self, styles=STYLES[:3]):
         """Each tool, each style that can be checked, and the manifest that GNU's tool writes for all files."""
         for tool in GNU_TOOLS:
             for style in styles:
@@ -96,10 +96,10 @@ class Verified(Beside):
     def checks(self, tool, manifest, *options):
         """What ours and theirs say of a manifest."""
         self.write("manifest", manifest)
-        return self.both([tool, "-c", *options, "manifest"])
+        return self.ours_and_theirs([tool, "-c", *options, "manifest"])
 
     def test_untouched(self):
-        for tool, style, manifest in self.each():
+        for tool, style, manifest in self.each_manifest():
             self.assertEqual(self.run_words([tool, *style, "--", *self.names]).out, manifest)
             for options in ([], ["--strict"], ["--quiet"], ["--status"], ["-w"], ["--ignore-missing"]):
                 ours, theirs = self.checks(tool, manifest, *options)
@@ -107,12 +107,12 @@ class Verified(Beside):
                 self.assertEqual((ours.status, ours.err), (0, b""))
 
     def test_tags_and_backslashes(self):
-        manifest = b"".join(lines for _, _, lines in self.each([["--tag"]]))
+        manifest = b"".join(lines for _, _, lines in self.each_manifest([["--tag"]]))
         ran = self.run_words("anysum -c --strict", stdin=manifest)
         self.assertEqual((ran.status, ran.err, ran.out.count(b": OK\n")), (0, b"", len(GNU_TOOLS) * len(self.names)))
         self.names = BACKSLASH_NAMES
         shown = ["\\back\\\\slash: OK", "\\\\\\n: OK", "\\\\\\: OK", "\\d/\\\\: OK"]
-        for tool, _, manifest in self.each():
+        for tool, _, manifest in self.each_manifest():
             ours, theirs = self.checks(tool, manifest, "--strict")
             self.assertEqual(ours, (0, as_bytes(shown), b""))
             self.assertEqual((theirs.status, theirs.out.count(b": OK\n"), theirs.err), (0, len(shown), b""))
@@ -124,7 +124,7 @@ class Verified(Beside):
             self.assertEqual((ours, ours.status), (theirs, 0))
 
     def test_files_changed_and_removed(self):
-        manifests = list(self.each())
+        manifests = list(self.each_manifest())
         self.write("a", "changed")
         os.remove(self.path("*star"))
         self.write("new\nline", "!")
@@ -137,7 +137,7 @@ class Verified(Beside):
     def test_lines_corrupted_and_reordered(self):
         """Lines in another order, comments, and lines that neither holds to be well formed."""
         chance = random.Random(3)
-        for tool, _, manifest in self.each():
+        for tool, _, manifest in self.each_manifest():
             lines = manifest.splitlines(keepends=True)
             chance.shuffle(lines)
             lines[3:3] = [b"# a comment\n", b"junk\n"]
@@ -148,7 +148,7 @@ class Verified(Beside):
                 self.assertEqual(ours, theirs)
 
     def test_changed_digits(self):
-        for tool, style, manifest in self.each():
+        for tool, style, manifest in self.each_manifest():
             at = manifest.index(b"= ") + 2 if style == ["--tag"] else 0
             digit = b"0" if manifest[at : at + 1] != b"0" else b"1"
             ours, theirs = self.checks(tool, manifest[:at] + digit + manifest[at + 1 :])

@@ -110,7 +110,7 @@ class Typed(Case):
         for name in more:
             self.put(name)
 
-    def there(self):
+    def files_of_the_tree(self):
         """The names of all files of the tree, but for its list, as find gives them, and their contents."""
         top, found = self.path("here"), {}
         for folder, _, names in os.walk(top):
@@ -138,7 +138,7 @@ class Typed(Case):
     def passes(self, recipe, out=b"", shell="bash"):
         self.assertEqual(self.type(recipe, shell), Ran(0, out, b""), recipe)
 
-    def each(self, *sorts, page="digests"):
+    def each_recipe(self, *sorts, page="digests"):
         """The recipes of a page, of these sorts or of all, with their sorts and with each shell that they are for."""
         for recipe, sort in recipes_of(page):
             for shell in ("bash",) if OF_BASH.search(recipe) else ("bash", "sh"):
@@ -155,7 +155,7 @@ class Typed(Case):
     def expect_only(self, *made):
         """Expects the good files as they were, these beside them, and nothing else in the tree or in the test's
         folder."""
-        found = self.there()
+        found = self.files_of_the_tree()
         wanted = {b"./" + name.encode(): IMAGE if name == "image.iso" else name.encode() for name in GOOD}
         self.assertEqual({name: found.pop(name) for name in wanted}, wanted)
         self.assertLessEqual(set(found), {f"./{name}".encode() for name in made})
@@ -177,10 +177,10 @@ class Recipes(Typed):
         self.make()
         os.symlink("c", self.path("here/some folder/link"))  # which no list has, nor a pipe
         os.mkfifo(self.path("here/some folder/pipe"))
-        for recipe, sort, shell in self.each():
+        for recipe, sort, shell in self.each_recipe():
             self.passes(recipe, self.report(sort, "OK") if sort.startswith("check") else b"", shell)
             if sort.startswith("list"):
-                self.expect_lines("SUMS", [line_of("sha256sum", *file) for file in self.there().items()])
+                self.expect_lines("SUMS", [line_of("sha256sum", *file) for file in self.files_of_the_tree().items()])
             elif sort.startswith("write"):
                 self.expect_lines("image.sum", BOTH if sort == "write at once" else [line_of("sha256sum", b"-", IMAGE)])
             self.expect_only("image.sum")
@@ -192,12 +192,12 @@ class Recipes(Typed):
         before = self.read("here/SUMS")
         for name in BAD:  # names that aren't UTF-8
             self.put(name)
-        for recipe, _, shell in self.each("list", "list on all"):
+        for recipe, _, shell in self.each_recipe("list", "list on all"):
             self.assertNotEqual(self.fails(recipe, shell).err, b"")
             self.assertEqual(self.read("here/SUMS"), before)
         ran = self.fails(self.recipe("not UTF-8"))
         self.assertEqual((sorted(ran.out.splitlines()), ran.err), (sorted(b"\n".join(BAD).splitlines()), b""))
-        for recipe, sort, shell in self.each("check list", "check list on all", "check one"):
+        for recipe, sort, shell in self.each_recipe("check list", "check list on all", "check one"):
             self.passes(recipe, self.report(sort, "OK"), shell)
         self.make()
         self.passes(self.recipe("list"))
@@ -210,22 +210,22 @@ class Recipes(Typed):
 
     def test_nothing_there(self):
         """Nothing passes in an empty tree but that its names are UTF-8, nor a check of an empty list."""
-        for recipe, sort, shell in self.each():
+        for recipe, sort, shell in self.each_recipe():
             self.make(good=False)
             (self.passes if sort == "not UTF-8" else self.fails)(recipe, shell=shell)
         self.make()
         for name in ("SUMS", "image.sum"):
             self.put(name, "")
-        for recipe, sort, shell in self.each():
+        for recipe, sort, shell in self.each_recipe():
             if sort.startswith("check"):
                 self.assertEqual(self.fails(recipe, shell).out, b"")
         ran = self.fails(self.recipe("unlisted"))
-        self.assertEqual(ran.out.count(b"\n"), len(self.there()))
+        self.assertEqual(ran.out.count(b"\n"), len(self.files_of_the_tree()))
 
     def test_a_changed_file(self):
         """Each check reports it; and those of a whole list, any other file."""
         self.make()
-        for recipe, sort, shell in self.each():
+        for recipe, sort, shell in self.each_recipe():
             self.put("image.iso", IMAGE)
             if sort.startswith(("write", "list")):
                 self.passes(recipe, shell=shell)
@@ -260,11 +260,11 @@ class Recipes(Typed):
         image = next(line for line in whole if line.endswith(b"  ./image.iso\n"))
         for damaged in (b"?" + image, re.sub(rb"[0-9a-f]{32}", b"?", image)):
             self.put("SUMS", b"".join(damaged if line == image else line for line in whole))
-            for recipe, _, shell in self.each("check list", "check list on all", "check one"):
+            for recipe, _, shell in self.each_recipe("check list", "check list on all", "check one"):
                 self.fails(recipe, shell)
         for other in (b"", b"#" + image, b"./image.iso\n"):
             self.put("SUMS", b"".join(other if line == image else line for line in whole))
-            for recipe, _, shell in self.each("check one"):
+            for recipe, _, shell in self.each_recipe("check one"):
                 self.assertEqual(self.fails(recipe, shell).out, b"")
             self.assertEqual(self.fails(self.recipe("unlisted")), Ran(1, b"./image.iso\n", b""))
 
@@ -291,7 +291,7 @@ class Recipes(Typed):
                 ("mktemp", "exit 1", *lists, *images, "unlisted"),
                 *((command, "exit 1", "unlisted") for command in ("sort", "comm")),
                 *((command, "exit 1", "unlisted", "not UTF-8") for command in ("sed", "tr"))):
-            for recipe, sort, shell in self.each(*sorts):
+            for recipe, sort, shell in self.each_recipe(*sorts):
                 self.make()
                 if sort in ("unlisted", "check gpg"):
                     self.passes(self.recipe("list"))
@@ -309,7 +309,7 @@ class Recipes(Typed):
     def test_a_run_that_is_ended(self):
         """It leaves nothing that was there for a time."""
         here = self.path("here")
-        for recipe, sort, shell in self.each("list", "list on all", "unlisted", "write by pv", "write at once"):
+        for recipe, sort, shell in self.each_recipe("list", "list on all", "unlisted", "write by pv", "write at once"):
             command = {"write by pv": "pv", "write at once": "tee"}.get(sort, "find")
             begun = self.path(f"commands/{command}.begun")
             for number in (signal.SIGINT, signal.SIGTERM):
@@ -335,7 +335,7 @@ class Recipes(Typed):
             shutil.copy(harness.PROGRAM, self.path("commands/a copy"))  # its own folder may be closed to others
         os.mkdir(self.path("temporary"))
         self.env["TMPDIR"] = os.fsdecode(self.path("temporary"))
-        for recipe, sort, shell in self.each("list", "list on all", "unlisted", "not UTF-8"):
+        for recipe, sort, shell in self.each_recipe("list", "list on all", "unlisted", "not UTF-8"):
             self.make(more=["shut/more", b"shut/bad\xff"])
             if sort == "unlisted":
                 self.put("SUMS", "".join(f"0  {name}\n" for name in GOOD))
@@ -363,7 +363,7 @@ class Examples(Typed):
             wanted = {"anysum": BOTH}.get(tool, lines[:1])
             if tool == "b2sum":
                 wanted = [self.run_words(["b2sum", "-l", "256"], IMAGE).out.replace(b"-", b"image.iso")]
-            for recipe, sort, shell in self.each(page=tool):
+            for recipe, sort, shell in self.each_recipe(page=tool):
                 if sort == "check download":
                     self.put(recipe.split()[-1], b"".join(lines))
                     self.passes(recipe, b"image.iso: OK\n", shell)
@@ -379,7 +379,7 @@ class Examples(Typed):
         """A changed file fails, and so does a list that isn't read whole, though all that is read matches: a mark
         precedes its first line, or a tag is no tool's."""
         for tool, (line, _) in self.each_tool():
-            for recipe, sort, shell in self.each("check", "check download", page=tool):
+            for recipe, sort, shell in self.each_recipe("check", "check download", page=tool):
                 for first in (b"\xef\xbb\xbf" + line, b"SHA2-256 (image.iso) = 00\n"):
                     if tool == "anysum" or sort == "check download":
                         self.put(recipe.split()[-1], first + line)
@@ -391,7 +391,7 @@ class Examples(Typed):
 
     def test_nothing_there(self):
         for tool, _ in self.each_tool():
-            for recipe, sort, shell in self.each(page=tool):
+            for recipe, sort, shell in self.each_recipe(page=tool):
                 self.make(good=False)
                 self.fails(recipe, shell)
                 if sort.startswith("check"):

@@ -77,18 +77,18 @@ class Library:
                 found.append(block.trait + (f"<{', '.join(types)}>" if types else "") + where)
         return list(dict.fromkeys(found))
 
-    def more(self, item):
+    def details(self, item):
         """What is said of a type besides its sentence: its fields or variants, and its traits; and who has a trait."""
         if item.kind == "trait":
             types = [it for it in self.items if it.kind in ("struct", "enum", "type") and it.public]
-            has = {"Implemented by": [it.name for it in types if self.has(it, item.name)]}
+            found = {"Implemented by": [it.name for it in types if self.implements(it, item.name)]}
         else:
             mark = {"struct": "Fields", "enum": "Variants"}.get(item.kind)
-            has = {mark: parts_of(item)} if mark else {}
-            has |= {"Traits": self.traits(item)} if mark or item.kind == "type" else {}
-        return [f"*{mark}:* " + ", ".join(f"`{it}`" for it in them) for mark, them in has.items() if them]
+            found = {mark: parts_of(item)} if mark else {}
+            found |= {"Traits": self.traits(item)} if mark or item.kind == "type" else {}
+        return [f"*{mark}:* " + ", ".join(f"`{it}`" for it in parts) for mark, parts in found.items() if parts]
 
-    def has(self, item, trait):
+    def implements(self, item, trait):
         return item.name not in self.aliases.values() and any(re.match(rf"{trait}\b", it) for it in self.traits(item))
 
     def members(self, item):
@@ -108,7 +108,7 @@ class Library:
             for item in self.items:
                 if (item.crate, item.file) == (crate, f"{file}.rt") and item.public and item.comment and (
                         names is None or item.name in names):
-                    said = "  \n  ".join([first_sentence(item.comment), *self.more(item)])
+                    said = "  \n  ".join([first_sentence(item.comment), *self.details(item)])
                     yield f"- `{item.head.replace(item.name, path + item.name, 1)}`  \n  {said}"
                     for it, where in self.members(item):
                         yield f"    - `{it.head}{where}`  \n      {first_sentence(it.comment)}"
@@ -119,17 +119,17 @@ class Library:
 
 
 def main():
-    library, is_so = Library(), text_of(PAGE)
+    library, written = Library(), text_of(PAGE)
     parts = "\n".join(line for crate in libraries() for line in library.described(crate))
-    has_to_be = is_so.split(BEGIN)[0] + BEGIN + "\n" + parts
+    wanted = written.split(BEGIN)[0] + BEGIN + "\n" + parts
     if sys.argv[1:] == ["--check"]:
-        if is_so != has_to_be:
+        if written != wanted:
             sys.exit("docs/LIBRARY.md: tools/library.py makes it anew")
     elif sys.argv[1:]:
         sys.exit("usage: library.py [--check]")
     else:
         with open(PAGE, "w", encoding="utf-8") as file:
-            file.write(has_to_be)
+            file.write(wanted)
 
 
 if __name__ == "__main__":

@@ -20,7 +20,8 @@ class Tool(NamedTuple):
 
 with open(os.path.join(os.path.dirname(os.path.abspath(__file__)), "tools.txt"), encoding="utf-8") as table:
     ROWS = [line.rstrip().split(maxsplit=4) for line in table if not line.startswith("#")]
-TOOLS = {name: Tool(whose == "GNU", *(of and (of[0], int(of[1]), of[2]))) for name, whose, *of in ROWS}
+TOOLS = {name: Tool(owner == "GNU", *(digest and (digest[0], int(digest[1]), digest[2])))
+         for name, owner, *digest in ROWS}
 DIGESTS = {name: tool for name, tool in TOOLS.items() if tool.tag}  # those that write one
 
 # Where the program takes an option.

@@ -145,7 +145,7 @@ def made(program):
     known = {tool: options_of(program, tool) for tool in TOOLS}
     said = re.sub(r"\n +", " ", text_of("tools", "pages", "options.txt").partition("\n\n")[2])
     said = dict(line.split(": ", 1) for line in said.splitlines())
-    unknown = {name.lstrip("!") for name in said} - {option.long for them in known.values() for option in them}
+    unknown = {name.lstrip("!") for name in said} - {option.long for options in known.values() for option in options}
     if unknown:
         sys.exit(f"pages.py: pages/options.txt has a word on no option: {', '.join(sorted(unknown))}")
     files = {}
@@ -176,13 +176,14 @@ def main():
     asked = reader.parse_args()
     files = made(asked.program)
     others = [name for name in files if not write(os.path.join(TOP, name), files[name], asked.check)]
-    there = {f"{folder}/{it}" for folder in ("man", OWN, "completions") for it in os.listdir(os.path.join(TOP, folder))}
-    there.discard(OWN)
-    for name in sorted(there - set(files)):
+    present = {f"{folder}/{name}" for folder in ("man", OWN, "completions")
+               for name in os.listdir(os.path.join(TOP, folder))}
+    present.discard(OWN)
+    for name in sorted(present - set(files)):
         print(f"{name}: not of this script's making")
     for name in others:
         print(f"{name}: {'is to be made anew' if asked.check else 'written'}")
-    return 1 if there - set(files) or asked.check and others else 0
+    return 1 if present - set(files) or asked.check and others else 0
 
 
 if __name__ == "__main__":

@@ -190,8 +190,8 @@ class Code:
 
     def declared(self, module, name):
         """What a module of definitions that the toolchain makes of the code declares, and what that names."""
-        of = re.match(r"Rattle\.(\w+)\.specs\.declared\b", module)
-        if not of or not any(it.crate == of[1] for it in self.items):
+        owner_crate = re.match(r"Rattle\.(\w+)\.specs\.declared\b", module)
+        if not owner_crate or not any(it.crate == owner_crate[1] for it in self.items):
             return []
         found = DECLARED.fullmatch(module)
         if not found:
@@ -318,26 +318,26 @@ class Specs:
 
     def __init__(self):
         self.modules = {it.name: it for it in (Module(*found) for found in files("specs", ".antt"))}
-        every = [it for module in self.modules.values() for it in module.definitions.values()]
-        self.owners = {(it.module.name, name): it for it in every for name in it.constructors()}
+        definitions = [it for module in self.modules.values() for it in module.definitions.values()]
+        self.owners = {(it.module.name, name): it for it in definitions for name in it.constructors()}
 
     def find(self, module, name):
         """The definition of that name in a module, or that of the type whose constructor it is."""
-        there = self.modules.get(module)
-        for spelled in spellings(name) if there else ():
-            found = there.definitions.get(spelled) or self.owners.get((module, spelled))
+        searched = self.modules.get(module)
+        for spelled in spellings(name) if searched else ():
+            found = searched.definitions.get(spelled) or self.owners.get((module, spelled))
             if found:
                 return found
-            if there.imports.get(spelled, (None, None))[1]:
-                return self.find(*there.imports[spelled])
+            if searched.imports.get(spelled, (None, None))[1]:
+                return self.find(*searched.imports[spelled])
         return None
 
     def origin(self, module, name):
         """Where a name of a module comes from, through files that only pass it on."""
-        there = self.modules.get(module)
-        while there and name not in there.definitions and name in there.imports:
-            module, name = there.imports[name]
-            there = self.modules.get(module)
+        searched = self.modules.get(module)
+        while searched and name not in searched.definitions and name in searched.imports:
+            module, name = searched.imports[name]
+            searched = self.modules.get(module)
         return module, name
 
     def named(self, text, find, imports):
@@ -347,7 +347,7 @@ class Specs:
             if found:
                 yield found
 
-    def meant(self, definition):
+    def references(self, definition):
         """The definitions that this one refers to; in its own file the toolchain lets it use only what stands above."""
         module = definition.module
         named = self.named(definition.text, lambda name: self.find(module.name, name), module.imports)
@@ -360,5 +360,5 @@ class Specs:
             definition = left.pop()
             if definition not in seen:
                 seen.add(definition)
-                left.extend(instead.get(definition) or self.meant(definition))
+                left.extend(instead.get(definition) or self.references(definition))
         return seen

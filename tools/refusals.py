@@ -1,7 +1,7 @@
 #!/usr/bin/env python3
 """Makes the table of docs/TESTING.md anew: which clause refuses which wrong version.
 
-    tools/refusals.py         calls `rt must-fail`, which tries what it hasn't tried
+    tools/refusals.py         calls `rt must-fail`, which tries all of them
     tools/refusals.py FILE    takes a file with the output of that call, or of the gate
 
 The goal that counts for a wrong version is the first one that the prover names."""
@@ -27,15 +27,15 @@ IN_PROOF = re.compile(r"refused, as it must be: (?:note: )?(?:\./)?proofs/([\w/]
 
 def function_at(text, line):
     """The function in which a line stands, or whose attribute it is. An edit moves no line."""
-    of, found, lines = "", "", text.split("\n")
+    owner, found, lines = "", "", text.split("\n")
     while lines[line - 1].lstrip().startswith("#["):
         line += 1
     for it in lines[:line]:
         block = re.match(r"impl(?:<.*?>)? (?:.*? for (?:&mut )?)?(?:\w+::)*(\w+)|\}$", it)
         function = re.match(r" *(?:pub(?:\([^)]*\))? )?fn (\w+)", it)
         if block:
-            of = f"{block[1]}::" if block[1] and not it.endswith("}") else ""
-        found = of + function[1] if function else found
+            owner = f"{block[1]}::" if block[1] and not it.endswith("}") else ""
+        found = owner + function[1] if function else found
     return found
 
 
@@ -62,12 +62,13 @@ def rows(said):
     """The clauses by the functions, each with the wrong versions that it refuses."""
     found = {}
     for crate, name, how in said:
-        at, in_proof = AT.match(how), IN_PROOF.match(how)
-        if not at and not in_proof:
+        in_code, in_proof = AT.match(how), IN_PROOF.match(how)
+        if not in_code and not in_proof:
             sys.exit(f"{crate}/{name}.edit isn't refused by a goal that can be read: {how}")
-        function = (function_at(text_of("crates", crate, "src", at[1]), int(at[2])) if at
+        function = (function_at(text_of("crates", crate, "src", in_code[1]), int(in_code[2])) if in_code
                     else function_of(crate, in_proof[1]))
-        found.setdefault((crate, function), {}).setdefault(goal_of(at[3] if at else in_proof[2]), []).append(name)
+        goal = goal_of(in_code[3] if in_code else in_proof[2])
+        found.setdefault((crate, function), {}).setdefault(goal, []).append(name)
     return found
 
 

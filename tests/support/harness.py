@@ -195,7 +195,7 @@ class Case(unittest.TestCase):
         ran = self.run_words(words, stdin, **how)
         self.assertEqual(ran, Ran(status, as_bytes(out), as_bytes(err)), as_words(words)[:9])
 
-    def both(self, words, **how):
+    def ours_and_theirs(self, words, **how):
         """What ours and GNU's tool leave for the same words, the first of which is the tool."""
         words = as_words(words)
         return self.run_words(words, **how), self.run_command(words, executable=gnu(words[0]), **how)
@@ -270,11 +270,11 @@ class Case(unittest.TestCase):
             near = slice(max(0, place - 40), place + 80)
             self.fail(f"at byte {place} of {len(got)}, {len(wanted)} wanted: {got[near]!r} != {wanted[near]!r}")
 
-    def until(self, condition, what, seconds=SOON):
+    def until(self, condition, awaited, seconds=SOON):
         """Waits until the condition holds; the test fails, saying what was awaited, if it doesn't in that time."""
         stop = time.monotonic() + seconds
         while not condition():
-            self.assertLess(time.monotonic(), stop, f"in {seconds} seconds: {what}")
+            self.assertLess(time.monotonic(), stop, f"in {seconds} seconds: {awaited}")
             time.sleep(0.001)
 
     def fed(self, name):

@@ -38,10 +38,10 @@ class Terminal:
         self.shown, self.keys = b"", ALL
         self.wait_for(lambda: PROMPT in self.shown)
 
-    def wait_for(self, what):
+    def wait_for(self, condition):
         """Reads what the shell shows until it has come so far."""
         end = time.monotonic() + harness.RUN_SECONDS
-        while not what():
+        while not condition():
             ready, _, _ = select.select([self.master], [], [], 0.02)
             if ready:
                 self.shown += os.read(self.master, 65536)

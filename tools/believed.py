@@ -1,10 +1,13 @@
 #!/usr/bin/env python3
 """What a reader has to believe: what the contract of a function says, down to the last definition that it reaches.
 
-    tests/believed.py            prints, for the headline and the program, the files, each with its lines
-    tests/believed.py --text     prints it all, and the laws, the contract first, each definition before those that it
+    tools/believed.py            prints, for the headline and the program, the files, each with its lines
+    tools/believed.py --text     prints it all, and the laws, the contract first, each definition before those that it
                                  stands on
-    tests/believed.py --write    makes the tables of docs/PROMISES.md anew
+    tools/believed.py --write    makes the tables of docs/PROMISES.md anew
+
+Each fails if a definition that the headline or the program reaches stands in a folder specs/refinement/ of a crate:
+such a folder only relates the code's values to those of the definitions, so a reader may pass over it.
 
 What a contract says of a value is said in words that others give a meaning: the clauses of the traits that bound the
 function's parameters, and the views of their types. So these count, with the types and constants of the code that are
@@ -24,14 +27,13 @@ import sys
 
 sys.dont_write_bytecode = True
 
-sys.path.append(os.path.join(os.path.dirname(os.path.dirname(os.path.realpath(__file__))), "tools"))
-from rattle import TOP, Code, Specs, crates, text_of  # noqa: E402  (it is there)
+from rattle import TOP, Code, Specs, crates, text_of  # noqa: E402  (nothing is to be left beside these files)
 
 PROMISES = os.path.join(TOP, "docs", "PROMISES.md")
 # What is believed besides the laws, in the order of the page: a function's crate and name, and what the page calls it.
 CLAIMS = [("digests", "run", "The headline"), ("digests", "command", "The program")]
 COMPUTED = {"parse_line": "parse_is_grammar", "form": "one_form"}  # what a law holds against a relation, and the law
-MARKS = "<!-- made by tests/believed.py: what stands below -->\n", "\n<!-- and above this line -->"
+MARKS = "<!-- made by tools/believed.py: what stands below -->\n", "\n<!-- and above this line -->"
 
 # A function whose contract is believed, or the laws: what the page calls it, and the function's name; the items of the
 # code and the definitions that are believed, and those that need not be; and of these items and definitions, by their
@@ -41,11 +43,11 @@ Claim = collections.namedtuple("Claim", "title of items reached apart new files"
 code, every_definition = functools.lru_cache(Code), functools.lru_cache(Specs)  # each is read once
 
 
-def declared(those):
-    """The types and constants of the code that definitions, or the clauses of contracts, name, and what these name,
+def declared(citing):
+    """The types and constants of the code that these definitions, or items with clauses, name, and what these name,
     each once."""
     found = []
-    for origin in (origin for it in those for origin in it.origins().values()):
+    for origin in (origin for it in citing for origin in it.origins().values()):
         found += [it for it in code().declared(*every_definition().origin(*origin)) if it not in found]
     return found
 
@@ -80,7 +82,8 @@ def in_files(definitions):
             files.setdefault(definition.file, []).insert(0, definition)
     order = graphlib.TopologicalSorter(dict.fromkeys(files, ()))
     for file in files:
-        for other in sorted({it.file for one in files[file] for it in specs.meant(one)} & files.keys() - {file}):
+        used = {it.file for definition in files[file] for it in specs.references(definition)}
+        for other in sorted(used & files.keys() - {file}):
             order.add(other, file)
     return {file: files[file] for file in sorted(order.static_order(), key=lambda file: -listed.index(file[0]))}
 
@@ -105,9 +108,9 @@ def shown(item):
     return re.sub(r"\n\s*\n", "\n\n", item.text.replace("{\n\n", "{\n")).strip()
 
 
-def size(those):
+def size(believed):
     """The lines of definitions, or of items of the code."""
-    return sum(it.size if hasattr(it, "size") else len(re.findall(r"(?m)^.*\S", shown(it))) for it in those)
+    return sum(it.size if hasattr(it, "size") else len(re.findall(r"(?m)^.*\S", shown(it))) for it in believed)
 
 
 def counted(claim):
@@ -119,25 +122,26 @@ def counted(claim):
 def text():
     """A list of the parts, and these: of each crate, the highest first, the items of the code without their comments
     and the definitions of its files, after what the files say of themselves; all that only once."""
-    every = list(claims())
-    several = of_several(it for claim in every for them in claim.files.values() for it in them)
-    for claim in every:
+    all_claims = list(claims())
+    several = of_several(it for claim in all_claims for definitions in claim.files.values() for it in definitions)
+    for claim in all_claims:
         yield f"-- {claim.title}{claim.of.replace('`', '')}: {counted(claim)}"
-        yield from (f"--   {crate} {file}: {size(them)} lines" for (crate, file), them in claim.files.items())
-    for claim in every:
+        yield from (f"--   {crate} {file}: {size(definitions)} lines"
+                    for (crate, file), definitions in claim.files.items())
+    for claim in all_claims:
         yield f"\n-- ======== {claim.title}"
         for crate in reversed(crates()):
             for item in (it for it in claim.new if it.crate == crate):
                 yield "\n".join(["", f"-- {crate} src/{item.file}", *renamed([item], several), shown(item)])
-            for file, definitions in ((file, them) for (of, file), them in claim.files.items() if of == crate):
+            for file, definitions in ((file, found) for (owner, file), found in claim.files.items() if owner == crate):
                 head = [f"-- ---- {crate} {file}", *definitions[0].module.head, *renamed(definitions, several)]
                 yield "\n".join(["", *head, *("\n".join(["", *it.lines]) for it in definitions)])
 
 
-def renamed(those, several):
+def renamed(of_one_file, several):
     """The names in definitions or items of one file that mean another name, or a module, or several things in all, each
     with what it is."""
-    origins = {name: origin for it in those for name, origin in it.origins().items()}
+    origins = {name: origin for it in of_one_file for name, origin in it.origins().items()}
     for name, (module, there) in sorted(origins.items()):
         if name in several or there not in (name, None) or there is None and module.split(".")[-1] != name:
             yield f"-- here {name} is {module}{'.' + there if there else ''}"
@@ -151,12 +155,13 @@ def of_several(definitions):
         for name, origin in definition.origins().items():
             means.setdefault(name, set()).add(every_definition().origin(*origin))
     ours = {module.split(".")[1] for module in every_definition().modules}
-    return {name for name, them in means.items() if len(them) > 1 and any(it[0].split(".")[1] in ours for it in them)}
+    return {name for name, origins in means.items()
+            if len(origins) > 1 and any(module.split(".")[1] in ours for module, _ in origins)}
 
 
 def rows_of(page):
     """The rows of tables in a page, or in a part of one: what each file says."""
-    rows = re.findall(r"^\| `(\w+)/specs/([\w/]+)\.antt` \| (.*?) \| \d+ \|", page, re.MULTILINE)
+    rows = re.findall(r"^\|`(\w+)/specs/([\w/]+)\.antt`\|(.*?)\|\d+\|", page, re.MULTILINE)
     return {(crate, file): says for crate, file, says in rows}
 
 
@@ -167,11 +172,11 @@ def tables(page):
     for claim in list(claims())[:len(CLAIMS)]:
         where = "besides the above:" if lines else "in these files:"
         lines += [f"**{claim.title}**{claim.of}: {counted(claim)}; {where}", "",
-                  "| definitions | what they say | lines |", "|---|---|---|"]
+                  "|definitions|what they say|lines|", "|---|---|---|"]
         says = rows_of(page.partition(f"**{claim.title}**")[2].partition("\n**")[0])
-        lines += [f"| `{crate}/specs/{file}.antt` | {says.get((crate, file), '?')} | {size(them)} |"
-                  for (crate, file), them in claim.files.items()]
-        lines += [f"| of the code | the contract, traits, views, types and constants | {size(claim.new)} |", ""]
+        lines += [f"|`{crate}/specs/{file}.antt`|{says.get((crate, file), '?')}|{size(definitions)}|"
+                  for (crate, file), definitions in claim.files.items()]
+        lines += [f"|of the code|the contract, traits, views, types and constants|{size(claim.new)}|", ""]
         if claim.apart:
             laws = " and ".join(f"`{law}`" for law in COMPUTED.values())
             lines += [f"Apart: {len(claim.apart)} definitions, {size(claim.apart)} lines, that compute what relations "
@@ -180,23 +185,32 @@ def tables(page):
 
 
 def page():
-    """The page as it is, and as it has to be."""
-    is_so = text_of(PROMISES)
-    begin, end = is_so.index(MARKS[0]) + len(MARKS[0]), is_so.index(MARKS[1])
-    return is_so, is_so[:begin] + tables(is_so) + is_so[end:]
+    """The text of the page, and the text that it has to have."""
+    written = text_of(PROMISES)
+    begin, end = written.index(MARKS[0]) + len(MARKS[0]), written.index(MARKS[1])
+    return written, written[:begin] + tables(written) + written[end:]
+
+
+def in_refinement():
+    """The definitions that the headline or the program reaches, and that stand in a folder specs/refinement/: a line
+    for each."""
+    return [f"{crate}/specs/{file}.antt: {title[0].lower()}{title[1:]} reaches {it.name}; move it out of refinement/"
+            for title, *_, files in list(claims())[:len(CLAIMS)] for (crate, file), definitions in files.items()
+            if file.startswith("refinement/") for it in definitions]
 
 
 def main(words):
-    is_so, has_to_be = page()
+    written, wanted = page()
     if words == ["--write"]:
         with open(PROMISES, "w", encoding="utf-8") as it:
-            it.write(has_to_be)
+            it.write(wanted)
     elif words == ["--text"]:
         print("\n".join(text()))
     elif not words:
-        print(tables(is_so))
+        print(tables(written))
     else:
         sys.exit(__doc__)
+    sys.exit("\n".join(in_refinement()))
 
 
 if __name__ == "__main__":
