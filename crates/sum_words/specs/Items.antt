@@ -114,10 +114,9 @@ attached_value cs = (length_value (encode_utf8_all cs) ∷ [], a_word)
 -- the items of a cluster, letter by letter, and how the next word is read
 abbrev pub cluster : Tool → List ℕ → List ItemValue × NextWord
 cluster t [] = ([], a_word)
-cluster t (c ∷ cs) = let rest = cluster t cs in elim (option_of_letter t c) [
-  | Some flag ↦ if takes_value flag then attached_value cs else (option flag ∷ rest.0, rest.1)
-  | None ↦ (fault (unknown_short c) ∷ [], no_word)
-]
+cluster t (c ∷ cs) = let rest = cluster t cs in option_map_or (λ flag.
+    if takes_value flag then attached_value cs else (option flag ∷ rest.0, rest.1))
+    (option_of_letter t c) (fault (unknown_short c) ∷ [], no_word)
 
 -- whether a word begins with a dash and goes on
 abbrev pub is_option_word : ByteString → Bool
@@ -141,12 +140,15 @@ items_from t (a_value spelling) (w ∷ ws) = length_value w ∷ items_from t a_w
 
 -- the option of an item, if it is one
 abbrev pub option_in : ItemValue → Option Flag
-option_in = elim [ option flag ↦ Some flag | item ↦ None ]
+option_in (option flag) = Some flag
+option_in other = None
 
 -- the value of an item, if it is one
 abbrev pub value_in : ItemValue → Option ByteString
-value_in = elim [ length_value value ↦ Some value | item ↦ None ]
+value_in (length_value value) = Some value
+value_in other = None
 
 -- the operand of an item, if it is one
 abbrev pub operand_in : ItemValue → Option ByteString
-operand_in = elim [ operand word ↦ Some word | item ↦ None ]
+operand_in (operand word) = Some word
+operand_in other = None

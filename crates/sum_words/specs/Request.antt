@@ -8,6 +8,7 @@ use Rattle.std.specs.Str.{all_ascii_digits}
 use Rattle.std.specs.Str.Parse.{digits_value}
 use Rattle.sum_words.specs.Tools.{Algos, Tool, algos_of}
 use Rattle.digest_kinds.specs.declared.algo.Algos.TheVariants.{One, Any}
+use Rattle.digest_kinds.specs.declared.kind.LengthFault.{LengthFault}
 use Rattle.digest_kinds.specs.declared.kind.LengthFault.TheVariants.{TooLong, NotBytes}
 use Rattle.digest_kinds.specs.Kinds.{KindValue, full_kind, blake2b_of_bits}
 pub use Rattle.sum_lines.specs.declared.writing.put_line.Mode.{Mode}
@@ -49,11 +50,16 @@ report_flag reports.Quiet = Some flags.Quiet
 report_flag reports.Warn = Some flags.Warn
 report_flag reports.Status = Some flags.Status
 
+-- the kind of a length value, or what is wrong with that
+abbrev kind_or_fault : ByteString → Result KindValue LengthFault → Result KindValue WordFaultValue
+kind_or_fault value (Ok kind) = Ok kind
+kind_or_fault value (Err TooLong) = Err (length_invalid value)
+kind_or_fault value (Err NotBytes) = Err (length_not_bytes value)
+
 -- the kind that a length value asks for, which is one or more digits: the number of bits
 abbrev pub length_kind : ByteString → Result KindValue WordFaultValue
 length_kind value = if bytes_eq value [] || not (all_ascii_digits value) then Err (length_invalid value)
-    else elim (blake2b_of_bits (digits_value 10 value))
-    [ Ok kind ↦ Ok kind | Err TooLong ↦ Err (length_invalid value) | Err NotBytes ↦ Err (length_not_bytes value) ]
+    else kind_or_fault value (blake2b_of_bits (digits_value 10 value))
 
 -- the faults of the options in the order in which they count, each after its condition
 abbrev pub faults : List Flag → List (Bool × WordFaultValue)
@@ -86,9 +92,11 @@ generation (One algo) kind given operands =
     let style : Style = record { mode = mode_of given; zero = has flags.Zero given } in
     Ok (Generate (record { kind = unwrap_or kind (full_kind algo); style = style }) operands)
 
--- the first of these faults, or what the options ask for
-abbrev pub request_or_fault : Algos → Option KindValue → List Flag → List ByteString → Result Request WordFaultValue
-request_or_fault algos kind given operands =
+-- the fault of the length, the first of those faults, or what the options ask for
+abbrev pub request_or_fault :
+    Algos → Result (Option KindValue) WordFaultValue → List Flag → List ByteString → Result Request WordFaultValue
+request_or_fault algos (Err f) given operands = Err f
+request_or_fault algos (Ok kind) given operands =
     option_map_or Err (option_map (λ row. row.1) (find (λ row. row.0) (faults given)))
     (if not (has flags.Check given) then generation algos kind given operands
     else Ok (Check (record {
@@ -109,10 +117,8 @@ early_request (x ∷ xs) = early_request xs
 -- what a tool's items ask for; the last value of --length counts, and its fault precedes those of the options
 abbrev pub request_of_items : Tool → List ItemValue → Result Request WordFaultValue
 request_of_items t xs = let kind = option_transpose (option_map length_kind (last_or None (filter_map value_in xs))) in
-    unwrap_or (early_request xs) (elim kind [
-      | Ok kind ↦ request_or_fault (algos_of t) kind (filter_map option_in xs) (filter_map operand_in xs)
-      | Err f ↦ Err f
-    ])
+    unwrap_or (early_request xs)
+    (request_or_fault (algos_of t) kind (filter_map option_in xs) (filter_map operand_in xs))
 
 -- what a tool's words ask for
 abbrev pub request : Tool → List ByteString → Result Request WordFaultValue

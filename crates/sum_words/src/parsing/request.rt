@@ -231,7 +231,7 @@ fn asked_request<'a>(
     operands: Operands<'a>,
 ) -> Result<Request<'a>, WordFault<'a>>
     ensures { (xs : List ItemValue) → IsChosenBy chosen.now [] xs →
-        result_of result ≡ request_or_fault algos kind (filter_map option_in xs) operands.entry }
+        result_of result ≡ request_or_fault algos (Ok kind) (filter_map option_in xs) operands.entry }
 {
     if let Some(fault) = fault_of_options(chosen) {
         return Err(fault);
