@@ -10,7 +10,7 @@ use Rattle.std.proofs.lemmas.List.{append-nil, append_assoc}
 use Rattle.sum_words.specs.Items.{ByteString}
 use Rattle.memchr.specs.Find.{Passes, Nowhere, is_byte}
 use Rattle.sum_words.specs.CommandLines.{last_part, NeedsMemory}
-use Rattle.sum_words.specs.refinement.Arguments.{ArgumentIs, WordsAre, IsLonger}
+use Rattle.sum_words.specs.refinement.CommandLine.{ArgumentIs, WordsAre, IsLonger}
 
 -- ---- the last part of a path
 
@@ -67,20 +67,20 @@ longer_unread (Some all) place h = inr (longer all place h)
 -- ---- the words, one after another
 
 -- the words are the arguments from the first place up to another
-abbrev pub WordsUpTo : Option (List ByteString) → ℕ → ℕ → List ByteString → Type 0
-WordsUpTo known first place words = IfSome known (λ all. drop first all ≡ words ++ drop place all)
+abbrev pub HasWordsUpTo : Option (List ByteString) → ℕ → ℕ → List ByteString → Type 0
+HasWordsUpTo known first place words = IfSome known (λ all. drop first all ≡ words ++ drop place all)
 
 -- one more word was read
 pub words_more : (known : Option (List ByteString)) (first place : ℕ) (words : List ByteString) (word : ByteString)
-    → WordsUpTo known first place words → ArgumentIs known place (Some word)
-    → WordsUpTo known first (place + 1) (words ++ word ∷ [])
+    → HasWordsUpTo known first place words → ArgumentIs known place (Some word)
+    → HasWordsUpTo known first (place + 1) (words ++ word ∷ [])
 words_more None first place words word w h = tt
 words_more (Some all) first place words word w h =
     w ∙ rw (drop_at_some all place h, ← append_assoc words (word ∷ []) (drop (place + 1) all)) refl
 
 -- all words were read
 pub words_all : (known : Option (List ByteString)) (first place : ℕ) (words : List ByteString)
-    → WordsUpTo known first place words → ArgumentIs known place None → WordsAre known first words
+    → HasWordsUpTo known first place words → ArgumentIs known place None → WordsAre known first words
 words_all None first place words w h = tt
 words_all (Some all) first place words w h =
     sym (w ∙ ap (λ l. words ++ l) (drop_at_none all place h) ∙ append-nil words)

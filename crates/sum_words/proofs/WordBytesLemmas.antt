@@ -5,7 +5,7 @@ use Rattle.std.proofs.lemmas.List.{take-append-le, drop-append-le}
 use Rattle.std.proofs.lemmas.Bool.{ltb-true}
 use Rattle.std.proofs.Math.Seq.{drop-append_seam, take-length}
 use Rattle.sum_words.specs.Items.{ByteString}
-use Rattle.sum_words.specs.refinement.WordBytes.{pieces_cut, CutsAt}
+use Rattle.sum_words.specs.Words.{pieces_cut, CutsAt}
 
 -- one more word, with its end, still cuts the bytes
 pub CutsAt-push : (bytes word : List ℕ) (from : ℕ) (ends : List ℕ) → CutsAt bytes from ends
@@ -42,25 +42,25 @@ pieces_cut-length bytes from [] = refl
 pieces_cut-length bytes from (end ∷ ends) = ap suc (pieces_cut-length bytes end ends)
 
 -- the piece at a place is this part of the bytes
-pub record PieceAt (bytes : List ℕ) (words : List ByteString) (i start end : ℕ) : Type 0 where
+pub record IsPieceAt (bytes : List ℕ) (words : List ByteString) (i start end : ℕ) : Type 0 where
   pub order : start ≤ end
   pub within : end ≤ length bytes
   pub piece : slice_get words i ≡ Some (take (end - start) (drop start bytes))
 
 -- the piece at a place, from the place before it on
 piece_at : (bytes : List ℕ) (from : ℕ) (ends : List ℕ) (i d : ℕ) → CutsAt bytes from ends → i < length ends
-    → PieceAt bytes (pieces_cut bytes from ends) i (get_or (from ∷ ends) i 0) (get_or ends i d)
+    → IsPieceAt bytes (pieces_cut bytes from ends) i (get_or (from ∷ ends) i 0) (get_or ends i d)
 piece_at bytes from [] i d cuts less = absurd (omega (arith, less))
 piece_at bytes from (end ∷ ends) zero d cuts less =
     record { order = cuts.0; within = CutsAt-within bytes end ends cuts.1; piece = refl }
 piece_at bytes from (end ∷ ends) (suc i) d cuts less =
-    let p : PieceAt bytes (pieces_cut bytes end ends) i (get_or (end ∷ ends) i 0) (get_or ends i d) =
+    let p : IsPieceAt bytes (pieces_cut bytes end ends) i (get_or (end ∷ ends) i 0) (get_or ends i d) =
     piece_at bytes end ends i d cuts.1 (omega (arith, less)) in
     record { order = p.order; within = p.within; piece = p.piece }
 
 -- the same if the places were read out of the list
 pub piece_read : {start end : ℕ} (bytes ends : List ℕ) (i : ℕ) → start ≡ get_or (0 ∷ ends) i 0
     → true ≡ ltb i (length ends) → end ≡ get_or ends i end → CutsAt bytes 0 ends
-    → PieceAt bytes (pieces_cut bytes 0 ends) i start end
+    → IsPieceAt bytes (pieces_cut bytes 0 ends) i start end
 piece_read {end = end} bytes ends i start_is inside end_is cuts =
     rw (start_is, end_is) (piece_at bytes 0 ends i end cuts (ltb-true _ _ (sym inside)))

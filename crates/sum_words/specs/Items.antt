@@ -85,15 +85,15 @@ abbrev pub value_part : ByteString → Option ByteString
 value_part text = option_map (λ i. drop (i + 1) text) (position (λ b. b == byte "=") text)
 
 -- the only one of these options, or the fault of a name that begins none or several
-abbrev pub the_one : ByteString → List Flag → Result Flag WordFaultValue
-the_one name [] = Err (unknown_long name)
-the_one name (flag ∷ []) = Ok flag
-the_one name several = Err (ambiguous_long name)
+abbrev pub only_or_fault : ByteString → List Flag → Result Flag WordFaultValue
+only_or_fault name [] = Err (unknown_long name)
+only_or_fault name (flag ∷ []) = Ok flag
+only_or_fault name several = Err (ambiguous_long name)
 
 -- the option that a name means: the one of this full name, else the only one whose full name begins with it
 unfoldable pub name_or_fault : Tool → ByteString → Result Flag WordFaultValue
 name_or_fault t name = option_map_or (λ flag. Ok flag) (find (λ flag. bytes_eq name (full_name flag)) (flags_of t))
-    (the_one name (filter (λ flag. starts_with ◌==◌ (full_name flag) name) (flags_of t)))
+    (only_or_fault name (filter (λ flag. starts_with ◌==◌ (full_name flag) name) (flags_of t)))
 
 -- the items of a long option, and how the next word is read
 abbrev pub long_option : Result Flag WordFaultValue → Option ByteString → List ItemValue × NextWord

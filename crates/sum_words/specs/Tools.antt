@@ -1,5 +1,6 @@
 -- The tools: the name and the algorithms of each.
-use Rattle.std.specs.Prelude.{List, [], ◌∷◌, ℕ, Option, codes, find, bytes_eq}
+use Rattle.std.specs.Prelude.{[], ◌∷◌, Option, codes, find, bytes_eq}
+use Rattle.digest_kinds.specs.Basics.{ByteString}
 use Rattle.digest_kinds.specs.declared.algo.Algo.TheVariants.{Md5, Sha1, Sha224, Sha256, Sha384, Sha512, Blake2b}
 pub use Rattle.digest_kinds.specs.declared.algo.Algos.{Algos}
 use Rattle.digest_kinds.specs.declared.algo.Algos.TheVariants.{One, Any}
@@ -8,7 +9,7 @@ use Rattle.sum_words.specs.declared.tool.Tool.TheVariants as tools
 
 -- a tool's name, and the algorithms of the digests that it writes and checks
 pub record ToolRow : Type 0 where
-  pub name : List ℕ
+  pub name : ByteString
   pub algos : Algos
 
 -- each tool's row
@@ -23,7 +24,7 @@ tool_row tools.B2sum = record { name = codes "b2sum"; algos = One Blake2b }
 tool_row tools.Anysum = record { name = codes "anysum"; algos = Any }
 
 -- a tool's name
-abbrev pub name_of : Tool → List ℕ
+abbrev pub name_of : Tool → ByteString
 name_of t = (tool_row t).name
 
 -- a tool's algorithms
@@ -31,6 +32,6 @@ abbrev pub algos_of : Tool → Algos
 algos_of t = (tool_row t).algos
 
 -- the one of all tools that has this name
-unfoldable pub tool_called : List ℕ → Option Tool
+unfoldable pub tool_called : ByteString → Option Tool
 tool_called word = find (λ tool. bytes_eq (name_of tool) word) (tools.Md5sum ∷ tools.Sha1sum ∷ tools.Sha224sum ∷
     tools.Sha256sum ∷ tools.Sha384sum ∷ tools.Sha512sum ∷ tools.B2sum ∷ tools.Anysum ∷ [])

@@ -2,5 +2,4 @@
 -- the contracts of some other public calls name more.
 pub mod ItemIterator
 pub mod OptionScan
-pub mod Arguments
-pub mod WordBytes
+pub mod CommandLine

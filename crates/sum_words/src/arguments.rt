@@ -1,6 +1,7 @@
 //! The arguments of the process.
-ghost use Rattle.std.specs.Prelude.{◌≡◌, ◌≤◌, ℕ, List, Option, None, IfOk, length, map};
-ghost use Rattle.sum_words.specs.refinement.Arguments.{Fills};
+ghost use Rattle.std.specs.Prelude.{◌≡◌, ◌≤◌, List, Option, None, IfOk, length, map};
+ghost use Rattle.digest_kinds.specs.Basics.{ByteString};
+ghost use Rattle.sum_words.specs.Arguments.{Fills};
 
 use std::env::FillError;
 use std::marker::Model;
@@ -9,7 +10,7 @@ use std::rt::Env;
 /// A list of arguments, the name by which the program was called first.
 pub trait Arguments {
     /// The arguments, if they are known.
-    ghost known: { Self → Option (List (List ℕ)) } = { λ _. None };
+    ghost known: { Self → Option (List ByteString) } = { λ _. None };
 
     /// Copies the argument at this place, counted from 0, to the front of the buffer, and returns its length.
     /// `FillError::NotPresent` past the last argument; `FillError::TooLong` if the argument is longer than the buffer.
@@ -45,9 +46,10 @@ pub struct ToldArguments<'a> {
 }
 
 impl<'a> Model for ToldArguments<'a> {
-    ghost use Rattle.std.specs.Prelude.{List, ℕ, map};
+    ghost use Rattle.std.specs.Prelude.{List, map};
+    ghost use Rattle.digest_kinds.specs.Basics.{ByteString};
 
-    ghost Value = { List (List ℕ) };
+    ghost Value = { List ByteString };
 
     ghost view = { λ s. map (λ a. a.now) s.arguments.now };
 }

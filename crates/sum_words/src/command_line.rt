@@ -2,7 +2,7 @@
 ghost use Rattle.std.specs.Prelude.{◌≡◌, ◌≤◌, ◌<◌, ◌*◌, vec_len, take, length, slice_get, IfOk, IfSome, OnOk, OnErr};
 ghost use Rattle.std.specs.Option.{option_map, option_and_then};
 ghost use Rattle.sum_words.specs.Tools.{tool_called};
-ghost use Rattle.sum_words.specs.refinement.Arguments.{ArgumentIs, WordsAre, IsLonger, command_line_value};
+ghost use Rattle.sum_words.specs.refinement.CommandLine.{ArgumentIs, WordsAre, IsLonger, command_line_value};
 ghost use Rattle.sum_words.specs.CommandLines.{last_part, command_line, NeedsMemory};
 
 use crate::arguments::Arguments;

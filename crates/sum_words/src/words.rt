@@ -2,7 +2,7 @@
 ghost use Rattle.std.specs.Prelude.{◌≡◌, ◌<◌, [], ◌∷◌, ◌++◌, ◌+◌, ◌^◌, OnOk, OnErr, OnSome, length};
 ghost use Rattle.std.specs.Prelude.{slice_get, slice_index};
 ghost use Rattle.std.specs.Option.{option_copied};
-ghost use Rattle.sum_words.specs.refinement.WordBytes.{pieces_cut, CutsAt};
+ghost use Rattle.sum_words.specs.Words.{pieces_cut, CutsAt};
 
 use std::alloc::Allocator;
 use std::marker::Model;
@@ -16,10 +16,11 @@ pub struct Words<A: Allocator> {
 }
 
 impl<A: Allocator> Model for Words<A> {
-    ghost use Rattle.std.specs.Prelude.{List, ℕ};
-    ghost use Rattle.sum_words.specs.refinement.WordBytes.{pieces_cut, CutsAt};
+    ghost use Rattle.std.specs.Prelude.{List};
+    ghost use Rattle.digest_kinds.specs.Basics.{ByteString};
+    ghost use Rattle.sum_words.specs.Words.{pieces_cut, CutsAt};
 
-    ghost Value = { List (List ℕ) };
+    ghost Value = { List ByteString };
 
     ghost view = { λ w. pieces_cut w.bytes.items 0 w.ends.items };
 
@@ -68,11 +69,11 @@ impl<A: Allocator> Words<A> {
     pub fn get(&self, i: usize) -> Option<&[u8]>
         ensures { option_copied result ≡ slice_get self.now i }
     {
-        self.lent().get(i)
+        self.as_lent().get(i)
     }
 
     /// The list, to be read.
-    pub fn lent(&self) -> LentWords<'_>
+    pub fn as_lent(&self) -> LentWords<'_>
         ensures { result ≡ self.now }
     {
         LentWords {
@@ -90,10 +91,11 @@ pub struct LentWords<'a> {
 }
 
 impl<'a> Model for LentWords<'a> {
-    ghost use Rattle.std.specs.Prelude.{List, ℕ};
-    ghost use Rattle.sum_words.specs.refinement.WordBytes.{pieces_cut, CutsAt};
+    ghost use Rattle.std.specs.Prelude.{List};
+    ghost use Rattle.digest_kinds.specs.Basics.{ByteString};
+    ghost use Rattle.sum_words.specs.Words.{pieces_cut, CutsAt};
 
-    ghost Value = { List (List ℕ) };
+    ghost Value = { List ByteString };
 
     ghost view = { λ w. pieces_cut w.bytes.now 0 w.ends.now };
 

@@ -4,7 +4,7 @@ ghost use Rattle.std.specs.Prelude.{◌≡◌, ◌++◌};
 ghost use Rattle.sum_lines.specs.sinks.Sinks.{WritesAll};
 ghost use Rattle.sum_lines.specs.refinement.PartTexts.{part_text};
 ghost use Rattle.sum_words.specs.WordFaults.{WordFaultValue, wording};
-ghost use Rattle.sum_words.specs.refinement.ItemIterator.{fault_of};
+ghost use Rattle.sum_words.specs.refinement.ItemIterator.{word_fault_value};
 ghost use Rattle.sum_words.specs.declared.tool.Tool.{Tool};
 ghost use Rattle.sum_words.specs.Tools.{name_of};
 ghost use Rattle.sum_words.specs.Texts.{fault_lines, stop_line, unknown_tool_line, not_read_line};
@@ -58,7 +58,7 @@ pub enum WordFault<'a> {
 
 /// Gives the sink the two lines of a fault, which it may buffer. `SinkFault` as [`sum_lines::put_all`].
 pub fn put_fault<E: Sink>(err: &mut E, tool: Tool, fault: &WordFault<'_>) -> Result<(), SinkFault>
-    ensures { WritesAll (E.state err.old) (E.state err.new) (fault_lines tool (fault_of fault.now)) result }
+    ensures { WritesAll (E.state err.old) (E.state err.new) (fault_lines tool (word_fault_value fault.now)) result }
 {
     let mut buffer = [0; 4];
     let (prefix, shown, suffix) = wording(*fault, &mut buffer);
@@ -89,7 +89,7 @@ fn put_lines<'a, E: Sink>(
 // buffer. A full name needs no escape.
 #[rattlefmt::skip]
 fn wording<'a>(fault: WordFault<'a>, buffer: &'a mut [u8; 4]) -> (&'static str, Part<'a>, &'static str)
-    ensures { result.0.now ++ part_text result.1 ++ result.2.now ≡ wording (fault_of fault.entry) }
+    ensures { result.0.now ++ part_text result.1 ++ result.2.now ≡ wording (word_fault_value fault.entry) }
 {
     match fault {
         WordFault::UnknownLong(name) => ("unrecognized option '--", Part::Escaped(name.as_bytes()), "'"),

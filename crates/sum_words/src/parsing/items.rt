@@ -1,12 +1,12 @@
 //! The items of the words: options, values, operands, or a fault.
-ghost use Rattle.std.specs.Prelude.{◌≡◌, ◌==◌, List, ℕ, [], ◌∷◌, MatchOption, drop, length, true, false, filter_map};
+ghost use Rattle.std.specs.Prelude.{◌≡◌, ◌==◌, List, [], ◌∷◌, MatchOption, drop, length, true, false, filter_map};
 ghost use Rattle.std.specs.Iterator.{item_count};
 ghost use Rattle.std.specs.Option.{option_copied};
 ghost use Rattle.std.specs.List.{starts_with};
 ghost use Rattle.std.specs.Str.{chars};
-ghost use Rattle.sum_words.specs.Items.{a_word, name_part, value_part, long_option, name_or_fault};
+ghost use Rattle.sum_words.specs.Items.{ByteString, a_word, name_part, value_part, long_option, name_or_fault};
 ghost use Rattle.sum_words.specs.Items.{attached_value, cluster, is_option_word, items_from, operand_in};
-ghost use Rattle.sum_words.specs.refinement.ItemIterator.{remaining_items, read_then, step_items, item_of, TakesFirst};
+ghost use Rattle.sum_words.specs.refinement.ItemIterator.{remaining_items, read_then, step_items, item_value, TakesFirst};
 ghost use Rattle.sum_words.specs.declared.tool.Tool.{Tool};
 
 use crate::messages::word_faults::WordFault;
@@ -69,7 +69,7 @@ impl<'a> Items<'a> {
     {
         Items {
             tool,
-            words: words.lent(),
+            words: words.as_lent(),
             at: 0,
             state: ParserState::Word,
         }
@@ -79,7 +79,7 @@ impl<'a> Items<'a> {
 impl<'a> Iterator for Items<'a> {
     type Item = Item<'a>;
 
-    ghost next_gives = { TakesFirst item_of };
+    ghost next_gives = { TakesFirst item_value };
 
     ghost remaining = { item_count (λ items. items) };
 
@@ -112,7 +112,7 @@ fn apply_step<'a>(
     state: &mut ParserState<'a>,
     step: ParserStep<'a>,
 ) -> Option<Item<'a>>
-    ensures { TakesFirst item_of (step_items tool step.entry (drop at.old words.now))
+    ensures { TakesFirst item_value (step_items tool step.entry (drop at.old words.now))
         result (remaining_items tool state.new (drop at.new words.now)) }
 {
     match step {
@@ -140,7 +140,7 @@ fn apply_step<'a>(
 // The step of a whole word.
 #[tactic(auto, using(crate::proofs::WordLemmas::no_text))]
 fn word_step<'a>(tool: Tool, word: &'a [u8]) -> ParserStep<'a>
-    ensures { (ws : List (List ℕ)) → step_items tool result ws ≡ items_from tool a_word (word.now ∷ ws) }
+    ensures { (ws : List ByteString) → step_items tool result ws ≡ items_from tool a_word (word.now ∷ ws) }
 {
     if !is_option_word(word) {
         return ParserStep::Item(Item::Operand(word), ParserState::Word);
@@ -162,7 +162,7 @@ fn is_option_word(word: &[u8]) -> bool
 #[tactic(auto, using(crate::proofs::WordLemmas::utf8))]
 fn option_step<'a>(tool: Tool, word: &'a str) -> ParserStep<'a>
     requires { is_option_word word.now ≡ true }
-    ensures { (ws : List (List ℕ)) → step_items tool result ws ≡ items_from tool a_word (word.now ∷ ws) }
+    ensures { (ws : List ByteString) → step_items tool result ws ≡ items_from tool a_word (word.now ∷ ws) }
 {
     if word == "--" {
         return ParserStep::OnlyOperands;
@@ -176,7 +176,7 @@ fn option_step<'a>(tool: Tool, word: &'a str) -> ParserStep<'a>
 
 // The step of a long option, without its two dashes.
 fn long_step<'a>(tool: Tool, text: &'a str) -> ParserStep<'a>
-    ensures { (ws : List (List ℕ)) → step_items tool result ws
+    ensures { (ws : List ByteString) → step_items tool result ws
         ≡ read_then tool (long_option (name_or_fault tool (name_part text.now)) (value_part text.now)) ws }
 {
     let (name, value) = name_and_value(text);
@@ -197,7 +197,7 @@ fn long_step<'a>(tool: Tool, text: &'a str) -> ParserStep<'a>
 
 // The step of a letter of a cluster, which the rest of the word follows.
 fn letter_step<'a>(tool: Tool, letter: char, rest: &'a str) -> ParserStep<'a>
-    ensures { (ws : List (List ℕ)) → step_items tool result ws
+    ensures { (ws : List ByteString) → step_items tool result ws
         ≡ read_then tool (cluster tool (letter ∷ chars rest.now)) ws }
 {
     match Flag::of_letter(tool, letter) {
@@ -213,7 +213,7 @@ fn letter_step<'a>(tool: Tool, letter: char, rest: &'a str) -> ParserStep<'a>
 // The step of the letter of an option that takes a value: the rest of the word, if any is left.
 #[tactic(auto, using(crate::proofs::WordLemmas::no_value, crate::proofs::WordLemmas::own_value))]
 fn attached_value(rest: &str) -> ParserStep<'_>
-    ensures { (t : Tool) (ws : List (List ℕ)) →
+    ensures { (t : Tool) (ws : List ByteString) →
         step_items t result ws ≡ read_then t (attached_value (chars rest.now)) ws }
 {
     if rest.is_empty() {
@@ -225,7 +225,7 @@ fn attached_value(rest: &str) -> ParserStep<'_>
 
 // What is read next of a cluster.
 fn rest_of_cluster(letters: &str) -> ParserState<'_>
-    ensures { (t : Tool) (ws : List (List ℕ)) → remaining_items t result ws
+    ensures { (t : Tool) (ws : List ByteString) → remaining_items t result ws
         ≡ read_then t (cluster t (chars letters.now)) ws }
 {
     match first(letters) {
@@ -287,10 +287,10 @@ pub struct Operands<'a> {
 }
 
 impl<'a> Model for Operands<'a> {
-    ghost use Rattle.std.specs.Prelude.{List, ℕ, filter_map};
-    ghost use Rattle.sum_words.specs.Items.{operand_in};
+    ghost use Rattle.std.specs.Prelude.{List, filter_map};
+    ghost use Rattle.sum_words.specs.Items.{ByteString, operand_in};
 
-    ghost Value = { List (List ℕ) };
+    ghost Value = { List ByteString };
 
     ghost view = { λ o. filter_map operand_in o.items };
 }

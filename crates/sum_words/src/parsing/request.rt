@@ -3,9 +3,9 @@ ghost use Rattle.std.specs.Prelude.{◌≡◌, ◌∷◌, List, [], Ok, filter_m
 ghost use Rattle.std.specs.Option.{option_copied, option_map, option_transpose};
 ghost use Rattle.std.specs.Str.{all_ascii_digits};
 ghost use Rattle.sum_words.specs.Items.{ItemValue, a_word, items_from, option, option_in};
-ghost use Rattle.sum_words.specs.refinement.ItemIterator.{fault_of};
+ghost use Rattle.sum_words.specs.refinement.ItemIterator.{word_fault_value};
 ghost use Rattle.sum_words.specs.Request.{length_kind, mode_of, faults, request_or_fault, request};
-ghost use Rattle.sum_words.specs.refinement.OptionScan.{IsChosenBy, IsScanOf, result_of, IsNumberOf};
+ghost use Rattle.sum_words.specs.refinement.OptionScan.{IsChosenBy, IsScanOf, result_value, IsNumberOf};
 
 use crate::messages::word_faults::WordFault;
 use crate::parsing::items::{Item, Items, Operands};
@@ -37,7 +37,7 @@ pub fn read_words<'a, A: Allocator>(
     tool: Tool,
     words: &'a Words<A>,
 ) -> Result<Request<'a>, WordFault<'a>>
-    ensures { result_of result ≡ request tool words.now }
+    ensures { result_value result ≡ request tool words.now }
 {
     let chosen = match read_options(tool, words) {
         ScannedOptions::Options(chosen) => chosen,
@@ -138,7 +138,7 @@ fn with_flag(chosen: Chosen<'_>, flag: Flag) -> Chosen<'_>
 
 // The kind that the last length value asks for, if there is one.
 fn asked_kind(length: Option<&[u8]>) -> Result<Option<Kind>, WordFault<'_>>
-    ensures { result_of result ≡ option_transpose (option_map length_kind (option_copied length.entry)) }
+    ensures { result_value result ≡ option_transpose (option_map length_kind (option_copied length.entry)) }
 {
     match length {
         None => Ok(None),
@@ -152,7 +152,7 @@ fn asked_kind(length: Option<&[u8]>) -> Result<Option<Kind>, WordFault<'_>>
 
 // The kind that a length value asks for.
 fn length_kind(value: &[u8]) -> Result<Kind, WordFault<'_>>
-    ensures { result_of result ≡ length_kind value.now }
+    ensures { result_value result ≡ length_kind value.now }
 {
     let Some(bits) = number(value) else {
         return Err(WordFault::LengthInvalid(value));
@@ -193,7 +193,7 @@ fn all_digits(bytes: &[u8]) -> bool
 // The first fault of the options together.
 fn fault_of_options(chosen: &Chosen<'_>) -> Option<WordFault<'static>>
     ensures { (xs : List ItemValue) → IsChosenBy chosen.now [] xs →
-        option_map fault_of result
+        option_map word_fault_value result
         ≡ option_map (λ row. row.1) (find (λ row. row.0) (faults (filter_map option_in xs))) }
 {
     if chosen.tag && matches!(chosen.mode, Some(Mode::Text)) {
@@ -231,7 +231,7 @@ fn asked_request<'a>(
     operands: Operands<'a>,
 ) -> Result<Request<'a>, WordFault<'a>>
     ensures { (xs : List ItemValue) → IsChosenBy chosen.now [] xs →
-        result_of result ≡ request_or_fault algos (Ok kind) (filter_map option_in xs) operands.entry }
+        result_value result ≡ request_or_fault algos (Ok kind) (filter_map option_in xs) operands.entry }
 {
     if let Some(fault) = fault_of_options(chosen) {
         return Err(fault);

@@ -1,6 +1,6 @@
 use Rattle.std.proofs.Common.{◌≤◌, length, sym}
 use Rattle.std.proofs.lemmas.Option.{slice_get_past}
-use Rattle.sum_words.specs.refinement.WordBytes.{pieces_cut}
+use Rattle.sum_words.specs.Words.{pieces_cut}
 use Rattle.sum_words.proofs.WordBytesLemmas.{piece_read, pieces_cut-length}
 use Rattle.sum_words.proofs.words.piece_at.Goals as goal
 

@@ -1,19 +1,9 @@
--- Relates the reading of the arguments to their list. Each definition holds if the arguments aren't known.
-use Rattle.std.specs.Prelude.{ℕ, ◌≡◌, ◌<◌, List, take, drop, length, slice_get, Option, None, Some, IfSome}
-use Rattle.std.specs.Prelude.{IsSomeAnd, Result, Ok, Err, ⊤}
-use Rattle.std.specs.declared.env.FillError.{FillError}
-use Rattle.std.specs.declared.env.FillError.TheVariants.{NotPresent, TooLong}
+-- Relates the reading of the command line to the list of arguments. Each definition holds if that isn't known.
+use Rattle.std.specs.Prelude.{ℕ, ◌≡◌, ◌<◌, List, drop, length, slice_get, Option, IfSome, IsSomeAnd}
 use Rattle.sum_words.specs.declared.command_line.CommandLine.{CommandLine}
 use Rattle.sum_words.specs.Items.{ByteString}
 use Rattle.sum_words.specs.declared.command_line.CommandLine.TheVariants.{UnknownTool, Invoke}
 use Rattle.sum_words.specs.CommandLines.{CommandLineValue, unknown_tool, invoke}
-
--- one call: the buffer starts with the argument at the place; there is none; or it is longer than the buffer
-abbrev pub Fills : Option (List ByteString) → ℕ → List ℕ → Result ℕ FillError → Type 0
-Fills None place buffer r = ⊤
-Fills (Some all) place buffer (Ok n) = slice_get all place ≡ Some (take n buffer)
-Fills (Some all) place buffer (Err NotPresent) = slice_get all place ≡ None
-Fills (Some all) place buffer (Err TooLong) = IsSomeAnd (slice_get all place) (λ a. length buffer < length a)
 
 -- the argument at a place is this one, or there is none
 abbrev pub ArgumentIs : Option (List ByteString) → ℕ → Option ByteString → Type 0
