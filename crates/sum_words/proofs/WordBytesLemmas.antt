@@ -41,6 +41,8 @@ pub pieces_cut-length : (bytes : List ℕ) (from : ℕ) (ends : List ℕ)
 pieces_cut-length bytes from [] = refl
 pieces_cut-length bytes from (end ∷ ends) = ap suc (pieces_cut-length bytes end ends)
 
+pub ruleset count = (pieces_cut-length)
+
 -- the piece at a place is this part of the bytes
 pub record IsPieceAt (bytes : List ℕ) (words : List ByteString) (i start end : ℕ) : Type 0 where
   pub order : start ≤ end

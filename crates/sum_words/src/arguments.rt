@@ -13,15 +13,15 @@ pub trait Arguments {
     ghost known: { Self → Option (List ByteString) } = { λ _. None };
 
     /// Copies the argument at this place, counted from 0, to the front of the buffer, and returns its length.
-    /// `FillError::NotPresent` past the last argument; `FillError::TooLong` if the argument is longer than the buffer.
+    /// `FillError::NotPresent` past the last argument. `FillError::TooLong` if the argument is longer than the buffer.
     fn fill(&self, place: usize, buffer: &mut [u8]) -> Result<usize, FillError>
         ensures count { IfOk result (λ n. n ≤ length buffer.new) }
-        // If the arguments are known: the buffer starts with this one, or the error is the right one.
+        // If the arguments are known: the buffer starts with this one, or the error says why it doesn't.
         ensures bytes { Fills (known self.now) place buffer.new result };
 }
 
-/// The arguments that the system gives. They aren't known to contracts.
-#[derive(Drop)]
+/// The arguments that the system gives. Contracts don't know them.
+#[derive(Debug, Drop)]
 pub struct SystemArguments<R> {
     rt: R,
 }
@@ -39,7 +39,7 @@ impl<R: Env> Arguments for SystemArguments<R> {
     }
 }
 
-/// A list of arguments in memory, known to contracts.
+/// A list of arguments in memory. Contracts know it.
 #[derive(Debug, Drop)]
 pub struct ToldArguments<'a> {
     arguments: &'a [&'a [u8]],

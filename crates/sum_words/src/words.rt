@@ -1,17 +1,21 @@
-//! The words of a command line.
-ghost use Rattle.std.specs.Prelude.{◌≡◌, ◌<◌, [], ◌∷◌, ◌++◌, ◌+◌, ◌^◌, OnOk, OnErr, OnSome, length};
+//! Lists of words, and the iterator over one.
+ghost use Rattle.std.specs.Prelude.{◌≡◌, ◌==◌, ◌<◌, [], ◌∷◌, ◌++◌, ◌+◌, ◌^◌, OnOk, OnErr, OnSome, length, drop};
 ghost use Rattle.std.specs.Prelude.{slice_get, slice_index};
+ghost use Rattle.std.specs.Iterator.{item_count};
 ghost use Rattle.std.specs.Option.{option_copied};
 ghost use Rattle.sum_words.specs.Words.{pieces_cut, CutsAt};
+ghost use Rattle.sum_words.specs.refinement.ItemIterator.{TakesFirst};
 
 use std::alloc::Allocator;
 use std::marker::Model;
 pub use sum_sources::NoRoom;
 
-/// A list of words of any bytes: all of them, and the place where each word ends.
+/// A list of words, seen as a list of byte strings. A word may have any bytes.
 #[derive(Debug, Drop)]
 pub struct Words<A: Allocator> {
+    // The words, one after another.
     bytes: Vec<u8, A>,
+    // The place where each word ends.
     ends: Vec<usize, A>,
 }
 
@@ -40,7 +44,7 @@ impl<A: Allocator + Copy> Words<A> {
 }
 
 impl<A: Allocator> Words<A> {
-    /// Adds a text at the end. `NoRoom` if memory is refused; the list is then unchanged.
+    /// Adds a text at the end. `NoRoom` if memory is refused. The list is then unchanged.
     pub fn add(&mut self, word: &str) -> Result<(), NoRoom>
         ensures ok { OnOk result (self.new ≡ self.old ++ word.now ∷ []) }
         ensures err { OnErr result (self.new ≡ self.old) }
@@ -48,7 +52,7 @@ impl<A: Allocator> Words<A> {
         self.add_bytes(word.as_bytes())
     }
 
-    /// Adds a word at the end. `NoRoom` if memory is refused; the list is then unchanged.
+    /// Adds a word at the end. `NoRoom` if memory is refused. The list is then unchanged.
     #[tactic(auto, using(crate::proofs::WordBytesLemmas::pushed))]
     pub fn add_bytes(&mut self, word: &[u8]) -> Result<(), NoRoom>
         ensures ok { OnOk result (self.new ≡ self.old ++ word.now ∷ []) }
@@ -65,14 +69,39 @@ impl<A: Allocator> Words<A> {
         Ok(())
     }
 
-    /// The word at this place, counted from 0; `None` past the last.
+    /// How many words the list has.
+    #[tactic(auto, using(crate::proofs::WordBytesLemmas::count))]
+    pub fn len(&self) -> usize
+        ensures { result ≡ length self.now }
+    {
+        self.ends.len()
+    }
+
+    /// Whether the list has no word.
+    pub fn is_empty(&self) -> bool
+        ensures { result ≡ (length self.now == 0) }
+    {
+        self.len() == 0
+    }
+
+    /// An iterator over the words.
+    pub fn iter(&self) -> WordsIter<'_>
+        ensures { result ≡ self.now }
+    {
+        WordsIter {
+            words: self.as_lent(),
+            at: 0,
+        }
+    }
+
+    /// The word at this place, counted from 0. `None` past the last.
     pub fn get(&self, i: usize) -> Option<&[u8]>
         ensures { option_copied result ≡ slice_get self.now i }
     {
         self.as_lent().get(i)
     }
 
-    /// The list, to be read.
+    /// The list without its allocator.
     pub fn as_lent(&self) -> LentWords<'_>
         ensures { result ≡ self.now }
     {
@@ -83,7 +112,7 @@ impl<A: Allocator> Words<A> {
     }
 }
 
-/// A list of words that is lent, whatever its allocator.
+/// A borrowed list of words, whatever the allocator of the list.
 #[derive(Debug, Drop)]
 pub struct LentWords<'a> {
     bytes: &'a [u8],
@@ -103,7 +132,7 @@ impl<'a> Model for LentWords<'a> {
 }
 
 impl<'a> LentWords<'a> {
-    /// The word at this place, counted from 0; `None` past the last.
+    /// The word at this place, counted from 0. `None` past the last.
     pub fn get(&self, i: usize) -> Option<&'a [u8]>
         ensures word { option_copied result ≡ slice_get self.now i }
         // So the next place is a `usize`, too.
@@ -113,7 +142,38 @@ impl<'a> LentWords<'a> {
     }
 }
 
-// The piece of the bytes at a place; `None` past the last.
+/// An iterator over a list of words, seen as the list of those that remain.
+#[derive(Debug, Drop)]
+pub struct WordsIter<'a> {
+    words: LentWords<'a>,
+    at: usize,
+}
+
+impl<'a> Model for WordsIter<'a> {
+    ghost use Rattle.std.specs.Prelude.{List, drop};
+    ghost use Rattle.digest_kinds.specs.Basics.{ByteString};
+
+    ghost Value = { List ByteString };
+
+    ghost view = { λ i. drop i.at i.words };
+}
+
+impl<'a> Iterator for WordsIter<'a> {
+    type Item = &'a [u8];
+
+    ghost next_gives = { TakesFirst (λ word. word.now) };
+
+    ghost remaining = { item_count (λ words. words) };
+
+    #[tactic(auto, using(crate::proofs::CommandLineLemmas::drop_at_none, crate::proofs::CommandLineLemmas::drop_at_some))]
+    fn next(&mut self) -> Option<&'a [u8]> {
+        let word = self.words.get(self.at)?;
+        self.at += 1;
+        Some(word)
+    }
+}
+
+// The piece of the bytes at a place. `None` past the last.
 #[tactic(auto, using(crate::proofs::WordBytesLemmas::piece_read))]
 fn piece_at<'a>(bytes: &'a [u8], ends: &'a [usize], i: usize) -> Option<&'a [u8]>
     requires { CutsAt bytes.now 0 ends.now }

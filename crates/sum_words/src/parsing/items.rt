@@ -1,4 +1,4 @@
-//! The items of the words: options, values, operands, or a fault.
+//! The items of a tool's words, and those that are operands.
 ghost use Rattle.std.specs.Prelude.{◌≡◌, ◌==◌, List, [], ◌∷◌, MatchOption, drop, length, true, false, filter_map};
 ghost use Rattle.std.specs.Iterator.{item_count};
 ghost use Rattle.std.specs.Option.{option_copied};
@@ -12,11 +12,11 @@ ghost use Rattle.sum_words.specs.declared.tool.Tool.{Tool};
 use crate::messages::word_faults::WordFault;
 use crate::parsing::options::{Flag, Spelling};
 use crate::tool::Tool;
-use crate::words::{LentWords, Words};
+use crate::words::{Words, WordsIter};
 use std::alloc::Allocator;
 use std::marker::Model;
 
-/// An item: an option without a value, the value of `--length`, an operand, or a fault.
+/// An item of words: an option without a value, the value of `--length`, an operand, or a fault.
 #[derive(Clone, Copy, Debug, PartialEq, Eq)]
 pub enum Item<'a> {
     Flag(Flag),
@@ -29,8 +29,7 @@ pub enum Item<'a> {
 #[derive(Debug, Drop)]
 pub struct Items<'a> {
     tool: Tool,
-    words: LentWords<'a>,
-    at: usize,
+    words: WordsIter<'a>,
     state: ParserState<'a>,
 }
 
@@ -43,8 +42,8 @@ enum ParserState<'a> {
     Done,
 }
 
-// The step of one option or word: an item, and what is read next; or the next word is the value of an option that was
-// written so; or all further words are operands.
+// The step of one option or word. It is an item, and what is read next; or the next word is the value of an option; or
+// all further words are operands.
 #[derive(Clone, Copy)]
 enum ParserStep<'a> {
     Item(Item<'a>, ParserState<'a>),
@@ -53,13 +52,13 @@ enum ParserStep<'a> {
 }
 
 impl<'a> Model for Items<'a> {
-    ghost use Rattle.std.specs.Prelude.{List, drop};
+    ghost use Rattle.std.specs.Prelude.{List};
     ghost use Rattle.sum_words.specs.Items.{ItemValue};
     ghost use Rattle.sum_words.specs.refinement.ItemIterator.{remaining_items};
 
     ghost Value = { List ItemValue };
 
-    ghost view = { λ i. remaining_items i.tool i.state (drop i.at i.words) };
+    ghost view = { λ i. remaining_items i.tool i.state i.words };
 }
 
 impl<'a> Items<'a> {
@@ -69,8 +68,7 @@ impl<'a> Items<'a> {
     {
         Items {
             tool,
-            words: words.as_lent(),
-            at: 0,
+            words: words.iter(),
             state: ParserState::Word,
         }
     }
@@ -88,39 +86,28 @@ impl<'a> Iterator for Items<'a> {
             ParserState::Done => return None,
             ParserState::OnlyOperands => ParserStep::OnlyOperands,
             ParserState::Cluster(letter, rest) => letter_step(self.tool, letter, rest),
-            ParserState::Word => word_step(self.tool, take_word(&self.words, &mut self.at)?),
+            ParserState::Word => word_step(self.tool, self.words.next()?),
         };
-        apply_step(self.tool, &self.words, &mut self.at, &mut self.state, step)
+        apply_step(self.tool, &mut self.words, &mut self.state, step)
     }
-}
-
-// The word at a place, which moves to the next.
-#[tactic(auto, using(crate::proofs::CommandLineLemmas::drop_at_none, crate::proofs::CommandLineLemmas::drop_at_some))]
-fn take_word<'a>(words: &LentWords<'a>, at: &mut usize) -> Option<&'a [u8]>
-    ensures { TakesFirst (λ word. word) (drop at.old words.now) (option_copied result) (drop at.new words.now) }
-{
-    let word = words.get(*at)?;
-    *at += 1;
-    Some(word)
 }
 
 // The next item, by a step.
 fn apply_step<'a>(
     tool: Tool,
-    words: &LentWords<'a>,
-    at: &mut usize,
+    words: &mut WordsIter<'a>,
     state: &mut ParserState<'a>,
     step: ParserStep<'a>,
 ) -> Option<Item<'a>>
-    ensures { TakesFirst item_value (step_items tool step.entry (drop at.old words.now))
-        result (remaining_items tool state.new (drop at.new words.now)) }
+    ensures { TakesFirst item_value (step_items tool step.entry words.old) result
+        (remaining_items tool state.new words.new) }
 {
     match step {
         ParserStep::Item(item, next) => {
             *state = next;
             Some(item)
         }
-        ParserStep::Value(spelling) => match take_word(words, at) {
+        ParserStep::Value(spelling) => match words.next() {
             Some(value) => {
                 *state = ParserState::Word;
                 Some(Item::Length(value))
@@ -132,7 +119,7 @@ fn apply_step<'a>(
         },
         ParserStep::OnlyOperands => {
             *state = ParserState::OnlyOperands;
-            Some(Item::Operand(take_word(words, at)?))
+            Some(Item::Operand(words.next()?))
         }
     }
 }
@@ -158,7 +145,7 @@ fn is_option_word(word: &[u8]) -> bool
     matches!(word, [b'-', _, ..])
 }
 
-// The step of such a word, which is a text.
+// The step of a word that begins with a dash, goes on and is UTF-8.
 #[tactic(auto, using(crate::proofs::WordLemmas::utf8))]
 fn option_step<'a>(tool: Tool, word: &'a str) -> ParserStep<'a>
     requires { is_option_word word.now ≡ true }
@@ -210,7 +197,7 @@ fn letter_step<'a>(tool: Tool, letter: char, rest: &'a str) -> ParserStep<'a>
     }
 }
 
-// The step of the letter of an option that takes a value: the rest of the word, if any is left.
+// The step of the letter of an option that takes a value. The rest of the word is the value, if any is left.
 #[tactic(auto, using(crate::proofs::WordLemmas::no_value, crate::proofs::WordLemmas::own_value))]
 fn attached_value(rest: &str) -> ParserStep<'_>
     ensures { (t : Tool) (ws : List ByteString) →
@@ -228,7 +215,7 @@ fn rest_of_cluster(letters: &str) -> ParserState<'_>
     ensures { (t : Tool) (ws : List ByteString) → remaining_items t result ws
         ≡ read_then t (cluster t (chars letters.now)) ws }
 {
-    match first(letters) {
+    match first_letter(letters) {
         Some((letter, rest)) => ParserState::Cluster(letter, rest),
         None => ParserState::Word,
     }
@@ -243,15 +230,15 @@ fn letters_of(word: &str) -> (char, &str)
     let Some(rest) = after_prefix("-", word) else {
         unreachable!()
     };
-    match first(rest) {
+    match first_letter(rest) {
         Some(letters) => letters,
         None => unreachable!(),
     }
 }
 
-// The first character of a text, and the rest; `None` if it is empty.
+// The first character of a text, and the rest. `None` if it is empty.
 #[tactic(auto, using(crate::proofs::WordLemmas::first_char))]
-fn first(text: &str) -> Option<(char, &str)>
+fn first_letter(text: &str) -> Option<(char, &str)>
     ensures { MatchOption result ((text.now ≡ []) × (chars text.now ≡ []))
         (λ p. chars text.now ≡ p.0 ∷ chars p.1.now) }
 {
@@ -260,7 +247,7 @@ fn first(text: &str) -> Option<(char, &str)>
     Some((letter, rest.as_str()))
 }
 
-// The word after a prefix; `None` if it doesn't begin with it.
+// The word after a prefix. `None` if the word doesn't begin with it.
 #[tactic(auto, using(crate::proofs::WordLemmas::prefix_stripped))]
 fn after_prefix<'a>(prefix: &str, word: &'a str) -> Option<&'a str>
     ensures { MatchOption result (starts_with ◌==◌ word.now prefix.now ≡ false)
