@@ -37,7 +37,7 @@ behavior_then-nothing a = rw (append-nil a.steps, and-true a.good) refl
 -- ---- operands, one after another
 
 -- the behavior of the operands before the rest happened, and was good or not
-pub record OperandsDone (one : World → ByteString → Behavior) (names rest : List ByteString) (a b : WorldState)
+pub record HasDoneOperands (one : World → ByteString → Behavior) (names rest : List ByteString) (a b : WorldState)
     (good : Bool) : Type 0 where
   pub done : Behavior
   pub total : operands_behavior one a.world names ≡ behavior_then done (operands_behavior one b.world rest)
@@ -55,12 +55,12 @@ operands_of job tool names = record { one = operand_behavior job (name_of tool);
 
 module _ {S : Type 0} (state : S → SourceState) (o : Operands) where
   -- the operands before the rest were done, from x to y, if both outputs were flushed
-  abbrev pub Reached : List ByteString → StreamsState S → StreamsState S → Bool → Type 0
-  Reached rest x y good = IsFlushed x.outputs → InSomeWorld state x.inputs y.inputs
-      (λ w v. OperandsDone o.one o.names rest (in_world state x w) (in_world state y v) good)
+  abbrev pub HasReached : List ByteString → StreamsState S → StreamsState S → Bool → Type 0
+  HasReached rest x y good = IsFlushed x.outputs → InSomeWorld state x.inputs y.inputs
+      (λ w v. HasDoneOperands o.one o.names rest (in_world state x w) (in_world state y v) good)
 
   -- before the first operand nothing happened
-  pub operands_done_start : (rest : List ByteString) (a : StreamsState S) → o.names ≡ rest → Reached rest a a true
+  pub operands_done_start : (rest : List ByteString) (a : StreamsState S) → o.names ≡ rest → HasReached rest a a true
   operands_done_start rest a is = λ flushed. record {
     before = λ v fits. (
       v,
@@ -76,8 +76,8 @@ module _ {S : Type 0} (state : S → SourceState) (o : Operands) where
 
   -- one operand more happened
   pub operands_done_step : (good this : Bool) (name : ByteString) (rest : List ByteString) (x y z : StreamsState S)
-      → Reached (name ∷ rest) x y good → (IsFlushed x.outputs → IsFlushed y.outputs)
-      → Performs state (λ w. o.one w name) (λ g. g) y z (Ok this) → Reached rest x z (good && this)
+      → HasReached (name ∷ rest) x y good → (IsFlushed x.outputs → IsFlushed y.outputs)
+      → Performs state (λ w. o.one w name) (λ g. g) y z (Ok this) → HasReached rest x z (good && this)
   operands_done_step good this name rest x y z h kept k = λ flushed.
       InSomeWorld-then (h flushed) (k (kept flushed)) (λ u v w p q.
       let b = in_world state y v in
@@ -93,7 +93,7 @@ module _ {S : Type 0} (state : S → SourceState) (o : Operands) where
       })
 
   -- no operand is left
-  pub operands_done_end : (good : Bool) (x y : StreamsState S) → Reached [] x y good
+  pub operands_done_end : (good : Bool) (x y : StreamsState S) → HasReached [] x y good
       → Performs state (λ w. operands_behavior o.one w o.names) status_of x y (Ok (status_of good))
   operands_done_end good x y h = λ flushed. InSomeWorld-map (h flushed) (λ w v p.
       let total = p.total ∙ behavior_then-nothing p.done in (
@@ -103,7 +103,7 @@ module _ {S : Type 0} (state : S → SourceState) (o : Operands) where
 
   -- the next operand stopped the run
   pub operands_done_stop : (stop : Stop) (good : Bool) (name : ByteString) (rest : List ByteString)
-      (x y z : StreamsState S) → Reached (name ∷ rest) x y good → (IsFlushed x.outputs → IsFlushed y.outputs)
+      (x y z : StreamsState S) → HasReached (name ∷ rest) x y good → (IsFlushed x.outputs → IsFlushed y.outputs)
       → Performs state (λ w. o.one w name) (λ g. g) y z (Err stop)
       → Performs state (λ w. operands_behavior o.one w o.names) status_of x z (Err stop)
   operands_done_stop stop good name rest x y z h kept k = λ flushed.

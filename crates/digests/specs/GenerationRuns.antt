@@ -21,7 +21,7 @@ use Rattle.digests.specs.Meaning.{operands_behavior, meaning, status_of}
 use Rattle.sum_words.specs.declared.parsing.options.Flag.TheVariants as flags
 
 -- a name that isn't empty, holds no NUL and isn't `-`, and whose file is whole and not too long
-pub record Listable (answer : ByteString → Reply) (name : ByteString) : Type 0 where
+pub record IsListable (answer : ByteString → Reply) (name : ByteString) : Type 0 where
   pub some : 0 < length name
   pub no_nul : All (λ b. 0 < b) name
   pub no_dash : is_dash name ≡ false
@@ -41,11 +41,11 @@ generation_output w g = out_text (operands_behavior (generate_behavior g.setting
 
 -- what a run wrote of these files can be checked later: its lines end with newlines; the checking tool reads them, as
 -- the tool itself does in every style, and `anysum` if they are tagged; and its files are then the same
-pub record Checkable (algos : Algos) (files later : ByteString → Reply) (g : GenerationRun) : Type 0 where
+pub record IsCheckable (algos : Algos) (files later : ByteString → Reply) (g : GenerationRun) : Type 0 where
   pub newlines : g.settings.style.zero ≡ false
   pub has : IsTrue (has_len g.settings.kind.algo g.settings.kind.len)
   pub read_by : ReadBy algos g.settings.style.mode g.settings.kind.algo
-  pub listable : All (Listable files) g.names
+  pub listable : All (IsListable files) g.names
   pub same : All (λ name. later name ≡ files name) g.names
 
 -- a world in which these are the files, whatever was asked
@@ -75,7 +75,7 @@ pub record ReportsAllOk (t : Tool) (check : CheckSettings) (v : World) (manifest
 abbrev pub WrittenIsGood : Type 0
 WrittenIsGood = (t : Tool) (check : CheckSettings) (manifest : ByteString) (files later : ByteString → Reply)
     (w v : World) (g : GenerationRun) → HasFiles w files → HasFiles v later → check.algo ≡ algos_of t
-    → Checkable check.algo files later g → 0 < length g.names → length (generation_output w g) < limit
+    → IsCheckable check.algo files later g → 0 < length g.names → length (generation_output w g) < limit
     → reply v manifest ≡ Ok (record { bytes = generation_output w g; ending = Whole })
     → ReportsAllOk t check v manifest g.names
 
@@ -83,7 +83,7 @@ WrittenIsGood = (t : Tool) (check : CheckSettings) (manifest : ByteString) (file
 abbrev pub JoinedIsGood : Type 0
 JoinedIsGood = (t : Tool) (check : CheckSettings) (manifest : ByteString) (files later : ByteString → Reply)
     (w v : World) (gs : List GenerationRun) → HasFiles w files → HasFiles v later → check.algo ≡ algos_of t
-    → All (Checkable check.algo files later) gs → 0 < length (flat_map (λ g. g.names) gs)
+    → All (IsCheckable check.algo files later) gs → 0 < length (flat_map (λ g. g.names) gs)
     → length (flat_map (generation_output w) gs) < limit
     → reply v manifest ≡ Ok (record { bytes = flat_map (generation_output w) gs; ending = Whole })
     → ReportsAllOk t check v manifest (flat_map (λ g. g.names) gs)

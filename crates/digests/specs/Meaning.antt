@@ -40,7 +40,7 @@ abbrev pub status_of : Bool → ℕ
 status_of good = if good then 0 else 1
 
 -- out of memory means one refusal more of the source in generation, that or none in checking; else none is needed
-abbrev pub RefusalsOf : Result Request WordFaultValue → ℕ → ℕ → Type 0
-RefusalsOf (Ok (Generate settings names)) = OneMore
-RefusalsOf (Ok (Check settings names)) = OneMoreAtMost
-RefusalsOf asked = λ n m. ⊥
+abbrev pub AllowsRefusals : Result Request WordFaultValue → ℕ → ℕ → Type 0
+AllowsRefusals (Ok (Generate settings names)) = OneMore
+AllowsRefusals (Ok (Check settings names)) = OneMoreAtMost
+AllowsRefusals asked = λ n m. ⊥

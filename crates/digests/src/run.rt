@@ -4,10 +4,10 @@ ghost use Rattle.sum_engine.specs.Execution.{IsFlushed, FailuresMatch, ReadToEnd
 ghost use Rattle.sum_engine.specs.Execution.{RefusalsMatch, StopHasCause, Performs};
 ghost use Rattle.sum_engine.specs.refinement.FlushedWrites.{outcome_after};
 ghost use Rattle.sum_words.specs.Tools.{name_of};
-ghost use Rattle.sum_words.specs.refinement.OptionScan.{result_of};
+ghost use Rattle.sum_words.specs.refinement.OptionScan.{result_value};
 ghost use Rattle.sum_words.specs.Request.{request};
-ghost use Rattle.digests.specs.Meaning.{operands_behavior, request_behavior, or_dash, meaning, status_of, RefusalsOf};
-ghost use Rattle.digests.specs.refinement.Operands.{operand_behavior, RefusalsOfJob};
+ghost use Rattle.digests.specs.Meaning.{operands_behavior, request_behavior, or_dash, meaning, status_of, AllowsRefusals};
+ghost use Rattle.digests.specs.refinement.Operands.{operand_behavior, JobAllowsRefusals};
 
 use crate::messages::{Message, put_err_message, put_out_message};
 use std::alloc::Allocator;
@@ -33,7 +33,7 @@ pub fn run<A: Allocator + Copy, I: Input + Drop, S: Source, O: Sink, E: Sink>(
     ensures behavior { Performs S.state (meaning tool words.now) status_of streams.old streams.new result }
     ensures flushed { IsFlushed streams.old.outputs → IsFlushed streams.new.outputs }
     // Known or not, a stop has its cause: refusals as the request allows, or one failure more of one output.
-    ensures refusals { RefusalsMatch S.state (RefusalsOf (request tool words.now)) streams.old.inputs
+    ensures refusals { RefusalsMatch S.state (AllowsRefusals (request tool words.now)) streams.old.inputs
         streams.new.inputs result }
     ensures failures { FailuresMatch streams.old.outputs streams.new.outputs result }
     // Known or not: status 0 only if each file that was opened, and standard input if taken, was read to its end.
@@ -49,9 +49,9 @@ fn run_request<A: Allocator + Copy, I: Input + Drop, S: Source, O: Sink, E: Sink
     asked: Result<Request, WordFault>,
     streams: &mut Streams<Inputs<I, S>, Outputs<O, E>>,
 ) -> Result<u8, Stop>
-    ensures behavior { Performs S.state (request_behavior tool (result_of asked.entry)) status_of streams.old
+    ensures behavior { Performs S.state (request_behavior tool (result_value asked.entry)) status_of streams.old
         streams.new result }
-    ensures cause { StopHasCause S.state (RefusalsOf (result_of asked.entry)) streams.old streams.new result }
+    ensures cause { StopHasCause S.state (AllowsRefusals (result_value asked.entry)) streams.old streams.new result }
     ensures read_to_end { result ≡ Ok 0 → ReadToEnd S.state streams.old.inputs streams.new.inputs }
 {
     match asked {
@@ -101,7 +101,7 @@ fn run_operand<A: Allocator + Copy, I: Input + Drop, S: Source, O: Sink, E: Sink
 ) -> Result<bool, Stop>
     ensures behavior { Performs S.state (λ w. operand_behavior job.now (name_of tool) w name.now) (λ good. good)
         streams.old streams.new result }
-    ensures cause { StopHasCause S.state (RefusalsOfJob job.now) streams.old streams.new result }
+    ensures cause { StopHasCause S.state (JobAllowsRefusals job.now) streams.old streams.new result }
     ensures read_to_end { result ≡ Ok true → ReadToEnd S.state streams.old.inputs streams.new.inputs }
 {
     match job {
@@ -131,7 +131,7 @@ fn run_operands<A: Allocator + Copy, I: Input + Drop, S: Source, O: Sink, E: Sin
     ensures behavior { Performs S.state (λ w. operands_behavior (operand_behavior job.now (name_of tool)) w
         (or_dash operands.entry)) status_of
         streams.old streams.new result }
-    ensures cause { StopHasCause S.state (RefusalsOfJob job.now) streams.old streams.new result }
+    ensures cause { StopHasCause S.state (JobAllowsRefusals job.now) streams.old streams.new result }
     ensures read_to_end { result ≡ Ok 0 → ReadToEnd S.state streams.old.inputs streams.new.inputs }
 {
     let mut operands = operands;

@@ -8,7 +8,7 @@ use sum_lines::ToldSink;
 use sum_words::{Request, Tool, WordFault, Words, put_fault, read_words};
 
 // The lines of the fault that words have. Without a contract, so that a test knows no more of them than it sees.
-fn fault_of(tool: Tool, words: &Words<Global>) -> Result<ToldSink<256>, Fail> {
+fn lines_of_fault(tool: Tool, words: &Words<Global>) -> Result<ToldSink<256>, Fail> {
     let mut err = ToldSink::new(256);
     match read_words(tool, words) {
         Ok(_) => return Err(Fail::from("no fault")),
@@ -30,7 +30,7 @@ fn assert_fault(
         "{name}: {text}\nTry '{name} --help' for more information.\n"
     )?;
     assert_eq!(rt;
-        fault_of(tool, &words)?.bytes(),
+        lines_of_fault(tool, &words)?.bytes(),
         lines.as_bytes(),
         "in {line}"
     );
@@ -80,7 +80,7 @@ fn lengths_of_any_bytes(rt: HostRuntime) -> Result<(), Fail> {
     for line in ["-l", "e -bl", "--length", "-l 8 --len"] {
         let words = words_and(rt.alloc(), line, b"\xff8\\\n")?;
         assert_eq!(rt;
-            fault_of(Tool::B2sum, &words)?.bytes(),
+            lines_of_fault(Tool::B2sum, &words)?.bytes(),
             b"b2sum: invalid length: '\xff8\\\\\\n'\nTry 'b2sum --help' for more information.\n".as_slice(),
             "in {line}"
         );
@@ -103,7 +103,7 @@ fn words_that_are_no_texts(rt: HostRuntime) -> Result<(), Fail> {
         lines.extend_from_slice(shown)?;
         lines.extend_from_slice(b"'\nTry 'b2sum --help' for more information.\n")?;
         assert_eq!(rt;
-            fault_of(Tool::B2sum, &words)?.bytes(),
+            lines_of_fault(Tool::B2sum, &words)?.bytes(),
             lines.as_slice(),
             "of {word:?}"
         );

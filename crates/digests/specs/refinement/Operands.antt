@@ -14,6 +14,6 @@ operand_behavior (Generate settings) tool w name = generate_behavior settings to
 operand_behavior (Check settings) tool w name = check_behavior settings tool w name
 
 -- how a job that runs out of memory may change the count of refusals
-abbrev pub RefusalsOfJob : Job → ℕ → ℕ → Type 0
-RefusalsOfJob (Generate settings) = OneMore
-RefusalsOfJob (Check settings) = OneMoreAtMost
+abbrev pub JobAllowsRefusals : Job → ℕ → ℕ → Type 0
+JobAllowsRefusals (Generate settings) = OneMore
+JobAllowsRefusals (Check settings) = OneMoreAtMost
