@@ -10,7 +10,7 @@ use Rattle.std.proofs.lemmas.List.{append-nil, append_assoc}
 use Rattle.sum_words.specs.Items.{ByteString}
 use Rattle.memchr.specs.Find.{Passes, Nowhere, is_byte}
 use Rattle.sum_words.specs.CommandLines.{last_part, NeedsMemory}
-use Rattle.sum_words.specs.refinement.CommandLine.{ArgumentIs, WordsAre, IsLonger}
+use Rattle.sum_words.specs.refinement.CommandLine.{ArgumentIs, IsLonger}
 
 -- ---- the last part of a path
 
@@ -51,18 +51,18 @@ has_argument known first place word h le =
     IfSome_then known h (λ all at. omega (arith, slice_get_within all place word at, le))
 
 -- a long argument is one of them
-longer : (all : List ByteString) (place : ℕ) → IsSomeAnd (slice_get all place) (λ a. 4096 < length a)
+longer_is_one : (all : List ByteString) (place : ℕ) → IsSomeAnd (slice_get all place) (λ a. 4096 < length a)
     → Any (λ a. 4096 < length a) all
-longer [] zero h = absurd h
-longer [] (suc place) h = absurd h
-longer (a ∷ all) zero h = (0, a, omega arith, refl, h)
-longer (a ∷ all) (suc place) h =
-    let (k, x, less, at, long) = longer all place h in (suc k, x, omega (arith, less), at, long)
+longer_is_one [] zero h = absurd h
+longer_is_one [] (suc place) h = absurd h
+longer_is_one (a ∷ all) zero h = (0, a, omega arith, refl, h)
+longer_is_one (a ∷ all) (suc place) h =
+    let (k, x, less, at, long) = longer_is_one all place h in (suc k, x, omega (arith, less), at, long)
 
 pub longer_unread : (known : Option (List ByteString)) (place : ℕ) → IsLonger known place 4096
     → IfSome known NeedsMemory
 longer_unread None place h = tt
-longer_unread (Some all) place h = inr (longer all place h)
+longer_unread (Some all) place h = inr (longer_is_one all place h)
 
 -- ---- the words, one after another
 
@@ -80,7 +80,8 @@ words_more (Some all) first place words word w h =
 
 -- all words were read
 pub words_all : (known : Option (List ByteString)) (first place : ℕ) (words : List ByteString)
-    → HasWordsUpTo known first place words → ArgumentIs known place None → WordsAre known first words
+    → HasWordsUpTo known first place words → ArgumentIs known place None
+    → IfSome known (λ all. words ≡ drop first all)
 words_all None first place words w h = tt
 words_all (Some all) first place words w h =
     sym (w ∙ ap (λ l. words ++ l) (drop_at_none all place h) ∙ append-nil words)

@@ -1,6 +1,5 @@
--- What a trait of `Arguments` says of the list of arguments.
-use Rattle.std.specs.Prelude.{ℕ, ◌≡◌, ◌<◌, List, take, length, slice_get, Option, None, Some}
-use Rattle.std.specs.Prelude.{IsSomeAnd, Result, Ok, Err, ⊤}
+-- The reading of one argument, as the trait `Arguments` promises it.
+use Rattle.std.specs.Prelude.{ℕ, ◌≡◌, ◌<◌, List, take, length, slice_get, Option, None, Some, IsSomeAnd, Result, Ok, Err, ⊤}
 use Rattle.std.specs.declared.env.FillError.{FillError}
 use Rattle.std.specs.declared.env.FillError.TheVariants.{NotPresent, TooLong}
 use Rattle.sum_words.specs.Items.{ByteString}

@@ -1,4 +1,4 @@
--- The items of a tool's words: options, values of --length, operands, and at most one fault, at the end.
+-- The items of a tool's words: options, values of --length, operands and a fault. No item follows a fault.
 use Prim.Native.String.{String}
 use denote.Enum.Bare.{sameb}
 use Rattle.std.specs.Prelude.{ℕ, ◌+◌, ◌==◌, ◌&&◌, ◌||◌, not, Bool, List, [], ◌∷◌, ◌++◌, map, drop}
@@ -80,7 +80,7 @@ pub data NextWord : Type 0 where
 abbrev pub name_part : ByteString → ByteString
 name_part text = before_first (λ b. b == byte "=") text
 
--- its value: after that '=', if there is one
+-- a long option's value: what follows its first '=', if there is one
 abbrev pub value_part : ByteString → Option ByteString
 value_part text = option_map (λ i. drop (i + 1) text) (position (λ b. b == byte "=") text)
 
@@ -106,7 +106,7 @@ long_option (Ok flag) (Some value) = if takes_value flag then (length_value valu
 unfoldable pub option_of_letter : Tool → ℕ → Option Flag
 option_of_letter t c = find (λ flag. bytes_eq (row_of flag).letter (c ∷ [])) (flags_of t)
 
--- an option in a cluster that takes a value: the rest of the cluster is the value, if any is left
+-- an option in a cluster that takes a value: the rest of the cluster, or the next word if nothing is left
 abbrev pub attached_value : List ℕ → List ItemValue × NextWord
 attached_value [] = ([], a_value Short)
 attached_value cs = (length_value (encode_utf8_all cs) ∷ [], a_word)
@@ -118,7 +118,7 @@ cluster t (c ∷ cs) = let rest = cluster t cs in option_map_or (λ flag.
     if takes_value flag then attached_value cs else (option flag ∷ rest.0, rest.1))
     (option_of_letter t c) (fault (unknown_short c) ∷ [], no_word)
 
--- whether a word begins with a dash and goes on
+-- whether a word begins with a dash and isn't a dash alone
 abbrev pub is_option_word : ByteString → Bool
 is_option_word word = starts_with ◌==◌ word (codes "-") && not (bytes_eq word (codes "-"))
 

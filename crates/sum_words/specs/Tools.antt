@@ -8,28 +8,23 @@ pub use Rattle.sum_words.specs.declared.tool.Tool.{Tool}
 use Rattle.sum_words.specs.declared.tool.Tool.TheVariants as tools
 
 -- a tool's name, and the algorithms of the digests that it writes and checks
-pub record ToolRow : Type 0 where
-  pub name : ByteString
-  pub algos : Algos
-
--- each tool's row
-abbrev pub tool_row : Tool → ToolRow
-tool_row tools.Md5sum = record { name = codes "md5sum"; algos = One Md5 }
-tool_row tools.Sha1sum = record { name = codes "sha1sum"; algos = One Sha1 }
-tool_row tools.Sha224sum = record { name = codes "sha224sum"; algos = One Sha224 }
-tool_row tools.Sha256sum = record { name = codes "sha256sum"; algos = One Sha256 }
-tool_row tools.Sha384sum = record { name = codes "sha384sum"; algos = One Sha384 }
-tool_row tools.Sha512sum = record { name = codes "sha512sum"; algos = One Sha512 }
-tool_row tools.B2sum = record { name = codes "b2sum"; algos = One Blake2b }
-tool_row tools.Anysum = record { name = codes "anysum"; algos = Any }
+abbrev pub tool_row : Tool → ByteString × Algos
+tool_row tools.Md5sum = (codes "md5sum", One Md5)
+tool_row tools.Sha1sum = (codes "sha1sum", One Sha1)
+tool_row tools.Sha224sum = (codes "sha224sum", One Sha224)
+tool_row tools.Sha256sum = (codes "sha256sum", One Sha256)
+tool_row tools.Sha384sum = (codes "sha384sum", One Sha384)
+tool_row tools.Sha512sum = (codes "sha512sum", One Sha512)
+tool_row tools.B2sum = (codes "b2sum", One Blake2b)
+tool_row tools.Anysum = (codes "anysum", Any)
 
 -- a tool's name
 abbrev pub name_of : Tool → ByteString
-name_of t = (tool_row t).name
+name_of t = (tool_row t).0
 
 -- a tool's algorithms
 abbrev pub algos_of : Tool → Algos
-algos_of t = (tool_row t).algos
+algos_of t = (tool_row t).1
 
 -- the one of all tools that has this name
 unfoldable pub tool_called : ByteString → Option Tool

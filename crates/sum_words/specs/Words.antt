@@ -2,7 +2,7 @@
 use Rattle.std.specs.Prelude.{ℕ, ◌≡◌, ◌≤◌, ◌-◌, List, [], ◌∷◌, take, drop, length}
 use Rattle.sum_words.specs.Items.{ByteString}
 
--- the pieces of bytes from a place on that end at these places
+-- the pieces of bytes from a place on, which end at these places
 abbrev pub pieces_cut : ByteString → ℕ → List ℕ → List ByteString
 pieces_cut bytes from [] = []
 pieces_cut bytes from (end ∷ ends) = take (end - from) (drop from bytes) ∷ pieces_cut bytes end ends

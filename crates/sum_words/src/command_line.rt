@@ -1,8 +1,8 @@
 //! The command line: which tool is asked for, and on which words.
-ghost use Rattle.std.specs.Prelude.{◌≡◌, ◌≤◌, ◌<◌, ◌*◌, vec_len, take, length, slice_get, IfOk, IfSome, OnOk, OnErr};
+ghost use Rattle.std.specs.Prelude.{◌≡◌, ◌≤◌, ◌<◌, ◌*◌, vec_len, take, drop, length, slice_get, IfOk, IfSome, OnOk, OnErr};
 ghost use Rattle.std.specs.Option.{option_map, option_and_then};
 ghost use Rattle.sum_words.specs.Tools.{tool_called};
-ghost use Rattle.sum_words.specs.refinement.CommandLine.{ArgumentIs, WordsAre, IsLonger, command_line_value};
+ghost use Rattle.sum_words.specs.refinement.CommandLine.{ArgumentIs, IsLonger, command_line_value};
 ghost use Rattle.sum_words.specs.CommandLines.{last_part, command_line, NeedsMemory};
 
 use crate::arguments::Arguments;
@@ -175,7 +175,7 @@ fn words_from<A: Allocator + Copy, G: Arguments>(
     room: &mut Room<A>,
 ) -> Result<Words<A>, NotRead>
     requires { first < usize.MAX }
-    ensures words { IfOk result (λ words. WordsAre (G.known arguments.now) first words) }
+    ensures words { IfOk result (λ words. IfSome (G.known arguments.now) (λ all. words ≡ drop first all)) }
     ensures not_read { OnErr result (IfSome (G.known arguments.now) (λ all. first < length all)) }
 {
     let mut words = Words::new(alloc);

@@ -2,7 +2,6 @@
 use Rattle.std.specs.Prelude.{◌≡◌, map, List, [], ◌∷◌, ◌++◌, Option, None, Some, chars}
 use Rattle.sum_words.specs.declared.tool.Tool.{Tool}
 use Rattle.sum_words.specs.declared.messages.word_faults.WordFault.{WordFault}
-use Rattle.sum_words.specs.WordFaults.{WordFaultValue}
 use Rattle.sum_words.specs.WordFaults as faults
 use Rattle.sum_words.specs.declared.parsing.items.Item.{Item as WordItem}
 use Rattle.sum_words.specs.declared.parsing.items.ParserState.{ParserState}
@@ -15,7 +14,7 @@ use Rattle.sum_words.specs.declared.parsing.items.ParserState.TheVariants as sta
 use Rattle.sum_words.specs.declared.parsing.items.ParserStep.TheVariants as steps
 
 -- the value of a `WordFault`
-abbrev pub word_fault_value : WordFault → WordFaultValue
+abbrev pub word_fault_value : WordFault → faults.WordFaultValue
 word_fault_value (words.UnknownLong name) = faults.unknown_long name.now
 word_fault_value (words.AmbiguousLong name) = faults.ambiguous_long name.now
 word_fault_value (words.ValueNotAllowed name) = faults.value_not_allowed name.now
