@@ -33,15 +33,13 @@ pieces_cut-push bytes word from (end ∷ ends) cuts =
     (take-append-le (end - from) (drop from bytes) word (omega (arith, length-drop from bytes, past))) in
     rw (first, pieces_cut-push bytes word end ends cuts.1) refl
 
-pub ruleset pushed = (pieces_cut-push)
-
 -- there are as many pieces as places
 pub pieces_cut-length : (bytes : List ℕ) (from : ℕ) (ends : List ℕ)
     → length (pieces_cut bytes from ends) ≡ length ends
 pieces_cut-length bytes from [] = refl
 pieces_cut-length bytes from (end ∷ ends) = ap suc (pieces_cut-length bytes end ends)
 
-pub ruleset count = (pieces_cut-length)
+pub ruleset pieces = (pieces_cut-push, pieces_cut-length)
 
 -- the piece at a place is this part of the bytes
 pub record IsPieceAt (bytes : List ℕ) (words : List ByteString) (i start end : ℕ) : Type 0 where

@@ -53,7 +53,7 @@ impl<A: Allocator> Words<A> {
     }
 
     /// Adds a word at the end. `NoRoom` if memory is refused. The list is then unchanged.
-    #[tactic(auto, using(crate::proofs::WordBytesLemmas::pushed))]
+    #[tactic(auto, using(crate::proofs::WordBytesLemmas::pieces))]
     pub fn add_bytes(&mut self, word: &[u8]) -> Result<(), NoRoom>
         ensures ok { OnOk result (self.new ≡ self.old ++ word.now ∷ []) }
         ensures err { OnErr result (self.new ≡ self.old) }
@@ -70,7 +70,7 @@ impl<A: Allocator> Words<A> {
     }
 
     /// How many words the list has.
-    #[tactic(auto, using(crate::proofs::WordBytesLemmas::count))]
+    #[tactic(auto, using(crate::proofs::WordBytesLemmas::pieces))]
     pub fn len(&self) -> usize
         ensures { result ≡ length self.now }
     {
