@@ -1,5 +1,5 @@
 //! Faults of command lines, each with its text.
-use crate::requests::asked;
+use crate::requests::request_of;
 use crate::words::{words_and, words_of};
 use std::alloc::Global;
 use std::process::Abort;
@@ -116,18 +116,18 @@ fn words_that_are_no_texts(rt: HostRuntime) -> Result<(), Fail> {
 fn first_faults_count(rt: HostRuntime) -> Result<(), Fail> {
     let words = words_and(rt.alloc(), "--foo", b"-\xff")?;
     assert_eq!(rt;
-        asked(Tool::Md5sum, &words).err(),
+        request_of(Tool::Md5sum, &words).err(),
         Some(WordFault::UnknownLong("foo"))
     );
     let mut words = words_and(rt.alloc(), "-l 12 -c", b"-\xff")?;
     words.add("--foo")?;
     words.add("--help")?;
     assert_eq!(rt;
-        asked(Tool::B2sum, &words).err(),
+        request_of(Tool::B2sum, &words).err(),
         Some(WordFault::NotText(b"-\xff"))
     );
     let words = words_and(rt.alloc(), "--version", b"-\xff")?;
-    assert!(rt; matches!(asked(Tool::Md5sum, &words), Ok(Request::Version)));
+    assert!(rt; matches!(request_of(Tool::Md5sum, &words), Ok(Request::Version)));
     Ok(())
 }
 
