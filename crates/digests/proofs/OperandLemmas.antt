@@ -1,6 +1,7 @@
 -- Operands, one after another: the behavior of those before, followed by that of the rest, is the whole.
-use Rattle.std.proofs.Common.{rules, ◌≡◌, ℕ, Bool, true, false, List, [], ◌∷◌, Result}
-use Rattle.std.proofs.Common.{Ok, Err, refl, ap, sym, ◌∙◌, subst, append_assoc, ◌&&◌}
+use Rattle.std.proofs.Common.{◌≡◌, Bool, true, false, List, [], ◌∷◌, Result}
+use Rattle.std.proofs.Common.{Option, None, Some, Ok, Err, refl, ap, sym, ◌∙◌, subst, append_assoc, ◌&&◌}
+use denote.Ref.{Bor}
 use Rattle.std.proofs.Math.Bool.{and_assoc, and-true}
 use Rattle.std.proofs.lemmas.List.{append-nil}
 use Rattle.sum_sources.specs.Contents.{SourceState}
@@ -16,6 +17,7 @@ use Rattle.sum_engine.proofs.BehaviorLemmas.{behavior_then-second, events_extend
 use Rattle.sum_words.specs.Items.{ByteString}
 use Rattle.sum_words.specs.declared.tool.Tool.{Tool}
 use Rattle.sum_words.specs.Tools.{name_of}
+use Rattle.sum_words.specs.refinement.ItemIterator.{TakesFirst}
 use Rattle.digests.specs.Meaning.{operands_behavior, or_dash, status_of}
 use Rattle.digests.specs.declared.run.Job.{Job}
 use Rattle.digests.specs.refinement.Operands.{operand_behavior}
@@ -45,15 +47,26 @@ pub record HasDoneOperands (one : World → ByteString → Behavior) (names rest
   pub is : good ≡ done.good
 
 -- one of the operands, and all of their names
-pub record Operands : Type 0 where
+pub record OperandsOfRun : Type 0 where
   pub one : World → ByteString → Behavior
   pub names : List ByteString
 
 -- those of a run: what its job does with each, and their names
-abbrev pub operands_of : Job → Tool → List ByteString → Operands
+abbrev pub operands_of : Job → Tool → List ByteString → OperandsOfRun
 operands_of job tool names = record { one = operand_behavior job (name_of tool); names = or_dash names }
 
-module _ {S : Type 0} (state : S → SourceState) (o : Operands) where
+-- the operands that are left: none, or the next one and those after it
+abbrev pub left : Option (Bor ByteString) → List ByteString → List ByteString
+left None rest = []
+left (Some name) rest = name.now ∷ rest
+
+-- one was taken
+pub left-next : (old new : List ByteString) (next : Option (Bor ByteString)) → TakesFirst (λ w. w.now) old next new
+    → old ≡ left next new
+left-next old new None h = h.0
+left-next old new (Some name) h = h
+
+module _ {S : Type 0} (state : S → SourceState) (o : OperandsOfRun) where
   -- the operands before the rest were done, from x to y, if both outputs were flushed
   abbrev pub HasReached : List ByteString → StreamsState S → StreamsState S → Bool → Type 0
   HasReached rest x y good = IsFlushed x.outputs → InSomeWorld state x.inputs y.inputs
@@ -130,8 +143,3 @@ pub read_step : {S : Type 0} (state : S → SourceState) (good this : Bool) (x y
 read_step state true true x y z h k all = ReadToEnd-trans (h refl) (k refl)
 read_step state true false x y z h k all = let no : false ≡ true = all in cc
 read_step state false this x y z h k all = let no : false ≡ true = all in cc
-
--- so are all at status 0
-pub read_end : {R : Type 0} (status : ℕ) (good : Bool) → status ≡ status_of good → (good ≡ true → R)
-    → (let answer : Result ℕ Stop = Ok status in let zero : Result ℕ Stop = Ok 0 in answer ≡ zero) → R
-read_end = search rules

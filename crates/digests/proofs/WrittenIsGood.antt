@@ -22,10 +22,10 @@ use Rattle.sum_engine.proofs.WorldLemmas.{after-steady}
 use Rattle.sum_words.specs.declared.tool.Tool.{Tool}
 use Rattle.sum_words.specs.Tools.{name_of, algos_of}
 use Rattle.sum_words.specs.Items.{ByteString}
-use Rattle.digests.specs.Meaning.{operands_behavior}
+use Rattle.digests.specs.Meaning.{operands_behavior, meaning}
 use Rattle.digests.proofs.CheckWords.{request-check_words}
 use Rattle.digests.specs.GenerationRuns.{IsListable, GenerationRun, generation_output, IsCheckable}
-use Rattle.digests.specs.GenerationRuns.{HasFiles, ReportsAllOk, WrittenIsGood, JoinedIsGood}
+use Rattle.digests.specs.GenerationRuns.{HasFiles, ReportsAllOk, check_words, WrittenIsGood, JoinedIsGood}
 
 -- ---- the lines of a run
 
@@ -96,7 +96,7 @@ lines-good : (t : Tool) (check : CheckSettings) (manifest : ByteString) (later :
     → All (Listed check.algo later) xs → map (λ i. i.name) xs ≡ names → flat_map written_text xs ≡ text
     → 0 < length names → length text < limit
     → reply v manifest ≡ Ok (record { bytes = text; ending = Whole })
-    → ReportsAllOk t check v manifest names
+    → ReportsAllOk check.report (meaning t (check_words check manifest) v) names
 lines-good t check manifest later v xs names text has by all is same some fits given =
     let count : length xs ≡ length names = sym (length-map xs (λ i. i.name)) ∙ ap length is in
     let f = manifest_good check (name_of t) manifest later v xs has all (rw count some) (rw same fits)

@@ -1,11 +1,25 @@
--- Bytes cut into pieces: one more piece, and the piece at a place.
+-- Words at their places, and bytes cut into pieces: one more piece, and the piece at a place.
 use Rattle.std.proofs.Common.{◌≡◌, ℕ, zero, suc, ◌-◌, ◌<◌, ◌≤◌, List, [], ◌∷◌, ◌++◌, length, take, drop, get_or}
-use Rattle.std.proofs.Common.{Some, refl, ap, sym, arith, length-append, length-drop, slice_get, true, ltb}
+use Rattle.std.proofs.Common.{None, Some, refl, ap, sym, arith, length-append, length-drop, slice_get, true, ltb, ◌+◌, add-one}
 use Rattle.std.proofs.lemmas.List.{take-append-le, drop-append-le}
 use Rattle.std.proofs.lemmas.Bool.{ltb-true}
-use Rattle.std.proofs.Math.Seq.{drop-append_seam, take-length}
+use Rattle.std.proofs.Math.Seq.{drop-append_seam, take-length, drop-cons}
+use Rattle.std.proofs.lemmas.Option.{slice_get_within, get_or_from_slice_get}
 use Rattle.sum_words.specs.Items.{ByteString}
 use Rattle.sum_words.specs.Words.{pieces_cut, CutsAt}
+
+-- if nothing is at a place, nothing is from there on
+pub drop_at_none : {X : Type 0} (xs : List X) (p : ℕ) → slice_get xs p ≡ None → drop p xs ≡ []
+drop_at_none [] zero h = refl
+drop_at_none [] (suc p) h = refl
+drop_at_none (x ∷ xs) zero h = cc
+drop_at_none (x ∷ xs) (suc p) h = drop_at_none xs p h
+
+-- what is at a place is the first from there on
+pub drop_at_some : {X : Type 0} {x : X} (xs : List X) (p : ℕ) → slice_get xs p ≡ Some x
+    → drop p xs ≡ x ∷ drop (p + 1) xs
+drop_at_some {x = x} xs p h =
+    rw (drop-cons xs p x (slice_get_within xs p x h), get_or_from_slice_get xs p x x h, add-one) refl
 
 -- one more word, with its end, still cuts the bytes
 pub CutsAt-push : (bytes word : List ℕ) (from : ℕ) (ends : List ℕ) → CutsAt bytes from ends

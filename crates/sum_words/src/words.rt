@@ -165,7 +165,7 @@ impl<'a> Iterator for WordsIter<'a> {
 
     ghost remaining = { item_count (λ words. words) };
 
-    #[tactic(auto, using(crate::proofs::CommandLineLemmas::drop_at_none, crate::proofs::CommandLineLemmas::drop_at_some))]
+    #[tactic(auto, using(crate::proofs::WordBytesLemmas::drop_at_none, crate::proofs::WordBytesLemmas::drop_at_some))]
     fn next(&mut self) -> Option<&'a [u8]> {
         let word = self.words.get(self.at)?;
         self.at += 1;

@@ -6,7 +6,8 @@ ghost use Rattle.std.specs.List.{starts_with};
 ghost use Rattle.std.specs.Str.{chars};
 ghost use Rattle.sum_words.specs.Items.{ByteString, a_word, name_part, value_part, long_option, name_or_fault};
 ghost use Rattle.sum_words.specs.Items.{attached_value, cluster, is_option_word, items_from, operand_in};
-ghost use Rattle.sum_words.specs.refinement.ItemIterator.{remaining_items, read_then, step_items, item_value, TakesFirst};
+ghost use Rattle.sum_words.specs.refinement.ItemIterator.{remaining_items, read_then, step_items};
+ghost use Rattle.sum_words.specs.refinement.ItemIterator.{item_value, TakesFirst};
 ghost use Rattle.sum_words.specs.declared.tool.Tool.{Tool};
 
 use crate::messages::word_faults::WordFault;
