@@ -4,6 +4,7 @@ use Rattle.std.specs.Prelude.{◌&&◌, ◌||◌, not, Bool, List, [], ◌∷◌
 use Rattle.std.specs.Prelude.{Err, if◌then◌else◌, unwrap_or, option_map, filter, find, bytes_eq, filter_map}
 use Rattle.std.specs.List.{last_or, list_any}
 use Rattle.std.specs.Option.{option_transpose, option_map_or}
+use Rattle.std.specs.Result.{result_map_both}
 use Rattle.std.specs.Str.{all_ascii_digits}
 use Rattle.std.specs.Str.Parse.{digits_value}
 use Rattle.sum_words.specs.Tools.{Algos, Tool, algos_of}
@@ -48,20 +49,15 @@ report_flag reports.Quiet = Some flags.Quiet
 report_flag reports.Warn = Some flags.Warn
 report_flag reports.Status = Some flags.Status
 
--- the kind of a length value, or the fault of the value
-abbrev kind_or_fault : ByteString → Result KindValue LengthFault → Result KindValue WordFaultValue
-kind_or_fault value (Ok kind) = Ok kind
-kind_or_fault value (Err TooLong) = Err (length_invalid value)
-kind_or_fault value (Err NotBytes) = Err (length_not_bytes value)
+-- the fault of a length value, by what is wrong with the number
+abbrev length_fault : ByteString → LengthFault → WordFaultValue
+length_fault value TooLong = length_invalid value
+length_fault value NotBytes = length_not_bytes value
 
--- whether a value is one or more digits
-abbrev pub is_number : ByteString → Bool
-is_number value = not (bytes_eq value []) && all_ascii_digits value
-
--- the kind that a length value asks for, by its number of bits
+-- the kind that a length value asks for, which is one or more digits: the number of bits
 abbrev pub length_kind : ByteString → Result KindValue WordFaultValue
-length_kind value = if is_number value then kind_or_fault value (blake2b_of_bits (digits_value 10 value))
-    else Err (length_invalid value)
+length_kind value = if bytes_eq value [] || not (all_ascii_digits value) then Err (length_invalid value)
+    else result_map_both (λ kind. kind) (length_fault value) (blake2b_of_bits (digits_value 10 value))
 
 -- the faults of several options, each after its condition: the first whose condition holds counts
 abbrev pub faults : List Flag → List (Bool × WordFaultValue)

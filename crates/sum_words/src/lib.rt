@@ -36,4 +36,4 @@ pub use parsing::items::{Item, Items, Operands};
 pub use parsing::options::{Flag, Spelling};
 pub use parsing::request::{Request, read_words};
 pub use tool::{Tool, UnknownTool};
-pub use words::{LentWords, NoRoom, Words, WordsIter};
+pub use words::{NoRoom, Words, WordsIter};

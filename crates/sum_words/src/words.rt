@@ -21,8 +21,7 @@ pub struct Words<A: Allocator> {
 
 impl<A: Allocator> Model for Words<A> {
     ghost use Rattle.std.specs.Prelude.{List};
-    ghost use Rattle.digest_kinds.specs.Basics.{ByteString};
-    ghost use Rattle.sum_words.specs.Words.{pieces_cut, CutsAt};
+    ghost use Rattle.sum_words.specs.Words.{ByteString, pieces_cut, CutsAt};
 
     ghost Value = { List ByteString };
 
@@ -89,7 +88,8 @@ impl<A: Allocator> Words<A> {
         ensures { result ≡ self.now }
     {
         WordsIter {
-            words: self.as_lent(),
+            bytes: self.bytes.as_slice(),
+            ends: self.ends.as_slice(),
             at: 0,
         }
     }
@@ -98,64 +98,27 @@ impl<A: Allocator> Words<A> {
     pub fn get(&self, i: usize) -> Option<&[u8]>
         ensures { option_copied result ≡ slice_get self.now i }
     {
-        self.as_lent().get(i)
-    }
-
-    /// The list without its allocator.
-    pub fn as_lent(&self) -> LentWords<'_>
-        ensures { result ≡ self.now }
-    {
-        LentWords {
-            bytes: self.bytes.as_slice(),
-            ends: self.ends.as_slice(),
-        }
-    }
-}
-
-/// A borrowed list of words, whatever the allocator of the list.
-#[derive(Debug, Drop)]
-pub struct LentWords<'a> {
-    bytes: &'a [u8],
-    ends: &'a [usize],
-}
-
-impl<'a> Model for LentWords<'a> {
-    ghost use Rattle.std.specs.Prelude.{List};
-    ghost use Rattle.digest_kinds.specs.Basics.{ByteString};
-    ghost use Rattle.sum_words.specs.Words.{pieces_cut, CutsAt};
-
-    ghost Value = { List ByteString };
-
-    ghost view = { λ w. pieces_cut w.bytes.now 0 w.ends.now };
-
-    ghost invariant = { λ w. CutsAt w.bytes.now 0 w.ends.now };
-}
-
-impl<'a> LentWords<'a> {
-    /// The word at this place, counted from 0. `None` past the last.
-    pub fn get(&self, i: usize) -> Option<&'a [u8]>
-        ensures word { option_copied result ≡ slice_get self.now i }
-        // So the next place is a `usize`, too.
-        ensures within { OnSome result (i + 1 < 2 ^ 64) }
-    {
-        piece_at(self.bytes, self.ends, i)
+        piece_at(self.bytes.as_slice(), self.ends.as_slice(), i)
     }
 }
 
 /// An iterator over a list of words, seen as the list of those that remain.
 #[derive(Debug, Drop)]
 pub struct WordsIter<'a> {
-    words: LentWords<'a>,
+    bytes: &'a [u8],
+    ends: &'a [usize],
     at: usize,
 }
 
 impl<'a> Model for WordsIter<'a> {
     ghost use Rattle.std.specs.Prelude.{List, drop};
-    ghost use Rattle.digest_kinds.specs.Basics.{ByteString};
+    ghost use Rattle.sum_words.specs.Words.{ByteString, pieces_cut, CutsAt};
 
     ghost Value = { List ByteString };
 
-    ghost view = { λ i. drop i.at i.words };
+    ghost view = { λ i. drop i.at (pieces_cut i.bytes.now 0 i.ends.now) };
+
+    ghost invariant = { λ i. CutsAt i.bytes.now 0 i.ends.now };
 }
 
 impl<'a> Iterator for WordsIter<'a> {
@@ -167,7 +130,7 @@ impl<'a> Iterator for WordsIter<'a> {
 
     #[tactic(auto, using(crate::proofs::WordBytesLemmas::drop_at_none, crate::proofs::WordBytesLemmas::drop_at_some))]
     fn next(&mut self) -> Option<&'a [u8]> {
-        let word = self.words.get(self.at)?;
+        let word = piece_at(self.bytes, self.ends, self.at)?;
         self.at += 1;
         Some(word)
     }

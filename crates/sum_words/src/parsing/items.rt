@@ -26,7 +26,7 @@ pub enum Item<'a> {
     Fault(WordFault<'a>),
 }
 
-/// An iterator over the items of a tool's words, seen as the list of those that remain. None follows a fault.
+/// An iterator over the items of a tool's words, seen as the list of those that remain. No item follows a fault.
 #[derive(Debug, Drop)]
 pub struct Items<'a> {
     tool: Tool,

@@ -9,7 +9,7 @@ ghost use Rattle.sum_words.specs.refinement.OptionScan.{result_value};
 use crate::messages::word_faults::WordFault;
 use crate::tool::Tool;
 
-/// An option. `Length` alone takes a value, and b2sum alone has it.
+/// An option. Only `Length` takes a value, and only b2sum has it.
 #[derive(Clone, Copy, Debug, PartialEq, Eq)]
 pub enum Flag {
     Binary,
@@ -113,8 +113,8 @@ impl Flag {
         matches!(self, Flag::Length)
     }
 
-    /// The tool's option that a long name means: the one of this full name, else the only one that begins with it.
-    /// `UnknownLong` if none does, `AmbiguousLong` if several do.
+    /// The tool's option that a long name means: the one of this full name, or else the only one whose full name begins
+    /// with it. `UnknownLong` if no full name does, `AmbiguousLong` if several do.
     #[tactic(auto, unfolding(crate::specs::Items::name_or_fault))]
     pub fn of_name(tool: Tool, name: &str) -> Result<Flag, WordFault<'_>>
         ensures { result_value result ≡ name_or_fault tool name.now }

@@ -1,4 +1,4 @@
-//! What the words ask for.
+//! What the words ask for: settings and operands, help, version, or a fault.
 ghost use Rattle.std.specs.Prelude.{◌≡◌, ◌∷◌, List, [], Ok, filter_map, find};
 ghost use Rattle.std.specs.Option.{option_copied, option_map, option_transpose};
 ghost use Rattle.std.specs.Str.{all_ascii_digits};
@@ -17,7 +17,7 @@ use std::alloc::Allocator;
 use sum_engine::{CheckSettings, Report, Settings};
 use sum_lines::{Mode, Style};
 
-/// What a tool's words ask for. No operand means `-`: the caller sees to that.
+/// What a tool's words ask for. If there is no operand, the caller has to take `-` in its place.
 #[derive(Debug, Drop)]
 pub enum Request<'a> {
     /// A line for each operand.
@@ -30,8 +30,8 @@ pub enum Request<'a> {
     Version,
 }
 
-/// Reads what a tool's words ask for (coreutils manual, "md5sum invocation" and "b2sum invocation"). The first of
-/// `--help`, `--version` and the faults of one option decides; without one, the first of the other faults in the order
+/// Reads what a tool's words ask for (coreutils manual, "md5sum invocation" and "b2sum invocation"). The earliest
+/// `--help`, `--version` or fault of a single word decides. If there is none, the other faults are tried in the order
 /// of [`WordFault`]. It takes no memory.
 pub fn read_words<'a, A: Allocator>(
     tool: Tool,
@@ -66,14 +66,14 @@ struct Chosen<'a> {
     strict: bool,
 }
 
-// What reading the words returns: their options, or the request, or its fault, if an item decides it.
+// What the words have: their options; or a request or a fault, if a single item decides.
 #[derive(Drop)]
 enum ScannedOptions<'a> {
     Options(Chosen<'a>),
     Early(Result<Request<'a>, WordFault<'a>>),
 }
 
-// The options among the items, or the request if an item decides it.
+// The options among the items; or the request or the fault, if a single item decides.
 fn read_options<'a, A: Allocator>(tool: Tool, words: &'a Words<A>) -> ScannedOptions<'a>
     ensures { IsScanOf result (items_from tool a_word words.now) }
 {
@@ -164,7 +164,7 @@ fn length_kind(value: &[u8]) -> Result<Kind, WordFault<'_>>
     }
 }
 
-// The number of these digits; `None` if there is none or another byte, or if it is 2^64 or more.
+// The number of these digits. `None` if there is no digit or another byte, or if the number is 2^64 or more.
 #[tactic(auto, using(crate::proofs::RequestLemmas::number_parsed, crate::proofs::RequestLemmas::digits_text))]
 fn number(value: &[u8]) -> Option<u64>
     ensures { IsNumberOf value.now result }
