@@ -1,4 +1,4 @@
-//! Worked command lines, run over known input and known files into known sinks.
+//! Tests of the run and of the program, over known input and known files, into known sinks.
 mod checking;
 mod failing;
 mod flushing;
@@ -102,7 +102,7 @@ fn add_all<'a, A: Allocator + Copy>(
     Ok(())
 }
 
-// Adds the usual files. There is no `x`.
+// Adds the files that most examples have: `a`, `e` and two names with special bytes. There is no `x`.
 fn add_files<A: Allocator + Copy>(source: &mut ToldSource<A>) -> Result<(), NoRoom> {
     let files: [File; 4] = [
         ("a", b"abc", Ending::Whole),
@@ -245,7 +245,7 @@ fn bytes_taken(heap: &Bump, units: usize) -> usize {
         .saturating_sub(heap.chunk_capacity())
 }
 
-// That of all runs of a line that are refused nothing each takes as many bytes as the first.
+// Asserts that of all runs of a line that are refused nothing each takes as many bytes as the first.
 fn assert_same_taken(rt: &impl Abort, whole: &mut Option<usize>, bytes: usize, line: &str) {
     assert_eq!(rt;
         bytes,
@@ -257,7 +257,7 @@ fn assert_same_taken(rt: &impl Abort, whole: &mut Option<usize>, bytes: usize, l
 // A line, what it writes on standard output and on standard error, and its status.
 type Example<'a> = (&'a str, &'a str, &'a str, u8);
 
-// That a run wrote and returned what its example says.
+// Asserts that a run wrote and returned what its example says.
 fn assert_as(
     rt: &(impl Abort + AllocGlobal),
     run: &Run<1024>,
@@ -267,7 +267,7 @@ fn assert_as(
     assert_run(rt, run, line, Ok(status), (out, err))
 }
 
-// That the run of a line returned this, and wrote just these texts.
+// Asserts that the run of a line returned this, and wrote just these texts.
 fn assert_run<const N: usize>(
     rt: &(impl Abort + AllocGlobal),
     run: &Run<N>,
@@ -281,7 +281,7 @@ fn assert_run<const N: usize>(
     Ok(())
 }
 
-// That the bytes are this text, once it is spelled.
+// Asserts that the bytes are this text, once it is spelled.
 fn assert_text(
     rt: &(impl Abort + AllocGlobal),
     bytes: &[u8],
@@ -292,13 +292,13 @@ fn assert_text(
     Ok(())
 }
 
-// That the bytes are these.
+// Asserts that the bytes are these.
 fn assert_bytes(rt: &impl Abort, bytes: &[u8], wanted: &[u8], (output, line): (&str, &str)) {
     assert_eq!(rt; bytes, wanted, "{output} of {line}");
 }
 
-// That a line does as its example says over this input, these files and the usual ones, in whatever pieces they are
-// read.
+// Asserts that a line does as its example says over this input, these files and the usual ones, in whatever pieces they
+// are read.
 fn assert_in_pieces(
     rt: &(impl Abort + AllocGlobal),
     input: (&[u8], Ending),
@@ -312,7 +312,7 @@ fn assert_in_pieces(
     Ok(())
 }
 
-// That each line does as its example says, over this input and these manifests, once they are spelled.
+// Asserts that each line does as its example says, over this input and these manifests, once they are spelled.
 fn assert_examples(
     rt: &(impl Abort + AllocGlobal),
     input: &str,
@@ -350,7 +350,8 @@ fn files_of<'n, 'c>(
     Ok(files)
 }
 
-// That a line whose input and whose file of this name give these bytes and then a fault does as its example says.
+// Asserts that a line whose input and whose file of this name give these bytes and then a fault does as its example
+// says.
 fn assert_broken(
     rt: &(impl Abort + AllocGlobal),
     name: &str,

@@ -5,7 +5,7 @@ use std::process::Abort;
 use std::test::Fail;
 use sum_words::{Spelling, Tool, WordFault};
 
-// That a word behind those of a line, which have none, is the only operand.
+// Asserts that a word behind those of a line, which have none, is the only operand.
 fn assert_operand(rt: &(impl Abort + AllocGlobal), line: &str, word: &[u8]) -> Result<(), Fail> {
     let words = words_and(rt.alloc(), line, word)?;
     let (_, operands) = generation(request_of(Tool::Md5sum, &words)).ok_or("refused")?;
@@ -24,7 +24,7 @@ fn operands(rt: HostRuntime) -> Result<(), Fail> {
     Ok(())
 }
 
-// That a word behind those of a line has this fault, or none.
+// Asserts that a word behind those of a line has this fault, or none.
 fn assert_fault(
     rt: &(impl Abort + AllocGlobal),
     line: &str,

@@ -17,7 +17,7 @@ fn lines_of_fault(tool: Tool, words: &Words<Global>) -> Result<ToldSink<256>, Fa
     Ok(err)
 }
 
-// That the words of a line have a fault, of which these are the two lines.
+// Asserts that the words of a line have a fault, of which these are the two lines.
 fn assert_fault(
     rt: &(impl Abort + AllocGlobal),
     tool: Tool,

@@ -36,7 +36,7 @@ fn checking<'a>(
     }
 }
 
-/// That these are the operands of a line.
+/// Asserts that these are the operands of a line.
 pub(crate) fn assert_operands(rt: &impl Abort, line: &str, mut operands: Operands, want: &[&[u8]]) {
     for operand in want {
         assert_eq!(rt; operands.next(), Some(*operand), "in {line}");
@@ -44,7 +44,7 @@ pub(crate) fn assert_operands(rt: &impl Abort, line: &str, mut operands: Operand
     assert_eq!(rt; operands.next(), None, "in {line}");
 }
 
-// That the words of a line ask for lines of this kind and form about one operand.
+// Asserts that the words of a line ask for lines of this kind and form about one operand.
 fn assert_generates(
     rt: &(impl Abort + AllocGlobal),
     (tool, line): (Tool, &str),
@@ -72,7 +72,7 @@ fn lines(rt: HostRuntime) -> Result<(), Fail> {
     assert_generates(&rt, full_length, 512, Mode::Text, "e")
 }
 
-// That the words of a line ask for checking with these settings.
+// Asserts that the words of a line ask for checking with these settings.
 fn assert_checks(
     rt: &(impl Abort + AllocGlobal),
     (tool, line): (Tool, &str),

@@ -46,7 +46,7 @@ fn source_in_turn<'a>(
     Ok(source)
 }
 
-// That the program, called so, leaves these texts. Each file is read to its end or its fault, and no further.
+// Asserts that the program, called so, leaves these texts. Each file is read to its end or its fault, and no further.
 fn assert_leaves(
     rt: &(impl Abort + AllocGlobal),
     arguments: &[&[u8]],

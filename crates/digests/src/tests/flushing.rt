@@ -7,7 +7,7 @@ use sum_engine::Streams;
 use sum_lines::{Sink, SinkFault};
 use sum_sources::{Ending, Stdin, Told};
 
-// A sink that takes everything, tells nothing, and counts how often it is flushed; the flush of one number fails.
+// A sink that accepts everything, tells nothing, and counts how often it is flushed. One of these flushes fails.
 #[derive(Drop)]
 struct CountsFlushes {
     count: u64,
@@ -34,7 +34,7 @@ impl Sink for CountsFlushes {
     }
 }
 
-// A sink of which the flush of this number fails.
+// A sink whose flush of this number fails.
 fn sink(fails_at: u64) -> CountsFlushes {
     CountsFlushes {
         count: 0,
@@ -61,7 +61,7 @@ fn count_flushes(
     Ok((streams.outputs.out.count, streams.outputs.err.count, status))
 }
 
-// Each line is flushed at its end, and both outputs once more at the end of the run, also where nothing was written. No
+// Each line is flushed at its end, and both outputs once more at the end of the run, even if nothing was written. No
 // contract shows the last two, since a flush of an output that holds nothing changes nothing that it tells.
 #[test]
 fn flushed_once_more(rt: HostRuntime) -> Result<(), Fail> {

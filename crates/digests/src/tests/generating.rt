@@ -35,7 +35,8 @@ fn broken_inputs(rt: HostRuntime) -> Result<(), Fail> {
     Ok(())
 }
 
-// That the line, run over outputs that stop after so many bytes, writes just these texts, and that a write fails.
+// Asserts that the line, run over outputs that stop after so many bytes, writes just these texts, and that a write
+// fails.
 fn assert_stops(
     rt: &(impl Abort + AllocGlobal),
     line: &str,

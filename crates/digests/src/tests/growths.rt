@@ -47,7 +47,7 @@ impl<'a, 'b> Source for FilesOn<'a, 'b> {
     }
 }
 
-// A place between two operands or two lines of a manifest: the texts up to there, and how many names were asked.
+// A place between two operands or two lines of a manifest: the texts up to there, and how many names were asked for.
 type Place<'a> = (&'a str, &'a str, usize);
 
 // Whether these are the names that were asked.
@@ -90,7 +90,7 @@ enum Turn {
     Finished(usize),
 }
 
-// A source of these files on a heap, where it has room for them.
+// A source of these files on a heap, if it has room for them.
 fn source_on<'a, 'b>(heap: &'b Bump, all: &[File<'_, 'a>]) -> Option<FilesOn<'a, 'b>> {
     let mut files = ToldSource::new(heap, 8192);
     for file in all {
@@ -101,7 +101,7 @@ fn source_on<'a, 'b>(heap: &'b Bump, all: &[File<'_, 'a>]) -> Option<FilesOn<'a,
 }
 
 // Runs a line over the file `a`, the empty file `e` and the manifest `l`. The files, the words and the run have one
-// heap: `None` where it has no room for the files or for the words.
+// heap: `None` if it has no room for the files or for the words.
 fn run_on<'a, 'b>(
     heap: &'b Bump,
     manifest: &'a [u8],
@@ -119,7 +119,7 @@ fn run_on<'a, 'b>(
     run_line_on(heap, line, input, files, (1024, 1024))
 }
 
-// At which of the places a run stopped that was refused memory. Where none was refused it did as the example says:
+// At which of the places a run stopped that was refused memory. If none was refused, it did as the example says:
 // `None`.
 fn stopped_at(
     rt: &(impl Abort + AllocGlobal),
@@ -292,7 +292,7 @@ fn step<'b>(
     checker.step(line, streams)
 }
 
-// One step more. Where it wants memory, the heap gets enough; what has stopped or ended stays so.
+// One step more. If it wants memory, the heap gets enough. A checker that has stopped or ended stays so.
 fn step_on<'b>(
     rt: &impl Abort,
     heap: &'b Bump,
@@ -313,7 +313,7 @@ fn step_on<'b>(
     (lines.saturating_add(1), outcome)
 }
 
-// That the outputs and the names asked stand where they do after so many lines.
+// Asserts that the outputs and the names asked stand where they do after so many lines.
 fn assert_there(alloc: Global, streams: &Stage, lines: usize) -> Result<(), Fail> {
     let there = AFTER_STEPS.get(lines..=lines).ok_or("lines")?;
     let texts = (streams.outputs.out.bytes(), streams.outputs.err.bytes());

@@ -39,7 +39,7 @@ fn assert_stopped(
     Ok(())
 }
 
-// That the bytes of an output that stops so are a prefix of this text, and are so many.
+// Asserts that the bytes of an output that stops so are a prefix of this text, and are so many.
 fn assert_part(
     rt: &impl Abort,
     bytes: &[u8],

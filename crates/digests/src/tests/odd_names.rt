@@ -15,7 +15,8 @@ type Example<'a> = (&'a [&'a [u8]], &'a [u8], &'a [u8], u8);
 
 const UNKNOWN: &[u8] = b"digests: unknown tool\n";
 
-// That a command line does as its example says over the usual files, one whose name isn't UTF-8, and the list `l`.
+// Asserts that a command line does as its example says over the usual files, one whose name isn't UTF-8, and the list
+// `l`.
 fn assert_example(rt: &(impl Abort + AllocGlobal), example: Example) -> Result<(), Fail> {
     let (arguments, out, err, status) = example;
     let mut source = ToldSource::new(rt.alloc(), 100);
@@ -148,7 +149,7 @@ fn word_fault<A: Allocator + Copy>(
     join(alloc, &[tool, text, word, b"'\nTry '", tool, help])
 }
 
-// That a name that isn't there, which follows this word, is reported.
+// Asserts that a name that isn't there, which follows this word, is reported.
 fn assert_missing(rt: &(impl Abort + AllocGlobal), first: &[u8], name: &[u8]) -> Result<(), Fail> {
     let missing = join(
         rt.alloc(),
@@ -160,7 +161,7 @@ fn assert_missing(rt: &(impl Abort + AllocGlobal), first: &[u8], name: &[u8]) ->
     )
 }
 
-// That a tool refuses a word, which follows another, by a fault of this text.
+// Asserts that a tool refuses a word, which follows another, by a fault of this text.
 fn assert_refused(
     rt: &(impl Abort + AllocGlobal),
     (tool, text): (&[u8], &[u8]),

@@ -73,7 +73,7 @@ type Left<'a> = (&'a str, &'a str, u8);
 
 const NOT_READ: Left<'static> = ("", "digests: words not read\n", 1);
 
-// That a program that ended, called so, left this.
+// Asserts that a program that ended, called so, left this.
 fn assert_left(
     rt: &(impl Abort + AllocGlobal),
     ended: &Ended,
@@ -102,7 +102,7 @@ pub(super) fn shown(alloc: Global, arguments: &[&[u8]]) -> Result<String, Fail> 
     Ok(format!(in alloc; "{arguments:?}")?)
 }
 
-// That the program, called so, leaves this.
+// Asserts that the program, called so, leaves this.
 fn assert_ends(
     rt: &(impl Abort + AllocGlobal),
     arguments: &[&[u8]],
@@ -136,7 +136,7 @@ fn tool_by_word_or_name(rt: HostRuntime) -> Result<(), Fail> {
     Ok(())
 }
 
-// That a word of so many letters is an operand like any other.
+// Asserts that a word of so many letters is an operand like any other.
 fn assert_long_word(rt: &(impl Abort + AllocGlobal), count: usize) -> Result<(), Fail> {
     let long = repeat(rt.alloc(), 'x', count)?;
     let fault = ["md5sum: ", long.as_str(), ": No such file or directory\n"];
@@ -167,7 +167,7 @@ fn told_arguments(rt: HostRuntime) -> Result<(), Fail> {
     Ok(())
 }
 
-// That a program whose outputs stop after so many bytes ends with status 1, and leaves just these.
+// Asserts that a program whose outputs stop after so many bytes ends with status 1, and leaves just these.
 fn assert_stopped(
     rt: &(impl Abort + AllocGlobal),
     stops: (usize, usize),
@@ -312,7 +312,7 @@ fn closed_standard_input(rt: HostRuntime) -> Result<(), Fail> {
     assert_left(&rt, &ended, &arguments, left)
 }
 
-// Calls the program on a heap with room for so many times 8 bytes: how many it took, or `None` where the words weren't
+// Calls the program on a heap with room for so many times 8 bytes: how many it took, or `None` if the words weren't
 // read.
 fn words_within(
     rt: &(impl Abort + AllocGlobal),

@@ -1,4 +1,4 @@
-//! Worked command lines, whose texts were written down before there was a program.
+//! Worked examples, whose texts were written down before there was a program.
 use super::{
     Example, MISSING, MIXED, REPORTS, VERDICTS, WARNINGS, assert_broken, assert_examples, join,
     repeat,
