@@ -22,9 +22,9 @@ abbrev takes_none : Flag → Bool
 takes_none flag = not (takes_value flag)
 
 -- the full name of one means it
-named : (t : Tool) (flag : Flag) → takes_none flag ≡ true
+full_name_found : (t : Tool) (flag : Flag) → takes_none flag ≡ true
     → find (λ f. bytes_eq (full_name flag) (full_name f)) (flags_of t) ≡ Some flag
-named = search rules
+full_name_found = search rules
 
 -- how its word is read
 record IsLong (flag : Flag) : Type 0 where
@@ -40,7 +40,7 @@ is-long = search rules
 
 long_name : (t : Tool) (flag : Flag) → takes_none flag ≡ true → name_or_fault t (full_name flag) ≡ Ok flag
 unfolding name_or_fault
-long_name t flag h = rw (named t flag h) refl
+long_name t flag h = rw (full_name_found t flag h) refl
 
 -- it is that option
 long_word : (t : Tool) (flag : Flag) (more : List ByteString) → takes_none flag ≡ true
@@ -69,16 +69,16 @@ abbrev settings : Tool → Report → Bool → Bool → CheckSettings
 settings t r s i = record { algo = algos_of t; report = r; strict = s; ignore_missing = i }
 
 -- no option of a check takes a value, and what they ask for is the check
-checked : (t : Tool) (m : ByteString) (r : Report) (s i : Bool)
+options_ask : (t : Tool) (m : ByteString) (r : Report) (s i : Bool)
     → (list_all takes_none (check_options (settings t r s i)) ≡ true)
     × (request_of_items t (map option (check_options (settings t r s i)) ++ operand m ∷ [])
     ≡ Ok (Check (settings t r s i) (m ∷ [])))
-checked = grind (arith, common_steps)
+options_ask = grind (arith, common_steps)
 
 -- so the words ask for the check
 pub request-check_words : (t : Tool) (check : CheckSettings) (manifest : ByteString) → check.algo ≡ algos_of t
     → request t (check_words check manifest) ≡ Ok (Check check (manifest ∷ []))
 request-check_words t check manifest h =
-    let is = checked t manifest check.report check.strict check.ignore_missing in
+    let is = options_ask t manifest check.report check.strict check.ignore_missing in
     ap (request_of_items t) (items-are t check manifest is.0) ∙ is.1
     ∙ ap (λ a. Ok (Check (record check { algo = a }) (manifest ∷ []))) (sym h)

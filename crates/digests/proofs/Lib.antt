@@ -4,4 +4,4 @@ mod FinishRunLemmas
 mod ProgramLemmas
 mod CheckWords
 mod WrittenIsGood
-mod MeaningRows
+mod WorkedExamples

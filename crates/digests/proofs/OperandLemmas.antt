@@ -1,6 +1,7 @@
 -- Operands, one after another: the behavior of those before, followed by that of the rest, is the whole.
-use Rattle.std.proofs.Common.{rules, ◌≡◌, ℕ, Bool, true, false, List, [], ◌∷◌, Result}
-use Rattle.std.proofs.Common.{Ok, Err, refl, ap, sym, ◌∙◌, subst, append_assoc, ◌&&◌}
+use Rattle.std.proofs.Common.{◌≡◌, Bool, true, false, List, [], ◌∷◌, Result}
+use Rattle.std.proofs.Common.{Option, None, Some, Ok, Err, refl, ap, sym, ◌∙◌, subst, append_assoc, ◌&&◌}
+use denote.Ref.{Bor}
 use Rattle.std.proofs.Math.Bool.{and_assoc, and-true}
 use Rattle.std.proofs.lemmas.List.{append-nil}
 use Rattle.sum_sources.specs.Contents.{SourceState}
@@ -16,6 +17,7 @@ use Rattle.sum_engine.proofs.BehaviorLemmas.{behavior_then-second, events_extend
 use Rattle.sum_words.specs.Items.{ByteString}
 use Rattle.sum_words.specs.declared.tool.Tool.{Tool}
 use Rattle.sum_words.specs.Tools.{name_of}
+use Rattle.sum_words.specs.refinement.ItemIterator.{TakesFirst}
 use Rattle.digests.specs.Meaning.{operands_behavior, or_dash, status_of}
 use Rattle.digests.specs.declared.run.Job.{Job}
 use Rattle.digests.specs.refinement.Operands.{operand_behavior}
@@ -37,7 +39,7 @@ behavior_then-nothing a = rw (append-nil a.steps, and-true a.good) refl
 -- ---- operands, one after another
 
 -- the behavior of the operands before the rest happened, and was good or not
-pub record OperandsDone (one : World → ByteString → Behavior) (names rest : List ByteString) (a b : WorldState)
+pub record HasDoneOperands (one : World → ByteString → Behavior) (names rest : List ByteString) (a b : WorldState)
     (good : Bool) : Type 0 where
   pub done : Behavior
   pub total : operands_behavior one a.world names ≡ behavior_then done (operands_behavior one b.world rest)
@@ -45,22 +47,33 @@ pub record OperandsDone (one : World → ByteString → Behavior) (names rest : 
   pub is : good ≡ done.good
 
 -- one of the operands, and all of their names
-pub record Operands : Type 0 where
+pub record OperandsOfRun : Type 0 where
   pub one : World → ByteString → Behavior
   pub names : List ByteString
 
 -- those of a run: what its job does with each, and their names
-abbrev pub operands_of : Job → Tool → List ByteString → Operands
+abbrev pub operands_of : Job → Tool → List ByteString → OperandsOfRun
 operands_of job tool names = record { one = operand_behavior job (name_of tool); names = or_dash names }
 
-module _ {S : Type 0} (state : S → SourceState) (o : Operands) where
+-- the operands that are left: none, or the next one and those after it
+abbrev pub left : Option (Bor ByteString) → List ByteString → List ByteString
+left None rest = []
+left (Some name) rest = name.now ∷ rest
+
+-- one was taken
+pub left-next : (old new : List ByteString) (next : Option (Bor ByteString)) → TakesFirst (λ w. w.now) old next new
+    → old ≡ left next new
+left-next old new None h = h.0
+left-next old new (Some name) h = h
+
+module _ {S : Type 0} (state : S → SourceState) (o : OperandsOfRun) where
   -- the operands before the rest were done, from x to y, if both outputs were flushed
-  abbrev pub Reached : List ByteString → StreamsState S → StreamsState S → Bool → Type 0
-  Reached rest x y good = IsFlushed x.outputs → InSomeWorld state x.inputs y.inputs
-      (λ w v. OperandsDone o.one o.names rest (in_world state x w) (in_world state y v) good)
+  abbrev pub HasReached : List ByteString → StreamsState S → StreamsState S → Bool → Type 0
+  HasReached rest x y good = IsFlushed x.outputs → InSomeWorld state x.inputs y.inputs
+      (λ w v. HasDoneOperands o.one o.names rest (in_world state x w) (in_world state y v) good)
 
   -- before the first operand nothing happened
-  pub operands_done_start : (rest : List ByteString) (a : StreamsState S) → o.names ≡ rest → Reached rest a a true
+  pub operands_done_start : (rest : List ByteString) (a : StreamsState S) → o.names ≡ rest → HasReached rest a a true
   operands_done_start rest a is = λ flushed. record {
     before = λ v fits. (
       v,
@@ -76,8 +89,8 @@ module _ {S : Type 0} (state : S → SourceState) (o : Operands) where
 
   -- one operand more happened
   pub operands_done_step : (good this : Bool) (name : ByteString) (rest : List ByteString) (x y z : StreamsState S)
-      → Reached (name ∷ rest) x y good → (IsFlushed x.outputs → IsFlushed y.outputs)
-      → Performs state (λ w. o.one w name) (λ g. g) y z (Ok this) → Reached rest x z (good && this)
+      → HasReached (name ∷ rest) x y good → (IsFlushed x.outputs → IsFlushed y.outputs)
+      → Performs state (λ w. o.one w name) (λ g. g) y z (Ok this) → HasReached rest x z (good && this)
   operands_done_step good this name rest x y z h kept k = λ flushed.
       InSomeWorld-then (h flushed) (k (kept flushed)) (λ u v w p q.
       let b = in_world state y v in
@@ -93,7 +106,7 @@ module _ {S : Type 0} (state : S → SourceState) (o : Operands) where
       })
 
   -- no operand is left
-  pub operands_done_end : (good : Bool) (x y : StreamsState S) → Reached [] x y good
+  pub operands_done_end : (good : Bool) (x y : StreamsState S) → HasReached [] x y good
       → Performs state (λ w. operands_behavior o.one w o.names) status_of x y (Ok (status_of good))
   operands_done_end good x y h = λ flushed. InSomeWorld-map (h flushed) (λ w v p.
       let total = p.total ∙ behavior_then-nothing p.done in (
@@ -103,7 +116,7 @@ module _ {S : Type 0} (state : S → SourceState) (o : Operands) where
 
   -- the next operand stopped the run
   pub operands_done_stop : (stop : Stop) (good : Bool) (name : ByteString) (rest : List ByteString)
-      (x y z : StreamsState S) → Reached (name ∷ rest) x y good → (IsFlushed x.outputs → IsFlushed y.outputs)
+      (x y z : StreamsState S) → HasReached (name ∷ rest) x y good → (IsFlushed x.outputs → IsFlushed y.outputs)
       → Performs state (λ w. o.one w name) (λ g. g) y z (Err stop)
       → Performs state (λ w. operands_behavior o.one w o.names) status_of x z (Err stop)
   operands_done_stop stop good name rest x y z h kept k = λ flushed.
@@ -130,8 +143,3 @@ pub read_step : {S : Type 0} (state : S → SourceState) (good this : Bool) (x y
 read_step state true true x y z h k all = ReadToEnd-trans (h refl) (k refl)
 read_step state true false x y z h k all = let no : false ≡ true = all in cc
 read_step state false this x y z h k all = let no : false ≡ true = all in cc
-
--- so are all at status 0
-pub read_end : {R : Type 0} (status : ℕ) (good : Bool) → status ≡ status_of good → (good ≡ true → R)
-    → (let answer : Result ℕ Stop = Ok status in let zero : Result ℕ Stop = Ok 0 in answer ≡ zero) → R
-read_end = search rules

@@ -22,10 +22,10 @@ use Rattle.sum_engine.proofs.WorldLemmas.{after-steady}
 use Rattle.sum_words.specs.declared.tool.Tool.{Tool}
 use Rattle.sum_words.specs.Tools.{name_of, algos_of}
 use Rattle.sum_words.specs.Items.{ByteString}
-use Rattle.digests.specs.Meaning.{operands_behavior}
+use Rattle.digests.specs.Meaning.{operands_behavior, meaning}
 use Rattle.digests.proofs.CheckWords.{request-check_words}
-use Rattle.digests.specs.GenerationRuns.{Listable, GenerationRun, generation_output, Checkable}
-use Rattle.digests.specs.GenerationRuns.{HasFiles, ReportsAllOk, WrittenIsGood, JoinedIsGood}
+use Rattle.digests.specs.GenerationRuns.{IsListable, GenerationRun, generation_output, IsCheckable}
+use Rattle.digests.specs.GenerationRuns.{HasFiles, ReportsAllOk, check_words, WrittenIsGood, JoinedIsGood}
 
 -- ---- the lines of a run
 
@@ -44,27 +44,27 @@ items answer g = map (item answer g.settings) g.names
 
 -- a file that can be listed is read to its end
 read-is : (files : ByteString → Reply) (w : World) (s : Settings) (name : ByteString) → HasFiles w files
-    → Listable files name → digest_or_fault s.kind (reply w name) ≡ Ok (digest s.kind (bytes_of (files name)))
+    → IsListable files name → digest_or_fault s.kind (reply w name) ≡ Ok (digest s.kind (bytes_of (files name)))
 read-is files w s name has h = rw has (search rules)
 
 -- so one line is written for it
 line-is : (files : ByteString → Reply) (w : World) (s : Settings) (tool name : ByteString) → HasFiles w files
-    → s.style.zero ≡ false → Listable files name
+    → s.style.zero ≡ false → IsListable files name
     → out_text (generate_behavior s tool w name) ≡ written_text (item files s name)
 line-is files w s tool name has newlines h = rw (read-is files w s name has h, newlines, append-nil) refl
 
 -- and for all names their lines, one after another
 lines-are : (files : ByteString → Reply) (s : Settings) (tool : ByteString) (names : List ByteString) (w : World)
-    → HasFiles w files → s.style.zero ≡ false → All (Listable files) names
+    → HasFiles w files → s.style.zero ≡ false → All (IsListable files) names
     → out_text (operands_behavior (generate_behavior s tool) w names) ≡ flat_map written_text
     (map (item files s) names)
 lines-are files s tool [] w has newlines all = refl
 lines-are files s tool (name ∷ names) w has newlines all =
     let next : World = after w (asks (generate_behavior s tool w name)) in
-    let first = line-is files w s tool name has newlines (All-head (Listable files) name names all) in
+    let first = line-is files w s tool name has newlines (All-head (IsListable files) name names all) in
     let others = lines-are files s tool names next
     (after-steady files w (asks (generate_behavior s tool w name)) has) newlines
-    (All-tail (Listable files) name names all) in
+    (All-tail (IsListable files) name names all) in
     flat_map-append (λ st. st.out) (generate_behavior s tool w name).steps (operands_behavior (generate_behavior s tool)
     next names).steps
     ∙ rw (first, others) refl
@@ -73,17 +73,17 @@ lines-are files s tool (name ∷ names) w has newlines all =
 
 -- one line
 item-listed : (algos : Algos) (files later : ByteString → Reply) (g : GenerationRun) (name : ByteString)
-    → Checkable algos files later g → Listable files name → later name ≡ files name
+    → IsCheckable algos files later g → IsListable files name → later name ≡ files name
     → Listed algos later (item files g.settings name)
 item-listed algos files later g name c h same = search rules
 
 -- all lines of a run
-run-listed : (algos : Algos) (files later : ByteString → Reply) (g : GenerationRun) → Checkable algos files later g
+run-listed : (algos : Algos) (files later : ByteString → Reply) (g : GenerationRun) → IsCheckable algos files later g
     → All (Listed algos later) (items files g)
 run-listed algos files later g c =
     let Is : ByteString → Type 0 = λ name. Listed algos later (item files g.settings name) in
     let is : (name : ByteString) → Contains g.names name → Is name = λ name one.
-    item-listed algos files later g name c (All-contains (Listable files) g.names name c.listable one)
+    item-listed algos files later g name c (All-contains (IsListable files) g.names name c.listable one)
     (All-contains (λ n. later n ≡ files n) g.names name c.same one) in
     All-map (Listed algos later) (item files g.settings) g.names
     (All-weaker (Contains g.names) Is is g.names (All-contains_itself g.names))
@@ -96,7 +96,7 @@ lines-good : (t : Tool) (check : CheckSettings) (manifest : ByteString) (later :
     → All (Listed check.algo later) xs → map (λ i. i.name) xs ≡ names → flat_map written_text xs ≡ text
     → 0 < length names → length text < limit
     → reply v manifest ≡ Ok (record { bytes = text; ending = Whole })
-    → ReportsAllOk t check v manifest names
+    → ReportsAllOk check.report (meaning t (check_words check manifest) v) names
 lines-good t check manifest later v xs names text has by all is same some fits given =
     let count : length xs ≡ length names = sym (length-map xs (λ i. i.name)) ∙ ap length is in
     let f = manifest_good check (name_of t) manifest later v xs has all (rw count some) (rw same fits)
@@ -113,7 +113,7 @@ lines-good t check manifest later v xs names text has by all is same some fits g
 
 -- what it wrote is its lines
 run-text : (algos : Algos) (files later : ByteString → Reply) (w : World) (g : GenerationRun) → HasFiles w files
-    → Checkable algos files later g → flat_map written_text (items files g) ≡ generation_output w g
+    → IsCheckable algos files later g → flat_map written_text (items files g) ≡ generation_output w g
 run-text algos files later w g has c = sym (lines-are files g.settings g.tool g.names w has c.newlines c.listable)
 
 -- and these are for its names
@@ -133,21 +133,21 @@ written_is_good t check manifest files later w v g has same by c =
 
 -- their lines are read back
 runs-listed : (algos : Algos) (files later : ByteString → Reply) (gs : List GenerationRun)
-    → All (Checkable algos files later) gs → All (Listed algos later) (flat_map (items files) gs)
+    → All (IsCheckable algos files later) gs → All (Listed algos later) (flat_map (items files) gs)
 runs-listed algos files later [] all = All-nil (Listed algos later)
 runs-listed algos files later (g ∷ gs) all =
     All-append (Listed algos later) (items files g) (flat_map (items files) gs)
-    (run-listed algos files later g (All-head (Checkable algos files later) g gs all))
-    (runs-listed algos files later gs (All-tail (Checkable algos files later) g gs all))
+    (run-listed algos files later g (All-head (IsCheckable algos files later) g gs all))
+    (runs-listed algos files later gs (All-tail (IsCheckable algos files later) g gs all))
 
 -- what they wrote is their lines
 runs-text : (algos : Algos) (files later : ByteString → Reply) (w : World) (gs : List GenerationRun) → HasFiles w files
-    → All (Checkable algos files later) gs
+    → All (IsCheckable algos files later) gs
     → flat_map written_text (flat_map (items files) gs) ≡ flat_map (generation_output w) gs
 runs-text algos files later w [] has all = refl
 runs-text algos files later w (g ∷ gs) has all =
-    let first = run-text algos files later w g has (All-head (Checkable algos files later) g gs all) in
-    let others = runs-text algos files later w gs has (All-tail (Checkable algos files later) g gs all) in
+    let first = run-text algos files later w g has (All-head (IsCheckable algos files later) g gs all) in
+    let others = runs-text algos files later w gs has (All-tail (IsCheckable algos files later) g gs all) in
     rw (flat_map-append, first, others) refl
 
 -- and these are for all of their names

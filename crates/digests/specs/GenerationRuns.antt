@@ -1,12 +1,12 @@
--- What is written is good: manifests that generation wrote, checked while the files stay as they were.
-use Rattle.std.specs.Prelude.{ℕ, ◌≡◌, ◌<◌, false, List, [], ◌∷◌, ◌++◌, IsTrue, length, map}
+-- What generation wrote is good: a later check of it reports OK for each file, if the files stay as they were.
+use Rattle.std.specs.Prelude.{◌≡◌, ◌<◌, false, List, [], ◌∷◌, ◌++◌, IsTrue, length, map}
 use Rattle.std.specs.Prelude.{flat_map, codes, if◌then◌else◌, All, Ok, option_to_list}
 use Rattle.digest_kinds.specs.Kinds.{has_len}
 use Rattle.sum_engine.specs.check.Verdicts.{Algos}
 use Rattle.sum_engine.specs.declared.check.judge.Verdict.TheVariants.{Right}
 use Rattle.sum_engine.specs.check.Reports.{out_by}
 use Rattle.sum_lines.specs.Escape.{present}
-use Rattle.sum_engine.specs.Behavior.{Whole, World, is_dash, reply, out_text, err_text}
+use Rattle.sum_engine.specs.Behavior.{Whole, World, Behavior, is_dash, reply, out_text, err_text}
 use Rattle.sum_sources.specs.Contents.{limit, Reply}
 use Rattle.sum_lines.specs.grammar.LineLaws.{ReadBy}
 use Rattle.sum_engine.specs.declared.settings.Settings.{Settings}
@@ -16,16 +16,16 @@ use Rattle.sum_words.specs.declared.parsing.options.Flag.{Flag}
 use Rattle.sum_words.specs.declared.tool.Tool.{Tool}
 use Rattle.sum_words.specs.Tools.{algos_of}
 use Rattle.sum_words.specs.Items.{ByteString, full_name}
-use Rattle.sum_words.specs.Request.{report_flag}
+use Rattle.sum_words.specs.Request.{Report, report_flag}
 use Rattle.digests.specs.Meaning.{operands_behavior, meaning, status_of}
 use Rattle.sum_words.specs.declared.parsing.options.Flag.TheVariants as flags
 
 -- a name that isn't empty, holds no NUL and isn't `-`, and whose file is whole and not too long
-pub record Listable (answer : ByteString → Reply) (name : ByteString) : Type 0 where
+pub record IsListable (answer : ByteString → Reply) (name : ByteString) : Type 0 where
   pub some : 0 < length name
   pub no_nul : All (λ b. 0 < b) name
   pub no_dash : is_dash name ≡ false
-  pub bytes : List ℕ
+  pub bytes : ByteString
   pub content : answer name ≡ Ok (record { bytes = bytes; ending = Whole })
   pub fits : length bytes < limit
 
@@ -35,17 +35,17 @@ pub record GenerationRun : Type 0 where
   pub tool : ByteString
   pub names : List ByteString
 
--- what it writes on standard output in a world
+-- what a run writes on standard output in a world
 abbrev pub generation_output : World → GenerationRun → ByteString
 generation_output w g = out_text (operands_behavior (generate_behavior g.settings g.tool) w g.names)
 
--- what a run wrote of these files can be checked later: its lines end with newlines; the checking tool reads them, as
--- the tool itself does in every style, and `anysum` if they are tagged; and its files are then the same
-pub record Checkable (algos : Algos) (files later : ByteString → Reply) (g : GenerationRun) : Type 0 where
+-- what a run wrote of these files can be checked later: its lines end with newlines, and the checking tool reads them;
+-- its files can be listed, and are then the same
+pub record IsCheckable (algos : Algos) (files later : ByteString → Reply) (g : GenerationRun) : Type 0 where
   pub newlines : g.settings.style.zero ≡ false
   pub has : IsTrue (has_len g.settings.kind.algo g.settings.kind.len)
   pub read_by : ReadBy algos g.settings.style.mode g.settings.kind.algo
-  pub listable : All (Listable files) g.names
+  pub listable : All (IsListable files) g.names
   pub same : All (λ name. later name ≡ files name) g.names
 
 -- a world in which these are the files, whatever was asked
@@ -63,27 +63,25 @@ abbrev pub check_words : CheckSettings → ByteString → List ByteString
 check_words check manifest =
     map (λ flag. codes "--" ++ full_name flag) (check_options check) ++ codes "--" ∷ manifest ∷ []
 
--- a tool, called with these words, ends with status 0; it writes `NAME: OK` for each name, if the report setting shows
--- such lines, and nothing else
-pub record ReportsAllOk (t : Tool) (check : CheckSettings) (v : World) (manifest : ByteString)
-    (names : List ByteString) : Type 0 where
-  pub status : status_of (meaning t (check_words check manifest) v).good ≡ 0
-  pub out : out_text (meaning t (check_words check manifest) v) ≡ flat_map (out_by present check.report Right) names
-  pub err : err_text (meaning t (check_words check manifest) v) ≡ []
+-- a run ends with status 0, and writes `NAME: OK` for each name, if the report setting shows that, and nothing else
+pub record ReportsAllOk (report : Report) (run : Behavior) (names : List ByteString) : Type 0 where
+  pub status : status_of run.good ≡ 0
+  pub out : out_text run ≡ flat_map (out_by present report Right) names
+  pub err : err_text run ≡ []
 
--- what generation wrote for one name or more is good as a manifest, if it isn't too long
+-- what one run wrote for one name or more is good as a manifest, if it isn't too long
 abbrev pub WrittenIsGood : Type 0
 WrittenIsGood = (t : Tool) (check : CheckSettings) (manifest : ByteString) (files later : ByteString → Reply)
     (w v : World) (g : GenerationRun) → HasFiles w files → HasFiles v later → check.algo ≡ algos_of t
-    → Checkable check.algo files later g → 0 < length g.names → length (generation_output w g) < limit
+    → IsCheckable check.algo files later g → 0 < length g.names → length (generation_output w g) < limit
     → reply v manifest ≡ Ok (record { bytes = generation_output w g; ending = Whole })
-    → ReportsAllOk t check v manifest g.names
+    → ReportsAllOk check.report (meaning t (check_words check manifest) v) g.names
 
 -- so is what several runs wrote, one after another
 abbrev pub JoinedIsGood : Type 0
 JoinedIsGood = (t : Tool) (check : CheckSettings) (manifest : ByteString) (files later : ByteString → Reply)
     (w v : World) (gs : List GenerationRun) → HasFiles w files → HasFiles v later → check.algo ≡ algos_of t
-    → All (Checkable check.algo files later) gs → 0 < length (flat_map (λ g. g.names) gs)
+    → All (IsCheckable check.algo files later) gs → 0 < length (flat_map (λ g. g.names) gs)
     → length (flat_map (generation_output w) gs) < limit
     → reply v manifest ≡ Ok (record { bytes = flat_map (generation_output w) gs; ending = Whole })
-    → ReportsAllOk t check v manifest (flat_map (λ g. g.names) gs)
+    → ReportsAllOk check.report (meaning t (check_words check manifest) v) (flat_map (λ g. g.names) gs)

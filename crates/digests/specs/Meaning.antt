@@ -1,4 +1,4 @@
--- What a tool's words mean: a behavior, of which the status is whether all is good, and what out of memory may mean.
+-- What a tool's words mean: a behavior, its status, and how often its source may be refused memory.
 use Rattle.std.specs.Prelude.{ℕ, Bool, true, false, List, [], ◌∷◌, Result, Ok, Err, codes, if◌then◌else◌}
 use Rattle.sum_engine.specs.Behavior.{World, after, Behavior, behavior_then, single_step, asks}
 use Rattle.sum_engine.specs.Execution.{OneMore, OneMoreAtMost}
@@ -39,8 +39,8 @@ meaning t words w = request_behavior t (request t words) w
 abbrev pub status_of : Bool → ℕ
 status_of good = if good then 0 else 1
 
--- out of memory means one refusal more of the source in generation, that or none in checking; else none is needed
-abbrev pub RefusalsOf : Result Request WordFaultValue → ℕ → ℕ → Type 0
-RefusalsOf (Ok (Generate settings names)) = OneMore
-RefusalsOf (Ok (Check settings names)) = OneMoreAtMost
-RefusalsOf asked = λ n m. ⊥
+-- out of memory has one refusal more of the source in generation, and one or none in checking; nothing else ends so
+abbrev pub AllowsRefusals : Result Request WordFaultValue → ℕ → ℕ → Type 0
+AllowsRefusals (Ok (Generate settings names)) = OneMore
+AllowsRefusals (Ok (Check settings names)) = OneMoreAtMost
+AllowsRefusals asked = λ n m. ⊥

@@ -12,7 +12,7 @@ use Rattle.sum_words.specs.CommandLines.{CommandLineValue, unknown_tool, invoke,
 use Rattle.sum_words.specs.Texts.{stop_line, unknown_tool_line, not_read_line}
 use Rattle.digests.specs.Meaning.{meaning, status_of}
 
--- the behavior of a call; `None` is a call whose words could not be read
+-- the behavior of a call of the program; `None` is one whose words could not be read
 abbrev pub call_behavior : Option CommandLineValue → World → Behavior
 call_behavior None w = single_step [] not_read_line [] false
 call_behavior (Some unknown_tool) w = single_step [] unknown_tool_line [] false
@@ -28,7 +28,7 @@ abbrev pub WritesLine : ByteString → SinkState → SinkState → Type 0
 WritesLine line a b = (said : ByteString) × Appends a.written b.written said
     × (((said ≡ line) × (b.failures ≡ a.failures)) ⊎ (IsPrefix said line × (b.failures ≡ one_more a.failures)))
 
--- after an answer, it is the status; after a stop, standard error gets its line, and the status is 1
+-- a run's status is returned; after a stop, standard error gets its line, and the status is 1
 abbrev pub ReportsStop : (Stop → ByteString) → Result ℕ Stop → OutputsState → OutputsState → ℕ → Type 0
 ReportsStop line (Ok answer) a b status = (status ≡ answer) × (b ≡ a)
 ReportsStop line (Err stop) a b status = (status ≡ 1) × (b ≡ record a { err = b.err })

@@ -14,26 +14,25 @@ use sum_lines::Sink;
 use sum_sources::{Input, Source};
 use sum_words::{Arguments, CommandLine, NotRead, read_command_line};
 
-/// Does what the program was called for, and returns its exit status. The tool is the one by whose name the program was
-/// called, as by a link, or else the one that the first word names; the other words are the tool's. If both outputs are
-/// flushed at the call, they are flushed at the end.
+/// Does what the program was called for, and returns its exit status. If the program was called by a tool's name, as by
+/// a link, it is that tool. If not, the first word names the tool. If both outputs are flushed at the call, they are
+/// flushed at the end.
 ///
-/// If there is no such tool, it writes `digests: unknown tool` to standard error, and the status is 1. If memory is
-/// needed, for a word to keep or for an argument longer than a page, it may write `digests: words not read` in place of
-/// all else, and the status is 1. After a stop of a tool's run, or if the last flush fails, it writes
-/// `TOOL: memory exhausted` or `TOOL: write error`, as far as standard error accepts it, and the status is 1. What the
-/// clauses say of bytes holds if both outputs are flushed at the call.
+/// If no tool is named, it writes `digests: unknown tool` to standard error, and the status is 1. If memory is needed,
+/// for an argument after the tool's place or for one longer than 4,096 bytes, it may write `digests: words not read` in
+/// place of all else, and the status is 1. After a stop of a tool's run, or if the last flush fails, it writes
+/// `TOOL: memory exhausted` or `TOOL: write error`, or a prefix of that if standard error fails, and the status is 1.
 pub fn command<A: Allocator + Copy, G: Arguments, I: Input + Drop, S: Source, O: Sink, E: Sink>(
     alloc: A,
     arguments: &G,
     streams: &mut Streams<Inputs<I, S>, Outputs<O, E>>,
 ) -> u8
-    // If the arguments are known and both outputs flushed: their behavior in some world, the known one if it is known.
+    // If the arguments are known and both outputs flushed: their behavior in some world.
     ensures behavior { ProgramPerforms S.state (G.known arguments.now) streams.old streams.new result }
     ensures flushed { IsFlushed streams.old.outputs → IsFlushed streams.new.outputs }
-    // Known or not: status 0 only if no call of either output failed.
+    // One way, and also for unknown files: status 0 only if no call of either output failed.
     ensures no_failures { result ≡ 0 → NoneFailed streams.old.outputs streams.new.outputs }
-    // Known or not: status 0 only if each file that was opened, and standard input if taken, was read to its end.
+    // Likewise: status 0 only if each file that was opened, and standard input if taken, was read to its end.
     ensures read_to_end { result ≡ 0 → ReadToEnd S.state streams.old.inputs streams.new.inputs }
 {
     match read_command_line(alloc, arguments) {

@@ -1,4 +1,4 @@
-//! The end of a run: both outputs are flushed once more, and a stop has its line.
+//! The end of a run: both outputs are flushed once more, and a stop is reported in a line.
 ghost use Rattle.std.specs.Prelude.{◌≡◌, [], Ok};
 ghost use Rattle.sum_engine.specs.Execution.{IsFlushed, NoneFailed};
 ghost use Rattle.sum_engine.specs.refinement.FlushedWrites.{WritesAndFlushes};
@@ -9,8 +9,9 @@ use sum_engine::{Outputs, Stop};
 use sum_lines::{Sink, SinkFault};
 use sum_words::Tool;
 
-/// Ends a run that returned this: flushes both outputs once more, unless it stopped, and writes the line for a stop.
-/// Returns the exit status: that of the run, or 1 after a stop or a flush that failed.
+/// Ends a run with this outcome. It flushes both outputs once more, unless the run stopped. After a stop or a flush
+/// that failed it writes the line for a stop. Returns the exit status: that of the run, or 1 after a stop or such a
+/// flush.
 pub(crate) fn finish_run<O: Sink, E: Sink>(
     tool: Option<Tool>,
     outcome: Result<u8, Stop>,
@@ -31,7 +32,7 @@ pub(crate) fn finish_run<O: Sink, E: Sink>(
 }
 
 // Flushes both outputs, unless the run stopped or the first flush fails. Returns what the run returned, or
-// `Stop::Write` if a flush failed, which is possible if nothing was buffered, too.
+// `Stop::Write` if a flush failed. A flush may fail even if nothing was buffered.
 fn flush_both<O: Sink, E: Sink>(
     outcome: Result<u8, Stop>,
     outputs: &mut Outputs<O, E>,
@@ -46,7 +47,7 @@ fn flush_both<O: Sink, E: Sink>(
     Ok(status)
 }
 
-// Writes the line for a stop and flushes it, if there is a tool, whose name it begins with.
+// If there is a tool, writes the line for a stop, which begins with the tool's name, and flushes it.
 fn put_stop_message<E: Sink>(tool: Option<Tool>, stop: Stop, err: &mut E) -> Result<(), SinkFault>
     ensures { WritesAndFlushes (E.state err.old) (E.state err.new) (tool_stop_line tool stop) result }
 {

@@ -1,17 +1,19 @@
-//! Laws of the definitions: each is the contract of a function that does nothing.
+//! The laws of what the tools wrote. Each is the contract of a function that does nothing.
 ghost use Rattle.digests.specs.GenerationRuns.{WrittenIsGood, JoinedIsGood};
 
-/// A tool accepts what it wrote: for a manifest that a tool wrote for one name or more, without `-z`, the command line
-/// `--check`, any settings of checking, `--` and the manifest ends with status 0, and writes an `OK` for each name, if
-/// the settings show it, and nothing else. So does that of `anysum`, if the lines are tagged. No name is empty, is `-`
-/// or contains a NUL. Each file could be read to its end, has fewer than 2^61 bytes and stays as it was. The manifest
-/// has fewer than 2^61 bytes, too.
+/// A tool accepts what it wrote. Say that `md5sum a b` wrote the manifest `SUMS`. Then `md5sum --check -- SUMS` ends
+/// with status 0, and writes `a: OK` and `b: OK` and nothing else. Other settings of checking may precede `--`: with
+/// `--quiet` or `--status` nothing is written.
+///
+/// The manifest was written for one name or more and without `-z`. No name is empty, is `-` or contains a NUL. Each
+/// file could be read to its end, has fewer than 2^61 bytes and stays as it was. The manifest has fewer than 2^61
+/// bytes, too. `anysum` accepts it as the tool does, if its lines are tagged.
 pub fn written_is_good()
     ensures { WrittenIsGood }
 {}
 
-/// The same of several such manifests that were joined to one of fewer than 2^61 bytes: tagged ones of any tools under
-/// `anysum`.
+/// Several such manifests of one tool can be joined to one of fewer than 2^61 bytes, and the tool accepts it, too.
+/// Tagged ones of any tools can be joined for `anysum`.
 pub fn joined_is_good()
     ensures { JoinedIsGood }
 {}

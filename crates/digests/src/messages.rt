@@ -1,4 +1,4 @@
-//! The texts that the program writes as a whole.
+//! Messages: each text that the program writes beside lines and reports, written to an output and flushed.
 ghost use Rattle.std.specs.Prelude.{[]};
 ghost use Rattle.sum_lines.specs.sinks.Sinks.{WritesAll};
 ghost use Rattle.sum_engine.specs.refinement.FlushedWrites.{WritesAndFlushes, WritesAndFlushesBoth};
@@ -9,7 +9,7 @@ use sum_words::{
     Tool, WordFault, put_fault, put_help, put_not_read, put_stop, put_unknown, put_version,
 };
 
-/// A text of the program.
+/// A text that isn't of one operand.
 #[derive(Clone, Copy)]
 pub(crate) enum Message<'a> {
     /// The two lines of a fault in the words.
@@ -26,7 +26,8 @@ pub(crate) enum Message<'a> {
 
 ghost use Rattle.digests.specs.refinement.Messages.{message_text};
 
-/// Writes a text to standard error and flushes it, if both outputs are flushed before. At a fault a prefix was written.
+/// Writes a message to standard error and flushes it. If both outputs are flushed before, exactly the text is written;
+/// if that fails, a prefix of it.
 pub(crate) fn put_err_message<O: Sink, E: Sink>(
     outputs: &mut Outputs<O, E>,
     text: Message,
@@ -36,7 +37,7 @@ pub(crate) fn put_err_message<O: Sink, E: Sink>(
     put_message(&mut outputs.err, text)
 }
 
-/// The same to standard output.
+/// Writes a message to standard output and flushes it, as [`put_err_message`] does to standard error.
 pub(crate) fn put_out_message<O: Sink, E: Sink>(
     outputs: &mut Outputs<O, E>,
     text: Message,
@@ -46,7 +47,7 @@ pub(crate) fn put_out_message<O: Sink, E: Sink>(
     put_message(&mut outputs.out, text)
 }
 
-/// The same to any sink.
+/// Writes a message to a sink and flushes it.
 pub(crate) fn put_message<S: Sink>(sink: &mut S, text: Message) -> Result<(), SinkFault>
     ensures { WritesAndFlushes (S.state sink.old) (S.state sink.new) (message_text text.entry) result }
 {
@@ -54,7 +55,7 @@ pub(crate) fn put_message<S: Sink>(sink: &mut S, text: Message) -> Result<(), Si
     sink.flush()
 }
 
-// Gives the sink a text, which it may buffer.
+// Gives the sink a message. The sink may buffer it.
 fn buffer_message<S: Sink>(sink: &mut S, text: Message) -> Result<(), SinkFault>
     ensures { WritesAll (S.state sink.old) (S.state sink.new) (message_text text.entry) result }
 {

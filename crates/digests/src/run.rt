@@ -4,10 +4,11 @@ ghost use Rattle.sum_engine.specs.Execution.{IsFlushed, FailuresMatch, ReadToEnd
 ghost use Rattle.sum_engine.specs.Execution.{RefusalsMatch, StopHasCause, Performs};
 ghost use Rattle.sum_engine.specs.refinement.FlushedWrites.{outcome_after};
 ghost use Rattle.sum_words.specs.Tools.{name_of};
-ghost use Rattle.sum_words.specs.refinement.OptionScan.{result_of};
+ghost use Rattle.sum_words.specs.refinement.OptionScan.{result_value};
 ghost use Rattle.sum_words.specs.Request.{request};
-ghost use Rattle.digests.specs.Meaning.{operands_behavior, request_behavior, or_dash, meaning, status_of, RefusalsOf};
-ghost use Rattle.digests.specs.refinement.Operands.{operand_behavior, RefusalsOfJob};
+ghost use Rattle.digests.specs.Meaning.{operands_behavior, request_behavior, or_dash, meaning, status_of};
+ghost use Rattle.digests.specs.Meaning.{AllowsRefusals};
+ghost use Rattle.digests.specs.refinement.Operands.{operand_behavior, JobAllowsRefusals};
 
 use crate::messages::{Message, put_err_message, put_out_message};
 use std::alloc::Allocator;
@@ -21,22 +22,24 @@ use sum_words::{Operands, Request, Tool, WordFault, Words, read_words};
 /// Runs a tool on its words, and returns the status: 0 if all is good, else 1 (coreutils manual, "md5sum invocation").
 /// If both outputs are flushed at the call, they are flushed when it returns.
 ///
-/// `Stop::Memory` if memory was refused: the first steps of the behavior happened, up to an operand or, in checking, up
-/// to a line of a manifest or its end. `Stop::Write` if an output failed: a prefix of the trace happened.
+/// `Stop::Memory` only if the source was refused memory, or bytes of a manifest were still to come. The first steps of
+/// the behavior happened: those before an operand or, in checking, before a line of a manifest or its end.
+/// `Stop::Write` only if an output failed. A prefix of the trace happened.
 pub fn run<A: Allocator + Copy, I: Input + Drop, S: Source, O: Sink, E: Sink>(
     alloc: A,
     tool: Tool,
     words: &Words<A>,
     streams: &mut Streams<Inputs<I, S>, Outputs<O, E>>,
 ) -> Result<u8, Stop>
-    // If both outputs are flushed: the behavior that the words mean in some world, the known one if it is known.
+    // If both outputs are flushed: the behavior that the words mean in some world.
     ensures behavior { Performs S.state (meaning tool words.now) status_of streams.old streams.new result }
     ensures flushed { IsFlushed streams.old.outputs → IsFlushed streams.new.outputs }
-    // Known or not, a stop has its cause: refusals as the request allows, or one failure more of one output.
-    ensures refusals { RefusalsMatch S.state (RefusalsOf (request tool words.now)) streams.old.inputs
+    // Also for unknown files: refusals rise only as the request allows.
+    ensures refusals { RefusalsMatch S.state (AllowsRefusals (request tool words.now)) streams.old.inputs
         streams.new.inputs result }
     ensures failures { FailuresMatch streams.old.outputs streams.new.outputs result }
-    // Known or not: status 0 only if each file that was opened, and standard input if taken, was read to its end.
+    // Also for unknown files: status 0 only if each file that was opened, and standard input if taken, was read to its
+    // end.
     ensures read_to_end { result ≡ Ok 0 → ReadToEnd S.state streams.old.inputs streams.new.inputs }
 {
     run_request(alloc, tool, read_words(tool, words), streams)
@@ -49,9 +52,9 @@ fn run_request<A: Allocator + Copy, I: Input + Drop, S: Source, O: Sink, E: Sink
     asked: Result<Request, WordFault>,
     streams: &mut Streams<Inputs<I, S>, Outputs<O, E>>,
 ) -> Result<u8, Stop>
-    ensures behavior { Performs S.state (request_behavior tool (result_of asked.entry)) status_of streams.old
+    ensures behavior { Performs S.state (request_behavior tool (result_value asked.entry)) status_of streams.old
         streams.new result }
-    ensures cause { StopHasCause S.state (RefusalsOf (result_of asked.entry)) streams.old streams.new result }
+    ensures cause { StopHasCause S.state (AllowsRefusals (result_value asked.entry)) streams.old streams.new result }
     ensures read_to_end { result ≡ Ok 0 → ReadToEnd S.state streams.old.inputs streams.new.inputs }
 {
     match asked {
@@ -101,7 +104,7 @@ fn run_operand<A: Allocator + Copy, I: Input + Drop, S: Source, O: Sink, E: Sink
 ) -> Result<bool, Stop>
     ensures behavior { Performs S.state (λ w. operand_behavior job.now (name_of tool) w name.now) (λ good. good)
         streams.old streams.new result }
-    ensures cause { StopHasCause S.state (RefusalsOfJob job.now) streams.old streams.new result }
+    ensures cause { StopHasCause S.state (JobAllowsRefusals job.now) streams.old streams.new result }
     ensures read_to_end { result ≡ Ok true → ReadToEnd S.state streams.old.inputs streams.new.inputs }
 {
     match job {
@@ -131,22 +134,20 @@ fn run_operands<A: Allocator + Copy, I: Input + Drop, S: Source, O: Sink, E: Sin
     ensures behavior { Performs S.state (λ w. operands_behavior (operand_behavior job.now (name_of tool)) w
         (or_dash operands.entry)) status_of
         streams.old streams.new result }
-    ensures cause { StopHasCause S.state (RefusalsOfJob job.now) streams.old streams.new result }
+    ensures cause { StopHasCause S.state (JobAllowsRefusals job.now) streams.old streams.new result }
     ensures read_to_end { result ≡ Ok 0 → ReadToEnd S.state streams.old.inputs streams.new.inputs }
 {
     let mut operands = operands;
-    let mut name = first_name(&mut operands);
+    let mut next = Some(first_name(&mut operands));
     let mut good = true;
-    'operands: loop {
+    'operands: while let Some(name) = next {
         match run_operand(alloc, job, tool, name, streams) {
             Ok(this) => good &= this,
             Err(stop) => return Err(stop),
         }
-        match operands.next() {
-            Some(next) => name = next,
-            None => return Ok(status(good)),
-        }
+        next = operands.next();
     }
+    Ok(status(good))
 }
 
 // The status.

@@ -3,13 +3,14 @@ ghost use Rattle.std.specs.Prelude.{◌≡◌, ◌⊎◌};
 ghost use Rattle.sum_sources.specs.declared.inputs.closable.Closable.TheVariants.{Open, Closed};
 ghost use Rattle.sum_sources.specs.declared.inputs.phase.Phase.TheVariants.{Reading};
 
-use std::io::{Error, Stdin};
+use std::io;
 use std::os::fd::AsFd;
 use sum_sources::{Closable, EBADF, FromRead};
 
-/// Standard input, of which nothing is read yet. A closed one is noticed here, before any file is opened: the system
-/// would give its number to the next file, and that file's bytes would be read as standard input.
-pub fn standard_input(stdin: Stdin) -> Closable<FromRead<Stdin>>
+/// Standard input, before its first read. This function has to notice a closed one before any file is opened: the
+/// system would give its number to the next file, and that file's bytes would be read as standard input. The contract
+/// doesn't say which of the two it returns.
+pub fn standard_input(stdin: io::Stdin) -> Closable<FromRead<io::Stdin>>
     ensures { (result ≡ Closed Reading) ⊎ (result ≡ Open (record { reader = stdin; phase = Reading })) }
 {
     match stdin.as_fd().try_clone_to_owned() {
@@ -18,6 +19,6 @@ pub fn standard_input(stdin: Stdin) -> Closable<FromRead<Stdin>>
     }
 }
 
-fn is_closed(error: &Error) -> bool {
+fn is_closed(error: &io::Error) -> bool {
     error.raw_os_error() == Some(EBADF)
 }

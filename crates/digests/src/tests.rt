@@ -1,4 +1,4 @@
-//! Worked command lines, run over known input and known files into known sinks.
+//! Tests of the run and of the program, over known input and known files, into known sinks.
 mod checking;
 mod failing;
 mod flushing;
@@ -8,8 +8,8 @@ mod growths;
 mod hostile;
 mod odd_names;
 mod program;
-mod rows;
 mod words;
+mod worked_examples;
 
 use crate::run::run;
 use bumpalo::Bump;
@@ -21,7 +21,7 @@ use sum_lines::ToldSink;
 use sum_sources::{Answer, Ending, Fault, Source, Stdin, Told, ToldSource};
 use sum_words::{NoRoom, Tool, Words};
 
-// Published digests (of MD5, SHA-2 and BLAKE2b). In the texts of rows `$M` stands for the first, and so on.
+// Published digests (of MD5, SHA-2 and BLAKE2b). In the texts of examples `$M` stands for the first, and so on.
 const MD5_OF_ABC: &str = "900150983cd24fb0d6963f7d28e17f72";
 
 const MD5_OF_NOTHING: &str = "d41d8cd98f00b204e9800998ecf8427e";
@@ -51,7 +51,7 @@ const MIXED: &str = "MD5 (a) = $M\nSHA256 (a) = $S\nBLAKE2b-256 (e) = $B\n$M  a\
 const PIECES: [usize; 3] = [1, 100, 8192];
 
 // A text with the digests that it names.
-fn spelled(alloc: Global, text: &str) -> Result<String, Fail> {
+fn spell(alloc: Global, text: &str) -> Result<String, Fail> {
     let digests = [
         ("$M", MD5_OF_ABC),
         ("$E", MD5_OF_NOTHING),
@@ -71,7 +71,7 @@ fn first_of(bytes: &[u8], count: usize) -> Result<&[u8], Fail> {
 }
 
 // These texts, one after another.
-fn joined(alloc: Global, parts: &[&str]) -> Result<String, Fail> {
+fn join(alloc: Global, parts: &[&str]) -> Result<String, Fail> {
     let mut text = String::new(alloc);
     for part in parts {
         text.push_str(part)?;
@@ -80,7 +80,7 @@ fn joined(alloc: Global, parts: &[&str]) -> Result<String, Fail> {
 }
 
 // A text of one character so many times.
-fn repeated(alloc: Global, character: char, count: usize) -> Result<String, Fail> {
+fn repeat(alloc: Global, character: char, count: usize) -> Result<String, Fail> {
     let mut text = String::new(alloc);
     for _ in 0..count {
         text.push(character)?;
@@ -102,7 +102,7 @@ fn add_all<'a, A: Allocator + Copy>(
     Ok(())
 }
 
-// Adds the files of most rows. There is no `x`.
+// Adds the files that most examples have: `a`, `e` and two names with special bytes. There is no `x`.
 fn add_files<A: Allocator + Copy>(source: &mut ToldSource<A>) -> Result<(), NoRoom> {
     let files: [File; 4] = [
         ("a", b"abc", Ending::Whole),
@@ -113,7 +113,7 @@ fn add_files<A: Allocator + Copy>(source: &mut ToldSource<A>) -> Result<(), NoRo
     add_all(source, &files)
 }
 
-// A source of these files and those of most rows, which are read in pieces of at most so many bytes.
+// A source of these files and the usual ones, which are read in pieces of at most so many bytes.
 fn source_of<'a>(
     alloc: Global,
     files: &[File<'_, 'a>],
@@ -133,7 +133,7 @@ struct Run<const N: usize> {
     outcome: Result<u8, Stop>,
 }
 
-// Runs a line over this input, these files and those of most rows, which are read in pieces of at most so many bytes.
+// Runs a line over this input, these files and the usual ones, which are read in pieces of at most so many bytes.
 // Each output stops after so many bytes.
 fn run_line(
     alloc: Global,
@@ -239,13 +239,13 @@ fn heap_of(alloc: Global, units: usize) -> Result<Bump, Fail> {
 }
 
 // How many bytes were taken of a heap with room for so many times 8. Runs that are refused nothing all take the same.
-fn taken(heap: &Bump, units: usize) -> usize {
+fn bytes_taken(heap: &Bump, units: usize) -> usize {
     units
         .saturating_mul(8)
         .saturating_sub(heap.chunk_capacity())
 }
 
-// That of all runs of a line that are refused nothing each takes as many bytes as the first.
+// Asserts that of all runs of a line that are refused nothing each takes as many bytes as the first.
 fn assert_same_taken(rt: &impl Abort, whole: &mut Option<usize>, bytes: usize, line: &str) {
     assert_eq!(rt;
         bytes,
@@ -255,15 +255,19 @@ fn assert_same_taken(rt: &impl Abort, whole: &mut Option<usize>, bytes: usize, l
 }
 
 // A line, what it writes on standard output and on standard error, and its status.
-type Row<'a> = (&'a str, &'a str, &'a str, u8);
+type Example<'a> = (&'a str, &'a str, &'a str, u8);
 
-// That a run wrote and returned what the row says.
-fn assert_as(rt: &(impl Abort + AllocGlobal), run: &Run<1024>, row: Row) -> Result<(), Fail> {
-    let (line, out, err, status) = row;
+// Asserts that a run wrote and returned what its example says.
+fn assert_as(
+    rt: &(impl Abort + AllocGlobal),
+    run: &Run<1024>,
+    example: Example,
+) -> Result<(), Fail> {
+    let (line, out, err, status) = example;
     assert_run(rt, run, line, Ok(status), (out, err))
 }
 
-// That the run of a line returned this, and wrote just these texts.
+// Asserts that the run of a line returned this, and wrote just these texts.
 fn assert_run<const N: usize>(
     rt: &(impl Abort + AllocGlobal),
     run: &Run<N>,
@@ -277,58 +281,58 @@ fn assert_run<const N: usize>(
     Ok(())
 }
 
-// That the bytes are this text, once it is spelled.
+// Asserts that the bytes are this text, once it is spelled.
 fn assert_text(
     rt: &(impl Abort + AllocGlobal),
     bytes: &[u8],
     text: &str,
     whose: (&str, &str),
 ) -> Result<(), Fail> {
-    assert_bytes(rt, bytes, spelled(rt.alloc(), text)?.as_bytes(), whose);
+    assert_bytes(rt, bytes, spell(rt.alloc(), text)?.as_bytes(), whose);
     Ok(())
 }
 
-// That the bytes are these.
+// Asserts that the bytes are these.
 fn assert_bytes(rt: &impl Abort, bytes: &[u8], wanted: &[u8], (output, line): (&str, &str)) {
     assert_eq!(rt; bytes, wanted, "{output} of {line}");
 }
 
-// That a line does as its row says over this input, these files and those of most rows, in whatever pieces they are
-// read.
+// Asserts that a line does as its example says over this input, these files and the usual ones, in whatever pieces they
+// are read.
 fn assert_in_pieces(
     rt: &(impl Abort + AllocGlobal),
     input: (&[u8], Ending),
     files: &[File],
-    row: Row,
+    example: Example,
 ) -> Result<(), Fail> {
     for piece in PIECES {
-        let run = run_line(rt.alloc(), row.0, input, files, piece, (1024, 1024))?;
-        assert_as(rt, &run, row)?;
+        let run = run_line(rt.alloc(), example.0, input, files, piece, (1024, 1024))?;
+        assert_as(rt, &run, example)?;
     }
     Ok(())
 }
 
-// That each line does as its row says, over this input and these manifests, once they are spelled.
-fn assert_rows(
+// Asserts that each line does as its example says, over this input and these manifests, once they are spelled.
+fn assert_examples(
     rt: &(impl Abort + AllocGlobal),
     input: &str,
     manifests: &[(&str, &str)],
-    rows: &[Row],
+    examples: &[Example],
 ) -> Result<(), Fail> {
-    let input = spelled(rt.alloc(), input)?;
-    let contents = spelled_all(rt.alloc(), manifests)?;
+    let input = spell(rt.alloc(), input)?;
+    let contents = spell_all(rt.alloc(), manifests)?;
     let files = files_of(rt.alloc(), manifests, &contents)?;
-    for row in rows {
-        assert_in_pieces(rt, (input.as_bytes(), Ending::Whole), &files, *row)?;
+    for example in examples {
+        assert_in_pieces(rt, (input.as_bytes(), Ending::Whole), &files, *example)?;
     }
     Ok(())
 }
 
 // The contents of manifests, spelled.
-fn spelled_all(alloc: Global, manifests: &[(&str, &str)]) -> Result<Vec<String>, Fail> {
+fn spell_all(alloc: Global, manifests: &[(&str, &str)]) -> Result<Vec<String>, Fail> {
     let mut contents = Vec::new(alloc);
     for (_, content) in manifests {
-        contents.push(spelled(alloc, content)?)?;
+        contents.push(spell(alloc, content)?)?;
     }
     Ok(contents)
 }
@@ -346,14 +350,15 @@ fn files_of<'n, 'c>(
     Ok(files)
 }
 
-// That a line whose input and whose file of this name give these bytes and then a fault does as its row says.
+// Asserts that a line whose input and whose file of this name give these bytes and then a fault does as its example
+// says.
 fn assert_broken(
     rt: &(impl Abort + AllocGlobal),
     name: &str,
     bytes: &[u8],
     fault: Fault,
-    row: Row,
+    example: Example,
 ) -> Result<(), Fail> {
     let ending = Ending::Broken(fault);
-    assert_in_pieces(rt, (bytes, ending), &[(name, bytes, ending)], row)
+    assert_in_pieces(rt, (bytes, ending), &[(name, bytes, ending)], example)
 }

@@ -1,16 +1,16 @@
 -- The reading of the arguments, one after another, gives the command line.
 use Rattle.std.proofs.Common.{ℕ, ◌≡◌, ◌+◌, ◌-◌, ◌<◌, ◌≤◌, not, ◌==◌, zero, suc, List, [], ◌∷◌, ◌++◌, length, drop, Any}
-use Rattle.std.proofs.Common.{Option, Some, None, IfSome, IsSomeAnd, slice_get, refl, ap, sym, ◌∙◌, arith, inr, add-one}
+use Rattle.std.proofs.Common.{Option, Some, None, IfSome, IsSomeAnd, slice_get, refl, ap, sym, ◌∙◌, arith, inr}
 use Rattle.std.proofs.lemmas.List.Sums.{suffix_len_is}
 use Rattle.std.proofs.lemmas.Bool.{not_from_false, not_from_true, false_from_ne_true}
 use Rattle.std.specs.List.{suffix_len}
-use Rattle.std.proofs.lemmas.Option.{slice_get_within, get_or_from_slice_get, IfSome_then}
-use Rattle.std.proofs.Math.Seq.{drop-cons}
+use Rattle.std.proofs.lemmas.Option.{slice_get_within, IfSome_then}
 use Rattle.std.proofs.lemmas.List.{append-nil, append_assoc}
 use Rattle.sum_words.specs.Items.{ByteString}
 use Rattle.memchr.specs.Find.{Passes, Nowhere, is_byte}
 use Rattle.sum_words.specs.CommandLines.{last_part, NeedsMemory}
-use Rattle.sum_words.specs.refinement.Arguments.{ArgumentIs, WordsAre, IsLonger}
+use Rattle.sum_words.proofs.WordBytesLemmas.{drop_at_none, drop_at_some}
+use Rattle.sum_words.specs.refinement.CommandLine.{ArgumentIs, IsLonger}
 
 -- ---- the last part of a path
 
@@ -25,20 +25,7 @@ last_part-from path n fits none slash =
     let cut : length path - suffix_len (λ x. not (x == 47)) path ≡ n = omega (arith, behind, fits) in
     rw cut refl
 
--- ---- an argument at its place
-
--- if nothing is at a place, nothing is from there on
-pub drop_at_none : {X : Type 0} (xs : List X) (p : ℕ) → slice_get xs p ≡ None → drop p xs ≡ []
-drop_at_none [] zero h = refl
-drop_at_none [] (suc p) h = refl
-drop_at_none (x ∷ xs) zero h = cc
-drop_at_none (x ∷ xs) (suc p) h = drop_at_none xs p h
-
--- what is at a place is the first from there on
-pub drop_at_some : {X : Type 0} {x : X} (xs : List X) (p : ℕ) → slice_get xs p ≡ Some x
-    → drop p xs ≡ x ∷ drop (p + 1) xs
-drop_at_some {x = x} xs p h =
-    rw (drop-cons xs p x (slice_get_within xs p x h), get_or_from_slice_get xs p x x h, add-one) refl
+-- ---- arguments at their places, one after another
 
 -- there is an argument at a place
 abbrev pub HasArgument : Option (List ByteString) → ℕ → Type 0
@@ -51,36 +38,35 @@ has_argument known first place word h le =
     IfSome_then known h (λ all at. omega (arith, slice_get_within all place word at, le))
 
 -- a long argument is one of them
-longer : (all : List ByteString) (place : ℕ) → IsSomeAnd (slice_get all place) (λ a. 4096 < length a)
+longer_is_one : (all : List ByteString) (place : ℕ) → IsSomeAnd (slice_get all place) (λ a. 4096 < length a)
     → Any (λ a. 4096 < length a) all
-longer [] zero h = absurd h
-longer [] (suc place) h = absurd h
-longer (a ∷ all) zero h = (0, a, omega arith, refl, h)
-longer (a ∷ all) (suc place) h =
-    let (k, x, less, at, long) = longer all place h in (suc k, x, omega (arith, less), at, long)
+longer_is_one [] zero h = absurd h
+longer_is_one [] (suc place) h = absurd h
+longer_is_one (a ∷ all) zero h = (0, a, omega arith, refl, h)
+longer_is_one (a ∷ all) (suc place) h =
+    let (k, x, less, at, long) = longer_is_one all place h in (suc k, x, omega (arith, less), at, long)
 
 pub longer_unread : (known : Option (List ByteString)) (place : ℕ) → IsLonger known place 4096
     → IfSome known NeedsMemory
 longer_unread None place h = tt
-longer_unread (Some all) place h = inr (longer all place h)
-
--- ---- the words, one after another
+longer_unread (Some all) place h = inr (longer_is_one all place h)
 
 -- the words are the arguments from the first place up to another
-abbrev pub WordsUpTo : Option (List ByteString) → ℕ → ℕ → List ByteString → Type 0
-WordsUpTo known first place words = IfSome known (λ all. drop first all ≡ words ++ drop place all)
+abbrev pub HasWordsUpTo : Option (List ByteString) → ℕ → ℕ → List ByteString → Type 0
+HasWordsUpTo known first place words = IfSome known (λ all. drop first all ≡ words ++ drop place all)
 
 -- one more word was read
 pub words_more : (known : Option (List ByteString)) (first place : ℕ) (words : List ByteString) (word : ByteString)
-    → WordsUpTo known first place words → ArgumentIs known place (Some word)
-    → WordsUpTo known first (place + 1) (words ++ word ∷ [])
+    → HasWordsUpTo known first place words → ArgumentIs known place (Some word)
+    → HasWordsUpTo known first (place + 1) (words ++ word ∷ [])
 words_more None first place words word w h = tt
 words_more (Some all) first place words word w h =
     w ∙ rw (drop_at_some all place h, ← append_assoc words (word ∷ []) (drop (place + 1) all)) refl
 
 -- all words were read
 pub words_all : (known : Option (List ByteString)) (first place : ℕ) (words : List ByteString)
-    → WordsUpTo known first place words → ArgumentIs known place None → WordsAre known first words
+    → HasWordsUpTo known first place words → ArgumentIs known place None
+    → IfSome known (λ all. words ≡ drop first all)
 words_all None first place words w h = tt
 words_all (Some all) first place words w h =
     sym (w ∙ ap (λ l. words ++ l) (drop_at_none all place h) ∙ append-nil words)

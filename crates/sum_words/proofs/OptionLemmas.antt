@@ -3,7 +3,7 @@ use Rattle.std.proofs.Common.{rules, ◌≡◌, ◌==◌, ◌&&◌, Bool, true, 
 use Rattle.std.proofs.Common.{None, refl, ap, if◌then◌else◌, filter, find, bytes_eq}
 use Rattle.std.specs.List.{starts_with}
 use Rattle.sum_words.specs.Tools.{Tool}
-use Rattle.sum_words.specs.Items.{ByteString, full_name, all_flags, flags_of, has_option, the_one, name_or_fault}
+use Rattle.sum_words.specs.Items.{ByteString, full_name, all_flags, flags_of, has_option, only_or_fault, name_or_fault}
 
 -- what passes two tests, one after the other, passes both
 filter_twice : {X : Type 0} (p q : X → Bool) (xs : List X) → filter p (filter q xs) ≡ filter (λ x. q x && p x) xs
@@ -21,6 +21,6 @@ filter_twice p q (x ∷ xs) = elim (q x) as (λ b. filter p (if b then x ∷ fil
 -- a name that no option has in full means the only one that begins with it
 pub name_begun : (t : Tool) (name : ByteString) → find (λ flag. bytes_eq name (full_name flag)) (flags_of t) ≡ None
     → name_or_fault t name
-    ≡ the_one name (filter (λ flag. has_option t flag && starts_with ◌==◌ (full_name flag) name) all_flags)
+    ≡ only_or_fault name (filter (λ flag. has_option t flag && starts_with ◌==◌ (full_name flag) name) all_flags)
 unfolding name_or_fault
 name_begun = search rules

@@ -8,6 +8,6 @@ unfolding tool_called
 called_by_name = search rules
 
 -- so the tool that is called by a word, and no other, has this name
-pub named : (word : List ℕ) (r : Option Tool) → r ≡ tool_called word → IfSome r (λ tool. name_of tool ≡ word)
+pub only_called_tool : (word : List ℕ) (r : Option Tool) → r ≡ tool_called word → IfSome r (λ tool. name_of tool ≡ word)
     → (tool : Tool) → (r ≡ Some tool) ↔ (name_of tool ≡ word)
-named word r e is tool = (λ h. rw h at is, λ h. e ∙ rw (← h) (called_by_name tool))
+only_called_tool word r e is tool = (λ h. rw h at is, λ h. e ∙ rw (← h) (called_by_name tool))

@@ -1,4 +1,4 @@
--- What a command line asks for, by the list of arguments, of which the first is the program's name.
+-- What a command line asks for. It is a list of arguments, and the first of them is the program's name.
 use Rattle.std.specs.Prelude.{◌<◌, ◌⊎◌, ◌==◌, List, Any, length, drop, slice_get}
 use Rattle.std.specs.Prelude.{Option, is_some, if◌then◌else◌, option_and_then}
 use Rattle.std.specs.List.{after_last}
@@ -15,7 +15,7 @@ pub data CommandLineValue : Type 0 where
   unknown_tool : CommandLineValue
   invoke : Tool → List ByteString → CommandLineValue
 
--- the tool and its words: the tool is named by the last part of the program's name, or else by the next argument
+-- the tool and its words: the last part of the program's name is a tool's name, or else the next argument names it
 abbrev pub tool_and_words : List ByteString → Option Tool × List ByteString
 tool_and_words all = let called = option_and_then (λ name. tool_called (last_part name)) (slice_get all 0) in
     if is_some called then (called, drop 1 all) else (option_and_then tool_called (slice_get all 1), drop 2 all)
@@ -24,6 +24,6 @@ tool_and_words all = let called = option_and_then (λ name. tool_called (last_pa
 abbrev pub command_line : List ByteString → CommandLineValue
 command_line all = option_map_or (λ tool. invoke tool (tool_and_words all).1) (tool_and_words all).0 unknown_tool
 
--- memory is needed: for a word of the tool, or for an argument that is longer than a page
+-- memory is needed: for an argument after the tool's place, or for one that is longer than a page
 abbrev pub NeedsMemory : List ByteString → Type 0
 NeedsMemory all = (0 < length (tool_and_words all).1) ⊎ Any (λ argument. 4096 < length argument) all

@@ -1,4 +1,4 @@
--- The items of a tool's words: options, values of --length, operands, and at most one fault, at the end.
+-- The items of a tool's words: options, values of --length, operands and a fault. No item follows a fault.
 use Prim.Native.String.{String}
 use denote.Enum.Bare.{sameb}
 use Rattle.std.specs.Prelude.{ℕ, ◌+◌, ◌==◌, ◌&&◌, ◌||◌, not, Bool, List, [], ◌∷◌, ◌++◌, map, drop}
@@ -80,20 +80,20 @@ pub data NextWord : Type 0 where
 abbrev pub name_part : ByteString → ByteString
 name_part text = before_first (λ b. b == byte "=") text
 
--- its value: after that '=', if there is one
+-- a long option's value: what follows its first '=', if there is one
 abbrev pub value_part : ByteString → Option ByteString
 value_part text = option_map (λ i. drop (i + 1) text) (position (λ b. b == byte "=") text)
 
 -- the only one of these options, or the fault of a name that begins none or several
-abbrev pub the_one : ByteString → List Flag → Result Flag WordFaultValue
-the_one name [] = Err (unknown_long name)
-the_one name (flag ∷ []) = Ok flag
-the_one name several = Err (ambiguous_long name)
+abbrev pub only_or_fault : ByteString → List Flag → Result Flag WordFaultValue
+only_or_fault name [] = Err (unknown_long name)
+only_or_fault name (flag ∷ []) = Ok flag
+only_or_fault name several = Err (ambiguous_long name)
 
 -- the option that a name means: the one of this full name, else the only one whose full name begins with it
 unfoldable pub name_or_fault : Tool → ByteString → Result Flag WordFaultValue
 name_or_fault t name = option_map_or (λ flag. Ok flag) (find (λ flag. bytes_eq name (full_name flag)) (flags_of t))
-    (the_one name (filter (λ flag. starts_with ◌==◌ (full_name flag) name) (flags_of t)))
+    (only_or_fault name (filter (λ flag. starts_with ◌==◌ (full_name flag) name) (flags_of t)))
 
 -- the items of a long option, and how the next word is read
 abbrev pub long_option : Result Flag WordFaultValue → Option ByteString → List ItemValue × NextWord
@@ -106,7 +106,7 @@ long_option (Ok flag) (Some value) = if takes_value flag then (length_value valu
 unfoldable pub option_of_letter : Tool → ℕ → Option Flag
 option_of_letter t c = find (λ flag. bytes_eq (row_of flag).letter (c ∷ [])) (flags_of t)
 
--- an option in a cluster that takes a value: the rest of the cluster is the value, if any is left
+-- an option in a cluster that takes a value: the rest of the cluster, or the next word if nothing is left
 abbrev pub attached_value : List ℕ → List ItemValue × NextWord
 attached_value [] = ([], a_value Short)
 attached_value cs = (length_value (encode_utf8_all cs) ∷ [], a_word)
@@ -114,12 +114,11 @@ attached_value cs = (length_value (encode_utf8_all cs) ∷ [], a_word)
 -- the items of a cluster, letter by letter, and how the next word is read
 abbrev pub cluster : Tool → List ℕ → List ItemValue × NextWord
 cluster t [] = ([], a_word)
-cluster t (c ∷ cs) = let rest = cluster t cs in elim (option_of_letter t c) [
-  | Some flag ↦ if takes_value flag then attached_value cs else (option flag ∷ rest.0, rest.1)
-  | None ↦ (fault (unknown_short c) ∷ [], no_word)
-]
+cluster t (c ∷ cs) = let rest = cluster t cs in option_map_or (λ flag.
+    if takes_value flag then attached_value cs else (option flag ∷ rest.0, rest.1))
+    (option_of_letter t c) (fault (unknown_short c) ∷ [], no_word)
 
--- whether a word begins with a dash and goes on
+-- whether a word begins with a dash and isn't a dash alone
 abbrev pub is_option_word : ByteString → Bool
 is_option_word word = starts_with ◌==◌ word (codes "-") && not (bytes_eq word (codes "-"))
 
@@ -141,12 +140,15 @@ items_from t (a_value spelling) (w ∷ ws) = length_value w ∷ items_from t a_w
 
 -- the option of an item, if it is one
 abbrev pub option_in : ItemValue → Option Flag
-option_in = elim [ option flag ↦ Some flag | item ↦ None ]
+option_in (option flag) = Some flag
+option_in other = None
 
 -- the value of an item, if it is one
 abbrev pub value_in : ItemValue → Option ByteString
-value_in = elim [ length_value value ↦ Some value | item ↦ None ]
+value_in (length_value value) = Some value
+value_in other = None
 
 -- the operand of an item, if it is one
 abbrev pub operand_in : ItemValue → Option ByteString
-operand_in = elim [ operand word ↦ Some word | item ↦ None ]
+operand_in (operand word) = Some word
+operand_in other = None

@@ -4,24 +4,24 @@ use Rattle.std.specs.Prelude.{◌&&◌, ◌||◌, not, Bool, List, [], ◌∷◌
 use Rattle.std.specs.Prelude.{Err, if◌then◌else◌, unwrap_or, option_map, filter, find, bytes_eq, filter_map}
 use Rattle.std.specs.List.{last_or, list_any}
 use Rattle.std.specs.Option.{option_transpose, option_map_or}
+use Rattle.std.specs.Result.{result_map_both}
 use Rattle.std.specs.Str.{all_ascii_digits}
 use Rattle.std.specs.Str.Parse.{digits_value}
 use Rattle.sum_words.specs.Tools.{Algos, Tool, algos_of}
 use Rattle.digest_kinds.specs.declared.algo.Algos.TheVariants.{One, Any}
+use Rattle.digest_kinds.specs.declared.kind.LengthFault.{LengthFault}
 use Rattle.digest_kinds.specs.declared.kind.LengthFault.TheVariants.{TooLong, NotBytes}
 use Rattle.digest_kinds.specs.Kinds.{KindValue, full_kind, blake2b_of_bits}
 pub use Rattle.sum_lines.specs.declared.writing.put_line.Mode.{Mode}
 use Rattle.sum_lines.specs.declared.writing.put_line.Style.{Style}
 pub use Rattle.sum_engine.specs.declared.settings.Report.{Report}
-use Rattle.sum_words.specs.Items.{Flag, ByteString, ItemValue, option, fault, a_word}
-use Rattle.sum_words.specs.Items.{items_from, option_in, value_in, operand_in}
+use Rattle.sum_words.specs.Items.{Flag, ByteString, ItemValue, option, fault, a_word, items_from, option_in, value_in, operand_in}
 use Rattle.sum_words.specs.contracts.parsing.options.Flag.{the_type}
 pub use Rattle.sum_words.specs.declared.parsing.request.Request.{Request}
 pub use Rattle.sum_words.specs.declared.parsing.request.Request.TheVariants.{Generate, Check, Help, Version}
-use Rattle.sum_words.specs.WordFaults.{WordFaultValue, length_invalid, length_not_bytes, tag_with_text}
-use Rattle.sum_words.specs.WordFaults.{zero_with_check, tag_with_check, mode_with_check, ignore_without_check}
-use Rattle.sum_words.specs.WordFaults.{status_without_check, warn_without_check, quiet_without_check}
-use Rattle.sum_words.specs.WordFaults.{strict_without_check, check_needed}
+use Rattle.sum_words.specs.WordFaults.{WordFaultValue, length_invalid, length_not_bytes, tag_with_text, check_needed}
+use Rattle.sum_words.specs.WordFaults.{zero_with_check, tag_with_check, ignore_without_check, status_without_check}
+use Rattle.sum_words.specs.WordFaults.{mode_with_check, warn_without_check, quiet_without_check, strict_without_check}
 use Rattle.sum_lines.specs.declared.writing.put_line.Mode.TheVariants as modes
 use Rattle.sum_engine.specs.declared.settings.Report.TheVariants as reports
 use Rattle.sum_words.specs.declared.parsing.options.Flag.TheVariants as flags
@@ -49,13 +49,17 @@ report_flag reports.Quiet = Some flags.Quiet
 report_flag reports.Warn = Some flags.Warn
 report_flag reports.Status = Some flags.Status
 
+-- the fault of a length value, by what is wrong with the number
+abbrev length_fault : ByteString → LengthFault → WordFaultValue
+length_fault value TooLong = length_invalid value
+length_fault value NotBytes = length_not_bytes value
+
 -- the kind that a length value asks for, which is one or more digits: the number of bits
 abbrev pub length_kind : ByteString → Result KindValue WordFaultValue
 length_kind value = if bytes_eq value [] || not (all_ascii_digits value) then Err (length_invalid value)
-    else elim (blake2b_of_bits (digits_value 10 value))
-    [ Ok kind ↦ Ok kind | Err TooLong ↦ Err (length_invalid value) | Err NotBytes ↦ Err (length_not_bytes value) ]
+    else result_map_both (λ kind. kind) (length_fault value) (blake2b_of_bits (digits_value 10 value))
 
--- the faults of the options in the order in which they count, each after its condition
+-- the faults of several options, each after its condition: the first whose condition holds counts
 abbrev pub faults : List Flag → List (Bool × WordFaultValue)
 faults given = let check = has flags.Check given in
     (has flags.Tag given && is_last flags.Text mode_flags given, tag_with_text)
@@ -86,9 +90,11 @@ generation (One algo) kind given operands =
     let style : Style = record { mode = mode_of given; zero = has flags.Zero given } in
     Ok (Generate (record { kind = unwrap_or kind (full_kind algo); style = style }) operands)
 
--- the first of these faults, or what the options ask for
-abbrev pub request_or_fault : Algos → Option KindValue → List Flag → List ByteString → Result Request WordFaultValue
-request_or_fault algos kind given operands =
+-- the fault of the length, or the first of those faults, or what the options ask for
+abbrev pub request_or_fault :
+    Algos → Result (Option KindValue) WordFaultValue → List Flag → List ByteString → Result Request WordFaultValue
+request_or_fault algos (Err f) given operands = Err f
+request_or_fault algos (Ok kind) given operands =
     option_map_or Err (option_map (λ row. row.1) (find (λ row. row.0) (faults given)))
     (if not (has flags.Check given) then generation algos kind given operands
     else Ok (Check (record {
@@ -106,13 +112,11 @@ early_request (option flags.Help ∷ xs) = Some (Ok Help)
 early_request (option flags.Version ∷ xs) = Some (Ok Version)
 early_request (x ∷ xs) = early_request xs
 
--- what a tool's items ask for; the last value of --length counts, and its fault precedes those of the options
+-- what a tool's items ask for: the last value of --length counts, and its fault precedes those of the options
 abbrev pub request_of_items : Tool → List ItemValue → Result Request WordFaultValue
 request_of_items t xs = let kind = option_transpose (option_map length_kind (last_or None (filter_map value_in xs))) in
-    unwrap_or (early_request xs) (elim kind [
-      | Ok kind ↦ request_or_fault (algos_of t) kind (filter_map option_in xs) (filter_map operand_in xs)
-      | Err f ↦ Err f
-    ])
+    unwrap_or (early_request xs)
+    (request_or_fault (algos_of t) kind (filter_map option_in xs) (filter_map operand_in xs))
 
 -- what a tool's words ask for
 abbrev pub request : Tool → List ByteString → Result Request WordFaultValue

@@ -1,5 +1,4 @@
--- The texts that the program itself writes: of faults, help and version, and the lines for an unknown tool, for words
--- that could not be read and for a stop.
+-- The texts that need no file: faults of words, help and version, and the lines of the program itself.
 use Rattle.std.specs.Prelude.{[], ◌-◌, ◌++◌, codes, flat_map, if◌then◌else◌, length, replicate, bytes_eq}
 use Rattle.std.specs.Str.{byte}
 use Rattle.sum_words.specs.Tools.{Algos, Tool, name_of, algos_of}
@@ -10,7 +9,7 @@ use Rattle.sum_engine.specs.declared.stop.Stop.TheVariants.{Memory, Write}
 use Rattle.sum_words.specs.Items.{Flag, ByteString, row_of, full_name, takes_value, flags_of}
 use Rattle.sum_words.specs.WordFaults.{WordFaultValue, wording}
 
--- the two lines for a fault
+-- the two lines for a fault of words
 abbrev pub fault_lines : Tool → WordFaultValue → ByteString
 fault_lines t f =
     name_of t ++ codes ": " ++ wording f ++ codes "\nTry '" ++ name_of t ++ codes " --help' for more information.\n"
@@ -20,7 +19,7 @@ abbrev pub purpose : Algos → ByteString
 purpose (One algo) = codes "Print or check " ++ tag algo ++ codes " checksums."
 purpose Any = codes "Check checksums of tagged lines."
 
--- an option's letter in the help, or as many spaces
+-- an option's letter in the help, or as many spaces if it has none
 abbrev pub letter_column : Flag → ByteString
 letter_column flag =
     if bytes_eq (row_of flag).letter [] then codes "      " else codes "  -" ++ (row_of flag).letter ++ codes ", "

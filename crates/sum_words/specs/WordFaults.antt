@@ -1,21 +1,22 @@
 -- What may be wrong with the words of a command line, and how it is said.
-use Rattle.std.specs.Prelude.{ℕ, List, ◌++◌, codes, encode_utf8}
+use Rattle.std.specs.Prelude.{ℕ, ◌++◌, codes, encode_utf8}
+use Rattle.digest_kinds.specs.Basics.{ByteString}
 use Rattle.sum_lines.specs.Escape.{escape}
 use Rattle.sum_words.specs.declared.parsing.options.Spelling.{Spelling}
 use Rattle.sum_words.specs.declared.parsing.options.Spelling.TheVariants.{Long, Short}
 
 -- a fault, with what its text shows: an option's name (typed or full), how it was written, a character, a value, a word
 pub data WordFaultValue : Type 0 where
-  unknown_long ambiguous_long value_not_allowed : List ℕ → WordFaultValue
+  unknown_long ambiguous_long value_not_allowed : ByteString → WordFaultValue
   value_missing : Spelling → WordFaultValue
   unknown_short : ℕ → WordFaultValue
-  length_invalid length_not_bytes not_text : List ℕ → WordFaultValue
+  length_invalid length_not_bytes not_text : ByteString → WordFaultValue
   tag_with_text zero_with_check tag_with_check mode_with_check : WordFaultValue
   ignore_without_check status_without_check warn_without_check quiet_without_check : WordFaultValue
   strict_without_check check_needed : WordFaultValue
 
 -- the text of a fault, in which what was typed is escaped as names are
-abbrev pub wording : WordFaultValue → List ℕ
+abbrev pub wording : WordFaultValue → ByteString
 wording (unknown_long name) = codes "unrecognized option '--" ++ escape name ++ codes "'"
 wording (ambiguous_long name) = codes "option '--" ++ escape name ++ codes "' is ambiguous"
 wording (value_not_allowed name) = codes "option '--" ++ name ++ codes "' doesn't allow an argument"

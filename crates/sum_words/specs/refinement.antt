@@ -1,6 +1,4 @@
--- Relates the code's values to those of the definitions. The contracts of `run` and of the program reach little of it;
--- the contracts of some other public calls name more.
+-- How the code's values stand for those of the definitions. The headline and the program's contract reach none of it.
 pub mod ItemIterator
 pub mod OptionScan
-pub mod Arguments
-pub mod WordBytes
+pub mod CommandLine

@@ -1,6 +1,7 @@
 //! The arguments of the process.
-ghost use Rattle.std.specs.Prelude.{◌≡◌, ◌≤◌, ℕ, List, Option, None, IfOk, length, map};
-ghost use Rattle.sum_words.specs.refinement.Arguments.{Fills};
+ghost use Rattle.std.specs.Prelude.{◌≡◌, ◌≤◌, List, Option, None, IfOk, length, map};
+ghost use Rattle.digest_kinds.specs.Basics.{ByteString};
+ghost use Rattle.sum_words.specs.Arguments.{Fills};
 
 use std::env::FillError;
 use std::marker::Model;
@@ -9,18 +10,18 @@ use std::rt::Env;
 /// A list of arguments, the name by which the program was called first.
 pub trait Arguments {
     /// The arguments, if they are known.
-    ghost known: { Self → Option (List (List ℕ)) } = { λ _. None };
+    ghost known: { Self → Option (List ByteString) } = { λ _. None };
 
     /// Copies the argument at this place, counted from 0, to the front of the buffer, and returns its length.
-    /// `FillError::NotPresent` past the last argument; `FillError::TooLong` if the argument is longer than the buffer.
+    /// `FillError::NotPresent` past the last argument. `FillError::TooLong` if the argument is longer than the buffer.
     fn fill(&self, place: usize, buffer: &mut [u8]) -> Result<usize, FillError>
         ensures count { IfOk result (λ n. n ≤ length buffer.new) }
-        // If the arguments are known: the buffer starts with this one, or the error is the right one.
+        // If the arguments are known: the buffer starts with this one, or the error says why it doesn't.
         ensures bytes { Fills (known self.now) place buffer.new result };
 }
 
-/// The arguments that the system gives. They aren't known to contracts.
-#[derive(Drop)]
+/// The arguments that the system gives. Contracts don't know them.
+#[derive(Debug, Drop)]
 pub struct SystemArguments<R> {
     rt: R,
 }
@@ -38,16 +39,17 @@ impl<R: Env> Arguments for SystemArguments<R> {
     }
 }
 
-/// A list of arguments in memory, known to contracts.
+/// A list of arguments in memory. Contracts know it.
 #[derive(Debug, Drop)]
 pub struct ToldArguments<'a> {
     arguments: &'a [&'a [u8]],
 }
 
 impl<'a> Model for ToldArguments<'a> {
-    ghost use Rattle.std.specs.Prelude.{List, ℕ, map};
+    ghost use Rattle.std.specs.Prelude.{List, map};
+    ghost use Rattle.digest_kinds.specs.Basics.{ByteString};
 
-    ghost Value = { List (List ℕ) };
+    ghost Value = { List ByteString };
 
     ghost view = { λ s. map (λ a. a.now) s.arguments.now };
 }

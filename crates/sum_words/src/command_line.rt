@@ -1,8 +1,9 @@
 //! The command line: which tool is asked for, and on which words.
-ghost use Rattle.std.specs.Prelude.{◌≡◌, ◌≤◌, ◌<◌, ◌*◌, vec_len, take, length, slice_get, IfOk, IfSome, OnOk, OnErr};
+ghost use Rattle.std.specs.Prelude.{◌≡◌, ◌≤◌, ◌<◌, ◌*◌, vec_len, take, drop, length, slice_get};
+ghost use Rattle.std.specs.Prelude.{IfOk, IfSome, OnOk, OnErr};
 ghost use Rattle.std.specs.Option.{option_map, option_and_then};
 ghost use Rattle.sum_words.specs.Tools.{tool_called};
-ghost use Rattle.sum_words.specs.refinement.Arguments.{ArgumentIs, WordsAre, IsLonger, command_line_value};
+ghost use Rattle.sum_words.specs.refinement.CommandLine.{ArgumentIs, IsLonger, command_line_value};
 ghost use Rattle.sum_words.specs.CommandLines.{last_part, command_line, NeedsMemory};
 
 use crate::arguments::Arguments;
@@ -13,7 +14,7 @@ use std::alloc::{AllocError, Allocator};
 use std::env::FillError;
 use thiserror::Error;
 
-/// The longest argument that is read without taking memory. A page costs a short run the least.
+// The longest argument that is read without taking memory. Larger and smaller sizes made short runs slower.
 const PAGE: usize = 4096;
 
 /// The words could not be read: memory was refused.
@@ -24,15 +25,17 @@ pub struct NotRead;
 /// What a command line asks for.
 #[derive(Debug, Drop)]
 pub enum CommandLine<A: Allocator> {
-    /// A missing or unknown tool.
+    /// No argument names a tool.
     UnknownTool,
-    /// This tool, on these words.
+    /// A tool on its words.
     Invoke(Tool, Words<A>),
 }
 
-/// Reads the command line. If the last part of the name by which the program was called is a tool's name, it names the
-/// tool; else the first word does. `NotRead` if memory is refused. Memory is needed only if a word follows the tool's
-/// name, known or not, or if an argument is longer than a page.
+/// Reads the command line. The tool is named by the last part of the program's name, as in `/bin/md5sum`. If that is no
+/// tool's name, the next argument names it. The arguments after the tool's place are its words.
+///
+/// `NotRead` if memory is refused. Memory is needed only if an argument follows the tool's place, or if one is longer
+/// than 4,096 bytes.
 pub fn read_command_line<A: Allocator + Copy, G: Arguments>(
     alloc: A,
     arguments: &G,
@@ -40,7 +43,7 @@ pub fn read_command_line<A: Allocator + Copy, G: Arguments>(
     // If the arguments are known: what they ask for.
     ensures line { IfOk result (λ line. IfSome (G.known arguments.now) (λ all.
         command_line all ≡ command_line_value line)) }
-    // If the arguments are known: memory is needed.
+    // If the arguments are known: they need memory.
     ensures not_read { OnErr result (IfSome (G.known arguments.now) NeedsMemory) }
 {
     let mut room = Room {
@@ -68,7 +71,7 @@ struct Room<A: Allocator> {
 }
 
 impl<A: Allocator> Room<A> {
-    // The argument at this place; `None` past the last.
+    // The argument at this place. `None` past the last.
     fn argument<G: Arguments>(
         &mut self,
         arguments: &G,
@@ -90,7 +93,7 @@ impl<A: Allocator> Room<A> {
     }
 }
 
-// Copies the argument at this place to the front of the vector, and returns its length; `None` past the last.
+// Copies the argument at this place to the front of the vector, and returns its length. `None` past the last.
 fn fill_growing<A: Allocator, G: Arguments>(
     arguments: &G,
     place: usize,
@@ -140,7 +143,7 @@ fn tool_called_by_name<A: Allocator, G: Arguments>(
     Ok(path.and_then(|path| Tool::of_name(last_part(path))))
 }
 
-// What follows the last slash of a path; all of it if there is none.
+// What follows the last slash of a path. All of the path if there is no slash.
 fn last_part(path: &[u8]) -> &[u8]
     ensures { result.now ≡ last_part path.now }
 {
@@ -173,7 +176,7 @@ fn words_from<A: Allocator + Copy, G: Arguments>(
     room: &mut Room<A>,
 ) -> Result<Words<A>, NotRead>
     requires { first < usize.MAX }
-    ensures words { IfOk result (λ words. WordsAre (G.known arguments.now) first words) }
+    ensures words { IfOk result (λ words. IfSome (G.known arguments.now) (λ all. words ≡ drop first all)) }
     ensures not_read { OnErr result (IfSome (G.known arguments.now) (λ all. first < length all)) }
 {
     let mut words = Words::new(alloc);

@@ -1,11 +1,11 @@
-//! Laws of the definitions: each is the contract of a function that does nothing.
+//! The law of plain words. It is the contract of a function that does nothing.
 ghost use Rattle.std.specs.Prelude.{◌≡◌, not, List, ◌∷◌, ◌++◌, map, codes};
 ghost use Rattle.std.specs.List.{AllPass};
 ghost use Rattle.sum_words.specs.declared.tool.Tool.{Tool};
 ghost use Rattle.sum_words.specs.Items.{ByteString, operand, a_word, is_option_word, items_from};
 
-/// The first words, as long as each is `-` or doesn't begin with a dash, are operands in their order, whatever follows
-/// them; and after `--` every word is one.
+/// A word is plain if it is `-` or doesn't begin with a dash. The plain words in front are operands in their order,
+/// whatever follows them. After `--` every word is an operand.
 #[tactic(auto, using(crate::proofs::PlainWordLemmas::plain_words))]
 pub fn plain_words_are_operands()
     ensures plain { (t : Tool) (words more : List ByteString) → AllPass (λ word. not (is_option_word word)) words →

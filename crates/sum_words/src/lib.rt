@@ -1,5 +1,7 @@
-//! The words of a command line: the tools, the command line, what its words ask for, and the texts of
-//! faults, help, version, an unknown tool and a stop.
+//! What a command line asks for: the tool, its settings and its operands.
+//!
+//! What the arguments alone decide belongs here, and the texts that need no file, such as help and faults of words. The
+//! crate may call those below it (`digest_kinds`, `sum_lines`, `sum_sources`, `sum_engine`), and opens no file.
 //!
 //! ```rust
 //! let mut words = Words::new(alloc);
@@ -7,9 +9,11 @@
 //! words.add("a.txt")?;
 //! match read_words(Tool::Md5sum, &words) {
 //!     Ok(Request::Generate(settings, operands)) => {
-//!         for name in operands { .. }
+//!         for name in operands {
+//!             put_all(out, name)?;
+//!         }
 //!     }
-//!     Ok(_) => { .. }
+//!     Ok(_) => {}
 //!     Err(fault) => put_fault(err, Tool::Md5sum, &fault)?,
 //! }
 //! ```
@@ -26,9 +30,10 @@ mod words;
 pub use arguments::{Arguments, SystemArguments, ToldArguments};
 pub use command_line::{CommandLine, NotRead, read_command_line};
 pub use messages::help::{put_help, put_version};
-pub use messages::word_faults::{WordFault, put_fault, put_not_read, put_stop, put_unknown};
+pub use messages::program_lines::{put_not_read, put_stop, put_unknown};
+pub use messages::word_faults::{WordFault, put_fault};
 pub use parsing::items::{Item, Items, Operands};
 pub use parsing::options::{Flag, Spelling};
 pub use parsing::request::{Request, read_words};
 pub use tool::{Tool, UnknownTool};
-pub use words::{LentWords, NoRoom, Words};
+pub use words::{NoRoom, Words, WordsIter};

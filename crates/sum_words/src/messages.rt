@@ -1,4 +1,5 @@
-//! The texts that the program itself writes.
+//! The texts that need no file: help and version, faults of words, and the lines of the program itself.
 
 pub(crate) mod help;
+pub(crate) mod program_lines;
 pub(crate) mod word_faults;

@@ -1,4 +1,4 @@
-//! What the words ask for.
+//! From words to a request: the options, the items of the words, and what these ask for.
 
 pub(crate) mod items;
 pub(crate) mod options;

@@ -21,33 +21,34 @@ pub enum Tool {
     Anysum,
 }
 
-static TOOLS: [Tool; 8] = [
-    Tool::Md5sum,
-    Tool::Sha1sum,
-    Tool::Sha224sum,
-    Tool::Sha256sum,
-    Tool::Sha384sum,
-    Tool::Sha512sum,
-    Tool::B2sum,
-    Tool::Anysum,
-];
-
 impl Tool {
-    /// The tool of this name; `None` if the word names no tool.
+    /// All tools.
+    pub const ALL: [Tool; 8] = [
+        Tool::Md5sum,
+        Tool::Sha1sum,
+        Tool::Sha224sum,
+        Tool::Sha256sum,
+        Tool::Sha384sum,
+        Tool::Sha512sum,
+        Tool::B2sum,
+        Tool::Anysum,
+    ];
+
+    /// The tool of this name. `None` if no tool has it.
     pub fn from_word(word: &str) -> Option<Tool>
         ensures { (tool : Tool) → (result ≡ Some tool) ↔ (name_of tool ≡ word.now) }
     {
         Tool::of_name(word.as_bytes())
     }
 
-    /// The tool whose name these bytes are; `None` if they are no tool's.
+    /// The tool whose name these bytes are. `None` if no tool has this name.
     #[tactic(auto, unfolding(crate::specs::Tools::tool_called))]
     pub fn of_name(name: &[u8]) -> Option<Tool>
         ensures tool { result ≡ tool_called name.now }
         // So the tool's name is this one.
         ensures name { IfSome result (λ tool. name_of tool ≡ name.now) }
     {
-        TOOLS
+        Tool::ALL
             .iter()
             .copied()
             .find(|tool| tool.name().as_bytes() == name)
@@ -77,7 +78,7 @@ impl Tool {
         self.row().0
     }
 
-    /// The algorithms of the tool's digests: one, and any for `anysum`.
+    /// The algorithms of the tool's digests: all for `anysum`, one for each other tool.
     pub fn algos(self) -> Algos
         ensures { result ≡ algos_of self }
     {

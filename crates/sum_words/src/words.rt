@@ -1,25 +1,29 @@
-//! The words of a command line.
-ghost use Rattle.std.specs.Prelude.{◌≡◌, ◌<◌, [], ◌∷◌, ◌++◌, ◌+◌, ◌^◌, OnOk, OnErr, OnSome, length};
+//! Lists of words, and the iterator over one.
+ghost use Rattle.std.specs.Prelude.{◌≡◌, ◌==◌, ◌<◌, [], ◌∷◌, ◌++◌, ◌+◌, ◌^◌, OnOk, OnErr, OnSome, length, drop};
 ghost use Rattle.std.specs.Prelude.{slice_get, slice_index};
+ghost use Rattle.std.specs.Iterator.{item_count};
 ghost use Rattle.std.specs.Option.{option_copied};
-ghost use Rattle.sum_words.specs.refinement.WordBytes.{pieces_cut, CutsAt};
+ghost use Rattle.sum_words.specs.Words.{pieces_cut, CutsAt};
+ghost use Rattle.sum_words.specs.refinement.ItemIterator.{TakesFirst};
 
 use std::alloc::Allocator;
 use std::marker::Model;
 pub use sum_sources::NoRoom;
 
-/// A list of words of any bytes: all of them, and the place where each word ends.
+/// A list of words, seen as a list of byte strings. A word may have any bytes.
 #[derive(Debug, Drop)]
 pub struct Words<A: Allocator> {
+    // The words, one after another.
     bytes: Vec<u8, A>,
+    // The place where each word ends.
     ends: Vec<usize, A>,
 }
 
 impl<A: Allocator> Model for Words<A> {
-    ghost use Rattle.std.specs.Prelude.{List, ℕ};
-    ghost use Rattle.sum_words.specs.refinement.WordBytes.{pieces_cut, CutsAt};
+    ghost use Rattle.std.specs.Prelude.{List};
+    ghost use Rattle.sum_words.specs.Words.{ByteString, pieces_cut, CutsAt};
 
-    ghost Value = { List (List ℕ) };
+    ghost Value = { List ByteString };
 
     ghost view = { λ w. pieces_cut w.bytes.items 0 w.ends.items };
 
@@ -39,7 +43,7 @@ impl<A: Allocator + Copy> Words<A> {
 }
 
 impl<A: Allocator> Words<A> {
-    /// Adds a text at the end. `NoRoom` if memory is refused; the list is then unchanged.
+    /// Adds a text at the end. `NoRoom` if memory is refused. The list is then unchanged.
     pub fn add(&mut self, word: &str) -> Result<(), NoRoom>
         ensures ok { OnOk result (self.new ≡ self.old ++ word.now ∷ []) }
         ensures err { OnErr result (self.new ≡ self.old) }
@@ -47,8 +51,8 @@ impl<A: Allocator> Words<A> {
         self.add_bytes(word.as_bytes())
     }
 
-    /// Adds a word at the end. `NoRoom` if memory is refused; the list is then unchanged.
-    #[tactic(auto, using(crate::proofs::WordBytesLemmas::pushed))]
+    /// Adds a word at the end. `NoRoom` if memory is refused. The list is then unchanged.
+    #[tactic(auto, using(crate::proofs::WordBytesLemmas::pieces))]
     pub fn add_bytes(&mut self, word: &[u8]) -> Result<(), NoRoom>
         ensures ok { OnOk result (self.new ≡ self.old ++ word.now ∷ []) }
         ensures err { OnErr result (self.new ≡ self.old) }
@@ -64,54 +68,75 @@ impl<A: Allocator> Words<A> {
         Ok(())
     }
 
-    /// The word at this place, counted from 0; `None` past the last.
+    /// How many words the list has.
+    #[tactic(auto, using(crate::proofs::WordBytesLemmas::pieces))]
+    pub fn len(&self) -> usize
+        ensures { result ≡ length self.now }
+    {
+        self.ends.len()
+    }
+
+    /// Whether the list has no word.
+    pub fn is_empty(&self) -> bool
+        ensures { result ≡ (length self.now == 0) }
+    {
+        self.len() == 0
+    }
+
+    /// An iterator over the words.
+    pub fn iter(&self) -> WordsIter<'_>
+        ensures { result ≡ self.now }
+    {
+        WordsIter {
+            bytes: self.bytes.as_slice(),
+            ends: self.ends.as_slice(),
+            at: 0,
+        }
+    }
+
+    /// The word at this place, counted from 0. `None` past the last.
     pub fn get(&self, i: usize) -> Option<&[u8]>
         ensures { option_copied result ≡ slice_get self.now i }
     {
-        self.lent().get(i)
-    }
-
-    /// The list, to be read.
-    pub fn lent(&self) -> LentWords<'_>
-        ensures { result ≡ self.now }
-    {
-        LentWords {
-            bytes: self.bytes.as_slice(),
-            ends: self.ends.as_slice(),
-        }
+        piece_at(self.bytes.as_slice(), self.ends.as_slice(), i)
     }
 }
 
-/// A list of words that is lent, whatever its allocator.
+/// An iterator over a list of words, seen as the list of those that remain.
 #[derive(Debug, Drop)]
-pub struct LentWords<'a> {
+pub struct WordsIter<'a> {
     bytes: &'a [u8],
     ends: &'a [usize],
+    at: usize,
 }
 
-impl<'a> Model for LentWords<'a> {
-    ghost use Rattle.std.specs.Prelude.{List, ℕ};
-    ghost use Rattle.sum_words.specs.refinement.WordBytes.{pieces_cut, CutsAt};
+impl<'a> Model for WordsIter<'a> {
+    ghost use Rattle.std.specs.Prelude.{List, drop};
+    ghost use Rattle.sum_words.specs.Words.{ByteString, pieces_cut, CutsAt};
 
-    ghost Value = { List (List ℕ) };
+    ghost Value = { List ByteString };
 
-    ghost view = { λ w. pieces_cut w.bytes.now 0 w.ends.now };
+    ghost view = { λ i. drop i.at (pieces_cut i.bytes.now 0 i.ends.now) };
 
-    ghost invariant = { λ w. CutsAt w.bytes.now 0 w.ends.now };
+    ghost invariant = { λ i. CutsAt i.bytes.now 0 i.ends.now };
 }
 
-impl<'a> LentWords<'a> {
-    /// The word at this place, counted from 0; `None` past the last.
-    pub fn get(&self, i: usize) -> Option<&'a [u8]>
-        ensures word { option_copied result ≡ slice_get self.now i }
-        // So the next place is a `usize`, too.
-        ensures within { OnSome result (i + 1 < 2 ^ 64) }
-    {
-        piece_at(self.bytes, self.ends, i)
+impl<'a> Iterator for WordsIter<'a> {
+    type Item = &'a [u8];
+
+    ghost next_gives = { TakesFirst (λ word. word.now) };
+
+    ghost remaining = { item_count (λ words. words) };
+
+    #[tactic(auto, using(crate::proofs::WordBytesLemmas::drop_at_none, crate::proofs::WordBytesLemmas::drop_at_some))]
+    fn next(&mut self) -> Option<&'a [u8]> {
+        let word = piece_at(self.bytes, self.ends, self.at)?;
+        self.at += 1;
+        Some(word)
     }
 }
 
-// The piece of the bytes at a place; `None` past the last.
+// The piece of the bytes at a place. `None` past the last.
 #[tactic(auto, using(crate::proofs::WordBytesLemmas::piece_read))]
 fn piece_at<'a>(bytes: &'a [u8], ends: &'a [usize], i: usize) -> Option<&'a [u8]>
     requires { CutsAt bytes.now 0 ends.now }

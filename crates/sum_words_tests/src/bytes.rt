@@ -1,14 +1,14 @@
 //! Each byte but NUL, which no argument can hold: as a word, behind one dash and two, behind `--`, and as a length.
-use crate::requests::{asked, assert_operands, generation};
+use crate::requests::{assert_operands, generation, request_of};
 use crate::words::words_and;
 use std::process::Abort;
 use std::test::Fail;
 use sum_words::{Spelling, Tool, WordFault};
 
-// That a word behind those of a line, which have none, is the only operand.
+// Asserts that a word behind those of a line, which have none, is the only operand.
 fn assert_operand(rt: &(impl Abort + AllocGlobal), line: &str, word: &[u8]) -> Result<(), Fail> {
     let words = words_and(rt.alloc(), line, word)?;
-    let (_, operands) = generation(asked(Tool::Md5sum, &words)).ok_or("refused")?;
+    let (_, operands) = generation(request_of(Tool::Md5sum, &words)).ok_or("refused")?;
     assert_operands(rt, line, operands, &[word]);
     Ok(())
 }
@@ -24,7 +24,7 @@ fn operands(rt: HostRuntime) -> Result<(), Fail> {
     Ok(())
 }
 
-// That a word behind those of a line has this fault, or none.
+// Asserts that a word behind those of a line has this fault, or none.
 fn assert_fault(
     rt: &(impl Abort + AllocGlobal),
     line: &str,
@@ -33,7 +33,7 @@ fn assert_fault(
 ) -> Result<(), Fail> {
     let words = words_and(rt.alloc(), line, word)?;
     assert_eq!(rt;
-        asked(Tool::B2sum, &words).err(),
+        request_of(Tool::B2sum, &words).err(),
         want,
         "in {line} {word:?}"
     );

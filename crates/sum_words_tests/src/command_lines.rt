@@ -3,7 +3,7 @@ use std::process::Abort;
 use std::test::Fail;
 use sum_words::{CommandLine, ToldArguments, Tool, read_command_line};
 
-// That these arguments call for this tool, with this word first.
+// Asserts that these arguments call for this tool, with this word first.
 fn assert_asks(
     rt: &(impl Abort + AllocGlobal),
     arguments: &[&[u8]],
@@ -20,7 +20,7 @@ fn assert_asks(
     }
 }
 
-// That these arguments call for an unknown tool.
+// Asserts that these arguments call for an unknown tool.
 fn assert_unknown(rt: &(impl Abort + AllocGlobal), arguments: &[&[u8]]) {
     let line = read_command_line(rt.alloc(), &ToldArguments::new(arguments));
     assert!(rt;

@@ -1,5 +1,5 @@
 //! Faults of command lines, each with its text.
-use crate::requests::asked;
+use crate::requests::request_of;
 use crate::words::{words_and, words_of};
 use std::alloc::Global;
 use std::process::Abort;
@@ -8,7 +8,7 @@ use sum_lines::ToldSink;
 use sum_words::{Request, Tool, WordFault, Words, put_fault, read_words};
 
 // The lines of the fault that words have. Without a contract, so that a test knows no more of them than it sees.
-fn fault_of(tool: Tool, words: &Words<Global>) -> Result<ToldSink<256>, Fail> {
+fn lines_of_fault(tool: Tool, words: &Words<Global>) -> Result<ToldSink<256>, Fail> {
     let mut err = ToldSink::new(256);
     match read_words(tool, words) {
         Ok(_) => return Err(Fail::from("no fault")),
@@ -17,7 +17,7 @@ fn fault_of(tool: Tool, words: &Words<Global>) -> Result<ToldSink<256>, Fail> {
     Ok(err)
 }
 
-// That the words of a line have a fault, of which these are the two lines.
+// Asserts that the words of a line have a fault, of which these are the two lines.
 fn assert_fault(
     rt: &(impl Abort + AllocGlobal),
     tool: Tool,
@@ -30,7 +30,7 @@ fn assert_fault(
         "{name}: {text}\nTry '{name} --help' for more information.\n"
     )?;
     assert_eq!(rt;
-        fault_of(tool, &words)?.bytes(),
+        lines_of_fault(tool, &words)?.bytes(),
         lines.as_bytes(),
         "in {line}"
     );
@@ -80,7 +80,7 @@ fn lengths_of_any_bytes(rt: HostRuntime) -> Result<(), Fail> {
     for line in ["-l", "e -bl", "--length", "-l 8 --len"] {
         let words = words_and(rt.alloc(), line, b"\xff8\\\n")?;
         assert_eq!(rt;
-            fault_of(Tool::B2sum, &words)?.bytes(),
+            lines_of_fault(Tool::B2sum, &words)?.bytes(),
             b"b2sum: invalid length: '\xff8\\\\\\n'\nTry 'b2sum --help' for more information.\n".as_slice(),
             "in {line}"
         );
@@ -103,7 +103,7 @@ fn words_that_are_no_texts(rt: HostRuntime) -> Result<(), Fail> {
         lines.extend_from_slice(shown)?;
         lines.extend_from_slice(b"'\nTry 'b2sum --help' for more information.\n")?;
         assert_eq!(rt;
-            fault_of(Tool::B2sum, &words)?.bytes(),
+            lines_of_fault(Tool::B2sum, &words)?.bytes(),
             lines.as_slice(),
             "of {word:?}"
         );
@@ -116,18 +116,18 @@ fn words_that_are_no_texts(rt: HostRuntime) -> Result<(), Fail> {
 fn first_faults_count(rt: HostRuntime) -> Result<(), Fail> {
     let words = words_and(rt.alloc(), "--foo", b"-\xff")?;
     assert_eq!(rt;
-        asked(Tool::Md5sum, &words).err(),
+        request_of(Tool::Md5sum, &words).err(),
         Some(WordFault::UnknownLong("foo"))
     );
     let mut words = words_and(rt.alloc(), "-l 12 -c", b"-\xff")?;
     words.add("--foo")?;
     words.add("--help")?;
     assert_eq!(rt;
-        asked(Tool::B2sum, &words).err(),
+        request_of(Tool::B2sum, &words).err(),
         Some(WordFault::NotText(b"-\xff"))
     );
     let words = words_and(rt.alloc(), "--version", b"-\xff")?;
-    assert!(rt; matches!(asked(Tool::Md5sum, &words), Ok(Request::Version)));
+    assert!(rt; matches!(request_of(Tool::Md5sum, &words), Ok(Request::Version)));
     Ok(())
 }
 

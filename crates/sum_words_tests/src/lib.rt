@@ -1,5 +1,4 @@
-//! Tests of `sum_words`: worked command lines. What the definitions alone decide of them stands in its
-//! `proofs/Rows.antt`.
+//! Tests of `sum_words`. Its `proofs/WorkedExamples.antt` has what the definitions alone say of some command lines.
 #![tactic(auto)]
 
 #[cfg(test)]
@@ -8,6 +7,8 @@ mod bytes;
 mod command_lines;
 #[cfg(test)]
 mod faults;
+#[cfg(test)]
+mod front_page;
 #[cfg(test)]
 mod requests;
 #[cfg(test)]

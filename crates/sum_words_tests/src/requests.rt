@@ -9,7 +9,7 @@ use sum_lines::{Mode, Style};
 use sum_words::{Operands, Request, Tool, WordFault, Words, read_words};
 
 /// What words ask for. Without a contract, so that a test knows no more of it than it sees.
-pub(crate) fn asked<'a>(
+pub(crate) fn request_of<'a>(
     tool: Tool,
     words: &'a Words<Global>,
 ) -> Result<Request<'a>, WordFault<'a>> {
@@ -18,9 +18,9 @@ pub(crate) fn asked<'a>(
 
 /// The settings and operands of a request for lines.
 pub(crate) fn generation<'a>(
-    asked: Result<Request<'a>, WordFault<'a>>,
+    request: Result<Request<'a>, WordFault<'a>>,
 ) -> Option<(Settings, Operands<'a>)> {
-    match asked {
+    match request {
         Ok(Request::Generate(settings, operands)) => Some((settings, operands)),
         _ => None,
     }
@@ -28,15 +28,15 @@ pub(crate) fn generation<'a>(
 
 // The settings and operands of a request for checking.
 fn checking<'a>(
-    asked: Result<Request<'a>, WordFault<'a>>,
+    request: Result<Request<'a>, WordFault<'a>>,
 ) -> Option<(CheckSettings, Operands<'a>)> {
-    match asked {
+    match request {
         Ok(Request::Check(settings, operands)) => Some((settings, operands)),
         _ => None,
     }
 }
 
-/// That these are the operands of a line.
+/// Asserts that these are the operands of a line.
 pub(crate) fn assert_operands(rt: &impl Abort, line: &str, mut operands: Operands, want: &[&[u8]]) {
     for operand in want {
         assert_eq!(rt; operands.next(), Some(*operand), "in {line}");
@@ -44,7 +44,7 @@ pub(crate) fn assert_operands(rt: &impl Abort, line: &str, mut operands: Operand
     assert_eq!(rt; operands.next(), None, "in {line}");
 }
 
-// That the words of a line ask for lines of this kind and form about one operand.
+// Asserts that the words of a line ask for lines of this kind and form about one operand.
 fn assert_generates(
     rt: &(impl Abort + AllocGlobal),
     (tool, line): (Tool, &str),
@@ -53,7 +53,7 @@ fn assert_generates(
     operand: &str,
 ) -> Result<(), Fail> {
     let words = words_of(rt.alloc(), line)?;
-    let (settings, operands) = generation(asked(tool, &words)).ok_or("refused")?;
+    let (settings, operands) = generation(request_of(tool, &words)).ok_or("refused")?;
     assert_eq!(rt; settings.kind.bits(), bits, "in {line}");
     assert_eq!(rt; settings.style, Style { mode, zero: false }, "in {line}");
     assert_operands(rt, line, operands, &[operand.as_bytes()]);
@@ -72,7 +72,7 @@ fn lines(rt: HostRuntime) -> Result<(), Fail> {
     assert_generates(&rt, full_length, 512, Mode::Text, "e")
 }
 
-// That the words of a line ask for checking with these settings.
+// Asserts that the words of a line ask for checking with these settings.
 fn assert_checks(
     rt: &(impl Abort + AllocGlobal),
     (tool, line): (Tool, &str),
@@ -80,7 +80,7 @@ fn assert_checks(
     operands: &[&[u8]],
 ) -> Result<(), Fail> {
     let words = words_of(rt.alloc(), line)?;
-    let (settings, left) = checking(asked(tool, &words)).ok_or("refused")?;
+    let (settings, left) = checking(request_of(tool, &words)).ok_or("refused")?;
     assert_eq!(rt; settings, want, "in {line}");
     assert_operands(rt, line, left, operands);
     Ok(())
@@ -105,12 +105,12 @@ fn help_and_version(rt: HostRuntime) -> Result<(), Fail> {
     for line in ["--help --foo", "a --hel -l"] {
         let words = words_of(rt.alloc(), line)?;
         assert!(rt;
-            matches!(asked(Tool::B2sum, &words), Ok(Request::Help)),
+            matches!(request_of(Tool::B2sum, &words), Ok(Request::Help)),
             "in {line}"
         );
     }
     let words = words_of(rt.alloc(), "-z --vers --help")?;
-    assert!(rt; matches!(asked(Tool::Md5sum, &words), Ok(Request::Version)));
+    assert!(rt; matches!(request_of(Tool::Md5sum, &words), Ok(Request::Version)));
     Ok(())
 }
 
@@ -118,7 +118,7 @@ fn help_and_version(rt: HostRuntime) -> Result<(), Fail> {
 #[test]
 fn operands_are_any_bytes(rt: HostRuntime) -> Result<(), Fail> {
     let words = words_and(rt.alloc(), " -z a\0b\n \u{e4}", b"r\xe9sum\xe9\n")?;
-    let (settings, operands) = generation(asked(Tool::Md5sum, &words)).ok_or("refused")?;
+    let (settings, operands) = generation(request_of(Tool::Md5sum, &words)).ok_or("refused")?;
     assert_eq!(rt; settings.kind, Kind::of(Algo::Md5));
     assert!(rt; settings.style.zero);
     let want: [&[u8]; 4] = [b"", b"a\0b\n", b"\xc3\xa4", b"r\xe9sum\xe9\n"];
@@ -129,7 +129,7 @@ fn operands_are_any_bytes(rt: HostRuntime) -> Result<(), Fail> {
 #[test]
 fn odd_operand_behind_two_dashes(rt: HostRuntime) -> Result<(), Fail> {
     let words = words_and(rt.alloc(), "-- -b", b"--\xff")?;
-    let (_, operands) = generation(asked(Tool::Md5sum, &words)).ok_or("refused")?;
+    let (_, operands) = generation(request_of(Tool::Md5sum, &words)).ok_or("refused")?;
     assert_operands(&rt, "-- -b", operands, &[b"-b", b"--\xff"]);
     Ok(())
 }

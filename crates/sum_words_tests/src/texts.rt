@@ -17,6 +17,9 @@ fn tools(rt: HostRuntime) -> Result<(), Fail> {
         let shown = format!(in rt.alloc(); "{tool}")?;
         assert_eq!(rt; shown.as_str(), name, "{name}, shown");
     }
+    for tool in Tool::ALL {
+        assert_eq!(rt; Tool::from_word(tool.name()), Some(tool), "of {tool}");
+    }
     for word in ["shasum", "", "md5sum "] {
         assert_eq!(rt; Tool::from_word(word), None, "the word {word}");
         assert_eq!(rt; word.parse::<Tool>(), Err(UnknownTool), "{word}, parsed");

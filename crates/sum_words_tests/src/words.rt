@@ -54,6 +54,35 @@ fn words_of_any_bytes(rt: HostRuntime) -> Result<(), Fail> {
     Ok(())
 }
 
+// How many words there are, and whether there is none. Without a contract, as above.
+fn count_of(words: &Words<Global>) -> (usize, bool) {
+    (words.len(), words.is_empty())
+}
+
+// The words in their order, each with a newline behind it. Without a contract, as above.
+fn lines_of(alloc: Global, words: &Words<Global>) -> Result<Vec<u8>, Fail> {
+    let mut lines = Vec::new(alloc);
+    for word in words.iter() {
+        lines.extend_from_slice(word)?;
+        lines.push(b'\n')?;
+    }
+    Ok(lines)
+}
+
+#[test]
+fn words_in_their_order(rt: HostRuntime) -> Result<(), Fail> {
+    let words = Words::new(rt.alloc());
+    assert_eq!(rt; count_of(&words), (0, true));
+    assert_eq!(rt; lines_of(rt.alloc(), &words)?.as_slice(), b"".as_slice());
+    let words = words_and(rt.alloc(), "-b  a", b"\xff")?;
+    assert_eq!(rt; count_of(&words), (4, false));
+    assert_eq!(rt;
+        lines_of(rt.alloc(), &words)?.as_slice(),
+        b"-b\n\na\n\xff\n".as_slice()
+    );
+    Ok(())
+}
+
 // There is room for a word of any length.
 #[test]
 fn long_words(rt: HostRuntime) -> Result<(), Fail> {

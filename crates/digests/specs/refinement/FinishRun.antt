@@ -15,7 +15,7 @@ abbrev pub tool_stop_line : Option Tool → Stop → ByteString
 tool_stop_line None stop = []
 tool_stop_line (Some tool) stop = stop_line tool stop
 
--- what a run returned once both outputs were flushed: the same; or a write fault, if a flush failed
+-- both outputs are flushed after a run: its outcome stays, or is a write fault if a flush failed
 abbrev pub FlushesBoth : OutputsState → OutputsState → Result ℕ Stop → Result ℕ Stop → Type 0
 FlushesBoth a b (Ok status) (Ok other) = (other ≡ status) × NoneFailed a b
 FlushesBoth a b (Ok status) (Err Write) = OneFailed a b
@@ -26,7 +26,7 @@ FlushesBoth a b (Err stop) r = (r ≡ Err stop) × (b ≡ a)
 abbrev pub KeepsBoth : OutputsState → OutputsState → Type 0
 KeepsBoth a b = Keeps a.out.written b.out.written × Keeps a.err.written b.err.written
 
--- the end of a run that returned this: both outputs are flushed, and then a stop is reported
+-- the end of a run with this outcome: both outputs are flushed, and then a stop is reported
 abbrev pub FinishesRun : (Stop → ByteString) → Result ℕ Stop → OutputsState → OutputsState → ℕ → Type 0
 FinishesRun line answer a b status = (later : Result ℕ Stop) × (between : OutputsState)
     × FlushesBoth a between answer later × KeepsBoth a between × ReportsStop line later between b status

@@ -1,13 +1,13 @@
 -- Relates the messages of the program to their texts.
-use Rattle.sum_words.specs.Items.{ByteString as Bytes}
+use Rattle.sum_words.specs.Items.{ByteString}
 use Rattle.sum_words.specs.Texts.{fault_lines, help, version, stop_line, unknown_tool_line, not_read_line}
-use Rattle.sum_words.specs.refinement.ItemIterator.{fault_of}
+use Rattle.sum_words.specs.refinement.ItemIterator.{word_fault_value}
 use Rattle.digests.specs.declared.messages.Message.{Message}
 use Rattle.digests.specs.declared.messages.Message.TheVariants as texts
 
 -- the text of a message
-abbrev pub message_text : Message → Bytes
-message_text (texts.Fault tool fault) = fault_lines tool (fault_of fault.now)
+abbrev pub message_text : Message → ByteString
+message_text (texts.Fault tool fault) = fault_lines tool (word_fault_value fault.now)
 message_text (texts.Help tool) = help tool
 message_text (texts.Version tool) = version tool
 message_text texts.UnknownTool = unknown_tool_line

@@ -1,4 +1,4 @@
--- Relates the calls of a run to its operands.
+-- Relates a job to what it does with an operand.
 use Rattle.std.specs.Prelude.{ℕ}
 use Rattle.sum_engine.specs.Behavior.{World, Behavior}
 use Rattle.sum_engine.specs.Execution.{OneMore, OneMoreAtMost}
@@ -13,7 +13,7 @@ abbrev pub operand_behavior : Job → ByteString → World → ByteString → Be
 operand_behavior (Generate settings) tool w name = generate_behavior settings tool w name
 operand_behavior (Check settings) tool w name = check_behavior settings tool w name
 
--- how a job that runs out of memory may change the count of refusals
-abbrev pub RefusalsOfJob : Job → ℕ → ℕ → Type 0
-RefusalsOfJob (Generate settings) = OneMore
-RefusalsOfJob (Check settings) = OneMoreAtMost
+-- how the count of refusals may change if a job runs out of memory
+abbrev pub JobAllowsRefusals : Job → ℕ → ℕ → Type 0
+JobAllowsRefusals (Generate settings) = OneMore
+JobAllowsRefusals (Check settings) = OneMoreAtMost

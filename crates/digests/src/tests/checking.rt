@@ -1,5 +1,5 @@
 //! Checking manifests: what the run adds to the reports of one.
-use super::{MIXED, VERDICTS, assert_broken, assert_rows, spelled};
+use super::{MIXED, VERDICTS, assert_broken, assert_examples, spell};
 use std::test::Fail;
 use sum_sources::Fault;
 
@@ -7,7 +7,7 @@ use sum_sources::Fault;
 #[test]
 fn several_manifests(rt: HostRuntime) -> Result<(), Fail> {
     let manifests = [("l8", "$M  a"), ("l9", "junk\n$M  a\n")];
-    let rows = [
+    let examples = [
         (
             "md5sum -c l8 x",
             "a: OK\n",
@@ -22,34 +22,34 @@ fn several_manifests(rt: HostRuntime) -> Result<(), Fail> {
             0,
         ),
     ];
-    assert_rows(&rt, "", &manifests, &rows)
+    assert_examples(&rt, "", &manifests, &examples)
 }
 
 // The reports of the whole lines, then the fault, and no summary.
 #[test]
 fn broken_input(rt: HostRuntime) -> Result<(), Fail> {
-    let manifest = spelled(rt.alloc(), "$M  a\n$M  a")?;
-    let row = (
+    let manifest = spell(rt.alloc(), "$M  a\n$M  a")?;
+    let example = (
         "md5sum -c",
         "a: OK\n",
         "md5sum: standard input: Permission denied\n",
         1,
     );
-    assert_broken(&rt, "f", manifest.as_bytes(), Fault::Denied, row)?;
-    let row = (
+    assert_broken(&rt, "f", manifest.as_bytes(), Fault::Denied, example)?;
+    let example = (
         "md5sum -c l4",
         "a: OK\n",
         "md5sum: l4: Input/output error\n",
         1,
     );
-    assert_broken(&rt, "l4", manifest.as_bytes(), Fault::Other, row)
+    assert_broken(&rt, "l4", manifest.as_bytes(), Fault::Other, example)
 }
 
 // Options reach the checker, and a name with special bytes the files.
 #[test]
 fn settings_and_names(rt: HostRuntime) -> Result<(), Fail> {
     let manifests = [("l", VERDICTS), ("return", "\\$M  a\\rb\n"), ("m", MIXED)];
-    let rows = [
+    let examples = [
         (
             "md5sum -c --ignore-missing -w --strict l",
             "a: OK\ne: FAILED\n",
@@ -66,5 +66,5 @@ fn settings_and_names(rt: HostRuntime) -> Result<(), Fail> {
             0,
         ),
     ];
-    assert_rows(&rt, "", &manifests, &rows)
+    assert_examples(&rt, "", &manifests, &examples)
 }

@@ -1,7 +1,7 @@
 //! Runs over files that go on after a fault or an end, and over a name that is opened again as another file.
 use super::goes_on::InTurn;
 use super::program::{shown, status_of};
-use super::{assert_text, joined, spelled};
+use super::{assert_text, join, spell};
 use std::alloc::Global;
 use std::process::Abort;
 use std::test::Fail;
@@ -46,7 +46,7 @@ fn source_in_turn<'a>(
     Ok(source)
 }
 
-// That the program, called so, leaves these texts. Each file is read to its end or its fault, and no further.
+// Asserts that the program, called so, leaves these texts. Each file is read to its end or its fault, and no further.
 fn assert_leaves(
     rt: &(impl Abort + AllocGlobal),
     arguments: &[&[u8]],
@@ -54,7 +54,7 @@ fn assert_leaves(
     opened: Opened,
     (out, err, status): (&str, &str, u8),
 ) -> Result<(), Fail> {
-    let list = spelled(rt.alloc(), joined(rt.alloc(), lists)?.as_str())?;
+    let list = spell(rt.alloc(), join(rt.alloc(), lists)?.as_str())?;
     let mut streams = Streams::new(
         Stdin::new(Told::new(b"", Ending::Whole, 1)),
         source_in_turn(rt.alloc(), list.as_str(), opened)?,
@@ -93,13 +93,13 @@ fn hashing(rt: HostRuntime) -> Result<(), Fail> {
             "sha256sum: c: Input/output error\n",
         ),
     ] {
-        let out = joined(rt.alloc(), &lines)?;
+        let out = join(rt.alloc(), &lines)?;
         for place in [0, last / 2, last] {
             let opened = ("abc", number, place, BROKEN);
             assert_leaves(&rt, &arguments, &[], opened, (out.as_str(), err, 1))?;
         }
     }
-    let out = joined(rt.alloc(), &[LINE_A, LINE_B, LINE_C])?;
+    let out = join(rt.alloc(), &[LINE_A, LINE_B, LINE_C])?;
     for opened in [("abc", 0, 3, Ending::Whole), ("dbc", 0, 3, Ending::Whole)] {
         assert_leaves(&rt, &arguments, &[], opened, (out.as_str(), "", 0))?;
     }
@@ -132,7 +132,7 @@ fn checking(rt: HostRuntime) -> Result<(), Fail> {
         ),
         ("lablab", 3, [136, 136], "a: OK\nb: OK\n", fault),
     ] {
-        let out = joined(rt.alloc(), &[first, "a: OK\nb: OK\n"])?;
+        let out = join(rt.alloc(), &[first, "a: OK\nb: OK\n"])?;
         for place in places {
             let opened = (letters, number, place, BROKEN);
             assert_leaves(&rt, &arguments, &list, opened, (out.as_str(), err, 1))?;

@@ -1,13 +1,13 @@
 //! How often the program flushes its outputs.
 use super::program::{shown, status_of};
-use super::{source_of, spelled};
+use super::{source_of, spell};
 use std::alloc::Global;
 use std::test::Fail;
 use sum_engine::Streams;
 use sum_lines::{Sink, SinkFault};
 use sum_sources::{Ending, Stdin, Told};
 
-// A sink that takes everything, tells nothing, and counts how often it is flushed; the flush of one number fails.
+// A sink that accepts everything, tells nothing, and counts how often it is flushed. One of these flushes fails.
 #[derive(Drop)]
 struct CountsFlushes {
     count: u64,
@@ -34,7 +34,7 @@ impl Sink for CountsFlushes {
     }
 }
 
-// A sink of which the flush of this number fails.
+// A sink whose flush of this number fails.
 fn sink(fails_at: u64) -> CountsFlushes {
     CountsFlushes {
         count: 0,
@@ -49,7 +49,7 @@ fn count_flushes(
     arguments: &[&[u8]],
     (out_fails, err_fails): (u64, u64),
 ) -> Result<(u64, u64, u8), Fail> {
-    let list = spelled(alloc, "$M  a\n")?;
+    let list = spell(alloc, "$M  a\n")?;
     let files = source_of(alloc, &[("list", list.as_bytes(), Ending::Whole)], 100)?;
     let mut streams = Streams::new(
         Stdin::new(Told::new(b"", Ending::Whole, 1)),
@@ -61,14 +61,14 @@ fn count_flushes(
     Ok((streams.outputs.out.count, streams.outputs.err.count, status))
 }
 
-// Each line is flushed at its end, and both outputs once more at the end of the run, also where nothing was written. No
+// Each line is flushed at its end, and both outputs once more at the end of the run, even if nothing was written. No
 // contract shows the last two, since a flush of an output that holds nothing changes nothing that it tells.
 #[test]
 fn flushed_once_more(rt: HostRuntime) -> Result<(), Fail> {
     let hash: [&[u8]; 2] = [b"md5sum", b"a"];
     let missing: [&[u8]; 2] = [b"md5sum", b"x"];
     let silent: [&[u8]; 4] = [b"md5sum", b"-c", b"--status", b"list"];
-    let rows = [
+    let examples = [
         (hash.as_slice(), (0, 0), (2, 1, 0)),
         (missing.as_slice(), (0, 0), (1, 2, 1)),
         (silent.as_slice(), (0, 0), (1, 1, 0)),
@@ -77,7 +77,7 @@ fn flushed_once_more(rt: HostRuntime) -> Result<(), Fail> {
         (silent.as_slice(), (0, 1), (1, 2, 1)),
         (hash.as_slice(), (2, 0), (2, 1, 1)),
     ];
-    for (arguments, fails, counts) in rows {
+    for (arguments, fails, counts) in examples {
         let called = shown(rt.alloc(), arguments)?;
         let found = count_flushes(rt.alloc(), arguments, fails)?;
         assert_eq!(rt;

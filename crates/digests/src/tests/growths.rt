@@ -1,7 +1,7 @@
 //! Memory that is refused: each growth in turn, on heaps that are each a little larger.
 use super::{
-    ENOUGH, File, MISSING, REPORTS, Row, Run, TestStreams, VERDICTS, WARNINGS, add_all, assert_as,
-    assert_same_taken, heap_of, joined, run_line_on, spelled, streams_of, taken,
+    ENOUGH, Example, File, MISSING, REPORTS, Run, TestStreams, VERDICTS, WARNINGS, add_all,
+    assert_as, assert_same_taken, bytes_taken, heap_of, join, run_line_on, spell, streams_of,
 };
 use bumpalo::Bump;
 use digest_kinds::{Algo, Algos};
@@ -47,7 +47,7 @@ impl<'a, 'b> Source for FilesOn<'a, 'b> {
     }
 }
 
-// A place between two operands or two lines of a manifest: the texts up to there, and how many names were asked.
+// A place between two operands or two lines of a manifest: the texts up to there, and how many names were asked for.
 type Place<'a> = (&'a str, &'a str, usize);
 
 // Whether these are the names that were asked.
@@ -69,8 +69,8 @@ fn place_of(
     places: &[Place],
 ) -> Result<usize, Fail> {
     for (i, (out_there, err_there, count)) in places.iter().enumerate() {
-        if out == spelled(alloc, out_there)?.as_bytes()
-            && err == spelled(alloc, err_there)?.as_bytes()
+        if out == spell(alloc, out_there)?.as_bytes()
+            && err == spell(alloc, err_there)?.as_bytes()
             && asked(files, names.get(..*count).ok_or("names")?)
         {
             return Ok(i);
@@ -90,7 +90,7 @@ enum Turn {
     Finished(usize),
 }
 
-// A source of these files on a heap, where it has room for them.
+// A source of these files on a heap, if it has room for them.
 fn source_on<'a, 'b>(heap: &'b Bump, all: &[File<'_, 'a>]) -> Option<FilesOn<'a, 'b>> {
     let mut files = ToldSource::new(heap, 8192);
     for file in all {
@@ -101,7 +101,7 @@ fn source_on<'a, 'b>(heap: &'b Bump, all: &[File<'_, 'a>]) -> Option<FilesOn<'a,
 }
 
 // Runs a line over the file `a`, the empty file `e` and the manifest `l`. The files, the words and the run have one
-// heap: `None` where it has no room for the files or for the words.
+// heap: `None` if it has no room for the files or for the words.
 fn run_on<'a, 'b>(
     heap: &'b Bump,
     manifest: &'a [u8],
@@ -119,13 +119,14 @@ fn run_on<'a, 'b>(
     run_line_on(heap, line, input, files, (1024, 1024))
 }
 
-// At which of the places a run stopped that was refused memory. Where none was refused it did as the row says: `None`.
+// At which of the places a run stopped that was refused memory. If none was refused, it did as the example says:
+// `None`.
 fn stopped_at(
     rt: &(impl Abort + AllocGlobal),
     (run, files): (&Run<1024>, &FilesOn),
     names: &[&str],
     places: &[Place],
-    row: Row,
+    example: Example,
 ) -> Result<Option<usize>, Fail> {
     if run.outcome == Err(Stop::Memory) {
         let texts = (run.out.bytes(), run.err.bytes());
@@ -134,76 +135,81 @@ fn stopped_at(
     assert!(rt;
         asked(files, names),
         "{} asks other names than {names:?}",
-        row.0
+        example.0
     );
-    assert_as(rt, run, row)?;
+    assert_as(rt, run, example)?;
     Ok(None)
 }
 
-// Runs the row's line on a heap with room for so many times 8 bytes.
+// Runs the example's line on a heap with room for so many times 8 bytes.
 fn run_within(
     rt: &(impl Abort + AllocGlobal),
     units: usize,
     manifest: &[u8],
     names: &[&str],
     places: &[Place],
-    row: Row,
+    example: Example,
 ) -> Result<Turn, Fail> {
     let heap = heap_of(rt.alloc(), units)?;
-    let Some((run, files)) = run_on(&heap, manifest, row.0)? else {
+    let Some((run, files)) = run_on(&heap, manifest, example.0)? else {
         return Ok(Turn::NoRoom);
     };
-    match stopped_at(rt, (&run, &files), names, places, row)? {
+    match stopped_at(rt, (&run, &files), names, places, example)? {
         Some(place) => Ok(Turn::StoppedAt(place)),
-        None => Ok(Turn::Finished(taken(&heap, units))),
+        None => Ok(Turn::Finished(bytes_taken(&heap, units))),
     }
 }
 
-// Runs the row's line on a heap of each size, so that each growth in turn is refused. The places come in their order,
-// and none is left out; then come runs that do as the row says.
+// Runs the example's line on a heap of each size, so that each growth in turn is refused. The places come in their
+// order, and none is left out; then come runs that do as the example says.
 fn assert_each_growth(
     rt: &(impl Abort + AllocGlobal),
     manifest: &str,
     names: &[&str],
     places: &[Place],
-    row: Row,
+    example: Example,
 ) -> Result<(), Fail> {
-    let manifest = spelled(rt.alloc(), manifest)?;
+    let manifest = spell(rt.alloc(), manifest)?;
     let mut reached: usize = 0;
     let mut whole = None;
     for units in 0..=ENOUGH {
-        match run_within(rt, units, manifest.as_bytes(), names, places, row)? {
-            Turn::NoRoom => assert_eq!(rt; reached, 0, "no room for {}, {units} units", row.0),
+        match run_within(rt, units, manifest.as_bytes(), names, places, example)? {
+            Turn::NoRoom => assert_eq!(rt; reached, 0, "no room for {}, {units} units", example.0),
             Turn::StoppedAt(place) => {
                 let next = place.saturating_add(1);
                 assert!(rt;
                     next == reached || place == reached,
                     "{}, {units} units: place {place} follows {reached}",
-                    row.0
+                    example.0
                 );
                 assert_eq!(rt;
                     whole,
                     None,
                     "bytes taken before {units} units by {}",
-                    row.0
+                    example.0
                 );
                 reached = next;
             }
             Turn::Finished(bytes) => {
-                assert_eq!(rt; reached, places.len(), "places of {}, {units} units", row.0);
-                assert_same_taken(rt, &mut whole, bytes, row.0);
+                assert_eq!(rt;
+                    reached,
+                    places.len(),
+                    "places of {}, {units} units",
+                    example.0
+                );
+                assert_same_taken(rt, &mut whole, bytes, example.0);
             }
         }
     }
-    assert!(rt; whole.is_some(), "{} never ends", row.0);
+    assert!(rt; whole.is_some(), "{} never ends", example.0);
     Ok(())
 }
 
 #[test]
 fn growths_of_generating(rt: HostRuntime) -> Result<(), Fail> {
     let places = [("", "", 0), ("$M  a\n", "", 1), ("$M  a\n", MISSING, 2)];
-    let row = ("md5sum a x e", "$M  a\n$E  e\n", MISSING, 1);
-    assert_each_growth(&rt, "", &["a", "x", "e"], &places, row)
+    let example = ("md5sum a x e", "$M  a\n$E  e\n", MISSING, 1);
+    assert_each_growth(&rt, "", &["a", "x", "e"], &places, example)
 }
 
 #[test]
@@ -214,8 +220,8 @@ fn growths_of_checking(rt: HostRuntime) -> Result<(), Fail> {
         ("a: OK\n", "", 2),
         ("a: OK\nx: FAILED open or read\n", MISSING, 3),
     ];
-    let row = ("md5sum -c l", REPORTS, WARNINGS, 1);
-    assert_each_growth(&rt, VERDICTS, &["l", "a", "x", "e"], &places, row)
+    let example = ("md5sum -c l", REPORTS, WARNINGS, 1);
+    assert_each_growth(&rt, VERDICTS, &["l", "a", "x", "e"], &places, example)
 }
 
 #[test]
@@ -226,32 +232,32 @@ fn growths_of_two_manifests(rt: HostRuntime) -> Result<(), Fail> {
         ("-: OK\n", "", 1),
         ("-: OK\n", "", 2),
     ];
-    let row = (
+    let example = (
         "md5sum -c l l",
         "-: OK\n-: FAILED\n",
         "md5sum: WARNING: 1 computed checksum did NOT match\n",
         1,
     );
-    assert_each_growth(&rt, "$M  -\n", &["l", "l"], &places, row)
+    assert_each_growth(&rt, "$M  -\n", &["l", "l"], &places, example)
 }
 
 // A growth for the second line is refused: the first line's report stands.
 #[test]
 fn long_line_refused(rt: HostRuntime) -> Result<(), Fail> {
     let long = "a_name_that_is_so_long_that_the_vector_of_the_line_before_has_no_room_for_this_one";
-    let manifest = joined(rt.alloc(), &["$M  a\n$M  ", long, "\n"])?;
+    let manifest = join(rt.alloc(), &["$M  a\n$M  ", long, "\n"])?;
     let reports = ["a: OK\n", long, ": FAILED open or read\n"];
-    let out = joined(rt.alloc(), &reports)?;
+    let out = join(rt.alloc(), &reports)?;
     let warnings = [
         "md5sum: ",
         long,
         ": No such file or directory\n",
         "md5sum: WARNING: 1 listed file could not be read\n",
     ];
-    let err = joined(rt.alloc(), &warnings)?;
+    let err = join(rt.alloc(), &warnings)?;
     let places = [("", "", 0), ("", "", 1), ("a: OK\n", "", 2)];
-    let row = ("md5sum -c l", out.as_str(), err.as_str(), 1);
-    assert_each_growth(&rt, manifest.as_str(), &["l", "a", long], &places, row)
+    let example = ("md5sum -c l", out.as_str(), err.as_str(), 1);
+    assert_each_growth(&rt, manifest.as_str(), &["l", "a", long], &places, example)
 }
 
 // Where a checker of all verdicts stands after so many lines, and after the end.
@@ -286,7 +292,7 @@ fn step<'b>(
     checker.step(line, streams)
 }
 
-// One step more. Where it wants memory, the heap gets enough; what has stopped or ended stays so.
+// One step more. If it wants memory, the heap gets enough. A checker that has stopped or ended stays so.
 fn step_on<'b>(
     rt: &impl Abort,
     heap: &'b Bump,
@@ -307,7 +313,7 @@ fn step_on<'b>(
     (lines.saturating_add(1), outcome)
 }
 
-// That the outputs and the names asked stand where they do after so many lines.
+// Asserts that the outputs and the names asked stand where they do after so many lines.
 fn assert_there(alloc: Global, streams: &Stage, lines: usize) -> Result<(), Fail> {
     let there = AFTER_STEPS.get(lines..=lines).ok_or("lines")?;
     let texts = (streams.outputs.out.bytes(), streams.outputs.err.bytes());
@@ -342,7 +348,7 @@ fn nine_steps<'b>(
 // Steps over all verdicts on a heap with room for so many times 8 bytes, and at least three times more once it has
 // stopped or ended, with memory enough. It stops at as many lines as it has done.
 fn steps(rt: &(impl Abort + AllocGlobal), units: usize) -> Result<Turn, Fail> {
-    let manifest = spelled(rt.alloc(), VERDICTS)?;
+    let manifest = spell(rt.alloc(), VERDICTS)?;
     let heap = heap_of(rt.alloc(), units)?;
     let all: [File; 2] = [("a", b"abc", Ending::Whole), ("e", b"", Ending::Whole)];
     let Some(files) = source_on(&heap, &all) else {
@@ -359,7 +365,7 @@ fn steps(rt: &(impl Abort + AllocGlobal), units: usize) -> Result<Turn, Fail> {
         (6, Ok(Progress::Ended(false))),
         "in {units} units"
     );
-    Ok(Turn::Finished(taken(&heap, units)))
+    Ok(Turn::Finished(bytes_taken(&heap, units)))
 }
 
 // Memory is wanted for the first line and for each file that is opened, so a checker stops before the first line, the

@@ -1,7 +1,7 @@
 //! Outputs that stop at any byte, manifests that break off anywhere, and hostile ones.
 use super::{
-    MD5_OF_ABC, REPORTS, Run, VERDICTS, WARNINGS, add_all, assert_broken, assert_rows, assert_run,
-    first_of, joined, repeated, run_line, run_line_over, spelled,
+    MD5_OF_ABC, REPORTS, Run, VERDICTS, WARNINGS, add_all, assert_broken, assert_examples,
+    assert_run, first_of, join, repeat, run_line, run_line_over, spell,
 };
 use std::ops::RangeInclusive;
 use std::process::Abort;
@@ -17,7 +17,7 @@ fn assert_stopped(
     outcome: Result<u8, Stop>,
     (out, err): (RangeInclusive<usize>, RangeInclusive<usize>),
 ) -> Result<(), Fail> {
-    let manifest = spelled(rt.alloc(), VERDICTS)?;
+    let manifest = spell(rt.alloc(), VERDICTS)?;
     let files = [("l", manifest.as_bytes(), Ending::Whole)];
     let nothing = (b"".as_slice(), Ending::Whole);
     let run = run_line(rt.alloc(), "md5sum -c l", nothing, &files, 8192, stops)?;
@@ -39,7 +39,7 @@ fn assert_stopped(
     Ok(())
 }
 
-// That the bytes of an output that stops so are a prefix of this text, and are so many.
+// Asserts that the bytes of an output that stops so are a prefix of this text, and are so many.
 fn assert_part(
     rt: &impl Abort,
     bytes: &[u8],
@@ -86,7 +86,7 @@ fn each_byte_the_last(rt: HostRuntime) -> Result<(), Fail> {
 // The reports of the lines that a newline ended, then the fault, and no summary.
 #[test]
 fn cut_manifest(rt: HostRuntime) -> Result<(), Fail> {
-    let manifest = spelled(rt.alloc(), VERDICTS)?;
+    let manifest = spell(rt.alloc(), VERDICTS)?;
     let reports = [
         "",
         "a: OK\n",
@@ -104,31 +104,31 @@ fn cut_manifest(rt: HostRuntime) -> Result<(), Fail> {
             "md5sum: x: No such file or directory\nmd5sum: l: Input/output error\n"
         };
         let out = *reports.get(lines).ok_or("lines")?;
-        let row = ("md5sum -c l", out, err, 1);
-        assert_broken(&rt, "l", prefix, Fault::Other, row)?;
+        let example = ("md5sum -c l", out, err, 1);
+        assert_broken(&rt, "l", prefix, Fault::Other, example)?;
     }
     Ok(())
 }
 
 #[test]
 fn nothing_readable(rt: HostRuntime) -> Result<(), Fail> {
-    let row = (
+    let example = (
         "md5sum -c h",
         "",
         "md5sum: h: no properly formatted checksum lines found\n",
         1,
     );
-    let mut nuls = repeated(rt.alloc(), '\0', 1000)?;
+    let mut nuls = repeat(rt.alloc(), '\0', 1000)?;
     nuls.push('\n')?;
-    let letters = repeated(rt.alloc(), 'x', 1_000_000)?;
-    let newlines = repeated(rt.alloc(), '\n', 100_000)?;
+    let letters = repeat(rt.alloc(), 'x', 1_000_000)?;
+    let newlines = repeat(rt.alloc(), '\n', 100_000)?;
     for text in [
         letters.as_str(),
         nuls.as_str(),
         "   \t\n",
         newlines.as_str(),
     ] {
-        assert_rows(&rt, "", &[("h", text)], &[row])?;
+        assert_examples(&rt, "", &[("h", text)], &[example])?;
     }
     Ok(())
 }
@@ -151,17 +151,17 @@ fn check_alone(
 // The one line, which no newline ends, names a file of nearly 100,000 letters.
 #[test]
 fn long_name(rt: HostRuntime) -> Result<(), Fail> {
-    let text = repeated(rt.alloc(), 'y', 99_966)?;
+    let text = repeat(rt.alloc(), 'y', 99_966)?;
     let name = text.as_str();
-    let manifest = joined(rt.alloc(), &[MD5_OF_ABC, "  ", name])?;
-    let report = joined(rt.alloc(), &[name, ": FAILED open or read\n"])?;
+    let manifest = join(rt.alloc(), &[MD5_OF_ABC, "  ", name])?;
+    let report = join(rt.alloc(), &[name, ": FAILED open or read\n"])?;
     let warnings = [
         "md5sum: ",
         name,
         ": No such file or directory\n",
         "md5sum: WARNING: 1 listed file could not be read\n",
     ];
-    let warnings = joined(rt.alloc(), &warnings)?;
+    let warnings = join(rt.alloc(), &warnings)?;
     for piece in [1, 8192] {
         let texts = (report.as_str(), warnings.as_str());
         check_alone(&rt, manifest.as_bytes(), piece, texts)?;
@@ -173,7 +173,7 @@ fn long_name(rt: HostRuntime) -> Result<(), Fail> {
 fn odd_manifests(rt: HostRuntime) -> Result<(), Fail> {
     let mut comments = String::new(rt.alloc());
     for count in [8191, 8192, 8193] {
-        comments.push_str(repeated(rt.alloc(), '#', count)?.as_str())?;
+        comments.push_str(repeat(rt.alloc(), '#', count)?.as_str())?;
         comments.push('\n')?;
     }
     comments.push_str("$M  a\n")?;
@@ -182,7 +182,7 @@ fn odd_manifests(rt: HostRuntime) -> Result<(), Fail> {
         ("mixed", "MD5 (a) = $M\n$M a\nMD5 (e) = $E\n$M  a\n"),
         ("comments", comments.as_str()),
     ];
-    let rows = [
+    let examples = [
         (
             "md5sum -c backslashes",
             "a: OK\n",
@@ -198,5 +198,5 @@ fn odd_manifests(rt: HostRuntime) -> Result<(), Fail> {
         ),
         ("md5sum -c comments", "a: OK\n", "", 0),
     ];
-    assert_rows(&rt, "", &manifests, &rows)
+    assert_examples(&rt, "", &manifests, &examples)
 }

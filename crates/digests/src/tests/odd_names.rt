@@ -11,13 +11,14 @@ use sum_sources::{Answer, Ending, Stdin, Told, ToldSource};
 const LINE_OF_A: &[u8] = b"900150983cd24fb0d6963f7d28e17f72  a\n";
 
 // A command line, what it writes on standard output and on standard error, and its status.
-type Row<'a> = (&'a [&'a [u8]], &'a [u8], &'a [u8], u8);
+type Example<'a> = (&'a [&'a [u8]], &'a [u8], &'a [u8], u8);
 
 const UNKNOWN: &[u8] = b"digests: unknown tool\n";
 
-// That a command line does as its row says over the files of most rows, one whose name isn't UTF-8, and the list `l`.
-fn assert_row(rt: &(impl Abort + AllocGlobal), row: Row) -> Result<(), Fail> {
-    let (arguments, out, err, status) = row;
+// Asserts that a command line does as its example says over the usual files, one whose name isn't UTF-8, and the list
+// `l`.
+fn assert_example(rt: &(impl Abort + AllocGlobal), example: Example) -> Result<(), Fail> {
+    let (arguments, out, err, status) = example;
     let mut source = ToldSource::new(rt.alloc(), 100);
     add_files(&mut source)?;
     source.add(b"\xff\\\n", Answer::Content(b"abc", Ending::Whole))?;
@@ -51,7 +52,7 @@ fn odd_operands(rt: HostRuntime) -> Result<(), Fail> {
     let both =
         b"900150983cd24fb0d6963f7d28e17f72  a\n900150983cd24fb0d6963f7d28e17f72  a\n".as_slice();
     let missing = b"md5sum: r\xe9sum\xe9: No such file or directory\n".as_slice();
-    let rows: [Row; 8] = [
+    let examples: [Example; 8] = [
         (&[b"md5sum", b"r\xe9sum\xe9", b"a"], LINE_OF_A, missing, 1),
         (&[b"md5sum", b"a", b"r\xe9sum\xe9", b"a"], both, missing, 1),
         (
@@ -86,8 +87,8 @@ fn odd_operands(rt: HostRuntime) -> Result<(), Fail> {
             0,
         ),
     ];
-    for row in rows {
-        assert_row(&rt, row)?;
+    for example in examples {
+        assert_example(&rt, example)?;
     }
     Ok(())
 }
@@ -97,11 +98,11 @@ fn odd_operands(rt: HostRuntime) -> Result<(), Fail> {
 fn odd_manifests(rt: HostRuntime) -> Result<(), Fail> {
     let missing = b"md5sum: \xfe: No such file or directory\n".as_slice();
     let empty = b"md5sum: \xff\\\\\\n: no properly formatted checksum lines found\n".as_slice();
-    assert_row(
+    assert_example(
         &rt,
         (&[b"md5sum", b"-c", b"\xfe", b"l"], b"a: OK\n", missing, 1),
     )?;
-    assert_row(
+    assert_example(
         &rt,
         (&[b"md5sum", b"-c", b"\xff\\\n", b"l"], b"a: OK\n", empty, 1),
     )
@@ -114,7 +115,7 @@ fn odd_words(rt: HostRuntime) -> Result<(), Fail> {
         b"b2sum: invalid length: '\xff8'\nTry 'b2sum --help' for more information.\n".as_slice();
     let option =
         b"md5sum: unrecognized option '-\xff\\n'\nTry 'md5sum --help' for more information.\n".as_slice();
-    let rows: [Row; 6] = [
+    let examples: [Example; 6] = [
         (&[b"md5sum", b"a", b"-\xff\n", b"--help"], b"", option, 1),
         (&[b"digests", b"-\xff"], b"", UNKNOWN, 1),
         (&[b"digests", b"\xff"], b"", UNKNOWN, 1),
@@ -122,8 +123,8 @@ fn odd_words(rt: HostRuntime) -> Result<(), Fail> {
         (&[b"b2sum", b"-l", b"\xff8", b"e"], b"", invalid, 1),
         (&[b"\xff/md5sum", b"a"], LINE_OF_A, b"", 0),
     ];
-    for row in rows {
-        assert_row(&rt, row)?;
+    for example in examples {
+        assert_example(&rt, example)?;
     }
     Ok(())
 }
@@ -145,22 +146,22 @@ fn word_fault<A: Allocator + Copy>(
     word: &[u8],
 ) -> Result<Vec<u8, A>, Fail> {
     let help = b" --help' for more information.\n".as_slice();
-    joined(alloc, &[tool, text, word, b"'\nTry '", tool, help])
+    join(alloc, &[tool, text, word, b"'\nTry '", tool, help])
 }
 
-// That a name that isn't there, which follows this word, is reported.
+// Asserts that a name that isn't there, which follows this word, is reported.
 fn assert_missing(rt: &(impl Abort + AllocGlobal), first: &[u8], name: &[u8]) -> Result<(), Fail> {
-    let missing = joined(
+    let missing = join(
         rt.alloc(),
         &[b"md5sum: ", name, b": No such file or directory\n"],
     )?;
-    assert_row(
+    assert_example(
         rt,
         (&[b"md5sum", first, name, b"a"], LINE_OF_A, &missing, 1),
     )
 }
 
-// That a tool refuses a word, which follows another, by a fault of this text.
+// Asserts that a tool refuses a word, which follows another, by a fault of this text.
 fn assert_refused(
     rt: &(impl Abort + AllocGlobal),
     (tool, text): (&[u8], &[u8]),
@@ -168,7 +169,7 @@ fn assert_refused(
     word: &[u8],
 ) -> Result<(), Fail> {
     let fault = word_fault(rt.alloc(), tool, text, word)?;
-    assert_row(rt, (&[tool, first, word, b"e"], b"", &fault, 1))
+    assert_example(rt, (&[tool, first, word, b"e"], b"", &fault, 1))
 }
 
 // Each byte as a word, but those of names that are there or have an escape; each that begins no text after `--`, after
@@ -200,7 +201,7 @@ fn long_odd_names(rt: HostRuntime) -> Result<(), Fail> {
         let mut missing = b"md5sum: ".to_vec(rt.alloc())?;
         missing.extend_from_slice(&name)?;
         missing.extend_from_slice(b": No such file or directory\n")?;
-        assert_row(&rt, (&[b"md5sum", &name, b"a"], LINE_OF_A, &missing, 1))?;
+        assert_example(&rt, (&[b"md5sum", &name, b"a"], LINE_OF_A, &missing, 1))?;
     }
     Ok(())
 }

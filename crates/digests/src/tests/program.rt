@@ -1,7 +1,7 @@
 //! The whole program, over known arguments.
 use super::{
-    ENOUGH, assert_bytes, assert_same_taken, assert_text, first_of, heap_of, joined, repeated,
-    source_of, spelled, taken,
+    ENOUGH, assert_bytes, assert_same_taken, assert_text, bytes_taken, first_of, heap_of, join,
+    repeat, source_of, spell,
 };
 use crate::command::command;
 use std::alloc::{Allocator, Global};
@@ -24,16 +24,16 @@ struct Ended {
 }
 
 // An output like the program's own, that stops after so many bytes.
-fn buffered<const N: usize>(stop: usize) -> Buffered<ToldSink<N>> {
+fn buffered_output<const N: usize>(stop: usize) -> Buffered<ToldSink<N>> {
     Buffered::new(ToldSink::new(stop))
 }
 
 // What such an output wrote.
-fn held_in<const N: usize>(output: Buffered<ToldSink<N>>) -> ToldSink<N> {
+fn inner_sink<const N: usize>(output: Buffered<ToldSink<N>>) -> ToldSink<N> {
     output.into_inner()
 }
 
-// Calls the program with these arguments, over this standard input and the files of most rows. Each output stops after
+// Calls the program with these arguments, over this standard input and the usual files. Each output stops after
 // so many bytes. The words are in the memory of the heap.
 fn call<A: Allocator + Copy, I: Input + Drop>(
     alloc: Global,
@@ -46,13 +46,13 @@ fn call<A: Allocator + Copy, I: Input + Drop>(
     let mut streams = Streams::new(
         Stdin::new(input),
         files,
-        buffered(out_stop),
-        buffered(err_stop),
+        buffered_output(out_stop),
+        buffered_output(err_stop),
     );
     let status = status_of(heap, arguments, &mut streams);
     Ok(Ended {
-        out: held_in(streams.outputs.out),
-        err: held_in(streams.outputs.err),
+        out: inner_sink(streams.outputs.out),
+        err: inner_sink(streams.outputs.err),
         status,
     })
 }
@@ -73,7 +73,7 @@ type Left<'a> = (&'a str, &'a str, u8);
 
 const NOT_READ: Left<'static> = ("", "digests: words not read\n", 1);
 
-// That a program that ended, called so, left this.
+// Asserts that a program that ended, called so, left this.
 fn assert_left(
     rt: &(impl Abort + AllocGlobal),
     ended: &Ended,
@@ -102,7 +102,7 @@ pub(super) fn shown(alloc: Global, arguments: &[&[u8]]) -> Result<String, Fail> 
     Ok(format!(in alloc; "{arguments:?}")?)
 }
 
-// That the program, called so, leaves this.
+// Asserts that the program, called so, leaves this.
 fn assert_ends(
     rt: &(impl Abort + AllocGlobal),
     arguments: &[&[u8]],
@@ -117,7 +117,7 @@ fn assert_ends(
 fn tool_by_word_or_name(rt: HostRuntime) -> Result<(), Fail> {
     let of_a = ("$M  a\n", "", 0);
     let unknown = ("", "digests: unknown tool\n", 1);
-    let rows: [(&[&[u8]], Left); 11] = [
+    let examples: [(&[&[u8]], Left); 11] = [
         (&[b"digests", b"md5sum", b"a"], of_a),
         (&[b"/usr/bin/md5sum", b"a"], of_a),
         (&[b"md5sum", b"a"], of_a),
@@ -130,17 +130,17 @@ fn tool_by_word_or_name(rt: HostRuntime) -> Result<(), Fail> {
         (&[b"md5sum/"], unknown),
         (&[b"digests", b"Md5sum", b"a"], unknown),
     ];
-    for (arguments, left) in rows {
+    for (arguments, left) in examples {
         assert_ends(&rt, arguments, left)?;
     }
     Ok(())
 }
 
-// That a word of so many letters is an operand like any other.
+// Asserts that a word of so many letters is an operand like any other.
 fn assert_long_word(rt: &(impl Abort + AllocGlobal), count: usize) -> Result<(), Fail> {
-    let long = repeated(rt.alloc(), 'x', count)?;
+    let long = repeat(rt.alloc(), 'x', count)?;
     let fault = ["md5sum: ", long.as_str(), ": No such file or directory\n"];
-    let err = joined(rt.alloc(), &fault)?;
+    let err = join(rt.alloc(), &fault)?;
     let arguments: [&[u8]; 3] = [b"md5sum", long.as_bytes(), b"a"];
     assert_ends(rt, &arguments, ("$M  a\n", err.as_str(), 1))
 }
@@ -167,7 +167,7 @@ fn told_arguments(rt: HostRuntime) -> Result<(), Fail> {
     Ok(())
 }
 
-// That a program whose outputs stop after so many bytes ends with status 1, and leaves just these.
+// Asserts that a program whose outputs stop after so many bytes ends with status 1, and leaves just these.
 fn assert_stopped(
     rt: &(impl Abort + AllocGlobal),
     stops: (usize, usize),
@@ -186,7 +186,7 @@ fn assert_stopped(
 // Standard output stops after each number of bytes: it holds just these, and the line for the stop stands.
 #[test]
 fn output_that_stops(rt: HostRuntime) -> Result<(), Fail> {
-    let line = spelled(rt.alloc(), "$M  a\n")?;
+    let line = spell(rt.alloc(), "$M  a\n")?;
     for count in 0..line.as_bytes().len() {
         let held = first_of(line.as_bytes(), count)?;
         assert_stopped(&rt, (count, 1024), (held, b"md5sum: write error\n"))?;
@@ -197,7 +197,7 @@ fn output_that_stops(rt: HostRuntime) -> Result<(), Fail> {
 // Standard error stops after each number of bytes: it holds just these.
 #[test]
 fn errors_that_stop(rt: HostRuntime) -> Result<(), Fail> {
-    let line = spelled(rt.alloc(), "$M  a\n")?;
+    let line = spell(rt.alloc(), "$M  a\n")?;
     let fault = b"md5sum: x: No such file or directory\n".as_slice();
     for count in 0..fault.len() {
         let held = first_of(fault, count)?;
@@ -220,7 +220,7 @@ impl Write for LosesAll {
     }
 }
 
-// Calls the program over a standard output that can't be flushed, over this input and the files of most rows, with its
+// Calls the program over a standard output that can't be flushed, over this input and the usual files, with its
 // words in the memory of the heap. What standard error holds, and the status.
 fn call_not_kept<A: Allocator + Copy>(
     alloc: Global,
@@ -233,10 +233,10 @@ fn call_not_kept<A: Allocator + Copy>(
         Stdin::new(Told::new(input, Ending::Whole, 1)),
         files,
         Buffered::new(FromWrite::new(LosesAll)),
-        buffered(64),
+        buffered_output(64),
     );
     let status = status_of(heap, arguments, &mut streams);
-    Ok((held_in(streams.outputs.err), status))
+    Ok((inner_sink(streams.outputs.err), status))
 }
 
 // A standard output that can't be flushed is a write error.
@@ -264,7 +264,7 @@ fn reported_within(
     let arguments: [&[u8]; 2] = [b"md5sum", b"-c"];
     let (err, status) = call_not_kept(rt.alloc(), &heap, &arguments, list)?;
     assert_eq!(rt; status, 1, "in {units} units");
-    Ok((which_text(err.bytes())?, taken(&heap, units)))
+    Ok((which_text(err.bytes())?, bytes_taken(&heap, units)))
 }
 
 // Which of three texts these bytes are.
@@ -285,7 +285,7 @@ fn which_text(bytes: &[u8]) -> Result<usize, Fail> {
 // Memory is short for the manifest's line, and then standard output isn't kept: the report is why the run stopped.
 #[test]
 fn stopped_and_not_kept(rt: HostRuntime) -> Result<(), Fail> {
-    let line = spelled(rt.alloc(), "$M  a\n")?;
+    let line = spell(rt.alloc(), "$M  a\n")?;
     let mut reached: usize = 0;
     let mut whole = None;
     for units in 0..=ENOUGH {
@@ -312,7 +312,7 @@ fn closed_standard_input(rt: HostRuntime) -> Result<(), Fail> {
     assert_left(&rt, &ended, &arguments, left)
 }
 
-// Calls the program on a heap with room for so many times 8 bytes: how many it took, or `None` where the words weren't
+// Calls the program on a heap with room for so many times 8 bytes: how many it took, or `None` if the words weren't
 // read.
 fn words_within(
     rt: &(impl Abort + AllocGlobal),
@@ -325,7 +325,7 @@ fn words_within(
     let ended = call(rt.alloc(), &heap, arguments, input, AMPLE)?;
     if ended.status == 0 {
         assert_left(rt, &ended, arguments, (out, "", 0))?;
-        return Ok(Some(taken(&heap, units)));
+        return Ok(Some(bytes_taken(&heap, units)));
     }
     assert_left(rt, &ended, arguments, NOT_READ)?;
     Ok(None)

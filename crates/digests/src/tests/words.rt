@@ -1,5 +1,5 @@
 //! Words that ask for each kind of run, and words with a fault.
-use super::assert_rows;
+use super::assert_examples;
 use std::test::Fail;
 use sum_lines::ToldSink;
 use sum_words::{Tool, put_help};
@@ -23,14 +23,14 @@ fn help(rt: HostRuntime) -> Result<(), Fail> {
         ("b2sum --help -l", Tool::B2sum),
     ] {
         let help = help_of(tool)?;
-        assert_rows(&rt, "abc", &[], &[(line, help_text(&help)?, "", 0)])?;
+        assert_examples(&rt, "abc", &[], &[(line, help_text(&help)?, "", 0)])?;
     }
     Ok(())
 }
 
 #[test]
 fn what_words_ask_for(rt: HostRuntime) -> Result<(), Fail> {
-    let rows = [
+    let examples = [
         ("md5sum --version", "md5sum (digests), profile 2\n", "", 0),
         ("b2sum -bl256 e", "$B *e\n", "", 0),
         // BLAKE2b of one byte (RFC 7693), of nothing.
@@ -43,5 +43,5 @@ fn what_words_ask_for(rt: HostRuntime) -> Result<(), Fail> {
             1,
         ),
     ];
-    assert_rows(&rt, "abc", &[], &rows)
+    assert_examples(&rt, "abc", &[], &examples)
 }

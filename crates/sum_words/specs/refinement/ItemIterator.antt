@@ -2,7 +2,6 @@
 use Rattle.std.specs.Prelude.{◌≡◌, map, List, [], ◌∷◌, ◌++◌, Option, None, Some, chars}
 use Rattle.sum_words.specs.declared.tool.Tool.{Tool}
 use Rattle.sum_words.specs.declared.messages.word_faults.WordFault.{WordFault}
-use Rattle.sum_words.specs.WordFaults.{WordFaultValue}
 use Rattle.sum_words.specs.WordFaults as faults
 use Rattle.sum_words.specs.declared.parsing.items.Item.{Item as WordItem}
 use Rattle.sum_words.specs.declared.parsing.items.ParserState.{ParserState}
@@ -15,32 +14,32 @@ use Rattle.sum_words.specs.declared.parsing.items.ParserState.TheVariants as sta
 use Rattle.sum_words.specs.declared.parsing.items.ParserStep.TheVariants as steps
 
 -- the value of a `WordFault`
-abbrev pub fault_of : WordFault → WordFaultValue
-fault_of (words.UnknownLong name) = faults.unknown_long name.now
-fault_of (words.AmbiguousLong name) = faults.ambiguous_long name.now
-fault_of (words.ValueNotAllowed name) = faults.value_not_allowed name.now
-fault_of (words.ValueMissing spelling) = faults.value_missing spelling
-fault_of (words.UnknownShort c) = faults.unknown_short c
-fault_of (words.LengthInvalid value) = faults.length_invalid value.now
-fault_of (words.LengthNotBytes value) = faults.length_not_bytes value.now
-fault_of words.TagWithText = faults.tag_with_text
-fault_of words.ZeroWithCheck = faults.zero_with_check
-fault_of words.TagWithCheck = faults.tag_with_check
-fault_of words.ModeWithCheck = faults.mode_with_check
-fault_of words.IgnoreWithoutCheck = faults.ignore_without_check
-fault_of words.StatusWithoutCheck = faults.status_without_check
-fault_of words.WarnWithoutCheck = faults.warn_without_check
-fault_of words.QuietWithoutCheck = faults.quiet_without_check
-fault_of words.StrictWithoutCheck = faults.strict_without_check
-fault_of words.CheckNeeded = faults.check_needed
-fault_of (words.NotText word) = faults.not_text word.now
+abbrev pub word_fault_value : WordFault → faults.WordFaultValue
+word_fault_value (words.UnknownLong name) = faults.unknown_long name.now
+word_fault_value (words.AmbiguousLong name) = faults.ambiguous_long name.now
+word_fault_value (words.ValueNotAllowed name) = faults.value_not_allowed name.now
+word_fault_value (words.ValueMissing spelling) = faults.value_missing spelling
+word_fault_value (words.UnknownShort c) = faults.unknown_short c
+word_fault_value (words.LengthInvalid value) = faults.length_invalid value.now
+word_fault_value (words.LengthNotBytes value) = faults.length_not_bytes value.now
+word_fault_value words.TagWithText = faults.tag_with_text
+word_fault_value words.ZeroWithCheck = faults.zero_with_check
+word_fault_value words.TagWithCheck = faults.tag_with_check
+word_fault_value words.ModeWithCheck = faults.mode_with_check
+word_fault_value words.IgnoreWithoutCheck = faults.ignore_without_check
+word_fault_value words.StatusWithoutCheck = faults.status_without_check
+word_fault_value words.WarnWithoutCheck = faults.warn_without_check
+word_fault_value words.QuietWithoutCheck = faults.quiet_without_check
+word_fault_value words.StrictWithoutCheck = faults.strict_without_check
+word_fault_value words.CheckNeeded = faults.check_needed
+word_fault_value (words.NotText word) = faults.not_text word.now
 
 -- the value of an `Item`
-abbrev pub item_of : WordItem → ItemValue
-item_of (items.Flag flag) = option flag
-item_of (items.Length value) = length_value value.now
-item_of (items.Operand word) = operand word.now
-item_of (items.Fault f) = fault (fault_of f)
+abbrev pub item_value : WordItem → ItemValue
+item_value (items.Flag flag) = option flag
+item_value (items.Length value) = length_value value.now
+item_value (items.Operand word) = operand word.now
+item_value (items.Fault f) = fault (word_fault_value f)
 
 -- the items of a word that was read, and of the words after it
 abbrev pub read_then : Tool → List ItemValue × NextWord → List ByteString → List ItemValue
@@ -55,7 +54,7 @@ remaining_items t states.Done words = items_from t no_word words
 
 -- the items that remain from a step on, before these words
 abbrev pub step_items : Tool → ParserStep → List ByteString → List ItemValue
-step_items t (steps.Item x state) words = item_of x ∷ remaining_items t state words
+step_items t (steps.Item x state) words = item_value x ∷ remaining_items t state words
 step_items t (steps.Value spelling) words = items_from t (a_value spelling) words
 step_items t steps.OnlyOperands words = map operand words
 

@@ -11,7 +11,7 @@ use Rattle.sum_words.specs.declared.parsing.request.Chosen.{Chosen}
 use Rattle.sum_words.specs.declared.parsing.request.ScannedOptions.{ScannedOptions}
 use Rattle.sum_words.specs.declared.parsing.request.ScannedOptions.TheVariants.{Options, Early}
 use Rattle.sum_words.specs.WordFaults.{WordFaultValue}
-use Rattle.sum_words.specs.refinement.ItemIterator.{fault_of}
+use Rattle.sum_words.specs.refinement.ItemIterator.{word_fault_value}
 use Rattle.sum_lines.specs.declared.writing.put_line.Mode.TheVariants as modes
 use Rattle.sum_words.specs.declared.parsing.options.Flag.TheVariants as flags
 
@@ -45,14 +45,14 @@ pub record IsChosenBy (c : Chosen) (rest all : List ItemValue) : Type 0 where
   pub strict : IsThere flags.Strict c.strict rest all
 
 -- the value of a result
-abbrev pub result_of : {X : Type 0} → Result X WordFault → Result X WordFaultValue
-result_of (Ok x) = Ok x
-result_of (Err f) = Err (fault_of f)
+abbrev pub result_value : {X : Type 0} → Result X WordFault → Result X WordFaultValue
+result_value (Ok x) = Ok x
+result_value (Err f) = Err (word_fault_value f)
 
 -- the scan returns the options of all items if none of these decides the request early, else that request
 abbrev pub IsScanOf : ScannedOptions → List ItemValue → Type 0
 IsScanOf (Options c) xs = IsChosenBy c [] xs × (early_request xs ≡ None)
-IsScanOf (Early r) xs = early_request xs ≡ Some (result_of r)
+IsScanOf (Early r) xs = early_request xs ≡ Some (result_value r)
 
 -- whether a value is one or more digits
 abbrev is_number : ByteString → Bool

@@ -11,7 +11,7 @@ use crate::tool::Tool;
 use digest_kinds::Algos;
 use sum_lines::{Part, Sink, SinkFault, put_all, put_parts};
 
-/// Gives the sink the help text, which it may buffer. `SinkFault` as [`sum_lines::put_all`].
+/// Gives the sink the help text. The sink may buffer it. `SinkFault` as [`sum_lines::put_all`].
 pub fn put_help<O: Sink>(out: &mut O, tool: Tool) -> Result<(), SinkFault>
     ensures { WritesAll (O.state out.old) (O.state out.new) (help tool) result }
 {
@@ -110,7 +110,7 @@ fn padding(columns: usize) -> &'static [u8]
 
 static SPACES: [u8; 18] = [b' '; 18];
 
-/// Gives the sink the version text, which it may buffer. `SinkFault` as [`sum_lines::put_all`].
+/// Gives the sink the version text. The sink may buffer it. `SinkFault` as [`sum_lines::put_all`].
 pub fn put_version<O: Sink>(out: &mut O, tool: Tool) -> Result<(), SinkFault>
     ensures { WritesAll (O.state out.old) (O.state out.new) (version tool) result }
 {

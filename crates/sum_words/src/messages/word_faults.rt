@@ -1,32 +1,28 @@
-//! What the program itself writes on standard error: for a fault in the words, an unknown tool, words that could not be
-//! read, and a stop.
+//! The faults of words, and the two lines that report one.
 ghost use Rattle.std.specs.Prelude.{◌≡◌, ◌++◌};
 ghost use Rattle.sum_lines.specs.sinks.Sinks.{WritesAll};
 ghost use Rattle.sum_lines.specs.refinement.PartTexts.{part_text};
 ghost use Rattle.sum_words.specs.WordFaults.{WordFaultValue, wording};
-ghost use Rattle.sum_words.specs.refinement.ItemIterator.{fault_of};
-ghost use Rattle.sum_words.specs.declared.tool.Tool.{Tool};
-ghost use Rattle.sum_words.specs.Tools.{name_of};
-ghost use Rattle.sum_words.specs.Texts.{fault_lines, stop_line, unknown_tool_line, not_read_line};
+ghost use Rattle.sum_words.specs.refinement.ItemIterator.{word_fault_value};
+ghost use Rattle.sum_words.specs.Texts.{fault_lines};
 
 use crate::parsing::options::Spelling;
 use crate::tool::Tool;
-use sum_engine::Stop;
-use sum_lines::{Part, Sink, SinkFault, put_all, put_parts};
+use sum_lines::{Part, Sink, SinkFault, put_parts};
 
-/// A fault in the words, with what its text shows. Of the first five and the last, each of one word, the first among
-/// the words counts; the others follow in the order of the variants.
+/// A fault in the words, with what its text shows. The first five variants and the last concern a single word: the
+/// earliest in the command line counts. The others are tried after them, in the order of the variants.
 #[derive(Clone, Copy, Debug, PartialEq, Eq)]
 pub enum WordFault<'a> {
-    /// A long option, of this name as it was typed, that no option's name begins with.
+    /// A long option. No option's name begins with this name, which is shown as it was typed.
     UnknownLong(&'a str),
-    /// A long option, of this name as it was typed, that several options' names begin with.
+    /// A long option. Several options' names begin with this name, which is shown as it was typed.
     AmbiguousLong(&'a str),
-    /// A value after `=` at the option of this full name, which takes none.
+    /// The option of this full name takes no value, and one follows it after `=`.
     ValueNotAllowed(&'static str),
-    /// No word left for the value of `--length` or of `-l`.
+    /// No word follows `--length` or `-l`, which takes a value.
     ValueMissing(Spelling),
-    /// A character of a cluster that is no option.
+    /// This character stands among letters of options, as `x` does in `-bx`, and is no option's letter.
     UnknownShort(char),
     /// A length that isn't one or more digits, or is over 512.
     LengthInvalid(&'a [u8]),
@@ -52,13 +48,13 @@ pub enum WordFault<'a> {
     StrictWithoutCheck,
     /// `anysum` without `--check`.
     CheckNeeded,
-    /// This word, which begins with a dash and goes on, isn't UTF-8.
+    /// This word isn't UTF-8. It begins with a dash and goes on, so it is no operand.
     NotText(&'a [u8]),
 }
 
-/// Gives the sink the two lines of a fault, which it may buffer. `SinkFault` as [`sum_lines::put_all`].
+/// Gives the sink the two lines of a fault. The sink may buffer them. `SinkFault` as [`sum_lines::put_all`].
 pub fn put_fault<E: Sink>(err: &mut E, tool: Tool, fault: &WordFault<'_>) -> Result<(), SinkFault>
-    ensures { WritesAll (E.state err.old) (E.state err.new) (fault_lines tool (fault_of fault.now)) result }
+    ensures { WritesAll (E.state err.old) (E.state err.new) (fault_lines tool (word_fault_value fault.now)) result }
 {
     let mut buffer = [0; 4];
     let (prefix, shown, suffix) = wording(*fault, &mut buffer);
@@ -85,11 +81,11 @@ fn put_lines<'a, E: Sink>(
     put_parts(err, &[name, colon, prefix, shown, suffix, hint, name, end])
 }
 
-// A fault's text: what it shows of the words, between a prefix and a suffix. A letter that it shows is put into the
-// buffer. A full name needs no escape.
+// A fault's text: what it shows of the words, between a prefix and a suffix. The buffer is for a letter that it shows.
+// A full name needs no escape.
 #[rattlefmt::skip]
 fn wording<'a>(fault: WordFault<'a>, buffer: &'a mut [u8; 4]) -> (&'static str, Part<'a>, &'static str)
-    ensures { result.0.now ++ part_text result.1 ++ result.2.now ≡ wording (fault_of fault.entry) }
+    ensures { result.0.now ++ part_text result.1 ++ result.2.now ≡ wording (word_fault_value fault.entry) }
 {
     match fault {
         WordFault::UnknownLong(name) => ("unrecognized option '--", Part::Escaped(name.as_bytes()), "'"),
@@ -123,36 +119,3 @@ fn wording<'a>(fault: WordFault<'a>, buffer: &'a mut [u8; 4]) -> (&'static str, 
 }
 
 const NOTHING: Part<'static> = Part::Bytes(b"");
-
-/// Gives the sink the line for an unknown or missing tool, which it may buffer. `SinkFault` as [`sum_lines::put_all`].
-pub fn put_unknown<E: Sink>(err: &mut E) -> Result<(), SinkFault>
-    ensures { WritesAll (E.state err.old) (E.state err.new) unknown_tool_line result }
-{
-    put_all(err, b"digests: unknown tool\n")
-}
-
-/// Gives the sink the line for words that could not be read, which it may buffer. `SinkFault` as
-/// [`sum_lines::put_all`].
-pub fn put_not_read<E: Sink>(err: &mut E) -> Result<(), SinkFault>
-    ensures { WritesAll (E.state err.old) (E.state err.new) not_read_line result }
-{
-    put_all(err, b"digests: words not read\n")
-}
-
-/// Gives the sink the line for a stop of the tool's run, which it may buffer. `SinkFault` as [`sum_lines::put_all`].
-pub fn put_stop<E: Sink>(err: &mut E, tool: Tool, stop: Stop) -> Result<(), SinkFault>
-    ensures { WritesAll (E.state err.old) (E.state err.new) (stop_line tool stop) result }
-{
-    let name = Part::Bytes(tool.name().as_bytes());
-    put_parts(err, &[name, after_name(stop)])
-}
-
-// The texts of `Stop`'s `Display`, which writes to a formatter and not to a sink.
-fn after_name(stop: Stop) -> Part<'static>
-    ensures { (t : Tool) → name_of t ++ part_text result ≡ stop_line t stop }
-{
-    match stop {
-        Stop::Memory => Part::Bytes(b": memory exhausted\n"),
-        Stop::Write => Part::Bytes(b": write error\n"),
-    }
-}

@@ -1,22 +1,23 @@
-//! The items of the words: options, values, operands, or a fault.
-ghost use Rattle.std.specs.Prelude.{◌≡◌, ◌==◌, List, ℕ, [], ◌∷◌, MatchOption, drop, length, true, false, filter_map};
+//! The items of a tool's words, and those that are operands.
+ghost use Rattle.std.specs.Prelude.{◌≡◌, ◌==◌, List, [], ◌∷◌, MatchOption, drop, length, true, false, filter_map};
 ghost use Rattle.std.specs.Iterator.{item_count};
 ghost use Rattle.std.specs.Option.{option_copied};
 ghost use Rattle.std.specs.List.{starts_with};
 ghost use Rattle.std.specs.Str.{chars};
-ghost use Rattle.sum_words.specs.Items.{a_word, name_part, value_part, long_option, name_or_fault};
+ghost use Rattle.sum_words.specs.Items.{ByteString, a_word, name_part, value_part, long_option, name_or_fault};
 ghost use Rattle.sum_words.specs.Items.{attached_value, cluster, is_option_word, items_from, operand_in};
-ghost use Rattle.sum_words.specs.refinement.ItemIterator.{remaining_items, read_then, step_items, item_of, TakesFirst};
+ghost use Rattle.sum_words.specs.refinement.ItemIterator.{remaining_items, read_then, step_items};
+ghost use Rattle.sum_words.specs.refinement.ItemIterator.{item_value, TakesFirst};
 ghost use Rattle.sum_words.specs.declared.tool.Tool.{Tool};
 
 use crate::messages::word_faults::WordFault;
 use crate::parsing::options::{Flag, Spelling};
 use crate::tool::Tool;
-use crate::words::{LentWords, Words};
+use crate::words::{Words, WordsIter};
 use std::alloc::Allocator;
 use std::marker::Model;
 
-/// An item: an option without a value, the value of `--length`, an operand, or a fault.
+/// An item of words: an option without a value, the value of `--length`, an operand, or a fault.
 #[derive(Clone, Copy, Debug, PartialEq, Eq)]
 pub enum Item<'a> {
     Flag(Flag),
@@ -25,12 +26,11 @@ pub enum Item<'a> {
     Fault(WordFault<'a>),
 }
 
-/// An iterator over the items of a tool's words, seen as the list of those that remain. None follows a fault.
+/// An iterator over the items of a tool's words, seen as the list of those that remain. No item follows a fault.
 #[derive(Debug, Drop)]
 pub struct Items<'a> {
     tool: Tool,
-    words: LentWords<'a>,
-    at: usize,
+    words: WordsIter<'a>,
     state: ParserState<'a>,
 }
 
@@ -43,8 +43,8 @@ enum ParserState<'a> {
     Done,
 }
 
-// The step of one option or word: an item, and what is read next; or the next word is the value of an option that was
-// written so; or all further words are operands.
+// The step of one option or word. It is an item, and what is read next; or the next word is the value of an option; or
+// all further words are operands.
 #[derive(Clone, Copy)]
 enum ParserStep<'a> {
     Item(Item<'a>, ParserState<'a>),
@@ -53,13 +53,13 @@ enum ParserStep<'a> {
 }
 
 impl<'a> Model for Items<'a> {
-    ghost use Rattle.std.specs.Prelude.{List, drop};
+    ghost use Rattle.std.specs.Prelude.{List};
     ghost use Rattle.sum_words.specs.Items.{ItemValue};
     ghost use Rattle.sum_words.specs.refinement.ItemIterator.{remaining_items};
 
     ghost Value = { List ItemValue };
 
-    ghost view = { λ i. remaining_items i.tool i.state (drop i.at i.words) };
+    ghost view = { λ i. remaining_items i.tool i.state i.words };
 }
 
 impl<'a> Items<'a> {
@@ -69,8 +69,7 @@ impl<'a> Items<'a> {
     {
         Items {
             tool,
-            words: words.lent(),
-            at: 0,
+            words: words.iter(),
             state: ParserState::Word,
         }
     }
@@ -79,7 +78,7 @@ impl<'a> Items<'a> {
 impl<'a> Iterator for Items<'a> {
     type Item = Item<'a>;
 
-    ghost next_gives = { TakesFirst item_of };
+    ghost next_gives = { TakesFirst item_value };
 
     ghost remaining = { item_count (λ items. items) };
 
@@ -88,39 +87,28 @@ impl<'a> Iterator for Items<'a> {
             ParserState::Done => return None,
             ParserState::OnlyOperands => ParserStep::OnlyOperands,
             ParserState::Cluster(letter, rest) => letter_step(self.tool, letter, rest),
-            ParserState::Word => word_step(self.tool, take_word(&self.words, &mut self.at)?),
+            ParserState::Word => word_step(self.tool, self.words.next()?),
         };
-        apply_step(self.tool, &self.words, &mut self.at, &mut self.state, step)
+        apply_step(self.tool, &mut self.words, &mut self.state, step)
     }
-}
-
-// The word at a place, which moves to the next.
-#[tactic(auto, using(crate::proofs::CommandLineLemmas::drop_at_none, crate::proofs::CommandLineLemmas::drop_at_some))]
-fn take_word<'a>(words: &LentWords<'a>, at: &mut usize) -> Option<&'a [u8]>
-    ensures { TakesFirst (λ word. word) (drop at.old words.now) (option_copied result) (drop at.new words.now) }
-{
-    let word = words.get(*at)?;
-    *at += 1;
-    Some(word)
 }
 
 // The next item, by a step.
 fn apply_step<'a>(
     tool: Tool,
-    words: &LentWords<'a>,
-    at: &mut usize,
+    words: &mut WordsIter<'a>,
     state: &mut ParserState<'a>,
     step: ParserStep<'a>,
 ) -> Option<Item<'a>>
-    ensures { TakesFirst item_of (step_items tool step.entry (drop at.old words.now))
-        result (remaining_items tool state.new (drop at.new words.now)) }
+    ensures { TakesFirst item_value (step_items tool step.entry words.old) result
+        (remaining_items tool state.new words.new) }
 {
     match step {
         ParserStep::Item(item, next) => {
             *state = next;
             Some(item)
         }
-        ParserStep::Value(spelling) => match take_word(words, at) {
+        ParserStep::Value(spelling) => match words.next() {
             Some(value) => {
                 *state = ParserState::Word;
                 Some(Item::Length(value))
@@ -132,7 +120,7 @@ fn apply_step<'a>(
         },
         ParserStep::OnlyOperands => {
             *state = ParserState::OnlyOperands;
-            Some(Item::Operand(take_word(words, at)?))
+            Some(Item::Operand(words.next()?))
         }
     }
 }
@@ -140,7 +128,7 @@ fn apply_step<'a>(
 // The step of a whole word.
 #[tactic(auto, using(crate::proofs::WordLemmas::no_text))]
 fn word_step<'a>(tool: Tool, word: &'a [u8]) -> ParserStep<'a>
-    ensures { (ws : List (List ℕ)) → step_items tool result ws ≡ items_from tool a_word (word.now ∷ ws) }
+    ensures { (ws : List ByteString) → step_items tool result ws ≡ items_from tool a_word (word.now ∷ ws) }
 {
     if !is_option_word(word) {
         return ParserStep::Item(Item::Operand(word), ParserState::Word);
@@ -158,11 +146,11 @@ fn is_option_word(word: &[u8]) -> bool
     matches!(word, [b'-', _, ..])
 }
 
-// The step of such a word, which is a text.
+// The step of a word that begins with a dash, goes on and is UTF-8.
 #[tactic(auto, using(crate::proofs::WordLemmas::utf8))]
 fn option_step<'a>(tool: Tool, word: &'a str) -> ParserStep<'a>
     requires { is_option_word word.now ≡ true }
-    ensures { (ws : List (List ℕ)) → step_items tool result ws ≡ items_from tool a_word (word.now ∷ ws) }
+    ensures { (ws : List ByteString) → step_items tool result ws ≡ items_from tool a_word (word.now ∷ ws) }
 {
     if word == "--" {
         return ParserStep::OnlyOperands;
@@ -176,7 +164,7 @@ fn option_step<'a>(tool: Tool, word: &'a str) -> ParserStep<'a>
 
 // The step of a long option, without its two dashes.
 fn long_step<'a>(tool: Tool, text: &'a str) -> ParserStep<'a>
-    ensures { (ws : List (List ℕ)) → step_items tool result ws
+    ensures { (ws : List ByteString) → step_items tool result ws
         ≡ read_then tool (long_option (name_or_fault tool (name_part text.now)) (value_part text.now)) ws }
 {
     let (name, value) = name_and_value(text);
@@ -197,7 +185,7 @@ fn long_step<'a>(tool: Tool, text: &'a str) -> ParserStep<'a>
 
 // The step of a letter of a cluster, which the rest of the word follows.
 fn letter_step<'a>(tool: Tool, letter: char, rest: &'a str) -> ParserStep<'a>
-    ensures { (ws : List (List ℕ)) → step_items tool result ws
+    ensures { (ws : List ByteString) → step_items tool result ws
         ≡ read_then tool (cluster tool (letter ∷ chars rest.now)) ws }
 {
     match Flag::of_letter(tool, letter) {
@@ -210,10 +198,10 @@ fn letter_step<'a>(tool: Tool, letter: char, rest: &'a str) -> ParserStep<'a>
     }
 }
 
-// The step of the letter of an option that takes a value: the rest of the word, if any is left.
+// The step of the letter of an option that takes a value. The rest of the word is the value, if any is left.
 #[tactic(auto, using(crate::proofs::WordLemmas::no_value, crate::proofs::WordLemmas::own_value))]
 fn attached_value(rest: &str) -> ParserStep<'_>
-    ensures { (t : Tool) (ws : List (List ℕ)) →
+    ensures { (t : Tool) (ws : List ByteString) →
         step_items t result ws ≡ read_then t (attached_value (chars rest.now)) ws }
 {
     if rest.is_empty() {
@@ -225,10 +213,10 @@ fn attached_value(rest: &str) -> ParserStep<'_>
 
 // What is read next of a cluster.
 fn rest_of_cluster(letters: &str) -> ParserState<'_>
-    ensures { (t : Tool) (ws : List (List ℕ)) → remaining_items t result ws
+    ensures { (t : Tool) (ws : List ByteString) → remaining_items t result ws
         ≡ read_then t (cluster t (chars letters.now)) ws }
 {
-    match first(letters) {
+    match first_letter(letters) {
         Some((letter, rest)) => ParserState::Cluster(letter, rest),
         None => ParserState::Word,
     }
@@ -243,15 +231,15 @@ fn letters_of(word: &str) -> (char, &str)
     let Some(rest) = after_prefix("-", word) else {
         unreachable!()
     };
-    match first(rest) {
+    match first_letter(rest) {
         Some(letters) => letters,
         None => unreachable!(),
     }
 }
 
-// The first character of a text, and the rest; `None` if it is empty.
+// The first character of a text, and the rest. `None` if it is empty.
 #[tactic(auto, using(crate::proofs::WordLemmas::first_char))]
-fn first(text: &str) -> Option<(char, &str)>
+fn first_letter(text: &str) -> Option<(char, &str)>
     ensures { MatchOption result ((text.now ≡ []) × (chars text.now ≡ []))
         (λ p. chars text.now ≡ p.0 ∷ chars p.1.now) }
 {
@@ -260,7 +248,7 @@ fn first(text: &str) -> Option<(char, &str)>
     Some((letter, rest.as_str()))
 }
 
-// The word after a prefix; `None` if it doesn't begin with it.
+// The word after a prefix. `None` if the word doesn't begin with it.
 #[tactic(auto, using(crate::proofs::WordLemmas::prefix_stripped))]
 fn after_prefix<'a>(prefix: &str, word: &'a str) -> Option<&'a str>
     ensures { MatchOption result (starts_with ◌==◌ word.now prefix.now ≡ false)
@@ -287,10 +275,10 @@ pub struct Operands<'a> {
 }
 
 impl<'a> Model for Operands<'a> {
-    ghost use Rattle.std.specs.Prelude.{List, ℕ, filter_map};
-    ghost use Rattle.sum_words.specs.Items.{operand_in};
+    ghost use Rattle.std.specs.Prelude.{List, filter_map};
+    ghost use Rattle.sum_words.specs.Items.{ByteString, operand_in};
 
-    ghost Value = { List (List ℕ) };
+    ghost Value = { List ByteString };
 
     ghost view = { λ o. filter_map operand_in o.items };
 }

@@ -3,13 +3,13 @@ ghost use Rattle.std.specs.Prelude.{◌≡◌, ◌==◌, ◌&&◌, [], ◌∷◌
 ghost use Rattle.std.specs.List.{filter, starts_with};
 ghost use Rattle.std.specs.Str.{bytes_eq};
 ghost use Rattle.sum_words.specs.Items.{row_of, full_name, all_flags, flags_of, has_option, takes_value};
-ghost use Rattle.sum_words.specs.Items.{option_of_letter, the_one, name_or_fault};
-ghost use Rattle.sum_words.specs.refinement.OptionScan.{result_of};
+ghost use Rattle.sum_words.specs.Items.{option_of_letter, only_or_fault, name_or_fault};
+ghost use Rattle.sum_words.specs.refinement.OptionScan.{result_value};
 
 use crate::messages::word_faults::WordFault;
 use crate::tool::Tool;
 
-/// An option. `Length` alone takes a value, and b2sum alone has it.
+/// An option. Only `Length` takes a value, and only b2sum has it.
 #[derive(Clone, Copy, Debug, PartialEq, Eq)]
 pub enum Flag {
     Binary,
@@ -113,11 +113,11 @@ impl Flag {
         matches!(self, Flag::Length)
     }
 
-    /// The tool's option that a long name means: the one of this full name, else the only one that begins with it.
-    /// `UnknownLong` if none does, `AmbiguousLong` if several do.
+    /// The tool's option that a long name means: the one of this full name, or else the only one whose full name begins
+    /// with it. `UnknownLong` if no full name does, `AmbiguousLong` if several do.
     #[tactic(auto, unfolding(crate::specs::Items::name_or_fault))]
     pub fn of_name(tool: Tool, name: &str) -> Result<Flag, WordFault<'_>>
-        ensures { result_of result ≡ name_or_fault tool name.now }
+        ensures { result_value result ≡ name_or_fault tool name.now }
     {
         match first_named(tool, name) {
             Some(flag) => Ok(flag),
@@ -169,7 +169,7 @@ fn begins(tool: Tool, flag: Flag, name: &str) -> bool
 
 // The tool's only option among these whose full name begins with this text.
 fn only_begun<'a>(tool: Tool, flags: &[Flag], name: &'a str) -> Result<Flag, WordFault<'a>>
-    ensures { result_of result ≡ the_one name.now
+    ensures { result_value result ≡ only_or_fault name.now
         (filter (λ flag. has_option tool flag && starts_with ◌==◌ (full_name flag) name.now) flags.now) }
 {
     let mut found = None;

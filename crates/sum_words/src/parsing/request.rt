@@ -1,11 +1,11 @@
-//! What the words ask for.
+//! What the words ask for: settings and operands, help, version, or a fault.
 ghost use Rattle.std.specs.Prelude.{◌≡◌, ◌∷◌, List, [], Ok, filter_map, find};
 ghost use Rattle.std.specs.Option.{option_copied, option_map, option_transpose};
 ghost use Rattle.std.specs.Str.{all_ascii_digits};
 ghost use Rattle.sum_words.specs.Items.{ItemValue, a_word, items_from, option, option_in};
-ghost use Rattle.sum_words.specs.refinement.ItemIterator.{fault_of};
+ghost use Rattle.sum_words.specs.refinement.ItemIterator.{word_fault_value};
 ghost use Rattle.sum_words.specs.Request.{length_kind, mode_of, faults, request_or_fault, request};
-ghost use Rattle.sum_words.specs.refinement.OptionScan.{IsChosenBy, IsScanOf, result_of, IsNumberOf};
+ghost use Rattle.sum_words.specs.refinement.OptionScan.{IsChosenBy, IsScanOf, result_value, IsNumberOf};
 
 use crate::messages::word_faults::WordFault;
 use crate::parsing::items::{Item, Items, Operands};
@@ -17,7 +17,7 @@ use std::alloc::Allocator;
 use sum_engine::{CheckSettings, Report, Settings};
 use sum_lines::{Mode, Style};
 
-/// What a tool's words ask for. No operand means `-`: the caller sees to that.
+/// What a tool's words ask for. If there is no operand, the caller has to take `-` in its place.
 #[derive(Debug, Drop)]
 pub enum Request<'a> {
     /// A line for each operand.
@@ -30,14 +30,14 @@ pub enum Request<'a> {
     Version,
 }
 
-/// Reads what a tool's words ask for (coreutils manual, "md5sum invocation" and "b2sum invocation"). The first of
-/// `--help`, `--version` and the faults of one option decides; without one, the first of the other faults in the order
+/// Reads what a tool's words ask for (coreutils manual, "md5sum invocation" and "b2sum invocation"). The earliest
+/// `--help`, `--version` or fault of a single word decides. If there is none, the other faults are tried in the order
 /// of [`WordFault`]. It takes no memory.
 pub fn read_words<'a, A: Allocator>(
     tool: Tool,
     words: &'a Words<A>,
 ) -> Result<Request<'a>, WordFault<'a>>
-    ensures { result_of result ≡ request tool words.now }
+    ensures { result_value result ≡ request tool words.now }
 {
     let chosen = match read_options(tool, words) {
         ScannedOptions::Options(chosen) => chosen,
@@ -66,14 +66,14 @@ struct Chosen<'a> {
     strict: bool,
 }
 
-// What reading the words returns: their options, or the request, or its fault, if an item decides it.
+// What the words have: their options; or a request or a fault, if a single item decides.
 #[derive(Drop)]
 enum ScannedOptions<'a> {
     Options(Chosen<'a>),
     Early(Result<Request<'a>, WordFault<'a>>),
 }
 
-// The options among the items, or the request if an item decides it.
+// The options among the items; or the request or the fault, if a single item decides.
 fn read_options<'a, A: Allocator>(tool: Tool, words: &'a Words<A>) -> ScannedOptions<'a>
     ensures { IsScanOf result (items_from tool a_word words.now) }
 {
@@ -138,7 +138,7 @@ fn with_flag(chosen: Chosen<'_>, flag: Flag) -> Chosen<'_>
 
 // The kind that the last length value asks for, if there is one.
 fn asked_kind(length: Option<&[u8]>) -> Result<Option<Kind>, WordFault<'_>>
-    ensures { result_of result ≡ option_transpose (option_map length_kind (option_copied length.entry)) }
+    ensures { result_value result ≡ option_transpose (option_map length_kind (option_copied length.entry)) }
 {
     match length {
         None => Ok(None),
@@ -152,7 +152,7 @@ fn asked_kind(length: Option<&[u8]>) -> Result<Option<Kind>, WordFault<'_>>
 
 // The kind that a length value asks for.
 fn length_kind(value: &[u8]) -> Result<Kind, WordFault<'_>>
-    ensures { result_of result ≡ length_kind value.now }
+    ensures { result_value result ≡ length_kind value.now }
 {
     let Some(bits) = number(value) else {
         return Err(WordFault::LengthInvalid(value));
@@ -164,7 +164,7 @@ fn length_kind(value: &[u8]) -> Result<Kind, WordFault<'_>>
     }
 }
 
-// The number of these digits; `None` if there is none or another byte, or if it is 2^64 or more.
+// The number of these digits. `None` if there is no digit or another byte, or if the number is 2^64 or more.
 #[tactic(auto, using(crate::proofs::RequestLemmas::number_parsed, crate::proofs::RequestLemmas::digits_text))]
 fn number(value: &[u8]) -> Option<u64>
     ensures { IsNumberOf value.now result }
@@ -193,7 +193,7 @@ fn all_digits(bytes: &[u8]) -> bool
 // The first fault of the options together.
 fn fault_of_options(chosen: &Chosen<'_>) -> Option<WordFault<'static>>
     ensures { (xs : List ItemValue) → IsChosenBy chosen.now [] xs →
-        option_map fault_of result
+        option_map word_fault_value result
         ≡ option_map (λ row. row.1) (find (λ row. row.0) (faults (filter_map option_in xs))) }
 {
     if chosen.tag && matches!(chosen.mode, Some(Mode::Text)) {
@@ -231,7 +231,7 @@ fn asked_request<'a>(
     operands: Operands<'a>,
 ) -> Result<Request<'a>, WordFault<'a>>
     ensures { (xs : List ItemValue) → IsChosenBy chosen.now [] xs →
-        result_of result ≡ request_or_fault algos kind (filter_map option_in xs) operands.entry }
+        result_value result ≡ request_or_fault algos (Ok kind) (filter_map option_in xs) operands.entry }
 {
     if let Some(fault) = fault_of_options(chosen) {
         return Err(fault);

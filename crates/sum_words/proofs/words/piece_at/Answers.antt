@@ -1,6 +1,6 @@
 use Rattle.std.proofs.Common.{◌≤◌, length, sym}
 use Rattle.std.proofs.lemmas.Option.{slice_get_past}
-use Rattle.sum_words.specs.refinement.WordBytes.{pieces_cut}
+use Rattle.sum_words.specs.Words.{pieces_cut}
 use Rattle.sum_words.proofs.WordBytesLemmas.{piece_read, pieces_cut-length}
 use Rattle.sum_words.proofs.words.piece_at.Goals as goal
 
@@ -20,9 +20,7 @@ slice_bounds-result-count c =
     (piece_read c.args.bytes.now _ _ c.start_of-start.ensures looked.0 looked.1 c.requires).order
 
 pub slice_bounds-result-start : goal.slice_bounds-result-start
-slice_bounds-result-start c =
-    let looked = c.in_ok-end.ensures.lookup in
-    (piece_read c.args.bytes.now _ _ c.start_of-start.ensures looked.0 looked.1 c.requires).order
+slice_bounds-result-start c = slice_bounds-result-count c
 
 -- and ends within the bytes
 pub slice_bounds-result-end : goal.slice_bounds-result-end

@@ -1,6 +1,6 @@
 use Rattle.std.proofs.Common.{◌≡◌, ◌==◌, ◌&&◌, List, drop, filter}
 use Rattle.std.specs.List.{starts_with, cons_option}
-use Rattle.sum_words.specs.Items.{Flag, full_name, has_option, the_one}
+use Rattle.sum_words.specs.Items.{Flag, full_name, has_option, only_or_fault}
 use Rattle.sum_words.proofs.parsing.options.only_begun.Given as goal
 
 -- the option found so far and the remaining ones give the same as all
@@ -8,5 +8,5 @@ abbrev pub invariant-loop-flag : goal.invariant-loop-flag
 invariant-loop-flag l =
     let begun = λ (flags : List Flag).
     filter (λ flag. has_option l.tool flag && starts_with ◌==◌ (full_name flag) l.name) flags in
-    the_one l.name (begun l.flags)
-    ≡ the_one l.name (cons_option l.found (begun (drop l.flag-index l.flags)))
+    only_or_fault l.name (begun l.flags)
+    ≡ only_or_fault l.name (cons_option l.found (begun (drop l.flag-index l.flags)))

@@ -1,6 +1,6 @@
 use Rattle.std.proofs.Common.{◌≡◌, sym, ◌∙◌, ap, ◌∷◌}
 use Rattle.sum_words.specs.Items.{a_word, items_from, option}
-use Rattle.sum_words.specs.refinement.ItemIterator.{item_of}
+use Rattle.sum_words.specs.refinement.ItemIterator.{item_value}
 use Rattle.sum_words.specs.Request.{early_request}
 use Rattle.sum_words.proofs.RequestLemmas.{no_early_request}
 use Rattle.sum_words.proofs.parsing.request.read_options.Goals as goal
@@ -11,7 +11,7 @@ loop-item-preserved-in_default-flag g c =
     let one = option c.in-Flag.flag in
     let rest = c.next.new.self in
     let all = items_from c.args.tool a_word c.args.words.now in
-    let taken : c.loop-item.items ≡ one ∷ rest = c.in-Some.ensures.steps ∙ ap (λ i. item_of i ∷ rest) c.in-Flag.is in
+    let taken : c.loop-item.items ≡ one ∷ rest = c.in-Some.ensures.steps ∙ ap (λ i. item_value i ∷ rest) c.in-Flag.is in
     record {
       chosen = c.with_flag-chosen.ensures rest all (rw taken at c.loop-item.invariant.chosen);
       early = sym (no_early_request c.in-Flag.flag rest c.in_default-flag.not-Help c.in_default-flag.not-Version)

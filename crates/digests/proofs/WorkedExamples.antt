@@ -1,4 +1,5 @@
--- Worked command lines: both texts, the names that are asked and whether all is good, as the meaning has them.
+-- Worked examples: the meaning of some command lines, computed. It has both texts, the names that are asked, and
+-- whether all is good.
 use Rattle.std.proofs.Common.{◌≡◌, ◌++◌, Bool, List, [], ◌∷◌, refl, codes, true}
 use Rattle.std.proofs.Common.{false, flat_map, if◌then◌else◌, bytes_eq, Ok, Err}
 use Rattle.std.specs.Prelude.{⊤}
@@ -23,7 +24,7 @@ use Rattle.sum_words.specs.declared.tool.Tool.TheVariants.{Md5sum, B2sum, Anysum
 use Rattle.sum_words.specs.Items.{ByteString, name_or_fault, option_of_letter}
 use Rattle.digests.specs.Meaning.{meaning}
 
--- what a row unfolds, so that its texts are computed
+-- what a worked example unfolds, so that its texts are computed
 unfoldable meaning_on_literals : ⊤
 unfolding chars encode is_utf8 name_or_fault option_of_letter limit raw_lines entry_of plain_parts tagged_parts
     rsplit_once encode_with decode_pairs digits md5_words md5_rounds md5_compress md5_after md5_bytes md5
@@ -31,24 +32,24 @@ unfolding chars encode is_utf8 name_or_fault option_of_letter limit raw_lines en
 meaning_on_literals = tt
 
 -- bytes that end whole
-abbrev whole : ByteString → Content
-whole bytes = record { bytes = bytes; ending = Whole }
+abbrev whole_content : ByteString → Content
+whole_content bytes = record { bytes = bytes; ending = Whole }
 
 -- bytes, and then a fault
-abbrev broken : ByteString → Content
-broken bytes = record { bytes = bytes; ending = Broken Other }
+abbrev broken_content : ByteString → Content
+broken_content bytes = record { bytes = bytes; ending = Broken Other }
 
 -- the file `a` holds abc, `e` is empty, `l` has one content and standard input another; no other file is there
 abbrev answer_with : Content → ByteString → Reply
 answer_with l name =
-    if bytes_eq name (codes "a") then Ok (whole (codes "abc"))
-    else if bytes_eq name (codes "e") then Ok (whole [])
+    if bytes_eq name (codes "a") then Ok (whole_content (codes "abc"))
+    else if bytes_eq name (codes "e") then Ok (whole_content [])
     else if bytes_eq name (codes "l") then Ok l
     else Err NotFound
 
 -- the content of these lines, which ends whole
 abbrev list_of : List ByteString → Content
-list_of lines = whole (flat_map (λ line. line ++ codes "\n") lines)
+list_of lines = whole_content (flat_map (λ line. line ++ codes "\n") lines)
 
 -- the world of these files
 abbrev world : Content → Content → World
@@ -70,7 +71,7 @@ outcome tool words w =
 -- md5sum a e
 files : outcome Md5sum
     (codes "a" ∷ codes "e" ∷ [])
-    (world (whole []) (whole [])) ≡ record {
+    (world (whole_content []) (whole_content [])) ≡ record {
       out = concat (codes "900150983cd24fb0d6963f7d28e17f72  a\n"
           ∷ codes "d41d8cd98f00b204e9800998ecf8427e  e\n" ∷ []);
       err = [];
@@ -83,7 +84,7 @@ files = refl
 -- md5sum a x e
 missing_file : outcome Md5sum
     (codes "a" ∷ codes "x" ∷ codes "e" ∷ [])
-    (world (whole []) (whole [])) ≡ record {
+    (world (whole_content []) (whole_content [])) ≡ record {
       out = concat (codes "900150983cd24fb0d6963f7d28e17f72  a\n"
           ∷ codes "d41d8cd98f00b204e9800998ecf8427e  e\n" ∷ []);
       err = concat (codes "md5sum: x: No such file or directory\n" ∷ []);
@@ -96,7 +97,7 @@ missing_file = refl
 -- md5sum - -, with `abc` on standard input
 stdin_twice : outcome Md5sum
     (codes "-" ∷ codes "-" ∷ [])
-    (world (whole []) (whole (codes "abc"))) ≡ record {
+    (world (whole_content []) (whole_content (codes "abc"))) ≡ record {
       out = concat (codes "900150983cd24fb0d6963f7d28e17f72  -\n"
           ∷ codes "d41d8cd98f00b204e9800998ecf8427e  -\n" ∷ []);
       err = [];
@@ -109,7 +110,7 @@ stdin_twice = refl
 -- md5sum, whose input gives three bytes and then a fault
 stdin_fails : outcome Md5sum
     ([])
-    (world (whole []) (broken (codes "abc"))) ≡ record {
+    (world (whole_content []) (broken_content (codes "abc"))) ≡ record {
       out = [];
       err = concat (codes "md5sum: -: Input/output error\n" ∷ []);
       asks = codes "-" ∷ [];
@@ -121,7 +122,7 @@ stdin_fails = refl
 -- b2sum -l 256 --tag e
 tagged : outcome B2sum
     (codes "-l" ∷ codes "256" ∷ codes "--tag" ∷ codes "e" ∷ [])
-    (world (whole []) (whole [])) ≡ record {
+    (world (whole_content []) (whole_content [])) ≡ record {
       out = concat (codes "BLAKE2b-256 (e) = 0e5751c026e543b2e8ab2eb06099daa1d1e5df47778f7787faab45cdf12fe3a8\n" ∷ []);
       err = [];
       asks = codes "e" ∷ [];
@@ -133,7 +134,7 @@ tagged = refl
 -- md5sum --foo --help
 unknown_option : outcome Md5sum
     (codes "--foo" ∷ codes "--help" ∷ [])
-    (world (whole []) (whole [])) ≡ record {
+    (world (whole_content []) (whole_content [])) ≡ record {
       out = [];
       err = concat (codes "md5sum: unrecognized option '--foo'\n"
           ∷ codes "Try 'md5sum --help' for more information.\n" ∷ []);
@@ -150,7 +151,7 @@ all_verdicts : outcome Md5sum
     ∷ codes "#c"
     ∷ codes "junk"
     ∷ codes "900150983cd24fb0d6963f7d28e17f72 *x"
-    ∷ codes "900150983cd24fb0d6963f7d28e17f72  e" ∷ [])) (whole [])) ≡ record {
+    ∷ codes "900150983cd24fb0d6963f7d28e17f72  e" ∷ [])) (whole_content [])) ≡ record {
       out = concat (codes "a: OK\n"
           ∷ codes "x: FAILED open or read\n"
           ∷ codes "e: FAILED\n" ∷ []);
@@ -171,7 +172,7 @@ ignore_missing : outcome Md5sum
     ∷ codes "#c"
     ∷ codes "junk"
     ∷ codes "900150983cd24fb0d6963f7d28e17f72 *x"
-    ∷ codes "900150983cd24fb0d6963f7d28e17f72  e" ∷ [])) (whole [])) ≡ record {
+    ∷ codes "900150983cd24fb0d6963f7d28e17f72  e" ∷ [])) (whole_content [])) ≡ record {
       out = concat (codes "a: OK\n"
           ∷ codes "e: FAILED\n" ∷ []);
       err = concat (codes "md5sum: l: 3: improperly formatted MD5 checksum line\n"
@@ -186,7 +187,7 @@ ignore_missing = refl
 -- md5sum -c, whose manifest on standard input lists `-`
 nothing_to_check : outcome Md5sum
     (codes "-c" ∷ [])
-    (world (whole []) (list_of (codes "900150983cd24fb0d6963f7d28e17f72  -" ∷ []))) ≡ record {
+    (world (whole_content []) (list_of (codes "900150983cd24fb0d6963f7d28e17f72  -" ∷ []))) ≡ record {
       out = [];
       err = concat (codes "md5sum: standard input: no properly formatted checksum lines found\n" ∷ []);
       asks = codes "-" ∷ [];
@@ -198,9 +199,9 @@ nothing_to_check = refl
 -- md5sum -c l, where the manifest breaks off in its second line
 manifest_fails : outcome Md5sum
     (codes "-c" ∷ codes "l" ∷ [])
-    (world (broken (
+    (world (broken_content (
     codes "900150983cd24fb0d6963f7d28e17f72  a\n"
-    ++ codes "900150983cd24fb0d6963f7d28e17f72  a")) (whole [])) ≡ record {
+    ++ codes "900150983cd24fb0d6963f7d28e17f72  a")) (whole_content [])) ≡ record {
       out = concat (codes "a: OK\n" ∷ []);
       err = concat (codes "md5sum: l: Input/output error\n" ∷ []);
       asks = codes "l" ∷ codes "a" ∷ [];
@@ -212,7 +213,7 @@ manifest_fails = refl
 -- md5sum -c l l, which lists `-`, with `abc` on standard input
 stdin_listed : outcome Md5sum
     (codes "-c" ∷ codes "l" ∷ codes "l" ∷ [])
-    (world (list_of (codes "900150983cd24fb0d6963f7d28e17f72  -" ∷ [])) (whole (codes "abc"))) ≡ record {
+    (world (list_of (codes "900150983cd24fb0d6963f7d28e17f72  -" ∷ [])) (whole_content (codes "abc"))) ≡ record {
       out = concat (codes "-: OK\n"
           ∷ codes "-: FAILED\n" ∷ []);
       err = concat (codes "md5sum: WARNING: 1 computed checksum did NOT match\n" ∷ []);
@@ -226,7 +227,7 @@ stdin_listed = refl
 reversed_form : outcome Md5sum
     (codes "-c" ∷ codes "l" ∷ [])
     (world (list_of (codes "900150983cd24fb0d6963f7d28e17f72 a"
-    ∷ codes "900150983cd24fb0d6963f7d28e17f72  a" ∷ [])) (whole [])) ≡ record {
+    ∷ codes "900150983cd24fb0d6963f7d28e17f72  a" ∷ [])) (whole_content [])) ≡ record {
       out = concat (codes "a: OK\n"
           ∷ codes " a: FAILED open or read\n" ∷ []);
       err = concat (codes "md5sum:  a: No such file or directory\n"
@@ -242,7 +243,7 @@ mixed_tags : outcome Anysum
     (codes "-c" ∷ codes "l" ∷ [])
     (world (list_of (codes "MD5 (a) = 900150983cd24fb0d6963f7d28e17f72"
     ∷ codes "BLAKE2b-256 (e) = 0e5751c026e543b2e8ab2eb06099daa1d1e5df47778f7787faab45cdf12fe3a8"
-    ∷ codes "900150983cd24fb0d6963f7d28e17f72  a" ∷ [])) (whole [])) ≡ record {
+    ∷ codes "900150983cd24fb0d6963f7d28e17f72  a" ∷ [])) (whole_content [])) ≡ record {
       out = concat (codes "a: OK\n"
           ∷ codes "e: OK\n" ∷ []);
       err = concat (codes "anysum: WARNING: 1 line is improperly formatted\n" ∷ []);

@@ -1,6 +1,7 @@
-//! Worked command lines, whose texts were written down before there was a program.
+//! Worked examples, whose texts were written down before there was a program.
 use super::{
-    MISSING, MIXED, REPORTS, Row, VERDICTS, WARNINGS, assert_broken, assert_rows, joined, repeated,
+    Example, MISSING, MIXED, REPORTS, VERDICTS, WARNINGS, assert_broken, assert_examples, join,
+    repeat,
 };
 use std::process::Abort;
 use std::test::Fail;
@@ -10,7 +11,7 @@ use sum_sources::Fault;
 fn lines_of_names(rt: HostRuntime) -> Result<(), Fail> {
     let full = "BLAKE2b (e) = 786a02f742015903c6c6fd852552d272912f4740e15847618a86e217f71f5419\
         d25e1031afee585313896444934eb04b903a685b1448b755d56f701afe9be2ce\n";
-    let rows = [
+    let examples = [
         ("md5sum a e", "$M  a\n$E  e\n", "", 0),
         ("md5sum -b a", "$M *a\n", "", 0),
         ("md5sum - -", "$M  -\n$E  -\n", "", 0),
@@ -28,29 +29,29 @@ fn lines_of_names(rt: HostRuntime) -> Result<(), Fail> {
         ("md5sum ", "", "md5sum: : No such file or directory\n", 1),
         ("sha256sum -- -b", "$S  -b\n", "", 0),
     ];
-    assert_rows(&rt, "abc", &[("-b", "abc")], &rows)
+    assert_examples(&rt, "abc", &[("-b", "abc")], &examples)
 }
 
 // A file of more bytes than one read gives, and then a fault.
 #[test]
 fn long_broken_file(rt: HostRuntime) -> Result<(), Fail> {
-    let text = repeated(rt.alloc(), 'x', 9000)?;
-    let row = ("md5sum f", "", "md5sum: f: Input/output error\n", 1);
-    assert_broken(&rt, "f", text.as_bytes(), Fault::Other, row)
+    let text = repeat(rt.alloc(), 'x', 9000)?;
+    let example = ("md5sum f", "", "md5sum: f: Input/output error\n", 1);
+    assert_broken(&rt, "f", text.as_bytes(), Fault::Other, example)
 }
 
 // Each line writes its tool's name and the text, then where to read more, and nothing else; the status is 1.
-fn assert_faults(rt: &(impl Abort + AllocGlobal), rows: &[(&str, &str)]) -> Result<(), Fail> {
-    for (line, text) in rows {
+fn assert_faults(rt: &(impl Abort + AllocGlobal), examples: &[(&str, &str)]) -> Result<(), Fail> {
+    for (line, text) in examples {
         let tool = line.split(' ').next().ok_or("no tool")?;
         let more = ["\nTry '", tool, " --help' for more information.\n"];
-        let err = joined(rt.alloc(), &[tool, ": ", text, more[0], more[1], more[2]])?;
-        let row: Row = (line, "", err.as_str(), 1);
-        assert_rows(
+        let err = join(rt.alloc(), &[tool, ": ", text, more[0], more[1], more[2]])?;
+        let example: Example = (line, "", err.as_str(), 1);
+        assert_examples(
             rt,
             "abc",
             &[("l", "$M  a\n"), ("m", "MD5 (a) = $M\n")],
-            &[row],
+            &[example],
         )?;
     }
     Ok(())
@@ -59,7 +60,7 @@ fn assert_faults(rt: &(impl Abort + AllocGlobal), rows: &[(&str, &str)]) -> Resu
 #[test]
 fn faults_of_options(rt: HostRuntime) -> Result<(), Fail> {
     let only = "option is meaningful only when verifying checksums";
-    let rows = [
+    let examples = [
         ("sha256sum --st l", "option '--st' is ambiguous"),
         (
             "sha256sum --str l",
@@ -96,7 +97,7 @@ fn faults_of_options(rt: HostRuntime) -> Result<(), Fail> {
             "--tag does not support --text mode",
         ),
     ];
-    assert_faults(&rt, &rows)?;
+    assert_faults(&rt, &examples)?;
     for (line, option) in [
         (
             "md5sum --strict --ignore-missing a",
@@ -107,7 +108,7 @@ fn faults_of_options(rt: HostRuntime) -> Result<(), Fail> {
         ("md5sum --status --quiet a", "the --quiet "),
         ("anysum --quiet m", "the --quiet "),
     ] {
-        let text = joined(rt.alloc(), &[option, only])?;
+        let text = join(rt.alloc(), &[option, only])?;
         assert_faults(&rt, &[(line, text.as_str())])?;
     }
     Ok(())
@@ -115,7 +116,7 @@ fn faults_of_options(rt: HostRuntime) -> Result<(), Fail> {
 
 #[test]
 fn faults_of_lengths_and_of_anysum(rt: HostRuntime) -> Result<(), Fail> {
-    let rows = [
+    let examples = [
         ("b2sum -l 520 e", "invalid length: '520'"),
         ("b2sum -l 513 e", "invalid length: '513'"),
         ("b2sum -l 12 e", "length is not a multiple of 8: '12'"),
@@ -135,14 +136,14 @@ fn faults_of_lengths_and_of_anysum(rt: HostRuntime) -> Result<(), Fail> {
         ("anysum -c -l 8 m", "invalid option -- 'l'"),
         ("anysum -c --length=8 m", "unrecognized option '--length'"),
     ];
-    assert_faults(&rt, &rows)
+    assert_faults(&rt, &examples)
 }
 
 // No line of these manifests is an entry, or none was verified.
 #[test]
 fn nothing_verified(rt: HostRuntime) -> Result<(), Fail> {
     let none = "md5sum: e: no properly formatted checksum lines found\n";
-    let rows = [
+    let examples = [
         ("md5sum -c e", "", none, 1),
         ("md5sum -c --status e", "", none, 1),
         (
@@ -152,29 +153,29 @@ fn nothing_verified(rt: HostRuntime) -> Result<(), Fail> {
             1,
         ),
     ];
-    assert_rows(&rt, "", &[("l2", "$M  x\n")], &rows)?;
-    let rows = [(
+    assert_examples(&rt, "", &[("l2", "$M  x\n")], &examples)?;
+    let examples = [(
         "md5sum -c",
         "",
         "md5sum: standard input: no properly formatted checksum lines found\n",
         1,
     )];
     for input in ["$M  -\n", "MD5 (a) = junk\n"] {
-        assert_rows(&rt, input, &[], &rows)?;
+        assert_examples(&rt, input, &[], &examples)?;
     }
-    let rows = [(
+    let examples = [(
         "anysum -c",
         "",
         "anysum: standard input: no properly formatted checksum lines found\n",
         1,
     )];
-    assert_rows(&rt, "$M  a\n", &[], &rows)
+    assert_examples(&rt, "$M  a\n", &[], &examples)
 }
 
 #[test]
 fn settings_of_reports(rt: HostRuntime) -> Result<(), Fail> {
     let mixed = "anysum: WARNING: 2 lines are improperly formatted\n";
-    let rows = [
+    let examples = [
         ("md5sum -c l", REPORTS, WARNINGS, 1),
         (
             "md5sum -c --quiet l",
@@ -201,7 +202,7 @@ fn settings_of_reports(rt: HostRuntime) -> Result<(), Fail> {
         ),
     ];
     let manifests = [("l", VERDICTS), ("l5", "$M  -\n"), ("m", MIXED)];
-    assert_rows(&rt, "abc", &manifests, &rows)
+    assert_examples(&rt, "abc", &manifests, &examples)
 }
 
 // The layouts of manifests, digits in upper case, BLAKE2b's tags, and the ends of lines.
@@ -221,7 +222,7 @@ fn forms_of_manifests(rt: HostRuntime) -> Result<(), Fail> {
         ("l12", "$M  a\r\r\n"),
     ];
     let bad = "md5sum: WARNING: 1 line is improperly formatted\n";
-    let rows = [
+    let examples = [
         ("md5sum -c upper", "a: OK\n", "", 0),
         ("md5sum -c narrow", "a: OK\n", "", 0),
         (
@@ -254,13 +255,13 @@ fn forms_of_manifests(rt: HostRuntime) -> Result<(), Fail> {
             1,
         ),
     ];
-    assert_rows(&rt, "", &manifests, &rows)
+    assert_examples(&rt, "", &manifests, &examples)
 }
 
 #[test]
 fn escaped_names(rt: HostRuntime) -> Result<(), Fail> {
     let l6 = "\\$M  q\\\\\\nz\n\\$M  q\\x\n\\$M  q\\\n\\$M  a\\r\n$M  q\\x\n";
-    let rows = [(
+    let examples = [(
         "md5sum -c l6",
         "\\q\\\\\\nz: OK\n\\a\\r: FAILED open or read\n\\q\\\\x: FAILED open or read\n",
         "md5sum: a\\r: No such file or directory\n\
@@ -269,13 +270,13 @@ fn escaped_names(rt: HostRuntime) -> Result<(), Fail> {
          md5sum: WARNING: 2 listed files could not be read\n",
         1,
     )];
-    assert_rows(&rt, "", &[("l6", l6)], &rows)
+    assert_examples(&rt, "", &[("l6", l6)], &examples)
 }
 
 // Counts above one.
 #[test]
 fn plurals(rt: HostRuntime) -> Result<(), Fail> {
-    let rows = [(
+    let examples = [(
         "md5sum -c l10",
         "x: FAILED open or read\nx: FAILED open or read\na: FAILED\na: FAILED\n",
         "md5sum: x: No such file or directory\n\
@@ -285,10 +286,10 @@ fn plurals(rt: HostRuntime) -> Result<(), Fail> {
          md5sum: WARNING: 2 computed checksums did NOT match\n",
         1,
     )];
-    assert_rows(
+    assert_examples(
         &rt,
         "",
         &[("l10", "$M  x\n$M  x\n$E  a\n$E  a\njunk\njunk\n")],
-        &rows,
+        &examples,
     )
 }

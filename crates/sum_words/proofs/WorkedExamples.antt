@@ -1,4 +1,4 @@
--- Worked command lines: what the definitions give for each, computed.
+-- Worked examples: what the definitions say of some command lines, computed.
 use Rattle.std.proofs.Common.{rules, ◌≡◌, ◌==◌, ◌≤◌, ◌<◌, List, ℕ, [], ◌∷◌, Result, Ok}
 use Rattle.std.proofs.Common.{Err, refl, codes, true, false, length, arith, Any as SomeOne}
 use Rattle.std.proofs.lemmas.Grind.{common_steps}

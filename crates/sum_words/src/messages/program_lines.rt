@@ -1,0 +1,45 @@
+//! The lines for an unknown tool, for words that could not be read, and for a stop.
+ghost use Rattle.std.specs.Prelude.{◌≡◌, ◌++◌};
+ghost use Rattle.sum_lines.specs.sinks.Sinks.{WritesAll};
+ghost use Rattle.sum_lines.specs.refinement.PartTexts.{part_text};
+ghost use Rattle.sum_words.specs.declared.tool.Tool.{Tool};
+ghost use Rattle.sum_words.specs.Tools.{name_of};
+ghost use Rattle.sum_words.specs.Texts.{stop_line, unknown_tool_line, not_read_line};
+
+use crate::tool::Tool;
+use sum_engine::Stop;
+use sum_lines::{Part, Sink, SinkFault, put_all, put_parts};
+
+/// Gives the sink the line for an unknown or missing tool. The sink may buffer it. `SinkFault` as
+/// [`sum_lines::put_all`].
+pub fn put_unknown<E: Sink>(err: &mut E) -> Result<(), SinkFault>
+    ensures { WritesAll (E.state err.old) (E.state err.new) unknown_tool_line result }
+{
+    put_all(err, b"digests: unknown tool\n")
+}
+
+/// Gives the sink the line for words that could not be read. The sink may buffer it. `SinkFault` as
+/// [`sum_lines::put_all`].
+pub fn put_not_read<E: Sink>(err: &mut E) -> Result<(), SinkFault>
+    ensures { WritesAll (E.state err.old) (E.state err.new) not_read_line result }
+{
+    put_all(err, b"digests: words not read\n")
+}
+
+/// Gives the sink the line for a stop of a tool's run. The sink may buffer it. `SinkFault` as [`sum_lines::put_all`].
+pub fn put_stop<E: Sink>(err: &mut E, tool: Tool, stop: Stop) -> Result<(), SinkFault>
+    ensures { WritesAll (E.state err.old) (E.state err.new) (stop_line tool stop) result }
+{
+    let name = Part::Bytes(tool.name().as_bytes());
+    put_parts(err, &[name, after_name(stop)])
+}
+
+// The texts of `Stop`'s `Display`, which writes to a formatter and not to a sink.
+fn after_name(stop: Stop) -> Part<'static>
+    ensures { (t : Tool) → name_of t ++ part_text result ≡ stop_line t stop }
+{
+    match stop {
+        Stop::Memory => Part::Bytes(b": memory exhausted\n"),
+        Stop::Write => Part::Bytes(b": write error\n"),
+    }
+}
