@@ -1,7 +1,7 @@
 -- The end of a program: a run that answered, both outputs flushed once more, and the line for a stop.
 use Rattle.std.proofs.Common.{rules, ◌≡◌, [], ◌∷◌, ◌++◌, Option, refl}
 use Rattle.std.specs.Io.KnownBytes.{Keeps, Appends}
-use Rattle.sum_lines.specs.sinks.Sinks.{SinkState, FlushFailed}
+use Rattle.sum_lines.specs.sinks.Sinks.{SinkState, FailsToFlush}
 use Rattle.sum_words.specs.Items.{ByteString}
 
 -- nothing has no prefix but nothing
@@ -14,6 +14,6 @@ pub flushed-none : (a b : Option ByteString) {held : ByteString} → Appends a b
 flushed-none = search rules
 
 -- also if it fails
-pub flush_failed-none : (a b : SinkState) → FlushFailed a b → a.buffered ≡ [] → Keeps a.written b.written
+pub flush_failed-none : (a b : SinkState) → FailsToFlush a b → a.buffered ≡ [] → Keeps a.written b.written
 flush_failed-none a b h none =
     flushed-none a.written b.written h.written.2 (no_prefix h.written.0 h.written.1.0 (rw none at h.written.1.1))

@@ -1,6 +1,6 @@
 -- Runs that write one text and nothing else: a fault, the help, the version.
 use Rattle.std.proofs.Common.{rules, ℕ, Bool, [], Result, refl}
-use Rattle.sum_sources.specs.Contents.{SourceState}
+use Rattle.sum_sources.specs.Sources.{SourceState}
 use Rattle.sum_engine.specs.declared.stop.Stop.{Stop}
 use Rattle.sum_engine.specs.Behavior.{single_step}
 use Rattle.sum_engine.specs.Execution.{OutputsState, StreamsState, Performs, FailuresMatch}

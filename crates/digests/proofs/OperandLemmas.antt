@@ -4,7 +4,7 @@ use Rattle.std.proofs.Common.{Option, None, Some, Ok, Err, refl, ap, sym, ◌∙
 use denote.Ref.{Bor}
 use Rattle.std.proofs.Math.Bool.{and_assoc, and-true}
 use Rattle.std.proofs.lemmas.List.{append-nil}
-use Rattle.sum_sources.specs.Contents.{SourceState}
+use Rattle.sum_sources.specs.Sources.{SourceState}
 use Rattle.sum_engine.proofs.WorldLemmas.{InSomeWorld-map, InSomeWorld-then}
 use Rattle.sum_engine.specs.declared.stop.Stop.{Stop}
 use Rattle.sum_engine.specs.Behavior.{World, after, Behavior, behavior_then, trace, asks}

@@ -1,7 +1,7 @@
 -- A run and its end, joined: what the whole program does.
 use Rattle.std.proofs.Common.{rules, ◌≡◌, ℕ, List, [], Option, None, Some, IfSome, Result, Ok, Err}
 use Rattle.std.proofs.Common.{false, sym, inl, inr, refl, subst, append-nil}
-use Rattle.sum_sources.specs.Contents.{SourceState}
+use Rattle.sum_sources.specs.Sources.{SourceState}
 use Rattle.sum_engine.proofs.WorldLemmas.{InSomeWorld-map}
 use Rattle.sum_engine.specs.declared.stop.Stop.{Stop}
 use Rattle.sum_engine.specs.declared.stop.Stop.TheVariants.{Memory, Write}

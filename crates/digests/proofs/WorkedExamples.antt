@@ -18,7 +18,8 @@ use Rattle.hex.specs.Hex.{encode_with, decode_pairs}
 use Rattle.sum_lines.specs.grammar.LineParts.{plain_parts, tagged_parts}
 use Rattle.sum_sources.specs.ManifestLines.{raw_lines}
 use Rattle.sum_lines.specs.grammar.ParsedLines.{entry_of}
-use Rattle.sum_sources.specs.Contents.{Content, limit, Reply}
+use Rattle.sum_sources.specs.Contents.{Content, limit}
+use Rattle.sum_sources.specs.Sources.{Answer}
 use Rattle.sum_words.specs.declared.tool.Tool.{Tool}
 use Rattle.sum_words.specs.declared.tool.Tool.TheVariants.{Md5sum, B2sum, Anysum}
 use Rattle.sum_words.specs.Items.{ByteString, name_or_fault, option_of_letter}
@@ -40,7 +41,7 @@ abbrev broken_content : ByteString → Content
 broken_content bytes = record { bytes = bytes; ending = Broken Other }
 
 -- the file `a` holds abc, `e` is empty, `l` has one content and standard input another; no other file is there
-abbrev answer_with : Content → ByteString → Reply
+abbrev answer_with : Content → ByteString → Answer
 answer_with l name =
     if bytes_eq name (codes "a") then Ok (whole_content (codes "abc"))
     else if bytes_eq name (codes "e") then Ok (whole_content [])

@@ -6,9 +6,10 @@ use Rattle.sum_engine.specs.check.Verdicts.{Algos}
 use Rattle.sum_engine.specs.declared.check.judge.Verdict.TheVariants.{Right}
 use Rattle.sum_engine.specs.check.Reports.{out_by}
 use Rattle.sum_lines.specs.Escape.{present}
-use Rattle.sum_engine.specs.Behavior.{Whole, World, Behavior, is_dash, reply, out_text, err_text}
-use Rattle.sum_sources.specs.Contents.{limit, Reply}
-use Rattle.sum_lines.specs.grammar.LineLaws.{ReadBy}
+use Rattle.sum_engine.specs.Behavior.{Whole, World, Behavior, is_dash, answer_to, out_text, err_text}
+use Rattle.sum_sources.specs.Contents.{limit}
+use Rattle.sum_sources.specs.Sources.{Answer}
+use Rattle.sum_lines.specs.grammar.LineLaws.{AllowsMode}
 use Rattle.sum_engine.specs.declared.settings.Settings.{Settings}
 use Rattle.sum_engine.specs.declared.settings.CheckSettings.{CheckSettings}
 use Rattle.sum_engine.specs.Generation.{generate_behavior}
@@ -21,7 +22,7 @@ use Rattle.digests.specs.Meaning.{operands_behavior, meaning, status_of}
 use Rattle.sum_words.specs.declared.parsing.options.Flag.TheVariants as flags
 
 -- a name that isn't empty, holds no NUL and isn't `-`, and whose file is whole and not too long
-pub record IsListable (answer : ByteString → Reply) (name : ByteString) : Type 0 where
+pub record IsListable (answer : ByteString → Answer) (name : ByteString) : Type 0 where
   pub some : 0 < length name
   pub no_nul : All (λ b. 0 < b) name
   pub no_dash : is_dash name ≡ false
@@ -41,15 +42,15 @@ generation_output w g = out_text (operands_behavior (generate_behavior g.setting
 
 -- what a run wrote of these files can be checked later: its lines end with newlines, and the checking tool reads them;
 -- its files can be listed, and are then the same
-pub record IsCheckable (algos : Algos) (files later : ByteString → Reply) (g : GenerationRun) : Type 0 where
+pub record IsCheckable (algos : Algos) (files later : ByteString → Answer) (g : GenerationRun) : Type 0 where
   pub newlines : g.settings.style.zero ≡ false
   pub has : IsTrue (has_len g.settings.kind.algo g.settings.kind.len)
-  pub read_by : ReadBy algos g.settings.style.mode g.settings.kind.algo
+  pub read_by : AllowsMode algos g.settings.style.mode g.settings.kind.algo
   pub listable : All (IsListable files) g.names
   pub same : All (λ name. later name ≡ files name) g.names
 
 -- a world in which these are the files, whatever was asked
-abbrev pub HasFiles : World → (ByteString → Reply) → Type 0
+abbrev pub HasFiles : World → (ByteString → Answer) → Type 0
 HasFiles w files = w.answer ≡ (λ asked. files)
 
 -- the options that ask for a check with these settings
@@ -71,17 +72,17 @@ pub record ReportsAllOk (report : Report) (run : Behavior) (names : List ByteStr
 
 -- what one run wrote for one name or more is good as a manifest, if it isn't too long
 abbrev pub WrittenIsGood : Type 0
-WrittenIsGood = (t : Tool) (check : CheckSettings) (manifest : ByteString) (files later : ByteString → Reply)
+WrittenIsGood = (t : Tool) (check : CheckSettings) (manifest : ByteString) (files later : ByteString → Answer)
     (w v : World) (g : GenerationRun) → HasFiles w files → HasFiles v later → check.algo ≡ algos_of t
     → IsCheckable check.algo files later g → 0 < length g.names → length (generation_output w g) < limit
-    → reply v manifest ≡ Ok (record { bytes = generation_output w g; ending = Whole })
+    → answer_to v manifest ≡ Ok (record { bytes = generation_output w g; ending = Whole })
     → ReportsAllOk check.report (meaning t (check_words check manifest) v) g.names
 
 -- so is what several runs wrote, one after another
 abbrev pub JoinedIsGood : Type 0
-JoinedIsGood = (t : Tool) (check : CheckSettings) (manifest : ByteString) (files later : ByteString → Reply)
+JoinedIsGood = (t : Tool) (check : CheckSettings) (manifest : ByteString) (files later : ByteString → Answer)
     (w v : World) (gs : List GenerationRun) → HasFiles w files → HasFiles v later → check.algo ≡ algos_of t
     → All (IsCheckable check.algo files later) gs → 0 < length (flat_map (λ g. g.names) gs)
     → length (flat_map (generation_output w) gs) < limit
-    → reply v manifest ≡ Ok (record { bytes = flat_map (generation_output w) gs; ending = Whole })
+    → answer_to v manifest ≡ Ok (record { bytes = flat_map (generation_output w) gs; ending = Whole })
     → ReportsAllOk check.report (meaning t (check_words check manifest) v) (flat_map (λ g. g.names) gs)

@@ -1,7 +1,7 @@
 -- What the program does, from the list of its arguments to its status.
 use Rattle.std.specs.Prelude.{ℕ, ◌≡◌, ◌⊎◌, false, List, [], Option, None, Some, Result, Ok, Err, IfSome}
 use Rattle.std.specs.Io.KnownBytes.{Appends}
-use Rattle.sum_sources.specs.Contents.{SourceState}
+use Rattle.sum_sources.specs.Sources.{SourceState}
 use Rattle.sum_lines.specs.sinks.Sinks.{SinkState, IsPrefix}
 use Rattle.digest_kinds.specs.Limits.{one_more}
 use Rattle.sum_engine.specs.declared.stop.Stop.{Stop}

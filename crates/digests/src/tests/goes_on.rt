@@ -104,13 +104,13 @@ impl<'a> Source for InTurn<'a> {
         Ok(TwoParts {
             told: Told::new(first, ending, self.piece),
             second: Some(Told::new(second, Ending::Whole, self.piece)),
-            phase: Phase::Reading,
+            phase: Phase::Unfinished,
         })
     }
 
     fn close_file(&mut self, file: TwoParts<'a>) {
         match file.phase {
-            Phase::Ended => self.ended = self.ended.saturating_add(1),
+            Phase::AtEnd => self.ended = self.ended.saturating_add(1),
             Phase::Failed => self.failed = self.failed.saturating_add(1),
             _ => {}
         }

@@ -1,6 +1,6 @@
 use Rattle.std.proofs.Common.{◌∙◌, refl}
 use Rattle.std.proofs.lemmas.Result.{err_from_is_err_and}
-use Rattle.sum_lines.proofs.SinkLemmas.{Left-all, Left-step, Left-stop, Left-last}
+use Rattle.sum_lines.proofs.SinkLemmas.{HasLeft-all, HasLeft-step, HasLeft-stop, HasLeft-last}
 use Rattle.sum_words.specs.Items.{all_flags}
 use Rattle.sum_words.proofs.TextLemmas.{usage_parts, option_lines}
 use Rattle.sum_words.proofs.messages.help.put_help.Goals as goal
@@ -11,11 +11,11 @@ returns-in_err-put_parts g c =
     let failed = err_from_is_err_and c.from_residual.result c.from_residual.ensures.1 in
     let wrote = rw (usage_parts _ _ _ _ _ _ (c.as_bytes.ensures.value ∙ c.name.ensures) c.purpose.ensures)
     at c.in_err-put_parts.ensures in
-    rw failed.1 (Left-stop (option_lines c.args.tool all_flags) Left-all refl wrote)
+    rw failed.1 (HasLeft-stop (option_lines c.args.tool all_flags) HasLeft-all refl wrote)
 
 -- they were written, and then those of the options
 pub returns : goal.returns
 returns g c =
     let wrote = rw (usage_parts _ _ _ _ _ _ (c.as_bytes.ensures.value ∙ c.name.ensures) c.purpose.ensures)
     at c.in_ok-put_parts.ensures in
-    Left-last _ c.put_options.result (Left-step _ Left-all refl wrote) (rw c.all_flags.ensures at c.put_options.ensures)
+    HasLeft-last _ c.put_options.result (HasLeft-step _ HasLeft-all refl wrote) (rw c.all_flags.ensures at c.put_options.ensures)

@@ -1,10 +1,10 @@
 use Rattle.std.proofs.Common.{drop}
-use Rattle.sum_lines.proofs.SinkLemmas.{Left}
+use Rattle.sum_lines.proofs.SinkLemmas.{HasLeft}
 use Rattle.sum_words.proofs.TextLemmas.{option_lines}
 use Rattle.sum_words.proofs.messages.help.put_options.Given as goal
 
 -- the lines of the remaining options are left
 abbrev pub invariant-loop-flag : goal.invariant-loop-flag
 invariant-loop-flag g l =
-    Left (g.O.Sink.state l.fn.out) (g.O.Sink.state l.out) (option_lines l.tool l.flags)
+    HasLeft (g.O.Sink.state l.fn.out) (g.O.Sink.state l.out) (option_lines l.tool l.flags)
     (option_lines l.tool (drop l.flag-index l.flags))
