@@ -27,10 +27,10 @@ use Rattle.sum_engine.proofs.StepLemmas.{InSomeCheck-made, some_remains, lines_n
 pub judged-line : {I : Type 0} (p : CursorValue I) (line : List ℕ) (said : ParsedLine) (k : ℕ) (d : Counts)
     (vector : List ℕ)
     (w v : World) (verdict : Verdict) (start stop : ℕ) → parsed_at p line ≡ said
-    → JudgeOf p.rules w v said (Some verdict) → d ≡ counts_with p.counts verdict
+    → JudgeOf p.rules w v said (Ok verdict) → d ≡ counts_with p.counts verdict
     → slice_range vector start stop ≡ name_in_line said → k ≡ p.reader.lines
     → JudgeLineOf p line d vector w v
-    (Some (record { number = k; verdict = verdict; start = start; stop = stop }))
+    (Ok (record { number = k; verdict = verdict; start = start; stop = stop }))
 judged-line p line said k d vector w v verdict start stop is h count place number = search rules
 
 module _ {I S : Type 0} (input : I → InputState) (source : S → SourceState) (p q : CursorValue I) (reader : LineReader I)
@@ -38,7 +38,7 @@ module _ {I S : Type 0} (input : I → InputState) (source : S → SourceState) 
   -- it is the first of those that remained; q is the place then
   pub next_verdict-line : (found : LineVerdict) → TakesLine (record p { reader = reader }) q line
       → length vector ≤ length line
-      → InSomeWorld source a b (λ w v. JudgeLineOf (record p { reader = reader }) line q.counts vector w v (Some found))
+      → InSomeWorld source a b (λ w v. JudgeLineOf (record p { reader = reader }) line q.counts vector w v (Ok found))
       → FindsVerdict input source vector p q a b (Ok (Some found))
   next_verdict-line found takes few judged =
       let then : CursorValue _ = record q { reader = reader } in

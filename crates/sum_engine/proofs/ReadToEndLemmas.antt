@@ -1,5 +1,5 @@
 -- Read to the end, known or not: over no file, over one, and over one call after another.
-use Rattle.std.proofs.Common.{rules, ◌≡◌, ℕ, zero, suc, ◌+◌, false, Option, Some, ap, sym, subst, ◌∙◌, arith}
+use Rattle.std.proofs.Common.{rules, ◌≡◌, ℕ, zero, suc, ◌+◌, false, Option, Some, Ok, ap, sym, subst, ◌∙◌, arith}
 use Rattle.std.specs.Option.{option_map, option_or}
 use Rattle.sum_sources.specs.Contents.{InputState, SourceState, given_state, closed_state}
 use Rattle.digest_kinds.specs.Limits.{one_more}
@@ -46,7 +46,7 @@ pub ReadToEnd-file : {S : Type 0} (state : S → SourceState) (a b : InputsState
 ReadToEnd-file state a b between p opened ended closed at_end taken phase = search rules
 
 -- unless reading failed, what follows holds
-pub UnlessBroken-map : (o : HashOutcome) {P Q : Type 0} → (P → Q) → UnlessBroken (Some o) P → UnlessBroken (Some o) Q
+pub UnlessBroken-map : (o : HashOutcome) {P Q : Type 0} → (P → Q) → UnlessBroken (Ok o) P → UnlessBroken (Ok o) Q
 UnlessBroken-map o f h = search rules
 
 -- a file was opened; others were read to the end; and it was closed at its end

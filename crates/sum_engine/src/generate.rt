@@ -38,18 +38,16 @@ pub fn generate_one<I: Input + Drop, S: Source, O: Sink, E: Sink>(
     ensures read_to_end { result ≡ Ok true → ReadToEnd S.state streams.old.inputs streams.new.inputs }
 {
     let mut buffer = [0; PIECE];
-    match hash_name(settings.kind, name, &mut streams.inputs, &mut buffer) {
-        None => Err(Stop::Memory),
-        Some(outcome) => match outcome.into_result() {
-            Ok(digest) => {
-                let written = put_line_flushed(&mut streams.outputs, settings, name, &digest);
-                outcome_after(written, true)
-            }
-            Err(fault) => {
-                let written = put_fault_line(&mut streams.outputs, tool, name, fault);
-                outcome_after(written, false)
-            }
-        },
+    let outcome = hash_name(settings.kind, name, &mut streams.inputs, &mut buffer)?;
+    match outcome.into_result() {
+        Ok(digest) => {
+            let written = put_line_flushed(&mut streams.outputs, settings, name, &digest);
+            outcome_after(written, true)
+        }
+        Err(fault) => {
+            let written = put_fault_line(&mut streams.outputs, tool, name, fault);
+            outcome_after(written, false)
+        }
     }
 }
 

@@ -17,7 +17,7 @@ use crate::streams::Outputs;
 use std::alloc::Allocator;
 use std::marker::Model;
 use sum_lines::{Form, Reading, Sink, SinkFault, read_line};
-use sum_sources::{Input, LineReader, LineStop, Next, PIECE, Source};
+use sum_sources::{Input, LineReader, LineStop, Next, NoRoom, PIECE, Source};
 
 /// A manifest, its lines so far, and what remains of it.
 #[derive(Drop)]
@@ -170,19 +170,16 @@ impl<I: Input> CheckCursor<I> {
         match self.reader.next_line(line) {
             Err(stop) => Err(stop),
             Ok(Next::NoMore) => Ok(None),
-            Ok(Next::Line) => match self.judge_line(line, inputs) {
-                Some(verdict) => Ok(Some(verdict)),
-                None => Err(LineStop::Memory),
-            },
+            Ok(Next::Line) => Ok(Some(self.judge_line(line, inputs)?)),
         }
     }
 
-    // The verdict of the line that was read last, which is counted; `None` if the source is out of memory.
+    // The verdict of the line that was read last, which is counted. `NoRoom` if the source is out of memory.
     fn judge_line<A: Allocator, J: Input + Drop, S: Source>(
         &mut self,
         line: &mut Vec<u8, A>,
         inputs: &mut Inputs<J, S>,
-    ) -> Option<LineVerdict>
+    ) -> Result<LineVerdict, NoRoom>
         requires few { total self.old.counts < self.old.reader.lines }
         ensures verdict { InSomeWorld S.state inputs.old inputs.new (λ w v. JudgeLineOf self.old
             line.old.items self.new.counts line.new.items w v result) }
@@ -190,7 +187,7 @@ impl<I: Input> CheckCursor<I> {
             (names_of_result line.new.items (found_of result)) }
         ensures stdin_taken { inputs.new.stdin_taken
             ≡ stdin_taken_after inputs.old.stdin_taken line.new.items (found_of result) }
-        ensures name_range { IfSome result (λ v. HasNameRange line.new.items v) }
+        ensures name_range { IfOk result (λ v. HasNameRange line.new.items v) }
         ensures cursor { TakesLine self.old self.new line.old.items }
         ensures len { length line.new.items ≤ length line.old.items }
         ensures stdin_kept { self.old.rules.from_stdin ≡ true → KeepsStdin inputs.old inputs.new }
@@ -202,8 +199,8 @@ impl<I: Input> CheckCursor<I> {
         let (reading, form) = read_line(self.rules.algo, self.form, line);
         self.form = form;
         match reading {
-            Reading::Ignored => Some(self.count_verdict(Verdict::Ignored, 0, 0)),
-            Reading::Bad => Some(self.count_verdict(Verdict::Bad, 0, 0)),
+            Reading::Ignored => Ok(self.count_verdict(Verdict::Ignored, 0, 0)),
+            Reading::Bad => Ok(self.count_verdict(Verdict::Bad, 0, 0)),
             Reading::Entry {
                 kind,
                 digest,
@@ -216,7 +213,7 @@ impl<I: Input> CheckCursor<I> {
                     name: &line[start..stop],
                 };
                 let verdict = judge(self.rules, &listed, inputs, &mut self.buffer)?;
-                Some(self.count_verdict(verdict, start, stop))
+                Ok(self.count_verdict(verdict, start, stop))
             }
         }
     }

@@ -1,5 +1,5 @@
 //! The verdict of a line.
-ghost use Rattle.std.specs.Prelude.{◌≡◌, ◌||◌, [], false, true, MatchOption, slice_range};
+ghost use Rattle.std.specs.Prelude.{◌≡◌, ◌||◌, [], false, true, MatchResult, slice_range};
 ghost use Rattle.std.specs.List.{list_any};
 ghost use Rattle.sum_engine.specs.Behavior.{is_dash};
 ghost use Rattle.sum_engine.specs.check.Reports.{is_unread};
@@ -12,7 +12,7 @@ use crate::check::rules::CheckRules;
 use crate::hash_name::{HashOutcome, hash_name, is_dash};
 use crate::inputs::Inputs;
 use digest_kinds::{Digest, Kind};
-use sum_sources::{Fault, Input, PIECE, Source};
+use sum_sources::{Fault, Input, NoRoom, PIECE, Source};
 
 /// What checking finds of a manifest's line.
 #[derive(Clone, Copy, Debug, PartialEq, Eq)]
@@ -63,29 +63,30 @@ pub(crate) struct ListedEntry<'a> {
     pub name: &'a [u8],
 }
 
-/// The verdict of an entry; `None` if the source is out of memory, and then nothing was asked.
+/// The verdict of an entry. `NoRoom` if the source is out of memory; nothing was then asked.
 pub(crate) fn judge<I: Input + Drop, S: Source>(
     rules: CheckRules,
     listed: &ListedEntry,
     inputs: &mut Inputs<I, S>,
     buffer: &mut [u8; PIECE],
-) -> Option<Verdict>
+) -> Result<Verdict, NoRoom>
     ensures verdict { InSomeWorld S.state inputs.old inputs.new
         (λ w v. JudgeOf rules w v (entry (listed_entry listed.now)) result) }
     ensures asked { let asked = AskedMore (S.state inputs.old.source) (S.state inputs.new.source) in
-        MatchOption result (asked []) (λ v. asked (asks_by v listed.now.name.now)) }
-    ensures stdin_taken { MatchOption result (KeepsStdin inputs.old inputs.new)
-        (λ v. inputs.new.stdin_taken ≡ inputs.old.stdin_taken || list_any is_dash (asks_by v listed.now.name.now)) }
+        MatchResult result (λ v. asked (asks_by v listed.now.name.now)) (λ _. asked []) }
+    ensures stdin_taken { MatchResult result
+        (λ v. inputs.new.stdin_taken ≡ inputs.old.stdin_taken || list_any is_dash (asks_by v listed.now.name.now))
+        (λ _. KeepsStdin inputs.old inputs.new) }
     ensures stdin_kept { rules.from_stdin ≡ true → KeepsStdin inputs.old inputs.new }
     ensures refusals { RefusedUnless (S.state inputs.old.source) (S.state inputs.new.source) result }
-    ensures read_to_end { MatchOption result (ReadToEnd S.state inputs.old inputs.new)
-        (λ v. is_unread v ≡ false → ReadToEnd S.state inputs.old inputs.new) }
+    ensures read_to_end { MatchResult result (λ v. is_unread v ≡ false → ReadToEnd S.state inputs.old inputs.new)
+        (λ _. ReadToEnd S.state inputs.old inputs.new) }
 {
     if rules.from_stdin && is_dash(listed.name) {
-        return Some(Verdict::Bad);
+        return Ok(Verdict::Bad);
     }
     let outcome = hash_name(listed.kind, listed.name, inputs, buffer)?;
-    Some(compare(&outcome, listed.digest, rules.ignore_missing))
+    Ok(compare(&outcome, listed.digest, rules.ignore_missing))
 }
 
 fn compare(outcome: &HashOutcome, digest: &Digest, ignore_missing: bool) -> Verdict
