@@ -13,8 +13,8 @@ use Rattle.sum_sources.proofs.LineLemmas.{line-some}
 use Rattle.sum_sources.proofs.RemainLemmas.{MayRemain-known}
 use Rattle.sum_lines.specs.grammar.ParsedLines.{ParsedLine}
 use Rattle.sum_engine.specs.check.Reports.{Counts}
-use Rattle.sum_engine.specs.check.NextVerdict.{LineVerdict, line_verdict_value, NoVerdictLeft, FindsVerdict, VerdictResult, counts_after}
-use Rattle.sum_engine.specs.check.Verdicts.{Verdict, lines_by}
+use Rattle.sum_engine.specs.check.NextVerdict.{LineVerdict, line_verdict_value, HasNoVerdictLeft, FindsVerdict, VerdictResult, counts_after}
+use Rattle.sum_engine.specs.check.Verdicts.{Verdict, lines_under}
 use Rattle.sum_engine.specs.Behavior.{Ending, Whole, Broken, World}
 use Rattle.sum_engine.specs.Execution.{InputsState, InSomeWorld}
 use Rattle.sum_engine.specs.check.CheckStates.{CursorValue, counts_with, state_at, InSomeCheck, CheckState, next_judged}
@@ -67,12 +67,12 @@ module _ {I S : Type 0} (input : I → InputState) (source : S → SourceState) 
       → q.reader.final_answer ≡ Some n
       → ((x : Option Content) → left_by (Some n) x ≡ Some (record { bytes = []; ending = e }))
       → ((c d : Content) → NextLineIs c d n line → (lines c ≡ []) × (c.ending ≡ e))
-      → InSomeCheck input source p q a a (NoVerdictLeft p.rules e)
+      → InSomeCheck input source p q a a (HasNoVerdictLeft p.rules e)
   no_verdict_left e n reads final left ends = record {
     before = λ d v may fits.
         let some = reads d may in
         let ended = ends some.0 d some.2 in
-        let none : lines_by p.rules.profile some.0 ≡ [] = lines_now p.rules some.0 now ∙ ended.0 in (
+        let none : lines_under p.rules.profile some.0 ≡ [] = lines_now p.rules some.0 now ∙ ended.0 in (
           some.0,
           v,
           some.1,

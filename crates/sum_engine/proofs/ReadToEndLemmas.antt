@@ -3,21 +3,21 @@ use Rattle.std.proofs.Common.{rules, ◌≡◌, ℕ, zero, suc, ◌+◌, false, 
 use Rattle.std.specs.Option.{option_map, option_or}
 use Rattle.sum_sources.specs.Contents.{InputState, SourceState, given_state, closed_state}
 use Rattle.digest_kinds.specs.Limits.{one_more}
-use Rattle.sum_engine.specs.Execution.{InputsState, Phase, Reading, Ended, raised, IsStdinWhole, KeepsStdin, ReadToEnd}
+use Rattle.sum_engine.specs.Execution.{InputsState, Phase, Reading, Ended, count_after, IsStdinWhole, KeepsStdin, ReadToEnd}
 use Rattle.sum_engine.specs.refinement.HashName.{HashOutcome, UnlessBroken}
 use Rattle.sum_engine.specs.refinement.Openings.{stdin_taken_from}
 
 -- so many more, and then so many more
-raised-add : (m n count : ℕ) → raised m (raised n count) ≡ raised (m + n) count
-raised-add zero n count = let same : n ≡ 0 + n = omega arith in ap (λ k. raised k count) same
-raised-add (suc m) n count =
+count_after-add : (m n count : ℕ) → count_after m (count_after n count) ≡ count_after (m + n) count
+count_after-add zero n count = let same : n ≡ 0 + n = omega arith in ap (λ k. count_after k count) same
+count_after-add (suc m) n count =
     let same : suc (m + n) ≡ suc m + n = omega arith in
-    ap one_more (raised-add m n count) ∙ ap (λ k. raised k count) same
+    ap one_more (count_after-add m n count) ∙ ap (λ k. count_after k count) same
 
 -- all files, over one call and then another
 pub ReadToEnd-trans : {S : Type 0} {state : S → SourceState} {a b c : InputsState S} → ReadToEnd state a b
     → ReadToEnd state b c → ReadToEnd state a c
-ReadToEnd-trans h k = search (rules, raised-add)
+ReadToEnd-trans h k = search (rules, count_after-add)
 
 -- no file was opened, and standard input is as it was
 pub ReadToEnd-none : {S : Type 0} (state : S → SourceState) (a b : InputsState S)
@@ -58,7 +58,7 @@ ReadToEnd-around {S} state a m n b p first opened ended h last closed at_end =
     let next : h.number + 1 ≡ suc h.number = omega arith in
     record {
       number = suc h.number;
-      opened = search (rules, raised-add h.number 1 (state a.source).opened, next);
+      opened = search (rules, count_after-add h.number 1 (state a.source).opened, next);
       ended = search rules;
       stdin = λ whole. subst (λ (m : InputsState S). IsStdinWhole m) (sym last)
           (h.stdin (subst (λ (m : InputsState S). IsStdinWhole m) (sym first) whole));

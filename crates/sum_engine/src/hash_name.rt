@@ -1,4 +1,4 @@
-//! Hashing one name.
+//! Opening a name and hashing what it gives.
 ghost use Rattle.std.specs.Prelude.{◌≡◌, ◌||◌, ◌∷◌, [], false, Ok, OnErr, IfSome, MatchResult};
 ghost use Rattle.sum_sources.specs.Contents.{Content};
 ghost use Rattle.sum_engine.specs.Behavior.{is_dash};
@@ -7,7 +7,7 @@ use crate::inputs::Inputs;
 use digest_kinds::{AnyHasher, Digest, Hasher, Kind};
 use sum_sources::{Fault, Input, NoRoom, OpenFault, PIECE, Source, hash_input_over};
 
-/// The outcome of hashing a name.
+/// What became of a name that was to be hashed.
 #[derive(Drop)]
 pub(crate) enum HashOutcome {
     /// It was read to its end, and this is its digest.
@@ -41,8 +41,8 @@ ghost use Rattle.sum_engine.specs.refinement.HashName.{HashesName, IsRead, Refus
 ghost use Rattle.sum_engine.specs.refinement.HashName.{HasKindLen, digest_of_outcome};
 ghost use Rattle.sum_engine.specs.Execution.{InSomeWorld, AskedMore, KeepsStdin, ReadToEnd, Reading, Ended};
 
-/// Opens the name (`-` is standard input) and hashes it, through the buffer. `NoRoom` if the source is out of memory; the
-/// name is then not recorded as asked.
+/// Opens the file of this name (`-` is standard input) and hashes it. The file is read into the buffer, piece by piece.
+/// `NoRoom` if the source was refused memory; the name then doesn't count as asked.
 pub(crate) fn hash_name<I: Input + Drop, S: Source>(
     kind: Kind,
     name: &[u8],
@@ -76,7 +76,8 @@ pub(crate) fn hash_name<I: Input + Drop, S: Source>(
     }
 }
 
-// The outcome of reading a file. It is given the file and the hasher, and can make neither: so a fault is final.
+// Reads a file to its end. The caller passes in the open file and the hasher, so this function can't reopen the file
+// after a fault.
 fn read_digest<F: Input, H: Hasher + Drop>(
     file: &mut F,
     hasher: H,

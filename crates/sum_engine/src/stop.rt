@@ -4,8 +4,8 @@ use sum_lines::SinkFault;
 use sum_sources::NoRoom;
 use thiserror::Error;
 
-/// Why a call stopped before its end: `Memory` if a growth or an opening was refused memory, `Write` if an output
-/// failed. The call writes nothing after it.
+/// Why a call stopped before its end. `Memory`: there was no memory for a line, or to open a file. `Write`: an output
+/// failed. The call writes nothing more.
 #[derive(Clone, Copy, Debug, PartialEq, Eq, Error)]
 pub enum Stop {
     #[error("memory exhausted")]

@@ -1,5 +1,6 @@
 -- Relates hashing one name to the world.
-use Rattle.std.specs.Prelude.{ℕ, ◌≡◌, List, [], ◌∷◌, length, Result, Ok, Err, ⊤}
+use Rattle.std.specs.Prelude.{◌≡◌, [], ◌∷◌, length, Result, Ok, Err, ⊤}
+use Rattle.digest_kinds.specs.Basics.{ByteString}
 use Rattle.digest_kinds.specs.Kinds.{KindValue}
 use Rattle.sum_sources.specs.Contents.{Content, Reply, SourceState}
 use Rattle.digest_kinds.specs.Limits.{one_more}
@@ -9,7 +10,7 @@ use Rattle.sum_engine.specs.Behavior.{Fault, World, after, digest_or_fault, repl
 use Rattle.sum_engine.specs.declared.hash_name.HashOutcome.TheVariants as outcomes
 
 -- the digest of an outcome, or the fault of opening or reading
-abbrev pub digest_of_outcome : HashOutcome → Result (List ℕ) Fault
+abbrev pub digest_of_outcome : HashOutcome → Result (ByteString) Fault
 digest_of_outcome (outcomes.Read d) = Ok d
 digest_of_outcome (outcomes.NotOpened f) = Err f
 digest_of_outcome (outcomes.Broken f) = Err f
@@ -27,7 +28,7 @@ IsRead kind c (outcomes.NotOpened f) = ⊥
 IsRead kind c (outcomes.Broken f) = digest_or_fault kind (Ok c) ≡ Err f
 
 -- the name was asked, with this outcome; without memory it wasn't asked
-abbrev pub HashesName : KindValue → World → World → List ℕ → Result HashOutcome NoRoom → Type 0
+abbrev pub HashesName : KindValue → World → World → ByteString → Result HashOutcome NoRoom → Type 0
 HashesName kind w v name (Err e) = v ≡ w
 HashesName kind w v name (Ok a) = (v ≡ after w (name ∷ [])) × IsHashOutcome kind (reply w name) a
 

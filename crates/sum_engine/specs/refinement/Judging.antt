@@ -1,5 +1,6 @@
 -- Relates what the code finds of a line to what the line says, and to its verdict.
-use Rattle.std.specs.Prelude.{ℕ, ◌≡◌, Bool, List, [], Some, Result, Ok, Err, if◌then◌else◌, bytes_eq}
+use Rattle.std.specs.Prelude.{ℕ, ◌≡◌, Bool, [], Some, Result, Ok, Err, if◌then◌else◌, bytes_eq}
+use Rattle.digest_kinds.specs.Basics.{ByteString}
 use Rattle.sum_sources.specs.declared.fault.Fault.TheVariants.{NotFound}
 use Rattle.sum_lines.specs.grammar.Entries.{EntryValue, form_then, line_form}
 use Rattle.sum_engine.specs.declared.check.judge.ListedEntry.{ListedEntry}
@@ -18,13 +19,13 @@ abbrev pub listed_entry : ListedEntry → EntryValue
 listed_entry l = record { kind = l.kind; digest = l.digest.now; name = l.name.now }
 
 -- the name in what a line says, or nothing
-abbrev pub name_in_line : ParsedLine → List ℕ
+abbrev pub name_in_line : ParsedLine → ByteString
 name_in_line ignored = []
 name_in_line bad = []
 name_in_line (entry s) = s.name
 
 -- the verdict, by the outcome of hashing the name
-abbrev pub verdict_of_outcome : Bool → List ℕ → HashOutcome → Verdict
+abbrev pub verdict_of_outcome : Bool → ByteString → HashOutcome → Verdict
 verdict_of_outcome ignore d (outcomes.Read found) = if bytes_eq found d then Right else Wrong
 verdict_of_outcome ignore d (outcomes.NotOpened NotFound) = if ignore then Missing else Unread NotFound
 verdict_of_outcome ignore d (outcomes.NotOpened f) = Unread f
@@ -38,25 +39,25 @@ JudgeOf r w v x (Ok verdict) = ((n : ℕ) → judge r w n x ≡ record { number 
     × (v ≡ after w (asks_by verdict (name_in_line x)))
 
 -- what a line says that was read at a place
-abbrev pub parsed_at : {I : Type 0} → CursorValue I → List ℕ → ParsedLine
+abbrev pub parsed_at : {I : Type 0} → CursorValue I → ByteString → ParsedLine
 parsed_at p line =
     parse_line p.rules.profile p.rules.algo (form_then p.form (line_form p.rules.algo line)) line
 
 -- from place a to b the line's form was taken over, and the rules and the reader stayed
-pub record TakesLine {I : Type 0} (a b : CursorValue I) (line : List ℕ) : Type 0 where
+pub record TakesLine {I : Type 0} (a b : CursorValue I) (line : ByteString) : Type 0 where
   pub form : b.form ≡ form_then a.form (line_form a.rules.algo line)
   pub reader : b.reader ≡ a.reader
   pub rules : b.rules ≡ a.rules
 
 -- the last line that was read was judged, and its name was asked, if its verdict asks it; d are the counts then
 abbrev pub JudgeLineOf :
-    {I : Type 0} → CursorValue I → List ℕ → Counts → List ℕ → World → World → Result LineVerdict NoRoom → Type 0
+    {I : Type 0} → CursorValue I → ByteString → Counts → ByteString → World → World → Result LineVerdict NoRoom → Type 0
 JudgeLineOf p line d vector w v (Err e) = v ≡ w
 JudgeLineOf p line d vector w v (Ok found) =
     (judge p.rules w p.reader.lines (parsed_at p line) ≡ line_verdict_value vector found)
     × (v ≡ after w (asks_of (line_verdict_value vector found))) × (d ≡ counts_with p.counts found.verdict)
 
 -- what a call for the next verdict returns that found this, or was refused memory to open the file
-abbrev pub found_of : Result LineVerdict NoRoom → VerdictResult
-found_of (Err e) = Err Memory
-found_of (Ok v) = Ok (Some v)
+abbrev pub found_verdict : Result LineVerdict NoRoom → VerdictResult
+found_verdict (Err e) = Err Memory
+found_verdict (Ok v) = Ok (Some v)

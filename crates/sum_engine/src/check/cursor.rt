@@ -10,7 +10,7 @@ use crate::check::report::put_report;
 use crate::check::rules::{CheckRules, Labels};
 use crate::check::summary::{Counts, is_good, put_summary};
 use crate::inputs::Inputs;
-use crate::put_flushed::put_fault_line;
+use crate::put_flushed::put_name_fault_line;
 use crate::settings::CheckSettings;
 use crate::stop::Stop;
 use crate::streams::Outputs;
@@ -61,7 +61,7 @@ impl<I: Input> CheckCursor<I> {
     ghost use Rattle.sum_engine.specs.refinement.FlushedWrites.{WritesAndFlushesBoth};
     ghost use Rattle.sum_engine.specs.refinement.FoundTexts.{found_err, found_out};
     ghost use Rattle.sum_sources.specs.declared.line_reader.LineStop.TheVariants.{Memory};
-    ghost use Rattle.sum_engine.specs.refinement.Judging.{TakesLine, JudgeLineOf, found_of};
+    ghost use Rattle.sum_engine.specs.refinement.Judging.{TakesLine, JudgeLineOf, found_verdict};
 
     /// At the first line of the manifest that `input` gives.
     pub(crate) fn new(settings: CheckSettings, from_stdin: bool, input: I) -> Self
@@ -115,7 +115,7 @@ impl<I: Input> CheckCursor<I> {
         match found {
             Err(LineStop::Memory) => Ok(()),
             Err(LineStop::Fault(fault)) => {
-                put_fault_line(outputs, labels.tool, labels.manifest, fault)
+                put_name_fault_line(outputs, labels.tool, labels.manifest, fault)
             }
             Ok(None) => put_summary(outputs, self.rules, labels, self.counts),
             Ok(Some(found)) => {
@@ -184,16 +184,16 @@ impl<I: Input> CheckCursor<I> {
         ensures verdict { InSomeWorld S.state inputs.old inputs.new (λ w v. JudgeLineOf self.old
             line.old.items self.new.counts line.new.items w v result) }
         ensures asked { AskedMore (S.state inputs.old.source) (S.state inputs.new.source)
-            (names_of_result line.new.items (found_of result)) }
+            (names_of_result line.new.items (found_verdict result)) }
         ensures stdin_taken { inputs.new.stdin_taken
-            ≡ stdin_taken_after inputs.old.stdin_taken line.new.items (found_of result) }
+            ≡ stdin_taken_after inputs.old.stdin_taken line.new.items (found_verdict result) }
         ensures name_range { IfOk result (λ v. HasNameRange line.new.items v) }
         ensures cursor { TakesLine self.old self.new line.old.items }
         ensures len { length line.new.items ≤ length line.old.items }
         ensures stdin_kept { self.old.rules.from_stdin ≡ true → KeepsStdin inputs.old inputs.new }
         ensures counts { self.new.counts
-            ≡ counts_after self.old.counts (found_of result) }
-        ensures read_to_end { UnlessUnread (found_of result) (ReadToEnd S.state inputs.old inputs.new) }
+            ≡ counts_after self.old.counts (found_verdict result) }
+        ensures read_to_end { UnlessUnread (found_verdict result) (ReadToEnd S.state inputs.old inputs.new) }
         ensures refusals { RefusedUnless (S.state inputs.old.source) (S.state inputs.new.source) result }
     {
         let (reading, form) = read_line(self.rules.algo, self.form, line);

@@ -12,6 +12,7 @@ use crate::check::rules::CheckRules;
 use crate::hash_name::{HashOutcome, hash_name, is_dash};
 use crate::inputs::Inputs;
 use digest_kinds::{Digest, Kind};
+use std::ops::Range;
 use sum_sources::{Fault, Input, NoRoom, PIECE, Source};
 
 /// What checking finds of a manifest's line.
@@ -31,8 +32,8 @@ pub enum Verdict {
     Unread(Fault),
 }
 
-/// A line's number (the first is 1), its verdict, and the range `start..stop` of its entry's name in the line's vector.
-/// The range is empty if the line has no entry.
+/// A line's number (the first is 1), its verdict, and where the name of its entry stands in the line's vector: from
+/// `start` up to `stop`. That range is empty if the line has no entry.
 #[derive(Clone, Copy, Debug, PartialEq, Eq)]
 pub struct LineVerdict {
     pub number: u64,
@@ -42,7 +43,15 @@ pub struct LineVerdict {
 }
 
 impl LineVerdict {
-    /// The name of its entry, in the line's vector as `next` has left it; empty if the line has no entry.
+    /// Where the name of its entry stands in the line's vector.
+    pub fn name_range(self) -> Range<usize>
+        ensures start { result.start ≡ self.start }
+        ensures end { result.end ≡ self.stop }
+    {
+        self.start..self.stop
+    }
+
+    /// The name of its entry, in the line's vector as `next` has left it. It is empty if the line has no entry.
     pub fn name<'a>(self, line: &'a [u8]) -> &'a [u8]
         requires { HasNameRange line.now self }
         ensures { result.now ≡ slice_range line.now self.start self.stop }

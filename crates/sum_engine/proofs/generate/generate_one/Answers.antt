@@ -38,4 +38,4 @@ returns-in-Err-clause-behavior g c =
     generate-performed g.S.Source.state _ _ c.args.name.now _ c.args.streams.now
     (record { inputs = c.hash_name.new.inputs; outputs = _ }) _ (Err _) done.outcome
     (asks_name done.asked done.stdin_taken done.refusals) c.in-Err.ensures refl
-    (writes_and_returns c.put_fault_line-written.result c.outcome_after-in-Err.ensures c.put_fault_line-written.ensures)
+    (writes_and_returns c.put_name_fault_line-written.result c.outcome_after-in-Err.ensures c.put_name_fault_line-written.ensures)
