@@ -2,7 +2,7 @@
 use Rattle.std.proofs.Common.{rules, ◌≡◌, ℕ, Bool, List, [], ◌∷◌, ◌++◌, Option, Result, Ok, Err, refl, ap, sym, ◌∙◌, subst, append_assoc, append-nil, flat_map, filter_map}
 use Rattle.std.proofs.lemmas.Grind.{flat_map-append}
 use Rattle.std.proofs.lemmas.List.Elements.{filter_map-append}
-use Rattle.sum_sources.specs.Contents.{SourceState}
+use Rattle.sum_sources.specs.Sources.{SourceState}
 use Rattle.digest_kinds.specs.Limits.{one_more}
 use Rattle.sum_engine.specs.Execution.{Stop, Memory, Write, StreamsState, WorldState, in_world, InSomeWorld, AskedMore, Happened, PerformsSteps, Performs}
 use Rattle.sum_engine.specs.Behavior.{World, after, Event, Step, Behavior, trace, events_of, single_step}
@@ -107,7 +107,7 @@ pub Performs-refused : {S A : Type 0} (state : S → SourceState) (run : World �
     → ((w : World) → (s : Step) × (rest : List Step) × ((run w).steps ≡ s ∷ rest))
     → InSomeWorld state a.inputs b.inputs (λ w v. v ≡ w)
     → AskedMore (state a.inputs.source) (state b.inputs.source) [] → b.inputs.stdin_taken ≡ a.inputs.stdin_taken
-    → b.outputs ≡ a.outputs → (state b.inputs.source).refusals ≡ one_more (state a.inputs.source).refusals
+    → b.outputs ≡ a.outputs → (state b.inputs.source).counts.refusals ≡ one_more (state a.inputs.source).counts.refusals
     → Performs state run outcome a b (Err Memory)
 Performs-refused state run outcome a b first same asked taken outputs refusals = λ flushed.
     InSomeWorld-map same (λ w v is.

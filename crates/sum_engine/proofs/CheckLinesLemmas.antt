@@ -4,14 +4,15 @@ use Rattle.sum_sources.specs.declared.line_reader.Next.TheVariants.{NoMore}
 use Rattle.sum_engine.specs.check.NextVerdict.{VerdictResult, LineVerdict, counts_after, UnlessUnread, MemoryStopHasCause}
 use Rattle.std.proofs.Common.{rules, ◌+◌, ◌<◌, ◌≡◌, ℕ, Bool, List, [], ◌∷◌, length, Option, None, Some, Result, Ok, Err, refl, sym, ◌∙◌, subst, option_map, IfSome, MatchOption, arith, true, ◌≤◌}
 use Rattle.sum_engine.specs.Behavior.{World, Step, Behavior}
-use Rattle.sum_sources.specs.Contents.{Content, InputState, clip, limit, SourceState}
+use Rattle.sum_sources.specs.Contents.{Content, InputState, clip, limit}
+use Rattle.sum_sources.specs.Sources.{SourceState}
 use Rattle.sum_engine.specs.check.CheckStates.{CheckState, initial_state, IsAtStart, remaining_behavior, CursorValue, state_at, InSomeCheck}
 use Rattle.sum_engine.specs.check.CheckerSteps.{Progress, Going, Ended, StepIs, TakesStep, step_then, progress_before, CheckerValue, AdvancesChecker, step_answer}
-use Rattle.sum_sources.specs.LineReaders.{MayRemain, Bounded, consumed, IsReadSoFar, remaining_content}
+use Rattle.sum_sources.specs.LineReaders.{MayRemain, IsBounded, consumed_count, IsReadSoFar, remaining_content}
 use Rattle.sum_sources.proofs.ContentLemmas.{clip-short, limit-value}
 use Rattle.sum_engine.specs.check.CheckerLaws.{ManifestPerforms}
 use Rattle.sum_engine.specs.check.Verdicts.{Rules, all_verdicts}
-use Rattle.sum_engine.specs.Execution.{Reading, Stop, StreamsState, IsFlushed, WorldState, in_world, PerformsSteps, RefusalsMatch, ReadToEnd, IsOneMoreAtMost}
+use Rattle.sum_engine.specs.Execution.{Unfinished, Stop, StreamsState, IsFlushed, WorldState, in_world, PerformsSteps, RefusalsMatch, ReadToEnd, IsOneMoreAtMost}
 use Rattle.sum_engine.specs.check.Reports.{LabelsValue}
 use Rattle.sum_engine.specs.check.Checking.{content_behavior}
 use Rattle.sum_engine.proofs.CountLemmas.{counts_then-none}
@@ -27,7 +28,7 @@ remaining-initial r labels c w = rw counts_then-none refl
 
 -- at the start the input was read as far as the answers say, if nothing of it was read
 pub phase-initial : {I : Type 0} (state : I → InputState) (p : CursorValue I) → IsAtStart state p p.reader.input
-    → (state p.reader.input).phase ≡ Reading → IsReadSoFar state p.reader
+    → (state p.reader.input).phase ≡ Unfinished → IsReadSoFar state p.reader
 phase-initial state p start reading = search rules
 
 -- what may remain at the start is what counts of some content, the known one if it is known
@@ -37,7 +38,7 @@ whole_content : {I : Type 0} (input : I → InputState) (p : CursorValue I) (man
 whole_content input p manifest c start may = by (input manifest).content (rw start.remaining at may)
   where
     by : (known : Option Content)
-        → MatchOption (option_map clip known) (consumed p.reader + length c.bytes < limit) (λ d. c ≡ d)
+        → MatchOption (option_map clip known) (consumed_count p.reader + length c.bytes < limit) (λ d. c ≡ d)
         → (k : Content) × IfSome known (λ d. k ≡ d) × (clip k ≡ c)
     by None few = (c, tt, clip-short c (omega (arith, few, limit-value)))
     by (Some k) is = (k, refl, sym is)
@@ -183,7 +184,7 @@ module _ {I S : Type 0} (input : I → InputState) (state : S → SourceState) (
     -- the step that ends completes the manifest's behavior. One that stops leaves a prefix of it after a write fault,
     -- and whole steps if memory ran out
     pub HasComeTo-last : (q last : CheckerValue I) (n o : StreamsState S) (vector : List ℕ) (x : Result Bool Stop)
-        → IsAtStart input first.cursor first.cursor.reader.input → HasComeTo q n → Bounded last.cursor.reader
+        → IsAtStart input first.cursor first.cursor.reader.input → HasComeTo q n → IsBounded last.cursor.reader
         → TakesStep input state vector q.labels q.cursor last.cursor n o (ends x)
         → ManifestPerforms state first.cursor.rules first.labels (input first.cursor.reader.input).content m o x
     HasComeTo-last q last n o vector x start h bounds step = λ flushed. record {

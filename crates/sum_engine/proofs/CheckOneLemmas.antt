@@ -3,9 +3,10 @@
 use Rattle.std.proofs.Common.{rules, ◌≡◌, ℕ, Bool, true, false, List, [], ◌∷◌, Option, IfSome, Result, Ok, Err, cond, refl, ap, codes}
 use Rattle.std.proofs.KnownBytes.{Appends-nil}
 use Rattle.std.proofs.Math.Bool.{or-false}
-use Rattle.sum_engine.specs.Behavior.{Fault, World, is_dash, reply, after, Step, Behavior, events_of}
+use Rattle.sum_engine.specs.Behavior.{Fault, World, is_dash, answer_to, after, Step, Behavior, events_of}
 use Rattle.sum_sources.specs.declared.sources.source.OpenFault.{OpenFault}
-use Rattle.sum_sources.specs.Contents.{Content, InputState, IfKnown, OpenOf, clip, SourceState, Reply, closed_state}
+use Rattle.sum_sources.specs.Contents.{Content, InputState, IfKnown, clip}
+use Rattle.sum_sources.specs.Sources.{OpensName, SourceState, Answer, closed_state}
 use Rattle.digest_kinds.specs.Limits.{one_more}
 use Rattle.sum_lines.specs.Escape.{present}
 use Rattle.sum_engine.specs.check.CheckerLaws.{ManifestPerforms}
@@ -26,7 +27,7 @@ use Rattle.sum_sources.specs.declared.sources.source.OpenFault.TheVariants as op
 record IsClosed {S : Type 0} (state : S → SourceState) (b n : InputsState S) : Type 0 where
   pub world : InSomeWorld state b n (λ w v. v ≡ w)
   pub known : (state n.source).known ≡ (state b.source).known
-  pub refusals : (state n.source).refusals ≡ (state b.source).refusals
+  pub refusals : (state n.source).counts.refusals ≡ (state b.source).counts.refusals
   pub taken : n.stdin_taken ≡ b.stdin_taken
 
 -- a run that was performed up to the closing was performed up to what follows it
@@ -66,7 +67,7 @@ module _ {S : Type 0} (state : S → SourceState) (settings : CheckSettings) (to
     opened : (dash : Bool) (known : Option Content) (m : InputsState S) (b : StreamsState S) (x : Result Bool Stop)
         → is_dash name ≡ dash
         → ((c : Content) → IfSome known (λ d. c ≡ d)
-        → InSomeWorld state a.inputs m (λ w v. (v ≡ after w (name ∷ [])) × (reply w name ≡ Ok c)))
+        → InSomeWorld state a.inputs m (λ w v. (v ≡ after w (name ∷ [])) × (answer_to w name ≡ Ok c)))
         → AsksNames state a.inputs m (name ∷ [])
         → ManifestPerforms state (rules_of settings dash) (labels_if dash) known (from_inputs m) b x → Performed b x
     opened dash known m b x is answer asked run = λ flushed. record {
@@ -102,11 +103,11 @@ module _ {S : Type 0} (state : S → SourceState) (settings : CheckSettings) (to
     -- the source was asked to open the manifest
     module _ {F : Type 0} (content : F → InputState) (m : InputsState S) (kept : KeepsStdin a.inputs m) where
       abbrev IsAnswer : Result F OpenFault → Type 0
-      IsAnswer x = IfKnown (state a.inputs.source).known (state m.source).known (λ s t. OpenOf content s t name x)
+      IsAnswer x = IfKnown (state a.inputs.source).known (state m.source).known (λ s t. OpensName content s t name x)
 
       -- so its name was, if there was memory
       asks_manifest : (x : Result F OpenFault) → is_dash name ≡ false → IsAnswer x
-          → (x ≡ Err open_faults.Memory → ⊥) → (state m.source).refusals ≡ (state a.inputs.source).refusals
+          → (x ≡ Err open_faults.Memory → ⊥) → (state m.source).counts.refusals ≡ (state a.inputs.source).counts.refusals
           → AsksNames state a.inputs m (name ∷ [])
       asks_manifest x is_file h some refusals =
           asks_name (file_asked content (state a.inputs.source) (state m.source) name x is_file h some)
@@ -114,7 +115,7 @@ module _ {S : Type 0} (state : S → SourceState) (settings : CheckSettings) (to
 
       -- it is a file, which is closed
       pub check_file : (b : StreamsState S) (n : InputsState S) (p : Phase) (file : F) (x : Result Bool Stop)
-          → is_dash name ≡ false → IsAnswer (Ok file) → (state m.source).refusals ≡ (state a.inputs.source).refusals
+          → is_dash name ≡ false → IsAnswer (Ok file) → (state m.source).counts.refusals ≡ (state a.inputs.source).counts.refusals
           → ManifestPerforms state (rules_of settings false) (labels_if false) (content file).content (from_inputs m) b x
           → KeepsStdin b.inputs n → state n.source ≡ closed_state (state b.inputs.source) p
           → Performed (record b { inputs = n }) x
@@ -132,7 +133,7 @@ module _ {S : Type 0} (state : S → SourceState) (settings : CheckSettings) (to
 
       -- it could not be opened, and the line of its fault was written, or a prefix of it
       pub refused : (f : Fault) (outputs : OutputsState) (x : Result Bool Stop) → is_dash name ≡ false
-          → IsAnswer (Err (open_faults.Fault f)) → (state m.source).refusals ≡ (state a.inputs.source).refusals
+          → IsAnswer (Err (open_faults.Fault f)) → (state m.source).counts.refusals ≡ (state a.inputs.source).counts.refusals
           → WritesAndReturns a.outputs outputs (name_fault_line present tool name f) [] false x
           → Performed (record a { inputs = m; outputs = outputs }) x
       refused f outputs x is_file h refusals said =
@@ -143,14 +144,14 @@ module _ {S : Type 0} (state : S → SourceState) (settings : CheckSettings) (to
 
       -- there was no memory to open it
       pub no_room : IsAnswer (Err open_faults.Memory)
-          → (state m.source).refusals ≡ one_more (state a.inputs.source).refusals → Performed (from_inputs m) (Err Memory)
+          → (state m.source).counts.refusals ≡ one_more (state a.inputs.source).counts.refusals → Performed (from_inputs m) (Err Memory)
       no_room h refused =
           Performs-refused state (λ w. check_behavior settings tool w name) (λ g. g) a (from_inputs m)
-          (λ w. begins (after w (name ∷ [])) (reply w name)) (opened_nothing state a.inputs m kept h)
+          (λ w. begins (after w (name ∷ [])) (answer_to w name)) (opened_nothing state a.inputs m kept h)
           (search (rules, asked_none)) (ap (λ (m : InputsState S). m.stdin_taken) kept) refl refused
         where
           -- checking begins with a step
-          begins : (w : World) (reply : Reply) → (next : Step) × (rest : List Step) × ((check_behavior_by
-              (rules_of settings (is_dash name)) (labels_of settings tool name) name w reply).steps ≡ next ∷ rest)
+          begins : (w : World) (answer : Answer) → (next : Step) × (rest : List Step) × ((check_behavior_by
+              (rules_of settings (is_dash name)) (labels_of settings tool name) name w answer).steps ≡ next ∷ rest)
           begins w (Err f) = (_, [], refl)
           begins w (Ok c) = (opening name, _, refl)

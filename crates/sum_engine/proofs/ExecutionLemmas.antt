@@ -7,7 +7,7 @@ use Rattle.std.proofs.Math.Bool.{or_assoc, or-false}
 use Rattle.std.proofs.lemmas.List.{map-append}
 use Rattle.std.proofs.lemmas.List.Elements.{filter_map-append}
 use Rattle.std.proofs.lemmas.List.Folds.{list_any-append}
-use Rattle.sum_sources.specs.Contents.{SourceState}
+use Rattle.sum_sources.specs.Sources.{SourceState}
 use Rattle.digest_kinds.specs.Limits.{one_more}
 use Rattle.sum_lines.specs.refinement.SinkStates.{AppendsPrefix}
 use Rattle.sum_engine.specs.Behavior.{World, is_dash, after, Event, Step, events_of, open_name, write_err, write_out, opened_name, err_byte, out_byte}
@@ -52,23 +52,23 @@ pub record Asks (a b : WorldState) (names : List (List ℕ)) : Type 0 where
   pub world : b.world ≡ after a.world names
   pub asked : AskedMore a.source b.source names
   pub taken : b.stdin_taken ≡ a.stdin_taken || list_any is_dash names
-  pub refusals : b.source.refusals ≡ a.source.refusals
+  pub refusals : b.source.counts.refusals ≡ a.source.counts.refusals
 
 -- these names were asked between inputs, whatever the worlds
 pub record AsksNames {S : Type 0} (state : S → SourceState) (a b : InputsState S) (names : List (List ℕ)) : Type 0 where
   pub asked : AskedMore (state a.source) (state b.source) names
   pub taken : b.stdin_taken ≡ a.stdin_taken || list_any is_dash names
-  pub refusals : (state b.source).refusals ≡ (state a.source).refusals
+  pub refusals : (state b.source).counts.refusals ≡ (state a.source).counts.refusals
 
 -- no name was, or one
 pub asks_none : {S : Type 0} {state : S → SourceState} {a b : InputsState S}
     → AskedMore (state a.source) (state b.source) [] → b.stdin_taken ≡ a.stdin_taken
-    → (state b.source).refusals ≡ (state a.source).refusals → AsksNames state a b []
+    → (state b.source).counts.refusals ≡ (state a.source).counts.refusals → AsksNames state a b []
 asks_none asked taken refusals = record { asked = asked; taken = search (rules, or-false); refusals = refusals }
 
 pub asks_name : {S : Type 0} {state : S → SourceState} {a b : InputsState S} {name : List ℕ}
     → AskedMore (state a.source) (state b.source) (name ∷ []) → b.stdin_taken ≡ a.stdin_taken || is_dash name
-    → (state b.source).refusals ≡ (state a.source).refusals → AsksNames state a b (name ∷ [])
+    → (state b.source).counts.refusals ≡ (state a.source).counts.refusals → AsksNames state a b (name ∷ [])
 asks_name asked taken refusals =
     record { asked = asked; taken = search (rules, or-false); refusals = refusals }
 
@@ -143,7 +143,7 @@ KeepsStdin-trans {S} a b c h k = k ∙ ap (λ (m : InputsState S). record m { so
 -- the source was refused memory, and nothing else was done
 pub refused_in : {S : Type 0} (state : S → SourceState) (a b : StreamsState S) (w v : World) (step : Step) → v ≡ w
     → AskedMore (state a.inputs.source) (state b.inputs.source) [] → b.inputs.stdin_taken ≡ a.inputs.stdin_taken
-    → b.outputs ≡ a.outputs → (state b.inputs.source).refusals ≡ one_more (state a.inputs.source).refusals
+    → b.outputs ≡ a.outputs → (state b.inputs.source).counts.refusals ≡ one_more (state a.inputs.source).counts.refusals
     → RefusedAt step (in_world state a w) (in_world state b v)
 refused_in state a b w v step world asked taken outputs refused = search rules
 
@@ -153,7 +153,7 @@ refused_in state a b w v step world asked taken outputs refused = search rules
 pub record IsKept (b c : WorldState) : Type 0 where
   pub world : c.world ≡ b.world
   pub known : c.source.known ≡ b.source.known
-  pub refusals : c.source.refusals ≡ b.source.refusals
+  pub refusals : c.source.counts.refusals ≡ b.source.counts.refusals
   pub taken : c.stdin_taken ≡ b.stdin_taken
   pub outputs : c.outputs ≡ b.outputs
 

@@ -2,10 +2,10 @@
 use Rattle.std.proofs.Common.{rules, ◌≡◌, ℕ, List, [], ◌++◌, Option, Result, Ok, Err, ap, ◌∙◌, append_assoc, subst}
 use Rattle.std.specs.Io.KnownBytes.{Appends}
 use Rattle.std.proofs.KnownBytes.{Appends-nil, Appends-trans}
-use Rattle.sum_lines.specs.sinks.Sinks.{SinkState, Accepted, Flushes}
+use Rattle.sum_lines.specs.sinks.Sinks.{SinkState, Accepts, Flushes}
 use Rattle.digest_kinds.specs.Limits.{one_more}
 use Rattle.sum_lines.specs.refinement.SinkStates.{AppendsPrefix}
-use Rattle.sum_lines.proofs.SinkLemmas.{Accepted-flush_failed}
+use Rattle.sum_lines.proofs.SinkLemmas.{Accepts-flush_failed}
 use Rattle.sum_engine.specs.refinement.FlushedWrites.{WritesAndFlushes, WritesAndFlushesBoth, outcome_after, WritesAndReturns}
 use Rattle.sum_engine.specs.Execution.{OutputsState, Stop}
 
@@ -24,13 +24,13 @@ prefix_then a b c x y h k = search (rules, Appends-trans, append_assoc)
 -- ---- one output
 
 -- a text was written, and then flushed
-pub written_flushed : {E : Type 0} (a b c : SinkState) (text : List ℕ) (r : Result (Unit {0}) E) → Accepted a b text
+pub written_flushed : {E : Type 0} (a b c : SinkState) (text : List ℕ) (r : Result (Unit {0}) E) → Accepts a b text
     → Flushes b c r → WritesAndFlushes a c text r
 written_flushed a b c text (Ok u) h k = search rules
 written_flushed a b c text (Err e) h k = (
   k.failures ∙ ap one_more h.failures,
   λ none.
-      (k.buffered, subst (λ l. AppendsPrefix a.written c.written (l ++ text)) none (Accepted-flush_failed text h k)),
+      (k.buffered, subst (λ l. AppendsPrefix a.written c.written (l ++ text)) none (Accepts-flush_failed text h k)),
 )
 
 -- ---- one text after another

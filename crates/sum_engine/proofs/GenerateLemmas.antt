@@ -2,7 +2,7 @@
 use Rattle.std.proofs.Common.{rules, ◌≡◌, ℕ, Bool, List, [], ◌∷◌, Result, Ok, Err, refl}
 use Rattle.digest_kinds.specs.Kinds.{KindValue}
 use Rattle.sum_engine.specs.Behavior.{Fault, digest_or_fault, Step, single_step}
-use Rattle.sum_sources.specs.Contents.{Reply, SourceState}
+use Rattle.sum_sources.specs.Sources.{Answer, SourceState}
 use Rattle.sum_engine.specs.refinement.HashName.{HashOutcome, digest_of_outcome, HashesName, IsHashOutcome}
 use Rattle.sum_engine.specs.Generation.{Settings, generate_behavior, generate_behavior_by}
 use Rattle.sum_engine.specs.Execution.{Stop, StreamsState, InSomeWorld, Performs}
@@ -10,8 +10,8 @@ use Rattle.sum_engine.specs.refinement.FlushedWrites.{WritesAndReturns}
 use Rattle.sum_engine.proofs.ExecutionLemmas.{AsksNames}
 use Rattle.sum_engine.proofs.BehaviorLemmas.{Performs-step}
 
--- the outcome is what the definitions say of the reply
-digest_or_fault-is : (kind : KindValue) (r : Reply) (a : HashOutcome) → IsHashOutcome kind r a
+-- the outcome is what the definitions say of the answer
+digest_or_fault-is : (kind : KindValue) (r : Answer) (a : HashOutcome) → IsHashOutcome kind r a
     → digest_or_fault kind r ≡ digest_of_outcome a
 digest_or_fault-is kind r a h = search rules
 

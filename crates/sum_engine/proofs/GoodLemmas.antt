@@ -8,8 +8,9 @@ use Rattle.sum_engine.specs.check.Reports.{Report, LabelsValue, Counts, out_by, 
 use Rattle.sum_engine.specs.check.Verdicts.{Algos, Form, Right, Rules, LineVerdictValue, verdict_of, judge, verdicts, all_verdicts}
 use Rattle.sum_lines.specs.Escape.{present, escape}
 use Rattle.sum_lines.specs.grammar.Entries.{IsEntry, form}
-use Rattle.sum_engine.specs.Behavior.{Whole, World, reply, after, Behavior, out_text, err_text, is_dash}
-use Rattle.sum_sources.specs.Contents.{Content, Reply, limit}
+use Rattle.sum_engine.specs.Behavior.{Whole, World, answer_to, after, Behavior, out_text, err_text, is_dash}
+use Rattle.sum_sources.specs.Contents.{Content, limit}
+use Rattle.sum_sources.specs.Sources.{Answer}
 use Rattle.sum_sources.proofs.ContentLemmas.{limit-value, clip-short}
 use Rattle.sum_engine.specs.check.CheckerSteps.{step_then}
 use Rattle.sum_lines.specs.grammar.ParsedLines.{parse_line}
@@ -27,7 +28,7 @@ abbrev now : Rules → Rules
 now r = record r { profile = present }
 
 -- an item's file, read by the kind that its line spells, has the digest that its line spells
-verdict-right : (r : Rules) (files : List ℕ → Reply) (w : World) (i : Item) → w.answer ≡ (λ asked. files)
+verdict-right : (r : Rules) (files : List ℕ → Answer) (w : World) (i : Item) → w.answer ≡ (λ asked. files)
     → Listed r.algo files i → verdict_of r w (spelled_for i) ≡ Right
 verdict-right r files w i steady h =
     rw steady (search (rules, clip-short, limit-value, and-false, bytes_eq-Decides))
@@ -42,7 +43,7 @@ rights n [] = []
 rights n (i ∷ is) = right (n + 1) i ∷ rights (n + 1) is
 
 -- a written line is judged so
-judged : (r : Rules) (files : List ℕ → Reply) (w : World) (n : ℕ) (f : Form) (i : Item)
+judged : (r : Rules) (files : List ℕ → Answer) (w : World) (n : ℕ) (f : Form) (i : Item)
     → w.answer ≡ (λ asked. files) → Listed r.algo files i
     → IsEntry escape r.algo f (prefix i) (spelled_for i)
     → judge r w n (parse_line present r.algo f (prefix i)) ≡ right n i
@@ -51,7 +52,7 @@ judged r files w n f i steady h e =
     rw ((is.when_entry (spelled_for i)).1 (e.0, e), verdict-right r files w i steady h) refl
 
 -- and all of them, each in the world that those before it leave
-right-verdicts : (r : Rules) (files : List ℕ → Reply) (before : List (List ℕ)) (is : List Item) (w : World) (n : ℕ)
+right-verdicts : (r : Rules) (files : List ℕ → Answer) (before : List (List ℕ)) (is : List Item) (w : World) (n : ℕ)
     → w.answer ≡ (λ asked. files) → ReadableSoFar r.algo before → All (Listed r.algo files) is
     → verdicts (now r) (form r.algo (before ++ map prefix is)) w n (map prefix is) ≡ rights n is
 right-verdicts r files before [] w n steady u all = refl
@@ -120,15 +121,15 @@ pub record Found (check : CheckSettings) (tool : List ℕ) (w : World) (manifest
   pub err : err_text (check_behavior check tool w manifest) ≡ []
 
 -- the verdicts of its lines
-all-right : (r : Rules) (files : List ℕ → Reply) (w : World) (is : List Item) → w.answer ≡ (λ asked. files)
+all-right : (r : Rules) (files : List ℕ → Answer) (w : World) (is : List Item) → w.answer ≡ (λ asked. files)
     → All (Listed r.algo files) is → all_verdicts (now r) w (whole is) ≡ rights 0 is
 all-right r files w is steady all =
     rw (lines-are r.algo files is all) (right-verdicts r files [] is w 0 steady (inl refl) all)
 
 -- the behavior, by these verdicts
-check_behavior-is : (check : CheckSettings) (tool manifest : List ℕ) (files : List ℕ → Reply) (w : World)
+check_behavior-is : (check : CheckSettings) (tool manifest : List ℕ) (files : List ℕ → Answer) (w : World)
     (is : List Item) → w.answer ≡ (λ asked. files) → All (Listed check.algo files) is → length (flat_map written_text is) < limit
-    → reply w manifest ≡ Ok (whole is)
+    → answer_to w manifest ≡ Ok (whole is)
     → check_behavior check tool w manifest ≡ step_then (opening manifest)
     (content_behavior (rules_of check (is_dash manifest)) (labels_of check tool manifest) (whole is) (rights 0 is))
 check_behavior-is check tool manifest files w is steady all fits given =
@@ -142,9 +143,9 @@ check_behavior-is check tool manifest files w is steady all fits given =
     ∙ ap (of (whole is)) (all-right r files next is (after-steady files w (manifest ∷ []) steady) all)
 
 -- a manifest with at least one line is good, and each of its names is reported as right
-pub manifest_good : (check : CheckSettings) (tool manifest : List ℕ) (files : List ℕ → Reply) (w : World)
+pub manifest_good : (check : CheckSettings) (tool manifest : List ℕ) (files : List ℕ → Answer) (w : World)
     (is : List Item) → w.answer ≡ (λ asked. files) → All (Listed check.algo files) is → 0 < length is → length (flat_map written_text is) < limit
-    → reply w manifest ≡ Ok (whole is) → Found check tool w manifest is
+    → answer_to w manifest ≡ Ok (whole is) → Found check tool w manifest is
 manifest_good check tool manifest files w [] steady all some fits given = absurd (omega arith)
 manifest_good check tool manifest files w (i ∷ is) steady all some fits given =
     let r : Rules = rules_of check (is_dash manifest) in

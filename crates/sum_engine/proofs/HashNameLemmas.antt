@@ -1,7 +1,8 @@
 -- `hash_name`: the outcome of hashing one name, in some world.
 use Rattle.std.proofs.Common.{rules, ◌≡◌, ◌∙◌, ℕ, true, false, List, Option, IfSome, Ok, Err}
 use Rattle.digest_kinds.specs.Kinds.{KindValue}
-use Rattle.sum_sources.specs.Contents.{Content, IfKnown, InputState, SourceState, OpenOf, closed_state}
+use Rattle.sum_sources.specs.Contents.{Content, IfKnown, InputState}
+use Rattle.sum_sources.specs.Sources.{SourceState, OpensName, closed_state}
 use Rattle.sum_sources.specs.declared.sources.source.OpenFault.TheVariants as faults
 use Rattle.sum_engine.specs.Behavior.{Fault, is_dash}
 use Rattle.sum_engine.specs.Execution.{InputsState, Phase, KeepsStdin, InSomeWorld}
@@ -33,7 +34,7 @@ module _ {S : Type 0} (state : S → SourceState) (kind : KindValue) (name : Lis
   module _ {F : Type 0} (content : F → InputState) (a m : InputsState S) (kept : KeepsStdin a m) where
     -- a file was read and closed
     pub hashed_file : (b : InputsState S) (p : Phase) (file : F) (outcome : HashOutcome) → is_dash name ≡ false
-        → IfKnown (state a.source).known (state m.source).known (λ s t. OpenOf content s t name (Ok file))
+        → IfKnown (state a.source).known (state m.source).known (λ s t. OpensName content s t name (Ok file))
         → KeepsStdin m b → state b.source ≡ closed_state (state m.source) p
         → (c : Content) × IfSome (content file).content (λ d. c ≡ d) × IsRead kind c outcome → Hashed a b outcome
     hashed_file b p file outcome is_file answer stays closed (c, may, read) = InSomeWorld-then
@@ -43,5 +44,5 @@ module _ {S : Type 0} (state : S → SourceState) (kind : KindValue) (name : Lis
     -- it could not be opened
     pub not_hashed : (f : Fault) → is_dash name ≡ false
         → IfKnown (state a.source).known (state m.source).known
-        (λ s t. OpenOf content s t name (Err (faults.Fault f))) → Hashed a m (outcomes.NotOpened f)
+        (λ s t. OpensName content s t name (Err (faults.Fault f))) → Hashed a m (outcomes.NotOpened f)
     not_hashed f is_file answer = opened_fault state a m kept content name f is_file answer

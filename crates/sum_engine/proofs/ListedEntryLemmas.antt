@@ -12,11 +12,12 @@ use Rattle.sum_lines.specs.declared.writing.put_line.Mode.{Mode}
 use Rattle.sum_lines.specs.Escape.{escape}
 use Rattle.sum_lines.specs.Lines.{line}
 use Rattle.sum_lines.specs.grammar.Entries.{EntryValue, IsEntry, form}
-use Rattle.sum_lines.specs.grammar.LineLaws.{ReadBy, Writable}
+use Rattle.sum_lines.specs.grammar.LineLaws.{AllowsMode, IsWritable}
 use Rattle.sum_lines.proofs.PutLineLemmas.{prefix_of, read_back}
 use Rattle.sum_engine.specs.Behavior.{Whole, is_dash}
-use Rattle.sum_sources.specs.Contents.{Content, limit, Reply}
-use Rattle.sum_sources.specs.ManifestLines.{NoNewline, lines, raw_lines}
+use Rattle.sum_sources.specs.Contents.{Content, limit}
+use Rattle.sum_sources.specs.Sources.{Answer}
+use Rattle.sum_sources.specs.ManifestLines.{HasNoNewline, lines, raw_lines}
 use Rattle.sum_sources.proofs.CutLemmas.{raw_lines-joined}
 use Rattle.sum_engine.specs.check.OldVerdicts.{HasNoCarriageReturn}
 use Rattle.sum_engine.proofs.CarriageReturnLemmas.{strips-kept}
@@ -35,8 +36,8 @@ abbrev pub written_text : Item → List ℕ
 written_text i = line (record { mode = i.mode; zero = false }) i.kind i.name (digest i.kind i.bytes)
 
 -- it is read back, and its file still has these bytes
-pub record Listed (algos : Algos) (answer : List ℕ → Reply) (i : Item) : Type 0 where
-  pub read_by : ReadBy algos i.mode i.kind.algo
+pub record Listed (algos : Algos) (answer : List ℕ → Answer) (i : Item) : Type 0 where
+  pub read_by : AllowsMode algos i.mode i.kind.algo
   pub has : IsTrue (has_len i.kind.algo i.kind.len)
   pub some : 0 < length i.name
   pub no_nul : All (λ b. 0 < b) i.name
@@ -53,8 +54,8 @@ abbrev pub spelled_for : Item → EntryValue
 spelled_for i = record { kind = i.kind; digest = digest i.kind i.bytes; name = i.name }
 
 -- it can be written so that it is read back
-writable : (algos : Algos) (answer : List ℕ → Reply) (i : Item) → Listed algos answer i
-    → Writable i.kind i.name (digest i.kind i.bytes)
+writable : (algos : Algos) (answer : List ℕ → Answer) (i : Item) → Listed algos answer i
+    → IsWritable i.kind i.name (digest i.kind i.bytes)
 writable algos answer i h = search (rules, IsBytes-digest, length-digest)
 
 -- ---- each line is read back
@@ -73,7 +74,7 @@ Back algos before later s l =
     Plainly l × IsEntry escape algos (form algos (before ++ (l ∷ later))) l s × ReadableSoFar algos (before ++ (l ∷ []))
 
 -- so is each item's
-pub back : (algos : Algos) (answer : List ℕ → Reply) (before later : List (List ℕ)) (i : Item) → Listed algos answer i
+pub back : (algos : Algos) (answer : List ℕ → Answer) (before later : List (List ℕ)) (i : Item) → Listed algos answer i
     → ReadableSoFar algos before → Back algos before later (spelled_for i) (prefix i)
 back algos answer before later i h u =
     let s = read_back algos i.mode i.kind i.name (digest i.kind i.bytes) before later h.read_by
@@ -85,7 +86,7 @@ back algos answer before later i h u =
 -- ---- the lines of the whole text
 
 -- each written line is plain
-plain-lines : (algos : Algos) (answer : List ℕ → Reply) (is : List Item) → All (Listed algos answer) is
+plain-lines : (algos : Algos) (answer : List ℕ → Answer) (is : List Item) → All (Listed algos answer) is
     → All Plainly (map prefix is)
 plain-lines algos answer is all =
     let one = λ (i : Item) (h : Listed algos answer i). (back algos answer [] [] i h (inl refl)).0 in
@@ -101,12 +102,12 @@ abbrev pub whole : List Item → Content
 whole is = record { bytes = flat_map written_text is; ending = Whole }
 
 -- its lines are the written ones
-pub lines-are : (algos : Algos) (answer : List ℕ → Reply) (is : List Item) → All (Listed algos answer) is
+pub lines-are : (algos : Algos) (answer : List ℕ → Answer) (is : List Item) → All (Listed algos answer) is
     → lines (whole is) ≡ map prefix is
 lines-are algos answer is all =
     let plain = plain-lines algos answer is all in
     let make : List ℕ → Content = λ bytes. record { bytes = bytes; ending = Whole } in
-    let none = All-weaker Plainly NoNewline (λ l h k d lt. ne_eqb _ 10 (h k d lt).0) (map prefix is) plain in
+    let none = All-weaker Plainly HasNoNewline (λ l h k d lt. ne_eqb _ 10 (h k d lt).0) (map prefix is) plain in
     let cut = raw_lines-joined Whole (map prefix is) [] none (All-nil (λ b. (b == 10) ≡ false)) in
     ap (map strip_carriage_return) (ap (λ b. raw_lines (make b)) (texts is ∙ sym (append-nil _)) ∙ cut
     ∙ append-nil (map prefix is))

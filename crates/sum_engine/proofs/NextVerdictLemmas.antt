@@ -1,12 +1,13 @@
 -- `CheckCursor::next_verdict`: the next verdict of a manifest, by what reading and judging its line did.
 use Rattle.std.proofs.Common.{rules, ◌≡◌, ◌∙◌, ℕ, ◌+◌, ◌<◌, ◌≤◌, List, [], length, slice_range, Option, None, Some, Result, Ok, Err, refl, inr}
 use Rattle.sum_sources.specs.declared.line_reader.LineStop.TheVariants.{Fault, Memory}
-use Rattle.sum_sources.specs.Contents.{Content, InputState, IfKnown, SourceState}
+use Rattle.sum_sources.specs.Contents.{Content, InputState, IfKnown}
+use Rattle.sum_sources.specs.Sources.{SourceState}
 use Rattle.sum_sources.specs.declared.line_reader.Next.{Next}
 use Rattle.sum_sources.specs.declared.line_reader.Next.TheVariants.{Line, NoMore}
 use Rattle.sum_sources.specs.declared.line_reader.LineStop.{LineStop}
-use Rattle.sum_sources.specs.LineReaders.{AdvancesLines, Bounded, ReadsSomeLine, remaining_content, left_by}
-use Rattle.sum_sources.specs.ManifestLines.{NextLineIs, lines}
+use Rattle.sum_sources.specs.LineReaders.{AdvancesLines, IsBounded, ReadsSomeLine, remaining_content, remaining_by}
+use Rattle.sum_sources.specs.ManifestLines.{IsNextLine, lines}
 use Rattle.sum_lines.specs.Escape.{present}
 use Rattle.sum_sources.specs.declared.line_reader.LineReader.{LineReader}
 use Rattle.sum_sources.proofs.LineLemmas.{line-some}
@@ -65,8 +66,8 @@ module _ {I S : Type 0} (input : I → InputState) (source : S → SourceState) 
   -- the reader returned this, and returns it again, by which a content without a line ends so
   no_verdict_left : (e : Ending) (n : Result Next LineStop) → ReadsSomeLine input p.reader q.reader n line
       → q.reader.final_answer ≡ Some n
-      → ((x : Option Content) → left_by (Some n) x ≡ Some (record { bytes = []; ending = e }))
-      → ((c d : Content) → NextLineIs c d n line → (lines c ≡ []) × (c.ending ≡ e))
+      → ((x : Option Content) → remaining_by (Some n) x ≡ Some (record { bytes = []; ending = e }))
+      → ((c d : Content) → IsNextLine c d n line → (lines c ≡ []) × (c.ending ≡ e))
       → InSomeCheck input source p q a a (HasNoVerdictLeft p.rules e)
   no_verdict_left e n reads final left ends = record {
     before = λ d v may fits.
@@ -106,7 +107,7 @@ module _ {I S : Type 0} (input : I → InputState) (source : S → SourceState) 
 
 -- bytes remained if there was no memory for them
 pub stop_cause : {I S : Type 0} (input : I → InputState) (source : S → SourceState) (r s : LineReader I)
-    (a : InputsState S) (line : List ℕ) (stop : LineStop) → ReadsSomeLine input r s (Err stop) line → Bounded s
+    (a : InputsState S) (line : List ℕ) (stop : LineStop) → ReadsSomeLine input r s (Err stop) line → IsBounded s
     → MemoryStopHasCause (source a.source) (source a.source) (remaining_content input r) (Err stop)
 stop_cause input source r s a line (Fault f) reads bounds = refl
 stop_cause input source r s a line Memory reads bounds =
@@ -120,7 +121,7 @@ pub cursor-advanced : {I : Type 0} (state : I → InputState) (p q : CursorValue
     → q.counts ≡ counts_after p.counts x → AdvancesLines state p.reader reader n
     → (reader.final_answer ≡ None → IfKnown (state p.reader.input).content (state reader.input).content
     (λ c d. reader.taken + length d.bytes ≡ p.reader.taken + length c.bytes))
-    → Bounded reader → ((v : LineVerdict) → x ≡ Ok (Some v) → n ≡ Ok Line) → (x ≡ Ok None → n ≡ Ok NoMore)
+    → IsBounded reader → ((v : LineVerdict) → x ≡ Ok (Some v) → n ≡ Ok Line) → (x ≡ Ok None → n ≡ Ok NoMore)
     → AdvancesCursor state p q x
 cursor-advanced state p q reader n x is rules counts lines sum bounds found none = rw is (record {
   rules = rules;

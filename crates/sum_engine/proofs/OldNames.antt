@@ -8,7 +8,7 @@ use Rattle.sum_lines.specs.grammar.Shapes.{Algos, mark, optional}
 use Rattle.sum_lines.specs.declared.reading.read_line.Form.{Form}
 use Rattle.sum_lines.specs.declared.reading.read_line.Form.TheVariants.{Undecided, Standard, Reversed}
 use Rattle.sum_lines.specs.Escape.{present, escape, escape_of, escape_by}
-use Rattle.sum_lines.specs.grammar.Entries.{EntryValue, is_ignored_by, RawOf, ByTag, ByTail, IsEntry}
+use Rattle.sum_lines.specs.grammar.Entries.{EntryValue, is_ignored_by, IsRawName, SpellsByTag, SpellsByTail, IsEntry}
 use Rattle.sum_lines.specs.grammar.ParsedLines.{ParsedLine, ignored, bad, entry, parse_line}
 use Rattle.sum_lines.proofs.ParsedLineLemmas.{parse_is_grammar}
 use Rattle.sum_engine.specs.check.OldVerdicts.{older, HasNoCarriageReturn, NamesNoCarriageReturn}
@@ -56,14 +56,14 @@ older_name false raw name free s = subst HasNoCarriageReturn s.is free
 -- ---- the raw name
 
 -- a tail without one has a raw name without one
-raw_clean : (f : Form) (tail raw : List ℕ) → HasNoCarriageReturn tail → RawOf f tail raw → HasNoCarriageReturn raw
+raw_clean : (f : Form) (tail raw : List ℕ) → HasNoCarriageReturn tail → IsRawName f tail raw → HasNoCarriageReturn raw
 raw_clean Undecided tail raw h is = absurd is
 raw_clean Reversed tail raw h is = subst HasNoCarriageReturn (sym is) h
 raw_clean Standard tail raw h is = All-tail IsNoCarriageReturn is.1 raw (subst HasNoCarriageReturn is.2 h)
 
 -- a tagged line without one has a raw name without one
 tag_clean : (E : List ℕ → List ℕ) (algos : Algos) (line : List ℕ) (s : EntryValue) → HasNoCarriageReturn line
-    → (t : ByTag E algos line s) → HasNoCarriageReturn t.raw
+    → (t : SpellsByTag E algos line s) → HasNoCarriageReturn t.raw
 tag_clean E algos line s free t =
     let whole = subst HasNoCarriageReturn t.tagged.whole free in
     all_left IsNoCarriageReturn t.raw _ (all_right IsNoCarriageReturn (codes "(") _
@@ -73,7 +73,7 @@ tag_clean E algos line s free t =
 
 -- and a plain one
 tail_clean : (E : List ℕ → List ℕ) (algos : Algos) (f : Form) (line : List ℕ) (s : EntryValue) → HasNoCarriageReturn line
-    → (t : ByTail E algos f line s) → HasNoCarriageReturn t.raw
+    → (t : SpellsByTail E algos f line s) → HasNoCarriageReturn t.raw
 tail_clean E algos f line s free t =
     let whole = subst HasNoCarriageReturn t.plain.whole free in
     raw_clean f t.tail t.raw (All-tail IsNoCarriageReturn t.plain.blank t.tail (all_right IsNoCarriageReturn t.plain.digits _

@@ -1,9 +1,11 @@
 -- Read to the end, known or not: over no file, over one, and over one call after another.
 use Rattle.std.proofs.Common.{rules, ◌≡◌, ℕ, zero, suc, ◌+◌, false, Option, Some, Ok, ap, sym, subst, ◌∙◌, arith}
 use Rattle.std.specs.Option.{option_map, option_or}
-use Rattle.sum_sources.specs.Contents.{InputState, SourceState, given_state, closed_state}
+use Rattle.sum_sources.specs.Contents.{InputState}
+use Rattle.sum_sources.specs.Sources.{SourceState, closed_state}
+use Rattle.sum_sources.specs.StandardInput.{given_state}
 use Rattle.digest_kinds.specs.Limits.{one_more}
-use Rattle.sum_engine.specs.Execution.{InputsState, Phase, Reading, Ended, count_after, IsStdinWhole, KeepsStdin, ReadToEnd}
+use Rattle.sum_engine.specs.Execution.{InputsState, Phase, Unfinished, AtEnd, count_after, IsStdinWhole, KeepsStdin, ReadToEnd}
 use Rattle.sum_engine.specs.refinement.HashName.{HashOutcome, UnlessBroken}
 use Rattle.sum_engine.specs.refinement.Openings.{stdin_taken_from}
 
@@ -21,7 +23,7 @@ ReadToEnd-trans h k = search (rules, count_after-add)
 
 -- no file was opened, and standard input is as it was
 pub ReadToEnd-none : {S : Type 0} (state : S → SourceState) (a b : InputsState S)
-    → (state b.source).opened ≡ (state a.source).opened → (state b.source).ended ≡ (state a.source).ended
+    → (state b.source).counts.opened ≡ (state a.source).counts.opened → (state b.source).counts.ended ≡ (state a.source).counts.ended
     → b.stdin_taken ≡ a.stdin_taken → b.stdin_phase ≡ a.stdin_phase → ReadToEnd state a b
 ReadToEnd-none state a b opened ended taken phase = search rules
 
@@ -32,7 +34,7 @@ ReadToEnd-none state a b opened ended taken phase = search rules
 pub put_back-whole : {I S : Type 0} (input : I → InputState) (a c : InputsState S) (taken given : Option I)
     → (a.stdin_taken ≡ false → a.stdin_phase ≡ Some (given_state input taken).phase)
     → KeepsStdin (stdin_taken_from a) c
-    → ((given_state input taken).phase ≡ Reading → (given_state input given).phase ≡ Ended) → IsStdinWhole a
+    → ((given_state input taken).phase ≡ Unfinished → (given_state input given).phase ≡ AtEnd) → IsStdinWhole a
     → IsStdinWhole (record c { stdin_phase = option_or c.stdin_phase (option_map (λ i. (input i).phase) given) })
 put_back-whole input a c taken given phase kept ends whole = search rules
 
@@ -40,8 +42,8 @@ put_back-whole input a c taken given phase kept ends whole = search rules
 
 -- a file was opened, and closed at its end
 pub ReadToEnd-file : {S : Type 0} (state : S → SourceState) (a b : InputsState S) (between : S) (p : Phase)
-    → (state between).opened ≡ one_more (state a.source).opened → (state between).ended ≡ (state a.source).ended
-    → state b.source ≡ closed_state (state between) p → p ≡ Ended
+    → (state between).counts.opened ≡ one_more (state a.source).counts.opened → (state between).counts.ended ≡ (state a.source).counts.ended
+    → state b.source ≡ closed_state (state between) p → p ≡ AtEnd
     → b.stdin_taken ≡ a.stdin_taken → b.stdin_phase ≡ a.stdin_phase → ReadToEnd state a b
 ReadToEnd-file state a b between p opened ended closed at_end taken phase = search rules
 
@@ -51,14 +53,14 @@ UnlessBroken-map o f h = search rules
 
 -- a file was opened; others were read to the end; and it was closed at its end
 pub ReadToEnd-around : {S : Type 0} (state : S → SourceState) (a m n b : InputsState S) (p : Phase) → KeepsStdin a m
-    → (state m.source).opened ≡ one_more (state a.source).opened → (state m.source).ended ≡ (state a.source).ended
-    → ReadToEnd state m n → KeepsStdin n b → state b.source ≡ closed_state (state n.source) p → p ≡ Ended
+    → (state m.source).counts.opened ≡ one_more (state a.source).counts.opened → (state m.source).counts.ended ≡ (state a.source).counts.ended
+    → ReadToEnd state m n → KeepsStdin n b → state b.source ≡ closed_state (state n.source) p → p ≡ AtEnd
     → ReadToEnd state a b
 ReadToEnd-around {S} state a m n b p first opened ended h last closed at_end =
     let next : h.number + 1 ≡ suc h.number = omega arith in
     record {
       number = suc h.number;
-      opened = search (rules, count_after-add h.number 1 (state a.source).opened, next);
+      opened = search (rules, count_after-add h.number 1 (state a.source).counts.opened, next);
       ended = search rules;
       stdin = λ whole. subst (λ (m : InputsState S). IsStdinWhole m) (sym last)
           (h.stdin (subst (λ (m : InputsState S). IsStdinWhole m) (sym first) whole));

@@ -7,9 +7,10 @@ use Rattle.sum_sources.specs.declared.line_reader.Next.TheVariants.{Line}
 use Rattle.sum_sources.specs.declared.line_reader.LineReader.{LineReader}
 use Rattle.sum_sources.proofs.ContentLemmas.{limit-value}
 use Rattle.sum_engine.specs.Behavior.{Ending, Whole, Broken, Fault, World, Step, Behavior, events_of}
-use Rattle.sum_sources.specs.Contents.{Content, InputState, SourceState, empty_content, limit}
-use Rattle.sum_sources.specs.ManifestLines.{NextLineIs, lines}
-use Rattle.sum_sources.specs.LineReaders.{remaining_content, MayRemain, Bounded, consumed}
+use Rattle.sum_sources.specs.Contents.{Content, InputState, empty_content, limit}
+use Rattle.sum_sources.specs.Sources.{SourceState}
+use Rattle.sum_sources.specs.ManifestLines.{IsNextLine, lines}
+use Rattle.sum_sources.specs.LineReaders.{remaining_content, MayRemain, IsBounded, consumed_count}
 use Rattle.sum_lines.specs.Escape.{Profile, present}
 use Rattle.sum_engine.specs.check.Reports.{Report, LabelsValue, err_of, out_of, out_by, end_text, good}
 use Rattle.sum_engine.specs.check.Verdicts.{Ignored, lines_under, Rules, asks_of}
@@ -72,13 +73,13 @@ module _ {I S : Type 0} {input : I → InputState} {source : S → SourceState} 
     }
 
 -- something may remain after each call of a reader
-pub some_remains : {I : Type 0} (state : I → InputState) (r : LineReader I) → Bounded r
+pub some_remains : {I : Type 0} (state : I → InputState) (r : LineReader I) → IsBounded r
     → (d : Content) × MayRemain state r d
 some_remains state r bounds = by (remaining_content state r) refl bounds.under
   where
     by : (x : Option Content) → remaining_content state r ≡ x
         → (r.taken < 2 ^ 61) ⊎ ((f : Fault) × (r.final_answer ≡ Some (Err (line_stops.Fault f))))
-        → (d : Content) × MatchOption x (consumed r + length d.bytes < limit) (λ c. d ≡ c)
+        → (d : Content) × MatchOption x (consumed_count r + length d.bytes < limit) (λ c. d ≡ c)
     by None is (inl under) = (empty_content, rw limit-value (omega (arith, under)))
     by None is (inr stop) = let none : Some (record { bytes = []; ending = Broken stop.0 }) ≡ None = rw stop.1 at is in cc
     by (Some c) is under = (c, refl)
@@ -89,7 +90,7 @@ some_remains state r bounds = by (remaining_content state r) refl bounds.under
 pub record ReadsLine {I : Type 0} (state : I → InputState) (p : CursorValue I) (reader : LineReader I) (line : List ℕ)
     : Type 0 where
   pub next : (d : Content) → MayRemain state reader d → (c : Content) × MayRemain state p.reader c
-      × (NextLineIs c d (Ok Line) line × (consumed reader + length d.bytes ≡ consumed p.reader + length c.bytes))
+      × (IsNextLine c d (Ok Line) line × (consumed_count reader + length d.bytes ≡ consumed_count p.reader + length c.bytes))
   pub number : reader.lines ≡ p.reader.lines + 1
   pub ahead : length reader.ahead ≤ 8192
   pub profile : p.rules.profile ≡ present
@@ -101,7 +102,7 @@ lines_now r c h = rw h refl
 -- a line was handled: it was read, and then its form was taken over and its verdict counted
 abbrev pub line_handled : {I : Type 0} (state : I → InputState) (p q : CursorValue I) (reader : LineReader I)
     (c d : Content) (w v : World) (line vector : List ℕ) → ReadsLine state p reader line
-    → NextLineIs c d (Ok Line) line × (consumed reader + length d.bytes ≡ consumed p.reader + length c.bytes)
+    → IsNextLine c d (Ok Line) line × (consumed_count reader + length d.bytes ≡ consumed_count p.reader + length c.bytes)
     → TakesLine (record p { reader = reader }) q line → length vector ≤ length line
     → q.counts ≡ counts_with p.counts (next_judged p.rules (state_at p c w) line).verdict
     → HandlesLine p.rules (state_at p c w) (state_at (record q { reader = reader }) d v) vector

@@ -1,11 +1,12 @@
 -- Asking names one after another, and worlds before and after.
 use Rattle.std.proofs.Common.{rules, ◌≡◌, ◌∙◌, ap, refl, ℕ, Bool, true, false, if◌then◌else◌, List, [], ◌∷◌, ◌++◌, Option, None, Some, IfSome, Result, Ok, Err, append_assoc, append-nil}
 use Rattle.std.proofs.lemmas.List.Elements.{filter-append}
-use Rattle.sum_sources.specs.Contents.{Content, empty_content, IfKnown, InputState, KnownSource, Reply, SourceState, AsksName, OpenOf, closed_state}
+use Rattle.sum_sources.specs.Contents.{Content, empty_content, IfKnown, InputState}
+use Rattle.sum_sources.specs.Sources.{KnownSource, Answer, SourceState, AsksName, OpensName, closed_state}
 use Rattle.sum_sources.specs.declared.sources.source.OpenFault.{OpenFault}
 use Rattle.sum_sources.specs.declared.sources.source.OpenFault.TheVariants as faults
 use Rattle.sum_sources.proofs.KnownLemmas.{IfKnown-then}
-use Rattle.sum_engine.specs.Behavior.{Fault, World, is_dash, reply, after_one, after}
+use Rattle.sum_engine.specs.Behavior.{Fault, World, is_dash, answer_to, after_one, after}
 use Rattle.sum_engine.specs.Execution.{InputsState, Phase, KeepsStdin, InSomeWorld, AskedMore}
 use Rattle.sum_engine.specs.refinement.Openings.{stdin_taken_from}
 
@@ -17,7 +18,7 @@ after-append w [] b = refl
 after-append w (name ∷ names) b = after-append (after_one w name) names b
 
 -- a source that answers alike whatever was asked goes on so
-pub after-steady : (files : List ℕ → Reply) (w : World) (names : List (List ℕ)) → w.answer ≡ (λ asked. files)
+pub after-steady : (files : List ℕ → Answer) (w : World) (names : List (List ℕ)) → w.answer ≡ (λ asked. files)
     → (after w names).answer ≡ (λ asked. files)
 after-steady files w [] steady = steady
 after-steady files w (name ∷ names) steady =
@@ -38,7 +39,7 @@ dash_asked a name dash = search (rules, append-nil)
 
 -- a file that is opened, or isn't, was asked
 pub file_asked : {F : Type 0} (content : F → InputState) (a b : SourceState) (name : List ℕ) (x : Result F OpenFault)
-    → is_dash name ≡ false → IfKnown a.known b.known (λ s t. OpenOf content s t name x)
+    → is_dash name ≡ false → IfKnown a.known b.known (λ s t. OpensName content s t name x)
     → (x ≡ Err faults.Memory → ⊥) → AskedMore a b (name ∷ [])
 file_asked content a b name (Ok file) is_file h some = search rules
 file_asked content a b name (Err (faults.Fault f)) is_file h some = search rules
@@ -77,15 +78,15 @@ InSomeWorld-none state a = record { before = λ v fits. (v, fits, refl) }
 -- ---- a file is opened
 
 -- it is answered so, and then as before
-abbrev answer_first : Reply → (List (List ℕ) → List ℕ → Reply) → List (List ℕ) → List ℕ → Reply
-answer_first reply answer [] name = reply
-answer_first reply answer (first ∷ asked) name = answer asked name
+abbrev answer_first : Answer → (List (List ℕ) → List ℕ → Answer) → List (List ℕ) → List ℕ → Answer
+answer_first here later [] name = here
+answer_first here later (first ∷ asked) name = later asked name
 
 -- so there is a world before each world after
-answered_by : (x y : Option KnownSource) (name : List ℕ) (r : Reply) (v : World) → is_dash name ≡ false
+answered_by : (x y : Option KnownSource) (name : List ℕ) (r : Answer) (v : World) → is_dash name ≡ false
     → IfKnown x y (λ s t. AsksName s t name (Some r)) → IfSome y (λ t. v.answer ≡ t.answer)
     → (w : World) × IfSome x (λ s. w.answer ≡ s.answer) × (w.input ≡ v.input) × (v ≡ after w (name ∷ []))
-    × (reply w name ≡ r)
+    × (answer_to w name ≡ r)
 answered_by None y name r v file h is =
     let w : World = record { answer = answer_first r v.answer; input = v.input } in
     (w, tt, refl, rw file refl, rw file refl)
@@ -97,11 +98,11 @@ answered_by (Some s) (Some t) name r v file h is =
 
 module _ {S : Type 0} (state : S → SourceState) (a b : InputsState S) (kept : KeepsStdin a b) where
   -- opening it gives this
-  abbrev Replies : List ℕ → Reply → Type 0
-  Replies name r = InSomeWorld state a b (λ w v. (v ≡ after w (name ∷ [])) × (reply w name ≡ r))
+  abbrev Answers : List ℕ → Answer → Type 0
+  Answers name r = InSomeWorld state a b (λ w v. (v ≡ after w (name ∷ [])) × (answer_to w name ≡ r))
 
-  opened : (name : List ℕ) (r : Reply) → is_dash name ≡ false
-      → IfKnown (state a.source).known (state b.source).known (λ s t. AsksName s t name (Some r)) → Replies name r
+  opened : (name : List ℕ) (r : Answer) → is_dash name ≡ false
+      → IfKnown (state a.source).known (state b.source).known (λ s t. AsksName s t name (Some r)) → Answers name r
   opened name r file h = record {
     before = λ v fits.
         let some = answered_by (state a.source).known (state b.source).known name r v file h fits.0 in
@@ -111,14 +112,14 @@ module _ {S : Type 0} (state : S → SourceState) (a b : InputsState S) (kept : 
   module _ {F : Type 0} (content : F → InputState) (name : List ℕ) where
     -- a content that the file may have
     pub opened_file : (file : F) (c : Content) → is_dash name ≡ false → IfSome (content file).content (λ d. c ≡ d)
-        → IfKnown (state a.source).known (state b.source).known (λ s t. OpenOf content s t name (Ok file))
-        → Replies name (Ok c)
+        → IfKnown (state a.source).known (state b.source).known (λ s t. OpensName content s t name (Ok file))
+        → Answers name (Ok c)
     opened_file file c is_file may h = opened name (Ok c) is_file (search rules)
 
     -- the fault of opening
     pub opened_fault : (f : Fault) → is_dash name ≡ false
         → IfKnown (state a.source).known (state b.source).known
-        (λ s t. OpenOf content s t name (Err (faults.Fault f))) → Replies name (Err f)
+        (λ s t. OpensName content s t name (Err (faults.Fault f))) → Answers name (Err f)
     opened_fault f is_file h = opened name (Err f) is_file (search rules)
 
   -- without memory nothing was asked
@@ -131,7 +132,7 @@ module _ {S : Type 0} (state : S → SourceState) (a b : InputsState S) (kept : 
 -- a content that standard input may have had
 pub stdin_given : {S : Type 0} (state : S → SourceState) (a : InputsState S) (name : List ℕ) → is_dash name ≡ true
     → (c : Content) → IfSome a.input (λ d. c ≡ d)
-    → InSomeWorld state a (stdin_taken_from a) (λ w v. (v ≡ after w (name ∷ [])) × (reply w name ≡ Ok c))
+    → InSomeWorld state a (stdin_taken_from a) (λ w v. (v ≡ after w (name ∷ [])) × (answer_to w name ≡ Ok c))
 stdin_given state a name dash c may = record {
   before = λ v fits. let w : World = record v { input = c } in
       (w, (fits.0, may), (rw dash (ap (λ d. record v { input = d }) fits.1), rw dash refl));

@@ -6,11 +6,12 @@ use Rattle.digest_kinds.specs.Kinds.{KindValue, digest}
 pub use Rattle.sum_sources.specs.declared.fault.Fault.{Fault}
 pub use Rattle.sum_sources.specs.declared.fault.Ending.{Ending}
 pub use Rattle.sum_sources.specs.declared.fault.Ending.TheVariants.{Whole, Broken}
-use Rattle.sum_sources.specs.Contents.{Content, clip, Reply, empty_content}
+use Rattle.sum_sources.specs.Contents.{Content, clip, empty_content}
+use Rattle.sum_sources.specs.Sources.{Answer}
 
 -- each name's answer, by the names asked before it (a file may change in between); what standard input has left
 pub record World : Type 0 where
-  pub answer : List ByteString → ByteString → Reply
+  pub answer : List ByteString → ByteString → Answer
   pub input : Content
 
 -- the name of standard input
@@ -18,8 +19,8 @@ abbrev pub is_dash : ByteString → Bool
 is_dash name = bytes_eq name (codes "-")
 
 -- what opening a name gives: what standard input has left, or the source's answer
-abbrev pub reply : World → ByteString → Reply
-reply w name = if is_dash name then Ok w.input else w.answer [] name
+abbrev pub answer_to : World → ByteString → Answer
+answer_to w name = if is_dash name then Ok w.input else w.answer [] name
 
 -- the world once this name was opened: standard input is given once, and is empty from then on
 abbrev pub after_one : World → ByteString → World
@@ -36,8 +37,8 @@ abbrev pub digest_by : KindValue → ByteString → Ending → Result (ByteStrin
 digest_by kind bytes Whole = Ok (digest kind bytes)
 digest_by kind bytes (Broken f) = Err f
 
--- what reading a reply gives: the digest of all its bytes, or the fault of opening or reading it
-abbrev pub digest_or_fault : KindValue → Reply → Result (ByteString) Fault
+-- what reading a answer gives: the digest of all its bytes, or the fault of opening or reading it
+abbrev pub digest_or_fault : KindValue → Answer → Result (ByteString) Fault
 digest_or_fault kind (Err f) = Err f
 digest_or_fault kind (Ok c) = digest_by kind (clip c).bytes (clip c).ending
 

@@ -4,9 +4,10 @@ use Rattle.digest_kinds.specs.Basics.{ByteString}
 use Rattle.std.specs.List.{list_any}
 use Rattle.std.specs.Io.KnownBytes.{Appends}
 use Rattle.digest_kinds.specs.Limits.{one_more}
-use Rattle.sum_sources.specs.Contents.{Content, SourceState, IfKnown}
+use Rattle.sum_sources.specs.Contents.{Content, IfKnown}
+use Rattle.sum_sources.specs.Sources.{SourceState}
 pub use Rattle.sum_sources.specs.declared.inputs.phase.Phase.{Phase}
-pub use Rattle.sum_sources.specs.declared.inputs.phase.Phase.TheVariants.{Reading, Ended}
+pub use Rattle.sum_sources.specs.declared.inputs.phase.Phase.TheVariants.{Unfinished, AtEnd}
 use Rattle.sum_lines.specs.sinks.Sinks.{SinkState, IsPrefix}
 pub use Rattle.sum_engine.specs.declared.streams.Streams.{Streams}
 pub use Rattle.sum_engine.specs.declared.stop.Stop.{Stop}
@@ -58,8 +59,8 @@ IsOneMoreAtMost n m = (m ≡ n) ⊎ IsOneMore n m
 -- out of memory changes the count so, and any other result leaves it
 abbrev pub RefusalsMatch : {S A : Type 0} → (S → SourceState) → (ℕ → ℕ → Type 0) → InputsState S → InputsState S
     → Result A Stop → Type 0
-RefusalsMatch state Changes a b (Err Memory) = Changes (state a.source).refusals (state b.source).refusals
-RefusalsMatch state Changes a b r = (state b.source).refusals ≡ (state a.source).refusals
+RefusalsMatch state Changes a b (Err Memory) = Changes (state a.source).counts.refusals (state b.source).counts.refusals
+RefusalsMatch state Changes a b r = (state b.source).counts.refusals ≡ (state a.source).counts.refusals
 
 -- what holds of a call that may stop, known or not: flushed outputs stay flushed, and a stop has its cause
 pub record StopHasCause {S A : Type 0} (state : S → SourceState) (Changes : ℕ → ℕ → Type 0) (a b : StreamsState S)
@@ -79,15 +80,15 @@ count_after (suc n) count = one_more (count_after n count)
 
 -- standard input was not taken, and nothing of it was read; or it was taken, and read to its end
 abbrev pub IsStdinWhole : {S : Type 0} → InputsState S → Type 0
-IsStdinWhole a = ((a.stdin_taken ≡ false) × (a.stdin_phase ≡ Some Reading))
-    ⊎ ((a.stdin_taken ≡ true) × (a.stdin_phase ≡ Some Ended))
+IsStdinWhole a = ((a.stdin_taken ≡ false) × (a.stdin_phase ≡ Some Unfinished))
+    ⊎ ((a.stdin_taken ≡ true) × (a.stdin_phase ≡ Some AtEnd))
 
 -- READ TO THE END, known or not: each file that was opened was closed after its reads had given its end once; none of
 -- them failed, and it was not read again. So was standard input, if it was taken
 pub record ReadToEnd {S : Type 0} (state : S → SourceState) (a b : InputsState S) : Type 0 where
   pub number : ℕ  -- of these files
-  pub opened : (state b.source).opened ≡ count_after number (state a.source).opened
-  pub ended : (state b.source).ended ≡ count_after number (state a.source).ended
+  pub opened : (state b.source).counts.opened ≡ count_after number (state a.source).counts.opened
+  pub ended : (state b.source).counts.ended ≡ count_after number (state a.source).counts.ended
   pub stdin : IsStdinWhole a → IsStdinWhole b
 
 -- a world that these inputs may be in: of the source and of standard input what is known
@@ -122,7 +123,7 @@ pub record Happened (a b : WorldState) (es : List Event) : Type 0 where
   pub stdin_taken : b.stdin_taken ≡ a.stdin_taken || list_any is_dash (filter_map opened_name es)
   pub err : Appends a.outputs.err.written b.outputs.err.written (filter_map err_byte es)
   pub out : Appends a.outputs.out.written b.outputs.out.written (filter_map out_byte es)
-  pub refusals : b.source.refusals ≡ a.source.refusals
+  pub refusals : b.source.counts.refusals ≡ a.source.counts.refusals
 
 -- a prefix of these events happened
 abbrev pub PrefixHappened : WorldState → WorldState → List Event → Type 0
@@ -131,7 +132,7 @@ PrefixHappened a b es = (prefix : List Event) × IsPrefix prefix es × Happened 
 -- out of memory at a step, of which nothing happened: the source was refused it, or bytes of the manifest remained
 abbrev pub RefusedAt : Step → WorldState → WorldState → Type 0
 RefusedAt s a b = (b ≡ record a { source = b.source }) × AskedMore a.source b.source []
-    × (IsOneMore a.source.refusals b.source.refusals ⊎ ((b.source.refusals ≡ a.source.refusals) × (0 < s.remaining)))
+    × (IsOneMore a.source.counts.refusals b.source.counts.refusals ⊎ ((b.source.counts.refusals ≡ a.source.counts.refusals) × (0 < s.remaining)))
 
 -- out of memory: the steps before the next one happened, and nothing of it
 pub record RunsOutOfMemory (steps : List Step) (a b : WorldState) : Type 0 where

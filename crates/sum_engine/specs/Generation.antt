@@ -2,7 +2,7 @@
 use Rattle.std.specs.Prelude.{true, false, [], ◌∷◌, codes, Result, Ok, Err}
 use Rattle.digest_kinds.specs.Basics.{ByteString}
 use Rattle.std.specs.List.{concat}
-use Rattle.sum_engine.specs.Behavior.{Fault, World, reply, digest_or_fault, Behavior, single_step}
+use Rattle.sum_engine.specs.Behavior.{Fault, World, answer_to, digest_or_fault, Behavior, single_step}
 use Rattle.sum_sources.specs.Faults.{fault_text}
 use Rattle.sum_lines.specs.Lines.{line}
 pub use Rattle.sum_engine.specs.declared.settings.Settings.{Settings}
@@ -23,4 +23,4 @@ generate_behavior_by s tool name (Err f) = single_step (name ∷ []) (name_fault
 
 -- the behavior of hashing a name in a world
 abbrev pub generate_behavior : Settings → ByteString → World → ByteString → Behavior
-generate_behavior s tool w name = generate_behavior_by s tool name (digest_or_fault s.kind (reply w name))
+generate_behavior s tool w name = generate_behavior_by s tool name (digest_or_fault s.kind (answer_to w name))

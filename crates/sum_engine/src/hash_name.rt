@@ -39,7 +39,7 @@ pub(crate) fn is_dash(name: &[u8]) -> bool
 
 ghost use Rattle.sum_engine.specs.refinement.HashName.{HashesName, IsRead, RefusedUnless, UnlessBroken};
 ghost use Rattle.sum_engine.specs.refinement.HashName.{HasKindLen, digest_of_outcome};
-ghost use Rattle.sum_engine.specs.Execution.{InSomeWorld, AskedMore, KeepsStdin, ReadToEnd, Reading, Ended};
+ghost use Rattle.sum_engine.specs.Execution.{InSomeWorld, AskedMore, KeepsStdin, ReadToEnd, Unfinished, AtEnd};
 
 /// Opens the file of this name (`-` is standard input) and hashes it. The file is read into the buffer, piece by piece.
 /// `NoRoom` if the source was refused memory; the name then doesn't count as asked.
@@ -86,7 +86,7 @@ fn read_digest<F: Input, H: Hasher + Drop>(
     requires { H.holds hasher [] }
     ensures outcome { (c : Content) × IfSome (F.state file.old).content (λ d. c ≡ d)
         × IsRead (H.kind_of hasher) c result }
-    ensures phase { UnlessBroken (Ok result) ((F.state file.old).phase ≡ Reading → (F.state file.new).phase ≡ Ended) }
+    ensures phase { UnlessBroken (Ok result) ((F.state file.old).phase ≡ Unfinished → (F.state file.new).phase ≡ AtEnd) }
     ensures digest_len { HasKindLen (H.kind_of hasher) (Ok result) }
 {
     match hash_input_over(file, hasher, buffer) {

@@ -1,8 +1,10 @@
 //! Where a call opens and reads.
 ghost use Rattle.std.specs.Prelude.{◌≡◌, false, true, Some, IfOk};
 ghost use Rattle.std.specs.Option.{option_map, option_or};
-ghost use Rattle.sum_sources.specs.Contents.{IfKnown, OpenOf, given_state, refusals_after, opened_after, closed_state};
-ghost use Rattle.sum_engine.specs.Execution.{KeepsStdin, Reading};
+ghost use Rattle.sum_sources.specs.Contents.{IfKnown, refusals_after, opened_after};
+ghost use Rattle.sum_sources.specs.Sources.{OpensName, closed_state};
+ghost use Rattle.sum_sources.specs.StandardInput.{given_state};
+ghost use Rattle.sum_engine.specs.Execution.{KeepsStdin, Unfinished};
 ghost use Rattle.sum_engine.specs.refinement.Openings.{stdin_taken_from};
 
 use std::marker::Model;
@@ -19,7 +21,7 @@ pub struct Inputs<I: Input, S> {
 
 impl<I: Input, S> Model for Inputs<I, S> {
     ghost use Rattle.sum_engine.specs.Execution.{InputsState};
-    ghost use Rattle.sum_sources.specs.Contents.{stdin_state, stdin_taken, stdin_phase};
+    ghost use Rattle.sum_sources.specs.StandardInput.{stdin_state, stdin_taken, stdin_phase};
 
     ghost Value = { InputsState S };
 
@@ -55,13 +57,13 @@ impl<I: Input + Drop, S: Source> Inputs<I, S> {
     /// Opens the file of this name, as the source does.
     pub(crate) fn open_file(&mut self, name: &[u8]) -> Result<S::File, OpenFault>
         ensures answer { IfKnown (S.state self.old.source).known (S.state self.new.source).known
-            (λ s t. OpenOf S.File.state s t name.now result) }
+            (λ s t. OpensName S.File.state s t name.now result) }
         ensures stdin { KeepsStdin self.old self.new }
-        ensures refusals { (S.state self.new.source).refusals
-            ≡ refusals_after (S.state self.old.source).refusals result }
-        ensures opened { ((S.state self.new.source).opened ≡ opened_after (S.state self.old.source).opened result)
-            × ((S.state self.new.source).ended ≡ (S.state self.old.source).ended) }
-        ensures phase { IfOk result (λ file. (S.File.state file).phase ≡ Reading) }
+        ensures refusals { (S.state self.new.source).counts.refusals
+            ≡ refusals_after (S.state self.old.source).counts.refusals result }
+        ensures opened { ((S.state self.new.source).counts.opened ≡ opened_after (S.state self.old.source).counts.opened result)
+            × ((S.state self.new.source).counts.ended ≡ (S.state self.old.source).counts.ended) }
+        ensures phase { IfOk result (λ file. (S.File.state file).phase ≡ Unfinished) }
     {
         self.source.open_file(name)
     }

@@ -1,6 +1,6 @@
 //! The streams of a call.
 ghost use Rattle.std.specs.Prelude.{◌≡◌};
-ghost use Rattle.sum_sources.specs.Contents.{stdin_state, stdin_taken, stdin_phase};
+ghost use Rattle.sum_sources.specs.StandardInput.{stdin_state, stdin_taken, stdin_phase};
 
 use crate::inputs::Inputs;
 use std::marker::Model;

@@ -2,9 +2,10 @@
 use Rattle.std.specs.Prelude.{ℕ, ◌≡◌, ◌+◌, ◌≤◌, List, [], ◌∷◌, length, None, option_map}
 use Rattle.digest_kinds.specs.Basics.{ByteString}
 use Rattle.sum_sources.specs.declared.line_reader.LineReader.{LineReader}
-use Rattle.sum_sources.specs.Contents.{Content, SourceState, InputState, clip}
+use Rattle.sum_sources.specs.Contents.{Content, InputState, clip}
+use Rattle.sum_sources.specs.Sources.{SourceState}
 use Rattle.sum_sources.specs.ManifestLines.{past_line}
-use Rattle.sum_sources.specs.LineReaders.{remaining_content, MayRemain, consumed}
+use Rattle.sum_sources.specs.LineReaders.{remaining_content, MayRemain, consumed_count}
 use Rattle.sum_lines.specs.declared.reading.read_line.Form.TheVariants.{Undecided}
 use Rattle.sum_lines.specs.grammar.Entries.{form_then, line_form, form}
 use Rattle.sum_lines.specs.grammar.ParsedLines.{parse_line}
@@ -96,7 +97,7 @@ abbrev pub state_at : {I : Type 0} → CursorValue I → Content → World → C
 state_at p c w = record {
   rest = c;
   number = p.reader.lines;
-  consumed = consumed p.reader;
+  consumed = consumed_count p.reader;
   taken = p.reader.taken;
   form = p.form;
   counts = p.counts;

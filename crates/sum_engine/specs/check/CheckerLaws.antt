@@ -4,10 +4,11 @@ use Rattle.digest_kinds.specs.Basics.{ByteString}
 use Rattle.std.specs.Io.KnownBytes.{Appends}
 use Rattle.digest_kinds.specs.Kinds.{KindValue}
 use Rattle.sum_sources.specs.declared.line_reader.LineStop.TheVariants.{Fault}
-use Rattle.sum_sources.specs.Contents.{Content, SourceState, clip}
+use Rattle.sum_sources.specs.Contents.{Content, clip}
+use Rattle.sum_sources.specs.Sources.{SourceState}
 use Rattle.sum_sources.specs.ManifestLines.{past_lines}
 use Rattle.sum_lines.specs.Escape.{escape}
-use Rattle.sum_lines.specs.grammar.Shapes.{Plain}
+use Rattle.sum_lines.specs.grammar.Shapes.{IsPlain}
 use Rattle.sum_lines.specs.grammar.Entries.{EntryValue, IsEntry, form}
 use Rattle.sum_engine.specs.Execution.{Stop, Write, StreamsState, WorldState, IsFlushed, InSomeWorld, in_world, AskedMore, Happened, PrefixHappened, PerformsSteps}
 use Rattle.sum_engine.specs.Behavior.{after, Behavior, trace, out_text, err_text, asks, Ending, Whole, Broken, World}
@@ -83,7 +84,7 @@ pub record FrontIsSame (r : Rules) (w : World) (before : List ByteString) (line 
   pub verdict :
       take (length before + 1) (verdicts r (form r.algo (before ++ (line ∷ later))) w 0 (before ++ (line ∷ later)))
       ≡ take (length before + 1) (verdicts r (form r.algo (before ++ (line ∷ others))) w 0 (before ++ (line ∷ others)))
-  pub form : (e : Bool) (kind : KindValue) (d tail : ByteString) → Plain r.algo line e kind d tail
+  pub form : (e : Bool) (kind : KindValue) (d tail : ByteString) → IsPlain r.algo line e kind d tail
       → form r.algo (before ++ (line ∷ later)) ≡ form r.algo (before ++ (line ∷ others))
 
 -- later lines have no part in any of this; nor has a manifest's name, which the rules don't hold

@@ -4,7 +4,8 @@ use Rattle.digest_kinds.specs.Basics.{ByteString}
 pub use Rattle.sum_engine.specs.declared.check.progress.Progress.{Progress}
 pub use Rattle.sum_engine.specs.declared.check.progress.Progress.TheVariants.{Going, Ended}
 use Rattle.sum_sources.specs.declared.line_reader.LineStop.TheVariants.{Fault, Memory}
-use Rattle.sum_sources.specs.Contents.{SourceState, InputState}
+use Rattle.sum_sources.specs.Sources.{SourceState}
+use Rattle.sum_sources.specs.Contents.{InputState}
 use Rattle.sum_engine.specs.check.Verdicts.{Rules}
 use Rattle.sum_engine.specs.Execution.{Stop, Write, WorldState, PerformsSteps, StreamsState, IsFlushed, FailuresMatch, KeepsOutputsOnMemory, in_world}
 use Rattle.sum_engine.specs.check.Reports.{LabelsValue, good}

@@ -1,10 +1,11 @@
 -- The behavior of checking one manifest.
 use Rattle.std.specs.Prelude.{true, false, List, [], ◌∷◌, length, codes, Bool, if◌then◌else◌, Ok, Err}
 use Rattle.digest_kinds.specs.Basics.{ByteString}
-use Rattle.sum_sources.specs.Contents.{Content, clip, Reply}
+use Rattle.sum_sources.specs.Contents.{Content, clip}
+use Rattle.sum_sources.specs.Sources.{Answer}
 use Rattle.sum_sources.specs.ManifestLines.{past_line}
 use Rattle.sum_engine.specs.check.Verdicts.{Rules, LineVerdictValue, asks_of, all_verdicts}
-use Rattle.sum_engine.specs.Behavior.{World, is_dash, reply, after, behavior_then, Step, Behavior, single_step}
+use Rattle.sum_engine.specs.Behavior.{World, is_dash, answer_to, after, behavior_then, Step, Behavior, single_step}
 use Rattle.sum_lines.specs.Escape.{present}
 use Rattle.sum_engine.specs.Generation.{name_fault_line}
 pub use Rattle.sum_engine.specs.declared.settings.CheckSettings.{CheckSettings}
@@ -34,8 +35,8 @@ content_behavior r labels content js = let counts = counts_of js in record {
   good = good r content.ending counts;
 }
 
--- a manifest of that name, opened with this reply, in the world after that
-abbrev pub check_behavior_by : Rules → LabelsValue → ByteString → World → Reply → Behavior
+-- a manifest of that name, opened with this answer, in the world after that
+abbrev pub check_behavior_by : Rules → LabelsValue → ByteString → World → Answer → Behavior
 check_behavior_by r labels name w (Err f) =
     single_step (name ∷ []) (name_fault_line r.profile labels.tool labels.manifest f) [] false
 check_behavior_by r labels name w (Ok content) = behavior_then (single_step (name ∷ []) [] [] true)
@@ -44,4 +45,4 @@ check_behavior_by r labels name w (Ok content) = behavior_then (single_step (nam
 -- the behavior of checking the manifest of that name in a world
 abbrev pub check_behavior : CheckSettings → ByteString → World → ByteString → Behavior
 check_behavior settings tool w name = check_behavior_by (rules_of settings (is_dash name))
-    (labels_of settings tool name) name (after w (name ∷ [])) (reply w name)
+    (labels_of settings tool name) name (after w (name ∷ [])) (answer_to w name)

@@ -7,9 +7,10 @@ use Rattle.sum_engine.specs.Behavior.{Ending, Whole, Broken, is_dash, after}
 pub use Rattle.sum_sources.specs.declared.line_reader.LineStop.{LineStop}
 use Rattle.sum_sources.specs.declared.line_reader.LineStop.TheVariants.{Fault, Memory}
 use Rattle.sum_sources.specs.declared.line_reader.Next.TheVariants.{NoMore}
-use Rattle.sum_sources.specs.Contents.{Content, IfKnown, InputState, SourceState}
-use Rattle.sum_sources.specs.ManifestLines.{NoNewline}
-use Rattle.sum_sources.specs.LineReaders.{remaining_content, Bounded, IsReadSoFar}
+use Rattle.sum_sources.specs.Contents.{Content, IfKnown, InputState}
+use Rattle.sum_sources.specs.Sources.{SourceState}
+use Rattle.sum_sources.specs.ManifestLines.{HasNoNewline}
+use Rattle.sum_sources.specs.LineReaders.{remaining_content, IsBounded, IsReadSoFar}
 use Rattle.sum_engine.specs.Execution.{InputsState, KeepsStdin, ReadToEnd, AskedMore}
 use Rattle.sum_engine.specs.check.CheckStates.{CheckState, CursorValue, counts_with, HandlesLine, remaining_verdicts, InSomeCheck}
 pub use Rattle.sum_engine.specs.declared.check.judge.LineVerdict.{LineVerdict}
@@ -93,9 +94,9 @@ names_of_result vector x = []
 
 -- out of memory, known or not: the source was refused it, or bytes of the manifest were still to come
 abbrev pub MemoryStopHasCause : SourceState → SourceState → Option Content → VerdictResult → Type 0
-MemoryStopHasCause a b c (Err Memory) = (b.refusals ≡ one_more a.refusals)
-    ⊎ ((b.refusals ≡ a.refusals) × IfSome c (λ d. 0 < length d.bytes))
-MemoryStopHasCause a b c x = b.refusals ≡ a.refusals
+MemoryStopHasCause a b c (Err Memory) = (b.counts.refusals ≡ one_more a.counts.refusals)
+    ⊎ ((b.counts.refusals ≡ a.counts.refusals) × IfSome c (λ d. 0 < length d.bytes))
+MemoryStopHasCause a b c x = b.counts.refusals ≡ a.counts.refusals
 
 -- what such a call does to the place, known or not
 pub record AdvancesCursor {I : Type 0} (state : I → InputState) (a b : CursorValue I) (x : VerdictResult)
@@ -110,8 +111,8 @@ pub record AdvancesCursor {I : Type 0} (state : I → InputState) (a b : CursorV
   pub phase : IsReadSoFar state a.reader → IsReadSoFar state b.reader
   pub end : x ≡ Ok None → b.reader.final_answer ≡ Some (Ok NoMore)
   -- if a whole line is read ahead, the input isn't read
-  pub ahead : ¬ NoNewline a.reader.ahead → b.reader.input ≡ a.reader.input
-  pub bounds : Bounded b.reader
+  pub ahead : ¬ HasNoNewline a.reader.ahead → b.reader.input ≡ a.reader.input
+  pub bounds : IsBounded b.reader
 
 -- what such a call does, known or not
 pub record AdvancesVerdicts {I S : Type 0} (input : I → InputState) (source : S → SourceState) (vector : ByteString)

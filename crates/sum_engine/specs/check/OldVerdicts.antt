@@ -3,7 +3,8 @@ use Rattle.std.specs.Prelude.{◌≡◌, ◌≢◌, ◌<◌, false, [], ◌∷�
 use Rattle.digest_kinds.specs.Basics.{ByteString}
 use Rattle.sum_engine.specs.check.Reports.{LabelsValue, out_of, err_of, counts_of, end_text, good}
 use Rattle.sum_engine.specs.Behavior.{Whole, World}
-use Rattle.sum_sources.specs.Contents.{Content, clip, Reply}
+use Rattle.sum_sources.specs.Contents.{Content, clip}
+use Rattle.sum_sources.specs.Sources.{Answer}
 use Rattle.sum_sources.specs.ManifestLines.{raw_lines}
 use Rattle.sum_engine.specs.check.Verdicts.{Algos, Form, lines_under, Rules, all_verdicts}
 use Rattle.sum_lines.specs.Escape.{Profile, present, escape, escape_by}
@@ -13,7 +14,7 @@ use Rattle.sum_engine.specs.check.Checking.{check_behavior_by}
 
 -- the profile of older versions
 abbrev pub older : Profile
-older = record { escapes_return = false; drops_return = false; ignores_empty = false }
+older = record { escapes_carriage_return = false; drops_carriage_return = false; ignores_empty = false }
 
 -- the same rules under a profile
 abbrev pub rules_under : Profile → Rules → Rules
@@ -52,10 +53,10 @@ OldVerdicts = (r : Rules) (labels : LabelsValue) (w : World) (c : Content) → I
 
 -- so its whole behavior is the same, also if the manifest can't be opened
 abbrev pub OldOutcomes : Type 0
-OldOutcomes = (r : Rules) (labels : LabelsValue) (name : ByteString) (w : World) (reply : Reply) → HasNoCarriageReturn labels.manifest
-    → ((c : Content) → reply ≡ Ok c → IsOldManifest r labels (clip c))
-    → check_behavior_by (rules_under older r) labels name w reply
-    ≡ check_behavior_by (rules_under present r) labels name w reply
+OldOutcomes = (r : Rules) (labels : LabelsValue) (name : ByteString) (w : World) (answer : Answer) → HasNoCarriageReturn labels.manifest
+    → ((c : Content) → answer ≡ Ok c → IsOldManifest r labels (clip c))
+    → check_behavior_by (rules_under older r) labels name w answer
+    ≡ check_behavior_by (rules_under present r) labels name w answer
 
 -- how the older profile differs: a carriage return in a name isn't escaped, one at a line's end stays, and an empty
 -- line is improperly formatted

@@ -2,9 +2,10 @@
 use Rattle.std.specs.Prelude.{ℕ, ◌+◌, ◌&&◌, Bool, true, false, List, [], ◌∷◌, Result, Ok, Err, if◌then◌else◌, bytes_eq}
 use Rattle.digest_kinds.specs.Basics.{ByteString}
 pub use Rattle.digest_kinds.specs.declared.algo.Algos.{Algos}
-use Rattle.sum_engine.specs.Behavior.{Fault, World, is_dash, reply, after, digest_or_fault}
+use Rattle.sum_engine.specs.Behavior.{Fault, World, is_dash, answer_to, after, digest_or_fault}
 use Rattle.sum_sources.specs.declared.fault.Fault.TheVariants.{NotFound}
-use Rattle.sum_sources.specs.Contents.{Content, Reply}
+use Rattle.sum_sources.specs.Contents.{Content}
+use Rattle.sum_sources.specs.Sources.{Answer}
 use Rattle.sum_sources.specs.ManifestLines.{lines, raw_lines}
 pub use Rattle.sum_lines.specs.declared.reading.read_line.Form.{Form}
 use Rattle.sum_lines.specs.grammar.Entries.{EntryValue, form}
@@ -28,7 +29,7 @@ pub record LineVerdictValue : Type 0 where
   pub name : ByteString
 
 -- there is no such file
-abbrev pub not_found : Reply → Bool
+abbrev pub not_found : Answer → Bool
 not_found (Err NotFound) = true
 not_found r = false
 
@@ -39,7 +40,7 @@ verdict_by digest (Err f) = Unread f
 
 -- the verdict of an entry
 abbrev pub verdict_of : Rules → World → EntryValue → Verdict
-verdict_of r w s = let c = reply w s.name in
+verdict_of r w s = let c = answer_to w s.name in
     if r.from_stdin && is_dash s.name then Bad
     else if r.ignore_missing && not_found c then Missing
     else verdict_by s.digest (digest_or_fault s.kind c)
@@ -61,7 +62,7 @@ asks_of j = asks_by j.verdict j.name
 
 -- the lines of a content, each without one carriage return at its end, unless the profile drops none
 abbrev pub lines_under : Profile → Content → List ByteString
-lines_under p c = if p.drops_return then lines c else raw_lines c
+lines_under p c = if p.drops_carriage_return then lines c else raw_lines c
 
 -- the verdicts of the lines after line n in a manifest of that form, each after the asks of those before it
 abbrev pub verdicts : Rules → Form → World → ℕ → List ByteString → List LineVerdictValue

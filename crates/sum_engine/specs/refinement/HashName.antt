@@ -2,11 +2,12 @@
 use Rattle.std.specs.Prelude.{◌≡◌, [], ◌∷◌, length, Result, Ok, Err, ⊤}
 use Rattle.digest_kinds.specs.Basics.{ByteString}
 use Rattle.digest_kinds.specs.Kinds.{KindValue}
-use Rattle.sum_sources.specs.Contents.{Content, Reply, SourceState}
+use Rattle.sum_sources.specs.Contents.{Content}
+use Rattle.sum_sources.specs.Sources.{Answer, SourceState}
 use Rattle.digest_kinds.specs.Limits.{one_more}
 pub use Rattle.sum_engine.specs.declared.hash_name.HashOutcome.{HashOutcome}
 pub use Rattle.sum_sources.specs.declared.fault.NoRoom.{NoRoom}
-use Rattle.sum_engine.specs.Behavior.{Fault, World, after, digest_or_fault, reply}
+use Rattle.sum_engine.specs.Behavior.{Fault, World, after, digest_or_fault, answer_to}
 use Rattle.sum_engine.specs.declared.hash_name.HashOutcome.TheVariants as outcomes
 
 -- the digest of an outcome, or the fault of opening or reading
@@ -15,8 +16,8 @@ digest_of_outcome (outcomes.Read d) = Ok d
 digest_of_outcome (outcomes.NotOpened f) = Err f
 digest_of_outcome (outcomes.Broken f) = Err f
 
--- the outcome of a reply
-abbrev pub IsHashOutcome : KindValue → Reply → HashOutcome → Type 0
+-- the outcome of a answer
+abbrev pub IsHashOutcome : KindValue → Answer → HashOutcome → Type 0
 IsHashOutcome kind r (outcomes.Read d) = (c : Content) × (r ≡ Ok c) × (digest_or_fault kind (Ok c) ≡ Ok d)
 IsHashOutcome kind r (outcomes.NotOpened f) = r ≡ Err f
 IsHashOutcome kind r (outcomes.Broken f) = (c : Content) × (r ≡ Ok c) × (digest_or_fault kind (Ok c) ≡ Err f)
@@ -30,7 +31,7 @@ IsRead kind c (outcomes.Broken f) = digest_or_fault kind (Ok c) ≡ Err f
 -- the name was asked, with this outcome; without memory it wasn't asked
 abbrev pub HashesName : KindValue → World → World → ByteString → Result HashOutcome NoRoom → Type 0
 HashesName kind w v name (Err e) = v ≡ w
-HashesName kind w v name (Ok a) = (v ≡ after w (name ∷ [])) × IsHashOutcome kind (reply w name) a
+HashesName kind w v name (Ok a) = (v ≡ after w (name ∷ [])) × IsHashOutcome kind (answer_to w name) a
 
 -- P, unless reading the file failed
 abbrev pub UnlessBroken : Result HashOutcome NoRoom → Type 0 → Type 0
@@ -44,5 +45,5 @@ HasKindLen kind outcome = ⊤
 
 -- no room only if the source was refused memory, which is one refusal more
 abbrev pub RefusedUnless : {A : Type 0} → SourceState → SourceState → Result A NoRoom → Type 0
-RefusedUnless a b (Err e) = b.refusals ≡ one_more a.refusals
-RefusedUnless a b (Ok x) = b.refusals ≡ a.refusals
+RefusedUnless a b (Err e) = b.counts.refusals ≡ one_more a.counts.refusals
+RefusedUnless a b (Ok x) = b.counts.refusals ≡ a.counts.refusals

@@ -1,7 +1,7 @@
 //! Checking one manifest.
 ghost use Rattle.sum_engine.specs.check.Checking.{check_behavior};
 ghost use Rattle.sum_engine.specs.Execution.{IsFlushed, FailuresMatch, IsOneMoreAtMost, RefusalsMatch, StopHasCause};
-ghost use Rattle.sum_engine.specs.Execution.{Performs, KeepsStdin, ReadToEnd, Reading, Ended};
+ghost use Rattle.sum_engine.specs.Execution.{Performs, KeepsStdin, ReadToEnd, Unfinished, AtEnd};
 ghost use Rattle.sum_engine.specs.check.CheckStates.{IsAtStart};
 ghost use Rattle.std.specs.Prelude.{◌≡◌, true, None, Ok};
 ghost use Rattle.sum_engine.specs.check.CheckerLaws.{ManifestPerforms};
@@ -77,8 +77,8 @@ fn run_to_end<'a, A: Allocator, I: Input, J: Input + Drop, S: Source, O: Sink, E
     ensures cause { StopHasCause S.state IsOneMoreAtMost streams.old streams.new result.0 }
     ensures read_to_end { result.0 ≡ Ok true → ReadToEnd S.state streams.old.inputs streams.new.inputs }
     ensures stdin { checker.entry.cursor.rules.from_stdin ≡ true → KeepsStdin streams.old.inputs streams.new.inputs }
-    ensures phase { result.0 ≡ Ok true → (I.state checker.entry.cursor.reader.input).phase ≡ Reading
-        → (I.state result.1).phase ≡ Ended }
+    ensures phase { result.0 ≡ Ok true → (I.state checker.entry.cursor.reader.input).phase ≡ Unfinished
+        → (I.state result.1).phase ≡ AtEnd }
 {
     let mut line = Vec::new(alloc);
     let result = check_lines(&mut checker, &mut line, streams);
@@ -98,8 +98,8 @@ fn check_lines<'a, A: Allocator, I: Input, J: Input + Drop, S: Source, O: Sink, 
     ensures cause { StopHasCause S.state IsOneMoreAtMost streams.old streams.new result }
     ensures read_to_end { result ≡ Ok true → ReadToEnd S.state streams.old.inputs streams.new.inputs }
     ensures stdin { checker.old.cursor.rules.from_stdin ≡ true → KeepsStdin streams.old.inputs streams.new.inputs }
-    ensures phase { result ≡ Ok true → (I.state checker.old.cursor.reader.input).phase ≡ Reading
-        → (I.state checker.new.cursor.reader.input).phase ≡ Ended }
+    ensures phase { result ≡ Ok true → (I.state checker.old.cursor.reader.input).phase ≡ Unfinished
+        → (I.state checker.new.cursor.reader.input).phase ≡ AtEnd }
 {
     'lines: loop {
         match checker.step(line, streams) {

@@ -1,6 +1,6 @@
 use Rattle.std.proofs.Common.{refl, ap, Ok, Err}
 use Rattle.std.proofs.lemmas.Result.{err_from_is_err_and}
-use Rattle.sum_engine.specs.Behavior.{reply, digest_or_fault}
+use Rattle.sum_engine.specs.Behavior.{answer_to, digest_or_fault}
 use Rattle.sum_engine.specs.Execution.{InputsState}
 use Rattle.sum_engine.specs.Generation.{generate_behavior}
 use Rattle.sum_engine.proofs.ExecutionLemmas.{asks_name}
@@ -19,7 +19,7 @@ returns-in_err-outcome-clause-behavior g c =
     let stop = err_from_is_err_and c.from_residual.result c.from_residual.ensures.1 in
     rw (stop.1, stop.2) (Performs-refused g.S.Source.state (λ w. generate_behavior settings tool w name) (λ g. g) c.args.streams.now
     (record c.args.streams.now { inputs = c.hash_name.new.inputs })
-    (λ w. one_step settings tool name (digest_or_fault settings.kind (reply w name))) c.in_err-outcome.ensures.outcome
+    (λ w. one_step settings tool name (digest_or_fault settings.kind (answer_to w name))) c.in_err-outcome.ensures.outcome
     c.in_err-outcome.ensures.asked kept refl c.in_err-outcome.ensures.refusals)
 
 -- the name was read, and its line written
