@@ -51,20 +51,20 @@ behind_step c x s r (Err stop) h k = behavior_then-second c x x (s ∷ []) r sto
 -- ---- along a run
 
 -- of the whole run all happened but what is left
-pub record Along (whole left : Behavior) (a b : WorldState) : Type 0 where
+pub record HasDoneUpTo (whole left : Behavior) (a b : WorldState) : Type 0 where
   pub done : List Step
   pub steps : whole.steps ≡ done ++ left.steps
   pub good : left.good ≡ whole.good
   pub happened : Happened a b (trace done)
 
 -- nothing happened so far
-pub along_none : (whole : Behavior) (a : WorldState) → Along whole whole a a
-along_none whole a = record { done = []; steps = refl; good = refl; happened = Happened-none a }
+pub done_none : (whole : Behavior) (a : WorldState) → HasDoneUpTo whole whole a a
+done_none whole a = record { done = []; steps = refl; good = refl; happened = Happened-none a }
 
 -- one step more happened
-pub along_more : {a b c : WorldState} {whole left : Behavior} (step : Step) (later : Behavior) → Along whole left a b
-    → left ≡ step_then step later → Happened b c (trace (step ∷ [])) → Along whole later a c
-along_more step later h is k = record {
+pub done_more : {a b c : WorldState} {whole left : Behavior} (step : Step) (later : Behavior) → HasDoneUpTo whole left a b
+    → left ≡ step_then step later → Happened b c (trace (step ∷ [])) → HasDoneUpTo whole later a c
+done_more step later h is k = record {
   done = h.done ++ step ∷ [];
   steps = search (rules, append_assoc);
   good = search rules;
@@ -72,15 +72,15 @@ along_more step later h is k = record {
 }
 
 -- no step is left: all happened
-pub along_end : {a b : WorldState} {whole left : Behavior} → Along whole left a b → left.steps ≡ []
+pub done_end : {a b : WorldState} {whole left : Behavior} → HasDoneUpTo whole left a b → left.steps ≡ []
     → (left.good ≡ whole.good) × Happened a b (trace whole.steps)
-along_end h none = (h.good, rw (h.steps, none, append-nil h.done) h.happened)
+done_end h none = (h.good, rw (h.steps, none, append-nil h.done) h.happened)
 
 -- the next step stopped
-pub along_stops : {A B : Type 0} {a b : WorldState} {whole left : Behavior} (c : WorldState) (x : A) (y : B)
-    (step : Step) (later : Behavior) (stop : Stop) → Along whole left a b → left ≡ step_then step later
+pub done_stops : {A B : Type 0} {a b : WorldState} {whole left : Behavior} (c : WorldState) (x : A) (y : B)
+    (step : Step) (later : Behavior) (stop : Stop) → HasDoneUpTo whole left a b → left ≡ step_then step later
     → PerformsSteps (step ∷ []) y b c (Err stop) → PerformsSteps whole.steps x a c (Err stop)
-along_stops {a = a} {b = b} c x y step later stop h is k =
+done_stops {a = a} {b = b} c x y step later stop h is k =
     let all = h.steps ∙ ap (λ (r : Behavior). h.done ++ r.steps) is in
     subst (λ steps. PerformsSteps steps x a c (Err stop)) (sym all)
     (behavior_then-second c x y h.done (step ∷ later.steps) stop h.happened

@@ -1,4 +1,4 @@
--- `check_lines`: a new checker runs to its end. What happened so far and what remains is the whole behavior (`IsAlong`).
+-- `check_lines`: a new checker runs to its end. What happened so far and what remains is the whole behavior (`HasComeTo`).
 -- A step that goes on keeps this. The step that ends or stops proves the contract by it.
 use Rattle.sum_sources.specs.declared.line_reader.Next.TheVariants.{NoMore}
 use Rattle.sum_engine.specs.check.NextVerdict.{VerdictResult, LineVerdict, counts_after, UnlessUnread, MemoryStopHasCause}
@@ -12,12 +12,12 @@ use Rattle.sum_sources.specs.LineReaders.{MayRemain, IsBounded, consumed_count, 
 use Rattle.sum_sources.proofs.ContentLemmas.{clip-short, limit-value}
 use Rattle.sum_engine.specs.check.CheckerLaws.{ManifestPerforms}
 use Rattle.sum_engine.specs.check.Verdicts.{Rules, all_verdicts}
-use Rattle.sum_engine.specs.Execution.{Unfinished, Stop, StreamsState, IsFlushed, WorldState, in_world, PerformsSteps, RefusalsMatch, ReadToEnd, OneMoreAtMost}
+use Rattle.sum_engine.specs.Execution.{Unfinished, Stop, StreamsState, IsFlushed, WorldState, in_world, PerformsSteps, RefusalsMatch, ReadToEnd, IsOneMoreAtMost}
 use Rattle.sum_engine.specs.check.Reports.{LabelsValue}
 use Rattle.sum_engine.specs.check.Checking.{content_behavior}
 use Rattle.sum_engine.proofs.CountLemmas.{counts_then-none}
 use Rattle.sum_engine.proofs.StepLemmas.{InSomeCheck-map, InSomeCheck-then, some_remains}
-use Rattle.sum_engine.proofs.BehaviorLemmas.{Along, along_none, along_more, along_end, along_stops}
+use Rattle.sum_engine.proofs.BehaviorLemmas.{HasDoneUpTo, done_none, done_more, done_end, done_stops}
 
 -- ---- before the first step
 
@@ -57,16 +57,16 @@ none_left [] all good h = search rules
 none_left (s ∷ steps) all good h = cc
 
 -- it was performed: the whole behavior, if all before it was
-pub along_last : {whole left : Behavior} {a b : WorldState} (c : WorldState) (step : Step) (later : Behavior)
-    (x : Result Bool Stop) → Along whole left a b → left ≡ step_then step later
+pub done_last : {whole left : Behavior} {a b : WorldState} (c : WorldState) (step : Step) (later : Behavior)
+    (x : Result Bool Stop) → HasDoneUpTo whole left a b → left ≡ step_then step later
     → PerformsSteps (step ∷ []) (progress_before later.steps later.good) b c (ends x)
     → PerformsSteps whole.steps whole.good a c x
-along_last c step later (Ok good) h is k =
+done_last c step later (Ok good) h is k =
     let last = none_left later.steps later.good good k.0 in
-    let all = along_end (along_more step later h is k.1) last.0 in
+    let all = done_end (done_more step later h is k.1) last.0 in
     (last.1 ∙ all.0, all.1)
-along_last {whole} c step later (Err stop) h is k =
-    along_stops c whole.good (progress_before later.steps later.good) step later stop h is k
+done_last {whole} c step later (Err stop) h is k =
+    done_stops c whole.good (progress_before later.steps later.good) step later stop h is k
 
 -- ---- what follows of a step, by what it returned
 
@@ -105,12 +105,12 @@ module _ {I S : Type 0} {input : I → InputState} {source : S → SourceState} 
 
   -- the source was refused memory only if that stopped the step
   pub step-refusals : {x : Result Progress Stop} → AdvancesChecker input source vector p q a b x
-      → RefusalsMatch source OneMoreAtMost a.inputs b.inputs x
+      → RefusalsMatch source IsOneMoreAtMost a.inputs b.inputs x
   step-refusals {x} h = by h.found h.failed h.answer h.verdict.out_of_memory
     where
       by : (found : VerdictResult) (failed : Bool) → x ≡ step_answer q.cursor found failed
           → MemoryStopHasCause (source a.inputs.source) (source b.inputs.source) (remaining_content input p.cursor.reader) found
-          → RefusalsMatch source OneMoreAtMost a.inputs b.inputs x
+          → RefusalsMatch source IsOneMoreAtMost a.inputs b.inputs x
       by found failed is cause = search rules
 
 -- ---- from the first step on
@@ -127,40 +127,40 @@ module _ {I S : Type 0} (input : I → InputState) (state : S → SourceState) (
     remaining a = remaining_behavior first.cursor.rules first.labels a
 
     -- P holds between the state there and that at another place and streams, if both outputs were flushed
-    abbrev Leads : CursorValue I → StreamsState S → (CheckState → CheckState → Type 0) → Type 0
-    Leads q n P = IsFlushed m.outputs → InSomeCheck input state first.cursor q m.inputs n.inputs P
+    abbrev HoldsUpTo : CursorValue I → StreamsState S → (CheckState → CheckState → Type 0) → Type 0
+    HoldsUpTo q n P = IsFlushed m.outputs → InSomeCheck input state first.cursor q m.inputs n.inputs P
 
     -- all steps of a behavior were performed from there
     abbrev PerformsAll : StreamsState S → Result Bool Stop → Behavior → World → World → Type 0
     PerformsAll o x all w v = PerformsSteps all.steps all.good (in_world state m w) (in_world state o v) x
 
     -- the check came so far, to this checker and these streams, by the same rules and labels
-    pub record IsAlong (q : CheckerValue I) (n : StreamsState S) : Type 0 where
+    pub record HasComeTo (q : CheckerValue I) (n : StreamsState S) : Type 0 where
       pub rules : q.cursor.rules ≡ first.cursor.rules
       pub labels : q.labels ≡ first.labels
       pub flushed : IsFlushed m.outputs → IsFlushed n.outputs
-      pub happened : Leads q.cursor n (λ a b. Along (remaining a) (remaining b) (in_world state m a.world)
+      pub happened : HoldsUpTo q.cursor n (λ a b. HasDoneUpTo (remaining a) (remaining b) (in_world state m a.world)
           (in_world state n b.world))
 
     -- it begins so
-    pub IsAlong-none : IsAlong first m
-    IsAlong-none = record {
+    pub HasComeTo-none : HasComeTo first m
+    HasComeTo-none = record {
       rules = refl;
       labels = refl;
       flushed = λ flushed. flushed;
       happened = λ flushed. record {
         before = λ d v may fits.
-            (d, v, may, fits, along_none (remaining (state_at first.cursor d v)) (in_world state m v));
+            (d, v, may, fits, done_none (remaining (state_at first.cursor d v)) (in_world state m v));
       };
     }
 
     -- after a step more, which returned x, P holds if it follows of what happened before and of the step
     one_more_step : {q : CheckerValue I} {n : StreamsState S} (next : CheckerValue I) (o : StreamsState S)
-        (vector : List ℕ) (x : Result Progress Stop) {P : CheckState → CheckState → Type 0} → IsAlong q n
+        (vector : List ℕ) (x : Result Progress Stop) {P : CheckState → CheckState → Type 0} → HasComeTo q n
         → TakesStep input state vector q.labels q.cursor next.cursor n o x
-        → ((a b d : CheckState) (t : WorldState) → Along (remaining a) (remaining b) (in_world state m a.world) t
+        → ((a b d : CheckState) (t : WorldState) → HasDoneUpTo (remaining a) (remaining b) (in_world state m a.world) t
         → StepIs first.cursor.rules first.labels vector b d t (in_world state o d.world) x → P a d)
-        → Leads next.cursor o P
+        → HoldsUpTo next.cursor o P
     one_more_step {q} {n} next o vector x h step follows = λ flushed.
         let stepped : InSomeCheck input state q.cursor next.cursor n.inputs o.inputs (λ b d.
         StepIs first.cursor.rules first.labels vector b d (in_world state n b.world) (in_world state o d.world) x) =
@@ -169,25 +169,25 @@ module _ {I S : Type 0} (input : I → InputState) (state : S → SourceState) (
         (λ a b d along step. follows a b d (in_world state n b.world) along step)
 
     -- a step that goes on comes one line further
-    pub IsAlong-more : (q next : CheckerValue I) (n o : StreamsState S) (vector : List ℕ) → IsAlong q n
+    pub HasComeTo-more : (q next : CheckerValue I) (n o : StreamsState S) (vector : List ℕ) → HasComeTo q n
         → AdvancesChecker input state vector q next n o (Ok Going) → (IsFlushed n.outputs → IsFlushed o.outputs)
-        → TakesStep input state vector q.labels q.cursor next.cursor n o (Ok Going) → IsAlong next o
-    IsAlong-more q next n o vector h advances flushed step = record {
+        → TakesStep input state vector q.labels q.cursor next.cursor n o (Ok Going) → HasComeTo next o
+    HasComeTo-more q next n o vector h advances flushed step = record {
       rules = advances.verdict.cursor.rules ∙ h.rules;
       labels = advances.labels ∙ h.labels;
       flushed = λ all. flushed (h.flushed all);
       happened = one_more_step next o vector (Ok Going) h step (λ a b d t along step.
-          subst (λ later. Along (remaining a) later (in_world state m a.world) (in_world state o d.world))
-          (step.going refl).0 (along_more step.step step.later along step.is step.performs.1));
+          subst (λ later. HasDoneUpTo (remaining a) later (in_world state m a.world) (in_world state o d.world))
+          (step.going refl).0 (done_more step.step step.later along step.is step.performs.1));
     }
 
     -- the step that ends completes the manifest's behavior. One that stops leaves a prefix of it after a write fault,
     -- and whole steps if memory ran out
-    pub IsAlong-last : (q last : CheckerValue I) (n o : StreamsState S) (vector : List ℕ) (x : Result Bool Stop)
-        → IsAtStart input first.cursor first.cursor.reader.input → IsAlong q n → IsBounded last.cursor.reader
+    pub HasComeTo-last : (q last : CheckerValue I) (n o : StreamsState S) (vector : List ℕ) (x : Result Bool Stop)
+        → IsAtStart input first.cursor first.cursor.reader.input → HasComeTo q n → IsBounded last.cursor.reader
         → TakesStep input state vector q.labels q.cursor last.cursor n o (ends x)
         → ManifestPerforms state first.cursor.rules first.labels (input first.cursor.reader.input).content m o x
-    IsAlong-last q last n o vector x start h bounds step = λ flushed. record {
+    HasComeTo-last q last n o vector x start h bounds step = λ flushed. record {
       before = λ v fits.
           let left = some_remains input last.cursor.reader bounds in
           let some = (ended flushed).before left.0 v left.1 fits in
@@ -200,6 +200,6 @@ module _ {I S : Type 0} (input : I → InputState) (state : S → SourceState) (
           (w, some.3, (whole.0, whole.1, subst (λ c. PerformsAll o x (manifest c w) w v) (sym whole.2) did));
     }
       where
-        ended : Leads last.cursor o (λ a d. PerformsAll o x (remaining a) a.world d.world)
+        ended : HoldsUpTo last.cursor o (λ a d. PerformsAll o x (remaining a) a.world d.world)
         ended = one_more_step last o vector (ends x) h step (λ a b d t along step.
-            along_last (in_world state o d.world) step.step step.later x along step.is step.performs)
+            done_last (in_world state o d.world) step.step step.later x along step.is step.performs)

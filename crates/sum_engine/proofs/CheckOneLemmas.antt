@@ -14,7 +14,7 @@ use Rattle.sum_engine.specs.check.Verdicts.{Rules}
 use Rattle.sum_engine.specs.check.Reports.{LabelsValue}
 use Rattle.sum_engine.specs.check.Checking.{CheckSettings, rules_of, labels_of, check_behavior_by, check_behavior}
 use Rattle.sum_engine.specs.Execution.{Phase, Stop, Memory, InputsState, OutputsState, StreamsState, KeepsStdin, in_world, InSomeWorld, Happened, Performs}
-use Rattle.sum_engine.specs.Generation.{fault_line}
+use Rattle.sum_engine.specs.Generation.{name_fault_line}
 use Rattle.sum_engine.specs.refinement.FlushedWrites.{WritesAndReturns}
 use Rattle.sum_engine.specs.refinement.Openings.{stdin_taken_from}
 use Rattle.sum_engine.proofs.ExecutionLemmas.{AsksNames, asks_name, asks_in, Happened-by, kept_performs}
@@ -134,7 +134,7 @@ module _ {S : Type 0} (state : S → SourceState) (settings : CheckSettings) (to
       -- it could not be opened, and the line of its fault was written, or a prefix of it
       pub refused : (f : Fault) (outputs : OutputsState) (x : Result Bool Stop) → is_dash name ≡ false
           → IsAnswer (Err (open_faults.Fault f)) → (state m.source).counts.refusals ≡ (state a.inputs.source).counts.refusals
-          → WritesAndReturns a.outputs outputs (fault_line present tool name f) [] false x
+          → WritesAndReturns a.outputs outputs (name_fault_line present tool name f) [] false x
           → Performed (record a { inputs = m; outputs = outputs }) x
       refused f outputs x is_file h refusals said =
           Performs-step state (λ w. check_behavior settings tool w name) (λ g. g) false a

@@ -10,7 +10,7 @@ use Rattle.std.proofs.lemmas.List.Folds.{list_any-append}
 use Rattle.sum_sources.specs.Sources.{SourceState}
 use Rattle.digest_kinds.specs.Limits.{one_more}
 use Rattle.sum_lines.specs.refinement.SinkStates.{AppendsPrefix}
-use Rattle.sum_engine.specs.Behavior.{World, is_dash, after, Event, Step, events_of, open_name, write_err, write_out, name_in, err_in, out_in}
+use Rattle.sum_engine.specs.Behavior.{World, is_dash, after, Event, Step, events_of, open_name, write_err, write_out, opened_name, err_byte, out_byte}
 use Rattle.sum_engine.specs.refinement.FlushedWrites.{WritesBoth, outcome_after}
 use Rattle.sum_engine.specs.Execution.{InputsState, StreamsState, KeepsStdin, WorldState, in_world, AskedMore, Stop, Memory, Write, Happened, PrefixHappened, RefusedAt, PerformsSteps}
 use Rattle.sum_engine.proofs.WorldLemmas.{after-append, asked_none, asked_both}
@@ -34,15 +34,15 @@ kind-none f h none [] = refl
 kind-none f h none (x ∷ xs) = search (rules, kind-none f h none xs)
 
 -- the names
-pub names-by : (names : List (List ℕ)) (err out : List ℕ) → filter_map name_in (events_by names err out) ≡ names
+pub names-by : (names : List (List ℕ)) (err out : List ℕ) → filter_map opened_name (events_by names err out) ≡ names
 names-by names err out = search (rules, filter_map-append, kind-all, kind-none)
 
 -- the text on standard error
-pub err-by : (names : List (List ℕ)) (err out : List ℕ) → filter_map err_in (events_by names err out) ≡ err
+pub err-by : (names : List (List ℕ)) (err out : List ℕ) → filter_map err_byte (events_by names err out) ≡ err
 err-by names err out = search (rules, filter_map-append, kind-all, kind-none)
 
 -- that on standard output
-pub out-by : (names : List (List ℕ)) (err out : List ℕ) → filter_map out_in (events_by names err out) ≡ out
+pub out-by : (names : List (List ℕ)) (err out : List ℕ) → filter_map out_byte (events_by names err out) ≡ out
 out-by names err out = search (rules, filter_map-append, kind-all, kind-none)
 
 -- ---- what happened

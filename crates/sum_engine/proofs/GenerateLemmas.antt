@@ -1,5 +1,5 @@
 -- `generate_one`: the behavior of hashing one name, by the outcome of `hash_name` and what was then written.
-use Rattle.std.proofs.Common.{rules, ◌≡◌, ℕ, Bool, List, [], ◌∷◌, Some, Result, Ok, Err, refl}
+use Rattle.std.proofs.Common.{rules, ◌≡◌, ℕ, Bool, List, [], ◌∷◌, Result, Ok, Err, refl}
 use Rattle.digest_kinds.specs.Kinds.{KindValue}
 use Rattle.sum_engine.specs.Behavior.{Fault, digest_or_fault, Step, single_step}
 use Rattle.sum_sources.specs.Sources.{Answer, SourceState}
@@ -19,7 +19,7 @@ digest_or_fault-is kind r a h = search rules
 pub generate-performed : {S : Type 0} (state : S → SourceState) (settings : Settings) (tool name : List ℕ) (good : Bool)
     (a b : StreamsState S) (outcome : HashOutcome) (found : Result (List ℕ) Fault) {err out : List ℕ}
     {x : Result Bool Stop}
-    → InSomeWorld state a.inputs b.inputs (λ w v. HashesName settings.kind w v name (Some outcome))
+    → InSomeWorld state a.inputs b.inputs (λ w v. HashesName settings.kind w v name (Ok outcome))
     → AsksNames state a.inputs b.inputs (name ∷ []) → found ≡ digest_of_outcome outcome
     → generate_behavior_by settings tool name found ≡ single_step (name ∷ []) err out good
     → WritesAndReturns a.outputs b.outputs err out good x

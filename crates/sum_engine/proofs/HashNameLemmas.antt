@@ -1,5 +1,5 @@
 -- `hash_name`: the outcome of hashing one name, in some world.
-use Rattle.std.proofs.Common.{rules, ◌≡◌, ◌∙◌, ℕ, true, false, List, Option, Some, IfSome, Ok, Err}
+use Rattle.std.proofs.Common.{rules, ◌≡◌, ◌∙◌, ℕ, true, false, List, Option, IfSome, Ok, Err}
 use Rattle.digest_kinds.specs.Kinds.{KindValue}
 use Rattle.sum_sources.specs.Contents.{Content, IfKnown, InputState}
 use Rattle.sum_sources.specs.Sources.{SourceState, OpensName, closed_state}
@@ -18,7 +18,7 @@ read-outcome kind c a h = search rules
 module _ {S : Type 0} (state : S → SourceState) (kind : KindValue) (name : List ℕ) where
   -- the name was asked, with this outcome
   abbrev Hashed : InputsState S → InputsState S → HashOutcome → Type 0
-  Hashed a b outcome = InSomeWorld state a b (λ w v. HashesName kind w v name (Some outcome))
+  Hashed a b outcome = InSomeWorld state a b (λ w v. HashesName kind w v name (Ok outcome))
 
   -- standard input was read and put back
   pub hashed_stdin : (a : InputsState S) (p : Option Phase) (outcome : HashOutcome) → is_dash name ≡ true

@@ -3,7 +3,7 @@ use Rattle.std.proofs.Common.{rules, ◌≡◌, ℕ, zero, suc, ◌+◌, ◌-◌
 use Rattle.std.proofs.lemmas.List.{take-append-drop}
 use Rattle.sum_sources.specs.Contents.{Content}
 use Rattle.sum_sources.specs.ManifestLines.{past_line, past_lines}
-use Rattle.sum_engine.specs.check.Verdicts.{Form, lines_by, Rules, LineVerdictValue, asks_of, verdicts, all_verdicts, judge}
+use Rattle.sum_engine.specs.check.Verdicts.{Form, lines_under, Rules, LineVerdictValue, asks_of, verdicts, all_verdicts, judge}
 use Rattle.sum_lines.specs.grammar.ParsedLines.{parse_line}
 use Rattle.sum_engine.specs.Behavior.{World, after, Behavior, trace, events_of, out_text, err_text, asks}
 use Rattle.sum_engine.specs.check.Reports.{LabelsValue, out_of, err_of, counts_of, end_text}
@@ -14,8 +14,8 @@ use Rattle.sum_engine.specs.check.CheckerSteps.{Going, Ended, StepIs, step_then,
 use Rattle.sum_engine.specs.check.CheckerLaws.{StepsGoing, StepsJoin, EndsManifest}
 use Rattle.sum_engine.proofs.RestLemmas.{past_next}
 use Rattle.sum_engine.proofs.ExecutionLemmas.{Happened-none, err-by, out-by, names-by}
-use Rattle.sum_engine.proofs.BehaviorLemmas.{Along, along_stops, behavior_then-happened, events_extend}
-use Rattle.sum_engine.proofs.CheckLinesLemmas.{remaining-initial, none_left, along_last}
+use Rattle.sum_engine.proofs.BehaviorLemmas.{HasDoneUpTo, done_stops, behavior_then-happened, events_extend}
+use Rattle.sum_engine.proofs.CheckLinesLemmas.{remaining-initial, none_left, done_last}
 
 -- ---- the reports of the first steps
 
@@ -73,7 +73,7 @@ module _ (r : Rules) (labels : LabelsValue) (c : Content) (s : WorldState) where
   -- exactly the first k steps happened, and the others remain; the bytes consumed are those up to the end of line k
   pub record After (b : CheckState) (t : WorldState) (k : ℕ) : Type 0 where
     pub rest : b.rest ≡ past_lines k c
-    pub lines : lines_by r.profile b.rest ≡ drop k (lines_by r.profile c)
+    pub lines : lines_under r.profile b.rest ≡ drop k (lines_under r.profile c)
     pub consumed : b.consumed + length (past_lines k c).bytes ≡ length c.bytes
     pub taken : b.taken ≤ b.consumed + 8192
     pub done : Happened s t (trace (take k whole.steps))
@@ -93,7 +93,7 @@ module _ (r : Rules) (labels : LabelsValue) (c : Content) (s : WorldState) where
       let remaining = drop_next k whole.steps (remaining_behavior r labels d).steps step.step
       (sym h.remaining ∙ ap (λ (q : Behavior). q.steps) is) in
       let rest = moves.rest ∙ ap past_line h.rest ∙ past_next k c in
-      let line = drop_next k (lines_by r.profile c) (lines_by r.profile d.rest) moves.line (sym h.lines ∙ moves.lines)
+      let line = drop_next k (lines_under r.profile c) (lines_under r.profile d.rest) moves.line (sym h.lines ∙ moves.lines)
       in
       record {
         rest = rest;
@@ -114,7 +114,7 @@ module _ (r : Rules) (labels : LabelsValue) (c : Content) (s : WorldState) where
       rw next (after_all more.0 b more.1 t (suc i) vectors (after_more h more.2) more.3)
 
   -- the whole behavior is what was done and what remains
-  along : {b : CheckState} {t : WorldState} {k : ℕ} → After b t k → Along whole (remaining_behavior r labels b) s t
+  along : {b : CheckState} {t : WorldState} {k : ℕ} → After b t k → HasDoneUpTo whole (remaining_behavior r labels b) s t
   along h = search (rules, take-append-drop)
 
   -- a step is left after k steps only if k is at most the number of lines
@@ -137,13 +137,13 @@ module _ (r : Rules) (labels : LabelsValue) (c : Content) (s : WorldState) where
       let is : e.step ≡ record { names = []; err = end; out = []; remaining = step.0 } =
       search (rules, last, number, step.1) in
       let did = rw (append-nil (events_of e.step), is) at e.performs.1 in
-      let all = along_last z e.step e.later (Ok outcome) (along h) e.is e.performs in
+      let all = done_last z e.step e.later (Ok outcome) (along h) e.is e.performs in
       search (rules, number, length_verdicts, all.0, did, err-by, out-by, names-by)
 
 -- no vector is longer than its line
 vectors_fit : (r : Rules) (labels : LabelsValue) (a b : CheckState) (s t : WorldState) (vectors : List (List ℕ))
     → StepsGoing r labels a b s t vectors → (i : ℕ)
-    → length (slice_index_or vectors i []) ≤ length (slice_index_or (lines_by r.profile a.rest) i [])
+    → length (slice_index_or vectors i []) ≤ length (slice_index_or (lines_under r.profile a.rest) i [])
 vectors_fit r labels a b s t [] is i = omega arith
 vectors_fit r labels a b s t (v ∷ vectors) more zero =
     let moves = (more.2.going refl).1 in
@@ -172,6 +172,6 @@ steps_join r labels c b s t vectors going =
       taken = omega (arith, h.taken, h.consumed);
       vector_lens = vectors_fit r labels (initial_state c s.world) b s t vectors going;
       end = ends r labels c s h;
-      cut = λ vector d z e. along_stops z all.good (progress_before e.later.steps e.later.good) e.step e.later Write
+      cut = λ vector d z e. done_stops z all.good (progress_before e.later.steps e.later.good) e.step e.later Write
           (along r labels c s h) e.is e.performs;
     }

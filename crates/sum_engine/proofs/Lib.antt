@@ -14,8 +14,8 @@ pub mod BehaviorLemmas
 pub mod JoinLemmas
 pub mod CheckLinesLemmas
 pub mod CheckOneLemmas
-pub mod SamePrefix
-pub mod ReturnLemmas
+pub mod SameFrontLemmas
+pub mod CarriageReturnLemmas
 pub mod ListedEntryLemmas
 pub mod GoodLemmas
 pub mod OldNames

@@ -19,8 +19,8 @@ use Rattle.sum_sources.specs.Contents.{Content, limit}
 use Rattle.sum_sources.specs.Sources.{Answer}
 use Rattle.sum_sources.specs.ManifestLines.{HasNoNewline, lines, raw_lines}
 use Rattle.sum_sources.proofs.CutLemmas.{raw_lines-joined}
-use Rattle.sum_engine.specs.check.OldVerdicts.{NoReturn}
-use Rattle.sum_engine.proofs.ReturnLemmas.{strips-kept}
+use Rattle.sum_engine.specs.check.OldVerdicts.{HasNoCarriageReturn}
+use Rattle.sum_engine.proofs.CarriageReturnLemmas.{strips-kept}
 
 -- ---- what is written
 
@@ -111,4 +111,4 @@ lines-are algos answer is all =
     let cut = raw_lines-joined Whole (map prefix is) [] none (All-nil (λ b. (b == 10) ≡ false)) in
     ap (map strip_carriage_return) (ap (λ b. raw_lines (make b)) (texts is ∙ sym (append-nil _)) ∙ cut
     ∙ append-nil (map prefix is))
-    ∙ strips-kept (map prefix is) (All-weaker Plainly NoReturn (λ l h k d lt. (h k d lt).1) (map prefix is) plain)
+    ∙ strips-kept (map prefix is) (All-weaker Plainly HasNoCarriageReturn (λ l h k d lt. (h k d lt).1) (map prefix is) plain)

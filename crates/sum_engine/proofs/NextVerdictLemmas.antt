@@ -14,8 +14,8 @@ use Rattle.sum_sources.proofs.LineLemmas.{line-some}
 use Rattle.sum_sources.proofs.RemainLemmas.{MayRemain-known}
 use Rattle.sum_lines.specs.grammar.ParsedLines.{ParsedLine}
 use Rattle.sum_engine.specs.check.Reports.{Counts}
-use Rattle.sum_engine.specs.check.NextVerdict.{LineVerdict, line_verdict_value, NoVerdictLeft, FindsVerdict, VerdictResult, counts_after}
-use Rattle.sum_engine.specs.check.Verdicts.{Verdict, lines_by}
+use Rattle.sum_engine.specs.check.NextVerdict.{LineVerdict, line_verdict_value, HasNoVerdictLeft, FindsVerdict, VerdictResult, counts_after}
+use Rattle.sum_engine.specs.check.Verdicts.{Verdict, lines_under}
 use Rattle.sum_engine.specs.Behavior.{Ending, Whole, Broken, World}
 use Rattle.sum_engine.specs.Execution.{InputsState, InSomeWorld}
 use Rattle.sum_engine.specs.check.CheckStates.{CursorValue, counts_with, state_at, InSomeCheck, CheckState, next_judged}
@@ -28,10 +28,10 @@ use Rattle.sum_engine.proofs.StepLemmas.{InSomeCheck-made, some_remains, lines_n
 pub judged-line : {I : Type 0} (p : CursorValue I) (line : List ℕ) (said : ParsedLine) (k : ℕ) (d : Counts)
     (vector : List ℕ)
     (w v : World) (verdict : Verdict) (start stop : ℕ) → parsed_at p line ≡ said
-    → JudgeOf p.rules w v said (Some verdict) → d ≡ counts_with p.counts verdict
+    → JudgeOf p.rules w v said (Ok verdict) → d ≡ counts_with p.counts verdict
     → slice_range vector start stop ≡ name_in_line said → k ≡ p.reader.lines
     → JudgeLineOf p line d vector w v
-    (Some (record { number = k; verdict = verdict; start = start; stop = stop }))
+    (Ok (record { number = k; verdict = verdict; start = start; stop = stop }))
 judged-line p line said k d vector w v verdict start stop is h count place number = search rules
 
 module _ {I S : Type 0} (input : I → InputState) (source : S → SourceState) (p q : CursorValue I) (reader : LineReader I)
@@ -39,7 +39,7 @@ module _ {I S : Type 0} (input : I → InputState) (source : S → SourceState) 
   -- it is the first of those that remained; q is the place then
   pub next_verdict-line : (found : LineVerdict) → TakesLine (record p { reader = reader }) q line
       → length vector ≤ length line
-      → InSomeWorld source a b (λ w v. JudgeLineOf (record p { reader = reader }) line q.counts vector w v (Some found))
+      → InSomeWorld source a b (λ w v. JudgeLineOf (record p { reader = reader }) line q.counts vector w v (Ok found))
       → FindsVerdict input source vector p q a b (Ok (Some found))
   next_verdict-line found takes few judged =
       let then : CursorValue _ = record q { reader = reader } in
@@ -68,12 +68,12 @@ module _ {I S : Type 0} (input : I → InputState) (source : S → SourceState) 
       → q.reader.final_answer ≡ Some n
       → ((x : Option Content) → remaining_by (Some n) x ≡ Some (record { bytes = []; ending = e }))
       → ((c d : Content) → IsNextLine c d n line → (lines c ≡ []) × (c.ending ≡ e))
-      → InSomeCheck input source p q a a (NoVerdictLeft p.rules e)
+      → InSomeCheck input source p q a a (HasNoVerdictLeft p.rules e)
   no_verdict_left e n reads final left ends = record {
     before = λ d v may fits.
         let some = reads d may in
         let ended = ends some.0 d some.2 in
-        let none : lines_by p.rules.profile some.0 ≡ [] = lines_now p.rules some.0 now ∙ ended.0 in (
+        let none : lines_under p.rules.profile some.0 ≡ [] = lines_now p.rules some.0 now ∙ ended.0 in (
           some.0,
           v,
           some.1,

@@ -11,8 +11,8 @@ use Rattle.sum_lines.specs.Escape.{present, escape, escape_of, escape_by}
 use Rattle.sum_lines.specs.grammar.Entries.{EntryValue, is_ignored_by, IsRawName, SpellsByTag, SpellsByTail, IsEntry}
 use Rattle.sum_lines.specs.grammar.ParsedLines.{ParsedLine, ignored, bad, entry, parse_line}
 use Rattle.sum_lines.proofs.ParsedLineLemmas.{parse_is_grammar}
-use Rattle.sum_engine.specs.check.OldVerdicts.{older, NoReturn, NamesNoReturn}
-use Rattle.sum_engine.proofs.ReturnLemmas.{NotReturn}
+use Rattle.sum_engine.specs.check.OldVerdicts.{older, HasNoCarriageReturn, NamesNoCarriageReturn}
+use Rattle.sum_engine.proofs.CarriageReturnLemmas.{IsNoCarriageReturn}
 use Rattle.sum_lines.specs.grammar.Entries as entries
 
 -- ---- parts of what has no carriage return
@@ -32,52 +32,52 @@ byte_same : (b : ℕ) → b ≢ 13 → escape_of older b ≡ escape_of present b
 byte_same b free = grind (arith, nat_tests)
 
 -- so a name without one has the same escape
-pub same_escape : (name : List ℕ) → NoReturn name → escape_by older name ≡ escape_by present name
+pub same_escape : (name : List ℕ) → HasNoCarriageReturn name → escape_by older name ≡ escape_by present name
 same_escape [] free = refl
-same_escape (b ∷ bs) free = search (rules, All-head, byte_same, same_escape bs (All-tail NotReturn b bs free))
+same_escape (b ∷ bs) free = search (rules, All-head, byte_same, same_escape bs (All-tail IsNoCarriageReturn b bs free))
 
 -- ---- names
 
 -- an older name whose escape has no carriage return has none
-older_clean : (name : List ℕ) → NoReturn (escape_by older name) → NoReturn name
-older_clean [] free = All-nil NotReturn
+older_clean : (name : List ℕ) → HasNoCarriageReturn (escape_by older name) → HasNoCarriageReturn name
+older_clean [] free = All-nil IsNoCarriageReturn
 older_clean (b ∷ bs) free =
-    All-cons NotReturn b bs (first b (all_left NotReturn (escape_of older b) (escape_by older bs) free))
-    (older_clean bs (all_right NotReturn (escape_of older b) (escape_by older bs) free))
+    All-cons IsNoCarriageReturn b bs (first b (all_left IsNoCarriageReturn (escape_of older b) (escape_by older bs) free))
+    (older_clean bs (all_right IsNoCarriageReturn (escape_of older b) (escape_by older bs) free))
   where
-    first : (b : ℕ) → NoReturn (escape_of older b) → b ≢ 13
-    first b all = λ is. All-head NotReturn 13 [] (subst (λ x. NoReturn (escape_of older x)) is all) refl
+    first : (b : ℕ) → HasNoCarriageReturn (escape_of older b) → b ≢ 13
+    first b all = λ is. All-head IsNoCarriageReturn 13 [] (subst (λ x. HasNoCarriageReturn (escape_of older x)) is all) refl
 
 -- so a name that bytes without one spell by the older escape has none
-older_name : (e : Bool) (raw name : List ℕ) → NoReturn raw → entries.Spells (escape_by older) e raw name → NoReturn name
-older_name true raw name free s = older_clean name (subst NoReturn s.is free)
-older_name false raw name free s = subst NoReturn s.is free
+older_name : (e : Bool) (raw name : List ℕ) → HasNoCarriageReturn raw → entries.Spells (escape_by older) e raw name → HasNoCarriageReturn name
+older_name true raw name free s = older_clean name (subst HasNoCarriageReturn s.is free)
+older_name false raw name free s = subst HasNoCarriageReturn s.is free
 
 -- ---- the raw name
 
 -- a tail without one has a raw name without one
-raw_clean : (f : Form) (tail raw : List ℕ) → NoReturn tail → IsRawName f tail raw → NoReturn raw
+raw_clean : (f : Form) (tail raw : List ℕ) → HasNoCarriageReturn tail → IsRawName f tail raw → HasNoCarriageReturn raw
 raw_clean Undecided tail raw h is = absurd is
-raw_clean Reversed tail raw h is = subst NoReturn (sym is) h
-raw_clean Standard tail raw h is = All-tail NotReturn is.1 raw (subst NoReturn is.2 h)
+raw_clean Reversed tail raw h is = subst HasNoCarriageReturn (sym is) h
+raw_clean Standard tail raw h is = All-tail IsNoCarriageReturn is.1 raw (subst HasNoCarriageReturn is.2 h)
 
 -- a tagged line without one has a raw name without one
-tag_clean : (E : List ℕ → List ℕ) (algos : Algos) (line : List ℕ) (s : EntryValue) → NoReturn line
-    → (t : SpellsByTag E algos line s) → NoReturn t.raw
+tag_clean : (E : List ℕ → List ℕ) (algos : Algos) (line : List ℕ) (s : EntryValue) → HasNoCarriageReturn line
+    → (t : SpellsByTag E algos line s) → HasNoCarriageReturn t.raw
 tag_clean E algos line s free t =
-    let whole = subst NoReturn t.tagged.whole free in
-    all_left NotReturn t.raw _ (all_right NotReturn (codes "(") _
-    (all_right NotReturn (optional t.tagged.gap (codes " ")) _ (all_right NotReturn t.tagged.width _
-    (all_right NotReturn (tag s.kind.algo) _ (all_right NotReturn (mark t.escaped) _
-    (all_right NotReturn t.tagged.blanks _ whole))))))
+    let whole = subst HasNoCarriageReturn t.tagged.whole free in
+    all_left IsNoCarriageReturn t.raw _ (all_right IsNoCarriageReturn (codes "(") _
+    (all_right IsNoCarriageReturn (optional t.tagged.gap (codes " ")) _ (all_right IsNoCarriageReturn t.tagged.width _
+    (all_right IsNoCarriageReturn (tag s.kind.algo) _ (all_right IsNoCarriageReturn (mark t.escaped) _
+    (all_right IsNoCarriageReturn t.tagged.blanks _ whole))))))
 
 -- and a plain one
-tail_clean : (E : List ℕ → List ℕ) (algos : Algos) (f : Form) (line : List ℕ) (s : EntryValue) → NoReturn line
-    → (t : SpellsByTail E algos f line s) → NoReturn t.raw
+tail_clean : (E : List ℕ → List ℕ) (algos : Algos) (f : Form) (line : List ℕ) (s : EntryValue) → HasNoCarriageReturn line
+    → (t : SpellsByTail E algos f line s) → HasNoCarriageReturn t.raw
 tail_clean E algos f line s free t =
-    let whole = subst NoReturn t.plain.whole free in
-    raw_clean f t.tail t.raw (All-tail NotReturn t.plain.blank t.tail (all_right NotReturn t.plain.digits _
-    (all_right NotReturn (mark t.escaped) _ (all_right NotReturn t.plain.blanks _ whole)))) t.is_raw
+    let whole = subst HasNoCarriageReturn t.plain.whole free in
+    raw_clean f t.tail t.raw (All-tail IsNoCarriageReturn t.plain.blank t.tail (all_right IsNoCarriageReturn t.plain.digits _
+    (all_right IsNoCarriageReturn (mark t.escaped) _ (all_right IsNoCarriageReturn t.plain.blanks _ whole)))) t.is_raw
 
 -- ---- the entry
 
@@ -87,8 +87,8 @@ entry_by : (E F : List ℕ → List ℕ) (algos : Algos) (f : Form) (line : List
 entry_by E F algos f line s same h = search rules
 
 -- an older entry of a line without one has a name without one
-older_entry : (algos : Algos) (f : Form) (line : List ℕ) (s : EntryValue) → NoReturn line
-    → IsEntry (escape_by older) algos f line s → NoReturn s.name
+older_entry : (algos : Algos) (f : Form) (line : List ℕ) (s : EntryValue) → HasNoCarriageReturn line
+    → IsEntry (escape_by older) algos f line s → HasNoCarriageReturn s.name
 older_entry algos f line s free (i, inl t) = search (rules, older_name, tag_clean)
 older_entry algos f line s free (i, inr t) = search (rules, older_name, tail_clean)
 
@@ -98,7 +98,7 @@ older_entry algos f line s free (i, inr t) = search (rules, older_name, tail_cle
 abbrev pub CleanParsedLine : ParsedLine → Type 0
 CleanParsedLine ignored = Unit {0}
 CleanParsedLine bad = Unit {0}
-CleanParsedLine (entry s) = NoReturn s.name
+CleanParsedLine (entry s) = HasNoCarriageReturn s.name
 
 -- a line that isn't empty is ignored under both profiles or under neither
 ignored_same : (line : List ℕ) (q : Bool) → 0 < length line → is_ignored_by present line ≡ q → is_ignored_by older line
@@ -106,7 +106,7 @@ ignored_same : (line : List ℕ) (q : Bool) → 0 < length line → is_ignored_b
 ignored_same line q some h = search rules
 
 -- a line without one, in which no name has one, says the same under both profiles
-pub parse_line_same : (algos : Algos) (f : Form) (line : List ℕ) → NoReturn line → NamesNoReturn algos f line
+pub parse_line_same : (algos : Algos) (f : Form) (line : List ℕ) → HasNoCarriageReturn line → NamesNoCarriageReturn algos f line
     → 0 < length line → (parse_line older algos f line ≡ parse_line present algos f line)
     × CleanParsedLine (parse_line present algos f line)
 parse_line_same algos f line free names some = go (parse_line present algos f line) refl

@@ -6,52 +6,52 @@ use Rattle.sum_engine.specs.Behavior.{Ending, Whole, Broken, World, after}
 use Rattle.sum_sources.specs.Contents.{Content, clip}
 use Rattle.sum_sources.specs.ManifestLines.{raw_lines, last_line, past_line, bytes_of_lines}
 use Rattle.sum_sources.proofs.CutLemmas.{cut, raw_lines-joined}
-use Rattle.sum_engine.specs.check.Verdicts.{Algos, Form, Verdict, lines_by, Rules, LineVerdictValue, judge, asks_of, verdicts, all_verdicts}
+use Rattle.sum_engine.specs.check.Verdicts.{Algos, Form, Verdict, lines_under, Rules, LineVerdictValue, judge, asks_of, verdicts, all_verdicts}
 use Rattle.sum_lines.specs.grammar.Entries.{form}
 use Rattle.sum_lines.specs.Escape.{present}
 use Rattle.sum_engine.specs.check.CheckerSteps.{step_then}
 use Rattle.sum_lines.specs.grammar.ParsedLines.{ParsedLine, bad, parse_line}
 use Rattle.sum_engine.specs.check.Checking.{line_steps, content_behavior}
-use Rattle.sum_engine.specs.check.OldVerdicts.{older, rules_under, NoReturn, NamesNoReturn, IsOldManifest, OldVerdicts, OldOutcomes, OlderDiffers}
+use Rattle.sum_engine.specs.check.OldVerdicts.{older, rules_under, HasNoCarriageReturn, NamesNoCarriageReturn, IsOldManifest, OldVerdicts, OldOutcomes, OlderDiffers}
 use Rattle.sum_lines.proofs.ParsedLineLemmas.{parse_is_grammar}
 use Rattle.sum_engine.proofs.OldNames.{all_left, all_right, same_escape, CleanParsedLine, parse_line_same}
-use Rattle.sum_engine.proofs.ReturnLemmas.{NotReturn, strips-kept}
+use Rattle.sum_engine.proofs.CarriageReturnLemmas.{IsNoCarriageReturn, strips-kept}
 use Rattle.sum_engine.proofs.CheckOneLemmas.{opening}
 use Rattle.sum_engine.specs.declared.settings.Report.TheVariants as reports
 
 -- ---- the lines
 
 -- the last line of a text without one has none
-last_clean : (e : Ending) (piece : List ℕ) → NoReturn piece → All NoReturn (last_line e piece)
+last_clean : (e : Ending) (piece : List ℕ) → HasNoCarriageReturn piece → All HasNoCarriageReturn (last_line e piece)
 last_clean e piece free = search rules
 
 -- nor has any other line
-ended_clean : (e : Ending) (ended : List (List ℕ)) (tail : List ℕ) → NoReturn (bytes_of_lines ended tail)
-    → All NoReturn (ended ++ last_line e tail)
+ended_clean : (e : Ending) (ended : List (List ℕ)) (tail : List ℕ) → HasNoCarriageReturn (bytes_of_lines ended tail)
+    → All HasNoCarriageReturn (ended ++ last_line e tail)
 ended_clean e [] tail free = last_clean e tail free
 ended_clean e (p ∷ ps) tail free =
-    let whole : NoReturn ((p ++ 10 ∷ []) ++ bytes_of_lines ps tail) =
-    subst NoReturn (append_assoc (p ++ 10 ∷ []) (flat_map (λ piece. piece ++ 10 ∷ []) ps) tail) free in
-    All-cons NoReturn p (ps ++ last_line e tail) (all_left NotReturn p _ (all_left NotReturn (p ++ 10 ∷ []) _ whole))
-    (ended_clean e ps tail (all_right NotReturn (p ++ 10 ∷ []) _ whole))
+    let whole : HasNoCarriageReturn ((p ++ 10 ∷ []) ++ bytes_of_lines ps tail) =
+    subst HasNoCarriageReturn (append_assoc (p ++ 10 ∷ []) (flat_map (λ piece. piece ++ 10 ∷ []) ps) tail) free in
+    All-cons HasNoCarriageReturn p (ps ++ last_line e tail) (all_left IsNoCarriageReturn p _ (all_left IsNoCarriageReturn (p ++ 10 ∷ []) _ whole))
+    (ended_clean e ps tail (all_right IsNoCarriageReturn (p ++ 10 ∷ []) _ whole))
 
 -- so no line of a content has one
-pieces_clean : (c : Content) → NoReturn c.bytes → All NoReturn (raw_lines c)
+pieces_clean : (c : Content) → HasNoCarriageReturn c.bytes → All HasNoCarriageReturn (raw_lines c)
 pieces_clean c free =
     let all = cut c.bytes in
-    subst (λ (bytes : List ℕ). All NoReturn (raw_lines (record { bytes = bytes; ending = c.ending }))) (sym all.2)
-    (subst (All NoReturn) (sym (raw_lines-joined c.ending all.0 all.1 all.3 all.4))
-    (ended_clean c.ending all.0 all.1 (subst NoReturn all.2 free)))
+    subst (λ (bytes : List ℕ). All HasNoCarriageReturn (raw_lines (record { bytes = bytes; ending = c.ending }))) (sym all.2)
+    (subst (All HasNoCarriageReturn) (sym (raw_lines-joined c.ending all.0 all.1 all.3 all.4))
+    (ended_clean c.ending all.0 all.1 (subst HasNoCarriageReturn all.2 free)))
 
 -- so the lines are the same
-lines_same : (c : Content) → NoReturn c.bytes → lines_by older c ≡ lines_by present c
+lines_same : (c : Content) → HasNoCarriageReturn c.bytes → lines_under older c ≡ lines_under present c
 lines_same c free = sym (strips-kept (raw_lines c) (pieces_clean c free))
 
 -- ---- the verdicts
 
 -- a name that holds no carriage return
 abbrev CleanName : LineVerdictValue → Type 0
-CleanName j = NoReturn j.name
+CleanName j = HasNoCarriageReturn j.name
 
 -- and what is judged names none
 judged_clean : (r : Rules) (w : World) (n : ℕ) (x : ParsedLine) → CleanParsedLine x → CleanName (judge r w n x)
@@ -59,8 +59,8 @@ judged_clean r w n x h = search rules
 
 -- a line that says the same under both profiles
 pub record Alike (algos : Algos) (f : Form) (line : List ℕ) : Type 0 where
-  pub no_byte : NoReturn line
-  pub no_escape : NamesNoReturn algos f line
+  pub no_byte : HasNoCarriageReturn line
+  pub no_escape : NamesNoCarriageReturn algos f line
   pub some : 0 < length line
 
 -- the verdicts are the same
@@ -81,7 +81,7 @@ verdicts_same r f w n (l ∷ ls) all =
 -- ---- what is written
 
 -- what is reported of a verdict whose name holds no carriage return
-out_same : (report : Report) (v : Verdict) (name : List ℕ) → NoReturn name
+out_same : (report : Report) (v : Verdict) (name : List ℕ) → HasNoCarriageReturn name
     → out_by older report v name ≡ out_by present report v name
 out_same report v name free = search (rules, same_escape)
 
@@ -93,12 +93,12 @@ all_same f g same [] all = refl
 all_same f g same (j ∷ js) all = search (rules, All-head, all_same f g same js (All-tail CleanName j js all))
 
 -- what a line of the manifest adds to standard error
-err_same : (r : Rules) (labels : LabelsValue) (n : ℕ) (v : Verdict) (name : List ℕ) → NoReturn labels.manifest
-    → NoReturn name → err_by (rules_under older r) labels n v name ≡ err_by (rules_under present r) labels n v name
+err_same : (r : Rules) (labels : LabelsValue) (n : ℕ) (v : Verdict) (name : List ℕ) → HasNoCarriageReturn labels.manifest
+    → HasNoCarriageReturn name → err_by (rules_under older r) labels n v name ≡ err_by (rules_under present r) labels n v name
 err_same r labels n v name own free = search (rules, same_escape)
 
 -- the text at its end
-end_same : (r : Rules) (labels : LabelsValue) (e : Ending) (c : Counts) → NoReturn labels.manifest
+end_same : (r : Rules) (labels : LabelsValue) (e : Ending) (c : Counts) → HasNoCarriageReturn labels.manifest
     → end_text (rules_under older r) labels e c ≡ end_text (rules_under present r) labels e c
 end_same r labels Whole c own = by labels.report
   where
@@ -134,7 +134,7 @@ old_verdicts r labels w c h =
 
 -- the steps are the same
 steps_same : (r : Rules) (labels : LabelsValue) (end : List ℕ) (c : Content) (js : List LineVerdictValue)
-    → NoReturn labels.manifest → All CleanName js
+    → HasNoCarriageReturn labels.manifest → All CleanName js
     → line_steps (rules_under older r) labels end c js ≡ line_steps (rules_under present r) labels end c js
 steps_same r labels end c [] own all = refl
 steps_same r labels end c (j ∷ js) own all =

@@ -1,26 +1,26 @@
 -- Read to the end, known or not: over no file, over one, and over one call after another.
-use Rattle.std.proofs.Common.{rules, ◌≡◌, ℕ, zero, suc, ◌+◌, false, Option, Some, ap, sym, subst, ◌∙◌, arith}
+use Rattle.std.proofs.Common.{rules, ◌≡◌, ℕ, zero, suc, ◌+◌, false, Option, Some, Ok, ap, sym, subst, ◌∙◌, arith}
 use Rattle.std.specs.Option.{option_map, option_or}
 use Rattle.sum_sources.specs.Contents.{InputState}
 use Rattle.sum_sources.specs.declared.sources.file_counts.FileCounts.{FileCounts}
 use Rattle.sum_sources.specs.Sources.{SourceState, closed_state}
 use Rattle.sum_sources.specs.StandardInput.{given_state}
 use Rattle.digest_kinds.specs.Limits.{one_more}
-use Rattle.sum_engine.specs.Execution.{InputsState, Phase, Unfinished, AtEnd, raised, IsStdinWhole, KeepsStdin, ReadToEnd}
+use Rattle.sum_engine.specs.Execution.{InputsState, Phase, Unfinished, AtEnd, count_after, IsStdinWhole, KeepsStdin, ReadToEnd}
 use Rattle.sum_engine.specs.refinement.HashName.{HashOutcome, UnlessBroken}
 use Rattle.sum_engine.specs.refinement.Openings.{stdin_taken_from}
 
 -- so many more, and then so many more
-raised-add : (m n count : ℕ) → raised m (raised n count) ≡ raised (m + n) count
-raised-add zero n count = let same : n ≡ 0 + n = omega arith in ap (λ k. raised k count) same
-raised-add (suc m) n count =
+count_after-add : (m n count : ℕ) → count_after m (count_after n count) ≡ count_after (m + n) count
+count_after-add zero n count = let same : n ≡ 0 + n = omega arith in ap (λ k. count_after k count) same
+count_after-add (suc m) n count =
     let same : suc (m + n) ≡ suc m + n = omega arith in
-    ap one_more (raised-add m n count) ∙ ap (λ k. raised k count) same
+    ap one_more (count_after-add m n count) ∙ ap (λ k. count_after k count) same
 
 -- all files, over one call and then another
 pub ReadToEnd-trans : {S : Type 0} {state : S → SourceState} {a b c : InputsState S} → ReadToEnd state a b
     → ReadToEnd state b c → ReadToEnd state a c
-ReadToEnd-trans h k = search (rules, raised-add)
+ReadToEnd-trans h k = search (rules, count_after-add)
 
 -- no file was opened, and standard input is as it was
 pub ReadToEnd-none : {S : Type 0} (state : S → SourceState) (a b : InputsState S)
@@ -53,7 +53,7 @@ pub ReadToEnd-file : {S : Type 0} (state : S → SourceState) (a b : InputsState
 ReadToEnd-file state a b between p counted closed at_end taken phase = search rules
 
 -- unless reading failed, what follows holds
-pub UnlessBroken-map : (o : HashOutcome) {P Q : Type 0} → (P → Q) → UnlessBroken (Some o) P → UnlessBroken (Some o) Q
+pub UnlessBroken-map : (o : HashOutcome) {P Q : Type 0} → (P → Q) → UnlessBroken (Ok o) P → UnlessBroken (Ok o) Q
 UnlessBroken-map o f h = search rules
 
 -- a file was opened; others were read to the end; and it was closed at its end
@@ -65,7 +65,7 @@ ReadToEnd-around {S} state a m n b p first counted h last closed at_end =
     let next : h.number + 1 ≡ suc h.number = omega arith in
     record {
       number = suc h.number;
-      opened = search (rules, raised-add h.number 1 (state a.source).counts.opened, next);
+      opened = search (rules, count_after-add h.number 1 (state a.source).counts.opened, next);
       ended = search rules;
       stdin = λ whole. subst (λ (m : InputsState S). IsStdinWhole m) (sym last)
           (h.stdin (subst (λ (m : InputsState S). IsStdinWhole m) (sym first) whole));

@@ -5,11 +5,11 @@ use Rattle.sum_sources.specs.ManifestLines.{past_line, past_lines}
 use Rattle.sum_lines.specs.grammar.Entries.{form, form_then, line_form}
 use Rattle.sum_lines.proofs.FormLemmas.{form_next, parse_stays}
 use Rattle.sum_engine.specs.Behavior.{after, Ending, Step, Behavior}
-use Rattle.sum_engine.specs.check.Verdicts.{lines_by, Rules, LineVerdictValue, asks_of, verdicts}
+use Rattle.sum_engine.specs.check.Verdicts.{lines_under, Rules, LineVerdictValue, asks_of, verdicts}
 use Rattle.sum_lines.specs.grammar.ParsedLines.{parse_line}
 use Rattle.sum_engine.specs.check.Reports.{LabelsValue, Counts, counts_of, out_of, err_of, end_text, good}
 use Rattle.sum_engine.specs.check.Checking.{line_steps}
-use Rattle.sum_engine.specs.check.CheckStates.{counts_with, counts_then, CheckState, LineHandled, next_judged, remaining_verdicts, remaining_behavior}
+use Rattle.sum_engine.specs.check.CheckStates.{counts_with, counts_then, CheckState, HandlesLine, next_judged, remaining_verdicts, remaining_behavior}
 use Rattle.sum_engine.specs.check.CheckerSteps.{Going, step_then, progress_before}
 
 -- what a line says by the form of all lines is what it says by the form so far and its own
@@ -19,13 +19,13 @@ parse_line_now : (r : Rules) (a : CheckState) (l : List ℕ) (ls : List (List �
 parse_line_now r a l ls = search (rules, form_next, parse_stays)
 
 -- the first of those that remain
-pub rest_head : (r : Rules) (a : CheckState) (l : List ℕ) (ls : List (List ℕ)) → lines_by r.profile a.rest ≡ l ∷ ls
+pub rest_head : (r : Rules) (a : CheckState) (l : List ℕ) (ls : List (List ℕ)) → lines_under r.profile a.rest ≡ l ∷ ls
     → remaining_verdicts r a ≡ next_judged r a l ∷ verdicts r (form_then a.form (form r.algo (l ∷ ls)))
     (after a.world (asks_of (next_judged r a l))) (a.number + 1) ls
 rest_head r a l ls h = rw (h, parse_line_now r a l ls) refl
 
 -- one line's verdict, and those that remain after it
-pub rest_on : (r : Rules) (a b : CheckState) (v : List ℕ) (h : LineHandled r a b v)
+pub rest_on : (r : Rules) (a b : CheckState) (v : List ℕ) (h : HandlesLine r a b v)
     → b.world ≡ after a.world (asks_of (next_judged r a h.line))
     → remaining_verdicts r a ≡ next_judged r a h.line ∷ remaining_verdicts r b
 rest_on r a b v h world = search (rules, rest_head, form_next)

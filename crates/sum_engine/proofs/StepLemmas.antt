@@ -13,11 +13,11 @@ use Rattle.sum_sources.specs.ManifestLines.{IsNextLine, lines}
 use Rattle.sum_sources.specs.LineReaders.{remaining_content, MayRemain, IsBounded, consumed_count}
 use Rattle.sum_lines.specs.Escape.{Profile, present}
 use Rattle.sum_engine.specs.check.Reports.{Report, LabelsValue, err_of, out_of, out_by, end_text, good}
-use Rattle.sum_engine.specs.check.Verdicts.{Ignored, lines_by, Rules, asks_of}
-use Rattle.sum_engine.specs.check.CheckStates.{CursorValue, state_at, InSomeCheck, CheckState, counts_with, LineHandled, next_judged, remaining_verdicts, remaining_behavior}
+use Rattle.sum_engine.specs.check.Verdicts.{Ignored, lines_under, Rules, asks_of}
+use Rattle.sum_engine.specs.check.CheckStates.{CursorValue, state_at, InSomeCheck, CheckState, counts_with, HandlesLine, next_judged, remaining_verdicts, remaining_behavior}
 use Rattle.sum_engine.specs.check.CheckerSteps.{Progress, Going, Ended, step_then, progress_before, step_answer, StepIs, TakesStep}
 use Rattle.sum_engine.specs.Execution.{Stop, Memory, Write, InputsState, StreamsState, WorldState, InSomeWorld, in_world, AskedMore}
-use Rattle.sum_engine.specs.check.NextVerdict.{MemoryStopHasCause, AdvancesVerdicts, LineVerdict, VerdictResult, line_verdict_value, FindsVerdict, NoVerdictLeft}
+use Rattle.sum_engine.specs.check.NextVerdict.{MemoryStopHasCause, AdvancesVerdicts, LineVerdict, VerdictResult, line_verdict_value, FindsVerdict, HasNoVerdictLeft}
 use Rattle.sum_engine.specs.refinement.Judging.{TakesLine}
 use Rattle.sum_engine.specs.refinement.FoundTexts.{found_err, found_out}
 use Rattle.sum_engine.proofs.FlushedWriteLemmas.{writes_and_returns}
@@ -96,7 +96,7 @@ pub record ReadsLine {I : Type 0} (state : I → InputState) (p : CursorValue I)
   pub profile : p.rules.profile ≡ present
 
 -- the lines of a content under the present profile
-pub lines_now : (r : Rules) (c : Content) → r.profile ≡ present → lines_by r.profile c ≡ lines c
+pub lines_now : (r : Rules) (c : Content) → r.profile ≡ present → lines_under r.profile c ≡ lines c
 lines_now r c h = rw h refl
 
 -- a line was handled: it was read, and then its form was taken over and its verdict counted
@@ -105,7 +105,7 @@ abbrev pub line_handled : {I : Type 0} (state : I → InputState) (p q : CursorV
     → IsNextLine c d (Ok Line) line × (consumed_count reader + length d.bytes ≡ consumed_count p.reader + length c.bytes)
     → TakesLine (record p { reader = reader }) q line → length vector ≤ length line
     → q.counts ≡ counts_with p.counts (next_judged p.rules (state_at p c w) line).verdict
-    → LineHandled p.rules (state_at p c w) (state_at (record q { reader = reader }) d v) vector
+    → HandlesLine p.rules (state_at p c w) (state_at (record q { reader = reader }) d v) vector
 line_handled state p q reader c d w v line vector reads read takes few counted = record {
   line = line;
   lines = lines_now p.rules c reads.profile ∙ read.0.0 ∙ ap (λ l. line ∷ l) (sym (lines_now p.rules d reads.profile));
@@ -125,7 +125,7 @@ step_by : (r : Rules) (labels : LabelsValue) (a b : CheckState) (s t : WorldStat
     (later : Behavior) (progress : Progress) (x : Result (Unit {0}) (Unit {0}))
     → remaining_behavior r labels a ≡ step_then step later → progress_before later.steps later.good ≡ progress
     → HappenedOrPrefix x s t (events_of step)
-    → (progress ≡ Going → (later ≡ remaining_behavior r labels b) × LineHandled r a b vector)
+    → (progress ≡ Going → (later ≡ remaining_behavior r labels b) × HandlesLine r a b vector)
     → StepIs r labels vector a b s t (outcome_after x progress)
 step_by r labels a b s t vector step later progress x is next came going = record {
   step = step;
@@ -220,7 +220,7 @@ module _ {I S : Type 0} (input : I → InputState) (state : S → SourceState) (
 
     -- the end was found, and its text was written, or a prefix of it
     pub step_end : (labels : LabelsValue) (vector : List ℕ) (e : Ending) (outcome : Bool) (x : Result Progress Stop)
-        → InSomeCheck input state p q a.inputs b.inputs (NoVerdictLeft p.rules e)
+        → InSomeCheck input state p q a.inputs b.inputs (HasNoVerdictLeft p.rules e)
         → AsksNames state a.inputs b.inputs [] → q.rules ≡ p.rules
         → outcome ≡ good q.rules e q.counts
         → WritesAndReturns a.outputs b.outputs (end_text q.rules labels e q.counts) [] (Ended outcome) x

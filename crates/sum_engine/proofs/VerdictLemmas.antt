@@ -1,5 +1,5 @@
 -- `judge`: the verdict of an entry, by the outcome of hashing its name.
-use Rattle.std.proofs.Common.{rules, ◌≡◌, ◌&&◌, Bool, false, [], ◌∷◌, Some}
+use Rattle.std.proofs.Common.{rules, ◌≡◌, ◌&&◌, Bool, false, [], ◌∷◌, Ok}
 use Rattle.sum_lines.specs.grammar.Entries.{EntryValue}
 use Rattle.sum_engine.specs.refinement.HashName.{HashOutcome, HashesName}
 use Rattle.sum_engine.specs.check.Verdicts.{Verdict, Rules, asks_by}
@@ -9,9 +9,9 @@ use Rattle.sum_engine.specs.refinement.Judging.{JudgeOf, verdict_of_outcome}
 
 -- an entry's verdict, by the outcome of hashing its name
 pub judged_entry : (r : Rules) (w v : World) (s : EntryValue) (a : HashOutcome) (verdict : Verdict)
-    → r.from_stdin && is_dash s.name ≡ false → HashesName s.kind w v s.name (Some a)
+    → r.from_stdin && is_dash s.name ≡ false → HashesName s.kind w v s.name (Ok a)
     → verdict ≡ verdict_of_outcome r.ignore_missing s.digest a
-    → JudgeOf r w v (entry s) (Some verdict)
+    → JudgeOf r w v (entry s) (Ok verdict)
 judged_entry r w v s a verdict dash h is = search rules
 
 -- the name that its verdict asks is the one that was hashed

@@ -1,6 +1,7 @@
 -- What a call can ask, the source's files and standard input; and what it does: a list of steps, between which memory
 -- may run out.
 use Rattle.std.specs.Prelude.{ℕ, ◌&&◌, Bool, List, [], ◌∷◌, ◌++◌, map, flat_map, Option, None, Some, codes, Result, Ok, Err, if◌then◌else◌, bytes_eq}
+use Rattle.digest_kinds.specs.Basics.{ByteString}
 use Rattle.digest_kinds.specs.Kinds.{KindValue, digest}
 pub use Rattle.sum_sources.specs.declared.fault.Fault.{Fault}
 pub use Rattle.sum_sources.specs.declared.fault.Ending.{Ending}
@@ -10,47 +11,47 @@ use Rattle.sum_sources.specs.Sources.{Answer}
 
 -- each name's answer, by the names asked before it (a file may change in between); what standard input has left
 pub record World : Type 0 where
-  pub answer : List (List ℕ) → List ℕ → Answer
+  pub answer : List ByteString → ByteString → Answer
   pub input : Content
 
 -- the name of standard input
-abbrev pub is_dash : List ℕ → Bool
+abbrev pub is_dash : ByteString → Bool
 is_dash name = bytes_eq name (codes "-")
 
 -- what opening a name gives: what standard input has left, or the source's answer
-abbrev pub answer_to : World → List ℕ → Answer
+abbrev pub answer_to : World → ByteString → Answer
 answer_to w name = if is_dash name then Ok w.input else w.answer [] name
 
 -- the world once this name was opened: standard input is given once, and is empty from then on
-abbrev pub after_one : World → List ℕ → World
+abbrev pub after_one : World → ByteString → World
 after_one w name = if is_dash name then record w { input = empty_content }
     else record w { answer = λ asked. w.answer (name ∷ asked) }
 
 -- the world after these names were asked, one after another
-abbrev pub after : World → List (List ℕ) → World
+abbrev pub after : World → List ByteString → World
 after w [] = w
 after w (name ∷ names) = after (after_one w name) names
 
 -- what reading these bytes gives that end so: their digest, or the fault
-abbrev pub digest_by : KindValue → List ℕ → Ending → Result (List ℕ) Fault
+abbrev pub digest_by : KindValue → ByteString → Ending → Result (ByteString) Fault
 digest_by kind bytes Whole = Ok (digest kind bytes)
 digest_by kind bytes (Broken f) = Err f
 
 -- what reading a answer gives: the digest of all its bytes, or the fault of opening or reading it
-abbrev pub digest_or_fault : KindValue → Answer → Result (List ℕ) Fault
+abbrev pub digest_or_fault : KindValue → Answer → Result (ByteString) Fault
 digest_or_fault kind (Err f) = Err f
 digest_or_fault kind (Ok c) = digest_by kind (clip c).bytes (clip c).ending
 
 -- a name is opened (`-` is standard input); or a byte is written to standard error, or to standard output
 pub data Event : Type 0 where
-  open_name : List ℕ → Event
+  open_name : ByteString → Event
   write_err write_out : ℕ → Event
 
 -- between two points at which memory may run out: at most one name is opened, then `err` is written, then `out`
 pub record Step : Type 0 where
-  pub names : List (List ℕ)
-  pub err : List ℕ  -- a text to standard error
-  pub out : List ℕ  -- one to standard output
+  pub names : List ByteString
+  pub err : ByteString  -- a text to standard error
+  pub out : ByteString  -- one to standard output
   pub remaining : ℕ  -- how many bytes of a manifest are still to come before it
 
 -- a list of steps, and whether all is good
@@ -67,33 +68,33 @@ abbrev pub trace : List Step → List Event
 trace steps = flat_map events_of steps
 
 -- an event as an opened name, as a byte of standard error, or as one of standard output
-abbrev pub name_in : Event → Option (List ℕ)
-name_in (open_name name) = Some name
-name_in event = None
+abbrev pub opened_name : Event → Option (ByteString)
+opened_name (open_name name) = Some name
+opened_name event = None
 
-abbrev pub err_in : Event → Option ℕ
-err_in (write_err b) = Some b
-err_in event = None
+abbrev pub err_byte : Event → Option ℕ
+err_byte (write_err b) = Some b
+err_byte event = None
 
-abbrev pub out_in : Event → Option ℕ
-out_in (write_out b) = Some b
-out_in event = None
+abbrev pub out_byte : Event → Option ℕ
+out_byte (write_out b) = Some b
+out_byte event = None
 
 -- one behavior after another
 abbrev pub behavior_then : Behavior → Behavior → Behavior
 behavior_then r s = record { steps = r.steps ++ s.steps; good = r.good && s.good }
 
 -- a behavior of one step, which opens a name or none and writes a text to standard error and one to standard output
-abbrev pub single_step : List (List ℕ) → List ℕ → List ℕ → Bool → Behavior
+abbrev pub single_step : List ByteString → ByteString → ByteString → Bool → Behavior
 single_step names err out good =
     record { steps = record { names = names; err = err; out = out; remaining = 0 } ∷ []; good = good }
 
 -- a behavior's texts on standard output and on standard error, and the names that it opens
-abbrev pub out_text : Behavior → List ℕ
+abbrev pub out_text : Behavior → ByteString
 out_text r = flat_map (λ s. s.out) r.steps
 
-abbrev pub err_text : Behavior → List ℕ
+abbrev pub err_text : Behavior → ByteString
 err_text r = flat_map (λ s. s.err) r.steps
 
-abbrev pub asks : Behavior → List (List ℕ)
+abbrev pub asks : Behavior → List ByteString
 asks r = flat_map (λ s. s.names) r.steps

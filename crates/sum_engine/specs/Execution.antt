@@ -1,5 +1,6 @@
 -- The state of a call's streams, and what a call performs of a behavior: the form of the headline.
 use Rattle.std.specs.Prelude.{ℕ, ◌≡◌, ◌⊎◌, zero, suc, Bool, true, false, [], Option, Some, IfSome, Result, Err, ◌<◌, ◌||◌, List, ◌∷◌, ◌++◌, filter, not, filter_map, Ok}
+use Rattle.digest_kinds.specs.Basics.{ByteString}
 use Rattle.std.specs.List.{list_any}
 use Rattle.std.specs.Io.KnownBytes.{Appends}
 use Rattle.digest_kinds.specs.Limits.{one_more}
@@ -11,7 +12,7 @@ use Rattle.sum_lines.specs.sinks.Sinks.{SinkState, IsPrefix}
 pub use Rattle.sum_engine.specs.declared.streams.Streams.{Streams}
 pub use Rattle.sum_engine.specs.declared.stop.Stop.{Stop}
 pub use Rattle.sum_engine.specs.declared.stop.Stop.TheVariants.{Memory, Write}
-use Rattle.sum_engine.specs.Behavior.{World, is_dash, after, Event, Step, Behavior, trace, name_in, err_in, out_in}
+use Rattle.sum_engine.specs.Behavior.{World, is_dash, after, Event, Step, Behavior, trace, opened_name, err_byte, out_byte}
 
 -- where names are opened: the source itself; what standard input has left, if known, and whether it was taken
 pub record InputsState (S : Type 0) : Type 0 where
@@ -36,24 +37,24 @@ abbrev pub IsFlushed : OutputsState → Type 0
 IsFlushed m = (m.out.buffered ≡ []) × (m.err.buffered ≡ [])
 
 -- no call of an output failed; or one call of one of them did
-abbrev pub NoneFailed : OutputsState → OutputsState → Type 0
-NoneFailed a b = (b.out.failures ≡ a.out.failures) × (b.err.failures ≡ a.err.failures)
+abbrev pub HasNoFailure : OutputsState → OutputsState → Type 0
+HasNoFailure a b = (b.out.failures ≡ a.out.failures) × (b.err.failures ≡ a.err.failures)
 
-abbrev pub OneFailed : OutputsState → OutputsState → Type 0
-OneFailed a b = ((b.out.failures ≡ one_more a.out.failures) × (b.err.failures ≡ a.err.failures))
+abbrev pub HasOneFailure : OutputsState → OutputsState → Type 0
+HasOneFailure a b = ((b.out.failures ≡ one_more a.out.failures) × (b.err.failures ≡ a.err.failures))
     ⊎ ((b.out.failures ≡ a.out.failures) × (b.err.failures ≡ one_more a.err.failures))
 
 -- a write fault has one failure more, of one output, and any other result none
 abbrev pub FailuresMatch : {A : Type 0} → OutputsState → OutputsState → Result A Stop → Type 0
-FailuresMatch a b (Err Write) = OneFailed a b
-FailuresMatch a b r = NoneFailed a b
+FailuresMatch a b (Err Write) = HasOneFailure a b
+FailuresMatch a b r = HasNoFailure a b
 
 -- how out of memory may change a source's count of refusals: one more; or one more at most
-abbrev pub OneMore : ℕ → ℕ → Type 0
-OneMore n m = m ≡ one_more n
+abbrev pub IsOneMore : ℕ → ℕ → Type 0
+IsOneMore n m = m ≡ one_more n
 
-abbrev pub OneMoreAtMost : ℕ → ℕ → Type 0
-OneMoreAtMost n m = (m ≡ n) ⊎ OneMore n m
+abbrev pub IsOneMoreAtMost : ℕ → ℕ → Type 0
+IsOneMoreAtMost n m = (m ≡ n) ⊎ IsOneMore n m
 
 -- out of memory changes the count so, and any other result leaves it
 abbrev pub RefusalsMatch : {S A : Type 0} → (S → SourceState) → (ℕ → ℕ → Type 0) → InputsState S → InputsState S
@@ -69,13 +70,13 @@ pub record StopHasCause {S A : Type 0} (state : S → SourceState) (Changes : �
   pub failures : FailuresMatch a.outputs b.outputs r
 
 -- out of memory left both outputs as they were
-abbrev pub NoOutputOnMemory : {A : Type 0} → OutputsState → OutputsState → Result A Stop → Type 0
-NoOutputOnMemory a b r = r ≡ Err Memory → b ≡ a
+abbrev pub KeepsOutputsOnMemory : {A : Type 0} → OutputsState → OutputsState → Result A Stop → Type 0
+KeepsOutputsOnMemory a b r = r ≡ Err Memory → b ≡ a
 
 -- a count after n more
-abbrev pub raised : ℕ → ℕ → ℕ
-raised zero count = count
-raised (suc n) count = one_more (raised n count)
+abbrev pub count_after : ℕ → ℕ → ℕ
+count_after zero count = count
+count_after (suc n) count = one_more (count_after n count)
 
 -- standard input was not taken, and nothing of it was read; or it was taken, and read to its end
 abbrev pub IsStdinWhole : {S : Type 0} → InputsState S → Type 0
@@ -86,8 +87,8 @@ IsStdinWhole a = ((a.stdin_taken ≡ false) × (a.stdin_phase ≡ Some Unfinishe
 -- them failed, and it was not read again. So was standard input, if it was taken
 pub record ReadToEnd {S : Type 0} (state : S → SourceState) (a b : InputsState S) : Type 0 where
   pub number : ℕ  -- of these files
-  pub opened : (state b.source).counts.opened ≡ raised number (state a.source).counts.opened
-  pub ended : (state b.source).counts.ended ≡ raised number (state a.source).counts.ended
+  pub opened : (state b.source).counts.opened ≡ count_after number (state a.source).counts.opened
+  pub ended : (state b.source).counts.ended ≡ count_after number (state a.source).counts.ended
   pub stdin : IsStdinWhole a → IsStdinWhole b
 
 -- a world that these inputs may be in: of the source and of standard input what is known
@@ -112,16 +113,16 @@ in_world state m w = let source = state m.inputs.source in
     record { world = w; source = source; stdin_taken = m.inputs.stdin_taken; outputs = m.outputs }
 
 -- a source was asked these names, but for that of standard input, if what it was asked is known
-abbrev pub AskedMore : SourceState → SourceState → List (List ℕ) → Type 0
+abbrev pub AskedMore : SourceState → SourceState → List ByteString → Type 0
 AskedMore a b names = IfKnown a.known b.known (λ s t. t.asked ≡ s.asked ++ filter (λ name. not (is_dash name)) names)
 
 -- these events happened: the names were asked, and the bytes written; the source was refused no memory
 pub record Happened (a b : WorldState) (es : List Event) : Type 0 where
-  pub world : b.world ≡ after a.world (filter_map name_in es)
-  pub asked : AskedMore a.source b.source (filter_map name_in es)
-  pub stdin_taken : b.stdin_taken ≡ a.stdin_taken || list_any is_dash (filter_map name_in es)
-  pub err : Appends a.outputs.err.written b.outputs.err.written (filter_map err_in es)
-  pub out : Appends a.outputs.out.written b.outputs.out.written (filter_map out_in es)
+  pub world : b.world ≡ after a.world (filter_map opened_name es)
+  pub asked : AskedMore a.source b.source (filter_map opened_name es)
+  pub stdin_taken : b.stdin_taken ≡ a.stdin_taken || list_any is_dash (filter_map opened_name es)
+  pub err : Appends a.outputs.err.written b.outputs.err.written (filter_map err_byte es)
+  pub out : Appends a.outputs.out.written b.outputs.out.written (filter_map out_byte es)
   pub refusals : b.source.counts.refusals ≡ a.source.counts.refusals
 
 -- a prefix of these events happened
@@ -131,10 +132,10 @@ PrefixHappened a b es = (prefix : List Event) × IsPrefix prefix es × Happened 
 -- out of memory at a step, of which nothing happened: the source was refused it, or bytes of the manifest remained
 abbrev pub RefusedAt : Step → WorldState → WorldState → Type 0
 RefusedAt s a b = (b ≡ record a { source = b.source }) × AskedMore a.source b.source []
-    × (OneMore a.source.counts.refusals b.source.counts.refusals ⊎ ((b.source.counts.refusals ≡ a.source.counts.refusals) × (0 < s.remaining)))
+    × (IsOneMore a.source.counts.refusals b.source.counts.refusals ⊎ ((b.source.counts.refusals ≡ a.source.counts.refusals) × (0 < s.remaining)))
 
 -- out of memory: the steps before the next one happened, and nothing of it
-pub record OutOfMemory (steps : List Step) (a b : WorldState) : Type 0 where
+pub record RunsOutOfMemory (steps : List Step) (a b : WorldState) : Type 0 where
   pub done : List Step
   pub next : Step
   pub later : List Step
@@ -148,7 +149,7 @@ pub record OutOfMemory (steps : List Step) (a b : WorldState) : Type 0 where
 abbrev pub PerformsSteps : {A : Type 0} → List Step → A → WorldState → WorldState → Result A Stop → Type 0
 PerformsSteps steps x a b (Ok outcome) = (outcome ≡ x) × Happened a b (trace steps)
 PerformsSteps steps x a b (Err Write) = PrefixHappened a b (trace steps)
-PerformsSteps steps x a b (Err Memory) = OutOfMemory steps a b
+PerformsSteps steps x a b (Err Memory) = RunsOutOfMemory steps a b
 
 -- the same of a behavior in some world, if both outputs are flushed; what is returned depends on its `good`
 abbrev pub Performs : {S A : Type 0} → (S → SourceState) → (World → Behavior) → (Bool → A) → StreamsState S

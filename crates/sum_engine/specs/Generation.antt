@@ -1,5 +1,6 @@
 -- The behavior of hashing one name.
-use Rattle.std.specs.Prelude.{ℕ, true, false, List, [], ◌∷◌, codes, Result, Ok, Err}
+use Rattle.std.specs.Prelude.{true, false, [], ◌∷◌, codes, Result, Ok, Err}
+use Rattle.digest_kinds.specs.Basics.{ByteString}
 use Rattle.std.specs.List.{concat}
 use Rattle.sum_engine.specs.Behavior.{Fault, World, answer_to, digest_or_fault, Behavior, single_step}
 use Rattle.sum_sources.specs.Faults.{fault_text}
@@ -8,18 +9,18 @@ pub use Rattle.sum_engine.specs.declared.settings.Settings.{Settings}
 use Rattle.sum_lines.specs.Escape.{Profile, present, escape_by}
 
 -- TOOL: NAME: TEXT
-abbrev pub tool_line : Profile → List ℕ → List ℕ → List ℕ → List ℕ
+abbrev pub tool_line : Profile → ByteString → ByteString → ByteString → ByteString
 tool_line p tool name text = concat (tool ∷ codes ": " ∷ escape_by p name ∷ codes ": " ∷ text ∷ codes "\n" ∷ [])
 
 -- the line of a name that can't be opened or read
-abbrev pub fault_line : Profile → List ℕ → List ℕ → Fault → List ℕ
-fault_line p tool name fault = tool_line p tool name (fault_text fault)
+abbrev pub name_fault_line : Profile → ByteString → ByteString → Fault → ByteString
+name_fault_line p tool name fault = tool_line p tool name (fault_text fault)
 
 -- a name with this digest has its line written, and one with a fault the line of the fault
-abbrev pub generate_behavior_by : Settings → List ℕ → List ℕ → Result (List ℕ) Fault → Behavior
+abbrev pub generate_behavior_by : Settings → ByteString → ByteString → Result (ByteString) Fault → Behavior
 generate_behavior_by s tool name (Ok d) = single_step (name ∷ []) [] (line s.style s.kind name d) true
-generate_behavior_by s tool name (Err f) = single_step (name ∷ []) (fault_line present tool name f) [] false
+generate_behavior_by s tool name (Err f) = single_step (name ∷ []) (name_fault_line present tool name f) [] false
 
 -- the behavior of hashing a name in a world
-abbrev pub generate_behavior : Settings → List ℕ → World → List ℕ → Behavior
+abbrev pub generate_behavior : Settings → ByteString → World → ByteString → Behavior
 generate_behavior s tool w name = generate_behavior_by s tool name (digest_or_fault s.kind (answer_to w name))

@@ -1,14 +1,14 @@
-//! Hashing one name.
+//! The line of one name.
 ghost use Rattle.std.specs.Prelude.{◌≡◌, true, Ok, [], length};
 ghost use Rattle.sum_lines.specs.Lines.{line};
 ghost use Rattle.sum_engine.specs.Generation.{generate_behavior};
 ghost use Rattle.sum_engine.specs.refinement.FlushedWrites.{WritesAndFlushesBoth};
-ghost use Rattle.sum_engine.specs.Execution.{IsFlushed, FailuresMatch, ReadToEnd, OneMore};
+ghost use Rattle.sum_engine.specs.Execution.{IsFlushed, FailuresMatch, ReadToEnd, IsOneMore};
 ghost use Rattle.sum_engine.specs.Execution.{RefusalsMatch, Performs};
 
 use crate::hash_name::hash_name;
 use crate::inputs::Inputs;
-use crate::put_flushed::{outcome_after, put_fault_line};
+use crate::put_flushed::{outcome_after, put_name_fault_line};
 use crate::settings::Settings;
 use crate::stop::Stop;
 use crate::streams::{Outputs, Streams};
@@ -16,11 +16,11 @@ use digest_kinds::Digest;
 use sum_lines::{Sink, SinkFault, put_line};
 use sum_sources::{Input, PIECE, Source};
 
-/// Hashes the file of this name (`-` is standard input) and returns whether it was read to its end. Its line goes to
-/// `out`, or a line with the fault to `err` (coreutils manual, "md5sum invocation"), and is flushed.
+/// Hashes the file of this name (`-` is standard input). Its line goes to `out`, or a line with the fault to `err`
+/// (coreutils manual, "md5sum invocation"), and is flushed. Returns true only if the file was read to its end.
 ///
-/// `Stop::Memory` if the source has no memory to open it; nothing is then written. `Stop::Write` if an output fails; a
-/// prefix of the line was then written.
+/// `Stop::Memory` only if the source was refused memory to open the file; nothing is then written. `Stop::Write` if an
+/// output fails; a prefix of the line was then written.
 pub fn generate_one<I: Input + Drop, S: Source, O: Sink, E: Sink>(
     settings: &Settings,
     tool: &str,
@@ -32,24 +32,22 @@ pub fn generate_one<I: Input + Drop, S: Source, O: Sink, E: Sink>(
         streams.old streams.new result }
     ensures flushed { IsFlushed streams.old.outputs → IsFlushed streams.new.outputs }
     // Known or not, a stop has its cause: one refusal more of the source, or one failure more of one output.
-    ensures refusals { RefusalsMatch S.state OneMore streams.old.inputs streams.new.inputs result }
+    ensures refusals { RefusalsMatch S.state IsOneMore streams.old.inputs streams.new.inputs result }
     ensures failures { FailuresMatch streams.old.outputs streams.new.outputs result }
     // Known or not: true only if the file, or standard input, was read to its end.
     ensures read_to_end { result ≡ Ok true → ReadToEnd S.state streams.old.inputs streams.new.inputs }
 {
     let mut buffer = [0; PIECE];
-    match hash_name(settings.kind, name, &mut streams.inputs, &mut buffer) {
-        None => Err(Stop::Memory),
-        Some(outcome) => match outcome.into_result() {
-            Ok(digest) => {
-                let written = put_line_flushed(&mut streams.outputs, settings, name, &digest);
-                outcome_after(written, true)
-            }
-            Err(fault) => {
-                let written = put_fault_line(&mut streams.outputs, tool, name, fault);
-                outcome_after(written, false)
-            }
-        },
+    let outcome = hash_name(settings.kind, name, &mut streams.inputs, &mut buffer)?;
+    match outcome.into_result() {
+        Ok(digest) => {
+            let written = put_line_flushed(&mut streams.outputs, settings, name, &digest);
+            outcome_after(written, true)
+        }
+        Err(fault) => {
+            let written = put_name_fault_line(&mut streams.outputs, tool, name, fault);
+            outcome_after(written, false)
+        }
     }
 }
 

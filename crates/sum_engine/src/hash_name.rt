@@ -1,13 +1,13 @@
-//! Hashing one name.
-ghost use Rattle.std.specs.Prelude.{◌≡◌, ◌||◌, ◌∷◌, [], false, IfNone, IfSome, MatchOption};
+//! Opening a name and hashing what it gives.
+ghost use Rattle.std.specs.Prelude.{◌≡◌, ◌||◌, ◌∷◌, [], false, Ok, OnErr, IfSome, MatchResult};
 ghost use Rattle.sum_sources.specs.Contents.{Content};
 ghost use Rattle.sum_engine.specs.Behavior.{is_dash};
 
 use crate::inputs::Inputs;
 use digest_kinds::{AnyHasher, Digest, Hasher, Kind};
-use sum_sources::{Fault, Input, OpenFault, PIECE, Source, hash_input_over};
+use sum_sources::{Fault, Input, NoRoom, OpenFault, PIECE, Source, hash_input_over};
 
-/// The outcome of hashing a name.
+/// What became of a name that was to be hashed.
 #[derive(Drop)]
 pub(crate) enum HashOutcome {
     /// It was read to its end, and this is its digest.
@@ -41,20 +41,20 @@ ghost use Rattle.sum_engine.specs.refinement.HashName.{HashesName, IsRead, Refus
 ghost use Rattle.sum_engine.specs.refinement.HashName.{HasKindLen, digest_of_outcome};
 ghost use Rattle.sum_engine.specs.Execution.{InSomeWorld, AskedMore, KeepsStdin, ReadToEnd, Unfinished, AtEnd};
 
-/// Opens the name (`-` is standard input) and hashes it, through the buffer. `None` if the source is out of memory; the
-/// name is then not recorded as asked.
+/// Opens the file of this name (`-` is standard input) and hashes it. The file is read into the buffer, piece by piece.
+/// `NoRoom` if the source was refused memory; the name then doesn't count as asked.
 pub(crate) fn hash_name<I: Input + Drop, S: Source>(
     kind: Kind,
     name: &[u8],
     inputs: &mut Inputs<I, S>,
     buffer: &mut [u8; PIECE],
-) -> Option<HashOutcome>
+) -> Result<HashOutcome, NoRoom>
     ensures outcome { InSomeWorld S.state inputs.old inputs.new (λ w v. HashesName kind w v name.now result) }
     ensures asked { let asked = AskedMore (S.state inputs.old.source) (S.state inputs.new.source) in
-        MatchOption result (asked []) (λ _. asked (name.now ∷ [])) }
+        MatchResult result (λ _. asked (name.now ∷ [])) (λ _. asked []) }
     ensures stdin_taken { inputs.new.stdin_taken ≡ inputs.old.stdin_taken || is_dash name.now }
     ensures other_name { is_dash name.now ≡ false → KeepsStdin inputs.old inputs.new }
-    ensures stdin_kept { IfNone result (KeepsStdin inputs.old inputs.new) }
+    ensures stdin_kept { OnErr result (KeepsStdin inputs.old inputs.new) }
     ensures refusals { RefusedUnless (S.state inputs.old.source) (S.state inputs.new.source) result }
     ensures read_to_end { UnlessBroken result (ReadToEnd S.state inputs.old inputs.new) }
     ensures digest_len { HasKindLen kind result }
@@ -63,20 +63,21 @@ pub(crate) fn hash_name<I: Input + Drop, S: Source>(
         let mut input = inputs.take_stdin();
         let outcome = read_digest(&mut input, AnyHasher::new(kind), buffer);
         inputs.put_back_stdin(input);
-        return Some(outcome);
+        return Ok(outcome);
     }
     match inputs.open_file(name) {
         Ok(mut file) => {
             let outcome = read_digest(&mut file, AnyHasher::new(kind), buffer);
             inputs.close_file(file);
-            Some(outcome)
+            Ok(outcome)
         }
-        Err(OpenFault::Fault(fault)) => Some(HashOutcome::NotOpened(fault)),
-        Err(OpenFault::Memory) => None,
+        Err(OpenFault::Fault(fault)) => Ok(HashOutcome::NotOpened(fault)),
+        Err(OpenFault::Memory) => Err(NoRoom),
     }
 }
 
-// The outcome of reading a file. It is given the file and the hasher, and can make neither: so a fault is final.
+// Reads a file to its end. The caller passes in the open file and the hasher, so this function can't reopen the file
+// after a fault.
 fn read_digest<F: Input, H: Hasher + Drop>(
     file: &mut F,
     hasher: H,
@@ -85,8 +86,8 @@ fn read_digest<F: Input, H: Hasher + Drop>(
     requires { H.holds hasher [] }
     ensures outcome { (c : Content) × IfSome (F.state file.old).content (λ d. c ≡ d)
         × IsRead (H.kind_of hasher) c result }
-    ensures phase { UnlessBroken (Some result) ((F.state file.old).phase ≡ Unfinished → (F.state file.new).phase ≡ AtEnd) }
-    ensures digest_len { HasKindLen (H.kind_of hasher) (Some result) }
+    ensures phase { UnlessBroken (Ok result) ((F.state file.old).phase ≡ Unfinished → (F.state file.new).phase ≡ AtEnd) }
+    ensures digest_len { HasKindLen (H.kind_of hasher) (Ok result) }
 {
     match hash_input_over(file, hasher, buffer) {
         Ok(digest) => HashOutcome::Read(digest),

@@ -34,7 +34,7 @@ impl<I: Input, S> Model for Inputs<I, S> {
 }
 
 impl<I: Input + Drop, S: Source> Inputs<I, S> {
-    /// Takes standard input: what it has left the first time, and an empty input afterwards.
+    /// Takes standard input. The first time this is what standard input has left; afterwards it is an empty input.
     pub(crate) fn take_stdin(&mut self) -> Given<I>
         ensures content { (given_state I.state result).content ≡ self.old.input }
         ensures phase { self.old.stdin_taken ≡ false
@@ -44,7 +44,8 @@ impl<I: Input + Drop, S: Source> Inputs<I, S> {
         self.stdin.take()
     }
 
-    /// Puts back what `take_stdin` gave, so that its phase is known from then on. What is put back first stays.
+    /// Puts back what `take_stdin` gave, so that its phase is known from then on. If several are put back, the first that
+    /// has an input stays.
     pub(crate) fn put_back_stdin(&mut self, given: Given<I>)
         ensures phase { self.old.stdin_taken ≡ true → self.new ≡ record self.old {
           stdin_phase = option_or self.old.stdin_phase (option_map (λ input. (I.state input).phase) given);

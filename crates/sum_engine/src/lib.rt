@@ -1,12 +1,17 @@
-//! Hashes files, and checks files against manifests. [`Verdicts`] writes nothing: it is for a program that shows what
-//! it finds in its own way.
+//! Hashes files, and checks files against manifests. Here is what one name or one manifest means and writes: a crate that
+//! calls this one reads the command line, and this one may call `digest_kinds`, `sum_lines` and `sum_sources`.
+//! [`Verdicts`] writes nothing: it is for a program that shows what it finds in its own way.
 //!
 //! ```rust
-//! let stdin = Stdin::new(FromRead::new(rt.stdin()));
-//! let (out, err) = (FromWrite::new(rt.stdout()), FromWrite::new(rt.stderr()));
-//! let mut streams = Streams::new(stdin, Files::new(rt), out, err);
+//! let mut source = ToldSource::new(rt.alloc(), 8192);
+//! source.add(b"abc.txt", Answer::Content(b"abc", Ending::Whole))?;
+//! let list = b"900150983cd24fb0d6963f7d28e17f72  abc.txt\n";
+//! let stdin = Stdin::new(Told::new(list, Ending::Whole, 8192));
+//! let mut streams = Streams::new(stdin, source, ToldSink::<99>::new(99), ToldSink::<99>::new(99));
 //! let settings = CheckSettings::new(Algos::One(Algo::Md5));
-//! let good = check_one(rt.alloc(), settings, "md5sum", b"MD5SUMS", &mut streams)?;
+//! let good = check_one(rt.alloc(), settings, "md5sum", b"-", &mut streams);
+//! assert!(rt; good == Ok(true));
+//! assert!(rt; streams.outputs.out.bytes() == b"abc.txt: OK\n");
 //! ```
 #![tactic(auto)]
 

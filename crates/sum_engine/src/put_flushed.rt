@@ -2,7 +2,7 @@
 ghost use Rattle.std.specs.Prelude.{◌≡◌, []};
 ghost use Rattle.sum_lines.specs.Escape.{present};
 ghost use Rattle.sum_lines.specs.refinement.PartTexts.{parts_text};
-ghost use Rattle.sum_engine.specs.Generation.{tool_line, fault_line};
+ghost use Rattle.sum_engine.specs.Generation.{tool_line, name_fault_line};
 ghost use Rattle.sum_engine.specs.refinement.FlushedWrites.{WritesAndFlushes, WritesAndFlushesBoth, outcome_after};
 
 use crate::stop::Stop;
@@ -10,8 +10,7 @@ use crate::streams::Outputs;
 use sum_lines::{Part, Sink, SinkFault, put_parts};
 use sum_sources::Fault;
 
-/// Writes the parts of a line, one after another, and flushes it. A fault if that fails; then a prefix of the line was
-/// written.
+/// Writes the parts of a line, one after another, and flushes the sink. If that fails, a prefix of the line was written.
 pub(crate) fn put_parts_flushed<S: Sink>(sink: &mut S, parts: &[Part]) -> Result<(), SinkFault>
     ensures { WritesAndFlushes (S.state sink.old) (S.state sink.new) (parts_text parts.now) result }
 {
@@ -42,31 +41,31 @@ pub(crate) fn put_tool_line<'a, E: Sink>(
     )
 }
 
-/// The same for a name that could not be opened or read, to standard error.
-pub(crate) fn put_fault_line<O: Sink, E: Sink>(
+/// Writes `TOOL: NAME: TEXT` to standard error, for a name that can't be opened or read; the text is that of the fault.
+pub(crate) fn put_name_fault_line<O: Sink, E: Sink>(
     outputs: &mut Outputs<O, E>,
     tool: &str,
     name: &[u8],
     fault: Fault,
 ) -> Result<(), SinkFault>
-    ensures { WritesAndFlushesBoth outputs.old outputs.new (fault_line present tool.now name.now fault) [] result }
+    ensures { WritesAndFlushesBoth outputs.old outputs.new (name_fault_line present tool.now name.now fault) [] result }
 {
-    put_fault(&mut outputs.err, tool, name, fault)
+    put_name_fault(&mut outputs.err, tool, name, fault)
 }
 
-/// The same, to this sink.
-pub(crate) fn put_fault<E: Sink>(
+/// Writes the line of such a name to this sink.
+pub(crate) fn put_name_fault<E: Sink>(
     err: &mut E,
     tool: &str,
     name: &[u8],
     fault: Fault,
 ) -> Result<(), SinkFault>
-    ensures { WritesAndFlushes (E.state err.old) (E.state err.new) (fault_line present tool.now name.now fault) result }
+    ensures { WritesAndFlushes (E.state err.old) (E.state err.new) (name_fault_line present tool.now name.now fault) result }
 {
     put_tool_line(err, tool, name, fault.text().as_bytes())
 }
 
-/// The outcome of a call once its text was written; `Stop::Write` if that failed.
+/// What a call returns after its text: the outcome if the text was written, and otherwise `Stop::Write`.
 pub(crate) fn outcome_after<T: Drop>(written: Result<(), SinkFault>, outcome: T) -> Result<T, Stop>
     ensures { result ≡ outcome_after written outcome }
 {

@@ -8,7 +8,7 @@ use sum_lines::Sink;
 use sum_sources::{Input, Stdin};
 
 /// Both outputs.
-#[derive(Drop)]
+#[derive(Debug, Drop)]
 pub struct Outputs<O: Sink, E: Sink> {
     /// Standard output.
     pub out: O,
@@ -25,7 +25,7 @@ impl<O: Sink, E: Sink> Model for Outputs<O, E> {
 }
 
 /// What a call reads from and writes to. What contracts say of bytes assumes outputs that are flushed at the call.
-#[derive(Drop)]
+#[derive(Debug, Drop)]
 pub struct Streams<In, Out> {
     /// Where it opens and reads: [`Inputs`].
     pub inputs: In,
@@ -34,7 +34,7 @@ pub struct Streams<In, Out> {
 }
 
 impl<I: Input, S, O: Sink, E: Sink> Streams<Inputs<I, S>, Outputs<O, E>> {
-    /// These streams.
+    /// Streams of these parts.
     pub fn new(stdin: Stdin<I>, source: S, out: O, err: E) -> Self
         ensures source { result.inputs.source ≡ source }
         ensures input { result.inputs.input ≡ (stdin_state I.state stdin).content }

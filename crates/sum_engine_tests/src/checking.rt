@@ -349,3 +349,23 @@ fn mixed_tags(rt: HostRuntime) -> Result<(), Fail> {
     let want = (false, "", err);
     checks(&rt, ("anysum", settings), "-", plain, Ending::Whole, want)
 }
+
+// The example of the front page of `sum_engine`.
+#[test]
+fn front_page(rt: HostRuntime) -> Result<(), Fail> {
+    let mut source = ToldSource::new(rt.alloc(), 8192);
+    source.add(b"abc.txt", Answer::Content(b"abc", Ending::Whole))?;
+    let list = b"900150983cd24fb0d6963f7d28e17f72  abc.txt\n";
+    let stdin = Stdin::new(Told::new(list, Ending::Whole, 8192));
+    let mut streams = Streams::new(
+        stdin,
+        source,
+        ToldSink::<99>::new(99),
+        ToldSink::<99>::new(99),
+    );
+    let settings = CheckSettings::new(Algos::One(Algo::Md5));
+    let good = check_one(rt.alloc(), settings, "md5sum", b"-", &mut streams);
+    assert!(rt; good == Ok(true));
+    assert!(rt; streams.outputs.out.bytes() == b"abc.txt: OK\n");
+    Ok(())
+}

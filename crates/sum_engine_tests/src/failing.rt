@@ -133,7 +133,7 @@ const WRONG: &str = "md5sum: WARNING: 1 computed checksum did NOT match\n";
 
 // Checking the manifest, if one of `CONTENTS` is cut, after `places.0` bytes or more, and fewer than `places.1`.
 #[derive(Clone, Copy)]
-struct Row {
+struct Example {
     number: usize,
     places: (usize, usize),
     ending: Ending,
@@ -143,7 +143,7 @@ struct Row {
 
 const UNREAD: Verdict = Verdict::Unread(Fault::Denied);
 
-fn rows() -> [Row; 8] {
+fn examples() -> [Example; 8] {
     let (one, two) = ("a: OK\n", "a: OK\ne: OK\n");
     let fault = "md5sum: l: Permission denied\n";
     let right = &[Verdict::Right, Verdict::Right];
@@ -155,31 +155,31 @@ fn rows() -> [Row; 8] {
     let unread_e = ("a: OK\ne: FAILED open or read\n", no_e);
     let wrong_a = ("a: FAILED\ne: OK\n", WRONG);
     [
-        row_of(0, (0, 36), BROKEN, ("", fault), &[]),
-        row_of(0, (36, 72), BROKEN, (one, fault), &[Verdict::Right]),
-        row_of(0, (72, 73), BROKEN, (two, fault), right),
-        row_of(0, (35, 37), Ending::Whole, (one, ""), &[Verdict::Right]),
-        row_of(0, (71, 73), Ending::Whole, (two, ""), right),
-        row_of(1, (0, 4), BROKEN, unread_a, &[UNREAD, Verdict::Right]),
-        row_of(
+        example_of(0, (0, 36), BROKEN, ("", fault), &[]),
+        example_of(0, (36, 72), BROKEN, (one, fault), &[Verdict::Right]),
+        example_of(0, (72, 73), BROKEN, (two, fault), right),
+        example_of(0, (35, 37), Ending::Whole, (one, ""), &[Verdict::Right]),
+        example_of(0, (71, 73), Ending::Whole, (two, ""), right),
+        example_of(1, (0, 4), BROKEN, unread_a, &[UNREAD, Verdict::Right]),
+        example_of(
             1,
             (0, 3),
             Ending::Whole,
             wrong_a,
             &[Verdict::Wrong, Verdict::Right],
         ),
-        row_of(2, (0, 1), BROKEN, unread_e, &[Verdict::Right, UNREAD]),
+        example_of(2, (0, 1), BROKEN, unread_e, &[Verdict::Right, UNREAD]),
     ]
 }
 
-fn row_of(
+fn example_of(
     number: usize,
     places: (usize, usize),
     ending: Ending,
     texts: (&'static str, &'static str),
     verdicts: &'static [Verdict],
-) -> Row {
-    Row {
+) -> Example {
+    Example {
         number,
         places,
         ending,
@@ -188,7 +188,7 @@ fn row_of(
     }
 }
 
-impl Row {
+impl Example {
     fn is_good(&self) -> bool {
         self.texts.1.is_empty()
     }
@@ -222,13 +222,13 @@ impl Row {
 
 #[test]
 fn each_place(rt: HostRuntime) -> Result<(), Fail> {
-    for row in rows() {
-        for place in row.places.0..row.places.1 {
-            let cut = (row.number, place, row.ending);
-            check(&rt, &row, cut, ("l", "md5sum: l:"))?;
-            check(&rt, &row, cut, ("-", "md5sum: standard input:"))?;
-            step_by_step(&rt, &row, cut)?;
-            find(&rt, &row, cut)?;
+    for example in examples() {
+        for place in example.places.0..example.places.1 {
+            let cut = (example.number, place, example.ending);
+            check(&rt, &example, cut, ("l", "md5sum: l:"))?;
+            check(&rt, &example, cut, ("-", "md5sum: standard input:"))?;
+            step_by_step(&rt, &example, cut)?;
+            find(&rt, &example, cut)?;
         }
     }
     Ok(())
@@ -236,59 +236,68 @@ fn each_place(rt: HostRuntime) -> Result<(), Fail> {
 
 fn check(
     rt: &(impl Abort + AllocGlobal),
-    row: &Row,
+    example: &Example,
     cut: Cut,
     (name, shown): (&str, &str),
 ) -> Result<(), Fail> {
     let mut streams = stage(rt.alloc(), name, &CONTENTS, cut)?;
     let good = check_one(rt.alloc(), plain(), "md5sum", name.as_bytes(), &mut streams);
-    assert_eq!(rt; good, Ok(row.is_good()), "at {cut:?}");
-    let (out, err) = row.texts;
+    assert_eq!(rt; good, Ok(example.is_good()), "at {cut:?}");
+    let (out, err) = example.texts;
     let err = err.replace(rt.alloc(), "md5sum: l:", shown)?;
-    assert_as(rt, &streams, (out, err.as_str()), row.counts(name == "l"));
+    assert_as(
+        rt,
+        &streams,
+        (out, err.as_str()),
+        example.counts(name == "l"),
+    );
     Ok(())
 }
 
-fn step_by_step(rt: &(impl Abort + AllocGlobal), row: &Row, cut: Cut) -> Result<(), Fail> {
+fn step_by_step(rt: &(impl Abort + AllocGlobal), example: &Example, cut: Cut) -> Result<(), Fail> {
     let mut streams = stage(rt.alloc(), "l", &CONTENTS, cut)?;
     let input = streams.inputs.source.open_file(b"l").ok().ok_or("l")?;
     let mut checker = Checker::new(plain(), "md5sum", b"l", false, input);
     let mut line = Vec::new(rt.alloc());
-    for _ in row.verdicts {
+    for _ in example.verdicts {
         let step = checker.step(&mut line, &mut streams);
         assert_eq!(rt; step, Ok(Progress::Going), "at {cut:?}");
     }
     for _ in 0..2 {
         let last = checker.step(&mut line, &mut streams);
-        assert_eq!(rt; last, Ok(Progress::Ended(row.is_good())), "at {cut:?}");
+        assert_eq!(rt; last, Ok(Progress::Ended(example.is_good())), "at {cut:?}");
     }
     let input = checker.into_inner();
-    assert_eq!(rt; input.phase(), row.phase(), "at {cut:?}");
+    assert_eq!(rt; input.phase(), example.phase(), "at {cut:?}");
     streams.inputs.source.close_file(input);
-    assert_as(rt, &streams, row.texts, row.counts(true));
+    assert_as(rt, &streams, example.texts, example.counts(true));
     Ok(())
 }
 
-fn find(rt: &(impl Abort + AllocGlobal), row: &Row, cut: Cut) -> Result<(), Fail> {
+fn find(rt: &(impl Abort + AllocGlobal), example: &Example, cut: Cut) -> Result<(), Fail> {
     let mut inputs = stage(rt.alloc(), "l", &CONTENTS, cut)?.inputs;
     let input = inputs.source.open_file(b"l").ok().ok_or("l")?;
     let mut finds = Verdicts::new(plain(), false, input);
     let mut line = Vec::new(rt.alloc());
-    for verdict in row.verdicts {
+    for verdict in example.verdicts {
         let found = finds.next(&mut line, &mut inputs)?;
         assert_eq!(rt; found.ok_or("no line")?.verdict, *verdict, "at {cut:?}");
     }
-    let end = match row.phase() {
+    let end = match example.phase() {
         Phase::Failed => Err(LineStop::Fault(Fault::Denied)),
         _ => Ok(None),
     };
     for _ in 0..2 {
         let last = finds.next(&mut line, &mut inputs);
-        assert_eq!(rt; (last, finds.is_good()), (end, row.is_good()), "at {cut:?}");
+        assert_eq!(rt;
+            (last, finds.is_good()),
+            (end, example.is_good()),
+            "at {cut:?}"
+        );
     }
     let input = finds.into_inner();
-    assert_eq!(rt; input.phase(), row.phase(), "at {cut:?}");
+    assert_eq!(rt; input.phase(), example.phase(), "at {cut:?}");
     inputs.source.close_file(input);
-    assert_eq!(rt; inputs.source.counts(), row.counts(true), "at {cut:?}");
+    assert_eq!(rt; inputs.source.counts(), example.counts(true), "at {cut:?}");
     Ok(())
 }

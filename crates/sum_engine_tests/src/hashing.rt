@@ -72,7 +72,7 @@ fn faults(rt: HostRuntime) -> Result<(), Fail> {
     Ok(())
 }
 
-// The rows "first run" and "stdin fails": the digest of nothing (FIPS 180-4), and none of a part.
+// The examples "first run" and "stdin fails": the digest of nothing (FIPS 180-4), and none of a part.
 #[test]
 fn stdin_alone(rt: HostRuntime) {
     let settings = Settings {

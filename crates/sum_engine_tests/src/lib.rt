@@ -1,4 +1,4 @@
-//! Tests of `sum_engine`: worked rows of hashing and checking, over known files.
+//! Tests of `sum_engine`: worked examples of hashing and checking, over known files.
 #![tactic(auto)]
 
 #[cfg(test)]

@@ -5,7 +5,7 @@ ghost use Rattle.std.specs.Str.Lines.{strip_carriage_return};
 ghost use Rattle.sum_sources.specs.Contents.{IfKnown, KeepsTotal};
 
 use crate::inputs::size_limit::read_limited;
-use crate::{Fault, Input, PIECE, Phase};
+use crate::{Fault, Input, NoRoom, PIECE, Phase};
 use memchr::memchr;
 use std::alloc::{AllocError, Allocator};
 use std::marker::Model;
@@ -28,6 +28,17 @@ pub enum LineStop {
     Fault(Fault),
     #[error("memory exhausted")]
     Memory,
+}
+
+impl From<NoRoom> for LineStop {
+    ghost use Rattle.std.specs.Prelude.{◌≡◌};
+    ghost use Rattle.sum_sources.specs.declared.line_reader.LineStop.TheVariants.{Memory};
+
+    ghost from_gives = { λ _ stop. stop ≡ Memory };
+
+    fn from(_no_room: NoRoom) -> LineStop {
+        LineStop::Memory
+    }
 }
 
 #[derive(Clone, Copy, Debug, PartialEq, Eq)]

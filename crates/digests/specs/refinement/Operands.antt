@@ -1,7 +1,7 @@
 -- Relates a job to what it does with an operand.
 use Rattle.std.specs.Prelude.{ℕ}
 use Rattle.sum_engine.specs.Behavior.{World, Behavior}
-use Rattle.sum_engine.specs.Execution.{OneMore, OneMoreAtMost}
+use Rattle.sum_engine.specs.Execution.{IsOneMore, IsOneMoreAtMost}
 use Rattle.sum_engine.specs.Generation.{generate_behavior}
 use Rattle.sum_engine.specs.check.Checking.{check_behavior}
 use Rattle.sum_words.specs.Items.{ByteString}
@@ -15,5 +15,5 @@ operand_behavior (Check settings) tool w name = check_behavior settings tool w n
 
 -- how the count of refusals may change if a job runs out of memory
 abbrev pub JobAllowsRefusals : Job → ℕ → ℕ → Type 0
-JobAllowsRefusals (Generate settings) = OneMore
-JobAllowsRefusals (Check settings) = OneMoreAtMost
+JobAllowsRefusals (Generate settings) = IsOneMore
+JobAllowsRefusals (Check settings) = IsOneMoreAtMost

@@ -1,5 +1,6 @@
 -- The states of a manifest's check: what remains of it, and what was found so far.
 use Rattle.std.specs.Prelude.{ℕ, ◌≡◌, ◌+◌, ◌≤◌, List, [], ◌∷◌, length, None, option_map}
+use Rattle.digest_kinds.specs.Basics.{ByteString}
 use Rattle.sum_sources.specs.declared.line_reader.LineReader.{LineReader}
 use Rattle.sum_sources.specs.Contents.{Content, InputState, clip}
 use Rattle.sum_sources.specs.Sources.{SourceState}
@@ -8,7 +9,7 @@ use Rattle.sum_sources.specs.LineReaders.{remaining_content, MayRemain, consumed
 use Rattle.sum_lines.specs.declared.reading.read_line.Form.TheVariants.{Undecided}
 use Rattle.sum_lines.specs.grammar.Entries.{form_then, line_form, form}
 use Rattle.sum_lines.specs.grammar.ParsedLines.{parse_line}
-use Rattle.sum_engine.specs.check.Verdicts.{Form, Verdict, Ignored, Bad, Right, Wrong, Missing, Unread, lines_by, Rules, LineVerdictValue, judge, verdicts}
+use Rattle.sum_engine.specs.check.Verdicts.{Form, Verdict, Ignored, Bad, Right, Wrong, Missing, Unread, lines_under, Rules, LineVerdictValue, judge, verdicts}
 use Rattle.sum_engine.specs.Execution.{InputsState, MayBeIn}
 use Rattle.sum_engine.specs.check.Reports.{LabelsValue, Counts, counts_of, end_text, good}
 use Rattle.sum_engine.specs.Behavior.{World, Behavior}
@@ -52,14 +53,14 @@ initial_state c w =
     record { rest = c; number = 0; consumed = 0; taken = 0; form = Undecided; counts = no_counts; world = w }
 
 -- the next line's verdict
-abbrev pub next_judged : Rules → CheckState → List ℕ → LineVerdictValue
+abbrev pub next_judged : Rules → CheckState → ByteString → LineVerdictValue
 next_judged r a l =
     judge r a.world (a.number + 1) (parse_line r.profile r.algo (form_then a.form (line_form r.algo l)) l)
 
 -- the verdicts of the lines that remain
 abbrev pub remaining_verdicts : Rules → CheckState → List LineVerdictValue
 remaining_verdicts r a =
-    let ls = lines_by r.profile a.rest in
+    let ls = lines_under r.profile a.rest in
     verdicts r (form_then a.form (form r.algo ls)) a.world a.number ls
 
 -- the behavior that remains
@@ -73,9 +74,9 @@ remaining_behavior r labels a =
     }
 
 -- one line was handled; the line's vector then holds this
-pub record LineHandled (r : Rules) (a b : CheckState) (vector : List ℕ) : Type 0 where
-  pub line : List ℕ
-  pub lines : lines_by r.profile a.rest ≡ line ∷ lines_by r.profile b.rest
+pub record HandlesLine (r : Rules) (a b : CheckState) (vector : ByteString) : Type 0 where
+  pub line : ByteString
+  pub lines : lines_under r.profile a.rest ≡ line ∷ lines_under r.profile b.rest
   pub rest : b.rest ≡ past_line a.rest
   pub consumed : b.consumed + length b.rest.bytes ≡ a.consumed + length a.rest.bytes
   pub taken : b.taken ≤ b.consumed + 8192  -- at most so many bytes are read ahead

@@ -1,5 +1,6 @@
 -- The laws of a checker's steps over a whole manifest, of the lines that precede a line, and of the end.
 use Rattle.std.specs.Prelude.{ℕ, ◌≡◌, ◌+◌, ◌≤◌, ◌↔◌, Bool, List, [], ◌∷◌, take, length, flat_map, Option, Result, IfSome, ◌++◌, None, Ok, Err, slice_index_or}
+use Rattle.digest_kinds.specs.Basics.{ByteString}
 use Rattle.std.specs.Io.KnownBytes.{Appends}
 use Rattle.digest_kinds.specs.Kinds.{KindValue}
 use Rattle.sum_sources.specs.declared.line_reader.LineStop.TheVariants.{Fault}
@@ -11,12 +12,12 @@ use Rattle.sum_lines.specs.grammar.Shapes.{IsPlain}
 use Rattle.sum_lines.specs.grammar.Entries.{EntryValue, IsEntry, form}
 use Rattle.sum_engine.specs.Execution.{Stop, Write, StreamsState, WorldState, IsFlushed, InSomeWorld, in_world, AskedMore, Happened, PrefixHappened, PerformsSteps}
 use Rattle.sum_engine.specs.Behavior.{after, Behavior, trace, out_text, err_text, asks, Ending, Whole, Broken, World}
-use Rattle.sum_engine.specs.check.Verdicts.{lines_by, Rules, LineVerdictValue, asks_of, all_verdicts, verdicts}
+use Rattle.sum_engine.specs.check.Verdicts.{lines_under, Rules, LineVerdictValue, asks_of, all_verdicts, verdicts}
 use Rattle.sum_engine.specs.check.Reports.{LabelsValue, out_of, err_of, counts_of, end_text, good}
 use Rattle.sum_engine.specs.check.Checking.{content_behavior}
 use Rattle.sum_engine.specs.check.CheckStates.{CheckState, initial_state}
 use Rattle.sum_engine.specs.check.CheckerSteps.{Going, Ended, StepIs}
-use Rattle.sum_engine.specs.check.NextVerdict.{LineStop, LineVerdict, NoVerdictLeft, NextVerdictIs}
+use Rattle.sum_engine.specs.check.NextVerdict.{LineStop, LineVerdict, HasNoVerdictLeft, NextVerdictIs}
 
 -- a new checker ran to its end: in some world the behavior of its manifest, of which this is known
 abbrev pub ManifestPerforms : {S : Type 0} → (S → SourceState) → Rules → LabelsValue → Option Content → StreamsState S
@@ -36,7 +37,7 @@ EventsExtend = (r : Behavior) (a b : WorldState) → Happened a b (trace r.steps
     × Appends a.outputs.out.written b.outputs.out.written (out_text r)
 
 -- steps that each returned Going, one after another; the line's vector then held these
-abbrev pub StepsGoing : Rules → LabelsValue → CheckState → CheckState → WorldState → WorldState → List (List ℕ) → Type 0
+abbrev pub StepsGoing : Rules → LabelsValue → CheckState → CheckState → WorldState → WorldState → List ByteString → Type 0
 StepsGoing r labels a b s t [] = (b ≡ a) × (t ≡ s)
 StepsGoing r labels a b s t (vector ∷ vectors) = (m : CheckState) × (between : WorldState)
     × StepIs r labels vector a m s between (Ok Going) × StepsGoing r labels m b between t vectors
@@ -44,7 +45,7 @@ StepsGoing r labels a b s t (vector ∷ vectors) = (m : CheckState) × (between 
 -- the step that ends a manifest comes after all k lines, and writes exactly the summary or the fault line
 pub record EndsManifest (r : Rules) (labels : LabelsValue) (c : Content) (js : List LineVerdictValue) (k : ℕ)
     (a b : WorldState) (outcome : Bool) : Type 0 where
-  pub lines : k ≡ length (lines_by r.profile c)
+  pub lines : k ≡ length (lines_under r.profile c)
   pub good : outcome ≡ good r c.ending (counts_of js)
   pub err : Appends a.outputs.err.written b.outputs.err.written (end_text r labels c.ending (counts_of js))
   pub out : Appends a.outputs.out.written b.outputs.out.written []
@@ -53,7 +54,7 @@ pub record EndsManifest (r : Rules) (labels : LabelsValue) (c : Content) (js : L
 
 -- STEP BY STEP, for a manifest c that has these verdicts, once k steps returned Going
 pub record AfterSteps (r : Rules) (labels : LabelsValue) (c : Content) (js : List LineVerdictValue) (k : ℕ)
-    (vectors : List (List ℕ)) (b : CheckState) (s t : WorldState) : Type 0 where
+    (vectors : List ByteString) (b : CheckState) (s t : WorldState) : Type 0 where
   -- both outputs grew by exactly the reports of the first k lines, whose names were asked
   pub err : Appends s.outputs.err.written t.outputs.err.written (flat_map (err_of r labels) (take k js))
   pub out : Appends s.outputs.out.written t.outputs.out.written (flat_map (out_of r labels) (take k js))
@@ -62,41 +63,41 @@ pub record AfterSteps (r : Rules) (labels : LabelsValue) (c : Content) (js : Lis
   -- what the input gave goes at most 8192 bytes beyond the end of line k
   pub taken : b.taken + length (past_lines k c).bytes ≤ length c.bytes + 8192
   -- each vector holds at most as many bytes as its line
-  pub vector_lens : (i : ℕ) → length (slice_index_or vectors i []) ≤ length (slice_index_or (lines_by r.profile c) i [])
-  pub end : (outcome : Bool) (vector : List ℕ) (d : CheckState) (z : WorldState)
+  pub vector_lens : (i : ℕ) → length (slice_index_or vectors i []) ≤ length (slice_index_or (lines_under r.profile c) i [])
+  pub end : (outcome : Bool) (vector : ByteString) (d : CheckState) (z : WorldState)
       → StepIs r labels vector b d t z (Ok (Ended outcome)) → EndsManifest r labels c js k t z outcome
   -- if the next step fails to write, a prefix of the manifest's whole trace happened
-  pub cut : (vector : List ℕ) (d : CheckState) (z : WorldState) → StepIs r labels vector b d t z (Err Write)
+  pub cut : (vector : ByteString) (d : CheckState) (z : WorldState) → StepIs r labels vector b d t z (Err Write)
       → PrefixHappened s z (trace (content_behavior r labels c js).steps)
 
 abbrev pub StepsJoin : Type 0
 StepsJoin = (r : Rules) (labels : LabelsValue) (c : Content) (b : CheckState) (s t : WorldState)
-    (vectors : List (List ℕ)) → StepsGoing r labels (initial_state c s.world) b s t vectors
+    (vectors : List ByteString) → StepsGoing r labels (initial_state c s.world) b s t vectors
     → AfterSteps r labels c (all_verdicts r s.world c) (length vectors) vectors b s t
 
 -- a line after the same lines, in two manifests: it spells the same entry; the verdicts up to its own are the same
 -- after the same asks; and if it is plain, the form is the same
-pub record FrontIsSame (r : Rules) (w : World) (before : List (List ℕ)) (line : List ℕ) (later others : List (List ℕ))
+pub record FrontIsSame (r : Rules) (w : World) (before : List ByteString) (line : ByteString) (later others : List ByteString)
     : Type 0 where
   pub entry : (s : EntryValue) → IsEntry escape r.algo (form r.algo (before ++ (line ∷ later))) line s
       ↔ IsEntry escape r.algo (form r.algo (before ++ (line ∷ others))) line s
   pub verdict :
       take (length before + 1) (verdicts r (form r.algo (before ++ (line ∷ later))) w 0 (before ++ (line ∷ later)))
       ≡ take (length before + 1) (verdicts r (form r.algo (before ++ (line ∷ others))) w 0 (before ++ (line ∷ others)))
-  pub form : (e : Bool) (kind : KindValue) (d tail : List ℕ) → IsPlain r.algo line e kind d tail
+  pub form : (e : Bool) (kind : KindValue) (d tail : ByteString) → IsPlain r.algo line e kind d tail
       → form r.algo (before ++ (line ∷ later)) ≡ form r.algo (before ++ (line ∷ others))
 
 -- later lines have no part in any of this; nor has a manifest's name, which the rules don't hold
 abbrev pub SameFront : Type 0
-SameFront = (r : Rules) (w : World) (before : List (List ℕ)) (line : List ℕ) (later others : List (List ℕ))
+SameFront = (r : Rules) (w : World) (before : List ByteString) (line : ByteString) (later others : List ByteString)
     → FrontIsSame r w before line later others
 
 -- what is returned if no verdict is left and the manifest ends so
-abbrev pub ended_by : Ending → Result (Option LineVerdict) LineStop
-ended_by Whole = Ok None
-ended_by (Broken f) = Err (Fault f)
+abbrev pub ending_answer : Ending → Result (Option LineVerdict) LineStop
+ending_answer Whole = Ok None
+ending_answer (Broken f) = Err (Fault f)
 
 -- once that was returned, it is returned again
 abbrev pub EndStays : Type 0
-EndStays = (r : Rules) (e : Ending) (vector : List ℕ) (a b c : CheckState) (x : Result (Option LineVerdict) LineStop)
-    → NoVerdictLeft r e a b → NextVerdictIs r vector b c x → x ≡ ended_by e
+EndStays = (r : Rules) (e : Ending) (vector : ByteString) (a b c : CheckState) (x : Result (Option LineVerdict) LineStop)
+    → HasNoVerdictLeft r e a b → NextVerdictIs r vector b c x → x ≡ ending_answer e

@@ -1,15 +1,16 @@
 -- A checker, and what its next step does.
-use Rattle.std.specs.Prelude.{ℕ, Bool, true, false, ◌≡◌, List, [], ◌∷◌, Option, None, Some, Result, Ok, Err}
+use Rattle.std.specs.Prelude.{Bool, true, false, ◌≡◌, List, [], ◌∷◌, Option, None, Some, Result, Ok, Err}
+use Rattle.digest_kinds.specs.Basics.{ByteString}
 pub use Rattle.sum_engine.specs.declared.check.progress.Progress.{Progress}
 pub use Rattle.sum_engine.specs.declared.check.progress.Progress.TheVariants.{Going, Ended}
 use Rattle.sum_sources.specs.declared.line_reader.LineStop.TheVariants.{Fault, Memory}
 use Rattle.sum_sources.specs.Sources.{SourceState}
 use Rattle.sum_sources.specs.Contents.{InputState}
 use Rattle.sum_engine.specs.check.Verdicts.{Rules}
-use Rattle.sum_engine.specs.Execution.{Stop, Write, WorldState, PerformsSteps, StreamsState, IsFlushed, FailuresMatch, NoOutputOnMemory, in_world}
+use Rattle.sum_engine.specs.Execution.{Stop, Write, WorldState, PerformsSteps, StreamsState, IsFlushed, FailuresMatch, KeepsOutputsOnMemory, in_world}
 use Rattle.sum_engine.specs.check.Reports.{LabelsValue, good}
 use Rattle.sum_engine.specs.Behavior.{Whole, Step, Behavior}
-use Rattle.sum_engine.specs.check.CheckStates.{CheckState, LineHandled, remaining_behavior, CursorValue, InSomeCheck}
+use Rattle.sum_engine.specs.check.CheckStates.{CheckState, HandlesLine, remaining_behavior, CursorValue, InSomeCheck}
 use Rattle.sum_engine.specs.check.NextVerdict.{VerdictResult, AdvancesVerdicts}
 use Rattle.sum_engine.specs.declared.stop.Stop.TheVariants as stops
 
@@ -24,16 +25,16 @@ progress_before steps good = Going
 
 -- what a step does from a to b, and of the streams from s to t: it performs the first step of the behavior that
 -- remained; if it returns Going, a line was handled, and the others remain
-pub record StepIs (r : Rules) (labels : LabelsValue) (vector : List ℕ) (a b : CheckState) (s t : WorldState)
+pub record StepIs (r : Rules) (labels : LabelsValue) (vector : ByteString) (a b : CheckState) (s t : WorldState)
     (x : Result Progress Stop) : Type 0 where
   pub step : Step
   pub later : Behavior
   pub is : remaining_behavior r labels a ≡ step_then step later
   pub performs : PerformsSteps (step ∷ []) (progress_before later.steps later.good) s t x
-  pub going : x ≡ Ok Going → (later ≡ remaining_behavior r labels b) × LineHandled r a b vector
+  pub going : x ≡ Ok Going → (later ≡ remaining_behavior r labels b) × HandlesLine r a b vector
 
 -- a step in some world, if both outputs are flushed at the call
-abbrev pub TakesStep : {I S : Type 0} → (I → InputState) → (S → SourceState) → List ℕ → LabelsValue → CursorValue I
+abbrev pub TakesStep : {I S : Type 0} → (I → InputState) → (S → SourceState) → ByteString → LabelsValue → CursorValue I
     → CursorValue I → StreamsState S → StreamsState S → Result Progress Stop → Type 0
 TakesStep input source vector labels p q a b x = IsFlushed a.outputs → InSomeCheck input source p q a.inputs b.inputs
     (λ c d. StepIs p.rules labels vector c d (in_world source a c.world) (in_world source b d.world) x)
@@ -58,7 +59,7 @@ step_answer p (Ok None) false = Ok (Ended (good p.rules Whole p.counts))
 step_answer p (Err (Fault f)) false = Ok (Ended false)
 
 -- what a step does to the checker, the files and the outputs, known or not
-pub record AdvancesChecker {I S : Type 0} (input : I → InputState) (source : S → SourceState) (vector : List ℕ)
+pub record AdvancesChecker {I S : Type 0} (input : I → InputState) (source : S → SourceState) (vector : ByteString)
     (p q : CheckerValue I) (a b : StreamsState S) (x : Result Progress Stop) : Type 0 where
   pub labels : q.labels ≡ p.labels
   pub final_answer : q.final_answer ≡ final_answer_of_step x
@@ -68,4 +69,4 @@ pub record AdvancesChecker {I S : Type 0} (input : I → InputState) (source : S
   pub verdict : AdvancesVerdicts input source vector p.cursor q.cursor a.inputs b.inputs found
   pub answer : x ≡ step_answer q.cursor found failed
   pub failures : FailuresMatch a.outputs b.outputs x
-  pub no_output_on_memory : NoOutputOnMemory a.outputs b.outputs x
+  pub no_output_on_memory : KeepsOutputsOnMemory a.outputs b.outputs x

@@ -1,12 +1,13 @@
 -- The behavior of checking one manifest.
-use Rattle.std.specs.Prelude.{ℕ, true, false, List, [], ◌∷◌, length, codes, Bool, if◌then◌else◌, Ok, Err}
+use Rattle.std.specs.Prelude.{true, false, List, [], ◌∷◌, length, codes, Bool, if◌then◌else◌, Ok, Err}
+use Rattle.digest_kinds.specs.Basics.{ByteString}
 use Rattle.sum_sources.specs.Contents.{Content, clip}
 use Rattle.sum_sources.specs.Sources.{Answer}
 use Rattle.sum_sources.specs.ManifestLines.{past_line}
 use Rattle.sum_engine.specs.check.Verdicts.{Rules, LineVerdictValue, asks_of, all_verdicts}
 use Rattle.sum_engine.specs.Behavior.{World, is_dash, answer_to, after, behavior_then, Step, Behavior, single_step}
 use Rattle.sum_lines.specs.Escape.{present}
-use Rattle.sum_engine.specs.Generation.{fault_line}
+use Rattle.sum_engine.specs.Generation.{name_fault_line}
 pub use Rattle.sum_engine.specs.declared.settings.CheckSettings.{CheckSettings}
 use Rattle.sum_engine.specs.check.Reports.{LabelsValue, out_of, err_of, counts_of, end_text, good}
 
@@ -16,12 +17,12 @@ rules_of s dash =
     record { profile = present; algo = s.algo; ignore_missing = s.ignore_missing; strict = s.strict; from_stdin = dash }
 
 -- what the tool's reports of a manifest of that name show
-abbrev pub labels_of : CheckSettings → List ℕ → List ℕ → LabelsValue
+abbrev pub labels_of : CheckSettings → ByteString → ByteString → LabelsValue
 labels_of settings tool name =
     record { tool = tool; manifest = if is_dash name then codes "standard input" else name; report = settings.report }
 
 -- a step for each line of the content, by these verdicts, and one for the end, which has that text
-abbrev pub line_steps : Rules → LabelsValue → List ℕ → Content → List LineVerdictValue → List Step
+abbrev pub line_steps : Rules → LabelsValue → ByteString → Content → List LineVerdictValue → List Step
 line_steps r labels end content [] = record { names = []; err = end; out = []; remaining = length content.bytes } ∷ []
 line_steps r labels end content (j ∷ js) =
     record { names = asks_of j; err = err_of r labels j; out = out_of r labels j; remaining = length content.bytes }
@@ -35,13 +36,13 @@ content_behavior r labels content js = let counts = counts_of js in record {
 }
 
 -- a manifest of that name, opened with this answer, in the world after that
-abbrev pub check_behavior_by : Rules → LabelsValue → List ℕ → World → Answer → Behavior
+abbrev pub check_behavior_by : Rules → LabelsValue → ByteString → World → Answer → Behavior
 check_behavior_by r labels name w (Err f) =
-    single_step (name ∷ []) (fault_line r.profile labels.tool labels.manifest f) [] false
+    single_step (name ∷ []) (name_fault_line r.profile labels.tool labels.manifest f) [] false
 check_behavior_by r labels name w (Ok content) = behavior_then (single_step (name ∷ []) [] [] true)
     (content_behavior r labels (clip content) (all_verdicts r w (clip content)))
 
 -- the behavior of checking the manifest of that name in a world
-abbrev pub check_behavior : CheckSettings → List ℕ → World → List ℕ → Behavior
+abbrev pub check_behavior : CheckSettings → ByteString → World → ByteString → Behavior
 check_behavior settings tool w name = check_behavior_by (rules_of settings (is_dash name))
     (labels_of settings tool name) name (after w (name ∷ [])) (answer_to w name)

@@ -1,5 +1,6 @@
 -- What the next verdict of a manifest is; no text is written.
-use Rattle.std.specs.Prelude.{ℕ, ◌≡◌, ◌+◌, ◌≤◌, ◌<◌, ◌⊎◌, ◌||◌, List, [], ◌∷◌, length, slice_range, Bool, true, false, Option, None, Some, IfSome, Result, Ok, Err}
+use Rattle.std.specs.Prelude.{◌≡◌, ◌+◌, ◌≤◌, ◌<◌, ◌⊎◌, ◌||◌, List, [], ◌∷◌, length, slice_range, Bool, true, false, Option, None, Some, IfSome, Result, Ok, Err}
+use Rattle.digest_kinds.specs.Basics.{ByteString}
 use Rattle.std.specs.List.{list_any}
 use Rattle.digest_kinds.specs.Limits.{one_more}
 use Rattle.sum_engine.specs.Behavior.{Ending, Whole, Broken, is_dash, after}
@@ -11,7 +12,7 @@ use Rattle.sum_sources.specs.Sources.{SourceState}
 use Rattle.sum_sources.specs.ManifestLines.{HasNoNewline}
 use Rattle.sum_sources.specs.LineReaders.{remaining_content, IsBounded, IsReadSoFar}
 use Rattle.sum_engine.specs.Execution.{InputsState, KeepsStdin, ReadToEnd, AskedMore}
-use Rattle.sum_engine.specs.check.CheckStates.{CheckState, CursorValue, counts_with, LineHandled, remaining_verdicts, InSomeCheck}
+use Rattle.sum_engine.specs.check.CheckStates.{CheckState, CursorValue, counts_with, HandlesLine, remaining_verdicts, InSomeCheck}
 pub use Rattle.sum_engine.specs.declared.check.judge.LineVerdict.{LineVerdict}
 use Rattle.sum_engine.specs.check.Verdicts.{Rules, LineVerdictValue, asks_of}
 use Rattle.sum_engine.specs.check.Reports.{Counts, is_unread}
@@ -21,23 +22,23 @@ abbrev pub VerdictResult : Type 0
 VerdictResult = Result (Option LineVerdict) LineStop
 
 -- the line's verdict, with its name in place of the name's range in the vector
-abbrev pub line_verdict_value : List ℕ → LineVerdict → LineVerdictValue
+abbrev pub line_verdict_value : ByteString → LineVerdict → LineVerdictValue
 line_verdict_value vector v =
     record { number = v.number; verdict = v.verdict; name = slice_range vector v.start v.stop }
 
 -- the range is within the vector
-pub record HasNameRange (vector : List ℕ) (v : LineVerdict) : Type 0 where
+pub record HasNameRange (vector : ByteString) (v : LineVerdict) : Type 0 where
   pub start : v.start ≤ v.stop
   pub stop : v.stop ≤ length vector
 
 -- a line was judged, which is the first of those that remained; its name was opened, if its verdict asks it
-pub record VerdictFound (r : Rules) (a b : CheckState) (j : LineVerdictValue) : Type 0 where
+pub record FindsFirstVerdict (r : Rules) (a b : CheckState) (j : LineVerdictValue) : Type 0 where
   pub first : remaining_verdicts r a ≡ j ∷ remaining_verdicts r b
   pub world : b.world ≡ after a.world (asks_of j)
   pub counts : b.counts ≡ counts_with a.counts j.verdict
 
 -- no line remained, and the manifest ends so; nothing was opened, and only that ending remains
-pub record NoVerdictLeft (r : Rules) (e : Ending) (a b : CheckState) : Type 0 where
+pub record HasNoVerdictLeft (r : Rules) (e : Ending) (a b : CheckState) : Type 0 where
   pub none : remaining_verdicts r a ≡ []
   pub ending : a.rest.ending ≡ e
   pub world : b.world ≡ a.world
@@ -45,14 +46,14 @@ pub record NoVerdictLeft (r : Rules) (e : Ending) (a b : CheckState) : Type 0 wh
   pub rest : b.rest ≡ record { bytes = []; ending = e }
 
 -- what the next verdict is, by what the call returns
-abbrev pub NextVerdictIs : Rules → List ℕ → CheckState → CheckState → VerdictResult → Type 0
-NextVerdictIs r vector a b (Ok (Some v)) = VerdictFound r a b (line_verdict_value vector v) × LineHandled r a b vector
-NextVerdictIs r vector a b (Ok None) = NoVerdictLeft r Whole a b
-NextVerdictIs r vector a b (Err (Fault f)) = NoVerdictLeft r (Broken f) a b
+abbrev pub NextVerdictIs : Rules → ByteString → CheckState → CheckState → VerdictResult → Type 0
+NextVerdictIs r vector a b (Ok (Some v)) = FindsFirstVerdict r a b (line_verdict_value vector v) × HandlesLine r a b vector
+NextVerdictIs r vector a b (Ok None) = HasNoVerdictLeft r Whole a b
+NextVerdictIs r vector a b (Err (Fault f)) = HasNoVerdictLeft r (Broken f) a b
 NextVerdictIs r vector a b (Err Memory) = (b.world ≡ a.world) × (0 < length a.rest.bytes)
 
 -- the same between two places and inputs, in some world
-abbrev pub FindsVerdict : {I S : Type 0} → (I → InputState) → (S → SourceState) → List ℕ → CursorValue I → CursorValue I
+abbrev pub FindsVerdict : {I S : Type 0} → (I → InputState) → (S → SourceState) → ByteString → CursorValue I → CursorValue I
     → InputsState S → InputsState S → VerdictResult → Type 0
 FindsVerdict input source vector p q a b x = InSomeCheck input source p q a b (λ c d. NextVerdictIs p.rules vector c d x)
 
@@ -82,12 +83,12 @@ UnlessUnread (Ok (Some v)) P = is_unread v.verdict ≡ false → P
 UnlessUnread x P = P
 
 -- whether standard input is taken once that verdict was found
-abbrev pub stdin_taken_after : Bool → List ℕ → VerdictResult → Bool
+abbrev pub stdin_taken_after : Bool → ByteString → VerdictResult → Bool
 stdin_taken_after taken vector (Ok (Some v)) = taken || list_any is_dash (asks_of (line_verdict_value vector v))
 stdin_taken_after taken vector x = taken
 
 -- the names that such a call asks
-abbrev pub names_of_result : List ℕ → VerdictResult → List (List ℕ)
+abbrev pub names_of_result : ByteString → VerdictResult → List ByteString
 names_of_result vector (Ok (Some v)) = asks_of (line_verdict_value vector v)
 names_of_result vector x = []
 
@@ -114,7 +115,7 @@ pub record AdvancesCursor {I : Type 0} (state : I → InputState) (a b : CursorV
   pub bounds : IsBounded b.reader
 
 -- what such a call does, known or not
-pub record AdvancesVerdicts {I S : Type 0} (input : I → InputState) (source : S → SourceState) (vector : List ℕ)
+pub record AdvancesVerdicts {I S : Type 0} (input : I → InputState) (source : S → SourceState) (vector : ByteString)
     (p q : CursorValue I) (a b : InputsState S) (x : VerdictResult) : Type 0 where
   pub cursor : AdvancesCursor input p q x
   pub out_of_memory : MemoryStopHasCause (source a.source) (source b.source) (remaining_content input p.reader) x

@@ -1,11 +1,12 @@
 -- The law of old verdicts: a manifest of the time of older versions is checked alike under both profiles.
-use Rattle.std.specs.Prelude.{ℕ, ◌≡◌, ◌≢◌, ◌<◌, false, List, [], ◌∷◌, length, map, codes, All, Ok}
+use Rattle.std.specs.Prelude.{◌≡◌, ◌≢◌, ◌<◌, false, [], ◌∷◌, length, map, codes, All, Ok}
+use Rattle.digest_kinds.specs.Basics.{ByteString}
 use Rattle.sum_engine.specs.check.Reports.{LabelsValue, out_of, err_of, counts_of, end_text, good}
 use Rattle.sum_engine.specs.Behavior.{Whole, World}
 use Rattle.sum_sources.specs.Contents.{Content, clip}
 use Rattle.sum_sources.specs.Sources.{Answer}
 use Rattle.sum_sources.specs.ManifestLines.{raw_lines}
-use Rattle.sum_engine.specs.check.Verdicts.{Algos, Form, lines_by, Rules, all_verdicts}
+use Rattle.sum_engine.specs.check.Verdicts.{Algos, Form, lines_under, Rules, all_verdicts}
 use Rattle.sum_lines.specs.Escape.{Profile, present, escape, escape_by}
 use Rattle.sum_lines.specs.grammar.Entries.{EntryValue, IsEntry, form}
 use Rattle.sum_lines.specs.grammar.ParsedLines.{bad, parse_line}
@@ -20,24 +21,24 @@ abbrev pub rules_under : Profile → Rules → Rules
 rules_under p r = record r { profile = p }
 
 -- no byte is a carriage return
-abbrev pub NoReturn : List ℕ → Type 0
-NoReturn bytes = All (λ b. b ≢ 13) bytes
+abbrev pub HasNoCarriageReturn : ByteString → Type 0
+HasNoCarriageReturn bytes = All (λ b. b ≢ 13) bytes
 
 -- the line names no file with a carriage return; without such a byte it could by the escape `\r` alone
-abbrev pub NamesNoReturn : Algos → Form → List ℕ → Type 0
-NamesNoReturn algos f line = (s : EntryValue) → IsEntry escape algos f line s → NoReturn s.name
+abbrev pub NamesNoCarriageReturn : Algos → Form → ByteString → Type 0
+NamesNoCarriageReturn algos f line = (s : EntryValue) → IsEntry escape algos f line s → HasNoCarriageReturn s.name
 
 -- a manifest without a carriage return, neither in its own name nor as a byte nor as the escape `\r` in a name, and
 -- without an empty line
 pub record IsOldManifest (r : Rules) (labels : LabelsValue) (c : Content) : Type 0 where
-  pub own_name : NoReturn labels.manifest
-  pub no_byte : NoReturn c.bytes
-  pub no_escape : All (NamesNoReturn r.algo (form r.algo (raw_lines c))) (raw_lines c)
+  pub own_name : HasNoCarriageReturn labels.manifest
+  pub no_byte : HasNoCarriageReturn c.bytes
+  pub no_escape : All (NamesNoCarriageReturn r.algo (form r.algo (raw_lines c))) (raw_lines c)
   pub no_empty : All (λ line. 0 < length line) (raw_lines c)
 
 -- two kinds of rules find the same verdicts in a manifest, write the same for each of its lines and for its end, and
 -- find it good or not alike
-pub record SameChecks (r s : Rules) (labels : LabelsValue) (w : World) (c : Content) : Type 0 where
+pub record ChecksAlike (r s : Rules) (labels : LabelsValue) (w : World) (c : Content) : Type 0 where
   pub verdicts : all_verdicts r w c ≡ all_verdicts s w c
   pub outs : map (out_of r labels) (all_verdicts r w c) ≡ map (out_of s labels) (all_verdicts s w c)
   pub errs : map (err_of r labels) (all_verdicts r w c) ≡ map (err_of s labels) (all_verdicts s w c)
@@ -48,11 +49,11 @@ pub record SameChecks (r s : Rules) (labels : LabelsValue) (w : World) (c : Cont
 -- such a manifest is checked alike under both profiles, whatever was asked before
 abbrev pub OldVerdicts : Type 0
 OldVerdicts = (r : Rules) (labels : LabelsValue) (w : World) (c : Content) → IsOldManifest r labels c
-    → SameChecks (rules_under older r) (rules_under present r) labels w c
+    → ChecksAlike (rules_under older r) (rules_under present r) labels w c
 
 -- so its whole behavior is the same, also if the manifest can't be opened
 abbrev pub OldOutcomes : Type 0
-OldOutcomes = (r : Rules) (labels : LabelsValue) (name : List ℕ) (w : World) (answer : Answer) → NoReturn labels.manifest
+OldOutcomes = (r : Rules) (labels : LabelsValue) (name : ByteString) (w : World) (answer : Answer) → HasNoCarriageReturn labels.manifest
     → ((c : Content) → answer ≡ Ok c → IsOldManifest r labels (clip c))
     → check_behavior_by (rules_under older r) labels name w answer
     ≡ check_behavior_by (rules_under present r) labels name w answer
@@ -61,5 +62,5 @@ OldOutcomes = (r : Rules) (labels : LabelsValue) (name : List ℕ) (w : World) (
 -- line is improperly formatted
 abbrev pub OlderDiffers : Type 0
 OlderDiffers = (escape_by older (codes "\r") ≡ codes "\r")
-    × (lines_by older (record { bytes = codes "a\r\n"; ending = Whole }) ≡ codes "a\r" ∷ [])
+    × (lines_under older (record { bytes = codes "a\r\n"; ending = Whole }) ≡ codes "a\r" ∷ [])
     × ((algos : Algos) (f : Form) → parse_line older algos f [] ≡ bad)

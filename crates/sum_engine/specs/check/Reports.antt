@@ -1,5 +1,6 @@
 -- What checking writes: the reports of the lines, and the end of a manifest.
 use denote.Enum.Bare.{sameb}
+use Rattle.digest_kinds.specs.Basics.{ByteString}
 use Rattle.std.specs.Prelude.{ℕ, ◌+◌, ◌==◌, ◌&&◌, ◌||◌, Bool, true, false, not, List, [], ◌∷◌, ◌++◌, decimal, codes, filter, length, if◌then◌else◌}
 use Rattle.std.specs.List.{concat}
 use Rattle.sum_lines.specs.grammar.Shapes.{One, Any, mark}
@@ -11,60 +12,60 @@ use Rattle.sum_engine.specs.declared.settings.Report.TheVariants.{Quiet, Warn, S
 use Rattle.sum_engine.specs.contracts.check.judge.Verdict.{the_type}
 use Rattle.sum_engine.specs.check.Verdicts.{Algos, Verdict, Bad, Right, Wrong, Missing, Unread, Rules, LineVerdictValue}
 use Rattle.sum_lines.specs.Escape.{Profile, escape_by, escape_differs}
-use Rattle.sum_engine.specs.Generation.{tool_line, fault_line}
+use Rattle.sum_engine.specs.Generation.{tool_line, name_fault_line}
 
 -- what the reports of a manifest show: the tool's name, the manifest's, and which lines
 pub record LabelsValue : Type 0 where
-  pub tool : List ℕ
-  pub manifest : List ℕ
+  pub tool : ByteString
+  pub manifest : ByteString
   pub report : Report
 
 -- NAME: TEXT, after a backslash if the name's escape differs from it
-abbrev pub name_line : Profile → List ℕ → List ℕ → List ℕ
+abbrev pub name_line : Profile → ByteString → ByteString → ByteString
 name_line p name text = concat (mark (escape_differs p name) ∷ escape_by p name ∷ codes ": " ∷ text ∷ codes "\n" ∷ [])
 
 -- the line of a verdict
-abbrev pub verdict_line : Profile → Verdict → List ℕ → List ℕ
+abbrev pub verdict_line : Profile → Verdict → ByteString → ByteString
 verdict_line p Right name = name_line p name (codes "OK")
 verdict_line p Wrong name = name_line p name (codes "FAILED")
 verdict_line p (Unread f) name = name_line p name (codes "FAILED open or read")
 verdict_line p v name = []
 
 -- a line's report on standard output
-abbrev pub out_by : Profile → Report → Verdict → List ℕ → List ℕ
+abbrev pub out_by : Profile → Report → Verdict → ByteString → ByteString
 out_by p Quiet Right name = []
 out_by p Status v name = []
 out_by p report v name = verdict_line p v name
 
-abbrev pub out_of : Rules → LabelsValue → LineVerdictValue → List ℕ
+abbrev pub out_of : Rules → LabelsValue → LineVerdictValue → ByteString
 out_of r labels j = out_by r.profile labels.report j.verdict j.name
 
 -- the word for the tag in a report
-abbrev pub tag_word : Algos → List ℕ
+abbrev pub tag_word : Algos → ByteString
 tag_word (One a) = tag a
 tag_word Any = codes "tagged"
 
 -- TOOL: MANIFEST: N: improperly formatted TAG checksum line
-abbrev pub bad_line : Rules → LabelsValue → ℕ → List ℕ
+abbrev pub bad_line : Rules → LabelsValue → ℕ → ByteString
 bad_line r labels n = concat (labels.tool ∷ codes ": " ∷ escape_by r.profile labels.manifest ∷ codes ": " ∷ decimal n
     ∷ codes ": improperly formatted " ∷ tag_word r.algo ∷ codes " checksum line\n" ∷ [])
 
 -- a text that is shown under `Warn` alone, and one that is not shown under `Status`
-abbrev pub if_warn : Report → List ℕ → List ℕ
+abbrev pub if_warn : Report → ByteString → ByteString
 if_warn Warn text = text
 if_warn report text = []
 
-abbrev pub unless_status : Report → List ℕ → List ℕ
+abbrev pub unless_status : Report → ByteString → ByteString
 unless_status Status text = []
 unless_status report text = text
 
 -- a line's report on standard error: one that is improperly formatted is named under `Warn` alone
-abbrev pub err_by : Rules → LabelsValue → ℕ → Verdict → List ℕ → List ℕ
+abbrev pub err_by : Rules → LabelsValue → ℕ → Verdict → ByteString → ByteString
 err_by r labels n Bad name = if_warn labels.report (bad_line r labels n)
-err_by r labels n (Unread f) name = fault_line r.profile labels.tool name f
+err_by r labels n (Unread f) name = name_fault_line r.profile labels.tool name f
 err_by r labels n v name = []
 
-abbrev pub err_of : Rules → LabelsValue → LineVerdictValue → List ℕ
+abbrev pub err_of : Rules → LabelsValue → LineVerdictValue → ByteString
 err_of r labels j = err_by r labels j.number j.verdict j.name
 
 -- whether it is `Unread`, by whatever fault
@@ -73,29 +74,29 @@ is_unread (Unread f) = true
 is_unread v = false
 
 -- how many of the lines have such a verdict (`sameb` compares variants)
-abbrev pub number_of : (Verdict → Bool) → List LineVerdictValue → ℕ
-number_of is js = length (filter (λ j. is j.verdict) js)
+abbrev pub count_where : (Verdict → Bool) → List LineVerdictValue → ℕ
+count_where is js = length (filter (λ j. is j.verdict) js)
 
 abbrev pub counts_of : List LineVerdictValue → Counts
-counts_of js = let n : Verdict → ℕ = λ v. number_of (sameb the_type v) js in
-    record { right = n Right; wrong = n Wrong; missing = n Missing; unread = number_of is_unread js; bad = n Bad }
+counts_of js = let n : Verdict → ℕ = λ v. count_where (sameb the_type v) js in
+    record { right = n Right; wrong = n Wrong; missing = n Missing; unread = count_where is_unread js; bad = n Bad }
 
 -- how many lines are entries
 abbrev pub entries : Counts → ℕ
 entries c = c.right + c.wrong + c.missing + c.unread
 
 -- TOOL: WARNING: N TEXT, unless the count is 0
-abbrev pub warning : List ℕ → ℕ → List ℕ → List ℕ → List ℕ
+abbrev pub warning : ByteString → ℕ → ByteString → ByteString → ByteString
 warning tool n one many = if n == 0 then []
     else concat (tool ∷ codes ": WARNING: " ∷ decimal n ∷ (if n == 1 then one else many) ∷ codes "\n" ∷ [])
 
 -- the line that no file was verified, with `--ignore-missing`
-abbrev pub unverified_line : Rules → LabelsValue → Counts → List ℕ
+abbrev pub unverified_line : Rules → LabelsValue → Counts → ByteString
 unverified_line r labels c = if r.ignore_missing && (c.right == 0)
     then tool_line r.profile labels.tool labels.manifest (codes "no file was verified") else []
 
 -- the warnings at a manifest's end
-abbrev pub warnings : Rules → LabelsValue → Counts → List ℕ
+abbrev pub warnings : Rules → LabelsValue → Counts → ByteString
 warnings r labels c = let tool = labels.tool in
     warning tool c.bad (codes " line is improperly formatted") (codes " lines are improperly formatted")
     ++ (warning tool c.unread (codes " listed file could not be read") (codes " listed files could not be read")
@@ -103,11 +104,11 @@ warnings r labels c = let tool = labels.tool in
     ++ unverified_line r labels c))
 
 -- the end of a manifest on standard error: its summary, or the line of the fault that broke it
-abbrev pub end_text : Rules → LabelsValue → Ending → Counts → List ℕ
+abbrev pub end_text : Rules → LabelsValue → Ending → Counts → ByteString
 end_text r labels Whole c = if entries c == 0
     then tool_line r.profile labels.tool labels.manifest (codes "no properly formatted checksum lines found")
     else unless_status labels.report (warnings r labels c)
-end_text r labels (Broken f) c = fault_line r.profile labels.tool labels.manifest f
+end_text r labels (Broken f) c = name_fault_line r.profile labels.tool labels.manifest f
 
 -- good: it was read whole, a line is Right, none is Wrong or Unread, and under the strict setting none is Bad
 abbrev pub good : Rules → Ending → Counts → Bool

@@ -1,5 +1,6 @@
 -- The verdicts of a manifest's lines.
 use Rattle.std.specs.Prelude.{ℕ, ◌+◌, ◌&&◌, Bool, true, false, List, [], ◌∷◌, Result, Ok, Err, if◌then◌else◌, bytes_eq}
+use Rattle.digest_kinds.specs.Basics.{ByteString}
 pub use Rattle.digest_kinds.specs.declared.algo.Algos.{Algos}
 use Rattle.sum_engine.specs.Behavior.{Fault, World, is_dash, answer_to, after, digest_or_fault}
 use Rattle.sum_sources.specs.declared.fault.Fault.TheVariants.{NotFound}
@@ -25,7 +26,7 @@ pub record Rules : Type 0 where
 pub record LineVerdictValue : Type 0 where
   pub number : ℕ
   pub verdict : Verdict
-  pub name : List ℕ
+  pub name : ByteString
 
 -- there is no such file
 abbrev pub not_found : Answer → Bool
@@ -33,7 +34,7 @@ not_found (Err NotFound) = true
 not_found r = false
 
 -- the verdict of an entry with this digest, by what reading the file gives
-abbrev pub verdict_by : List ℕ → Result (List ℕ) Fault → Verdict
+abbrev pub verdict_by : ByteString → Result (ByteString) Fault → Verdict
 verdict_by digest (Ok d) = if bytes_eq d digest then Right else Wrong
 verdict_by digest (Err f) = Unread f
 
@@ -51,20 +52,20 @@ judge r w n bad = record { number = n; verdict = Bad; name = [] }
 judge r w n (entry s) = record { number = n; verdict = verdict_of r w s; name = s.name }
 
 -- a verdict other than these two asks the name of its entry
-abbrev pub asks_by : Verdict → List ℕ → List (List ℕ)
+abbrev pub asks_by : Verdict → ByteString → List ByteString
 asks_by Ignored name = []
 asks_by Bad name = []
 asks_by v name = name ∷ []
 
-abbrev pub asks_of : LineVerdictValue → List (List ℕ)
+abbrev pub asks_of : LineVerdictValue → List ByteString
 asks_of j = asks_by j.verdict j.name
 
 -- the lines of a content, each without one carriage return at its end, unless the profile drops none
-abbrev pub lines_by : Profile → Content → List (List ℕ)
-lines_by p c = if p.drops_carriage_return then lines c else raw_lines c
+abbrev pub lines_under : Profile → Content → List ByteString
+lines_under p c = if p.drops_carriage_return then lines c else raw_lines c
 
 -- the verdicts of the lines after line n in a manifest of that form, each after the asks of those before it
-abbrev pub verdicts : Rules → Form → World → ℕ → List (List ℕ) → List LineVerdictValue
+abbrev pub verdicts : Rules → Form → World → ℕ → List ByteString → List LineVerdictValue
 verdicts r f w n [] = []
 verdicts r f w n (l ∷ ls) =
     let j = judge r w (n + 1) (parse_line r.profile r.algo f l) in
@@ -72,4 +73,4 @@ verdicts r f w n (l ∷ ls) =
 
 -- those of a whole manifest, whose form is that of all its lines
 abbrev pub all_verdicts : Rules → World → Content → List LineVerdictValue
-all_verdicts r w c = verdicts r (form r.algo (lines_by r.profile c)) w 0 (lines_by r.profile c)
+all_verdicts r w c = verdicts r (form r.algo (lines_under r.profile c)) w 0 (lines_under r.profile c)

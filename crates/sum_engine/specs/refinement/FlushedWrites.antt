@@ -1,38 +1,39 @@
 -- Relates writing a text and flushing it to what a step writes, by outputs that are flushed before.
-use Rattle.std.specs.Prelude.{ℕ, ◌≡◌, ◌⊎◌, List, [], Result, Ok, Err, MatchResult}
+use Rattle.std.specs.Prelude.{◌≡◌, ◌⊎◌, [], Result, Ok, Err, MatchResult, ⊤}
+use Rattle.digest_kinds.specs.Basics.{ByteString}
 use Rattle.std.specs.Io.KnownBytes.{Appends}
 use Rattle.sum_lines.specs.sinks.Sinks.{SinkState}
 use Rattle.digest_kinds.specs.Limits.{one_more}
 use Rattle.sum_lines.specs.refinement.SinkStates.{AppendsPrefix}
-use Rattle.sum_engine.specs.Execution.{OutputsState, IsFlushed, NoneFailed, OneFailed, Stop, Write}
+use Rattle.sum_engine.specs.Execution.{OutputsState, IsFlushed, HasNoFailure, HasOneFailure, Stop, Write}
 
 -- a call that writes the text and flushes it, if the output is flushed before; then it is flushed after. A fault has one
 -- failure more of the output, and a prefix of the text was written
-abbrev pub WritesAndFlushes : {E : Type 0} → SinkState → SinkState → List ℕ → Result (Unit {0}) E → Type 0
+abbrev pub WritesAndFlushes : {E : Type 0} → SinkState → SinkState → ByteString → Result ⊤ E → Type 0
 WritesAndFlushes a b text r = MatchResult r (λ u. b.failures ≡ a.failures) (λ e. b.failures ≡ one_more a.failures)
     × (a.buffered ≡ [] → (b.buffered ≡ [])
     × MatchResult r (λ u. Appends a.written b.written text) (λ e. AppendsPrefix a.written b.written text))
 
 -- standard error got the first text, and then standard output the second; or a prefix of both in this order
-abbrev pub WritesBoth : {E : Type 0} → OutputsState → OutputsState → List ℕ → List ℕ → Result (Unit {0}) E → Type 0
+abbrev pub WritesBoth : {E : Type 0} → OutputsState → OutputsState → ByteString → ByteString → Result ⊤ E → Type 0
 WritesBoth a b err out (Ok u) = Appends a.err.written b.err.written err × Appends a.out.written b.out.written out
 WritesBoth a b err out (Err e) = (AppendsPrefix a.err.written b.err.written err × (b.out.written ≡ a.out.written))
     ⊎ (Appends a.err.written b.err.written err × AppendsPrefix a.out.written b.out.written out)
 
 -- a call that writes these texts and flushes them, if both outputs are flushed before; then both are flushed after
-abbrev pub WritesAndFlushesBoth : {E : Type 0} → OutputsState → OutputsState → List ℕ → List ℕ → Result (Unit {0}) E
+abbrev pub WritesAndFlushesBoth : {E : Type 0} → OutputsState → OutputsState → ByteString → ByteString → Result ⊤ E
     → Type 0
-WritesAndFlushesBoth a b err out r = MatchResult r (λ u. NoneFailed a b) (λ e. OneFailed a b)
+WritesAndFlushesBoth a b err out r = MatchResult r (λ u. HasNoFailure a b) (λ e. HasOneFailure a b)
     × (IsFlushed a → IsFlushed b × WritesBoth a b err out r)
 
 -- the outcome of a call once its text was written; a write fault if that failed
-abbrev pub outcome_after : {E A : Type 0} → Result (Unit {0}) E → A → Result A Stop
+abbrev pub outcome_after : {E A : Type 0} → Result ⊤ E → A → Result A Stop
 outcome_after (Ok u) x = Ok x
 outcome_after (Err e) x = Err Write
 
 -- a call that writes these texts and flushes them, and then returns x; a write fault if that failed
-pub record WritesAndReturns {A : Type 0} (a b : OutputsState) (err out : List ℕ) (x : A) (r : Result A Stop) : Type 0
+pub record WritesAndReturns {A : Type 0} (a b : OutputsState) (err out : ByteString) (x : A) (r : Result A Stop) : Type 0
   where
-    pub written : Result (Unit {0}) (Unit {0})
+    pub written : Result ⊤ ⊤
     pub writes : WritesAndFlushesBoth a b err out written
     pub returns : r ≡ outcome_after written x

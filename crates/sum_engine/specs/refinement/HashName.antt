@@ -1,47 +1,49 @@
 -- Relates hashing one name to the world.
-use Rattle.std.specs.Prelude.{ℕ, ◌≡◌, List, [], ◌∷◌, length, Option, None, Some, Result, Ok, Err, ⊤}
+use Rattle.std.specs.Prelude.{◌≡◌, [], ◌∷◌, length, Result, Ok, Err, ⊤}
+use Rattle.digest_kinds.specs.Basics.{ByteString}
 use Rattle.digest_kinds.specs.Kinds.{KindValue}
 use Rattle.sum_sources.specs.Contents.{Content}
 use Rattle.sum_sources.specs.Sources.{Answer, SourceState}
 use Rattle.digest_kinds.specs.Limits.{one_more}
 pub use Rattle.sum_engine.specs.declared.hash_name.HashOutcome.{HashOutcome}
+pub use Rattle.sum_sources.specs.declared.fault.NoRoom.{NoRoom}
 use Rattle.sum_engine.specs.Behavior.{Fault, World, after, digest_or_fault, answer_to}
-use Rattle.sum_engine.specs.declared.hash_name.HashOutcome.TheVariants as asked
+use Rattle.sum_engine.specs.declared.hash_name.HashOutcome.TheVariants as outcomes
 
 -- the digest of an outcome, or the fault of opening or reading
-abbrev pub digest_of_outcome : HashOutcome → Result (List ℕ) Fault
-digest_of_outcome (asked.Read d) = Ok d
-digest_of_outcome (asked.NotOpened f) = Err f
-digest_of_outcome (asked.Broken f) = Err f
+abbrev pub digest_of_outcome : HashOutcome → Result (ByteString) Fault
+digest_of_outcome (outcomes.Read d) = Ok d
+digest_of_outcome (outcomes.NotOpened f) = Err f
+digest_of_outcome (outcomes.Broken f) = Err f
 
 -- the outcome of a answer
 abbrev pub IsHashOutcome : KindValue → Answer → HashOutcome → Type 0
-IsHashOutcome kind r (asked.Read d) = (c : Content) × (r ≡ Ok c) × (digest_or_fault kind (Ok c) ≡ Ok d)
-IsHashOutcome kind r (asked.NotOpened f) = r ≡ Err f
-IsHashOutcome kind r (asked.Broken f) = (c : Content) × (r ≡ Ok c) × (digest_or_fault kind (Ok c) ≡ Err f)
+IsHashOutcome kind r (outcomes.Read d) = (c : Content) × (r ≡ Ok c) × (digest_or_fault kind (Ok c) ≡ Ok d)
+IsHashOutcome kind r (outcomes.NotOpened f) = r ≡ Err f
+IsHashOutcome kind r (outcomes.Broken f) = (c : Content) × (r ≡ Ok c) × (digest_or_fault kind (Ok c) ≡ Err f)
 
 -- the outcome of reading a content
 abbrev pub IsRead : KindValue → Content → HashOutcome → Type 0
-IsRead kind c (asked.Read d) = digest_or_fault kind (Ok c) ≡ Ok d
-IsRead kind c (asked.NotOpened f) = ⊥
-IsRead kind c (asked.Broken f) = digest_or_fault kind (Ok c) ≡ Err f
+IsRead kind c (outcomes.Read d) = digest_or_fault kind (Ok c) ≡ Ok d
+IsRead kind c (outcomes.NotOpened f) = ⊥
+IsRead kind c (outcomes.Broken f) = digest_or_fault kind (Ok c) ≡ Err f
 
 -- the name was asked, with this outcome; without memory it wasn't asked
-abbrev pub HashesName : KindValue → World → World → List ℕ → Option HashOutcome → Type 0
-HashesName kind w v name None = v ≡ w
-HashesName kind w v name (Some a) = (v ≡ after w (name ∷ [])) × IsHashOutcome kind (answer_to w name) a
+abbrev pub HashesName : KindValue → World → World → ByteString → Result HashOutcome NoRoom → Type 0
+HashesName kind w v name (Err e) = v ≡ w
+HashesName kind w v name (Ok a) = (v ≡ after w (name ∷ [])) × IsHashOutcome kind (answer_to w name) a
 
 -- P, unless reading the file failed
-abbrev pub UnlessBroken : Option HashOutcome → Type 0 → Type 0
-UnlessBroken (Some (asked.Broken f)) P = ⊤
+abbrev pub UnlessBroken : Result HashOutcome NoRoom → Type 0 → Type 0
+UnlessBroken (Ok (outcomes.Broken f)) P = ⊤
 UnlessBroken outcome P = P
 
 -- a digest of the outcome has the kind's length
-abbrev pub HasKindLen : KindValue → Option HashOutcome → Type 0
-HasKindLen kind (Some (asked.Read d)) = length d ≡ kind.len
+abbrev pub HasKindLen : KindValue → Result HashOutcome NoRoom → Type 0
+HasKindLen kind (Ok (outcomes.Read d)) = length d ≡ kind.len
 HasKindLen kind outcome = ⊤
 
--- `None` only if the source was refused memory, which is one refusal more
-abbrev pub RefusedUnless : {A : Type 0} → SourceState → SourceState → Option A → Type 0
-RefusedUnless a b None = b.counts.refusals ≡ one_more a.counts.refusals
-RefusedUnless a b (Some x) = b.counts.refusals ≡ a.counts.refusals
+-- no room only if the source was refused memory, which is one refusal more
+abbrev pub RefusedUnless : {A : Type 0} → SourceState → SourceState → Result A NoRoom → Type 0
+RefusedUnless a b (Err e) = b.counts.refusals ≡ one_more a.counts.refusals
+RefusedUnless a b (Ok x) = b.counts.refusals ≡ a.counts.refusals

@@ -1,9 +1,10 @@
 -- Relates what the code finds of a line to what the line says, and to its verdict.
-use Rattle.std.specs.Prelude.{ℕ, ◌≡◌, Bool, List, [], Option, None, Some, Ok, Err, if◌then◌else◌, bytes_eq}
+use Rattle.std.specs.Prelude.{ℕ, ◌≡◌, Bool, [], Some, Result, Ok, Err, if◌then◌else◌, bytes_eq}
+use Rattle.digest_kinds.specs.Basics.{ByteString}
 use Rattle.sum_sources.specs.declared.fault.Fault.TheVariants.{NotFound}
 use Rattle.sum_lines.specs.grammar.Entries.{EntryValue, form_then, line_form}
 use Rattle.sum_engine.specs.declared.check.judge.ListedEntry.{ListedEntry}
-use Rattle.sum_engine.specs.declared.hash_name.HashOutcome.{HashOutcome}
+use Rattle.sum_engine.specs.refinement.HashName.{HashOutcome, NoRoom}
 use Rattle.sum_engine.specs.check.Verdicts.{Verdict, Right, Wrong, Missing, Unread, Rules, judge, asks_by, asks_of}
 use Rattle.sum_lines.specs.grammar.ParsedLines.{ParsedLine, ignored, bad, entry, parse_line}
 use Rattle.sum_engine.specs.Behavior.{World, after}
@@ -11,52 +12,52 @@ use Rattle.sum_engine.specs.check.Reports.{Counts}
 use Rattle.sum_engine.specs.check.NextVerdict.{LineVerdict, VerdictResult, line_verdict_value}
 use Rattle.sum_sources.specs.declared.line_reader.LineStop.TheVariants.{Memory}
 use Rattle.sum_engine.specs.check.CheckStates.{CursorValue, counts_with}
-use Rattle.sum_engine.specs.declared.hash_name.HashOutcome.TheVariants as asked
+use Rattle.sum_engine.specs.declared.hash_name.HashOutcome.TheVariants as outcomes
 
 -- the entry that a line spells
 abbrev pub listed_entry : ListedEntry → EntryValue
 listed_entry l = record { kind = l.kind; digest = l.digest.now; name = l.name.now }
 
 -- the name in what a line says, or nothing
-abbrev pub name_in_line : ParsedLine → List ℕ
+abbrev pub name_in_line : ParsedLine → ByteString
 name_in_line ignored = []
 name_in_line bad = []
 name_in_line (entry s) = s.name
 
 -- the verdict, by the outcome of hashing the name
-abbrev pub verdict_of_outcome : Bool → List ℕ → HashOutcome → Verdict
-verdict_of_outcome ignore d (asked.Read found) = if bytes_eq found d then Right else Wrong
-verdict_of_outcome ignore d (asked.NotOpened NotFound) = if ignore then Missing else Unread NotFound
-verdict_of_outcome ignore d (asked.NotOpened f) = Unread f
-verdict_of_outcome ignore d (asked.Broken f) = Unread f
+abbrev pub verdict_of_outcome : Bool → ByteString → HashOutcome → Verdict
+verdict_of_outcome ignore d (outcomes.Read found) = if bytes_eq found d then Right else Wrong
+verdict_of_outcome ignore d (outcomes.NotOpened NotFound) = if ignore then Missing else Unread NotFound
+verdict_of_outcome ignore d (outcomes.NotOpened f) = Unread f
+verdict_of_outcome ignore d (outcomes.Broken f) = Unread f
 
 -- a line that says this has this verdict, whatever its number, and its name was asked, if the verdict asks it; without
 -- memory nothing was asked
-abbrev pub JudgeOf : Rules → World → World → ParsedLine → Option Verdict → Type 0
-JudgeOf r w v x None = v ≡ w
-JudgeOf r w v x (Some verdict) = ((n : ℕ) → judge r w n x ≡ record { number = n; verdict = verdict; name = name_in_line x })
+abbrev pub JudgeOf : Rules → World → World → ParsedLine → Result Verdict NoRoom → Type 0
+JudgeOf r w v x (Err e) = v ≡ w
+JudgeOf r w v x (Ok verdict) = ((n : ℕ) → judge r w n x ≡ record { number = n; verdict = verdict; name = name_in_line x })
     × (v ≡ after w (asks_by verdict (name_in_line x)))
 
 -- what a line says that was read at a place
-abbrev pub parsed_at : {I : Type 0} → CursorValue I → List ℕ → ParsedLine
+abbrev pub parsed_at : {I : Type 0} → CursorValue I → ByteString → ParsedLine
 parsed_at p line =
     parse_line p.rules.profile p.rules.algo (form_then p.form (line_form p.rules.algo line)) line
 
 -- from place a to b the line's form was taken over, and the rules and the reader stayed
-pub record TakesLine {I : Type 0} (a b : CursorValue I) (line : List ℕ) : Type 0 where
+pub record TakesLine {I : Type 0} (a b : CursorValue I) (line : ByteString) : Type 0 where
   pub form : b.form ≡ form_then a.form (line_form a.rules.algo line)
   pub reader : b.reader ≡ a.reader
   pub rules : b.rules ≡ a.rules
 
 -- the last line that was read was judged, and its name was asked, if its verdict asks it; d are the counts then
 abbrev pub JudgeLineOf :
-    {I : Type 0} → CursorValue I → List ℕ → Counts → List ℕ → World → World → Option LineVerdict → Type 0
-JudgeLineOf p line d vector w v None = v ≡ w
-JudgeLineOf p line d vector w v (Some found) =
+    {I : Type 0} → CursorValue I → ByteString → Counts → ByteString → World → World → Result LineVerdict NoRoom → Type 0
+JudgeLineOf p line d vector w v (Err e) = v ≡ w
+JudgeLineOf p line d vector w v (Ok found) =
     (judge p.rules w p.reader.lines (parsed_at p line) ≡ line_verdict_value vector found)
     × (v ≡ after w (asks_of (line_verdict_value vector found))) × (d ≡ counts_with p.counts found.verdict)
 
 -- what a call for the next verdict returns that found this, or was refused memory to open the file
-abbrev pub found_of : Option LineVerdict → VerdictResult
-found_of None = Err Memory
-found_of (Some v) = Ok (Some v)
+abbrev pub found_verdict : Result LineVerdict NoRoom → VerdictResult
+found_verdict (Err e) = Err Memory
+found_verdict (Ok v) = Ok (Some v)

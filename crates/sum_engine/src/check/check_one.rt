@@ -1,6 +1,6 @@
 //! Checking one manifest.
 ghost use Rattle.sum_engine.specs.check.Checking.{check_behavior};
-ghost use Rattle.sum_engine.specs.Execution.{IsFlushed, FailuresMatch, OneMoreAtMost, RefusalsMatch, StopHasCause};
+ghost use Rattle.sum_engine.specs.Execution.{IsFlushed, FailuresMatch, IsOneMoreAtMost, RefusalsMatch, StopHasCause};
 ghost use Rattle.sum_engine.specs.Execution.{Performs, KeepsStdin, ReadToEnd, Unfinished, AtEnd};
 ghost use Rattle.sum_engine.specs.check.CheckStates.{IsAtStart};
 ghost use Rattle.std.specs.Prelude.{◌≡◌, true, None, Ok};
@@ -10,7 +10,7 @@ use crate::check::checker::Checker;
 use crate::check::progress::Progress;
 use crate::hash_name::is_dash;
 use crate::inputs::Inputs;
-use crate::put_flushed::{outcome_after, put_fault_line};
+use crate::put_flushed::{outcome_after, put_name_fault_line};
 use crate::settings::CheckSettings;
 use crate::stop::Stop;
 use crate::streams::{Outputs, Streams};
@@ -22,9 +22,9 @@ use sum_sources::{Input, OpenFault, Source};
 /// and its summary go to `out` and `err` (coreutils manual, "md5sum invocation", `--check`). A manifest that can't
 /// be opened, or read to its end, isn't good, and its fault goes to `err`.
 ///
-/// `Stop::Memory` if there is no memory for a line, or the source has none to open a file; then the reports of the
-/// lines handled so far were written. `Stop::Write` if an output fails; then a prefix of all that is to be written, in
-/// its order, was.
+/// `Stop::Memory` only if the source was refused memory, or bytes of the manifest were still to come; the reports of the
+/// lines handled so far were then written. `Stop::Write` if an output fails; a prefix of the reports and the summary, in
+/// their order, was then written.
 pub fn check_one<A: Allocator + Copy, J: Input + Drop, S: Source, O: Sink, E: Sink>(
     alloc: A,
     settings: CheckSettings,
@@ -37,7 +37,7 @@ pub fn check_one<A: Allocator + Copy, J: Input + Drop, S: Source, O: Sink, E: Si
         streams.old streams.new result }
     ensures flushed { IsFlushed streams.old.outputs → IsFlushed streams.new.outputs }
     // Known or not, a stop has its cause: at most one refusal more of the source, or one failure more of one output.
-    ensures refusals { RefusalsMatch S.state OneMoreAtMost streams.old.inputs streams.new.inputs result }
+    ensures refusals { RefusalsMatch S.state IsOneMoreAtMost streams.old.inputs streams.new.inputs result }
     ensures failures { FailuresMatch streams.old.outputs streams.new.outputs result }
     // Known or not: true only if the manifest and each file that was opened were read to their ends.
     ensures read_to_end { result ≡ Ok true → ReadToEnd S.state streams.old.inputs streams.new.inputs }
@@ -52,7 +52,7 @@ pub fn check_one<A: Allocator + Copy, J: Input + Drop, S: Source, O: Sink, E: Si
     match streams.inputs.open_file(name) {
         Err(OpenFault::Memory) => Err(Stop::Memory),
         Err(OpenFault::Fault(fault)) => {
-            let written = put_fault_line(&mut streams.outputs, tool, name, fault);
+            let written = put_name_fault_line(&mut streams.outputs, tool, name, fault);
             outcome_after(written, false)
         }
         Ok(file) => {
@@ -64,7 +64,7 @@ pub fn check_one<A: Allocator + Copy, J: Input + Drop, S: Source, O: Sink, E: Si
     }
 }
 
-// Steps through the manifest of a new checker, and gives its input back.
+// Steps through the manifest of a new checker to its end, and gives the manifest's input back.
 fn run_to_end<'a, A: Allocator, I: Input, J: Input + Drop, S: Source, O: Sink, E: Sink>(
     alloc: A,
     mut checker: Checker<'a, I>,
@@ -74,7 +74,7 @@ fn run_to_end<'a, A: Allocator, I: Input, J: Input + Drop, S: Source, O: Sink, E
     requires final_answer { checker.final_answer ≡ None }
     ensures behavior { ManifestPerforms S.state checker.entry.cursor.rules checker.entry.labels
         (I.state checker.entry.cursor.reader.input).content streams.old streams.new result.0 }
-    ensures cause { StopHasCause S.state OneMoreAtMost streams.old streams.new result.0 }
+    ensures cause { StopHasCause S.state IsOneMoreAtMost streams.old streams.new result.0 }
     ensures read_to_end { result.0 ≡ Ok true → ReadToEnd S.state streams.old.inputs streams.new.inputs }
     ensures stdin { checker.entry.cursor.rules.from_stdin ≡ true → KeepsStdin streams.old.inputs streams.new.inputs }
     ensures phase { result.0 ≡ Ok true → (I.state checker.entry.cursor.reader.input).phase ≡ Unfinished
@@ -85,7 +85,7 @@ fn run_to_end<'a, A: Allocator, I: Input, J: Input + Drop, S: Source, O: Sink, E
     (result, checker.into_inner())
 }
 
-// Steps through a manifest from its first line.
+// Steps through a manifest from its first line: each step handles one line, and the last one the end.
 fn check_lines<'a, A: Allocator, I: Input, J: Input + Drop, S: Source, O: Sink, E: Sink>(
     checker: &mut Checker<'a, I>,
     line: &mut Vec<u8, A>,
@@ -95,7 +95,7 @@ fn check_lines<'a, A: Allocator, I: Input, J: Input + Drop, S: Source, O: Sink, 
     requires final_answer { checker.old.final_answer ≡ None }
     ensures behavior { ManifestPerforms S.state checker.old.cursor.rules checker.old.labels
         (I.state checker.old.cursor.reader.input).content streams.old streams.new result }
-    ensures cause { StopHasCause S.state OneMoreAtMost streams.old streams.new result }
+    ensures cause { StopHasCause S.state IsOneMoreAtMost streams.old streams.new result }
     ensures read_to_end { result ≡ Ok true → ReadToEnd S.state streams.old.inputs streams.new.inputs }
     ensures stdin { checker.old.cursor.rules.from_stdin ≡ true → KeepsStdin streams.old.inputs streams.new.inputs }
     ensures phase { result ≡ Ok true → (I.state checker.old.cursor.reader.input).phase ≡ Unfinished

@@ -14,7 +14,7 @@ use std::marker::Model;
 use sum_lines::Sink;
 use sum_sources::{Input, Source};
 
-/// A manifest that is being checked. It takes a line, handles it, and only then takes the next.
+/// A manifest that is being checked. A checker takes a line and handles it, and only then takes the next.
 #[derive(Drop)]
 pub struct Checker<'a, I> {
     verdicts: Verdicts<I>,
@@ -45,9 +45,9 @@ impl<'a, I: Input> Checker<'a, I> {
     ghost use Rattle.sum_engine.specs.check.CheckStates.{IsAtStart};
     ghost use Rattle.sum_engine.specs.check.CheckerSteps.{TakesStep, AdvancesChecker};
 
-    /// A checker of the manifest that `input` gives. Its diagnostics begin with `tool`, as with `md5sum`, and show the
-    /// name `manifest`; `from_stdin` says whether it came from standard input, where a line that names `-` is
-    /// improperly formatted. In any other manifest `-` is the standard input of the streams.
+    /// A checker of the manifest that `input` gives. Its diagnostics begin with `tool`, for example `md5sum`, and show
+    /// the name `manifest`. `from_stdin` says whether the manifest came from standard input: a line that names `-` is
+    /// then improperly formatted. In any other manifest `-` is the standard input of the streams.
     pub fn new(
         settings: CheckSettings,
         tool: &'a str,
@@ -80,7 +80,7 @@ impl<'a, I: Input> Checker<'a, I> {
         self.verdicts.cursor().taken()
     }
 
-    /// The manifest's input, past the bytes that it has given; those read ahead of the last line are lost.
+    /// The manifest's input, past the bytes that it has given. Bytes that were read ahead of the last line are lost.
     pub fn into_inner(self) -> I
         ensures { result ≡ self.entry.cursor.reader.input }
     {
@@ -88,12 +88,12 @@ impl<'a, I: Input> Checker<'a, I> {
     }
 
     /// Handles the next line, or the end: writes the line's report, or the summary, or the line of the fault that broke
-    /// the manifest. `line` is grown for the line; its content before doesn't matter, and after it is unspecified, but
-    /// after `Going` it isn't longer than the line.
+    /// the manifest. `line` is grown for the line. Its content before doesn't matter. Its content afterwards is
+    /// unspecified, but after `Going` it isn't longer than the line.
     ///
-    /// `Stop::Memory` if there is no memory for the line or to open the file that it names; nothing is then written.
-    /// `Stop::Write` if an output fails; a prefix of the step's texts was then written. After `Ended` and after a stop
-    /// each step returns the same again and writes nothing.
+    /// `Stop::Memory` only if the source was refused memory, or bytes of the manifest were still to come; nothing is then
+    /// written. `Stop::Write` if an output fails; a prefix of the step's texts was then written. After `Ended` and after
+    /// a stop each step returns the same again and writes nothing.
     pub fn step<A: Allocator, J: Input + Drop, S: Source, O: Sink, E: Sink>(
         &mut self,
         line: &mut Vec<u8, A>,
@@ -105,7 +105,7 @@ impl<'a, I: Input> Checker<'a, I> {
         // If both outputs are flushed: the next step of the behavior, in some world, the known one if it is known.
         ensures step { self.old.final_answer ≡ None → TakesStep I.state S.state line.new.items self.old.labels
             self.old.cursor self.new.cursor streams.old streams.new result }
-        // Known or not: how far the manifest was read, the cause of a stop, and which answers are final.
+        // Known or not: what was found, how far the manifest was read, the cause of a stop, and which answers are final.
         ensures advances { self.old.final_answer ≡ None
             → AdvancesChecker I.state S.state line.new.items self.old self.new streams.old streams.new result }
         ensures flushed { IsFlushed streams.old.outputs → IsFlushed streams.new.outputs }

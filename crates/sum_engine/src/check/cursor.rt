@@ -10,14 +10,14 @@ use crate::check::report::put_report;
 use crate::check::rules::{CheckRules, Labels};
 use crate::check::summary::{Counts, is_good, put_summary};
 use crate::inputs::Inputs;
-use crate::put_flushed::put_fault_line;
+use crate::put_flushed::put_name_fault_line;
 use crate::settings::CheckSettings;
 use crate::stop::Stop;
 use crate::streams::Outputs;
 use std::alloc::Allocator;
 use std::marker::Model;
 use sum_lines::{Form, Reading, Sink, SinkFault, read_line};
-use sum_sources::{Input, LineReader, LineStop, Next, PIECE, Source};
+use sum_sources::{Input, LineReader, LineStop, Next, NoRoom, PIECE, Source};
 
 /// A manifest, its lines so far, and what remains of it.
 #[derive(Drop)]
@@ -61,7 +61,7 @@ impl<I: Input> CheckCursor<I> {
     ghost use Rattle.sum_engine.specs.refinement.FlushedWrites.{WritesAndFlushesBoth};
     ghost use Rattle.sum_engine.specs.refinement.FoundTexts.{found_err, found_out};
     ghost use Rattle.sum_sources.specs.declared.line_reader.LineStop.TheVariants.{Memory};
-    ghost use Rattle.sum_engine.specs.refinement.Judging.{TakesLine, JudgeLineOf, found_of};
+    ghost use Rattle.sum_engine.specs.refinement.Judging.{TakesLine, JudgeLineOf, found_verdict};
 
     /// At the first line of the manifest that `input` gives.
     pub(crate) fn new(settings: CheckSettings, from_stdin: bool, input: I) -> Self
@@ -115,7 +115,7 @@ impl<I: Input> CheckCursor<I> {
         match found {
             Err(LineStop::Memory) => Ok(()),
             Err(LineStop::Fault(fault)) => {
-                put_fault_line(outputs, labels.tool, labels.manifest, fault)
+                put_name_fault_line(outputs, labels.tool, labels.manifest, fault)
             }
             Ok(None) => put_summary(outputs, self.rules, labels, self.counts),
             Ok(Some(found)) => {
@@ -170,40 +170,37 @@ impl<I: Input> CheckCursor<I> {
         match self.reader.next_line(line) {
             Err(stop) => Err(stop),
             Ok(Next::NoMore) => Ok(None),
-            Ok(Next::Line) => match self.judge_line(line, inputs) {
-                Some(verdict) => Ok(Some(verdict)),
-                None => Err(LineStop::Memory),
-            },
+            Ok(Next::Line) => Ok(Some(self.judge_line(line, inputs)?)),
         }
     }
 
-    // The verdict of the line that was read last, which is counted; `None` if the source is out of memory.
+    // The verdict of the line that was read last, which is counted. `NoRoom` if the source is out of memory.
     fn judge_line<A: Allocator, J: Input + Drop, S: Source>(
         &mut self,
         line: &mut Vec<u8, A>,
         inputs: &mut Inputs<J, S>,
-    ) -> Option<LineVerdict>
+    ) -> Result<LineVerdict, NoRoom>
         requires few { total self.old.counts < self.old.reader.lines }
         ensures verdict { InSomeWorld S.state inputs.old inputs.new (λ w v. JudgeLineOf self.old
             line.old.items self.new.counts line.new.items w v result) }
         ensures asked { AskedMore (S.state inputs.old.source) (S.state inputs.new.source)
-            (names_of_result line.new.items (found_of result)) }
+            (names_of_result line.new.items (found_verdict result)) }
         ensures stdin_taken { inputs.new.stdin_taken
-            ≡ stdin_taken_after inputs.old.stdin_taken line.new.items (found_of result) }
-        ensures name_range { IfSome result (λ v. HasNameRange line.new.items v) }
+            ≡ stdin_taken_after inputs.old.stdin_taken line.new.items (found_verdict result) }
+        ensures name_range { IfOk result (λ v. HasNameRange line.new.items v) }
         ensures cursor { TakesLine self.old self.new line.old.items }
         ensures len { length line.new.items ≤ length line.old.items }
         ensures stdin_kept { self.old.rules.from_stdin ≡ true → KeepsStdin inputs.old inputs.new }
         ensures counts { self.new.counts
-            ≡ counts_after self.old.counts (found_of result) }
-        ensures read_to_end { UnlessUnread (found_of result) (ReadToEnd S.state inputs.old inputs.new) }
+            ≡ counts_after self.old.counts (found_verdict result) }
+        ensures read_to_end { UnlessUnread (found_verdict result) (ReadToEnd S.state inputs.old inputs.new) }
         ensures refusals { RefusedUnless (S.state inputs.old.source) (S.state inputs.new.source) result }
     {
         let (reading, form) = read_line(self.rules.algo, self.form, line);
         self.form = form;
         match reading {
-            Reading::Ignored => Some(self.count_verdict(Verdict::Ignored, 0, 0)),
-            Reading::Bad => Some(self.count_verdict(Verdict::Bad, 0, 0)),
+            Reading::Ignored => Ok(self.count_verdict(Verdict::Ignored, 0, 0)),
+            Reading::Bad => Ok(self.count_verdict(Verdict::Bad, 0, 0)),
             Reading::Entry {
                 kind,
                 digest,
@@ -216,7 +213,7 @@ impl<I: Input> CheckCursor<I> {
                     name: &line[start..stop],
                 };
                 let verdict = judge(self.rules, &listed, inputs, &mut self.buffer)?;
-                Some(self.count_verdict(verdict, start, stop))
+                Ok(self.count_verdict(verdict, start, stop))
             }
         }
     }

@@ -1,5 +1,5 @@
 //! The verdict of a line.
-ghost use Rattle.std.specs.Prelude.{◌≡◌, ◌||◌, [], false, true, MatchOption, slice_range};
+ghost use Rattle.std.specs.Prelude.{◌≡◌, ◌||◌, [], false, true, MatchResult, slice_range};
 ghost use Rattle.std.specs.List.{list_any};
 ghost use Rattle.sum_engine.specs.Behavior.{is_dash};
 ghost use Rattle.sum_engine.specs.check.Reports.{is_unread};
@@ -12,7 +12,8 @@ use crate::check::rules::CheckRules;
 use crate::hash_name::{HashOutcome, hash_name, is_dash};
 use crate::inputs::Inputs;
 use digest_kinds::{Digest, Kind};
-use sum_sources::{Fault, Input, PIECE, Source};
+use std::ops::Range;
+use sum_sources::{Fault, Input, NoRoom, PIECE, Source};
 
 /// What checking finds of a manifest's line.
 #[derive(Clone, Copy, Debug, PartialEq, Eq)]
@@ -31,8 +32,8 @@ pub enum Verdict {
     Unread(Fault),
 }
 
-/// A line's number (the first is 1), its verdict, and the range `start..stop` of its entry's name in the line's vector.
-/// The range is empty if the line has no entry.
+/// A line's number (the first is 1), its verdict, and where the name of its entry stands in the line's vector: from
+/// `start` up to `stop`. That range is empty if the line has no entry.
 #[derive(Clone, Copy, Debug, PartialEq, Eq)]
 pub struct LineVerdict {
     pub number: u64,
@@ -42,7 +43,15 @@ pub struct LineVerdict {
 }
 
 impl LineVerdict {
-    /// The name of its entry, in the line's vector as `next` has left it; empty if the line has no entry.
+    /// Where the name of its entry stands in the line's vector.
+    pub fn name_range(self) -> Range<usize>
+        ensures start { result.start ≡ self.start }
+        ensures end { result.end ≡ self.stop }
+    {
+        self.start..self.stop
+    }
+
+    /// The name of its entry, in the line's vector as `next` has left it. It is empty if the line has no entry.
     pub fn name<'a>(self, line: &'a [u8]) -> &'a [u8]
         requires { HasNameRange line.now self }
         ensures { result.now ≡ slice_range line.now self.start self.stop }
@@ -63,29 +72,30 @@ pub(crate) struct ListedEntry<'a> {
     pub name: &'a [u8],
 }
 
-/// The verdict of an entry; `None` if the source is out of memory, and then nothing was asked.
+/// The verdict of an entry. `NoRoom` if the source is out of memory; nothing was then asked.
 pub(crate) fn judge<I: Input + Drop, S: Source>(
     rules: CheckRules,
     listed: &ListedEntry,
     inputs: &mut Inputs<I, S>,
     buffer: &mut [u8; PIECE],
-) -> Option<Verdict>
+) -> Result<Verdict, NoRoom>
     ensures verdict { InSomeWorld S.state inputs.old inputs.new
         (λ w v. JudgeOf rules w v (entry (listed_entry listed.now)) result) }
     ensures asked { let asked = AskedMore (S.state inputs.old.source) (S.state inputs.new.source) in
-        MatchOption result (asked []) (λ v. asked (asks_by v listed.now.name.now)) }
-    ensures stdin_taken { MatchOption result (KeepsStdin inputs.old inputs.new)
-        (λ v. inputs.new.stdin_taken ≡ inputs.old.stdin_taken || list_any is_dash (asks_by v listed.now.name.now)) }
+        MatchResult result (λ v. asked (asks_by v listed.now.name.now)) (λ _. asked []) }
+    ensures stdin_taken { MatchResult result
+        (λ v. inputs.new.stdin_taken ≡ inputs.old.stdin_taken || list_any is_dash (asks_by v listed.now.name.now))
+        (λ _. KeepsStdin inputs.old inputs.new) }
     ensures stdin_kept { rules.from_stdin ≡ true → KeepsStdin inputs.old inputs.new }
     ensures refusals { RefusedUnless (S.state inputs.old.source) (S.state inputs.new.source) result }
-    ensures read_to_end { MatchOption result (ReadToEnd S.state inputs.old inputs.new)
-        (λ v. is_unread v ≡ false → ReadToEnd S.state inputs.old inputs.new) }
+    ensures read_to_end { MatchResult result (λ v. is_unread v ≡ false → ReadToEnd S.state inputs.old inputs.new)
+        (λ _. ReadToEnd S.state inputs.old inputs.new) }
 {
     if rules.from_stdin && is_dash(listed.name) {
-        return Some(Verdict::Bad);
+        return Ok(Verdict::Bad);
     }
     let outcome = hash_name(listed.kind, listed.name, inputs, buffer)?;
-    Some(compare(&outcome, listed.digest, rules.ignore_missing))
+    Ok(compare(&outcome, listed.digest, rules.ignore_missing))
 }
 
 fn compare(outcome: &HashOutcome, digest: &Digest, ignore_missing: bool) -> Verdict

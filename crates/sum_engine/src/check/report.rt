@@ -8,7 +8,7 @@ ghost use Rattle.sum_engine.specs.refinement.FlushedWrites.{WritesAndFlushes, Wr
 
 use crate::check::judge::Verdict;
 use crate::check::rules::{CheckRules, Labels};
-use crate::put_flushed::{put_fault, put_parts_flushed};
+use crate::put_flushed::{put_name_fault, put_parts_flushed};
 use crate::settings::Report;
 use crate::streams::Outputs;
 use digest_kinds::Algos;
@@ -84,7 +84,7 @@ fn put_err<E: Sink>(
             Report::Warn => put_bad_line(err, rules, labels, number),
             _ => Ok(()),
         },
-        Verdict::Unread(fault) => put_fault(err, labels.tool, name, fault),
+        Verdict::Unread(fault) => put_name_fault(err, labels.tool, name, fault),
     }
 }
 

@@ -1,4 +1,4 @@
-//! By what a manifest's lines are judged, and what its reports show.
+//! The rules by which a manifest's lines are judged, and what its reports show.
 ghost use Rattle.std.specs.Prelude.{◌≡◌};
 ghost use Rattle.sum_engine.specs.check.Checking.{rules_of};
 
@@ -6,7 +6,7 @@ use crate::settings::{CheckSettings, Report};
 use digest_kinds::Algos;
 use std::marker::Model;
 
-/// By what a manifest's lines are judged.
+/// The rules by which a manifest's lines are judged.
 #[derive(Clone, Copy, Debug)]
 pub(crate) struct CheckRules {
     pub algo: Algos,

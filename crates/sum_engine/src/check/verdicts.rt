@@ -36,8 +36,8 @@ impl<I: Input> Verdicts<I> {
     ghost use Rattle.sum_engine.specs.check.NextVerdict.{HasNameRange, FindsVerdict};
     ghost use Rattle.sum_engine.specs.check.NextVerdict.{AdvancesVerdicts, is_whole};
 
-    /// At the first line of the manifest that `input` gives; `from_stdin` says whether it came from standard input,
-    /// where a line that names `-` is improperly formatted. The report setting has no part in this.
+    /// At the first line of the manifest that `input` gives. `from_stdin` says whether the manifest came from standard
+    /// input: a line that names `-` is then improperly formatted. The report setting has no part in this.
     pub fn new(settings: CheckSettings, from_stdin: bool, input: I) -> Self
         ensures rules { result.cursor.rules ≡ rules_of settings from_stdin }
         ensures start { IsAtStart I.state result.cursor input }
@@ -56,20 +56,21 @@ impl<I: Input> Verdicts<I> {
         self.cursor.taken()
     }
 
-    /// The manifest's input, past the bytes that it has given; those read ahead of the last line are lost.
+    /// The manifest's input, past the bytes that it has given. Bytes that were read ahead of the last line are lost.
     pub fn into_inner(self) -> I
         ensures { result ≡ self.cursor.reader.input }
     {
         self.cursor.into_inner()
     }
 
-    /// Reads the next line, and finds its verdict; `None` if none is left and the manifest ended whole. `line` is grown
-    /// for the line, and then contains the name of its entry, at the range in the result; its content before is of no
-    /// matter. `inputs` is where files are opened, and standard input, which the name `-` means in a manifest that
-    /// didn't come from there.
+    /// Reads the next line, and finds its verdict; `None` if no line is left and the manifest ended whole. `line` is
+    /// grown for the line, and then contains the name of its entry, at the range in the result. Its content before
+    /// doesn't matter. `inputs` is where files are opened. In a manifest that didn't come from standard input, the name
+    /// `-` means the standard input in `inputs`.
     ///
-    /// `LineStop::Fault` if that fault broke the manifest. `LineStop::Memory` if there is no memory for the line or to
-    /// open the file that it names. After either, and after `None`, each call returns the same and does nothing.
+    /// `LineStop::Fault` if that fault broke the manifest. `LineStop::Memory` only if the source was refused memory, or
+    /// bytes of the manifest were still to come. After either, and after `None`, each call returns the same and changes
+    /// nothing but perhaps `line`.
     pub fn next<A: Allocator, J: Input + Drop, S: Source>(
         &mut self,
         line: &mut Vec<u8, A>,

@@ -1,4 +1,5 @@
 use Rattle.std.proofs.Common.{refl, ap, Ok, Err}
+use Rattle.std.proofs.lemmas.Result.{err_from_is_err_and}
 use Rattle.sum_engine.specs.Behavior.{answer_to, digest_or_fault}
 use Rattle.sum_engine.specs.Execution.{InputsState}
 use Rattle.sum_engine.specs.Generation.{generate_behavior}
@@ -9,21 +10,22 @@ use Rattle.sum_engine.proofs.GenerateLemmas.{generate-performed, one_step}
 use Rattle.sum_engine.proofs.generate.generate_one.Goals as goal
 
 -- there was no memory to open the name
-pub returns-in-None-clause-behavior : goal.returns-in-None-clause-behavior
-returns-in-None-clause-behavior g c =
+pub returns-in_err-outcome-clause-behavior : goal.returns-in_err-outcome-clause-behavior
+returns-in_err-outcome-clause-behavior g c =
     let settings = c.args.settings.now in
     let tool = c.args.tool.now in
     let name = c.args.name.now in
-    let kept = ap (λ (m : InputsState g.row.S.Denot). m.stdin_taken) c.in-None.ensures.stdin_kept in
-    Performs-refused g.S.Source.state (λ w. generate_behavior settings tool w name) (λ g. g) c.args.streams.now
+    let kept = ap (λ (m : InputsState g.row.S.Denot). m.stdin_taken) c.in_err-outcome.ensures.stdin_kept in
+    let stop = err_from_is_err_and c.from_residual.result c.from_residual.ensures.1 in
+    rw (stop.1, stop.2) (Performs-refused g.S.Source.state (λ w. generate_behavior settings tool w name) (λ g. g) c.args.streams.now
     (record c.args.streams.now { inputs = c.hash_name.new.inputs })
-    (λ w. one_step settings tool name (digest_or_fault settings.kind (answer_to w name))) c.in-None.ensures.outcome
-    c.in-None.ensures.asked kept refl c.in-None.ensures.refusals
+    (λ w. one_step settings tool name (digest_or_fault settings.kind (answer_to w name))) c.in_err-outcome.ensures.outcome
+    c.in_err-outcome.ensures.asked kept refl c.in_err-outcome.ensures.refusals)
 
 -- the name was read, and its line written
 pub returns-in-Ok-clause-behavior : goal.returns-in-Ok-clause-behavior
 returns-in-Ok-clause-behavior g c =
-    let done = c.in-Some.ensures in
+    let done = c.in_ok-outcome.ensures in
     generate-performed g.S.Source.state _ _ c.args.name.now _ c.args.streams.now
     (record { inputs = c.hash_name.new.inputs; outputs = _ }) _ (Ok _) done.outcome
     (asks_name done.asked done.stdin_taken done.refusals) c.in-Ok.ensures refl
@@ -32,8 +34,8 @@ returns-in-Ok-clause-behavior g c =
 -- it could not be opened or read, and the line of its fault was written
 pub returns-in-Err-clause-behavior : goal.returns-in-Err-clause-behavior
 returns-in-Err-clause-behavior g c =
-    let done = c.in-Some.ensures in
+    let done = c.in_ok-outcome.ensures in
     generate-performed g.S.Source.state _ _ c.args.name.now _ c.args.streams.now
     (record { inputs = c.hash_name.new.inputs; outputs = _ }) _ (Err _) done.outcome
     (asks_name done.asked done.stdin_taken done.refusals) c.in-Err.ensures refl
-    (writes_and_returns c.put_fault_line-written.result c.outcome_after-in-Err.ensures c.put_fault_line-written.ensures)
+    (writes_and_returns c.put_name_fault_line-written.result c.outcome_after-in-Err.ensures c.put_name_fault_line-written.ensures)

@@ -1,4 +1,4 @@
-use Rattle.sum_engine.proofs.SamePrefix.{same_front}
+use Rattle.sum_engine.proofs.SameFrontLemmas.{same_front}
 use Rattle.sum_engine.proofs.laws.same_front.Goals as goal
 
 pub returns : goal.returns

@@ -1,18 +1,18 @@
 use Rattle.std.proofs.Common.{◌≡◌, true, Ok, Err, ap, sym, ◌∙◌, arith, rules}
 use Rattle.sum_engine.specs.check.CheckerSteps.{Ended}
 use Rattle.sum_engine.proofs.ExecutionLemmas.{KeepsStdin-trans}
-use Rattle.sum_engine.proofs.CheckLinesLemmas.{IsAlong-none, IsAlong-more, IsAlong-last, phase-initial, step-good, step-files, step-refusals}
+use Rattle.sum_engine.proofs.CheckLinesLemmas.{HasComeTo-none, HasComeTo-more, HasComeTo-last, phase-initial, step-good, step-files, step-refusals}
 use Rattle.sum_engine.proofs.ReadToEndLemmas.{ReadToEnd-none, ReadToEnd-trans}
 use Rattle.sum_engine.proofs.check.check_one.check_lines.Goals as goal
 
 pub lines-init : goal.lines-init
-lines-init g c = search (rules, IsAlong-none, phase-initial, ReadToEnd-none)
+lines-init g c = search (rules, HasComeTo-none, phase-initial, ReadToEnd-none)
 
 -- a step stopped
 pub returns-in-Err-clause-behavior : goal.returns-in-Err-clause-behavior
 returns-in-Err-clause-behavior g c =
     let so_far = c.lines.invariant in
-    IsAlong-last g.I.Input.state g.S.Source.state c.args.checker.now c.args.streams.now c.lines.checker c.step.new.self
+    HasComeTo-last g.I.Input.state g.S.Source.state c.args.checker.now c.args.streams.now c.lines.checker c.step.new.self
     c.lines.streams c.step.new.streams c.step.new.line.items (Err c.in-Err.stop) c.requires.start so_far.along
     (c.in-Err.ensures.advances so_far.going).verdict.cursor.bounds (c.in-Err.ensures.step so_far.going)
 
@@ -21,7 +21,7 @@ pub returns-in-Ok-Ended-clause-behavior : goal.returns-in-Ok-Ended-clause-behavi
 returns-in-Ok-Ended-clause-behavior g c =
     let so_far = c.lines.invariant in
     let step = rw c.in-Ok-Ended.field-0-is at (c.in-Ok-Ended.ensures.step so_far.going) in
-    IsAlong-last g.I.Input.state g.S.Source.state c.args.checker.now c.args.streams.now c.lines.checker c.step.new.self
+    HasComeTo-last g.I.Input.state g.S.Source.state c.args.checker.now c.args.streams.now c.lines.checker c.step.new.self
     c.lines.streams c.step.new.streams c.step.new.line.items (Ok c.in-Ok-Ended.good) c.requires.start so_far.along
     (c.in-Ok-Ended.ensures.advances so_far.going).verdict.cursor.bounds step
 
@@ -45,7 +45,7 @@ lines-preserved g c =
     let files = step-files advances in
     let refusals = step-refusals advances in
     record {
-      along = IsAlong-more g.I.Input.state g.S.Source.state c.args.checker.now c.args.streams.now c.lines.checker
+      along = HasComeTo-more g.I.Input.state g.S.Source.state c.args.checker.now c.args.streams.now c.lines.checker
           c.step.new.self c.lines.streams c.step.new.streams c.step.new.line.items so_far.along advances done.flushed
           (rw c.in-Ok-Going.field-0-is at (done.step so_far.going));
       going = advances.final_answer;

@@ -60,10 +60,10 @@ returns-in-Err-Fault-clause-behavior g c =
     let dash : is_dash c.args.name.now ≡ false = search rules in
     let answer = rw c.in-Err-Fault.field-0-is at c.in-Err-Fault.ensures.answer in
     let refusals = rw c.in-Err-Fault.field-0-is at (ap (λ (n : FileCounts). n.refusals) c.in-Err-Fault.ensures.counts) in
-    let written = rw c.in-Err-Fault.fault-is at c.put_fault_line-written.ensures in
+    let written = rw c.in-Err-Fault.fault-is at c.put_name_fault_line-written.ensures in
     refused g.S.Source.state c.args.settings c.args.tool.now c.args.name.now c.args.streams.now g.S.File.Input.state
-    c.open_file.new.self c.in-Err-Fault.ensures.stdin c.in-Err-Fault.fault c.put_fault_line-written.new.outputs _
-    dash answer refusals (writes_and_returns c.put_fault_line-written.result c.outcome_after.ensures written)
+    c.open_file.new.self c.in-Err-Fault.ensures.stdin c.in-Err-Fault.fault c.put_name_fault_line-written.new.outputs _
+    dash answer refusals (writes_and_returns c.put_name_fault_line-written.result c.outcome_after.ensures written)
 
 -- it is a file
 pub returns-in-Ok-clause-behavior : goal.returns-in-Ok-clause-behavior

@@ -1,4 +1,4 @@
-use Rattle.std.proofs.Common.{◌≡◌, ◌&&◌, false, Some, rules}
+use Rattle.std.proofs.Common.{◌≡◌, ◌&&◌, false, Ok, rules}
 use Rattle.sum_lines.specs.grammar.Entries.{EntryValue}
 use Rattle.sum_engine.specs.Behavior.{is_dash}
 use Rattle.sum_engine.specs.refinement.HashName.{HashesName}
@@ -18,7 +18,7 @@ returns-clause-verdict g c =
       | else-rules-via-else-rules
           w ↦ search rules
     ] in
-    InSomeWorld-map {P = λ w v. HashesName s.kind w v s.name (Some c.in_ok-outcome.outcome)}
+    InSomeWorld-map {P = λ w v. HashesName s.kind w v s.name (Ok c.in_ok-outcome.outcome)}
     c.in_ok-outcome.ensures.outcome (λ w v hashed.
     judged_entry r w v s c.in_ok-outcome.outcome _ dash hashed (rw (← c.rules.view_is) c.compare.ensures))
 

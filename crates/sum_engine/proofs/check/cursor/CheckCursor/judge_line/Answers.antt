@@ -1,4 +1,4 @@
-use Rattle.std.proofs.Common.{◌≡◌, Some, slice_range, refl, sym}
+use Rattle.std.proofs.Common.{◌≡◌, Ok, slice_range, refl, sym}
 use Rattle.sum_lines.specs.grammar.Entries.{EntryValue}
 use Rattle.sum_lines.specs.grammar.ParsedLines.{entry}
 use Rattle.sum_engine.specs.refinement.Judging.{JudgeOf, parsed_at}
@@ -20,6 +20,6 @@ returns-in_ok-verdict-in-Entry-clause-verdict g c =
     (sym (rw (listed.is, read.form) at read.parsed)) in
     let judged = rw c.deref.ensures.value at c.in_ok-verdict-in-Entry.ensures.verdict in
     rw c.count_verdict-in-Entry.ensures.is (InSomeWorld-map
-    {P = λ w v. JudgeOf old.rules w v (entry s) (Some c.in_ok-verdict-in-Entry.verdict)} (rw (← c.self.view_is, ← c.self-inside.view_is) judged)
+    {P = λ w v. JudgeOf old.rules w v (entry s) (Ok c.in_ok-verdict-in-Entry.verdict)} (rw (← c.self.view_is, ← c.self-inside.view_is) judged)
     (λ w v is. judged-line old line (entry s) _ _ vector w v _ _ _ said is
     (rw (← c.self.view_is, ← c.self-inside.view_is) c.count_verdict-in-Entry.ensures.counts) refl (rw (← c.self.view_is, ← c.self-inside.view_is) refl)))

@@ -1,13 +1,14 @@
 use Rattle.std.proofs.Common.{rules, refl}
+use Rattle.std.proofs.lemmas.Result.{err_from_is_err_and}
 use Rattle.sum_engine.proofs.NextVerdictLemmas.{next_verdict-line, next_verdict-refused, next_verdict-end, next_verdict-stopped, stop_cause, cursor-advanced}
 use Rattle.sum_engine.proofs.check.cursor.CheckCursor.next_verdict.Goals as goal
 
 -- a line was judged
-pub returns-in-Some-clause-verdict : goal.returns-in-Some-clause-verdict
-returns-in-Some-clause-verdict g c =
+pub returns-in_ok-judge_line-in-Ok-Line-clause-verdict : goal.returns-in_ok-judge_line-in-Ok-Line-clause-verdict
+returns-in_ok-judge_line-in-Ok-Line-clause-verdict g c =
     let gives = rw c.in-Ok-Line.field-0-is at c.in-Ok-Line.ensures.line in
     let number = rw c.in-Ok-Line.field-0-is at c.in-Ok-Line.ensures.reader.lines in
-    let done = c.in-Some.ensures in
+    let done = c.in_ok-judge_line-in-Ok-Line.ensures in
     rw (← c.self.view_is) (next_verdict-line g.I.Input.state g.S.Source.state _ _ c.next_line.new.self _ _
     c.next_line.new.line.items c.judge_line.new.line.items
     (record {
@@ -16,15 +17,16 @@ returns-in-Some-clause-verdict g c =
       ahead = c.in-Ok-Line.ensures.bounds.ahead;
       profile = c.self.invariant.2;
     })
-    c.in-Some.verdict done.cursor done.len done.verdict)
+    c.in_ok-judge_line-in-Ok-Line.field-0 done.cursor done.len done.verdict)
 
 -- no memory to open the line's file
-pub returns-in-None-clause-verdict : goal.returns-in-None-clause-verdict
-returns-in-None-clause-verdict g c =
+pub returns-in_err-judge_line-in-Ok-Line-clause-verdict : goal.returns-in_err-judge_line-in-Ok-Line-clause-verdict
+returns-in_err-judge_line-in-Ok-Line-clause-verdict g c =
     let gives = rw c.in-Ok-Line.field-0-is at c.in-Ok-Line.ensures.line in
     let number = rw c.in-Ok-Line.field-0-is at c.in-Ok-Line.ensures.reader.lines in
-    let done = c.in-None.ensures in
-    rw (← c.self.view_is) (next_verdict-refused g.I.Input.state g.S.Source.state _
+    let done = c.in_err-judge_line-in-Ok-Line.ensures in
+    let stop = err_from_is_err_and c.from_residual.result c.from_residual.ensures.1 in
+    rw (stop.1, stop.2, ← c.self.view_is) (next_verdict-refused g.I.Input.state g.S.Source.state _
     c.judge_line.new.self c.next_line.new.self _ _ c.next_line.new.line.items
     c.judge_line.new.line.items
     (record {
@@ -35,13 +37,11 @@ returns-in-None-clause-verdict g c =
     })
     done.cursor.reader done.verdict)
 
--- how far the manifest was read: up to a line that was judged
-pub returns-in-Some-clause-cursor : goal.returns-in-Some-clause-cursor
-returns-in-Some-clause-cursor g c = search (rules, cursor-advanced)
-
--- or to one whose file could not be opened
-pub returns-in-None-clause-cursor : goal.returns-in-None-clause-cursor
-returns-in-None-clause-cursor g c = search (rules, cursor-advanced)
+-- how far the manifest was read: to a line whose file could not be opened
+pub returns-in_err-judge_line-in-Ok-Line-clause-cursor : goal.returns-in_err-judge_line-in-Ok-Line-clause-cursor
+returns-in_err-judge_line-in-Ok-Line-clause-cursor g c =
+    let stop = err_from_is_err_and c.from_residual.result c.from_residual.ensures.1 in
+    rw (stop.1, stop.2) (search (rules, cursor-advanced))
 
 -- no line remained
 pub returns-in-Ok-NoMore-clause-verdict : goal.returns-in-Ok-NoMore-clause-verdict
