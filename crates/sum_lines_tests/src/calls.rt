@@ -16,6 +16,6 @@ pub(crate) fn flush(sink: &mut impl Sink) -> Result<(), SinkFault> {
 }
 
 // A sink in memory that stops after so many bytes.
-pub(crate) fn known<const N: usize>(stop: usize) -> ToldSink<N> {
+pub(crate) fn known_sink<const N: usize>(stop: usize) -> ToldSink<N> {
     ToldSink::new(stop)
 }

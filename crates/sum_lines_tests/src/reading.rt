@@ -33,13 +33,13 @@ use Want::{Bad, Entry, Ignored};
 // with it.
 type Example<'a> = (&'a [u8], &'a [u8], &'a [u8], Want<'a>, Form);
 
-// What is said of the line. There is no contract, so that tests don't know more than they see.
-fn said(algos: Algos, form: Form, line: &mut Vec<u8>) -> (Reading, Form) {
+// What the line says. There is no contract, so that tests don't know more than they see.
+fn read(algos: Algos, form: Form, line: &mut Vec<u8>) -> (Reading, Form) {
     read_line(algos, form, line)
 }
 
 // What was read of the line.
-fn found<'a>(reading: &Reading, line: &'a [u8]) -> Want<'a> {
+fn finding<'a>(reading: &Reading, line: &'a [u8]) -> Want<'a> {
     match reading {
         Reading::Ignored => Ignored,
         Reading::Bad => Bad,
@@ -60,8 +60,8 @@ fn check_line(
 ) -> Form {
     let (_, digits, _, want, after) = example;
     let before = line.len();
-    let (reading, form) = said(algos, form, line);
-    assert_eq!(rt; (found(&reading, line), form), (want, after), "{text}");
+    let (reading, form) = read(algos, form, line);
+    assert_eq!(rt; (finding(&reading, line), form), (want, after), "{text}");
     assert!(rt; line.len() <= before, "{text}");
     match reading {
         Reading::Ignored => assert_eq!(rt; line.len(), before, "{text}"),

@@ -1,6 +1,6 @@
 //! What no contract says of sinks: when a real writer's interruptions, refusals and flushes become a fault.
 
-use crate::calls::{flush, known, offer, put};
+use crate::calls::{flush, known_sink, offer, put};
 use std::io;
 use std::io::{ErrorKind, Write};
 use std::process::Abort;
@@ -182,7 +182,7 @@ fn refusals_of_a_writer_are_faults(rt: HostRuntime) {
 
 // The writes of a sink in memory with this stop return this, and its bytes are these.
 fn check_told(rt: &impl Abort, stop: usize, turns: &[Turn], bytes: &[u8]) {
-    let mut sink: ToldSink<8> = known(stop);
+    let mut sink: ToldSink<8> = known_sink(stop);
     check_turns(rt, &mut sink, turns);
     // it buffers nothing
     assert_eq!(rt; flush(&mut sink), Ok(()));
@@ -204,7 +204,7 @@ fn a_told_sink_stops_at_its_place(rt: HostRuntime) {
 }
 
 fn check_number(rt: &impl Abort, number: u64, text: &[u8]) {
-    let mut sink: ToldSink<64> = known(64);
+    let mut sink: ToldSink<64> = known_sink(64);
     assert_eq!(rt; put_number(&mut sink, number), Ok(()));
     assert_eq!(rt; sink.bytes(), text);
 }
@@ -218,7 +218,7 @@ fn numbers(rt: HostRuntime) {
 
 #[test]
 fn escaped_names(rt: HostRuntime) {
-    let mut sink: ToldSink<64> = known(64);
+    let mut sink: ToldSink<64> = known_sink(64);
     assert_eq!(rt; put_escaped(&mut sink, b"\\a\n\rb"), Ok(()));
     assert_eq!(rt; sink.bytes(), br"\\a\n\rb".as_slice());
 }
@@ -226,7 +226,7 @@ fn escaped_names(rt: HostRuntime) {
 // The parts, put into a sink that stops after so many bytes, leave this.
 fn check_parts(rt: &impl Abort, stop: usize, answer: Result<(), SinkFault>, text: &[u8]) {
     let parts = [Part::Bytes(b"a\n"), Part::Escaped(b"a\n"), Part::Number(7)];
-    let mut sink: ToldSink<64> = known(stop);
+    let mut sink: ToldSink<64> = known_sink(stop);
     assert_eq!(rt; put_parts(&mut sink, &parts), answer);
     assert_eq!(rt; sink.bytes(), text);
 }

@@ -1,6 +1,6 @@
 //! Worked examples of lines that are written, and of names that are read back.
 
-use crate::calls::{known, put};
+use crate::calls::{known_sink, put};
 use digest_kinds::{Algo, Digest, Kind};
 use std::process::Abort;
 use std::test::Fail;
@@ -60,13 +60,13 @@ fn put_example(
 
 // Writes the example's line into a sink that stops after each count of bytes up to the line's length.
 fn check_example(rt: &impl Abort, example: &Example) {
-    let mut want: ToldSink<256> = known(256);
+    let mut want: ToldSink<256> = known_sink(256);
     for piece in [example.before, example.digits, example.after] {
         assert_eq!(rt; put(&mut want, piece), Ok(()));
     }
     let want = want.bytes();
     for stop in 0..=want.len() {
-        let mut sink: ToldSink<256> = known(stop);
+        let mut sink: ToldSink<256> = known_sink(stop);
         let answer = put_example(rt, &mut sink, example);
         let whole = stop == want.len();
         let wanted = if whole { Ok(()) } else { Err(SinkFault) };
