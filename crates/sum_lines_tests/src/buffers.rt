@@ -74,7 +74,7 @@ impl Sink for Recorder {
 }
 
 // A buffer over a sink that accepts at most so many bytes of a piece and fails at one of its writes.
-fn recorder(most: usize, fails_at: u64) -> Buffered<Recorder> {
+fn buffered_recorder(most: usize, fails_at: u64) -> Buffered<Recorder> {
     Buffered::new(Recorder::new(most, fails_at))
 }
 
@@ -109,7 +109,7 @@ fn take(rt: &impl Abort, buffer: &mut Buffered<Recorder>, step: Step) {
 // Does the steps in turn, over a sink that accepts at most so many bytes of a piece and fails at one of its writes. It
 // has accepted this in the end.
 fn follow(rt: &impl Abort, (most, fails_at): (usize, u64), steps: &[Step], taken: &[u8]) {
-    let mut buffer = recorder(most, fails_at);
+    let mut buffer = buffered_recorder(most, fails_at);
     for step in steps {
         take(rt, &mut buffer, *step);
     }
@@ -148,7 +148,7 @@ fn check_line(rt: &impl Abort, style: Style, name: &[u8], line: [&[u8]; 3]) {
     for part in line {
         assert_eq!(rt; put(&mut want, part), Ok(()));
     }
-    let mut buffer = recorder(8192, 0);
+    let mut buffer = buffered_recorder(8192, 0);
     let answer = put_md5_line(rt, &mut buffer, style, name);
     assert_eq!(rt; answer, Ok(()));
     check_lens(rt, &buffer, &[], b"");
@@ -199,7 +199,7 @@ fn nothing_is_written_before_a_flush(rt: HostRuntime) {
 // flush, and all of them after it.
 fn check_long(rt: &impl Abort, len: usize, step: usize, before: usize, lens: &[usize]) {
     let long = [b'x'; 20000];
-    let mut buffer = recorder(32768, 0);
+    let mut buffer = buffered_recorder(32768, 0);
     for piece in long[..len.min(20000)].chunks(step.max(1)) {
         assert_eq!(rt; put(&mut buffer, piece), Ok(()));
     }
@@ -344,7 +344,7 @@ fn a_flush_is_asked_below(rt: HostRuntime) {
 
 #[test]
 fn a_buffer_stands_on_a_buffer(rt: HostRuntime) {
-    let mut twice = Buffered::new(recorder(8192, 0));
+    let mut twice = Buffered::new(buffered_recorder(8192, 0));
     assert_eq!(rt; put(&mut twice, b"ab"), Ok(()));
     assert_eq!(rt; flush(&mut twice), Ok(()));
     check_lens(&rt, twice.get_ref(), &[2], b"!");
