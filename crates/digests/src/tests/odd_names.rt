@@ -130,7 +130,7 @@ fn odd_words(rt: HostRuntime) -> Result<(), Fail> {
 }
 
 // Texts that are written one after another.
-fn joined<A: Allocator + Copy>(alloc: A, texts: &[&[u8]]) -> Result<Vec<u8, A>, Fail> {
+fn join<A: Allocator + Copy>(alloc: A, texts: &[&[u8]]) -> Result<Vec<u8, A>, Fail> {
     let mut all = Vec::new(alloc);
     for text in texts {
         all.extend_from_slice(text)?;
