@@ -1,5 +1,5 @@
-"""Why a file can't be read: the program gives the system's reason wherever it names the file, as GNU's md5sum does. Only
-a file that isn't there is missing."""
+"""Why a file can't be read: the program gives the system's reason wherever it names the file, as GNU's md5sum does.
+Only a file that isn't there is missing."""
 
 import errno
 import os
