@@ -1,5 +1,5 @@
-"""Each line is there as soon as it is complete: a reader sees it while the next file is still awaited, a run that is
-ended leaves every line that it had completed, and both outputs in one file have the order of the run."""
+"""Each line is there as soon as it is complete. A reader sees it while the program still waits for the next file. A run
+that is ended leaves every line that it had completed. In one file both outputs have the order of the run."""
 
 import mmap
 import os

@@ -1,5 +1,5 @@
-"""Closed standard streams. Closed standard input is an input that faults, whatever file the system gives its number to;
-closed outputs are write errors if there is something to write."""
+"""Closed standard streams. A closed standard input is a fault, whichever file gets its number from the system. A closed
+output is a write error if there is something to write."""
 
 import hashlib
 import os

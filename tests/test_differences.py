@@ -1,5 +1,5 @@
-"""What the manual pages and documents say of GNU coreutils 9.1: most statements are tried with its tools and with ours.
-Beside another version, in which some of it may be different, these tests are skipped."""
+"""What the manual pages and documents say of GNU coreutils 9.1. Most statements are tried with GNU's tools and
+with ours. If another version is installed, these tests are skipped."""
 
 import hashlib
 import os

@@ -1,4 +1,4 @@
-"""One read of a run fails, by `strace`, and those after it would go on: the fault is never passed over."""
+"""`strace` makes one read of a run fail. The reads after it would succeed, and the program reports the fault."""
 
 import errno
 import hashlib

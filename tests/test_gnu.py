@@ -1,5 +1,5 @@
-"""Beside GNU coreutils, if it is installed: the same lines byte for byte in every style, and manifests of one verified
-by the other."""
+"""Against GNU coreutils, if they are installed: both write the same lines, byte for byte, in every style, and each
+verifies the other's manifests."""
 
 import os
 import random

@@ -1,5 +1,5 @@
-"""Names that aren't UTF-8: such a name is reported with its own bytes, and everything else is done as without it. And
-other words that aren't."""
+"""Names and other words that aren't UTF-8. Such a name is reported with its own bytes, and everything else is done as
+without it."""
 
 import os
 

@@ -1,4 +1,4 @@
-"""README: the commands that it shows do what it shows, and a stranger who goes its way arrives."""
+"""README: its commands do what it shows, and a stranger who follows it gets to the end."""
 
 import hashlib
 import os

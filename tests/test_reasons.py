@@ -1,5 +1,5 @@
-"""Why a file can't be read: the reason that the system gives, wherever the file is named, as GNU's md5sum tells it. And
-only what isn't there is missing."""
+"""Why a file can't be read: the program gives the system's reason wherever it names the file, as GNU's md5sum does.
+Only a file that isn't there is missing."""
 
 import errno
 import os
@@ -10,7 +10,7 @@ import stat
 import subprocess
 
 import harness
-from harness import M, Case, Ran, as_bytes, gnu
+from harness import M, Case, Ran, as_bytes, gnu, text_of
 from reference import NOT_FOUND, OTHER, REASONS
 from tracing import needs_strace, strace
 
@@ -88,8 +88,7 @@ class Reasons(Case):
 
     def test_table(self):
         """The definitions have just the C library's texts, and the code is proved to have the definitions'."""
-        with open(os.path.join(harness.TOP, "crates/sum_sources/specs/Faults.antt"), encoding="utf-8") as definitions:
-            rows = re.findall(r"\((\d+), codes \"(.*)\"\)", definitions.read())
+        rows = re.findall(r"\((\d+), codes \"(.*)\"\)", text_of("crates", "sum_sources", "specs", "Faults.antt"))
         found = {int(number): text.encode() for number, text in rows}
         self.assertEqual(found | {errno.ENOENT: NOT_FOUND, errno.EACCES: REASONS[errno.EACCES]}, REASONS)
 

@@ -1,5 +1,5 @@
-"""What the manual pages show to be typed: each recipe and example is typed as it is there, over trees in which all is
-well and in which it isn't. Its status is 0 only if all that it is for was done."""
+"""What the manual pages show to be typed. Each recipe and example is typed as it is there, over trees in which all is
+well and over others. Its status is 0 only if all that it is for was done."""
 
 import os
 import re

@@ -1,5 +1,5 @@
-"""Each line is handed to the system whole: through a pipe that keeps every write apart, each packet is one line. And
-nothing is lost if the system takes only a part of a write, or nothing."""
+"""Each line is handed to the system whole. Through a pipe that keeps every write apart, each packet is one line. If the
+system takes only a part of a write, or nothing, no byte is lost."""
 
 import fcntl
 import os

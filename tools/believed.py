@@ -210,7 +210,7 @@ def main(words):
         print(tables(written))
     else:
         sys.exit(__doc__)
-    sys.exit("\n".join(in_refinement()))
+    sys.exit("\n".join(in_refinement()) or 0)
 
 
 if __name__ == "__main__":

@@ -1,10 +1,11 @@
 """The tools, and the options of each as the program has them: its help names them, and it takes or refuses them."""
 
-import os
 import re
 import subprocess
 import sys
 from typing import NamedTuple, Optional
+
+from rattle import text_of
 
 LINE = re.compile(r"  (?:-(?P<short>\w), |    )--(?P<long>[a-z-]+)(?:=(?P<value>[A-Z]+))? +(?P<help>.*)")
 
@@ -18,8 +19,7 @@ class Tool(NamedTuple):
     standard: Optional[str] = None
 
 
-with open(os.path.join(os.path.dirname(os.path.abspath(__file__)), "tools.txt"), encoding="utf-8") as table:
-    ROWS = [line.rstrip().split(maxsplit=4) for line in table if not line.startswith("#")]
+ROWS = [line.split(maxsplit=4) for line in text_of("tools", "tools.txt").splitlines() if not line.startswith("#")]
 TOOLS = {name: Tool(owner == "GNU", *(digest and (digest[0], int(digest[1]), digest[2])))
          for name, owner, *digest in ROWS}
 DIGESTS = {name: tool for name, tool in TOOLS.items() if tool.tag}  # those that write one

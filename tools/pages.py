@@ -14,19 +14,13 @@ sys.dont_write_bytecode = True
 
 import shells  # noqa: E402  (nothing is to be left beside these files)
 from options import ALWAYS, DIGESTS, NEVER, TOOLS, WITH_CHECK, WITHOUT_CHECK, options_of  # noqa: E402
+from rattle import TOP, text_of  # noqa: E402
 from roff import WIDTH, bullet, escaped, inline, item, page, section, shown  # noqa: E402
 
-HERE = os.path.dirname(os.path.abspath(__file__))
-TOP = os.path.dirname(HERE)
 PROGRAM = os.path.join(TOP, "digests")  # builds what is stale
 DATE = "2026-11-27"  # of the last change of the texts
 FEWER = ", or fewer with `--length`"
 OWN = "man/own-names"  # the folder of pages for an installation without GNU's names
-
-
-def text_of(*names):
-    with open(os.path.join(TOP, *names), encoding="utf-8") as file:
-        return file.read()
 
 
 def version():

@@ -1,11 +1,8 @@
 """Completions for bash, zsh and fish, of the program and of each tool under its own name. The shells' own text is in
 shells/; what the options and tools are takes the place of @NAME@ there."""
 
-import os
-
 from options import ALWAYS, TOOLS, WITH_CHECK, WITHOUT_CHECK, cuts
-
-HERE = os.path.join(os.path.dirname(os.path.abspath(__file__)), "shells")
+from rattle import text_of
 
 
 def words_of(options):
@@ -58,8 +55,7 @@ def completions(known):
         table |= {name: words_of(options), f"ZSH_{name}": zsh_options(options)}
     files = {}
     for name in ("digests.bash", "_digests", "digests.fish"):
-        with open(os.path.join(HERE, name), encoding="utf-8") as file:
-            text = file.read()
+        text = text_of("tools", "shells", name)
         for key, value in table.items():
             text = text.replace(f"@{key}@", value)
         files[name] = text

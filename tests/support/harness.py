@@ -23,6 +23,7 @@ import unittest
 from typing import NamedTuple
 
 import options
+from rattle import TOP, text_of
 
 # Set by run.py: the program's absolute path, the seed of the first case at random, and how many cases a test tries.
 # Without `--seed` each day has cases of its own.
@@ -31,7 +32,6 @@ SEED = int(f"{datetime.date.today():%Y%m%d}0000")
 CASES = 1500
 
 NOT_FOR_THIS_MACHINE = 127  # the status of a program for later processors than the machine's
-TOP = os.path.dirname(os.path.dirname(os.path.dirname(os.path.abspath(__file__))))
 
 # Against what never ends, and far above what anything takes: a machine that halts for a while fails no test.
 RUN_SECONDS = 600
@@ -39,8 +39,7 @@ TEST_SECONDS = 1200
 SOON = 60  # for what is there at once
 
 # Tool: tag, digest of nothing, digest of "abc", as they were published; those that GNU has; and all names of tools.
-with open(os.path.join(TOP, "tests", "support", "digests.txt"), encoding="utf-8") as table:
-    PUBLISHED = {tool: row for tool, *row in map(str.split, table)}
+PUBLISHED = {tool: row for tool, *row in map(str.split, text_of("tests", "support", "digests.txt").splitlines())}
 TOOLS = {tool: (it.tag, *PUBLISHED[tool]) for tool, it in options.DIGESTS.items()}
 GNU_TOOLS = {tool: row for tool, row in TOOLS.items() if options.TOOLS[tool].of_gnu}
 NAMES = list(options.TOOLS)

@@ -1,22 +1,17 @@
 """What the manual pages and README show to be typed, for the tests of it."""
 
-import os
 import re
 import subprocess
 
-from harness import NAMES, TOP
+from harness import NAMES
+from rattle import text_of
 
 PAGES = [*NAMES, "digests"]
 
 
-def path_of(page):
-    return os.path.join(TOP, "man", f"{page}.1")
-
-
 def sections_of(page):
     """The sections of a page's source, with fonts and spelled signs as plain text."""
-    with open(path_of(page), encoding="utf-8") as file:
-        text = re.sub(r"\\f[BIR]|\\%|\\&", "", file.read())
+    text = re.sub(r"\\f[BIR]|\\%|\\&", "", text_of("man", f"{page}.1"))
     for spelled, sign in (("\\-", "-"), ("\\(aq", "'"), ("\\(ha", "^"), ("\\(ti", "~"), ("\\ ", " "), ("\\e", "\\")):
         text = text.replace(spelled, sign)
     _, *parts = re.split(r"(?m)^\.SH (.*)\n", text)
@@ -25,8 +20,7 @@ def sections_of(page):
 
 def sessions_of_readme():
     """README's commands after a `$`, block by block, each with the lines that it is to write."""
-    with open(os.path.join(TOP, "README.md"), encoding="utf-8") as file:
-        blocks = re.findall(r"(?m)(?:^    .*\n)+", file.read())
+    blocks = re.findall(r"(?m)(?:^    .*\n)+", text_of("README.md"))
     sessions = [re.findall(r"(?m)^    \$ (.*)\n((?:    (?!\$ ).*\n)*)", block) for block in blocks]
     return [[(command, [line[4:] for line in said.splitlines()]) for command, said in session]
             for session in sessions if session]

@@ -5,6 +5,7 @@ import re
 from dataclasses import dataclass
 
 from harness import Ran
+from rattle import text_of
 from reference import ALGORITHMS, World, checked, escape, generated
 
 NAMES = ["binary", "check", "tag", "text", "zero", "ignore-missing", "quiet", "status", "strict", "warn", "help",
@@ -133,8 +134,7 @@ def options_of(words):
     return Options("tag" if has("tag") else mode, has("zero"), size, report, has("strict"), has("ignore-missing"))
 
 
-with open(os.path.join(os.path.dirname(os.path.abspath(__file__)), "help.txt"), encoding="utf-8") as file:
-    HELP = file.read()
+HELP = text_of("tests", "support", "help.txt")
 LENGTH_LINE = "  -l, --length=BITS     digest length in bits, a multiple of 8, at most 512\n"
 
 

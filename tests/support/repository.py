@@ -6,6 +6,7 @@ import shutil
 
 import harness
 from harness import M, TOP, Case, Ran
+from rattle import text_of
 
 DEFAULT, FAST = "default", "x86-64-v3"
 
@@ -16,8 +17,7 @@ BOTH = [*ASKED, f"digests run --cpu {FAST} -- sha256sum"]
 # What `digests md5sum a` comes to.
 OF_A = Ran(0, f"{M}  a\n".encode(), b"")
 
-with open(os.path.join(TOP, "tests", "support", "rt.sh"), encoding="utf-8") as script:
-    RT = script.read()
+RT = text_of("tests", "support", "rt.sh")
 
 
 class Repository(Case):

@@ -7,6 +7,7 @@ import subprocess
 import time
 
 import harness
+from rattle import text_of
 
 PROMPT = b"ready to type> "
 ALL = "\x18a"  # the keys that put all completions into the line
@@ -21,8 +22,7 @@ class Terminal:
 
     def __init__(self, shell, folder, load, names):
         words, rc_name = SHELLS[shell]
-        with open(os.path.join(harness.TOP, "tests", "support", f"{shell}rc"), encoding="utf-8") as file:
-            rc = file.read()
+        rc = text_of("tests", "support", f"{shell}rc")
         home = os.path.join(folder, "home")
         os.makedirs(home, exist_ok=True)
         self.words = os.path.join(folder, "here", "words")
