@@ -1,18 +1,17 @@
 -- `check_lines`: a new checker runs to its end. What happened so far and what remains is the whole behavior (`HasComeTo`).
 -- A step that goes on keeps this. The step that ends or stops proves the contract by it.
-use Rattle.sum_sources.specs.declared.line_reader.Next.TheVariants.{NoMore}
-use Rattle.sum_engine.specs.check.NextVerdict.{VerdictResult, LineVerdict, counts_after, UnlessUnread, MemoryStopHasCause}
+use Rattle.sum_engine.specs.check.NextVerdict.{VerdictResult, counts_after, UnlessUnread}
 use Rattle.std.proofs.Common.{rules, ◌+◌, ◌<◌, ◌≡◌, ℕ, Bool, List, [], ◌∷◌, length, Option, None, Some, Result, Ok, Err, refl, sym, ◌∙◌, subst, option_map, IfSome, MatchOption, arith, true, ◌≤◌}
 use Rattle.sum_engine.specs.Behavior.{World, Step, Behavior}
 use Rattle.sum_sources.specs.Contents.{Content, InputState, clip, limit}
 use Rattle.sum_sources.specs.Sources.{SourceState}
 use Rattle.sum_engine.specs.check.CheckStates.{CheckState, initial_state, IsAtStart, remaining_behavior, CursorValue, state_at, InSomeCheck}
 use Rattle.sum_engine.specs.check.CheckerSteps.{Progress, Going, Ended, StepIs, TakesStep, step_then, progress_before, CheckerValue, AdvancesChecker, step_answer}
-use Rattle.sum_sources.specs.LineReaders.{MayRemain, IsBounded, consumed_count, IsReadSoFar, remaining_content}
+use Rattle.sum_sources.specs.LineReaders.{MayRemain, IsBounded, consumed_count, IsReadSoFar}
 use Rattle.sum_sources.proofs.ContentLemmas.{clip-short, limit-value}
 use Rattle.sum_engine.specs.check.CheckerLaws.{ManifestPerforms}
 use Rattle.sum_engine.specs.check.Verdicts.{Rules, all_verdicts}
-use Rattle.sum_engine.specs.Execution.{Unfinished, Stop, StreamsState, IsFlushed, WorldState, in_world, PerformsSteps, RefusalsMatch, ReadToEnd, IsOneMoreAtMost}
+use Rattle.sum_engine.specs.Execution.{Unfinished, Stop, StreamsState, IsFlushed, WorldState, in_world, PerformsSteps}
 use Rattle.sum_engine.specs.check.Reports.{LabelsValue}
 use Rattle.sum_engine.specs.check.Checking.{content_behavior}
 use Rattle.sum_engine.proofs.CountLemmas.{counts_then-none}
@@ -68,50 +67,18 @@ done_last c step later (Ok good) h is k =
 done_last {whole} c step later (Err stop) h is k =
     done_stops c whole.good (progress_before later.steps later.good) step later stop h is k
 
--- ---- what follows of a step, by what it returned
+-- ---- what follows of a step
 
-module _ {I S : Type 0} {input : I → InputState} {source : S → SourceState} {vector : List ℕ} {p q : CheckerValue I}
-    {a b : StreamsState S} where
-  -- a line was handled
-  pub step-number : AdvancesChecker input source vector p q a b (Ok Going)
-      → q.cursor.reader.lines ≡ p.cursor.reader.lines + 1
-  step-number h = by h.found h.failed h.answer h.verdict.cursor.number
-    where
-      by : (found : VerdictResult) (failed : Bool) → Ok Going ≡ step_answer q.cursor found failed
-          → ((v : LineVerdict) → found ≡ Ok (Some v) → q.cursor.reader.lines ≡ p.cursor.reader.lines + 1)
-          → q.cursor.reader.lines ≡ p.cursor.reader.lines + 1
-      by found failed is number = search rules
-
-  -- a good manifest is at the end of its input, and has no file that could not be read
-  pub step-good : AdvancesChecker input source vector p q a b (Ok (Ended true))
-      → (q.cursor.reader.final_answer ≡ Some (Ok NoMore)) × (q.cursor.counts.unread ≡ 0)
-  step-good h = by h.found h.failed h.answer h.verdict.cursor.end
-    where
-      by : (found : VerdictResult) (failed : Bool) → Ok (Ended true) ≡ step_answer q.cursor found failed
-          → (found ≡ Ok None → q.cursor.reader.final_answer ≡ Some (Ok NoMore))
-          → (q.cursor.reader.final_answer ≡ Some (Ok NoMore)) × (q.cursor.counts.unread ≡ 0)
-      by found failed is end = search rules
+module _ {I : Type 0} (p q : CursorValue I) where
+  -- a good manifest has no file that could not be read
+  pub step-good : (found : VerdictResult) (failed : Bool) → Ok (Ended true) ≡ step_answer q found failed
+      → q.counts.unread ≡ 0
+  step-good found failed is = search rules
 
   -- the listed file that was opened was read to its end, unless it is one more that could not be read
-  pub step-files : {x : Result Progress Stop} → AdvancesChecker input source vector p q a b x
-      → (p.cursor.counts.unread ≤ q.cursor.counts.unread)
-      × (q.cursor.counts.unread ≡ p.cursor.counts.unread → ReadToEnd source a.inputs b.inputs)
-  step-files h = by h.found (ReadToEnd source a.inputs b.inputs) h.verdict.cursor.counts h.verdict.read_to_end
-    where
-      by : (found : VerdictResult) (P : Type 0) → q.cursor.counts ≡ counts_after p.cursor.counts found
-          → UnlessUnread found P → (p.cursor.counts.unread ≤ q.cursor.counts.unread)
-          × (q.cursor.counts.unread ≡ p.cursor.counts.unread → P)
-      by found P counts read = search (rules, arith)
-
-  -- the source was refused memory only if that stopped the step
-  pub step-refusals : {x : Result Progress Stop} → AdvancesChecker input source vector p q a b x
-      → RefusalsMatch source IsOneMoreAtMost a.inputs b.inputs x
-  step-refusals {x} h = by h.found h.failed h.answer h.verdict.out_of_memory
-    where
-      by : (found : VerdictResult) (failed : Bool) → x ≡ step_answer q.cursor found failed
-          → MemoryStopHasCause (source a.inputs.source) (source b.inputs.source) (remaining_content input p.cursor.reader) found
-          → RefusalsMatch source IsOneMoreAtMost a.inputs b.inputs x
-      by found failed is cause = search rules
+  pub step-files : (found : VerdictResult) {P : Type 0} → q.counts ≡ counts_after p.counts found → UnlessUnread found P
+      → (p.counts.unread ≤ q.counts.unread) × (q.counts.unread ≡ p.counts.unread → P)
+  step-files found counts read = search (rules, arith)
 
 -- ---- from the first step on
 

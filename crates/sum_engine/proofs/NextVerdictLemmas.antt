@@ -14,12 +14,11 @@ use Rattle.sum_sources.proofs.LineLemmas.{line-some}
 use Rattle.sum_sources.proofs.RemainLemmas.{MayRemain-known}
 use Rattle.sum_lines.specs.grammar.ParsedLines.{ParsedLine}
 use Rattle.sum_engine.specs.check.Reports.{Counts}
-use Rattle.sum_engine.specs.check.NextVerdict.{LineVerdict, line_verdict_value, HasNoVerdictLeft, FindsVerdict, VerdictResult, counts_after}
+use Rattle.sum_engine.specs.check.NextVerdict.{LineVerdict, line_verdict_value, HasNoVerdictLeft, FindsVerdict, VerdictResult, counts_after, AdvancesCursor, MemoryStopHasCause}
 use Rattle.sum_engine.specs.check.Verdicts.{Verdict, lines_under}
 use Rattle.sum_engine.specs.Behavior.{Ending, Whole, Broken, World}
 use Rattle.sum_engine.specs.Execution.{InputsState, InSomeWorld}
 use Rattle.sum_engine.specs.check.CheckStates.{CursorValue, counts_with, state_at, InSomeCheck, CheckState, next_judged}
-use Rattle.sum_engine.specs.check.NextVerdict.{AdvancesCursor, MemoryStopHasCause}
 use Rattle.sum_engine.specs.refinement.Judging.{JudgeOf, name_in_line, TakesLine, JudgeLineOf, parsed_at}
 use Rattle.sum_engine.proofs.RestLemmas.{rest_on}
 use Rattle.sum_engine.proofs.StepLemmas.{InSomeCheck-made, some_remains, lines_now, ReadsLine, line_handled}

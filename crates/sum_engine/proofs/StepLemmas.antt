@@ -1,7 +1,4 @@
--- One step of a checker, `CheckCursor::next`: the next verdict was found, and its text was written.
--- `step_found`: a line had a verdict; its report is written, and the lines after it remain.
--- `step_end`: no line was left; the end is written, and nothing remains.
--- `step_refused`: memory ran out before the verdict; nothing is written, and all remains.
+-- One step of a checker, `Checker::step`: the next verdict was found, and its text was written.
 use Rattle.std.proofs.Common.{◌≡◌, ℕ, ◌+◌, ◌^◌, ◌<◌, ◌≤◌, Bool, true, false, is_err, option_map, if◌then◌else◌, List, [], ◌∷◌, length, Option, None, Some, MatchOption, Result, Ok, Err, inl, inr, ◌⊎◌, refl, ap, sym, ◌∙◌, rules, arith}
 use Rattle.sum_sources.specs.declared.line_reader.Next.TheVariants.{Line}
 use Rattle.sum_sources.specs.declared.line_reader.LineReader.{LineReader}
@@ -11,13 +8,13 @@ use Rattle.sum_sources.specs.Contents.{Content, InputState, empty_content, limit
 use Rattle.sum_sources.specs.Sources.{SourceState}
 use Rattle.sum_sources.specs.ManifestLines.{IsNextLine, lines}
 use Rattle.sum_sources.specs.LineReaders.{remaining_content, MayRemain, IsBounded, consumed_count}
-use Rattle.sum_lines.specs.Escape.{Profile, present}
-use Rattle.sum_engine.specs.check.Reports.{Report, LabelsValue, err_of, out_of, out_by, end_text, good}
-use Rattle.sum_engine.specs.check.Verdicts.{Ignored, lines_under, Rules, asks_of}
+use Rattle.sum_lines.specs.Escape.{present}
+use Rattle.sum_engine.specs.check.Reports.{LabelsValue, end_text, good}
+use Rattle.sum_engine.specs.check.Verdicts.{lines_under, Rules, asks_of}
 use Rattle.sum_engine.specs.check.CheckStates.{CursorValue, state_at, InSomeCheck, CheckState, counts_with, HandlesLine, next_judged, remaining_verdicts, remaining_behavior}
 use Rattle.sum_engine.specs.check.CheckerSteps.{Progress, Going, Ended, step_then, progress_before, step_answer, StepIs, TakesStep}
-use Rattle.sum_engine.specs.Execution.{Stop, Memory, Write, InputsState, StreamsState, WorldState, InSomeWorld, in_world, AskedMore}
-use Rattle.sum_engine.specs.check.NextVerdict.{MemoryStopHasCause, AdvancesVerdicts, LineVerdict, VerdictResult, line_verdict_value, FindsVerdict, HasNoVerdictLeft}
+use Rattle.sum_engine.specs.Execution.{Stop, Write, InputsState, StreamsState, WorldState, InSomeWorld, in_world}
+use Rattle.sum_engine.specs.check.NextVerdict.{AdvancesVerdicts, VerdictResult, line_verdict_value, FindsVerdict, HasNoVerdictLeft}
 use Rattle.sum_engine.specs.refinement.Judging.{TakesLine}
 use Rattle.sum_engine.specs.refinement.FoundTexts.{found_err, found_out}
 use Rattle.sum_engine.proofs.FlushedWriteLemmas.{writes_and_returns}
@@ -153,55 +150,64 @@ not_final p true final h = cc
 not_final p false None h = refl
 not_final p false (Some x) h = cc
 
--- writing failed
-abbrev failed : {E : Type 0} → E → Result (Unit {0}) E
-failed e = Err e
-
--- then memory had not run out
-pub answer-failed : {I E : Type 0} (q : CursorValue I) (x : VerdictResult) (e : E)
-    → (x ≡ Err line_stops.Memory → failed e ≡ Ok tt) → Err Write ≡ step_answer q x true
-answer-failed q (Err line_stops.Memory) e h = let none = h refl in cc
-answer-failed q (Err (line_stops.Fault f)) e h = refl
-answer-failed q (Ok None) e h = refl
-answer-failed q (Ok (Some v)) e h = refl
-
--- of an ignored line nothing is reported
-pub out_by-ignored : (p : Profile) (report : Report) (name : List ℕ) → out_by p report Ignored name ≡ []
-out_by-ignored p report name = search rules
-
 -- from the place p and the streams a to the place q and the streams b
 module _ {I S : Type 0} (input : I → InputState) (state : S → SourceState) (p q : CursorValue I) (a b : StreamsState S)
+    (labels : LabelsValue) (vector : List ℕ)
   where
-    -- the next verdict was found, or none is left, or memory was refused
-    abbrev Found : List ℕ → VerdictResult → Type 0
-    Found vector x = FindsVerdict input state vector p q a.inputs b.inputs x
+    -- the end was found, and its text was written, or a prefix of it
+    step_end : (e : Ending) (outcome : Bool) (y : Result Progress Stop)
+        → InSomeCheck input state p q a.inputs b.inputs (HasNoVerdictLeft p.rules e)
+        → AsksNames state a.inputs b.inputs [] → q.rules ≡ p.rules → outcome ≡ good q.rules e q.counts
+        → WritesAndReturns a.outputs b.outputs (end_text q.rules labels e q.counts) [] (Ended outcome) y
+        → TakesStep input state vector labels p q a b y
+    step_end e outcome y found asked same sum wrote = λ flushed.
+        rw wrote.returns (InSomeCheck-map found (λ c d w v f.
+        let r = p.rules in
+        let said = rw (same, f.counts) at (wrote.writes.1 flushed).1 in
+        let step : Step =
+        record { names = []; err = end_text r labels e p.counts; out = []; remaining = length c.bytes } in
+        step_by r labels (state_at p c w) (state_at q d v) (in_world state a w) (in_world state b v) vector step
+        (record { steps = []; good = outcome }) (Ended outcome) wrote.written
+        (ap (behavior_by r labels c.ending p.counts c) f.none
+        ∙ rw (counts_then-nil p.counts, f.ending, sum, same, f.counts) refl) refl
+        (HappenedOrPrefix-by (in_world state a w) (in_world state b v) [] _ [] wrote.written
+        (asks_in state a b asked f.world) said) (λ h. cc)))
 
-    -- a line was found, and its report was written, or a prefix of it
-    pub step_found : (labels : LabelsValue) (vector : List ℕ) (v : LineVerdict) (x : Result Progress Stop)
-        → Found vector (Ok (Some v))
-        → AsksNames state a.inputs b.inputs (asks_of (line_verdict_value vector v))
-        → WritesAndReturns a.outputs b.outputs (err_of p.rules labels (line_verdict_value vector v))
-        (out_of p.rules labels (line_verdict_value vector v)) Going x
-        → TakesStep input state vector labels p q a b x
-    step_found labels vector v x found asked said = λ flushed.
-        rw said.returns (InSomeCheck-map found (λ c d w v' f.
+    -- the next verdict was found, and then its text was written, or a prefix of it
+    pub step_taken : {E : Type 0} (x : VerdictResult) (w : Result (Unit {0}) E) (y : Result Progress Stop)
+        → FindsVerdict input state vector p q a.inputs b.inputs x
+        → AdvancesVerdicts input state vector p q a.inputs b.inputs x
+        → WritesAndFlushesBoth a.outputs b.outputs (found_err q labels vector x) (found_out q labels vector x) w
+        → (x ≡ Err line_stops.Memory → (w ≡ Ok tt) × (b.outputs ≡ a.outputs)) → y ≡ step_answer q x (is_err w)
+        → TakesStep input state vector labels p q a b y
+    -- a line had a verdict; its report is written, and the lines after it remain
+    step_taken (Ok (Some v)) w y found did wrote kept is = λ flushed.
         let j = line_verdict_value vector v in
+        let asked : AsksNames state a.inputs b.inputs (asks_of j) =
+        record { asked = did.asked; taken = did.stdin_taken; refusals = did.out_of_memory } in
+        let said = writes_and_returns w (answered q (Ok (Some v)) Going w refl refl is) (rw did.cursor.rules at wrote) in
+        rw said.returns (InSomeCheck-map found (λ c d w v f.
         let first = state_at p c w in
-        let next = state_at q d v' in
-        step_by p.rules labels first next (in_world state a w) (in_world state b v') vector
+        let next = state_at q d v in
+        step_by p.rules labels first next (in_world state a w) (in_world state b v) vector
         (line_step p.rules labels (length c.bytes) j) (remaining_behavior p.rules labels next) Going said.written
         (found_first p.rules labels first next j f.0.first f.0.counts f.1.rest) (going-before p.rules labels next)
         (HappenedOrPrefix-by _ _ (asks_of j) _ _ said.written (asks_in state a b asked f.0.world) (said.writes.1 flushed).1)
         (λ is. (refl, f.1))))
-
-    -- memory ran out, and both outputs stayed
-    pub step_refused : (labels : LabelsValue) (vector : List ℕ) → Found vector (Err line_stops.Memory)
-        → AskedMore (state a.inputs.source) (state b.inputs.source) [] → b.inputs.stdin_taken ≡ a.inputs.stdin_taken
-        → MemoryStopHasCause (state a.inputs.source) (state b.inputs.source) (remaining_content input p.reader)
-        (Err line_stops.Memory) → b.outputs ≡ a.outputs → TakesStep input state vector labels p q a b (Err Memory)
-    step_refused labels vector found asked taken cause outputs = λ flushed.
-        InSomeCheck-map found (λ c d w v f.
+    -- no line was left; the end is written, and nothing remains
+    step_taken (Ok None) w y found did wrote kept is =
+        let outcome = good q.rules Whole q.counts in
+        step_end Whole outcome y found (asks_none did.asked did.stdin_taken did.out_of_memory) did.cursor.rules refl
+        (writes_and_returns w (answered q (Ok None) (Ended outcome) w refl refl is) wrote)
+    step_taken (Err (line_stops.Fault f)) w y found did wrote kept is =
+        step_end (Broken f) false y found (asks_none did.asked did.stdin_taken did.out_of_memory) did.cursor.rules refl
+        (writes_and_returns w (answered q (Err (line_stops.Fault f)) (Ended false) w refl refl is) wrote)
+    -- memory ran out before the verdict; nothing is written, and all remains
+    step_taken (Err line_stops.Memory) w y found did wrote kept is = λ flushed.
+        rw is (InSomeCheck-map found (λ c d w v f.
         let first = first_step p.rules labels c.ending p.counts c (remaining_verdicts p.rules (state_at p c w)) in
+        let outputs = (kept refl).1 in
+        let cause = did.out_of_memory in
         record {
           step = first.0;
           later = first.1;
@@ -213,49 +219,7 @@ module _ {I S : Type 0} (input : I → InputState) (state : S → SourceState) (
             between = in_world state a w;
             are = refl;
             happened = Happened-none (in_world state a w);
-            refused = search rules;
+            refused = search (rules, did.asked, did.stdin_taken);
           };
           going = λ h. cc;
-        })
-
-    -- the end was found, and its text was written, or a prefix of it
-    pub step_end : (labels : LabelsValue) (vector : List ℕ) (e : Ending) (outcome : Bool) (x : Result Progress Stop)
-        → InSomeCheck input state p q a.inputs b.inputs (HasNoVerdictLeft p.rules e)
-        → AsksNames state a.inputs b.inputs [] → q.rules ≡ p.rules
-        → outcome ≡ good q.rules e q.counts
-        → WritesAndReturns a.outputs b.outputs (end_text q.rules labels e q.counts) [] (Ended outcome) x
-        → TakesStep input state vector labels p q a b x
-    step_end labels vector e outcome x found asked same sum wrote = λ flushed.
-        rw wrote.returns (InSomeCheck-map found (λ c d w v f.
-        let r = p.rules in
-        let said = rw (same, f.counts) at (wrote.writes.1 flushed).1 in
-        let step : Step =
-        record { names = []; err = end_text r labels e p.counts; out = []; remaining = length c.bytes } in
-        let last : Behavior = record { steps = []; good = outcome } in
-        step_by r labels (state_at p c w) (state_at q d v) (in_world state a w) (in_world state b v) vector step
-        last (Ended outcome) wrote.written
-        (ap (behavior_by r labels c.ending p.counts c) f.none
-        ∙ rw (counts_then-nil p.counts, f.ending, sum, same, f.counts) refl) refl
-        (HappenedOrPrefix-by (in_world state a w) (in_world state b v) [] _ [] wrote.written
-        (asks_in state a b asked f.world) said) (λ h. cc)))
-
-    -- the next verdict was found, and then its text was written, or a prefix of it
-    pub step_taken : {E : Type 0} (labels : LabelsValue) (vector : List ℕ) (x : VerdictResult) (w : Result (Unit {0}) E)
-        (y : Result Progress Stop) → Found vector x → AdvancesVerdicts input state vector p q a.inputs b.inputs x
-        → WritesAndFlushesBoth a.outputs b.outputs (found_err q labels vector x) (found_out q labels vector x) w
-        → (x ≡ Err line_stops.Memory → (w ≡ Ok tt) × (b.outputs ≡ a.outputs)) → y ≡ step_answer q x (is_err w)
-        → TakesStep input state vector labels p q a b y
-    step_taken labels vector (Ok (Some v)) w y found did wrote kept is =
-        step_found labels vector v y found
-        (record { asked = did.asked; taken = did.stdin_taken; refusals = did.out_of_memory })
-        (writes_and_returns w (answered q (Ok (Some v)) Going w refl refl is) (rw did.cursor.rules at wrote))
-    step_taken labels vector (Ok None) w y found did wrote kept is =
-        step_end labels vector Whole (good q.rules Whole q.counts) y found
-        (asks_none did.asked did.stdin_taken did.out_of_memory) did.cursor.rules refl
-        (writes_and_returns w (answered q (Ok None) (Ended (good q.rules Whole q.counts)) w refl refl is) wrote)
-    step_taken labels vector (Err (line_stops.Fault f)) w y found did wrote kept is =
-        step_end labels vector (Broken f) false y found (asks_none did.asked did.stdin_taken did.out_of_memory)
-        did.cursor.rules refl
-        (writes_and_returns w (answered q (Err (line_stops.Fault f)) (Ended false) w refl refl is) wrote)
-    step_taken labels vector (Err line_stops.Memory) w y found did wrote kept is =
-        rw is (step_refused labels vector found did.asked did.stdin_taken did.out_of_memory (kept refl).1)
+        }))

@@ -1,6 +1,5 @@
 -- The state of a call's streams, and what a call performs of a behavior: the form of the headline.
 use Rattle.std.specs.Prelude.{ℕ, ◌≡◌, ◌⊎◌, zero, suc, Bool, true, false, [], Option, Some, IfSome, Result, Err, ◌<◌, ◌||◌, List, ◌∷◌, ◌++◌, filter, not, filter_map, Ok}
-use Rattle.digest_kinds.specs.Basics.{ByteString}
 use Rattle.std.specs.List.{list_any}
 use Rattle.std.specs.Io.KnownBytes.{Appends}
 use Rattle.digest_kinds.specs.Limits.{one_more}
@@ -12,7 +11,7 @@ use Rattle.sum_lines.specs.sinks.Sinks.{SinkState, IsPrefix}
 pub use Rattle.sum_engine.specs.declared.streams.Streams.{Streams}
 pub use Rattle.sum_engine.specs.declared.stop.Stop.{Stop}
 pub use Rattle.sum_engine.specs.declared.stop.Stop.TheVariants.{Memory, Write}
-use Rattle.sum_engine.specs.Behavior.{World, is_dash, after, Event, Step, Behavior, trace, opened_name, err_byte, out_byte}
+use Rattle.sum_engine.specs.Behavior.{ByteString, World, is_dash, after, Event, Step, Behavior, trace, opened_name, err_byte, out_byte}
 
 -- where names are opened: the source itself; what standard input has left, if known, and whether it was taken
 pub record InputsState (S : Type 0) : Type 0 where

@@ -1,8 +1,7 @@
 -- The behavior of hashing one name.
 use Rattle.std.specs.Prelude.{true, false, [], ◌∷◌, codes, Result, Ok, Err}
-use Rattle.digest_kinds.specs.Basics.{ByteString}
 use Rattle.std.specs.List.{concat}
-use Rattle.sum_engine.specs.Behavior.{Fault, World, answer_to, digest_or_fault, Behavior, single_step}
+use Rattle.sum_engine.specs.Behavior.{ByteString, Fault, World, answer_to, digest_or_fault, Behavior, single_step}
 use Rattle.sum_sources.specs.Faults.{fault_text}
 use Rattle.sum_lines.specs.Lines.{line}
 pub use Rattle.sum_engine.specs.declared.settings.Settings.{Settings}

@@ -3,6 +3,5 @@
 pub mod Openings
 pub mod HashName
 pub mod FlushedWrites
-pub mod Counters
 pub mod FoundTexts
 pub mod Judging

@@ -44,8 +44,8 @@ impl<I: Input + Drop, S: Source> Inputs<I, S> {
         self.stdin.take()
     }
 
-    /// Puts back what `take_stdin` gave, so that its phase is known from then on. If several are put back, the first that
-    /// has an input stays.
+    /// Puts back what `take_stdin` gave, so that its phase is known from then on. If several are put back, the first
+    /// that has an input stays.
     pub(crate) fn put_back_stdin(&mut self, given: Given<I>)
         ensures phase { self.old.stdin_taken ≡ true → self.new ≡ record self.old {
           stdin_phase = option_or self.old.stdin_phase (option_map (λ input. (I.state input).phase) given);

@@ -10,7 +10,8 @@ use crate::streams::Outputs;
 use sum_lines::{Part, Sink, SinkFault, put_parts};
 use sum_sources::Fault;
 
-/// Writes the parts of a line, one after another, and flushes the sink. If that fails, a prefix of the line was written.
+/// Writes the parts of a line, one after another, and flushes the sink. If that fails, a prefix of the line was
+/// written.
 pub(crate) fn put_parts_flushed<S: Sink>(sink: &mut S, parts: &[Part]) -> Result<(), SinkFault>
     ensures { WritesAndFlushes (S.state sink.old) (S.state sink.new) (parts_text parts.now) result }
 {
@@ -60,7 +61,8 @@ pub(crate) fn put_name_fault<E: Sink>(
     name: &[u8],
     fault: Fault,
 ) -> Result<(), SinkFault>
-    ensures { WritesAndFlushes (E.state err.old) (E.state err.new) (name_fault_line present tool.now name.now fault) result }
+    ensures { WritesAndFlushes (E.state err.old) (E.state err.new)
+        (name_fault_line present tool.now name.now fault) result }
 {
     put_tool_line(err, tool, name, fault.text().as_bytes())
 }

@@ -81,7 +81,8 @@ fn checks(
         );
         let source = &streams.inputs.source;
         assert!(rt;
-            source.ended() == source.opened() || !good && source.ended() < source.opened(),
+            source.counts().ended == source.counts().opened
+                || !good && source.counts().ended < source.counts().opened,
             "{tool} in pieces of {piece}: {l}"
         );
     }
@@ -199,8 +200,8 @@ fn checks_twice(
         // Each file that was opened was read to its end.
         let source = &streams.inputs.source;
         assert_eq!(rt;
-            source.ended(),
-            source.opened(),
+            source.counts().ended,
+            source.counts().opened,
             "in pieces of {piece}: {l}"
         );
     }
@@ -366,6 +367,6 @@ fn front_page(rt: HostRuntime) -> Result<(), Fail> {
     let settings = CheckSettings::new(Algos::One(Algo::Md5));
     let good = check_one(rt.alloc(), settings, "md5sum", b"-", &mut streams);
     assert!(rt; good == Ok(true));
-    assert!(rt; streams.outputs.out.bytes() == b"abc.txt: OK\n");
+    assert!(rt; streams.outputs.out.bytes() == b"abc.txt: OK\n".as_slice());
     Ok(())
 }

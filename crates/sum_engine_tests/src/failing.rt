@@ -198,7 +198,7 @@ impl Example {
         if self.number == 0 && self.ending == BROKEN {
             Phase::Failed
         } else {
-            Phase::Ended
+            Phase::AtEnd
         }
     }
 

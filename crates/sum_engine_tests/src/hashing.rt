@@ -3,7 +3,9 @@ use digest_kinds::{Algo, Kind};
 use std::test::Fail;
 use sum_engine::{Inputs, Outputs, Settings, Stop, Streams, generate_one};
 use sum_lines::{Mode, Style, ToldSink};
-use sum_sources::{Answer, Ending, Fault, OpenFault, Phase, Source, Stdin, Told, ToldSource};
+use sum_sources::{
+    Answer, Ending, Fault, FileCounts, OpenFault, Phase, Source, Stdin, Told, ToldSource,
+};
 
 const TEXT: Style = Style {
     mode: Mode::Text,
@@ -116,7 +118,8 @@ fn fault_at_each_place(rt: HostRuntime) -> Result<(), Fail> {
             streams.outputs.err.bytes(),
             b"md5sum: f: Permission denied\n".as_slice()
         );
-        assert!(rt; streams.inputs.source.opened() == 1 && streams.inputs.source.ended() == 0);
+        let counts = streams.inputs.source.counts();
+        assert!(rt; counts.opened == 1 && counts.ended == 0);
     }
     Ok(())
 }
@@ -145,7 +148,8 @@ fn missing_file(rt: HostRuntime) -> Result<(), Fail> {
     assert_eq!(rt; streams.outputs.out.bytes(), lines.as_bytes());
     let fault = b"md5sum: x: No such file or directory\n".as_slice();
     assert_eq!(rt; streams.outputs.err.bytes(), fault);
-    assert!(rt; streams.inputs.source.opened() == 2 && streams.inputs.source.ended() == 2);
+    let counts = streams.inputs.source.counts();
+    assert!(rt; counts.opened == 2 && counts.ended == 2);
     Ok(())
 }
 
@@ -164,7 +168,8 @@ fn output_stops(rt: HostRuntime) -> Result<(), Fail> {
     assert!(rt; generate_one(&settings, "md5sum", b"a", &mut streams) == Err(Stop::Write));
     assert_eq!(rt; streams.outputs.out.bytes(), b"900150983c".as_slice());
     assert!(rt; streams.outputs.err.bytes().is_empty());
-    assert!(rt; streams.inputs.source.opened() == 1 && streams.inputs.source.ended() == 1);
+    let counts = streams.inputs.source.counts();
+    assert!(rt; counts.opened == 1 && counts.ended == 1);
     Ok(())
 }
 
@@ -188,15 +193,13 @@ fn stdin_twice(rt: HostRuntime) -> Result<(), Fail> {
 /// A source that has no memory to open any file.
 #[derive(Drop)]
 pub(crate) struct Refusing {
-    refusals: u64,
-    ended: u64,
+    counts: FileCounts,
 }
 
 impl Refusing {
     pub(crate) fn new() -> Refusing {
         Refusing {
-            refusals: 0,
-            ended: 0,
+            counts: FileCounts::NONE,
         }
     }
 }
@@ -206,17 +209,15 @@ impl Source for Refusing {
 
     ghost use Rattle.std.specs.Prelude.{None};
 
-    ghost state = { λ s. record { known = None; refusals = s.refusals; opened = 0; ended = s.ended } };
+    ghost state = { λ s. record { known = None; counts = s.counts } };
 
     fn open_file(&mut self, _name: &[u8]) -> Result<Told<'static>, OpenFault> {
-        self.refusals = self.refusals.saturating_add(1);
+        self.counts.refused();
         Err(OpenFault::Memory)
     }
 
     fn close_file(&mut self, file: Told<'static>) {
-        if file.phase() == Phase::Ended {
-            self.ended = self.ended.saturating_add(1);
-        }
+        self.counts.closed(file.phase());
     }
 }
 

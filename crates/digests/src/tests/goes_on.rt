@@ -2,7 +2,9 @@
 //! another file.
 use std::alloc::Global;
 use std::collections::VecDeque;
-use sum_sources::{Ending, Fault, Input, NoRoom, OpenFault, Phase, Source, Told, ToldSource};
+use sum_sources::{
+    Ending, Fault, FileCounts, Input, NoRoom, OpenFault, Phase, Source, Told, ToldSource,
+};
 
 // A file of two parts. After the end or the fault of the first part it goes on with the second.
 #[derive(Drop)]
@@ -39,8 +41,7 @@ pub(super) struct InTurn<'a> {
     // has no file, and records the names
     names: ToldSource<'a, Global>,
     piece: usize,
-    opened: u64,
-    ended: u64,
+    counts: FileCounts,
     failed: u64,
 }
 
@@ -50,8 +51,7 @@ impl<'a> InTurn<'a> {
             files: VecDeque::new(alloc),
             names: ToldSource::new(alloc, piece),
             piece,
-            opened: 0,
-            ended: 0,
+            counts: FileCounts::NONE,
             failed: 0,
         }
     }
@@ -72,7 +72,7 @@ impl<'a> InTurn<'a> {
 
     // How many files were opened, how many of these were closed at their end, and how many at their fault.
     pub(super) fn counts(&self) -> (u64, u64, u64) {
-        (self.opened, self.ended, self.failed)
+        (self.counts.opened, self.counts.ended, self.failed)
     }
 }
 
@@ -88,19 +88,18 @@ impl<'a> Source for InTurn<'a> {
             (length asked) (Err NotFound);
         asked = s.names.asked;
       });
-      refusals = s.names.refusals;
-      opened = s.opened;
-      ended = s.ended;
+      counts = s.counts;
     } };
 
     fn open_file(&mut self, name: &[u8]) -> Result<TwoParts<'a>, OpenFault> {
         if let Err(OpenFault::Memory) = self.names.open_file(name) {
+            self.counts.refused();
             return Err(OpenFault::Memory);
         }
         let Some((first, ending, second)) = self.files.pop_front() else {
             return Err(OpenFault::Fault(Fault::NotFound));
         };
-        self.opened = self.opened.saturating_add(1);
+        self.counts.opened();
         Ok(TwoParts {
             told: Told::new(first, ending, self.piece),
             second: Some(Told::new(second, Ending::Whole, self.piece)),
@@ -109,10 +108,9 @@ impl<'a> Source for InTurn<'a> {
     }
 
     fn close_file(&mut self, file: TwoParts<'a>) {
-        match file.phase {
-            Phase::AtEnd => self.ended = self.ended.saturating_add(1),
-            Phase::Failed => self.failed = self.failed.saturating_add(1),
-            _ => {}
+        self.counts.closed(file.phase);
+        if file.phase == Phase::Failed {
+            self.failed = self.failed.saturating_add(1);
         }
     }
 }

@@ -30,12 +30,7 @@ impl<'a, 'b> Source for FilesOn<'a, 'b> {
 
     ghost use Rattle.std.specs.Prelude.{None};
 
-    ghost state = { λ s. record {
-      known = None;
-      refusals = s.files.refusals;
-      opened = s.files.opened;
-      ended = s.files.ended;
-    } };
+    ghost state = { λ s. record { known = None; counts = s.files.counts } };
 
     fn open_file(&mut self, name: &[u8]) -> Result<Told<'a>, OpenFault> {
         take_seven(self.heap);

@@ -1,6 +1,5 @@
 -- The states of a manifest's check: what remains of it, and what was found so far.
 use Rattle.std.specs.Prelude.{ℕ, ◌≡◌, ◌+◌, ◌≤◌, List, [], ◌∷◌, length, None, option_map}
-use Rattle.digest_kinds.specs.Basics.{ByteString}
 use Rattle.sum_sources.specs.declared.line_reader.LineReader.{LineReader}
 use Rattle.sum_sources.specs.Contents.{Content, InputState, clip}
 use Rattle.sum_sources.specs.Sources.{SourceState}
@@ -11,8 +10,8 @@ use Rattle.sum_lines.specs.grammar.Entries.{form_then, line_form, form}
 use Rattle.sum_lines.specs.grammar.ParsedLines.{parse_line}
 use Rattle.sum_engine.specs.check.Verdicts.{Form, Verdict, Ignored, Bad, Right, Wrong, Missing, Unread, lines_under, Rules, LineVerdictValue, judge, verdicts}
 use Rattle.sum_engine.specs.Execution.{InputsState, MayBeIn}
-use Rattle.sum_engine.specs.check.Reports.{LabelsValue, Counts, counts_of, end_text, good}
-use Rattle.sum_engine.specs.Behavior.{World, Behavior}
+use Rattle.sum_engine.specs.check.Reports.{LabelsValue, Counts, counts_of, entries, end_text, good}
+use Rattle.sum_engine.specs.Behavior.{ByteString, World, Behavior}
 use Rattle.sum_engine.specs.check.Checking.{line_steps}
 
 -- the counts of no line, those with one line more, and those of lines and then of others
@@ -35,6 +34,10 @@ counts_then c d = record {
   unread = c.unread + d.unread;
   bad = c.bad + d.bad;
 }
+
+-- how many lines are not ignored
+abbrev pub total : Counts → ℕ
+total c = entries c + c.bad
 
 -- the state of a manifest's check: what remains of it, the lines handled, the bytes that these consumed and those that
 -- its input has given, the form and the counts so far, and the world
@@ -104,12 +107,13 @@ state_at p c w = record {
   world = w;
 }
 
--- P holds between the check's states at two places and inputs: whatever remains after, in whatever world, there is a state
--- before
+-- P holds between the check's states at two places and inputs: for every content that may remain after, and every world,
+-- there is a state before
 pub record InSomeCheck {I S : Type 0} (input : I → InputState) (source : S → SourceState) (p q : CursorValue I)
     (a b : InputsState S) (P : CheckState → CheckState → Type 0) : Type 0 where
   pub before : (d : Content) (v : World) → MayRemain input q.reader d → MayBeIn source b v
-      → (c : Content) × (w : World) × MayRemain input p.reader c × MayBeIn source a w × P (state_at p c w) (state_at q d v)
+      → (c : Content) × (w : World) × MayRemain input p.reader c × MayBeIn source a w
+      × P (state_at p c w) (state_at q d v)
 
 -- it is at the first line of that input; nothing of it was read
 pub record IsAtStart {I : Type 0} (state : I → InputState) (p : CursorValue I) (input : I) : Type 0 where

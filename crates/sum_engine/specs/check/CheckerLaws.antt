@@ -1,6 +1,5 @@
 -- The laws of a checker's steps over a whole manifest, of the lines that precede a line, and of the end.
 use Rattle.std.specs.Prelude.{ℕ, ◌≡◌, ◌+◌, ◌≤◌, ◌↔◌, Bool, List, [], ◌∷◌, take, length, flat_map, Option, Result, IfSome, ◌++◌, None, Ok, Err, slice_index_or}
-use Rattle.digest_kinds.specs.Basics.{ByteString}
 use Rattle.std.specs.Io.KnownBytes.{Appends}
 use Rattle.digest_kinds.specs.Kinds.{KindValue}
 use Rattle.sum_sources.specs.declared.line_reader.LineStop.TheVariants.{Fault}
@@ -11,7 +10,7 @@ use Rattle.sum_lines.specs.Escape.{escape}
 use Rattle.sum_lines.specs.grammar.Shapes.{IsPlain}
 use Rattle.sum_lines.specs.grammar.Entries.{EntryValue, IsEntry, form}
 use Rattle.sum_engine.specs.Execution.{Stop, Write, StreamsState, WorldState, IsFlushed, InSomeWorld, in_world, AskedMore, Happened, PrefixHappened, PerformsSteps}
-use Rattle.sum_engine.specs.Behavior.{after, Behavior, trace, out_text, err_text, asks, Ending, Whole, Broken, World}
+use Rattle.sum_engine.specs.Behavior.{ByteString, after, Behavior, trace, out_text, err_text, asks, Ending, Whole, Broken, World}
 use Rattle.sum_engine.specs.check.Verdicts.{lines_under, Rules, LineVerdictValue, asks_of, all_verdicts, verdicts}
 use Rattle.sum_engine.specs.check.Reports.{LabelsValue, out_of, err_of, counts_of, end_text, good}
 use Rattle.sum_engine.specs.check.Checking.{content_behavior}
@@ -37,7 +36,8 @@ EventsExtend = (r : Behavior) (a b : WorldState) → Happened a b (trace r.steps
     × Appends a.outputs.out.written b.outputs.out.written (out_text r)
 
 -- steps that each returned Going, one after another; the line's vector then held these
-abbrev pub StepsGoing : Rules → LabelsValue → CheckState → CheckState → WorldState → WorldState → List ByteString → Type 0
+abbrev pub StepsGoing : Rules → LabelsValue → CheckState → CheckState → WorldState → WorldState → List ByteString
+    → Type 0
 StepsGoing r labels a b s t [] = (b ≡ a) × (t ≡ s)
 StepsGoing r labels a b s t (vector ∷ vectors) = (m : CheckState) × (between : WorldState)
     × StepIs r labels vector a m s between (Ok Going) × StepsGoing r labels m b between t vectors
@@ -63,7 +63,8 @@ pub record AfterSteps (r : Rules) (labels : LabelsValue) (c : Content) (js : Lis
   -- what the input gave goes at most 8192 bytes beyond the end of line k
   pub taken : b.taken + length (past_lines k c).bytes ≤ length c.bytes + 8192
   -- each vector holds at most as many bytes as its line
-  pub vector_lens : (i : ℕ) → length (slice_index_or vectors i []) ≤ length (slice_index_or (lines_under r.profile c) i [])
+  pub vector_lens : (i : ℕ)
+      → length (slice_index_or vectors i []) ≤ length (slice_index_or (lines_under r.profile c) i [])
   pub end : (outcome : Bool) (vector : ByteString) (d : CheckState) (z : WorldState)
       → StepIs r labels vector b d t z (Ok (Ended outcome)) → EndsManifest r labels c js k t z outcome
   -- if the next step fails to write, a prefix of the manifest's whole trace happened
@@ -77,8 +78,8 @@ StepsJoin = (r : Rules) (labels : LabelsValue) (c : Content) (b : CheckState) (s
 
 -- a line after the same lines, in two manifests: it spells the same entry; the verdicts up to its own are the same
 -- after the same asks; and if it is plain, the form is the same
-pub record FrontIsSame (r : Rules) (w : World) (before : List ByteString) (line : ByteString) (later others : List ByteString)
-    : Type 0 where
+pub record FrontIsSame (r : Rules) (w : World) (before : List ByteString) (line : ByteString)
+    (later others : List ByteString) : Type 0 where
   pub entry : (s : EntryValue) → IsEntry escape r.algo (form r.algo (before ++ (line ∷ later))) line s
       ↔ IsEntry escape r.algo (form r.algo (before ++ (line ∷ others))) line s
   pub verdict :
@@ -99,5 +100,5 @@ ending_answer (Broken f) = Err (Fault f)
 
 -- once that was returned, it is returned again
 abbrev pub EndStays : Type 0
-EndStays = (r : Rules) (e : Ending) (vector : ByteString) (a b c : CheckState) (x : Result (Option LineVerdict) LineStop)
-    → HasNoVerdictLeft r e a b → NextVerdictIs r vector b c x → x ≡ ending_answer e
+EndStays = (r : Rules) (e : Ending) (vector : ByteString) (a b c : CheckState)
+    (x : Result (Option LineVerdict) LineStop) → HasNoVerdictLeft r e a b → NextVerdictIs r vector b c x → x ≡ ending_answer e

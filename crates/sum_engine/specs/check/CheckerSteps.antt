@@ -1,6 +1,5 @@
 -- A checker, and what its next step does.
 use Rattle.std.specs.Prelude.{Bool, true, false, ◌≡◌, List, [], ◌∷◌, Option, None, Some, Result, Ok, Err}
-use Rattle.digest_kinds.specs.Basics.{ByteString}
 pub use Rattle.sum_engine.specs.declared.check.progress.Progress.{Progress}
 pub use Rattle.sum_engine.specs.declared.check.progress.Progress.TheVariants.{Going, Ended}
 use Rattle.sum_sources.specs.declared.line_reader.LineStop.TheVariants.{Fault, Memory}
@@ -9,7 +8,7 @@ use Rattle.sum_sources.specs.Contents.{InputState}
 use Rattle.sum_engine.specs.check.Verdicts.{Rules}
 use Rattle.sum_engine.specs.Execution.{Stop, Write, WorldState, PerformsSteps, StreamsState, IsFlushed, FailuresMatch, KeepsOutputsOnMemory, in_world}
 use Rattle.sum_engine.specs.check.Reports.{LabelsValue, good}
-use Rattle.sum_engine.specs.Behavior.{Whole, Step, Behavior}
+use Rattle.sum_engine.specs.Behavior.{ByteString, Whole, Step, Behavior}
 use Rattle.sum_engine.specs.check.CheckStates.{CheckState, HandlesLine, remaining_behavior, CursorValue, InSomeCheck}
 use Rattle.sum_engine.specs.check.NextVerdict.{VerdictResult, AdvancesVerdicts}
 use Rattle.sum_engine.specs.declared.stop.Stop.TheVariants as stops

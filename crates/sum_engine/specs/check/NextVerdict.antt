@@ -1,9 +1,8 @@
 -- What the next verdict of a manifest is; no text is written.
 use Rattle.std.specs.Prelude.{◌≡◌, ◌+◌, ◌≤◌, ◌<◌, ◌⊎◌, ◌||◌, List, [], ◌∷◌, length, slice_range, Bool, true, false, Option, None, Some, IfSome, Result, Ok, Err}
-use Rattle.digest_kinds.specs.Basics.{ByteString}
 use Rattle.std.specs.List.{list_any}
 use Rattle.digest_kinds.specs.Limits.{one_more}
-use Rattle.sum_engine.specs.Behavior.{Ending, Whole, Broken, is_dash, after}
+use Rattle.sum_engine.specs.Behavior.{ByteString, Ending, Whole, Broken, is_dash, after}
 pub use Rattle.sum_sources.specs.declared.line_reader.LineStop.{LineStop}
 use Rattle.sum_sources.specs.declared.line_reader.LineStop.TheVariants.{Fault, Memory}
 use Rattle.sum_sources.specs.declared.line_reader.Next.TheVariants.{NoMore}
@@ -47,15 +46,17 @@ pub record HasNoVerdictLeft (r : Rules) (e : Ending) (a b : CheckState) : Type 0
 
 -- what the next verdict is, by what the call returns
 abbrev pub NextVerdictIs : Rules → ByteString → CheckState → CheckState → VerdictResult → Type 0
-NextVerdictIs r vector a b (Ok (Some v)) = FindsFirstVerdict r a b (line_verdict_value vector v) × HandlesLine r a b vector
+NextVerdictIs r vector a b (Ok (Some v)) =
+    FindsFirstVerdict r a b (line_verdict_value vector v) × HandlesLine r a b vector
 NextVerdictIs r vector a b (Ok None) = HasNoVerdictLeft r Whole a b
 NextVerdictIs r vector a b (Err (Fault f)) = HasNoVerdictLeft r (Broken f) a b
 NextVerdictIs r vector a b (Err Memory) = (b.world ≡ a.world) × (0 < length a.rest.bytes)
 
 -- the same between two places and inputs, in some world
-abbrev pub FindsVerdict : {I S : Type 0} → (I → InputState) → (S → SourceState) → ByteString → CursorValue I → CursorValue I
-    → InputsState S → InputsState S → VerdictResult → Type 0
-FindsVerdict input source vector p q a b x = InSomeCheck input source p q a b (λ c d. NextVerdictIs p.rules vector c d x)
+abbrev pub FindsVerdict : {I S : Type 0} → (I → InputState) → (S → SourceState) → ByteString → CursorValue I
+    → CursorValue I → InputsState S → InputsState S → VerdictResult → Type 0
+FindsVerdict input source vector p q a b x =
+    InSomeCheck input source p q a b (λ c d. NextVerdictIs p.rules vector c d x)
 
 -- after a line there is no final answer yet, and any other answer is final
 abbrev pub final_answer_of_next : VerdictResult → Option VerdictResult

@@ -1,8 +1,7 @@
 -- The law of old verdicts: a manifest of the time of older versions is checked alike under both profiles.
 use Rattle.std.specs.Prelude.{◌≡◌, ◌≢◌, ◌<◌, false, [], ◌∷◌, length, map, codes, All, Ok}
-use Rattle.digest_kinds.specs.Basics.{ByteString}
 use Rattle.sum_engine.specs.check.Reports.{LabelsValue, out_of, err_of, counts_of, end_text, good}
-use Rattle.sum_engine.specs.Behavior.{Whole, World}
+use Rattle.sum_engine.specs.Behavior.{ByteString, Whole, World}
 use Rattle.sum_sources.specs.Contents.{Content, clip}
 use Rattle.sum_sources.specs.Sources.{Answer}
 use Rattle.sum_sources.specs.ManifestLines.{raw_lines}
@@ -53,8 +52,8 @@ OldVerdicts = (r : Rules) (labels : LabelsValue) (w : World) (c : Content) → I
 
 -- so its whole behavior is the same, also if the manifest can't be opened
 abbrev pub OldOutcomes : Type 0
-OldOutcomes = (r : Rules) (labels : LabelsValue) (name : ByteString) (w : World) (answer : Answer) → HasNoCarriageReturn labels.manifest
-    → ((c : Content) → answer ≡ Ok c → IsOldManifest r labels (clip c))
+OldOutcomes = (r : Rules) (labels : LabelsValue) (name : ByteString) (w : World) (answer : Answer)
+    → HasNoCarriageReturn labels.manifest → ((c : Content) → answer ≡ Ok c → IsOldManifest r labels (clip c))
     → check_behavior_by (rules_under older r) labels name w answer
     ≡ check_behavior_by (rules_under present r) labels name w answer
 

@@ -1,11 +1,10 @@
 -- What checking writes: the reports of the lines, and the end of a manifest.
 use denote.Enum.Bare.{sameb}
-use Rattle.digest_kinds.specs.Basics.{ByteString}
 use Rattle.std.specs.Prelude.{ℕ, ◌+◌, ◌==◌, ◌&&◌, ◌||◌, Bool, true, false, not, List, [], ◌∷◌, ◌++◌, decimal, codes, filter, length, if◌then◌else◌}
 use Rattle.std.specs.List.{concat}
 use Rattle.sum_lines.specs.grammar.Shapes.{One, Any, mark}
 use Rattle.digest_kinds.specs.Kinds.{tag}
-use Rattle.sum_engine.specs.Behavior.{Ending, Whole, Broken}
+use Rattle.sum_engine.specs.Behavior.{ByteString, Ending, Whole, Broken}
 pub use Rattle.sum_engine.specs.declared.settings.Report.{Report}
 pub use Rattle.sum_engine.specs.declared.check.summary.Counts.{Counts}
 use Rattle.sum_engine.specs.declared.settings.Report.TheVariants.{Quiet, Warn, Status}

@@ -7,8 +7,8 @@ use Rattle.digest_kinds.specs.Limits.{one_more}
 use Rattle.sum_lines.specs.refinement.SinkStates.{AppendsPrefix}
 use Rattle.sum_engine.specs.Execution.{OutputsState, IsFlushed, HasNoFailure, HasOneFailure, Stop, Write}
 
--- a call that writes the text and flushes it, if the output is flushed before; then it is flushed after. A fault has one
--- failure more of the output, and a prefix of the text was written
+-- a call that writes the text and flushes it, if the output is flushed before; then it is flushed after. A fault has
+-- one failure more of the output, and a prefix of the text was written
 abbrev pub WritesAndFlushes : {E : Type 0} → SinkState → SinkState → ByteString → Result ⊤ E → Type 0
 WritesAndFlushes a b text r = MatchResult r (λ u. b.failures ≡ a.failures) (λ e. b.failures ≡ one_more a.failures)
     × (a.buffered ≡ [] → (b.buffered ≡ [])
@@ -32,8 +32,8 @@ outcome_after (Ok u) x = Ok x
 outcome_after (Err e) x = Err Write
 
 -- a call that writes these texts and flushes them, and then returns x; a write fault if that failed
-pub record WritesAndReturns {A : Type 0} (a b : OutputsState) (err out : ByteString) (x : A) (r : Result A Stop) : Type 0
-  where
-    pub written : Result ⊤ ⊤
-    pub writes : WritesAndFlushesBoth a b err out written
-    pub returns : r ≡ outcome_after written x
+pub record WritesAndReturns {A : Type 0} (a b : OutputsState) (err out : ByteString) (x : A) (r : Result A Stop)
+    : Type 0 where
+  pub written : Result ⊤ ⊤
+  pub writes : WritesAndFlushesBoth a b err out written
+  pub returns : r ≡ outcome_after written x

@@ -1,8 +1,7 @@
 -- What a step writes of what it found.
 use Rattle.std.specs.Prelude.{[], Some, None, Ok, Err}
-use Rattle.digest_kinds.specs.Basics.{ByteString}
 use Rattle.sum_sources.specs.declared.line_reader.LineStop.TheVariants.{Fault, Memory}
-use Rattle.sum_engine.specs.Behavior.{Whole, Broken}
+use Rattle.sum_engine.specs.Behavior.{ByteString, Whole, Broken}
 use Rattle.sum_engine.specs.check.Reports.{LabelsValue, err_of, out_of, end_text}
 use Rattle.sum_engine.specs.check.CheckStates.{CursorValue}
 use Rattle.sum_engine.specs.check.NextVerdict.{VerdictResult, line_verdict_value}

@@ -1,13 +1,12 @@
 -- Relates hashing one name to the world.
 use Rattle.std.specs.Prelude.{◌≡◌, [], ◌∷◌, length, Result, Ok, Err, ⊤}
-use Rattle.digest_kinds.specs.Basics.{ByteString}
 use Rattle.digest_kinds.specs.Kinds.{KindValue}
 use Rattle.sum_sources.specs.Contents.{Content}
 use Rattle.sum_sources.specs.Sources.{Answer, SourceState}
 use Rattle.digest_kinds.specs.Limits.{one_more}
 pub use Rattle.sum_engine.specs.declared.hash_name.HashOutcome.{HashOutcome}
 pub use Rattle.sum_sources.specs.declared.fault.NoRoom.{NoRoom}
-use Rattle.sum_engine.specs.Behavior.{Fault, World, after, digest_or_fault, answer_to}
+use Rattle.sum_engine.specs.Behavior.{ByteString, Fault, World, after, digest_or_fault, answer_to}
 use Rattle.sum_engine.specs.declared.hash_name.HashOutcome.TheVariants as outcomes
 
 -- the digest of an outcome, or the fault of opening or reading

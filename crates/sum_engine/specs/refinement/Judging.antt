@@ -1,13 +1,12 @@
 -- Relates what the code finds of a line to what the line says, and to its verdict.
 use Rattle.std.specs.Prelude.{ℕ, ◌≡◌, Bool, [], Some, Result, Ok, Err, if◌then◌else◌, bytes_eq}
-use Rattle.digest_kinds.specs.Basics.{ByteString}
 use Rattle.sum_sources.specs.declared.fault.Fault.TheVariants.{NotFound}
 use Rattle.sum_lines.specs.grammar.Entries.{EntryValue, form_then, line_form}
 use Rattle.sum_engine.specs.declared.check.judge.ListedEntry.{ListedEntry}
 use Rattle.sum_engine.specs.refinement.HashName.{HashOutcome, NoRoom}
 use Rattle.sum_engine.specs.check.Verdicts.{Verdict, Right, Wrong, Missing, Unread, Rules, judge, asks_by, asks_of}
 use Rattle.sum_lines.specs.grammar.ParsedLines.{ParsedLine, ignored, bad, entry, parse_line}
-use Rattle.sum_engine.specs.Behavior.{World, after}
+use Rattle.sum_engine.specs.Behavior.{ByteString, World, after}
 use Rattle.sum_engine.specs.check.Reports.{Counts}
 use Rattle.sum_engine.specs.check.NextVerdict.{LineVerdict, VerdictResult, line_verdict_value}
 use Rattle.sum_sources.specs.declared.line_reader.LineStop.TheVariants.{Memory}
@@ -35,7 +34,8 @@ verdict_of_outcome ignore d (outcomes.Broken f) = Unread f
 -- memory nothing was asked
 abbrev pub JudgeOf : Rules → World → World → ParsedLine → Result Verdict NoRoom → Type 0
 JudgeOf r w v x (Err e) = v ≡ w
-JudgeOf r w v x (Ok verdict) = ((n : ℕ) → judge r w n x ≡ record { number = n; verdict = verdict; name = name_in_line x })
+JudgeOf r w v x (Ok verdict) =
+    ((n : ℕ) → judge r w n x ≡ record { number = n; verdict = verdict; name = name_in_line x })
     × (v ≡ after w (asks_by verdict (name_in_line x)))
 
 -- what a line says that was read at a place

@@ -22,9 +22,9 @@ use sum_sources::{Input, OpenFault, Source};
 /// and its summary go to `out` and `err` (coreutils manual, "md5sum invocation", `--check`). A manifest that can't
 /// be opened, or read to its end, isn't good, and its fault goes to `err`.
 ///
-/// `Stop::Memory` only if the source was refused memory, or bytes of the manifest were still to come; the reports of the
-/// lines handled so far were then written. `Stop::Write` if an output fails; a prefix of the reports and the summary, in
-/// their order, was then written.
+/// `Stop::Memory` only if the source was refused memory, or bytes of the manifest were still to come; the reports of
+/// the lines handled so far were then written. `Stop::Write` if an output fails; a prefix of the reports and the
+/// summary, in their order, was then written.
 pub fn check_one<A: Allocator + Copy, J: Input + Drop, S: Source, O: Sink, E: Sink>(
     alloc: A,
     settings: CheckSettings,

@@ -91,9 +91,9 @@ impl<'a, I: Input> Checker<'a, I> {
     /// the manifest. `line` is grown for the line. Its content before doesn't matter. Its content afterwards is
     /// unspecified, but after `Going` it isn't longer than the line.
     ///
-    /// `Stop::Memory` only if the source was refused memory, or bytes of the manifest were still to come; nothing is then
-    /// written. `Stop::Write` if an output fails; a prefix of the step's texts was then written. After `Ended` and after
-    /// a stop each step returns the same again and writes nothing.
+    /// `Stop::Memory` only if the source was refused memory, or bytes of the manifest were still to come; nothing is
+    /// then written. `Stop::Write` if an output fails; a prefix of the step's texts was then written. After `Ended` and
+    /// after a stop each step returns the same again and writes nothing.
     pub fn step<A: Allocator, J: Input + Drop, S: Source, O: Sink, E: Sink>(
         &mut self,
         line: &mut Vec<u8, A>,
@@ -105,7 +105,7 @@ impl<'a, I: Input> Checker<'a, I> {
         // If both outputs are flushed: the next step of the behavior, in some world, the known one if it is known.
         ensures step { self.old.final_answer ≡ None → TakesStep I.state S.state line.new.items self.old.labels
             self.old.cursor self.new.cursor streams.old streams.new result }
-        // Known or not: what was found, how far the manifest was read, the cause of a stop, and which answers are final.
+        // Known or not: what was found, how far the manifest was read, and which answers are final.
         ensures advances { self.old.final_answer ≡ None
             → AdvancesChecker I.state S.state line.new.items self.old self.new streams.old streams.new result }
         ensures flushed { IsFlushed streams.old.outputs → IsFlushed streams.new.outputs }

@@ -1,8 +1,8 @@
 //! The place in a manifest that is being checked.
 ghost use Rattle.std.specs.Prelude.{◌≡◌, ◌≤◌, ◌<◌, ◌^◌, Ok, Err, length};
-ghost use Rattle.std.specs.Prelude.{true, false, IfSome, IfOk};
+ghost use Rattle.std.specs.Prelude.{true, false, IfSome, IfOk, OnErr};
 ghost use Rattle.sum_engine.specs.check.CheckStates.{counts_with};
-ghost use Rattle.sum_engine.specs.refinement.Counters.{total};
+ghost use Rattle.sum_engine.specs.check.CheckStates.{total};
 
 use crate::check::judge::{LineVerdict, ListedEntry, Verdict, judge};
 use crate::check::progress::Progress;
@@ -37,7 +37,7 @@ impl<I> Model for CheckCursor<I> {
 
     ghost Value = { CursorValue I };
 
-    ghost use Rattle.sum_engine.specs.refinement.Counters.{total};
+    ghost use Rattle.sum_engine.specs.check.CheckStates.{total};
 
     ghost view = { λ p. record { rules = p.rules; reader = p.reader; form = p.form; counts = p.counts } };
 
@@ -47,7 +47,7 @@ impl<I> Model for CheckCursor<I> {
 
 impl<I: Input> CheckCursor<I> {
     ghost use Rattle.sum_sources.specs.LineReaders.{remaining_content};
-    ghost use Rattle.sum_engine.specs.Execution.{KeepsStdin, ReadToEnd, InSomeWorld, AskedMore};
+    ghost use Rattle.sum_engine.specs.Execution.{Write, KeepsStdin, ReadToEnd, InSomeWorld, AskedMore};
     ghost use Rattle.sum_engine.specs.check.CheckStates.{IsAtStart};
     ghost use Rattle.sum_engine.specs.check.NextVerdict.{MemoryStopHasCause};
     ghost use Rattle.sum_engine.specs.check.NextVerdict.{AdvancesCursor};
@@ -57,7 +57,8 @@ impl<I: Input> CheckCursor<I> {
     ghost use Rattle.sum_engine.specs.check.Reports.{good};
     ghost use Rattle.sum_engine.specs.refinement.HashName.{RefusedUnless};
     ghost use Rattle.sum_engine.specs.check.NextVerdict.{HasNameRange, FindsVerdict};
-    ghost use Rattle.sum_engine.specs.check.NextVerdict.{counts_after, stdin_taken_after, names_of_result, UnlessUnread};
+    ghost use Rattle.sum_engine.specs.check.NextVerdict.{counts_after, stdin_taken_after};
+    ghost use Rattle.sum_engine.specs.check.NextVerdict.{names_of_result, UnlessUnread};
     ghost use Rattle.sum_engine.specs.refinement.FlushedWrites.{WritesAndFlushesBoth};
     ghost use Rattle.sum_engine.specs.refinement.FoundTexts.{found_err, found_out};
     ghost use Rattle.sum_sources.specs.declared.line_reader.LineStop.TheVariants.{Memory};
@@ -111,6 +112,7 @@ impl<I: Input> CheckCursor<I> {
         ensures texts { WritesAndFlushesBoth outputs.old outputs.new (found_err self.now labels.now line.now found)
             (found_out self.now labels.now line.now found) result }
         ensures memory { found ≡ Err Memory → (result ≡ Ok tt) × (outputs.new ≡ outputs.old) }
+        ensures failed { OnErr result (Err Write ≡ step_answer self.now found true) }
     {
         match found {
             Err(LineStop::Memory) => Ok(()),

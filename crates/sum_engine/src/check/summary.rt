@@ -20,7 +20,7 @@ pub(crate) struct Counts {
 
 ghost use Rattle.sum_engine.specs.check.Reports.{warning, warnings, unverified_line, end_text, good, entries};
 ghost use Rattle.sum_engine.specs.check.CheckStates.{counts_with};
-ghost use Rattle.sum_engine.specs.refinement.Counters.{total};
+ghost use Rattle.sum_engine.specs.check.CheckStates.{total};
 ghost use Rattle.sum_engine.specs.refinement.FlushedWrites.{WritesAndFlushes, WritesAndFlushesBoth};
 ghost use Rattle.sum_sources.specs.declared.fault.Ending.TheVariants.{Whole};
 
@@ -145,7 +145,8 @@ fn put_warning<'a, E: Sink>(
     one: &'a [u8],
     many: &'a [u8],
 ) -> Result<(), SinkFault>
-    ensures { WritesAndFlushes (E.state err.old) (E.state err.new) (warning labels.now.tool count one.now many.now) result }
+    ensures { WritesAndFlushes (E.state err.old) (E.state err.new)
+        (warning labels.now.tool count one.now many.now) result }
 {
     if count == 0 {
         return Ok(());

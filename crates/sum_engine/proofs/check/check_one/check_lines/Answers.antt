@@ -1,7 +1,7 @@
 use Rattle.std.proofs.Common.{◌≡◌, true, Ok, Err, ap, sym, ◌∙◌, arith, rules}
 use Rattle.sum_engine.specs.check.CheckerSteps.{Ended}
 use Rattle.sum_engine.proofs.ExecutionLemmas.{KeepsStdin-trans}
-use Rattle.sum_engine.proofs.CheckLinesLemmas.{HasComeTo-none, HasComeTo-more, HasComeTo-last, phase-initial, step-good, step-files, step-refusals}
+use Rattle.sum_engine.proofs.CheckLinesLemmas.{HasComeTo-none, HasComeTo-more, HasComeTo-last, phase-initial, step-good, step-files}
 use Rattle.sum_engine.proofs.ReadToEndLemmas.{ReadToEnd-none, ReadToEnd-trans}
 use Rattle.sum_engine.proofs.check.check_one.check_lines.Goals as goal
 
@@ -31,8 +31,9 @@ returns-in-Ok-Ended-clause-read_to_end g c = λ good.
     let so_far = c.lines.invariant in
     let is : c.in-Ok-Ended.field-0 ≡ Ended true = rw c.in-Ok-Ended.field-0-is cc in
     let advances = rw is at (c.in-Ok-Ended.ensures.advances so_far.going) in
-    let files = step-files advances in
-    let none = (step-good advances).1 in
+    let did = advances.verdict in
+    let files = step-files c.lines.checker.cursor c.step.new.self.cursor advances.found did.cursor.counts did.read_to_end in
+    let none = step-good c.lines.checker.cursor c.step.new.self.cursor advances.found advances.failed advances.answer in
     let before : c.lines.checker.cursor.counts.unread ≡ 0 = omega (arith, files.0, none) in
     ReadToEnd-trans (so_far.read_to_end before) (files.1 (none ∙ sym before))
 
@@ -42,8 +43,8 @@ lines-preserved g c =
     let so_far = c.lines.invariant in
     let done = c.in-Ok-Going.ensures in
     let advances = rw c.in-Ok-Going.field-0-is at (done.advances so_far.going) in
-    let files = step-files advances in
-    let refusals = step-refusals advances in
+    let did = advances.verdict in
+    let files = step-files c.lines.checker.cursor c.step.new.self.cursor advances.found did.cursor.counts did.read_to_end in
     record {
       along = HasComeTo-more g.I.Input.state g.S.Source.state c.args.checker.now c.args.streams.now c.lines.checker
           c.step.new.self c.lines.streams c.step.new.streams c.step.new.line.items so_far.along advances done.flushed
