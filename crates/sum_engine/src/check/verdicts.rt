@@ -93,10 +93,11 @@ impl<I: Input> Verdicts<I> {
             return answer;
         }
         let found = self.cursor.next_verdict(line, inputs);
-        self.final_answer = match found {
-            Ok(Some(_)) => None,
-            _ => Some(found),
-        };
+        // After a line nothing is stored, which ignored lines would feel.
+        match found {
+            Ok(Some(_)) => {}
+            _ => self.final_answer = Some(found),
+        }
         found
     }
 
