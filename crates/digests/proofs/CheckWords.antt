@@ -1,6 +1,5 @@
 -- The words of a check ask for that check.
-use Rattle.std.proofs.Common.{rules, arith, ◌≡◌, Bool, true, false, not, List, [], ◌∷◌, ◌++◌}
-use Rattle.std.proofs.Common.{map, find, codes, None, Some, Ok, refl, ap, sym, ◌∙◌, bytes_eq}
+use Rattle.std.proofs.Common.{rules, arith, ◌≡◌, Bool, true, false, not, List, [], ◌∷◌, ◌++◌, map, find, codes, None, Some, Ok, refl, ap, sym, ◌∙◌, bytes_eq}
 use Rattle.std.proofs.lemmas.Grind.{common_steps}
 use Rattle.std.specs.List.{list_all}
 use Rattle.std.specs.Str.{chars, is_utf8}
@@ -12,8 +11,7 @@ use Rattle.sum_words.specs.declared.parsing.options.Flag.{Flag}
 use Rattle.sum_words.specs.declared.tool.Tool.{Tool}
 use Rattle.sum_words.specs.declared.parsing.request.Request.TheVariants.{Check}
 use Rattle.sum_words.specs.Tools.{algos_of}
-use Rattle.sum_words.specs.Items.{ByteString, option, operand, a_word, items_from, full_name}
-use Rattle.sum_words.specs.Items.{flags_of, takes_value, name_part, value_part, name_or_fault}
+use Rattle.sum_words.specs.Items.{ByteString, option, operand, a_word, items_from, full_name, flags_of, takes_value, name_part, value_part, name_or_fault}
 use Rattle.digests.specs.GenerationRuns.{check_options, check_words}
 
 -- ---- long options that every tool has, and that take no value

@@ -1,6 +1,5 @@
 -- Operands, one after another: the behavior of those before, followed by that of the rest, is the whole.
-use Rattle.std.proofs.Common.{◌≡◌, Bool, true, false, List, [], ◌∷◌, Result}
-use Rattle.std.proofs.Common.{Option, None, Some, Ok, Err, refl, ap, sym, ◌∙◌, subst, append_assoc, ◌&&◌}
+use Rattle.std.proofs.Common.{◌≡◌, Bool, true, false, List, [], ◌∷◌, Result, Option, None, Some, Ok, Err, refl, ap, sym, ◌∙◌, subst, append_assoc, ◌&&◌}
 use denote.Ref.{Bor}
 use Rattle.std.proofs.Math.Bool.{and_assoc, and-true}
 use Rattle.std.proofs.lemmas.List.{append-nil}
@@ -8,12 +7,10 @@ use Rattle.sum_sources.specs.Sources.{SourceState}
 use Rattle.sum_engine.proofs.WorldLemmas.{InSomeWorld-map, InSomeWorld-then}
 use Rattle.sum_engine.specs.declared.stop.Stop.{Stop}
 use Rattle.sum_engine.specs.Behavior.{World, after, Behavior, behavior_then, trace, asks}
-use Rattle.sum_engine.specs.Execution.{InputsState, StreamsState, WorldState, IsFlushed, InSomeWorld}
-use Rattle.sum_engine.specs.Execution.{in_world, Happened, Performs, PerformsSteps, ReadToEnd}
+use Rattle.sum_engine.specs.Execution.{InputsState, StreamsState, WorldState, IsFlushed, InSomeWorld, in_world, Happened, Performs, PerformsSteps, ReadToEnd}
 use Rattle.sum_engine.proofs.ExecutionLemmas.{Happened-none}
 use Rattle.sum_engine.proofs.ReadToEndLemmas.{ReadToEnd-trans}
-use Rattle.sum_engine.proofs.BehaviorLemmas.{behavior_then-happened, behavior_then-first}
-use Rattle.sum_engine.proofs.BehaviorLemmas.{behavior_then-second, events_extend}
+use Rattle.sum_engine.proofs.BehaviorLemmas.{behavior_then-happened, behavior_then-first, behavior_then-second, events_extend}
 use Rattle.sum_words.specs.Items.{ByteString}
 use Rattle.sum_words.specs.declared.tool.Tool.{Tool}
 use Rattle.sum_words.specs.Tools.{name_of}

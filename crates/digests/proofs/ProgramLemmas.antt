@@ -1,13 +1,11 @@
 -- A run and its end, joined: what the whole program does.
-use Rattle.std.proofs.Common.{rules, ◌≡◌, ℕ, List, [], Option, None, Some, IfSome, Result, Ok, Err}
-use Rattle.std.proofs.Common.{false, sym, inl, inr, refl, subst, append-nil}
+use Rattle.std.proofs.Common.{rules, ◌≡◌, ℕ, List, [], Option, None, Some, IfSome, Result, Ok, Err, false, sym, inl, inr, refl, subst, append-nil}
 use Rattle.sum_sources.specs.Sources.{SourceState}
 use Rattle.sum_engine.proofs.WorldLemmas.{InSomeWorld-map}
 use Rattle.sum_engine.specs.declared.stop.Stop.{Stop}
 use Rattle.sum_engine.specs.declared.stop.Stop.TheVariants.{Memory, Write}
 use Rattle.sum_engine.specs.Behavior.{World, Event, Behavior, trace, single_step}
-use Rattle.sum_engine.specs.Execution.{OutputsState, StreamsState, WorldState, IsFlushed}
-use Rattle.sum_engine.specs.Execution.{FailuresMatch, Happened, Performs}
+use Rattle.sum_engine.specs.Execution.{OutputsState, StreamsState, WorldState, IsFlushed, FailuresMatch, Happened, Performs}
 use Rattle.sum_words.specs.Items.{ByteString}
 use Rattle.sum_words.specs.CommandLines.{CommandLineValue, command_line, NeedsMemory}
 use Rattle.digests.specs.Meaning.{status_of}

@@ -1,14 +1,12 @@
 -- Worked examples: the meaning of some command lines, computed. It has both texts, the names that are asked, and
 -- whether all is good.
-use Rattle.std.proofs.Common.{◌≡◌, ◌++◌, Bool, List, [], ◌∷◌, refl, codes, true}
-use Rattle.std.proofs.Common.{false, flat_map, if◌then◌else◌, bytes_eq, Ok, Err}
+use Rattle.std.proofs.Common.{◌≡◌, ◌++◌, Bool, List, [], ◌∷◌, refl, codes, true, false, flat_map, if◌then◌else◌, bytes_eq, Ok, Err}
 use Rattle.std.specs.Prelude.{⊤}
 use Rattle.std.specs.Str.{chars, is_utf8}
 use Rattle.std.specs.List.{concat}
 use Rattle.std.specs.Path.{rsplit_once}
 use lib.Utf8.{encode}
-use Rattle.md5.specs.Md5.{block_words as md5_words, rounds as md5_rounds, compress as md5_compress}
-use Rattle.md5.specs.Md5.{hash_after as md5_after, digest_bytes as md5_bytes, md5}
+use Rattle.md5.specs.Md5.{block_words as md5_words, rounds as md5_rounds, compress as md5_compress, hash_after as md5_after, digest_bytes as md5_bytes, md5}
 use Rattle.blake2b_core.specs.Compression.{mix, round, start, compress}
 use Rattle.blake2b_core.specs.Digest.{blocks, blake2b}
 use Rattle.sum_sources.specs.declared.fault.Fault.TheVariants.{NotFound, Other}

@@ -1,6 +1,5 @@
 -- What generation wrote is good: a later check of it reports OK for each file, if the files stay as they were.
-use Rattle.std.specs.Prelude.{◌≡◌, ◌<◌, false, List, [], ◌∷◌, ◌++◌, IsTrue, length, map}
-use Rattle.std.specs.Prelude.{flat_map, codes, if◌then◌else◌, All, Ok, option_to_list}
+use Rattle.std.specs.Prelude.{◌≡◌, ◌<◌, false, List, [], ◌∷◌, ◌++◌, IsTrue, length, map, flat_map, codes, if◌then◌else◌, All, Ok, option_to_list}
 use Rattle.digest_kinds.specs.Kinds.{has_len}
 use Rattle.sum_engine.specs.check.Verdicts.{Algos}
 use Rattle.sum_engine.specs.declared.check.judge.Verdict.TheVariants.{Right}

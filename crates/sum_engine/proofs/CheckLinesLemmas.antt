@@ -1,5 +1,5 @@
--- `check_lines`: a new checker runs to its end. What happened so far and what remains is the whole behavior (`HasComeTo`).
--- A step that goes on keeps this. The step that ends or stops proves the contract by it.
+-- `check_lines`: a new checker runs to its end. What happened so far and what remains is the whole behavior
+-- (`HasComeTo`). A step that goes on keeps this. The step that ends or stops proves the contract by it.
 use Rattle.sum_engine.specs.check.NextVerdict.{VerdictResult, counts_after, UnlessUnread}
 use Rattle.std.proofs.Common.{rules, ◌+◌, ◌<◌, ◌≡◌, ℕ, Bool, List, [], ◌∷◌, length, Option, None, Some, Result, Ok, Err, refl, sym, ◌∙◌, subst, option_map, IfSome, MatchOption, arith, true, ◌≤◌}
 use Rattle.sum_engine.specs.Behavior.{World, Step, Behavior}

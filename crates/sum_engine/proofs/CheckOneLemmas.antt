@@ -1,5 +1,5 @@
--- `check_one`: a manifest is opened, its checker runs to its end, and it is closed. Each of the three needs a world that
--- the one before it leaves. So the closing is joined to the run (`closed`), and the opening to both (`opened`).
+-- `check_one`: a manifest is opened, its checker runs to its end, and it is closed. Each of the three needs a world
+-- that the one before it leaves. So the closing is joined to the run (`closed`), and the opening to both (`opened`).
 use Rattle.std.proofs.Common.{rules, ◌≡◌, ℕ, Bool, true, false, List, [], ◌∷◌, Option, IfSome, Result, Ok, Err, cond, refl, ap, codes}
 use Rattle.std.proofs.KnownBytes.{Appends-nil}
 use Rattle.std.proofs.Math.Bool.{or-false}
@@ -63,7 +63,9 @@ module _ {S : Type 0} (state : S → SourceState) (settings : CheckSettings) (to
     abbrev from_inputs : InputsState S → StreamsState S
     from_inputs inputs = record a { inputs = inputs }
 
-    -- the name was asked, and gave this content if it is known: then the run of its checker is that of the call
+    -- The name was asked, and gave this content if it is known: then the run of its checker is that of the call. It
+    -- goes backwards from the world after the call: the run has a world before it (`ran`), and the opening has one
+    -- before that (`first`). The opening happened (`did`), and the behavior of the content (`of`) comes behind it.
     opened : (dash : Bool) (known : Option Content) (m : InputsState S) (b : StreamsState S) (x : Result Bool Stop)
         → is_dash name ≡ dash
         → ((c : Content) → IfSome known (λ d. c ≡ d)

@@ -86,7 +86,8 @@ fn read_digest<F: Input, H: Hasher + Drop>(
     requires { H.holds hasher [] }
     ensures outcome { (c : Content) × IfSome (F.state file.old).content (λ d. c ≡ d)
         × IsRead (H.kind_of hasher) c result }
-    ensures phase { UnlessBroken (Ok result) ((F.state file.old).phase ≡ Unfinished → (F.state file.new).phase ≡ AtEnd) }
+    ensures phase { UnlessBroken (Ok result)
+        ((F.state file.old).phase ≡ Unfinished → (F.state file.new).phase ≡ AtEnd) }
     ensures digest_len { HasKindLen (H.kind_of hasher) (Ok result) }
 {
     match hash_input_over(file, hasher, buffer) {

@@ -1,6 +1,7 @@
 //! Laws of the line grammar. Each is the contract of a function that does nothing, and holds whatever the code does.
 
-ghost use Rattle.sum_lines.specs.grammar.LineLaws.{AreApart, HasOneEntry, HasOneForm, ParsesByGrammar, IsReadBack, KeepsForm};
+ghost use Rattle.sum_lines.specs.grammar.LineLaws.{AreApart, HasOneEntry, HasOneForm, ParsesByGrammar};
+ghost use Rattle.sum_lines.specs.grammar.LineLaws.{IsReadBack, KeepsForm};
 ghost use Rattle.sum_lines.specs.grammar.LineLaws.{KeepsParse};
 
 /// For given algorithms and a given form a line spells at most one entry. No line is both plain and tagged, even if the

@@ -1,6 +1,5 @@
 -- The reading of the arguments, one after another, gives the command line.
-use Rattle.std.proofs.Common.{ℕ, ◌≡◌, ◌+◌, ◌-◌, ◌<◌, ◌≤◌, not, ◌==◌, zero, suc, List, [], ◌∷◌, ◌++◌, length, drop, Any}
-use Rattle.std.proofs.Common.{Option, Some, None, IfSome, IsSomeAnd, slice_get, refl, ap, sym, ◌∙◌, arith, inr}
+use Rattle.std.proofs.Common.{ℕ, ◌≡◌, ◌+◌, ◌-◌, ◌<◌, ◌≤◌, not, ◌==◌, zero, suc, List, [], ◌∷◌, ◌++◌, length, drop, Any, Option, Some, None, IfSome, IsSomeAnd, slice_get, refl, ap, sym, ◌∙◌, arith, inr}
 use Rattle.std.proofs.lemmas.List.Sums.{suffix_len_is}
 use Rattle.std.proofs.lemmas.Bool.{not_from_false, not_from_true, false_from_ne_true}
 use Rattle.std.specs.List.{suffix_len}

@@ -1,6 +1,5 @@
 -- The options that a name may mean.
-use Rattle.std.proofs.Common.{rules, ◌≡◌, ◌==◌, ◌&&◌, Bool, true, false, List, [], ◌∷◌}
-use Rattle.std.proofs.Common.{None, refl, ap, if◌then◌else◌, filter, find, bytes_eq}
+use Rattle.std.proofs.Common.{rules, ◌≡◌, ◌==◌, ◌&&◌, Bool, true, false, List, [], ◌∷◌, None, refl, ap, if◌then◌else◌, filter, find, bytes_eq}
 use Rattle.std.specs.List.{starts_with}
 use Rattle.sum_words.specs.Tools.{Tool}
 use Rattle.sum_words.specs.Items.{ByteString, full_name, all_flags, flags_of, has_option, only_or_fault, name_or_fault}

@@ -1,6 +1,5 @@
 -- The options read so far, and the number of a length value.
-use Rattle.std.proofs.Common.{rules, ◌≡◌, ◌≢◌, ℕ, zero, suc, get_or, ◌<◌, ◌^◌}
-use Rattle.std.proofs.Common.{true, List, [], ◌∷◌, length, Result, arith, IsUtf8}
+use Rattle.std.proofs.Common.{rules, ◌≡◌, ◌≢◌, ℕ, zero, suc, get_or, ◌<◌, ◌^◌, true, List, [], ◌∷◌, length, Result, arith, IsUtf8}
 use Rattle.std.proofs.lemmas.Grind.{common_steps}
 use Rattle.std.specs.Result.{result_ok, OkIff}
 use Rattle.std.specs.Str.{all_ascii_digits}

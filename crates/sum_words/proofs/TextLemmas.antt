@@ -1,6 +1,5 @@
 -- Texts that are written in parts are those of the definitions.
-use Rattle.std.proofs.Common.{rules, ◌≡◌, ◌+◌, ◌++◌, List, codes, length, length-append}
-use Rattle.std.proofs.Common.{arith, [], ◌∷◌, filter, flat_map, append_assoc}
+use Rattle.std.proofs.Common.{rules, ◌≡◌, ◌+◌, ◌++◌, List, codes, length, length-append, arith, [], ◌∷◌, filter, flat_map, append_assoc}
 use Rattle.std.proofs.lemmas.Grind.{common_steps}
 use Rattle.std.proofs.lemmas.List.{append-nil}
 use Rattle.sum_words.specs.Tools.{Tool}

@@ -1,6 +1,5 @@
 -- Words at their places, and bytes cut into pieces: one more piece, and the piece at a place.
-use Rattle.std.proofs.Common.{◌≡◌, ℕ, zero, suc, ◌-◌, ◌<◌, ◌≤◌, List, [], ◌∷◌, ◌++◌, length, take, drop, get_or}
-use Rattle.std.proofs.Common.{None, Some, refl, ap, sym, arith, length-append, length-drop, slice_get, true, ltb, ◌+◌, add-one}
+use Rattle.std.proofs.Common.{◌≡◌, ℕ, zero, suc, ◌-◌, ◌<◌, ◌≤◌, List, [], ◌∷◌, ◌++◌, length, take, drop, get_or, None, Some, refl, ap, sym, arith, length-append, length-drop, slice_get, true, ltb, ◌+◌, add-one}
 use Rattle.std.proofs.lemmas.List.{take-append-le, drop-append-le}
 use Rattle.std.proofs.lemmas.Bool.{ltb-true}
 use Rattle.std.proofs.Math.Seq.{drop-append_seam, take-length, drop-cons}

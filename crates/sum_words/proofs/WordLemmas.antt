@@ -1,7 +1,5 @@
 -- One word: its prefixes, its characters, and what is left of it for a value.
-use Rattle.std.proofs.Common.{rules, ◌≡◌, ◌==◌, ◌≢◌, ℕ, ◌+◌, true, false, List, [], ◌∷◌, ◌++◌, codes, length, drop}
-use Rattle.std.proofs.Common.{Option, None, Some, MatchOption, refl, ap, sym, ◌∙◌, eqb, bytes_eq}
-use Rattle.std.proofs.Common.{encode_utf8_all, IsUtf8, encode_utf8}
+use Rattle.std.proofs.Common.{rules, ◌≡◌, ◌==◌, ◌≢◌, ℕ, ◌+◌, true, false, List, [], ◌∷◌, ◌++◌, codes, length, drop, Option, None, Some, MatchOption, refl, ap, sym, ◌∙◌, eqb, bytes_eq, encode_utf8_all, IsUtf8, encode_utf8}
 use denote.Ref.{Bor}
 use Rattle.std.specs.List.{starts_with}
 use Rattle.std.specs.Str.{chars, is_utf8}
@@ -14,8 +12,7 @@ use Rattle.std.proofs.lemmas.Bool.{eqb-true, false_from_ne_true}
 use Rattle.std.proofs.Math.Bool.{and-true}
 use lib.Utf8.{encode}
 use Rattle.sum_words.specs.declared.tool.Tool.{Tool}
-use Rattle.sum_words.specs.Items.{Short, attached_value, a_value, a_word}
-use Rattle.sum_words.specs.Items.{length_value, fault, is_option_word, items_from}
+use Rattle.sum_words.specs.Items.{Short, attached_value, a_value, a_word, length_value, fault, is_option_word, items_from}
 use Rattle.sum_words.specs.WordFaults.{not_text}
 
 -- the rest of a text after a prefix, as `strip_prefix` returns it

@@ -1,6 +1,5 @@
 -- Worked examples: what the definitions say of some command lines, computed.
-use Rattle.std.proofs.Common.{rules, ◌≡◌, ◌==◌, ◌≤◌, ◌<◌, List, ℕ, [], ◌∷◌, Result, Ok}
-use Rattle.std.proofs.Common.{Err, refl, codes, true, false, length, arith, Any as SomeOne}
+use Rattle.std.proofs.Common.{rules, ◌≡◌, ◌==◌, ◌≤◌, ◌<◌, List, ℕ, [], ◌∷◌, Result, Ok, Err, refl, codes, true, false, length, arith, Any as SomeOne}
 use Rattle.std.proofs.lemmas.Grind.{common_steps}
 use Rattle.std.specs.List.{AllByRecursion, slice_split}
 use Rattle.std.specs.Str.{byte, chars, is_utf8}
@@ -12,11 +11,7 @@ use Rattle.sum_words.specs.Request.{Mode, Request, Generate, Check, Help, Versio
 use Rattle.sum_words.specs.Items.{Long, Short, ByteString, name_or_fault, option_of_letter}
 use Rattle.sum_words.specs.Tools.{tool_called}
 use Rattle.sum_words.specs.declared.tool.Tool.TheVariants.{Md5sum, Sha256sum, B2sum, Anysum}
-use Rattle.sum_words.specs.WordFaults.{WordFaultValue, unknown_long, ambiguous_long, value_not_allowed}
-use Rattle.sum_words.specs.WordFaults.{value_missing, unknown_short, length_invalid, length_not_bytes}
-use Rattle.sum_words.specs.WordFaults.{tag_with_text, zero_with_check, tag_with_check, mode_with_check}
-use Rattle.sum_words.specs.WordFaults.{ignore_without_check, status_without_check, warn_without_check}
-use Rattle.sum_words.specs.WordFaults.{quiet_without_check, strict_without_check, check_needed, not_text}
+use Rattle.sum_words.specs.WordFaults.{WordFaultValue, unknown_long, ambiguous_long, value_not_allowed, value_missing, unknown_short, length_invalid, length_not_bytes, tag_with_text, zero_with_check, tag_with_check, mode_with_check, ignore_without_check, status_without_check, warn_without_check, quiet_without_check, strict_without_check, check_needed, not_text}
 use Rattle.sum_words.specs.CommandLines.{unknown_tool, invoke, command_line, NeedsMemory}
 use Rattle.sum_lines.specs.declared.writing.put_line.Mode.TheVariants as modes
 use Rattle.sum_engine.specs.declared.settings.Report.TheVariants as reports

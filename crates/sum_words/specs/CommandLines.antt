@@ -1,6 +1,5 @@
 -- What a command line asks for. It is a list of arguments, and the first of them is the program's name.
-use Rattle.std.specs.Prelude.{◌<◌, ◌⊎◌, ◌==◌, List, Any, length, drop, slice_get}
-use Rattle.std.specs.Prelude.{Option, is_some, if◌then◌else◌, option_and_then}
+use Rattle.std.specs.Prelude.{◌<◌, ◌⊎◌, ◌==◌, List, Any, length, drop, slice_get, Option, is_some, if◌then◌else◌, option_and_then}
 use Rattle.std.specs.List.{after_last}
 use Rattle.std.specs.Option.{option_map_or}
 use Rattle.sum_words.specs.Tools.{Tool, tool_called}

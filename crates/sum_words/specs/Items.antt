@@ -1,9 +1,7 @@
 -- The items of a tool's words: options, values of --length, operands and a fault. No item follows a fault.
 use Prim.Native.String.{String}
 use denote.Enum.Bare.{sameb}
-use Rattle.std.specs.Prelude.{ℕ, ◌+◌, ◌==◌, ◌&&◌, ◌||◌, not, Bool, List, [], ◌∷◌, ◌++◌, map, drop}
-use Rattle.std.specs.Prelude.{Option, None, Some, Result, Ok, Err, codes, if◌then◌else◌}
-use Rattle.std.specs.Prelude.{option_map, filter, find, position, bytes_eq, chars, encode_utf8_all}
+use Rattle.std.specs.Prelude.{ℕ, ◌+◌, ◌==◌, ◌&&◌, ◌||◌, not, Bool, List, [], ◌∷◌, ◌++◌, map, drop, Option, None, Some, Result, Ok, Err, codes, if◌then◌else◌, option_map, filter, find, position, bytes_eq, chars, encode_utf8_all}
 use Rattle.std.specs.List.{starts_with, before_first}
 use Rattle.std.specs.Option.{option_map_or}
 use Rattle.std.specs.Str.{byte, is_utf8}
@@ -14,8 +12,7 @@ use Rattle.sum_words.specs.contracts.tool.Tool.{the_type as tool_type}
 use Rattle.sum_words.specs.contracts.parsing.options.Flag.{the_type as flag_type}
 pub use Rattle.sum_words.specs.declared.parsing.options.Spelling.{Spelling}
 pub use Rattle.sum_words.specs.declared.parsing.options.Spelling.TheVariants.{Long, Short}
-use Rattle.sum_words.specs.WordFaults.{WordFaultValue, unknown_long, ambiguous_long}
-use Rattle.sum_words.specs.WordFaults.{value_not_allowed, value_missing, unknown_short, not_text}
+use Rattle.sum_words.specs.WordFaults.{WordFaultValue, unknown_long, ambiguous_long, value_not_allowed, value_missing, unknown_short, not_text}
 use Rattle.sum_words.specs.declared.tool.Tool.TheVariants as tools
 use Rattle.sum_words.specs.declared.parsing.options.Flag.TheVariants as flags
 

@@ -1,7 +1,6 @@
 -- What a tool's words ask for: the request of their items, or the first fault that counts.
 use denote.Enum.Bare.{sameb}
-use Rattle.std.specs.Prelude.{◌&&◌, ◌||◌, not, Bool, List, [], ◌∷◌, false, Option, None, Some, Result, Ok}
-use Rattle.std.specs.Prelude.{Err, if◌then◌else◌, unwrap_or, option_map, filter, find, bytes_eq, filter_map}
+use Rattle.std.specs.Prelude.{◌&&◌, ◌||◌, not, Bool, List, [], ◌∷◌, false, Option, None, Some, Result, Ok, Err, if◌then◌else◌, unwrap_or, option_map, filter, find, bytes_eq, filter_map}
 use Rattle.std.specs.List.{last_or, list_any}
 use Rattle.std.specs.Option.{option_transpose, option_map_or}
 use Rattle.std.specs.Result.{result_map_both}
@@ -19,9 +18,7 @@ use Rattle.sum_words.specs.Items.{Flag, ByteString, ItemValue, option, fault, a_
 use Rattle.sum_words.specs.contracts.parsing.options.Flag.{the_type}
 pub use Rattle.sum_words.specs.declared.parsing.request.Request.{Request}
 pub use Rattle.sum_words.specs.declared.parsing.request.Request.TheVariants.{Generate, Check, Help, Version}
-use Rattle.sum_words.specs.WordFaults.{WordFaultValue, length_invalid, length_not_bytes, tag_with_text, check_needed}
-use Rattle.sum_words.specs.WordFaults.{zero_with_check, tag_with_check, ignore_without_check, status_without_check}
-use Rattle.sum_words.specs.WordFaults.{mode_with_check, warn_without_check, quiet_without_check, strict_without_check}
+use Rattle.sum_words.specs.WordFaults.{WordFaultValue, length_invalid, length_not_bytes, tag_with_text, check_needed, zero_with_check, tag_with_check, ignore_without_check, status_without_check, mode_with_check, warn_without_check, quiet_without_check, strict_without_check}
 use Rattle.sum_lines.specs.declared.writing.put_line.Mode.TheVariants as modes
 use Rattle.sum_engine.specs.declared.settings.Report.TheVariants as reports
 use Rattle.sum_words.specs.declared.parsing.options.Flag.TheVariants as flags

@@ -107,8 +107,8 @@ state_at p c w = record {
   world = w;
 }
 
--- P holds between the check's states at two places and inputs: for every content that may remain after, and every world,
--- there is a state before
+-- P holds between the check's states at two places and inputs: for every content that may remain after, and every
+-- world, there is a state before
 pub record InSomeCheck {I S : Type 0} (input : I → InputState) (source : S → SourceState) (p q : CursorValue I)
     (a b : InputsState S) (P : CheckState → CheckState → Type 0) : Type 0 where
   pub before : (d : Content) (v : World) → MayRemain input q.reader d → MayBeIn source b v

@@ -1,6 +1,7 @@
 //! The trait of a sink, to which bytes are written, and the call that writes all of a text.
 ghost use Rattle.std.specs.Prelude.{◌≡◌, List, [], ◌∷◌, Option, None, Ok};
-ghost use Rattle.sum_lines.specs.sinks.Sinks.{ByteString, SinkState, WritesSome, Flushes, Offers, OffersWhole, WritesAll};
+ghost use Rattle.sum_lines.specs.sinks.Sinks.{ByteString, SinkState, WritesSome, Flushes, Offers};
+ghost use Rattle.sum_lines.specs.sinks.Sinks.{OffersWhole, WritesAll};
 
 use thiserror::Error;
 

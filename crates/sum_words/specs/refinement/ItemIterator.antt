@@ -6,8 +6,7 @@ use Rattle.sum_words.specs.WordFaults as faults
 use Rattle.sum_words.specs.declared.parsing.items.Item.{Item as WordItem}
 use Rattle.sum_words.specs.declared.parsing.items.ParserState.{ParserState}
 use Rattle.sum_words.specs.declared.parsing.items.ParserStep.{ParserStep}
-use Rattle.sum_words.specs.Items.{ByteString, ItemValue, option, length_value, operand, fault, NextWord, a_word}
-use Rattle.sum_words.specs.Items.{a_value, no_word, cluster, items_from}
+use Rattle.sum_words.specs.Items.{ByteString, ItemValue, option, length_value, operand, fault, NextWord, a_word, a_value, no_word, cluster, items_from}
 use Rattle.sum_words.specs.declared.messages.word_faults.WordFault.TheVariants as words
 use Rattle.sum_words.specs.declared.parsing.items.Item.TheVariants as items
 use Rattle.sum_words.specs.declared.parsing.items.ParserState.TheVariants as states

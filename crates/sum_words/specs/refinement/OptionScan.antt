@@ -1,6 +1,5 @@
 -- Relates the scan of the options to the request: the values so far, and what they make of it.
-use Rattle.std.specs.Prelude.{ℕ, ◌≡◌, ◌≤◌, ◌^◌, ◌||◌, ◌&&◌, not, true, Bool, List, [], Option, None, Some}
-use Rattle.std.specs.Prelude.{Result, Ok, Err, filter, option_map, option_copied, bytes_eq, filter_map}
+use Rattle.std.specs.Prelude.{ℕ, ◌≡◌, ◌≤◌, ◌^◌, ◌||◌, ◌&&◌, not, true, Bool, List, [], Option, None, Some, Result, Ok, Err, filter, option_map, option_copied, bytes_eq, filter_map}
 use Rattle.std.specs.List.{last_or}
 use Rattle.std.specs.Str.{all_ascii_digits}
 use Rattle.std.specs.Str.Parse.{digits_value}

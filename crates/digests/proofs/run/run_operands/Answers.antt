@@ -1,7 +1,6 @@
 use Rattle.std.proofs.Common.{rules, refl}
 use Rattle.sum_engine.proofs.ReadToEndLemmas.{ReadToEnd-none}
-use Rattle.digests.proofs.OperandLemmas.{operands_of, left-next, operands_done_start, operands_done_step}
-use Rattle.digests.proofs.OperandLemmas.{operands_done_end, operands_done_stop, read_step}
+use Rattle.digests.proofs.OperandLemmas.{operands_of, left-next, operands_done_start, operands_done_step, operands_done_end, operands_done_stop, read_step}
 use Rattle.digests.proofs.run.run_operands.Goals as goal
 
 -- before the first operand nothing happened
