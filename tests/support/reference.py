@@ -138,7 +138,7 @@ class World:
     def __init__(self, stdin):
         self.stdin = stdin
 
-    def reply(self, name):
+    def answer(self, name):
         """The content under a name, or the fault."""
         if name == b"-":
             given, self.stdin = self.stdin, b""
@@ -162,11 +162,11 @@ def generated(tool, options, names, world):
     tag, size = ALGORITHMS[tool]
     out, err = [], []
     for name in names:
-        reply = world.reply(name)
-        if isinstance(reply, Fault):
-            err.append(b"%s: %s: %s\n" % (tool.encode(), escape(name), reply.text))
+        answer = world.answer(name)
+        if isinstance(answer, Fault):
+            err.append(b"%s: %s: %s\n" % (tool.encode(), escape(name), answer.text))
         else:
-            out.append(line(options.mode, options.zero, tag, name, digest(tag, options.size or size, reply)))
+            out.append(line(options.mode, options.zero, tag, name, digest(tag, options.size or size, answer)))
     return Ran(1 if err else 0, b"".join(out), b"".join(err))
 
 
@@ -179,11 +179,11 @@ class Manifest:
         self.shown = tool.encode() + b": " + (b"standard input" if name == b"-" else escape(name)) + b": "
         self.tool = tool.encode() + b": "
         self.out, self.err, self.verdicts = [], [], []
-        reply = world.reply(name)
-        if isinstance(reply, Fault):
-            self.err.append(self.shown + reply.text + b"\n")
+        answer = world.answer(name)
+        if isinstance(answer, Fault):
+            self.err.append(self.shown + answer.text + b"\n")
             return
-        texts = lines(reply)
+        texts = lines(answer)
         in_reversed = is_reversed(self.tag, texts)
         for number, text in enumerate(texts, 1):
             if not is_ignored(text):
@@ -198,13 +198,13 @@ class Manifest:
                 self.err.append(self.shown + b"%d: improperly formatted %s checksum line\n" % (number, tag))
             return "bad"
         tag, wanted, name = found
-        reply = self.world.reply(name)
-        if isinstance(reply, Fault):
-            if self.options.ignore_missing and reply.in_opening and reply.text == NOT_FOUND:
+        answer = self.world.answer(name)
+        if isinstance(answer, Fault):
+            if self.options.ignore_missing and answer.in_opening and answer.text == NOT_FOUND:
                 return "missing"
-            self.err.append(self.tool + escape(name) + b": " + reply.text + b"\n")
+            self.err.append(self.tool + escape(name) + b": " + answer.text + b"\n")
             verdict, text = "unread", b"FAILED open or read"
-        elif digest(tag, len(wanted), reply) == wanted:
+        elif digest(tag, len(wanted), answer) == wanted:
             verdict, text = "right", b"OK"
         else:
             verdict, text = "wrong", b"FAILED"

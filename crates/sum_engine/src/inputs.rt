@@ -11,7 +11,7 @@ use std::marker::Model;
 use sum_sources::{Given, Input, OpenFault, Source, Stdin};
 
 /// Standard input, and where files are opened by their names.
-#[derive(Drop)]
+#[derive(Debug, Drop)]
 pub struct Inputs<I: Input, S> {
     /// Standard input.
     pub stdin: Stdin<I>,

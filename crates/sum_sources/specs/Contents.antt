@@ -42,8 +42,8 @@ empty_content = record { bytes = []; ending = Whole }
 abbrev pub with_prefix : ByteString → Content → Content
 with_prefix prefix c = record { bytes = prefix ++ c.bytes; ending = c.ending }
 
--- a read takes some of the first bytes. If no byte remains, it gives the end or the fault of the content. What remains
--- after that may be anything. A read of no bytes may take nothing
+-- a read takes some of the first bytes, or none if there is no room. If no byte remains, it gives the end or the fault
+-- of the content, and what remains after that may be anything
 abbrev pub ReadsFrom : Content → Content → Result ℕ Fault → ByteString → Type 0
 ReadsFrom c d (Ok zero) [] = d ≡ c
 ReadsFrom c d (Ok zero) (b ∷ buf) = c ≡ empty_content

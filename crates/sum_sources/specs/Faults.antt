@@ -12,10 +12,6 @@ pub use Rattle.sum_sources.specs.declared.fault.Fault.TheVariants.{NotFound, Den
 abbrev pub Reasons : Type 0
 Reasons = List (ℕ × ByteString)
 
--- the number for a descriptor that isn't open
-abbrev pub ebadf : ℕ
-ebadf = 9
-
 -- of files, devices and processes
 unfoldable pub file_reasons : Reasons
 file_reasons =
@@ -23,7 +19,7 @@ file_reasons =
     (3, codes "No such process") ∷
     (4, codes "Interrupted system call") ∷
     (6, codes "No such device or address") ∷
-    (ebadf, codes "Bad file descriptor") ∷
+    (9, codes "Bad file descriptor") ∷
     (11, codes "Resource temporarily unavailable") ∷
     (12, codes "Cannot allocate memory") ∷
     (16, codes "Device or resource busy") ∷

@@ -13,8 +13,7 @@ use Rattle.sum_sources.specs.declared.sources.source.OpenFault.TheVariants as fa
 abbrev pub Answer : Type 0
 Answer = Result Content Fault
 
--- what is known of a source: its answer to each name, given the names that are asked before it from now on; and the
--- names that it was asked so far
+-- what is known of a source: its answer to each name, given the names asked from now on; and the names asked so far
 pub record KnownSource : Type 0 where
   pub answer : List ByteString → ByteString → Answer
   pub asked : List ByteString
@@ -44,8 +43,7 @@ abbrev pub AsksName : KnownSource → KnownSource → ByteString → Option Answ
 AsksName s t name answer = (t ≡ record { answer = λ asked. s.answer (name ∷ asked); asked = s.asked ++ name ∷ [] })
     × (answer ≡ Some (s.answer [] name))
 
--- what opening a name gives: the answer to it, which is the file's content, or the fault. For want of memory the name
--- wasn't asked
+-- a name is opened: the answer to it is the file's content, or the fault. For want of memory it isn't asked
 abbrev pub OpensName : {F : Type 0} → (F → InputState) → KnownSource → KnownSource → ByteString → Result F OpenFault
     → Type 0
 OpensName state s t name (Ok file) = AsksName s t name (option_map Ok (state file).content)

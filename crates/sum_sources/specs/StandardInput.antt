@@ -2,7 +2,7 @@
 use Rattle.std.specs.Prelude.{pos, [], Option, None, Some, ◌||◌, Bool, is_none, is_some, option_map}
 use Rattle.std.specs.Option.{option_or, option_map_or}
 use Rattle.sum_sources.specs.Contents.{Broken, InputState, empty_content}
-use Rattle.sum_sources.specs.Faults.{Os, ebadf}
+use Rattle.sum_sources.specs.Faults.{Os}
 use Rattle.sum_sources.specs.Phases.{Phase, Past}
 use Rattle.sum_sources.specs.declared.inputs.closable.Closable.{Closable}
 use Rattle.sum_sources.specs.declared.inputs.closable.Closable.TheVariants.{Open, Closed}
@@ -28,8 +28,8 @@ stdin_taken stdin = is_none stdin.input || is_some stdin.returned
 abbrev pub stdin_phase : {I : Type 0} → (I → InputState) → StdinValue I → Option Phase
 stdin_phase state stdin = option_map (λ i. (state i).phase) (option_or stdin.returned stdin.input)
 
--- the state of an input that may be closed. If it is, only a fault remains: each read fails by it
+-- the state of an input that may be closed. If it is, only a fault remains, EBADF: each read fails by it
 abbrev pub unless_closed : {I : Type 0} → (I → InputState) → Closable I → InputState
 unless_closed state (Open i) = state i
 unless_closed state (Closed p) =
-    record { content = Some (record { bytes = []; ending = Broken (Os (pos ebadf)) }); phase = p }
+    record { content = Some (record { bytes = []; ending = Broken (Os (pos 9)) }); phase = p }

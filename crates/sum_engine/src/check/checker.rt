@@ -15,7 +15,7 @@ use sum_lines::Sink;
 use sum_sources::{Input, Source};
 
 /// A manifest that is being checked. A checker takes a line and handles it, and only then takes the next.
-#[derive(Drop)]
+#[derive(Debug, Drop)]
 pub struct Checker<'a, I> {
     verdicts: Verdicts<I>,
     labels: Labels<'a>,

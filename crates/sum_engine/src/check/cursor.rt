@@ -20,7 +20,7 @@ use sum_lines::{Form, Reading, Sink, SinkFault, read_line};
 use sum_sources::{Input, LineReader, LineStop, Next, NoRoom, PIECE, Source};
 
 /// A manifest, its lines so far, and what remains of it.
-#[derive(Drop)]
+#[derive(Debug, Drop)]
 pub(crate) struct CheckCursor<I> {
     rules: CheckRules,
     reader: LineReader<I>,

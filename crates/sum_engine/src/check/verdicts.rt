@@ -13,7 +13,7 @@ use std::marker::Model;
 use sum_sources::{Input, LineStop, Source};
 
 /// The verdicts of a manifest's lines, one at a time, for a program that shows them in its own way. Nothing is written.
-#[derive(Drop)]
+#[derive(Debug, Drop)]
 pub struct Verdicts<I> {
     cursor: CheckCursor<I>,
     // what every later call returns, if anything is final
