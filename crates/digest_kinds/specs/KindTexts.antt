@@ -9,8 +9,7 @@ use Rattle.digest_kinds.specs.Kinds.{Algo, Blake2b, KindValue, blake2b_kind, ful
 abbrev pub kind_text : KindValue → ByteString
 kind_text kind = tag kind.algo ++ (if kind.len == full_len kind.algo then [] else codes "-" ++ decimal (8 * kind.len))
 
--- What may follow the tag directly: nothing for the full length; for BLAKE2b a `-` and the number of bits, which are 8
--- to 512, in decimal.
+-- what may follow the tag: nothing for the full length; for BLAKE2b a `-` and the number of bits, 8 to 512, in decimal
 abbrev pub IsWidth : KindValue → ByteString → Type 0
 IsWidth kind width = ((width ≡ []) × (kind.len ≡ full_len kind.algo))
     ⊎ ((width ≡ codes "-" ++ decimal (8 * kind.len)) × (kind.algo ≡ Blake2b) × IsTrue (has_len Blake2b kind.len))

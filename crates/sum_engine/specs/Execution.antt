@@ -92,8 +92,7 @@ pub record ReadToEnd {S : Type 0} (state : S → SourceState) (a b : InputsState
 
 -- a world that these inputs may be in: of the source and of standard input what is known
 abbrev pub MayBeIn : {S : Type 0} → (S → SourceState) → InputsState S → World → Type 0
-MayBeIn state m w = IfSome (state m.source).known (λ s. w.answer ≡ s.answer)
-    × IfSome m.input (λ c. w.input ≡ c)
+MayBeIn state m w = IfSome (state m.source).known (λ s. w.answer ≡ s.answer) × IfSome m.input (λ c. w.input ≡ c)
 
 -- P holds between worlds before and after: whatever the one after may be, there is one before
 pub record InSomeWorld {S : Type 0} (state : S → SourceState) (a b : InputsState S) (P : World → World → Type 0)

@@ -30,8 +30,7 @@ file_reasons =
     (23, codes "Too many open files in system") ∷
     (24, codes "Too many open files") ∷
     (26, codes "Text file busy") ∷
-    (27, codes "File too large") ∷
-    []
+    (27, codes "File too large") ∷ []
 
 -- of names, file systems, media and keys
 unfoldable pub store_reasons : Reasons
@@ -51,8 +50,7 @@ store_reasons =
     (126, codes "Required key not available") ∷
     (127, codes "Key has expired") ∷
     (128, codes "Key has been revoked") ∷
-    (129, codes "Key was rejected by service") ∷
-    []
+    (129, codes "Key was rejected by service") ∷ []
 
 -- of what lies behind a network
 unfoldable pub network_reasons : Reasons
@@ -69,8 +67,7 @@ network_reasons =
     (113, codes "No route to host") ∷
     (116, codes "Stale file handle") ∷
     (121, codes "Remote I/O error") ∷
-    (125, codes "Operation canceled") ∷
-    []
+    (125, codes "Operation canceled") ∷ []
 
 -- the text of a number in such a table
 abbrev pub reason_in : Reasons → ℤ → Option ByteString

@@ -67,8 +67,7 @@ lines_under p c = if p.drops_carriage_return then lines c else raw_lines c
 abbrev pub verdicts : Rules → Form → World → ℕ → List ByteString → List LineVerdictValue
 verdicts r f w n [] = []
 verdicts r f w n (l ∷ ls) =
-    let j = judge r w (n + 1) (parse_line r.profile r.algo f l) in
-    j ∷ verdicts r f (after w (asks_of j)) (n + 1) ls
+    let j = judge r w (n + 1) (parse_line r.profile r.algo f l) in j ∷ verdicts r f (after w (asks_of j)) (n + 1) ls
 
 -- those of a whole manifest, whose form is that of all its lines
 abbrev pub all_verdicts : Rules → World → Content → List LineVerdictValue

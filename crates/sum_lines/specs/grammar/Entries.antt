@@ -38,8 +38,7 @@ IsForm algos [] form = form ≡ Undecided
 IsForm algos (line ∷ later) form = DecidesForm algos line form
     ⊎ (((f : Form) → ¬ DecidesForm algos line f) × IsForm algos later form)
 
--- A raw name, as the line has it, spells a name without NUL. If the line has the backslash for that, the raw name is
--- the escape of the name; if not, it is the name itself.
+-- A raw name spells a name without NUL: its escape, if the line has the backslash for that; the name itself, if not.
 pub record Spells (escape : ByteString → ByteString) (escaped : Bool) (raw name : ByteString) : Type 0 where
   pub no_nul : All (λ b. 0 < b) name
   pub is : raw ≡ (if escaped then escape name else name)
