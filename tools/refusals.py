@@ -2,9 +2,7 @@
 """Makes the table of docs/TESTING.md anew: which clause refuses which wrong version.
 
     tools/refusals.py         calls `rt must-fail`, which tries all of them
-    tools/refusals.py FILE    takes a file with the output of that call, or of the gate
-
-The goal that counts for a wrong version is the first one that the prover names."""
+    tools/refusals.py FILE    takes a file with the output of that call, or of the gate"""
 
 import os
 import re
@@ -18,9 +16,9 @@ from rattle import TOP, crates, text_of  # noqa: E402  (nothing is to be left be
 PAGE = os.path.join(TOP, "docs", "TESTING.md")
 MARKS = "<!-- made by tools/refusals.py: what stands below -->\n", "\n<!-- and above this line -->"
 LINE = re.compile(r"rt: must-fail (\w+)/([\w.-]+)\.edit: (.*)")
-# A goal of a function's own, at a line of the code; or in a proof, of the function that the folders name. A proof that
-# names a goal which is gone shows nothing.
-AT = re.compile(r"refused, as it must be: note: src/([\w/]+\.rt):(\d+):\d+: [^(]*\(`([^`]*)`")
+# A goal of a function's own, at a line of the code, whose end may be cut; or in a proof, of the function that the
+# folders name. A proof that names a goal which is gone shows nothing.
+AT = re.compile(r"refused, as it must be: note: src/([\w/]+\.rt):(\d+):\d+: [^(]*\(`([^`]*)(`?)")
 IN_PROOF = re.compile(r"refused, as it must be: (?:note: )?(?:\./)?proofs/([\w/]+)\.antt:\d+:\d+: error: `([^`]*)`: "
                       r"(?!`goal\.)")
 
@@ -65,9 +63,11 @@ def rows(said):
         in_code, in_proof = AT.match(how), IN_PROOF.match(how)
         if not in_code and not in_proof:
             sys.exit(f"{crate}/{name}.edit isn't refused by a goal that can be read: {how}")
-        function = (function_at(text_of("crates", crate, "src", in_code[1]), int(in_code[2])) if in_code
-                    else function_of(crate, in_proof[1]))
+        code = text_of("crates", crate, "src", in_code[1]) if in_code else ""
+        function = function_at(code, int(in_code[2])) if in_code else function_of(crate, in_proof[1])
         goal = goal_of(in_code[3] if in_code else in_proof[2])
+        if in_code and not in_code[4]:
+            goal = next(label for label in re.findall(r"ensures (\w+)", code) if label.startswith(goal))
         found.setdefault((crate, function), {}).setdefault(goal, []).append(name)
     return found
 
