@@ -1,4 +1,4 @@
-//! The variants and fields that callers name. Each match has an arm for each variant, and no other arm.
+//! The variants and fields of `sum_engine` that callers name. Each match has an arm for each variant, and no other arm.
 use digest_kinds::{Algo, Algos, Kind};
 use sum_engine::{CheckSettings, LineVerdict, Progress, Report, Settings, Stop, Verdict};
 use sum_lines::{Mode, Style};

@@ -1,4 +1,4 @@
-//! The variants and fields that callers name. Each match has an arm for each variant, and no other arm.
+//! The variants and fields of `sum_words` that callers name. Each match has an arm for each variant, and no other arm.
 use crate::words::words_of;
 use std::alloc::Allocator;
 use std::test::Fail;
