@@ -130,7 +130,8 @@ PrefixHappened a b es = (prefix : List Event) × IsPrefix prefix es × Happened 
 -- out of memory at a step, of which nothing happened: the source was refused it, or bytes of the manifest remained
 abbrev pub RefusedAt : Step → WorldState → WorldState → Type 0
 RefusedAt s a b = (b ≡ record a { source = b.source }) × AskedMore a.source b.source []
-    × (IsOneMore a.source.counts.refusals b.source.counts.refusals ⊎ ((b.source.counts.refusals ≡ a.source.counts.refusals) × (0 < s.remaining)))
+    × (IsOneMore a.source.counts.refusals b.source.counts.refusals
+    ⊎ ((b.source.counts.refusals ≡ a.source.counts.refusals) × (0 < s.remaining)))
 
 -- out of memory: the steps before the next one happened, and nothing of it
 pub record RunsOutOfMemory (steps : List Step) (a b : WorldState) : Type 0 where

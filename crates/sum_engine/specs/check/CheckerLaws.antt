@@ -101,4 +101,5 @@ ending_answer (Broken f) = Err (Fault f)
 -- once that was returned, it is returned again
 abbrev pub EndStays : Type 0
 EndStays = (r : Rules) (e : Ending) (vector : ByteString) (a b c : CheckState)
-    (x : Result (Option LineVerdict) LineStop) → HasNoVerdictLeft r e a b → NextVerdictIs r vector b c x → x ≡ ending_answer e
+    (x : Result (Option LineVerdict) LineStop) → HasNoVerdictLeft r e a b → NextVerdictIs r vector b c x
+    → x ≡ ending_answer e
