@@ -9,7 +9,7 @@ use Rattle.sum_engine.specs.Behavior.{World, after, Event, Step, Behavior, trace
 use Rattle.sum_engine.specs.check.CheckerSteps.{step_then}
 use Rattle.sum_engine.specs.check.CheckerLaws.{EventsExtend}
 use Rattle.sum_engine.specs.refinement.FlushedWrites.{WritesAndReturns}
-use Rattle.sum_engine.proofs.ExecutionLemmas.{AsksNames, asks_in, step_performed, names-by, err-by, out-by, Happened-none, Happened-then, HappenedOrPrefix-by, refused_in}
+use Rattle.sum_engine.proofs.ExecutionLemmas.{AsksNames, asks_in, step_performed, names-by, err-by, out-by, Happened-none, Happened-then, HappenedOrPrefix-by, refused_in, refused_first}
 use Rattle.sum_engine.proofs.WorldLemmas.{InSomeWorld-map}
 
 -- ---- a behavior after a step, and one behavior after another
@@ -112,15 +112,7 @@ pub Performs-refused : {S A : Type 0} (state : S → SourceState) (run : World �
 Performs-refused state run outcome a b first same asked taken outputs refusals = λ flushed.
     InSomeWorld-map same (λ w v is.
     let next = first w in
-    record {
-      done = [];
-      next = next.0;
-      later = next.1;
-      between = in_world state a w;
-      are = next.2;
-      happened = Happened-none (in_world state a w);
-      refused = refused_in state a b w v next.0 is asked taken outputs refusals;
-    })
+    refused_first next.0 next.1 next.2 (refused_in state a b w v next.0 is asked taken outputs refusals))
 
 -- ---- what a run's events come to
 

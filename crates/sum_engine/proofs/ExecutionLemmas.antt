@@ -12,7 +12,7 @@ use Rattle.digest_kinds.specs.Limits.{one_more}
 use Rattle.sum_lines.specs.refinement.SinkStates.{AppendsPrefix}
 use Rattle.sum_engine.specs.Behavior.{World, is_dash, after, Event, Step, events_of, open_name, write_err, write_out, opened_name, err_byte, out_byte}
 use Rattle.sum_engine.specs.refinement.FlushedWrites.{WritesBoth, outcome_after}
-use Rattle.sum_engine.specs.Execution.{InputsState, StreamsState, KeepsStdin, WorldState, in_world, AskedMore, Stop, Memory, Write, Happened, PrefixHappened, RefusedAt, PerformsSteps}
+use Rattle.sum_engine.specs.Execution.{InputsState, StreamsState, KeepsStdin, WorldState, in_world, AskedMore, Stop, Memory, Write, Happened, PrefixHappened, RefusedAt, RunsOutOfMemory, PerformsSteps}
 use Rattle.sum_engine.proofs.WorldLemmas.{after-append, asked_none, asked_both}
 
 -- ---- what of a step's events is of each kind
@@ -146,6 +146,12 @@ pub refused_in : {S : Type 0} (state : S → SourceState) (a b : StreamsState S)
     → b.outputs ≡ a.outputs → (state b.inputs.source).counts.refusals ≡ one_more (state a.inputs.source).counts.refusals
     → RefusedAt step (in_world state a w) (in_world state b v)
 refused_in state a b w v step world asked taken outputs refused = search rules
+
+-- so memory ran out at the first step
+pub refused_first : {a b : WorldState} {steps : List Step} (next : Step) (later : List Step) → steps ≡ next ∷ later
+    → RefusedAt next a b → RunsOutOfMemory steps a b
+refused_first {a} next later are refused =
+    record { done = []; next = next; later = later; between = a; are = are; happened = Happened-none a; refused = refused }
 
 -- ---- a state after which a file was closed, or standard input put back
 

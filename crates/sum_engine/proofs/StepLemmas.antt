@@ -19,7 +19,7 @@ use Rattle.sum_engine.specs.refinement.Judging.{TakesLine}
 use Rattle.sum_engine.specs.refinement.FoundTexts.{found_err, found_out}
 use Rattle.sum_engine.proofs.FlushedWriteLemmas.{writes_and_returns}
 use Rattle.sum_engine.specs.refinement.FlushedWrites.{outcome_after, WritesAndFlushesBoth, WritesAndReturns}
-use Rattle.sum_engine.proofs.ExecutionLemmas.{AsksNames, asks_none, asks_in, HappenedOrPrefix, step_performed, Happened-none, HappenedOrPrefix-by}
+use Rattle.sum_engine.proofs.ExecutionLemmas.{AsksNames, asks_none, asks_in, HappenedOrPrefix, step_performed, HappenedOrPrefix-by, refused_first}
 use Rattle.sum_engine.proofs.CountLemmas.{counts_then-nil}
 use Rattle.sum_engine.proofs.RestLemmas.{line_step, behavior_by, first_step, found_first, going-before}
 use Rattle.sum_sources.specs.declared.line_reader.LineStop.TheVariants as line_stops
@@ -212,14 +212,6 @@ module _ {I S : Type 0} (input : I → InputState) (state : S → SourceState) (
           step = first.0;
           later = first.1;
           is = first.2;
-          performs = record {
-            done = [];
-            next = first.0;
-            later = [];
-            between = in_world state a w;
-            are = refl;
-            happened = Happened-none (in_world state a w);
-            refused = search (rules, did.asked, did.stdin_taken);
-          };
+          performs = refused_first first.0 [] refl (search (rules, did.asked, did.stdin_taken));
           going = λ h. cc;
         }))
