@@ -27,29 +27,33 @@ prefix_then a b c x y h k = search (rules, Appends-trans, append_assoc)
 pub written_flushed : {E : Type 0} (a b c : SinkState) (text : List ℕ) (r : Result (Unit {0}) E) → Accepts a b text
     → Flushes b c r → WritesAndFlushes a c text r
 written_flushed a b c text (Ok u) h k = search rules
-written_flushed a b c text (Err e) h k = (
-  k.failures ∙ ap one_more h.failures,
-  λ none.
-      (k.buffered, subst (λ l. AppendsPrefix a.written c.written (l ++ text)) none (Accepts-flush_failed text h k)),
-)
+written_flushed a b c text (Err e) h k = record {
+  failures = k.failures ∙ ap one_more h.failures;
+  flushed = λ none. k.buffered;
+  written = λ none.
+      subst (λ l. AppendsPrefix a.written c.written (l ++ text)) none (Accepts-flush_failed text h k);
+}
 
 -- ---- one text after another
 
 -- a text, and then another or a prefix of it
-pub written_then : {E : Type 0} (a b c : SinkState) (x y : List ℕ) (r : Result (Unit {0}) E)
+pub written_then : {E F : Type 0} {a b c : SinkState} {x y : List ℕ} {r : Result (Unit {0}) F}
     → WritesAndFlushes {E = E} a b x (Ok tt) → WritesAndFlushes b c y r → WritesAndFlushes a c (x ++ y) r
-written_then a b c x y (Ok u) h k = search (rules, Appends-trans)
-written_then a b c x y (Err e) h k = (
-  k.0 ∙ ap one_more h.0,
-  λ none.
-      let then = k.1 (h.1 none).0 in
-      (then.0, prefix_then a.written b.written c.written x y (h.1 none).1 then.1),
-)
+written_then {r = Ok u} h k = search (rules, Appends-trans, h.flushed, h.written, k.flushed, k.written)
+written_then {r = Err e} h k = record {
+  failures = k.failures ∙ ap one_more h.failures;
+  flushed = λ none. k.flushed (h.flushed none);
+  written = λ none. prefix_then _ _ _ _ _ (h.written none) (k.written (h.flushed none));
+}
 
--- a prefix of a text, and none of the next
-pub part_more : {E : Type 0} (a b : SinkState) (x y : List ℕ) (e : E) → WritesAndFlushes a b x (Err e)
-    → WritesAndFlushes a b (x ++ y) (Err e)
-part_more a b x y e h = (h.0, λ none. ((h.1 none).0, prefix_more a.written b.written x y (h.1 none).1))
+-- a prefix of a text, and none of the next, by a call that returns this fault
+pub part_more : {E F : Type 0} {a b : SinkState} {x : List ℕ} {e : E} {P : F → Type 0} {r : Result (Unit {0}) F}
+    (y : List ℕ) → WritesAndFlushes a b x (Err e) → (f : F) × (r ≡ Err f) × P f → WritesAndFlushes {E = F} a b (x ++ y) r
+part_more y h stop = rw stop.1 (record {
+  failures = h.failures;
+  flushed = h.flushed;
+  written = λ none. prefix_more _ _ _ y (h.written none);
+})
 
 -- ---- both outputs
 

@@ -9,10 +9,11 @@ use Rattle.sum_engine.specs.Execution.{OutputsState, IsFlushed, HasNoFailure, Ha
 
 -- a call that writes the text and flushes it, if the output is flushed before; then it is flushed after. A fault has
 -- one failure more of the output, and a prefix of the text was written
-abbrev pub WritesAndFlushes : {E : Type 0} → SinkState → SinkState → ByteString → Result ⊤ E → Type 0
-WritesAndFlushes a b text r = MatchResult r (λ u. b.failures ≡ a.failures) (λ e. b.failures ≡ one_more a.failures)
-    × (a.buffered ≡ [] → (b.buffered ≡ [])
-    × MatchResult r (λ u. Appends a.written b.written text) (λ e. AppendsPrefix a.written b.written text))
+pub record WritesAndFlushes {E : Type 0} (a b : SinkState) (text : ByteString) (r : Result ⊤ E) : Type 0 where
+  pub failures : MatchResult r (λ u. b.failures ≡ a.failures) (λ e. b.failures ≡ one_more a.failures)
+  pub flushed : a.buffered ≡ [] → b.buffered ≡ []
+  pub written : a.buffered ≡ []
+      → MatchResult r (λ u. Appends a.written b.written text) (λ e. AppendsPrefix a.written b.written text)
 
 -- standard error got the first text, and then standard output the second; or a prefix of both in this order
 abbrev pub WritesBoth : {E : Type 0} → OutputsState → OutputsState → ByteString → ByteString → Result ⊤ E → Type 0
