@@ -151,16 +151,16 @@ not_final p false None h = refl
 not_final p false (Some x) h = cc
 
 -- from the place p and the streams a to the place q and the streams b
-module _ {I S : Type 0} (input : I → InputState) (state : S → SourceState) (p q : CursorValue I) (a b : StreamsState S)
+module _ {I S : Type 0} {input : I → InputState} {state : S → SourceState} {p q : CursorValue I} (a b : StreamsState S)
     (labels : LabelsValue) (vector : List ℕ)
   where
     -- the end was found, and its text was written, or a prefix of it
-    step_end : (e : Ending) (outcome : Bool) (y : Result Progress Stop)
+    step_end : (e : Ending) (outcome : Bool) {y : Result Progress Stop}
         → InSomeCheck input state p q a.inputs b.inputs (HasNoVerdictLeft p.rules e)
         → AsksNames state a.inputs b.inputs [] → q.rules ≡ p.rules → outcome ≡ good q.rules e q.counts
         → WritesAndReturns a.outputs b.outputs (end_text q.rules labels e q.counts) [] (Ended outcome) y
         → TakesStep input state vector labels p q a b y
-    step_end e outcome y found asked same sum wrote = λ flushed.
+    step_end e outcome found asked same sum wrote = λ flushed.
         rw wrote.returns (InSomeCheck-map found (λ c d w v f.
         let r = p.rules in
         let said = rw (same, f.counts) at (wrote.writes.1 flushed).1 in
@@ -174,14 +174,14 @@ module _ {I S : Type 0} (input : I → InputState) (state : S → SourceState) (
         (asks_in state a b asked f.world) said) (λ h. cc)))
 
     -- the next verdict was found, and then its text was written, or a prefix of it
-    pub step_taken : {E : Type 0} (x : VerdictResult) (w : Result (Unit {0}) E) (y : Result Progress Stop)
+    pub step_taken : {E : Type 0} (x : VerdictResult) (w : Result (Unit {0}) E) {y : Result Progress Stop}
         → FindsVerdict input state vector p q a.inputs b.inputs x
         → AdvancesVerdicts input state vector p q a.inputs b.inputs x
         → WritesAndFlushesBoth a.outputs b.outputs (found_err q labels vector x) (found_out q labels vector x) w
         → (x ≡ Err line_stops.Memory → (w ≡ Ok tt) × (b.outputs ≡ a.outputs)) → y ≡ step_answer q x (is_err w)
         → TakesStep input state vector labels p q a b y
     -- a line had a verdict; its report is written, and the lines after it remain
-    step_taken (Ok (Some v)) w y found did wrote kept is = λ flushed.
+    step_taken (Ok (Some v)) w found did wrote kept is = λ flushed.
         let j = line_verdict_value vector v in
         let asked : AsksNames state a.inputs b.inputs (asks_of j) =
         record { asked = did.asked; taken = did.stdin_taken; refusals = did.out_of_memory } in
@@ -195,15 +195,15 @@ module _ {I S : Type 0} (input : I → InputState) (state : S → SourceState) (
         (HappenedOrPrefix-by _ _ (asks_of j) _ _ said.written (asks_in state a b asked f.0.world) (said.writes.1 flushed).1)
         (λ is. (refl, f.1))))
     -- no line was left; the end is written, and nothing remains
-    step_taken (Ok None) w y found did wrote kept is =
+    step_taken (Ok None) w found did wrote kept is =
         let outcome = good q.rules Whole q.counts in
-        step_end Whole outcome y found (asks_none did.asked did.stdin_taken did.out_of_memory) did.cursor.rules refl
+        step_end Whole outcome found (asks_none did.asked did.stdin_taken did.out_of_memory) did.cursor.rules refl
         (writes_and_returns w (answered q (Ok None) (Ended outcome) w refl refl is) wrote)
-    step_taken (Err (line_stops.Fault f)) w y found did wrote kept is =
-        step_end (Broken f) false y found (asks_none did.asked did.stdin_taken did.out_of_memory) did.cursor.rules refl
+    step_taken (Err (line_stops.Fault f)) w found did wrote kept is =
+        step_end (Broken f) false found (asks_none did.asked did.stdin_taken did.out_of_memory) did.cursor.rules refl
         (writes_and_returns w (answered q (Err (line_stops.Fault f)) (Ended false) w refl refl is) wrote)
     -- memory ran out before the verdict; nothing is written, and all remains
-    step_taken (Err line_stops.Memory) w y found did wrote kept is = λ flushed.
+    step_taken (Err line_stops.Memory) w found did wrote kept is = λ flushed.
         rw is (InSomeCheck-map found (λ c d w v f.
         let first = first_step p.rules labels c.ending p.counts c (remaining_verdicts p.rules (state_at p c w)) in
         let outputs = (kept refl).1 in

@@ -115,13 +115,9 @@ impl<'a, I: Input> Checker<'a, I> {
         }
         let found = self.verdicts.next(line, &mut streams.inputs);
         let cursor = self.verdicts.cursor();
-        match cursor.put_found(&self.labels, line, found, &mut streams.outputs) {
-            Ok(()) => cursor.answer(found),
-            Err(_) => {
-                self.write_failed = true;
-                Err(Stop::Write)
-            }
-        }
+        let written = cursor.put_found(&self.labels, line, found, &mut streams.outputs);
+        self.write_failed = written.is_err();
+        self.verdicts.cursor().answer(found, self.write_failed)
     }
 
     // What every later step returns, if that is settled.
@@ -132,6 +128,6 @@ impl<'a, I: Input> Checker<'a, I> {
             return Some(Err(Stop::Write));
         }
         let found = self.verdicts.final_answer()?;
-        Some(self.verdicts.cursor().answer(found))
+        Some(self.verdicts.cursor().answer(found, false))
     }
 }

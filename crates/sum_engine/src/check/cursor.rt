@@ -1,6 +1,6 @@
 //! The place in a manifest that is being checked.
 ghost use Rattle.std.specs.Prelude.{◌≡◌, ◌≤◌, ◌<◌, ◌^◌, Ok, Err, length};
-ghost use Rattle.std.specs.Prelude.{true, false, IfSome, IfOk, OnErr};
+ghost use Rattle.std.specs.Prelude.{true, false, IfSome, IfOk};
 ghost use Rattle.sum_engine.specs.check.CheckStates.{counts_with};
 ghost use Rattle.sum_engine.specs.check.CheckStates.{total};
 
@@ -47,7 +47,7 @@ impl<I> Model for CheckCursor<I> {
 
 impl<I: Input> CheckCursor<I> {
     ghost use Rattle.sum_sources.specs.LineReaders.{remaining_content};
-    ghost use Rattle.sum_engine.specs.Execution.{Write, KeepsStdin, ReadToEnd, InSomeWorld, AskedMore};
+    ghost use Rattle.sum_engine.specs.Execution.{KeepsStdin, ReadToEnd, InSomeWorld, AskedMore};
     ghost use Rattle.sum_engine.specs.check.CheckStates.{IsAtStart};
     ghost use Rattle.sum_engine.specs.check.NextVerdict.{MemoryStopHasCause};
     ghost use Rattle.sum_engine.specs.check.NextVerdict.{AdvancesCursor};
@@ -112,7 +112,6 @@ impl<I: Input> CheckCursor<I> {
         ensures texts { WritesAndFlushesBoth outputs.old outputs.new (found_err self.now labels.now line.now found)
             (found_out self.now labels.now line.now found) result }
         ensures memory { found ≡ Err Memory → (result ≡ Ok tt) × (outputs.new ≡ outputs.old) }
-        ensures failed { OnErr result (Err Write ≡ step_answer self.now found true) }
     {
         match found {
             Err(LineStop::Memory) => Ok(()),
@@ -136,15 +135,17 @@ impl<I: Input> CheckCursor<I> {
         }
     }
 
-    /// What a step returns that found this and could write it.
+    /// What a step returns that found this, by whether writing its text failed.
     pub(crate) fn answer(
         &self,
         found: Result<Option<LineVerdict>, LineStop>,
+        failed: bool,
     ) -> Result<Progress, Stop>
-        ensures { result ≡ step_answer self.now found false }
+        ensures { result ≡ step_answer self.now found failed }
     {
         match found {
             Err(LineStop::Memory) => Err(Stop::Memory),
+            _ if failed => Err(Stop::Write),
             Err(LineStop::Fault(_)) => Ok(Progress::Ended(false)),
             Ok(None) => Ok(Progress::Ended(self.is_good())),
             Ok(Some(_)) => Ok(Progress::Going),
