@@ -1,12 +1,12 @@
 -- `CheckCursor::next_verdict`: the next verdict of a manifest, by what reading and judging its line did.
-use Rattle.std.proofs.Common.{rules, ◌≡◌, ◌∙◌, ℕ, ◌+◌, ◌<◌, ◌≤◌, List, [], length, slice_range, Option, None, Some, Result, Ok, Err, refl, inr}
+use Rattle.std.proofs.Common.{rules, ◌≡◌, ◌∙◌, ℕ, ◌+◌, ◌<◌, ◌≤◌, List, [], length, slice_range, Option, None, Some, Result, Ok, Err, refl, inr, ◌∷◌, ap, sym, arith}
 use Rattle.sum_sources.specs.declared.line_reader.LineStop.TheVariants.{Fault, Memory}
 use Rattle.sum_sources.specs.Contents.{Content, InputState, IfKnown}
 use Rattle.sum_sources.specs.Sources.{SourceState}
 use Rattle.sum_sources.specs.declared.line_reader.Next.{Next}
 use Rattle.sum_sources.specs.declared.line_reader.Next.TheVariants.{Line, NoMore}
 use Rattle.sum_sources.specs.declared.line_reader.LineStop.{LineStop}
-use Rattle.sum_sources.specs.LineReaders.{AdvancesLines, IsBounded, ReadsSomeLine, remaining_content, remaining_by}
+use Rattle.sum_sources.specs.LineReaders.{AdvancesLines, IsBounded, ReadsSomeLine, remaining_content, remaining_by, consumed_count}
 use Rattle.sum_sources.specs.ManifestLines.{IsNextLine, lines}
 use Rattle.sum_lines.specs.Escape.{present}
 use Rattle.sum_sources.specs.declared.line_reader.LineReader.{LineReader}
@@ -15,48 +15,73 @@ use Rattle.sum_sources.proofs.RemainLemmas.{MayRemain-known}
 use Rattle.sum_lines.specs.grammar.ParsedLines.{ParsedLine}
 use Rattle.sum_engine.specs.check.Reports.{Counts}
 use Rattle.sum_engine.specs.check.NextVerdict.{LineVerdict, line_verdict_value, HasNoVerdictLeft, FindsVerdict, VerdictResult, counts_after, AdvancesCursor, MemoryStopHasCause}
-use Rattle.sum_engine.specs.check.Verdicts.{Verdict, lines_under}
+use Rattle.sum_engine.specs.check.Verdicts.{Verdict, Rules, lines_under}
 use Rattle.sum_engine.specs.Behavior.{Ending, Whole, Broken, World}
 use Rattle.sum_engine.specs.Execution.{InputsState, InSomeWorld}
-use Rattle.sum_engine.specs.check.CheckStates.{CursorValue, counts_with, state_at, InSomeCheck, CheckState, next_judged}
-use Rattle.sum_engine.specs.refinement.Judging.{JudgeOf, name_in_line, TakesLine, JudgeLineOf, parsed_at}
+use Rattle.sum_engine.specs.check.CheckStates.{CursorValue, counts_with, state_at, InSomeCheck, CheckState, HandlesLine, next_judged}
+use Rattle.sum_engine.specs.refinement.HashName.{NoRoom}
+use Rattle.sum_engine.specs.refinement.Judging.{JudgeOf, name_in_line, TakesLine, JudgeLineOf, parsed_at, found_verdict}
 use Rattle.sum_engine.proofs.RestLemmas.{rest_on}
-use Rattle.sum_engine.proofs.StepLemmas.{InSomeCheck-made, some_remains, lines_now, ReadsLine, line_handled}
+use Rattle.sum_engine.proofs.StepLemmas.{some_remains}
 
--- a line was judged, and its name is at a range of the vector
+-- the lines of a content under the present profile
+lines_now : (r : Rules) (c : Content) → r.profile ≡ present → lines_under r.profile c ≡ lines c
+lines_now r c h = rw h refl
+
+-- ---- a line was read
+
+-- it was judged, and its name is at a range of the vector
 pub judged-line : {I : Type 0} (p : CursorValue I) (line : List ℕ) (said : ParsedLine) (k : ℕ) (d : Counts)
-    (vector : List ℕ)
-    (w v : World) (verdict : Verdict) (start stop : ℕ) → parsed_at p line ≡ said
+    (vector : List ℕ) (w v : World) (verdict : Verdict) (start stop : ℕ) → parsed_at p line ≡ said
     → JudgeOf p.rules w v said (Ok verdict) → d ≡ counts_with p.counts verdict
     → slice_range vector start stop ≡ name_in_line said → k ≡ p.reader.lines
-    → JudgeLineOf p line d vector w v
-    (Ok (record { number = k; verdict = verdict; start = start; stop = stop }))
+    → JudgeLineOf p line d vector w v (Ok (record { number = k; verdict = verdict; start = start; stop = stop }))
 judged-line p line said k d vector w v verdict start stop is h count place number = search rules
 
+-- the reader of the place p read a line, and became this one; q is the place once the line was judged
 module _ {I S : Type 0} (input : I → InputState) (source : S → SourceState) (p q : CursorValue I) (reader : LineReader I)
-    (a b : InputsState S) (line vector : List ℕ) (reads : ReadsLine input p reader line) where
-  -- it is the first of those that remained; q is the place then
-  pub next_verdict-line : (found : LineVerdict) → TakesLine (record p { reader = reader }) q line
-      → length vector ≤ length line
-      → InSomeWorld source a b (λ w v. JudgeLineOf (record p { reader = reader }) line q.counts vector w v (Ok found))
-      → FindsVerdict input source vector p q a b (Ok (Some found))
-  next_verdict-line found takes few judged =
-      let then : CursorValue _ = record q { reader = reader } in
-      rw takes.reader (InSomeCheck-made {q = then} reads.next judged (λ c d w v took judged.
-      let f = rw reads.number at judged in
-      let first : CheckState = state_at p c w in
-      let next : CheckState = state_at then d v in
-      let is : next_judged p.rules first line ≡ line_verdict_value vector found = f.0 in
-      let counted : q.counts ≡ counts_with p.counts (next_judged p.rules first line).verdict = search (rules, f.2, is) in
-      let moves = line_handled input p q reader c d w v line vector reads took takes few counted in
-      (search (rules, rest_on p.rules first next vector moves, is, f.1), moves)))
+    (a b : InputsState S) (line vector : List ℕ) (reads : ReadsSomeLine input p.reader reader (Ok Line) line)
+    (number : reader.lines ≡ p.reader.lines + 1) (bounds : IsBounded reader) (now : p.rules.profile ≡ present) where
+  -- the place once the line was judged, with the reader's own type
+  abbrev then : CursorValue I
+  then = record q { reader = reader }
 
-  -- memory to open a line's file was refused: nothing happened, and the line remained
-  pub next_verdict-refused : q.reader ≡ reader → InSomeWorld source a b (λ w v. v ≡ w)
-      → FindsVerdict input source vector p q a b (Err Memory)
-  next_verdict-refused is same =
-      let then : CursorValue _ = record q { reader = reader } in
-      rw is (InSomeCheck-made {q = then} reads.next same (λ c d w v next same. (same, line-some c d line next.0)))
+  -- what follows of the contents and of the worlds
+  made : {Q : World → World → Type 0} {R : CheckState → CheckState → Type 0} → InSomeWorld source a b Q
+      → ((c d : Content) (w v : World) → IsNextLine c d (Ok Line) line
+      → consumed_count reader + length d.bytes ≡ consumed_count p.reader + length c.bytes → Q w v
+      → R (state_at p c w) (state_at then d v)) → InSomeCheck input source p then a b R
+  made h f = record {
+    before = λ d v may fits.
+        let left = reads d may in
+        let some = h.before v fits in
+        (left.0, some.0, left.1, some.1, f left.0 d some.0 v left.2 left.3 some.2);
+  }
+
+  -- the line is the first of those that remained. Or memory to open its file was refused, and it remained
+  pub next_verdict-line : (x : Result LineVerdict NoRoom) → TakesLine (record p { reader = reader }) q line
+      → length vector ≤ length line
+      → InSomeWorld source a b (λ w v. JudgeLineOf (record p { reader = reader }) line q.counts vector w v x)
+      → FindsVerdict input source vector p q a b (found_verdict x)
+  next_verdict-line (Ok found) takes few judged = rw takes.reader (made judged (λ c d w v next consumed judged.
+      let f = rw number at judged in
+      let first : CheckState = state_at p c w in
+      let last : CheckState = state_at then d v in
+      let is : next_judged p.rules first line ≡ line_verdict_value vector found = f.0 in
+      let handled : HandlesLine p.rules first last vector = record {
+        line = line;
+        lines = lines_now p.rules c now ∙ next.0 ∙ ap (λ l. line ∷ l) (sym (lines_now p.rules d now));
+        rest = next.1;
+        consumed = consumed;
+        taken = omega (arith, bounds.ahead);
+        number = number;
+        form = takes.form;
+        counts = search (rules, f.2, is);
+        vector_len = few;
+      } in
+      (search (rules, rest_on p.rules first last vector handled, is, f.1), handled)))
+  next_verdict-line (Err e) takes few judged =
+      rw takes.reader (made judged (λ c d w v next consumed same. (same, line-some c d line next)))
 
 -- ---- no line remained, or the reader stopped
 

@@ -1,21 +1,17 @@
 -- One step of a checker, `Checker::step`: the next verdict was found, and its text was written.
-use Rattle.std.proofs.Common.{◌≡◌, ℕ, ◌+◌, ◌^◌, ◌<◌, ◌≤◌, Bool, true, false, is_err, option_map, if◌then◌else◌, List, [], ◌∷◌, length, Option, None, Some, MatchOption, Result, Ok, Err, inl, inr, ◌⊎◌, refl, ap, sym, ◌∙◌, rules, arith}
-use Rattle.sum_sources.specs.declared.line_reader.Next.TheVariants.{Line}
+use Rattle.std.proofs.Common.{◌≡◌, ℕ, ◌+◌, ◌^◌, ◌<◌, Bool, true, false, is_err, option_map, if◌then◌else◌, List, [], length, Option, None, Some, MatchOption, Result, Ok, Err, inl, inr, ◌⊎◌, refl, ap, ◌∙◌, rules, arith}
 use Rattle.sum_sources.specs.declared.line_reader.LineReader.{LineReader}
 use Rattle.sum_sources.proofs.ContentLemmas.{limit-value}
 use Rattle.sum_engine.specs.Behavior.{Ending, Whole, Broken, Fault, World, Step, Behavior, events_of}
 use Rattle.sum_sources.specs.Contents.{Content, InputState, empty_content, limit}
 use Rattle.sum_sources.specs.Sources.{SourceState}
-use Rattle.sum_sources.specs.ManifestLines.{IsNextLine, lines}
 use Rattle.sum_sources.specs.LineReaders.{remaining_content, MayRemain, IsBounded, consumed_count}
-use Rattle.sum_lines.specs.Escape.{present}
 use Rattle.sum_engine.specs.check.Reports.{LabelsValue, end_text, good}
-use Rattle.sum_engine.specs.check.Verdicts.{lines_under, Rules, asks_of}
-use Rattle.sum_engine.specs.check.CheckStates.{CursorValue, state_at, InSomeCheck, CheckState, counts_with, HandlesLine, next_judged, remaining_verdicts, remaining_behavior}
+use Rattle.sum_engine.specs.check.Verdicts.{Rules, asks_of}
+use Rattle.sum_engine.specs.check.CheckStates.{CursorValue, state_at, InSomeCheck, CheckState, HandlesLine, remaining_verdicts, remaining_behavior}
 use Rattle.sum_engine.specs.check.CheckerSteps.{Progress, Going, Ended, step_then, progress_before, step_answer, StepIs, TakesStep}
-use Rattle.sum_engine.specs.Execution.{Stop, Write, InputsState, StreamsState, WorldState, InSomeWorld, in_world}
+use Rattle.sum_engine.specs.Execution.{Stop, Write, InputsState, StreamsState, WorldState, in_world}
 use Rattle.sum_engine.specs.check.NextVerdict.{AdvancesVerdicts, VerdictResult, line_verdict_value, FindsVerdict, HasNoVerdictLeft}
-use Rattle.sum_engine.specs.refinement.Judging.{TakesLine}
 use Rattle.sum_engine.specs.refinement.FoundTexts.{found_err, found_out}
 use Rattle.sum_engine.proofs.FlushedWriteLemmas.{writes_and_returns}
 use Rattle.sum_engine.specs.refinement.FlushedWrites.{outcome_after, WritesAndFlushesBoth, WritesAndReturns}
@@ -28,21 +24,7 @@ use Rattle.sum_sources.specs.declared.line_reader.LineStop.TheVariants as line_s
 
 module _ {I S : Type 0} {input : I → InputState} {source : S → SourceState} {p q : CursorValue I} {a b : InputsState S}
   where
-    -- what follows of two places from facts of their contents and of the worlds
-    pub InSomeCheck-made : {P : Content → Content → Type 0} {Q : World → World → Type 0}
-        {R : CheckState → CheckState → Type 0}
-        → ((d : Content) → MayRemain input q.reader d → (c : Content) × MayRemain input p.reader c × P c d)
-        → InSomeWorld source a b Q
-        → ((c d : Content) (w v : World) → P c d → Q w v → R (state_at p c w) (state_at q d v))
-        → InSomeCheck input source p q a b R
-    InSomeCheck-made reads h f = record {
-      before = λ d v may fits.
-          let left = reads d may in
-          let some = h.before v fits in
-          (left.0, some.0, left.1, some.1, f left.0 d some.0 v left.2 some.2);
-    }
-
-    -- and from another fact of theirs
+    -- what follows of the states
     pub InSomeCheck-map : {P R : CheckState → CheckState → Type 0} → InSomeCheck input source p q a b P
         → ((c d : Content) (w v : World) → P (state_at p c w) (state_at q d v) → R (state_at p c w) (state_at q d v))
         → InSomeCheck input source p q a b R
@@ -78,42 +60,8 @@ some_remains state r bounds = by (remaining_content state r) refl bounds.under
         → (r.taken < 2 ^ 61) ⊎ ((f : Fault) × (r.final_answer ≡ Some (Err (line_stops.Fault f))))
         → (d : Content) × MatchOption x (consumed_count r + length d.bytes < limit) (λ c. d ≡ c)
     by None is (inl under) = (empty_content, rw limit-value (omega (arith, under)))
-    by None is (inr stop) = let none : Some (record { bytes = []; ending = Broken stop.0 }) ≡ None = rw stop.1 at is in cc
+    by None is (inr stop) = cc (rw stop.1 at is)
     by (Some c) is under = (c, refl)
-
--- ---- a step, by what the reader returned
-
--- the reader of a place became this one, which has read a line more
-pub record ReadsLine {I : Type 0} (state : I → InputState) (p : CursorValue I) (reader : LineReader I) (line : List ℕ)
-    : Type 0 where
-  pub next : (d : Content) → MayRemain state reader d → (c : Content) × MayRemain state p.reader c
-      × (IsNextLine c d (Ok Line) line × (consumed_count reader + length d.bytes ≡ consumed_count p.reader + length c.bytes))
-  pub number : reader.lines ≡ p.reader.lines + 1
-  pub ahead : length reader.ahead ≤ 8192
-  pub profile : p.rules.profile ≡ present
-
--- the lines of a content under the present profile
-pub lines_now : (r : Rules) (c : Content) → r.profile ≡ present → lines_under r.profile c ≡ lines c
-lines_now r c h = rw h refl
-
--- a line was handled: it was read, and then its form was taken over and its verdict counted
-abbrev pub line_handled : {I : Type 0} (state : I → InputState) (p q : CursorValue I) (reader : LineReader I)
-    (c d : Content) (w v : World) (line vector : List ℕ) → ReadsLine state p reader line
-    → IsNextLine c d (Ok Line) line × (consumed_count reader + length d.bytes ≡ consumed_count p.reader + length c.bytes)
-    → TakesLine (record p { reader = reader }) q line → length vector ≤ length line
-    → q.counts ≡ counts_with p.counts (next_judged p.rules (state_at p c w) line).verdict
-    → HandlesLine p.rules (state_at p c w) (state_at (record q { reader = reader }) d v) vector
-line_handled state p q reader c d w v line vector reads read takes few counted = record {
-  line = line;
-  lines = lines_now p.rules c reads.profile ∙ read.0.0 ∙ ap (λ l. line ∷ l) (sym (lines_now p.rules d reads.profile));
-  rest = read.0.1;
-  consumed = read.1;
-  taken = omega (arith, reads.ahead);
-  number = reads.number;
-  form = takes.form;
-  counts = counted;
-  vector_len = few;
-}
 
 -- ---- a step, by the verdict that was found
 

@@ -1,41 +1,28 @@
-use Rattle.std.proofs.Common.{rules, refl}
+use Rattle.std.proofs.Common.{rules, refl, Ok, Err}
 use Rattle.std.proofs.lemmas.Result.{err_from_is_err_and}
-use Rattle.sum_engine.proofs.NextVerdictLemmas.{next_verdict-line, next_verdict-refused, next_verdict-end, next_verdict-stopped, stop_cause, cursor-advanced}
+use Rattle.sum_engine.proofs.NextVerdictLemmas.{next_verdict-line, next_verdict-end, next_verdict-stopped, stop_cause, cursor-advanced}
 use Rattle.sum_engine.proofs.check.cursor.CheckCursor.next_verdict.Goals as goal
 
 -- a line was judged
 pub returns-in_ok-judge_line-in-Ok-Line-clause-verdict : goal.returns-in_ok-judge_line-in-Ok-Line-clause-verdict
 returns-in_ok-judge_line-in-Ok-Line-clause-verdict g c =
-    let gives = rw c.in-Ok-Line.field-0-is at c.in-Ok-Line.ensures.line in
-    let number = rw c.in-Ok-Line.field-0-is at c.in-Ok-Line.ensures.reader.lines in
+    let read = c.in-Ok-Line.ensures in
+    let is = c.in-Ok-Line.field-0-is in
     let done = c.in_ok-judge_line-in-Ok-Line.ensures in
     rw (← c.self.view_is) (next_verdict-line g.I.Input.state g.S.Source.state _ _ c.next_line.new.self _ _
-    c.next_line.new.line.items c.judge_line.new.line.items
-    (record {
-      next = λ d may. let some = gives d may in (some.0, some.1, (some.2, some.3));
-      number = number;
-      ahead = c.in-Ok-Line.ensures.bounds.ahead;
-      profile = c.self.invariant.2;
-    })
-    c.in_ok-judge_line-in-Ok-Line.field-0 done.cursor done.len done.verdict)
+    c.next_line.new.line.items c.judge_line.new.line.items (rw is at read.line) (rw is at read.reader.lines) read.bounds
+    c.self.invariant.2 (Ok _) done.cursor done.len done.verdict)
 
 -- no memory to open the line's file
 pub returns-in_err-judge_line-in-Ok-Line-clause-verdict : goal.returns-in_err-judge_line-in-Ok-Line-clause-verdict
 returns-in_err-judge_line-in-Ok-Line-clause-verdict g c =
-    let gives = rw c.in-Ok-Line.field-0-is at c.in-Ok-Line.ensures.line in
-    let number = rw c.in-Ok-Line.field-0-is at c.in-Ok-Line.ensures.reader.lines in
+    let read = c.in-Ok-Line.ensures in
+    let is = c.in-Ok-Line.field-0-is in
     let done = c.in_err-judge_line-in-Ok-Line.ensures in
     let stop = err_from_is_err_and c.from_residual.result c.from_residual.ensures.1 in
-    rw (stop.1, stop.2, ← c.self.view_is) (next_verdict-refused g.I.Input.state g.S.Source.state _
-    c.judge_line.new.self c.next_line.new.self _ _ c.next_line.new.line.items
-    c.judge_line.new.line.items
-    (record {
-      next = λ d may. let some = gives d may in (some.0, some.1, (some.2, some.3));
-      number = number;
-      ahead = c.in-Ok-Line.ensures.bounds.ahead;
-      profile = c.self.invariant.2;
-    })
-    done.cursor.reader done.verdict)
+    rw (stop.1, stop.2, ← c.self.view_is) (next_verdict-line g.I.Input.state g.S.Source.state _ _ c.next_line.new.self _ _
+    c.next_line.new.line.items c.judge_line.new.line.items (rw is at read.line) (rw is at read.reader.lines) read.bounds
+    c.self.invariant.2 (Err _) done.cursor done.len done.verdict)
 
 -- how far the manifest was read: to a line whose file could not be opened
 pub returns-in_err-judge_line-in-Ok-Line-clause-cursor : goal.returns-in_err-judge_line-in-Ok-Line-clause-cursor
