@@ -13,11 +13,11 @@ use Rattle.sum_engine.specs.check.CheckerLaws.{ManifestPerforms}
 use Rattle.sum_engine.specs.check.Verdicts.{Rules}
 use Rattle.sum_engine.specs.check.Reports.{LabelsValue}
 use Rattle.sum_engine.specs.check.Checking.{CheckSettings, rules_of, labels_of, check_behavior_by, check_behavior}
-use Rattle.sum_engine.specs.Execution.{Phase, Stop, Memory, InputsState, OutputsState, StreamsState, KeepsStdin, in_world, InSomeWorld, Happened, Performs}
+use Rattle.sum_engine.specs.Execution.{Phase, Stop, Memory, InputsState, OutputsState, StreamsState, KeepsStdin, in_world, InSomeWorld, Happened, PerformsSteps, Performs}
 use Rattle.sum_engine.specs.Generation.{name_fault_line}
 use Rattle.sum_engine.specs.refinement.FlushedWrites.{WritesAndReturns}
 use Rattle.sum_engine.specs.refinement.Openings.{stdin_taken_from}
-use Rattle.sum_engine.proofs.ExecutionLemmas.{AsksNames, asks_name, asks_in, Happened-by, kept_performs}
+use Rattle.sum_engine.proofs.ExecutionLemmas.{AsksNames, asks_name, asks_in, Happened-by, IsKept, kept_performs}
 use Rattle.sum_engine.proofs.WorldLemmas.{InSomeWorld-then, asked_none, dash_asked, file_asked, opened_file, opened_fault, opened_nothing, stdin_given, may-closed}
 use Rattle.sum_engine.proofs.CheckLinesLemmas.{manifest_behavior}
 use Rattle.sum_engine.proofs.BehaviorLemmas.{Performs-step, Performs-refused, behind_step}
@@ -35,14 +35,10 @@ closed : {S : Type 0} (state : S → SourceState) (r : Rules) (labels : LabelsVa
     (m b : StreamsState S) (n : InputsState S) (x : Result Bool Stop) → ManifestPerforms state r labels known m b x
     → IsClosed state b.inputs n → ManifestPerforms state r labels known m (record b { inputs = n }) x
 closed state r labels known m b n x run end = λ flushed. InSomeWorld-then (run flushed) end.world (λ u v w ran same.
-    let all = manifest_behavior r labels (clip ran.0) u in (
-      ran.0,
-      ran.1,
-      kept_performs all.steps all.good (in_world state m u) (in_world state b v)
-          (in_world state (record b { inputs = n }) w) x
-          (record { world = same; known = end.known; refusals = end.refusals; taken = end.taken; outputs = refl })
-          ran.2,
-    ))
+    let all = manifest_behavior r labels (clip ran.0) u in
+    let kept : IsKept (in_world state b v) (in_world state (record b { inputs = n }) w) =
+    record { all_but_source = rw (same, end.taken) refl; known = end.known; refusals = end.refusals } in
+    (ran.0, ran.1, kept_performs all.steps all.good (in_world state m u) _ _ x kept ran.2))
 
 -- the step that opens a manifest of that name
 abbrev pub opening : List ℕ → Step
@@ -63,9 +59,23 @@ module _ {S : Type 0} (state : S → SourceState) (settings : CheckSettings) (to
     abbrev from_inputs : InputsState S → StreamsState S
     from_inputs inputs = record a { inputs = inputs }
 
+    -- The name was asked in the world w, which gave this content in the world u, and its checker then ran up to the
+    -- world v. So the opening happened, and the behavior of the content comes behind it.
+    opened_in : (dash : Bool) (c : Content) (m : InputsState S) (b : StreamsState S) (x : Result Bool Stop)
+        (w u v : World) → is_dash name ≡ dash → AsksNames state a.inputs m (name ∷ [])
+        → (u ≡ after w (name ∷ [])) × (answer_to w name ≡ Ok c)
+        → (let all = manifest_behavior (rules_of settings dash) (labels_if dash) (clip c) u in
+        PerformsSteps all.steps all.good (in_world state (from_inputs m) u) (in_world state b v) x)
+        → (let all = check_behavior settings tool w name in
+        PerformsSteps all.steps all.good (in_world state a w) (in_world state b v) x)
+    opened_in dash c m b x w u v is asked answer ran =
+        let did : Happened (in_world state a w) (in_world state (from_inputs m) u) (events_of (opening name)) =
+        Happened-by (name ∷ []) [] [] (asks_in state a (from_inputs m) asked answer.0) (Appends-nil _) (Appends-nil _) in
+        let of = manifest_behavior (rules_of settings (is_dash name)) (labels_of settings tool name) (clip c) u in
+        rw (answer.1, ← answer.0) (behind_step (in_world state b v) of.good (opening name) of.steps x did (rw (← is) at ran))
+
     -- The name was asked, and gave this content if it is known: then the run of its checker is that of the call. It
-    -- goes backwards from the world after the call: the run has a world before it (`ran`), and the opening has one
-    -- before that (`first`). The opening happened (`did`), and the behavior of the content (`of`) comes behind it.
+    -- goes backwards from the world after the call: the run has a world before it, and the opening one before that.
     opened : (dash : Bool) (known : Option Content) (m : InputsState S) (b : StreamsState S) (x : Result Bool Stop)
         → is_dash name ≡ dash
         → ((c : Content) → IfSome known (λ d. c ≡ d)
@@ -74,18 +84,9 @@ module _ {S : Type 0} (state : S → SourceState) (settings : CheckSettings) (to
         → ManifestPerforms state (rules_of settings dash) (labels_if dash) known (from_inputs m) b x → Performed b x
     opened dash known m b x is answer asked run = λ flushed. record {
       before = λ v fits.
-          let ran = (run flushed).before v fits in
-          let first = (answer ran.2.0 ran.2.1).before ran.0 ran.1 in
-          let did : Happened (in_world state a first.0) (in_world state (from_inputs m) ran.0)
-          (events_of (opening name)) = Happened-by (name ∷ []) [] []
-          (asks_in state a (from_inputs m) asked first.2.0) (Appends-nil _) (Appends-nil _) in
-          let of : World → Behavior =
-          manifest_behavior (rules_of settings (is_dash name)) (labels_of settings tool name) (clip ran.2.0) in (
-            first.0,
-            first.1,
-            rw (first.2.1, ← first.2.0) (behind_step (in_world state b v) (of ran.0).good (opening name)
-                (of ran.0).steps x did (rw (← is) at ran.2.2)),
-          );
+          let (u, may, ran) = (run flushed).before v fits in
+          let (w, first, given) = (answer ran.0 ran.1).before u may in
+          (w, first, opened_in dash ran.0 m b x w u v is asked given ran.2);
     }
 
     -- the manifest is standard input, which is taken, and put back

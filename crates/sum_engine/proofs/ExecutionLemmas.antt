@@ -157,18 +157,12 @@ refused_first {a} next later are refused =
 
 -- what is the same of such a state
 pub record IsKept (b c : WorldState) : Type 0 where
-  pub world : c.world ≡ b.world
+  pub all_but_source : c ≡ record b { source = c.source }
   pub known : c.source.known ≡ b.source.known
   pub refusals : c.source.counts.refusals ≡ b.source.counts.refusals
-  pub taken : c.stdin_taken ≡ b.stdin_taken
-  pub outputs : c.outputs ≡ b.outputs
-
--- all but the source
-source_kept : (b c : WorldState) → IsKept b c → c ≡ record b { source = c.source }
-source_kept b c h = rw (← h.world, ← h.taken, ← h.outputs) refl
 
 kept_happened : (a b c : WorldState) (es : List Event) → IsKept b c → Happened a b es → Happened a c es
-kept_happened a b c es h did = search rules
+kept_happened a b c es h did = rw h.all_but_source (search rules)
 
 -- what was performed up to the one was performed up to the other
 pub kept_performs : {A : Type 0} (steps : List Step) (x : A) (a b c : WorldState) (r : Result A Stop) → IsKept b c
@@ -183,7 +177,7 @@ kept_performs steps x a b c (Err Memory) h did = record {
   are = did.are;
   happened = did.happened;
   refused = (
-    source_kept b c h ∙ ap (λ (s : WorldState). record s { source = c.source }) did.refused.0,
+    h.all_but_source ∙ ap (λ (s : WorldState). record s { source = c.source }) did.refused.0,
     rw h.known did.refused.1,
     rw h.refusals did.refused.2,
   );
