@@ -3,22 +3,22 @@
 use Rattle.std.proofs.Common.{rules, ◌≡◌, ℕ, Bool, true, false, List, [], ◌∷◌, Option, IfSome, Result, Ok, Err, cond, refl, ap, codes}
 use Rattle.std.proofs.KnownBytes.{Appends-nil}
 use Rattle.std.proofs.Math.Bool.{or-false}
-use Rattle.sum_engine.specs.Behavior.{Fault, World, is_dash, answer_to, after, Step, Behavior, events_of}
+use Rattle.sum_engine.specs.Behavior.{Fault, World, is_dash, answer_to, after, Step, events_of}
 use Rattle.sum_sources.specs.declared.sources.source.OpenFault.{OpenFault}
-use Rattle.sum_sources.specs.Contents.{Content, InputState, IfKnown, clip}
-use Rattle.sum_sources.specs.Sources.{OpensName, SourceState, Answer, closed_state}
-use Rattle.digest_kinds.specs.Limits.{one_more}
+use Rattle.sum_sources.specs.Contents.{Content, InputState, clip}
+use Rattle.sum_sources.specs.Sources.{SourceState, Answer}
+use Rattle.sum_sources.specs.declared.sources.file_counts.FileCounts.{FileCounts}
 use Rattle.sum_lines.specs.Escape.{present}
 use Rattle.sum_engine.specs.check.CheckerLaws.{ManifestPerforms}
 use Rattle.sum_engine.specs.check.Verdicts.{Rules}
 use Rattle.sum_engine.specs.check.Reports.{LabelsValue}
 use Rattle.sum_engine.specs.check.Checking.{CheckSettings, rules_of, labels_of, check_behavior_by, check_behavior}
-use Rattle.sum_engine.specs.Execution.{Phase, Stop, Memory, InputsState, OutputsState, StreamsState, KeepsStdin, in_world, InSomeWorld, Happened, PerformsSteps, Performs}
+use Rattle.sum_engine.specs.Execution.{Phase, Stop, Memory, InputsState, OutputsState, StreamsState, in_world, InSomeWorld, Happened, PerformsSteps, Performs}
 use Rattle.sum_engine.specs.Generation.{name_fault_line}
 use Rattle.sum_engine.specs.refinement.FlushedWrites.{WritesAndReturns}
-use Rattle.sum_engine.specs.refinement.Openings.{stdin_taken_from}
+use Rattle.sum_engine.specs.refinement.Openings.{stdin_taken_from, OpensFile, ClosesFile}
 use Rattle.sum_engine.proofs.ExecutionLemmas.{AsksNames, asks_name, asks_in, Happened-by, IsKept, kept_performs}
-use Rattle.sum_engine.proofs.WorldLemmas.{InSomeWorld-then, asked_none, dash_asked, file_asked, opened_file, opened_fault, opened_nothing, stdin_given, may-closed}
+use Rattle.sum_engine.proofs.WorldLemmas.{InSomeWorld-then, asked_none, dash_asked, opened_file, opened_fault, opened_nothing, stdin_given, may-closed}
 use Rattle.sum_engine.proofs.CheckLinesLemmas.{manifest_behavior}
 use Rattle.sum_engine.proofs.BehaviorLemmas.{Performs-step, Performs-refused, behind_step}
 use Rattle.sum_sources.specs.declared.sources.source.OpenFault.TheVariants as open_faults
@@ -39,6 +39,14 @@ closed state r labels known m b n x run end = λ flushed. InSomeWorld-then (run 
     let kept : IsKept (in_world state b v) (in_world state (record b { inputs = n }) w) =
     record { all_but_source = rw (same, end.taken) refl; known = end.known; refusals = end.refusals } in
     (ran.0, ran.1, kept_performs all.steps all.good (in_world state m u) _ _ x kept ran.2))
+
+-- a name was asked by a call to open its file, if there was memory
+file_asks : {S F : Type 0} {state : S → SourceState} {content : F → InputState} {name : List ℕ} {a b : InputsState S}
+    {x : Result F OpenFault} → is_dash name ≡ false → OpensFile state content name a b x
+    → (x ≡ Err open_faults.Memory → ⊥) → AsksNames state a b (name ∷ [])
+file_asks {x = Ok file} is_file h some = search (rules, or-false)
+file_asks {x = Err (open_faults.Fault f)} is_file h some = search (rules, or-false)
+file_asks {x = Err open_faults.Memory} is_file h some = absurd (some refl)
 
 -- the step that opens a manifest of that name
 abbrev pub opening : List ℕ → Step
@@ -103,55 +111,42 @@ module _ {S : Type 0} (state : S → SourceState) (settings : CheckSettings) (to
         (asks_name (search (rules, dash_asked)) (search rules) refl)
         (closed state (rules_of settings true) (labels_if true) a.inputs.input (from_inputs taken) b n x run end)
 
-    -- the source was asked to open the manifest
-    module _ {F : Type 0} (content : F → InputState) (m : InputsState S) (kept : KeepsStdin a.inputs m) where
-      abbrev IsAnswer : Result F OpenFault → Type 0
-      IsAnswer x = IfKnown (state a.inputs.source).known (state m.source).known (λ s t. OpensName content s t name x)
-
-      -- so its name was, if there was memory
-      asks_manifest : (x : Result F OpenFault) → is_dash name ≡ false → IsAnswer x
-          → (x ≡ Err open_faults.Memory → ⊥) → (state m.source).counts.refusals ≡ (state a.inputs.source).counts.refusals
-          → AsksNames state a.inputs m (name ∷ [])
-      asks_manifest x is_file h some refusals =
-          asks_name (file_asked content (state a.inputs.source) (state m.source) name x is_file h some)
-          (search (rules, or-false)) refusals
-
+    -- the source was called to open the manifest
+    module _ {F : Type 0} {content : F → InputState} {m : InputsState S} where
       -- it is a file, which is closed
-      pub check_file : (b : StreamsState S) (n : InputsState S) (p : Phase) (file : F) (x : Result Bool Stop)
-          → is_dash name ≡ false → IsAnswer (Ok file) → (state m.source).counts.refusals ≡ (state a.inputs.source).counts.refusals
+      pub check_file : {n : InputsState S} {p : Phase} {file : F} (b : StreamsState S) (x : Result Bool Stop)
+          → is_dash name ≡ false → OpensFile state content name a.inputs m (Ok file)
+          → ClosesFile state p b.inputs n
           → ManifestPerforms state (rules_of settings false) (labels_if false) (content file).content (from_inputs m) b x
-          → KeepsStdin b.inputs n → state n.source ≡ closed_state (state b.inputs.source) p
           → Performed (record b { inputs = n }) x
-      check_file b n p file x is_file h refusals run stays end =
+      check_file {n} {p} {file} b x is_file opens closes run =
           opened false (content file).content m (record b { inputs = n }) x is_file
-          (λ c may. opened_file state a.inputs m kept content name file c is_file may h)
-          (asks_manifest (Ok file) is_file h (λ e. cc) refusals)
+          (λ c may. opened_file c is_file may opens) (file_asks is_file opens (λ e. cc))
           (closed state (rules_of settings false) (labels_if false) (content file).content (from_inputs m) b n x run
           (record {
-            world = may-closed state b.inputs n p stays end;
+            world = may-closed closes;
             known = search rules;
             refusals = search rules;
-            taken = ap (λ (m : InputsState S). m.stdin_taken) stays;
+            taken = ap (λ (m : InputsState S). m.stdin_taken) closes.stdin;
           }))
 
       -- it could not be opened, and the line of its fault was written, or a prefix of it
-      pub refused : (f : Fault) (outputs : OutputsState) (x : Result Bool Stop) → is_dash name ≡ false
-          → IsAnswer (Err (open_faults.Fault f)) → (state m.source).counts.refusals ≡ (state a.inputs.source).counts.refusals
+      pub refused : {f : Fault} (outputs : OutputsState) (x : Result Bool Stop) → is_dash name ≡ false
+          → OpensFile state content name a.inputs m (Err (open_faults.Fault f))
           → WritesAndReturns a.outputs outputs (name_fault_line present tool name f) [] false x
           → Performed (record a { inputs = m; outputs = outputs }) x
-      refused f outputs x is_file h refusals said =
+      refused outputs x is_file opens said =
           Performs-step state (λ w. check_behavior settings tool w name) (λ g. g) false a
-          (record a { inputs = m; outputs = outputs }) (opened_fault state a.inputs m kept content name f is_file h)
-          (asks_manifest (Err (open_faults.Fault f)) is_file h (λ e. cc) refusals)
+          (record a { inputs = m; outputs = outputs }) (opened_fault is_file opens) (file_asks is_file opens (λ e. cc))
           (λ w v is. (rw (is.1, is_file) refl, is.0)) said
 
       -- there was no memory to open it
-      pub no_room : IsAnswer (Err open_faults.Memory)
-          → (state m.source).counts.refusals ≡ one_more (state a.inputs.source).counts.refusals → Performed (from_inputs m) (Err Memory)
-      no_room h refused =
+      pub no_room : OpensFile state content name a.inputs m (Err open_faults.Memory) → Performed (from_inputs m) (Err Memory)
+      no_room opens =
           Performs-refused state (λ w. check_behavior settings tool w name) (λ g. g) a (from_inputs m)
-          (λ w. begins (after w (name ∷ [])) (answer_to w name)) (opened_nothing state a.inputs m kept h)
-          (search (rules, asked_none)) (ap (λ (m : InputsState S). m.stdin_taken) kept) refl refused
+          (λ w. begins (after w (name ∷ [])) (answer_to w name)) (opened_nothing opens)
+          (search (rules, asked_none)) (ap (λ (m : InputsState S). m.stdin_taken) opens.stdin) refl
+          (ap (λ (c : FileCounts). c.refusals) opens.counts)
         where
           -- checking begins with a step
           begins : (w : World) (answer : Answer) → (next : Step) × (rest : List Step) × ((check_behavior_by

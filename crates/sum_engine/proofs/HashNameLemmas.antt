@@ -1,15 +1,13 @@
 -- `hash_name`: the outcome of hashing one name, in some world.
-use Rattle.std.proofs.Common.{rules, ◌≡◌, ◌∙◌, ℕ, true, false, List, Option, IfSome, Ok, Err}
+use Rattle.std.proofs.Common.{rules, ◌≡◌, ◌∙◌, ℕ, true, false, List, Option, IfSome, Ok}
 use Rattle.digest_kinds.specs.Kinds.{KindValue}
-use Rattle.sum_sources.specs.Contents.{Content, IfKnown, InputState}
-use Rattle.sum_sources.specs.Sources.{SourceState, OpensName, closed_state}
-use Rattle.sum_sources.specs.declared.sources.source.OpenFault.TheVariants as faults
-use Rattle.sum_engine.specs.Behavior.{Fault, is_dash}
-use Rattle.sum_engine.specs.Execution.{InputsState, Phase, KeepsStdin, InSomeWorld}
+use Rattle.sum_sources.specs.Contents.{Content, InputState}
+use Rattle.sum_sources.specs.Sources.{SourceState}
+use Rattle.sum_engine.specs.Behavior.{is_dash}
+use Rattle.sum_engine.specs.Execution.{InputsState, Phase, InSomeWorld}
 use Rattle.sum_engine.specs.refinement.HashName.{HashOutcome, IsHashOutcome, IsRead, HashesName}
-use Rattle.sum_engine.specs.refinement.Openings.{stdin_taken_from}
-use Rattle.sum_engine.specs.declared.hash_name.HashOutcome.TheVariants as outcomes
-use Rattle.sum_engine.proofs.WorldLemmas.{InSomeWorld-then, opened_file, opened_fault, stdin_given, may-closed}
+use Rattle.sum_engine.specs.refinement.Openings.{stdin_taken_from, OpensFile, ClosesFile}
+use Rattle.sum_engine.proofs.WorldLemmas.{InSomeWorld-then, opened_file, stdin_given, may-closed}
 
 -- the outcome of reading a content is that of a name whose content this is
 read-outcome : (kind : KindValue) (c : Content) (a : HashOutcome) → IsRead kind c a → IsHashOutcome kind (Ok c) a
@@ -31,18 +29,10 @@ module _ {S : Type 0} (state : S → SourceState) (kind : KindValue) (name : Lis
             (some.0, some.1, (some.2.0, rw some.2.1 (read-outcome kind c outcome read)));
       }
 
-  module _ {F : Type 0} (content : F → InputState) (a m : InputsState S) (kept : KeepsStdin a m) where
-    -- a file was read and closed
-    pub hashed_file : (b : InputsState S) (p : Phase) (file : F) (outcome : HashOutcome) → is_dash name ≡ false
-        → IfKnown (state a.source).known (state m.source).known (λ s t. OpensName content s t name (Ok file))
-        → KeepsStdin m b → state b.source ≡ closed_state (state m.source) p
-        → (c : Content) × IfSome (content file).content (λ d. c ≡ d) × IsRead kind c outcome → Hashed a b outcome
-    hashed_file b p file outcome is_file answer stays closed (c, may, read) = InSomeWorld-then
-        (opened_file state a m kept content name file c is_file may answer) (may-closed state m b p stays closed)
-        (λ w u v h same. (same ∙ h.0, rw h.1 (read-outcome kind c outcome read)))
-
-    -- it could not be opened
-    pub not_hashed : (f : Fault) → is_dash name ≡ false
-        → IfKnown (state a.source).known (state m.source).known
-        (λ s t. OpensName content s t name (Err (faults.Fault f))) → Hashed a m (outcomes.NotOpened f)
-    not_hashed f is_file answer = opened_fault state a m kept content name f is_file answer
+  -- a file was read and closed
+  pub hashed_file : {F : Type 0} {content : F → InputState} {a m b : InputsState S} {p : Phase} {file : F}
+      (outcome : HashOutcome) → is_dash name ≡ false → OpensFile state content name a m (Ok file) → ClosesFile state p m b
+      → (c : Content) × IfSome (content file).content (λ d. c ≡ d) × IsRead kind c outcome → Hashed a b outcome
+  hashed_file outcome is_file opens closes (c, may, read) =
+      InSomeWorld-then (opened_file c is_file may opens) (may-closed closes)
+      (λ w u v h same. (same ∙ h.0, rw h.1 (read-outcome kind c outcome read)))

@@ -1,14 +1,13 @@
 -- Read to the end, known or not: over no file, over one, and over one call after another.
-use Rattle.std.proofs.Common.{rules, ◌≡◌, ℕ, zero, suc, ◌+◌, false, Option, Some, Ok, ap, sym, subst, ◌∙◌, arith}
+use Rattle.std.proofs.Common.{rules, ◌≡◌, ℕ, List, zero, suc, ◌+◌, false, Option, Some, Ok, ap, sym, subst, ◌∙◌, arith, refl}
 use Rattle.std.specs.Option.{option_map, option_or}
 use Rattle.sum_sources.specs.Contents.{InputState}
-use Rattle.sum_sources.specs.declared.sources.file_counts.FileCounts.{FileCounts}
-use Rattle.sum_sources.specs.Sources.{SourceState, closed_state}
+use Rattle.sum_sources.specs.Sources.{SourceState}
 use Rattle.sum_sources.specs.StandardInput.{given_state}
 use Rattle.digest_kinds.specs.Limits.{one_more}
 use Rattle.sum_engine.specs.Execution.{InputsState, Phase, Unfinished, AtEnd, count_after, IsStdinWhole, KeepsStdin, ReadToEnd}
 use Rattle.sum_engine.specs.refinement.HashName.{HashOutcome, UnlessBroken}
-use Rattle.sum_engine.specs.refinement.Openings.{stdin_taken_from}
+use Rattle.sum_engine.specs.refinement.Openings.{stdin_taken_from, OpensFile, ClosesFile}
 
 -- so many more, and then so many more
 count_after-add : (m n count : ℕ) → count_after m (count_after n count) ≡ count_after (m + n) count
@@ -41,32 +40,25 @@ put_back-whole input a c taken given phase kept ends whole = search rules
 
 -- ---- files
 
--- the counts after one file more was opened
-abbrev pub with_opened : FileCounts → FileCounts
-with_opened c = record c { opened = one_more c.opened }
-
--- a file was opened, and closed at its end
-pub ReadToEnd-file : {S : Type 0} (state : S → SourceState) (a b : InputsState S) (between : S) (p : Phase)
-    → (state between).counts ≡ with_opened (state a.source).counts
-    → state b.source ≡ closed_state (state between) p → p ≡ AtEnd
-    → b.stdin_taken ≡ a.stdin_taken → b.stdin_phase ≡ a.stdin_phase → ReadToEnd state a b
-ReadToEnd-file state a b between p counted closed at_end taken phase = search rules
-
 -- unless reading failed, what follows holds
 pub UnlessBroken-map : (o : HashOutcome) {P Q : Type 0} → (P → Q) → UnlessBroken (Ok o) P → UnlessBroken (Ok o) Q
 UnlessBroken-map o f h = search rules
 
--- a file was opened; others were read to the end; and it was closed at its end
-pub ReadToEnd-around : {S : Type 0} (state : S → SourceState) (a m n b : InputsState S) (p : Phase) → KeepsStdin a m
-    → (state m.source).counts ≡ with_opened (state a.source).counts
-    → ReadToEnd state m n → KeepsStdin n b → state b.source ≡ closed_state (state n.source) p → p ≡ AtEnd
-    → ReadToEnd state a b
-ReadToEnd-around {S} state a m n b p first counted h last closed at_end =
-    let next : h.number + 1 ≡ suc h.number = omega arith in
-    record {
-      number = suc h.number;
-      opened = search (rules, count_after-add h.number 1 (state a.source).counts.opened, next);
-      ended = search rules;
-      stdin = λ whole. subst (λ (m : InputsState S). IsStdinWhole m) (sym last)
-          (h.stdin (subst (λ (m : InputsState S). IsStdinWhole m) (sym first) whole));
-    }
+module _ {S F : Type 0} {state : S → SourceState} {content : F → InputState} {name : List ℕ} {a m : InputsState S}
+    {file : F} (opens : OpensFile state content name a m (Ok file)) where
+  -- a file was opened; others were read to the end; and it was closed at its end
+  pub ReadToEnd-around : {n b : InputsState S} → ReadToEnd state m n → ClosesFile state AtEnd n b → ReadToEnd state a b
+  ReadToEnd-around h closes =
+      let next : h.number + 1 ≡ suc h.number = omega arith in
+      record {
+        number = suc h.number;
+        opened = search (rules, count_after-add h.number 1 (state a.source).counts.opened, next);
+        ended = search rules;
+        stdin = λ whole. subst (λ (m : InputsState S). IsStdinWhole m) (sym closes.stdin)
+            (h.stdin (subst (λ (m : InputsState S). IsStdinWhole m) (sym opens.stdin) whole));
+      }
+
+  -- it was closed at its end, at once
+  pub ReadToEnd-file : {b : InputsState S} {p : Phase} → ClosesFile state p m b → p ≡ AtEnd → ReadToEnd state a b
+  ReadToEnd-file closes at_end =
+      ReadToEnd-around (ReadToEnd-none state m m refl refl refl refl) (rw at_end at closes)

@@ -1,14 +1,13 @@
 -- Asking names one after another, and worlds before and after.
-use Rattle.std.proofs.Common.{rules, ◌≡◌, ◌∙◌, ap, refl, ℕ, Bool, true, false, if◌then◌else◌, List, [], ◌∷◌, ◌++◌, Option, None, Some, IfSome, Result, Ok, Err, append_assoc, append-nil}
+use Rattle.std.proofs.Common.{rules, ◌≡◌, ◌∙◌, ap, refl, ℕ, Bool, true, false, if◌then◌else◌, List, [], ◌∷◌, ◌++◌, Option, None, Some, IfSome, Ok, Err, append_assoc, append-nil}
 use Rattle.std.proofs.lemmas.List.Elements.{filter-append}
 use Rattle.sum_sources.specs.Contents.{Content, empty_content, IfKnown, InputState}
-use Rattle.sum_sources.specs.Sources.{KnownSource, Answer, SourceState, AsksName, OpensName, closed_state}
-use Rattle.sum_sources.specs.declared.sources.source.OpenFault.{OpenFault}
+use Rattle.sum_sources.specs.Sources.{KnownSource, Answer, SourceState, AsksName}
 use Rattle.sum_sources.specs.declared.sources.source.OpenFault.TheVariants as faults
 use Rattle.sum_sources.proofs.KnownLemmas.{IfKnown-then}
 use Rattle.sum_engine.specs.Behavior.{Fault, World, is_dash, answer_to, after_one, after}
 use Rattle.sum_engine.specs.Execution.{InputsState, Phase, KeepsStdin, InSomeWorld, AskedMore}
-use Rattle.sum_engine.specs.refinement.Openings.{stdin_taken_from}
+use Rattle.sum_engine.specs.refinement.Openings.{stdin_taken_from, OpensFile, ClosesFile}
 
 -- ---- names asked
 
@@ -36,14 +35,6 @@ asked_none a = search (rules, append-nil)
 -- nor is the source asked for standard input
 pub dash_asked : (a : SourceState) (name : List ℕ) → is_dash name ≡ true → AskedMore a a (name ∷ [])
 dash_asked a name dash = search (rules, append-nil)
-
--- a file that is opened, or isn't, was asked
-pub file_asked : {F : Type 0} (content : F → InputState) (a b : SourceState) (name : List ℕ) (x : Result F OpenFault)
-    → is_dash name ≡ false → IfKnown a.known b.known (λ s t. OpensName content s t name x)
-    → (x ≡ Err faults.Memory → ⊥) → AskedMore a b (name ∷ [])
-file_asked content a b name (Ok file) is_file h some = search rules
-file_asked content a b name (Err (faults.Fault f)) is_file h some = search rules
-file_asked content a b name (Err faults.Memory) is_file h some = absurd (some refl)
 
 -- some were, and then others
 pub asked_both : (a b c : SourceState) (names more : List (List ℕ)) → AskedMore a b names → AskedMore b c more
@@ -96,35 +87,33 @@ answered_by (Some s) (Some t) name r v file h is =
     let later : v.answer ≡ (λ asked. s.answer (name ∷ asked)) = is ∙ ap (λ (t : KnownSource). t.answer) h.0 in
     (w, refl, refl, rw file (ap (λ f. record v { answer = f }) later), rw file (search rules))
 
-module _ {S : Type 0} (state : S → SourceState) (a b : InputsState S) (kept : KeepsStdin a b) where
-  -- opening it gives this
-  abbrev Answers : List ℕ → Answer → Type 0
-  Answers name r = InSomeWorld state a b (λ w v. (v ≡ after w (name ∷ [])) × (answer_to w name ≡ r))
+-- opening the name gives this
+abbrev pub Answers : {S : Type 0} → (S → SourceState) → InputsState S → InputsState S → List ℕ → Answer → Type 0
+Answers state a b name r = InSomeWorld state a b (λ w v. (v ≡ after w (name ∷ [])) × (answer_to w name ≡ r))
 
-  opened : (name : List ℕ) (r : Answer) → is_dash name ≡ false
-      → IfKnown (state a.source).known (state b.source).known (λ s t. AsksName s t name (Some r)) → Answers name r
-  opened name r file h = record {
-    before = λ v fits.
-        let some = answered_by (state a.source).known (state b.source).known name r v file h fits.0 in
-        (some.0, (some.1, search rules), (some.3, some.4));
-  }
+opened : {S : Type 0} (state : S → SourceState) (a b : InputsState S) (name : List ℕ) (r : Answer)
+    → is_dash name ≡ false → KeepsStdin a b
+    → IfKnown (state a.source).known (state b.source).known (λ s t. AsksName s t name (Some r))
+    → Answers state a b name r
+opened state a b name r file kept h = record {
+  before = λ v fits.
+      let some = answered_by (state a.source).known (state b.source).known name r v file h fits.0 in
+      (some.0, (some.1, search rules), (some.3, some.4));
+}
 
-  module _ {F : Type 0} (content : F → InputState) (name : List ℕ) where
-    -- a content that the file may have
-    pub opened_file : (file : F) (c : Content) → is_dash name ≡ false → IfSome (content file).content (λ d. c ≡ d)
-        → IfKnown (state a.source).known (state b.source).known (λ s t. OpensName content s t name (Ok file))
-        → Answers name (Ok c)
-    opened_file file c is_file may h = opened name (Ok c) is_file (search rules)
+module _ {S F : Type 0} {state : S → SourceState} {content : F → InputState} {a b : InputsState S} {name : List ℕ} where
+  -- a content that the file may have
+  pub opened_file : {file : F} (c : Content) → is_dash name ≡ false → IfSome (content file).content (λ d. c ≡ d)
+      → OpensFile state content name a b (Ok file) → Answers state a b name (Ok c)
+  opened_file c is_file may h = opened state a b name (Ok c) is_file h.stdin (search rules)
 
-    -- the fault of opening
-    pub opened_fault : (f : Fault) → is_dash name ≡ false
-        → IfKnown (state a.source).known (state b.source).known
-        (λ s t. OpensName content s t name (Err (faults.Fault f))) → Answers name (Err f)
-    opened_fault f is_file h = opened name (Err f) is_file (search rules)
+  -- the fault of opening
+  pub opened_fault : {f : Fault} → is_dash name ≡ false → OpensFile state content name a b (Err (faults.Fault f))
+      → Answers state a b name (Err f)
+  opened_fault {f} is_file h = opened state a b name (Err f) is_file h.stdin (search rules)
 
   -- without memory nothing was asked
-  pub opened_nothing : IfKnown (state a.source).known (state b.source).known (λ s t. t ≡ s)
-      → InSomeWorld state a b (λ w v. v ≡ w)
+  pub opened_nothing : OpensFile state content name a b (Err faults.Memory) → InSomeWorld state a b (λ w v. v ≡ w)
   opened_nothing h = record { before = λ v fits. (v, search rules, refl) }
 
 -- ---- standard input is taken, and files are closed
@@ -139,6 +128,6 @@ stdin_given state a name dash c may = record {
 }
 
 -- a world stays one if a file is closed
-pub may-closed : {S : Type 0} (state : S → SourceState) (a b : InputsState S) (p : Phase) → KeepsStdin a b
-    → state b.source ≡ closed_state (state a.source) p → InSomeWorld state a b (λ w v. v ≡ w)
-may-closed state a b p kept closed = record { before = λ v fits. (v, search rules, refl) }
+pub may-closed : {S : Type 0} {state : S → SourceState} {a b : InputsState S} {p : Phase} → ClosesFile state p a b
+    → InSomeWorld state a b (λ w v. v ≡ w)
+may-closed h = record { before = λ v fits. (v, search rules, refl) }

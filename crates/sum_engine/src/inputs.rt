@@ -1,11 +1,8 @@
 //! Where a call opens and reads.
-ghost use Rattle.std.specs.Prelude.{◌≡◌, false, true, Some, IfOk};
+ghost use Rattle.std.specs.Prelude.{◌≡◌, false, true, Some};
 ghost use Rattle.std.specs.Option.{option_map, option_or};
-ghost use Rattle.sum_sources.specs.Contents.{IfKnown};
-ghost use Rattle.sum_sources.specs.Sources.{OpensName, counts_after_opening, closed_state};
 ghost use Rattle.sum_sources.specs.StandardInput.{given_state};
-ghost use Rattle.sum_engine.specs.Execution.{KeepsStdin, Unfinished};
-ghost use Rattle.sum_engine.specs.refinement.Openings.{stdin_taken_from};
+ghost use Rattle.sum_engine.specs.refinement.Openings.{stdin_taken_from, OpensFile, ClosesFile};
 
 use std::marker::Model;
 use sum_sources::{Given, Input, OpenFault, Source, Stdin};
@@ -56,20 +53,14 @@ impl<I: Input + Drop, S: Source> Inputs<I, S> {
 
     /// Opens the file of this name, as the source does.
     pub(crate) fn open_file(&mut self, name: &[u8]) -> Result<S::File, OpenFault>
-        ensures answer { IfKnown (S.state self.old.source).known (S.state self.new.source).known
-            (λ s t. OpensName S.File.state s t name.now result) }
-        ensures stdin { KeepsStdin self.old self.new }
-        ensures counts { (S.state self.new.source).counts
-            ≡ counts_after_opening (S.state self.old.source).counts result }
-        ensures phase { IfOk result (λ file. (S.File.state file).phase ≡ Unfinished) }
+        ensures { OpensFile S.state S.File.state name.now self.old self.new result }
     {
         self.source.open_file(name)
     }
 
     /// Closes a file, which the source counts if it is at its end.
     pub(crate) fn close_file(&mut self, file: S::File)
-        ensures closed { S.state self.new.source ≡ closed_state (S.state self.old.source) (S.File.state file).phase }
-        ensures stdin { KeepsStdin self.old self.new }
+        ensures { ClosesFile S.state (S.File.state file).phase self.old self.new }
     {
         self.source.close_file(file);
     }

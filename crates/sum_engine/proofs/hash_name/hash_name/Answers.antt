@@ -1,6 +1,7 @@
 use Rattle.std.proofs.Common.{rules, ◌≡◌, true, false, refl}
 use Rattle.sum_engine.specs.Behavior.{is_dash}
-use Rattle.sum_engine.proofs.HashNameLemmas.{hashed_stdin, hashed_file, not_hashed}
+use Rattle.sum_engine.proofs.HashNameLemmas.{hashed_stdin, hashed_file}
+use Rattle.sum_engine.proofs.WorldLemmas.{opened_fault}
 use Rattle.sum_engine.proofs.ReadToEndLemmas.{ReadToEnd-file, UnlessBroken-map}
 use Rattle.sum_engine.proofs.hash_name.hash_name.Goals as goal
 
@@ -17,10 +18,8 @@ returns-then-is_dash-clause-outcome g c =
 pub returns-in-Ok-clause-outcome : goal.returns-in-Ok-clause-outcome
 returns-in-Ok-clause-outcome g c =
     let file : is_dash c.args.name.now ≡ false = search rules in
-    let read = rw c.new-in-Ok.ensures.kind at c.read_digest-outcome-in-Ok.ensures.outcome in
-    hashed_file g.S.Source.state c.args.kind c.args.name.now g.S.File.Input.state c.args.inputs.now c.open_file.new.self
-    c.in-Ok.ensures.stdin c.close_file.new.self _ c.in-Ok.file _ file c.in-Ok.ensures.answer c.close_file.ensures.stdin
-    c.close_file.ensures.closed read
+    hashed_file g.S.Source.state c.args.kind c.args.name.now _ file c.in-Ok.ensures c.close_file.ensures
+    (rw c.new-in-Ok.ensures.kind at c.read_digest-outcome-in-Ok.ensures.outcome)
 
 pub returns-in-Ok-clause-read_to_end : goal.returns-in-Ok-clause-read_to_end
 returns-in-Ok-clause-read_to_end g c = search (rules, ReadToEnd-file, UnlessBroken-map)
@@ -29,6 +28,4 @@ returns-in-Ok-clause-read_to_end g c = search (rules, ReadToEnd-file, UnlessBrok
 pub returns-in-Err-Fault-clause-outcome : goal.returns-in-Err-Fault-clause-outcome
 returns-in-Err-Fault-clause-outcome g c =
     let file : is_dash c.args.name.now ≡ false = search rules in
-    let answer = rw c.in-Err-Fault.field-0-is at c.in-Err-Fault.ensures.answer in
-    rw c.in-Err-Fault.fault-is (not_hashed g.S.Source.state c.args.kind c.args.name.now g.S.File.Input.state c.args.inputs.now c.open_file.new.self
-    c.in-Err-Fault.ensures.stdin c.in-Err-Fault.fault file answer)
+    rw c.in-Err-Fault.fault-is (opened_fault file (rw c.in-Err-Fault.field-0-is at c.in-Err-Fault.ensures))

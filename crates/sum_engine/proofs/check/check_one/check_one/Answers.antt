@@ -1,6 +1,5 @@
 use Rattle.std.proofs.Common.{◌≡◌, true, false, ap, rules}
 use Rattle.std.specs.Option.{option_map, option_or}
-use Rattle.sum_sources.specs.declared.sources.file_counts.FileCounts.{FileCounts}
 use Rattle.sum_engine.specs.Behavior.{is_dash}
 use Rattle.sum_engine.specs.Execution.{InputsState}
 use Rattle.sum_engine.specs.check.Verdicts.{Rules}
@@ -49,21 +48,17 @@ returns-then-is_dash-clause-read_to_end g c = λ good.
 -- there was no memory to open it
 pub returns-in-Err-Memory-clause-behavior : goal.returns-in-Err-Memory-clause-behavior
 returns-in-Err-Memory-clause-behavior g c =
-    let answer = rw c.in-Err-Memory.field-0-is at c.in-Err-Memory.ensures.answer in
-    let refused = rw c.in-Err-Memory.field-0-is at (ap (λ (n : FileCounts). n.refusals) c.in-Err-Memory.ensures.counts) in
-    no_room g.S.Source.state c.args.settings c.args.tool.now c.args.name.now c.args.streams.now g.S.File.Input.state
-    c.open_file.new.self c.in-Err-Memory.ensures.stdin answer refused
+    no_room g.S.Source.state c.args.settings c.args.tool.now c.args.name.now c.args.streams.now
+    (rw c.in-Err-Memory.field-0-is at c.in-Err-Memory.ensures)
 
 -- it could not be opened, and the line of its fault was written, or a prefix of it
 pub returns-in-Err-Fault-clause-behavior : goal.returns-in-Err-Fault-clause-behavior
 returns-in-Err-Fault-clause-behavior g c =
     let dash : is_dash c.args.name.now ≡ false = search rules in
-    let answer = rw c.in-Err-Fault.field-0-is at c.in-Err-Fault.ensures.answer in
-    let refusals = rw c.in-Err-Fault.field-0-is at (ap (λ (n : FileCounts). n.refusals) c.in-Err-Fault.ensures.counts) in
     let written = rw c.in-Err-Fault.fault-is at c.put_name_fault_line-written.ensures in
-    refused g.S.Source.state c.args.settings c.args.tool.now c.args.name.now c.args.streams.now g.S.File.Input.state
-    c.open_file.new.self c.in-Err-Fault.ensures.stdin c.in-Err-Fault.fault c.put_name_fault_line-written.new.outputs _
-    dash answer refusals (writes_and_returns c.put_name_fault_line-written.result c.outcome_after.ensures written)
+    refused g.S.Source.state c.args.settings c.args.tool.now c.args.name.now c.args.streams.now
+    c.put_name_fault_line-written.new.outputs _ dash (rw c.in-Err-Fault.field-0-is at c.in-Err-Fault.ensures)
+    (writes_and_returns c.put_name_fault_line-written.result c.outcome_after.ensures written)
 
 -- it is a file
 pub returns-in-Ok-clause-behavior : goal.returns-in-Ok-clause-behavior
@@ -71,17 +66,14 @@ returns-in-Ok-clause-behavior g c =
     let dash : is_dash c.args.name.now ≡ false = search rules in
     let checked = c.run_to_end-result-in-Ok in
     let made = c.new-checker-in-Ok.ensures in
-    let run = rw (made.rules, made.labels, made.start.reader) at checked.ensures.behavior in
-    check_file g.S.Source.state c.args.settings c.args.tool.now c.args.name.now c.args.streams.now g.S.File.Input.state
-    c.open_file.new.self c.in-Ok.ensures.stdin checked.new.streams c.close_file.new.self _ c.in-Ok.file _ dash
-    c.in-Ok.ensures.answer (ap (λ (n : FileCounts). n.refusals) c.in-Ok.ensures.counts) run c.close_file.ensures.stdin c.close_file.ensures.closed
+    check_file g.S.Source.state c.args.settings c.args.tool.now c.args.name.now c.args.streams.now checked.new.streams _
+    dash c.in-Ok.ensures c.close_file.ensures
+    (rw (made.rules, made.labels, made.start.reader) at checked.ensures.behavior)
 
 -- a good one was read to its end, and so were its files
 pub returns-in-Ok-clause-read_to_end : goal.returns-in-Ok-clause-read_to_end
 returns-in-Ok-clause-read_to_end g c = λ good.
     let checked = c.run_to_end-result-in-Ok in
     let ended = rw c.new-checker-in-Ok.ensures.start.reader at (checked.ensures.phase good) in
-    ReadToEnd-around g.S.Source.state c.args.streams.now.inputs c.open_file.new.self checked.new.streams.inputs
-    c.close_file.new.self _ c.in-Ok.ensures.stdin c.in-Ok.ensures.counts
-    (checked.ensures.read_to_end good) c.close_file.ensures.stdin c.close_file.ensures.closed
-    (ended c.in-Ok.ensures.phase)
+    ReadToEnd-around c.in-Ok.ensures (checked.ensures.read_to_end good)
+    (rw (ended c.in-Ok.ensures.phase) at c.close_file.ensures)
