@@ -15,7 +15,7 @@ use Rattle.sum_engine.specs.check.NextVerdict.{AdvancesVerdicts, VerdictResult, 
 use Rattle.sum_engine.specs.refinement.FoundTexts.{found_err, found_out}
 use Rattle.sum_engine.proofs.FlushedWriteLemmas.{writes_and_returns}
 use Rattle.sum_engine.specs.refinement.FlushedWrites.{outcome_after, WritesAndFlushesBoth, WritesAndReturns}
-use Rattle.sum_engine.proofs.ExecutionLemmas.{AsksNames, asks_none, asks_in, HappenedOrPrefix, step_performed, HappenedOrPrefix-by, refused_first}
+use Rattle.sum_engine.proofs.ExecutionLemmas.{AsksNames, asks_in, HappenedOrPrefix, step_performed, HappenedOrPrefix-by, refused_first}
 use Rattle.sum_engine.proofs.CountLemmas.{counts_then-nil}
 use Rattle.sum_engine.proofs.RestLemmas.{line_step, behavior_by, first_step, found_first, going-before}
 use Rattle.sum_sources.specs.declared.line_reader.LineStop.TheVariants as line_stops
@@ -145,10 +145,10 @@ module _ {I S : Type 0} {input : I → InputState} {state : S → SourceState} {
     -- no line was left; the end is written, and nothing remains
     step_taken (Ok None) w found did wrote kept is =
         let outcome = good q.rules Whole q.counts in
-        step_end Whole outcome found (asks_none did.asked did.stdin_taken did.out_of_memory) did.cursor.rules refl
+        step_end Whole outcome found (record { asked = did.asked; taken = did.stdin_taken; refusals = did.out_of_memory }) did.cursor.rules refl
         (writes_and_returns w (answered q (Ok None) (Ended outcome) w refl refl is) wrote)
     step_taken (Err (line_stops.Fault f)) w found did wrote kept is =
-        step_end (Broken f) false found (asks_none did.asked did.stdin_taken did.out_of_memory) did.cursor.rules refl
+        step_end (Broken f) false found (record { asked = did.asked; taken = did.stdin_taken; refusals = did.out_of_memory }) did.cursor.rules refl
         (writes_and_returns w (answered q (Err (line_stops.Fault f)) (Ended false) w refl refl is) wrote)
     -- memory ran out before the verdict; nothing is written, and all remains
     step_taken (Err line_stops.Memory) w found did wrote kept is = λ flushed.

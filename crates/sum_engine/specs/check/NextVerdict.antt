@@ -83,11 +83,6 @@ abbrev pub UnlessUnread : VerdictResult → Type 0 → Type 0
 UnlessUnread (Ok (Some v)) P = is_unread v.verdict ≡ false → P
 UnlessUnread x P = P
 
--- whether standard input is taken once that verdict was found
-abbrev pub stdin_taken_after : Bool → ByteString → VerdictResult → Bool
-stdin_taken_after taken vector (Ok (Some v)) = taken || list_any is_dash (asks_of (line_verdict_value vector v))
-stdin_taken_after taken vector x = taken
-
 -- the names that such a call asks
 abbrev pub names_of_result : ByteString → VerdictResult → List ByteString
 names_of_result vector (Ok (Some v)) = asks_of (line_verdict_value vector v)
@@ -123,6 +118,6 @@ pub record AdvancesVerdicts {I S : Type 0} (input : I → InputState) (source : 
   -- Right and Wrong only if the file that was opened was read to its end
   pub read_to_end : UnlessUnread x (ReadToEnd source a b)
   pub asked : AskedMore (source a.source) (source b.source) (names_of_result vector x)
-  pub stdin_taken : b.stdin_taken ≡ stdin_taken_after a.stdin_taken vector x
+  pub stdin_taken : b.stdin_taken ≡ a.stdin_taken || list_any is_dash (names_of_result vector x)
   -- the lines of standard input don't name it
   pub stdin : p.rules.from_stdin ≡ true → KeepsStdin a b

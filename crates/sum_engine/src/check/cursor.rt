@@ -57,8 +57,10 @@ impl<I: Input> CheckCursor<I> {
     ghost use Rattle.sum_engine.specs.check.Reports.{good};
     ghost use Rattle.sum_engine.specs.refinement.HashName.{RefusedUnless};
     ghost use Rattle.sum_engine.specs.check.NextVerdict.{HasNameRange, FindsVerdict};
-    ghost use Rattle.sum_engine.specs.check.NextVerdict.{counts_after, stdin_taken_after};
-    ghost use Rattle.sum_engine.specs.check.NextVerdict.{names_of_result, UnlessUnread};
+    ghost use Rattle.std.specs.Prelude.{◌||◌};
+    ghost use Rattle.std.specs.List.{list_any};
+    ghost use Rattle.sum_engine.specs.Behavior.{is_dash};
+    ghost use Rattle.sum_engine.specs.check.NextVerdict.{counts_after, names_of_result, UnlessUnread};
     ghost use Rattle.sum_engine.specs.refinement.FlushedWrites.{WritesAndFlushesBoth};
     ghost use Rattle.sum_engine.specs.refinement.FoundTexts.{found_err, found_out};
     ghost use Rattle.sum_sources.specs.declared.line_reader.LineStop.TheVariants.{Memory};
@@ -166,7 +168,8 @@ impl<I: Input> CheckCursor<I> {
         ensures out_of_memory { MemoryStopHasCause (S.state inputs.old.source) (S.state inputs.new.source)
             (remaining_content I.state self.old.reader) result }
         ensures cursor { AdvancesCursor I.state self.old self.new result }
-        ensures stdin_taken { inputs.new.stdin_taken ≡ stdin_taken_after inputs.old.stdin_taken line.new.items result }
+        ensures stdin_taken { inputs.new.stdin_taken
+            ≡ inputs.old.stdin_taken || list_any is_dash (names_of_result line.new.items result) }
         ensures stdin_kept { self.old.rules.from_stdin ≡ true → KeepsStdin inputs.old inputs.new }
         ensures read_to_end { UnlessUnread result (ReadToEnd S.state inputs.old inputs.new) }
     {
@@ -189,7 +192,7 @@ impl<I: Input> CheckCursor<I> {
         ensures asked { AskedMore (S.state inputs.old.source) (S.state inputs.new.source)
             (names_of_result line.new.items (found_verdict result)) }
         ensures stdin_taken { inputs.new.stdin_taken
-            ≡ stdin_taken_after inputs.old.stdin_taken line.new.items (found_verdict result) }
+            ≡ inputs.old.stdin_taken || list_any is_dash (names_of_result line.new.items (found_verdict result)) }
         ensures name_range { IfOk result (λ v. HasNameRange line.new.items v) }
         ensures cursor { TakesLine self.old self.new line.old.items }
         ensures len { length line.new.items ≤ length line.old.items }
