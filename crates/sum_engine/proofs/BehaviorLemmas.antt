@@ -3,13 +3,13 @@ use Rattle.std.proofs.Common.{rules, ◌≡◌, ℕ, Bool, List, [], ◌∷◌, 
 use Rattle.std.proofs.lemmas.Grind.{flat_map-append}
 use Rattle.std.proofs.lemmas.List.Elements.{filter_map-append}
 use Rattle.sum_sources.specs.Sources.{SourceState}
-use Rattle.digest_kinds.specs.Limits.{one_more}
-use Rattle.sum_engine.specs.Execution.{Stop, Memory, Write, StreamsState, WorldState, in_world, InSomeWorld, AskedMore, Happened, PerformsSteps, Performs}
+use Rattle.sum_engine.specs.Execution.{Stop, Memory, Write, StreamsState, WorldState, in_world, InSomeWorld, Happened, PerformsSteps, Performs}
 use Rattle.sum_engine.specs.Behavior.{World, after, Event, Step, Behavior, trace, events_of, single_step}
 use Rattle.sum_engine.specs.check.CheckerSteps.{step_then}
 use Rattle.sum_engine.specs.check.CheckerLaws.{EventsExtend}
 use Rattle.sum_engine.specs.refinement.FlushedWrites.{WritesAndReturns}
-use Rattle.sum_engine.proofs.ExecutionLemmas.{AsksNames, asks_in, step_performed, names-by, err-by, out-by, Happened-none, Happened-then, HappenedOrPrefix-by, refused_in, refused_first}
+use Rattle.sum_engine.specs.refinement.HashName.{AsksNames, MemoryWasRefused}
+use Rattle.sum_engine.proofs.ExecutionLemmas.{asks_in, step_performed, names-by, err-by, out-by, Happened-none, Happened-then, HappenedOrPrefix-by, refused_in, refused_first}
 use Rattle.sum_engine.proofs.WorldLemmas.{InSomeWorld-map}
 
 -- ---- a behavior after a step, and one behavior after another
@@ -105,14 +105,12 @@ Performs-step state run outcome good a b {names} {err} {out} h asked is said = �
 pub Performs-refused : {S A : Type 0} (state : S → SourceState) (run : World → Behavior) (outcome : Bool → A)
     (a b : StreamsState S)
     → ((w : World) → (s : Step) × (rest : List Step) × ((run w).steps ≡ s ∷ rest))
-    → InSomeWorld state a.inputs b.inputs (λ w v. v ≡ w)
-    → AskedMore (state a.inputs.source) (state b.inputs.source) [] → b.inputs.stdin_taken ≡ a.inputs.stdin_taken
-    → b.outputs ≡ a.outputs → (state b.inputs.source).counts.refusals ≡ one_more (state a.inputs.source).counts.refusals
-    → Performs state run outcome a b (Err Memory)
-Performs-refused state run outcome a b first same asked taken outputs refusals = λ flushed.
+    → InSomeWorld state a.inputs b.inputs (λ w v. v ≡ w) → MemoryWasRefused state a.inputs b.inputs
+    → b.outputs ≡ a.outputs → Performs state run outcome a b (Err Memory)
+Performs-refused state run outcome a b first same refused outputs = λ flushed.
     InSomeWorld-map same (λ w v is.
     let next = first w in
-    refused_first next.0 next.1 next.2 (refused_in state a b w v next.0 is asked taken outputs refusals))
+    refused_first next.0 next.1 next.2 (refused_in a b next.0 is refused outputs))
 
 -- ---- what a run's events come to
 

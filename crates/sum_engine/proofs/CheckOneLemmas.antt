@@ -7,7 +7,6 @@ use Rattle.sum_engine.specs.Behavior.{Fault, World, is_dash, answer_to, after, S
 use Rattle.sum_sources.specs.declared.sources.source.OpenFault.{OpenFault}
 use Rattle.sum_sources.specs.Contents.{Content, InputState, clip}
 use Rattle.sum_sources.specs.Sources.{SourceState, Answer}
-use Rattle.sum_sources.specs.declared.sources.file_counts.FileCounts.{FileCounts}
 use Rattle.sum_lines.specs.Escape.{present}
 use Rattle.sum_engine.specs.check.CheckerLaws.{ManifestPerforms}
 use Rattle.sum_engine.specs.check.Verdicts.{Rules}
@@ -17,7 +16,8 @@ use Rattle.sum_engine.specs.Execution.{Phase, Stop, Memory, InputsState, Outputs
 use Rattle.sum_engine.specs.Generation.{name_fault_line}
 use Rattle.sum_engine.specs.refinement.FlushedWrites.{WritesAndReturns}
 use Rattle.sum_engine.specs.refinement.Openings.{stdin_taken_from, OpensFile, ClosesFile}
-use Rattle.sum_engine.proofs.ExecutionLemmas.{AsksNames, asks_name, asks_in, Happened-by, IsKept, kept_performs}
+use Rattle.sum_engine.specs.refinement.HashName.{AsksNames}
+use Rattle.sum_engine.proofs.ExecutionLemmas.{asks_name, asks_in, Happened-by, IsKept, kept_performs}
 use Rattle.sum_engine.proofs.WorldLemmas.{InSomeWorld-then, asked_none, dash_asked, opened_file, opened_fault, opened_nothing, stdin_given, may-closed}
 use Rattle.sum_engine.proofs.CheckLinesLemmas.{manifest_behavior}
 use Rattle.sum_engine.proofs.BehaviorLemmas.{Performs-step, Performs-refused, behind_step}
@@ -144,9 +144,7 @@ module _ {S : Type 0} (state : S → SourceState) (settings : CheckSettings) (to
       pub no_room : OpensFile state content name a.inputs m (Err open_faults.Memory) → Performed (from_inputs m) (Err Memory)
       no_room opens =
           Performs-refused state (λ w. check_behavior settings tool w name) (λ g. g) a (from_inputs m)
-          (λ w. begins (after w (name ∷ [])) (answer_to w name)) (opened_nothing opens)
-          (search (rules, asked_none)) (ap (λ (m : InputsState S). m.stdin_taken) opens.stdin) refl
-          (ap (λ (c : FileCounts). c.refusals) opens.counts)
+          (λ w. begins (after w (name ∷ [])) (answer_to w name)) (opened_nothing opens) (search (rules, asked_none)) refl
         where
           -- checking begins with a step
           begins : (w : World) (answer : Answer) → (next : Step) × (rest : List Step) × ((check_behavior_by

@@ -8,10 +8,10 @@ use Rattle.std.proofs.lemmas.List.{map-append}
 use Rattle.std.proofs.lemmas.List.Elements.{filter_map-append}
 use Rattle.std.proofs.lemmas.List.Folds.{list_any-append}
 use Rattle.sum_sources.specs.Sources.{SourceState}
-use Rattle.digest_kinds.specs.Limits.{one_more}
 use Rattle.sum_lines.specs.refinement.SinkStates.{AppendsPrefix}
 use Rattle.sum_engine.specs.Behavior.{World, is_dash, after, Event, Step, events_of, open_name, write_err, write_out, opened_name, err_byte, out_byte}
 use Rattle.sum_engine.specs.refinement.FlushedWrites.{WritesBoth, outcome_after}
+use Rattle.sum_engine.specs.refinement.HashName.{AsksNames, MemoryWasRefused}
 use Rattle.sum_engine.specs.Execution.{InputsState, StreamsState, KeepsStdin, WorldState, in_world, AskedMore, Stop, Memory, Write, Happened, PrefixHappened, RefusedAt, RunsOutOfMemory, PerformsSteps}
 use Rattle.sum_engine.proofs.WorldLemmas.{after-append, asked_none, asked_both}
 
@@ -54,13 +54,7 @@ pub record Asks (a b : WorldState) (names : List (List ℕ)) : Type 0 where
   pub taken : b.stdin_taken ≡ a.stdin_taken || list_any is_dash names
   pub refusals : b.source.counts.refusals ≡ a.source.counts.refusals
 
--- these names were asked between inputs, whatever the worlds
-pub record AsksNames {S : Type 0} (state : S → SourceState) (a b : InputsState S) (names : List (List ℕ)) : Type 0 where
-  pub asked : AskedMore (state a.source) (state b.source) names
-  pub taken : b.stdin_taken ≡ a.stdin_taken || list_any is_dash names
-  pub refusals : (state b.source).counts.refusals ≡ (state a.source).counts.refusals
-
--- no name was, or one
+-- between inputs no name was, or one
 pub asks_none : {S : Type 0} {state : S → SourceState} {a b : InputsState S}
     → AskedMore (state a.source) (state b.source) [] → b.stdin_taken ≡ a.stdin_taken
     → (state b.source).counts.refusals ≡ (state a.source).counts.refusals → AsksNames state a b []
@@ -140,12 +134,12 @@ step_performed outcome a b step (Err e) came = rw (append-nil (events_of step)) 
 pub KeepsStdin-trans : {S : Type 0} (a b c : InputsState S) → KeepsStdin a b → KeepsStdin b c → KeepsStdin a c
 KeepsStdin-trans {S} a b c h k = k ∙ ap (λ (m : InputsState S). record m { source = c.source }) h
 
--- the source was refused memory, and nothing else was done
-pub refused_in : {S : Type 0} (state : S → SourceState) (a b : StreamsState S) (w v : World) (step : Step) → v ≡ w
-    → AskedMore (state a.inputs.source) (state b.inputs.source) [] → b.inputs.stdin_taken ≡ a.inputs.stdin_taken
-    → b.outputs ≡ a.outputs → (state b.inputs.source).counts.refusals ≡ one_more (state a.inputs.source).counts.refusals
+-- memory was refused, and so nothing was done of a step
+pub refused_in : {S : Type 0} {state : S → SourceState} (a b : StreamsState S) {w v : World} (step : Step) → v ≡ w
+    → MemoryWasRefused state a.inputs b.inputs → b.outputs ≡ a.outputs
     → RefusedAt step (in_world state a w) (in_world state b v)
-refused_in state a b w v step world asked taken outputs refused = search rules
+refused_in a b step world refused outputs =
+    let taken = ap (λ (m : InputsState _). m.stdin_taken) refused.stdin in search rules
 
 -- so memory ran out at the first step
 pub refused_first : {a b : WorldState} {steps : List Step} (next : Step) (later : List Step) → steps ≡ next ∷ later

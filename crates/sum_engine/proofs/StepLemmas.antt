@@ -15,7 +15,8 @@ use Rattle.sum_engine.specs.check.NextVerdict.{AdvancesVerdicts, VerdictResult, 
 use Rattle.sum_engine.specs.refinement.FoundTexts.{found_err, found_out}
 use Rattle.sum_engine.proofs.FlushedWriteLemmas.{writes_and_returns}
 use Rattle.sum_engine.specs.refinement.FlushedWrites.{outcome_after, WritesAndFlushesBoth, WritesAndReturns}
-use Rattle.sum_engine.proofs.ExecutionLemmas.{AsksNames, asks_in, HappenedOrPrefix, step_performed, HappenedOrPrefix-by, refused_first}
+use Rattle.sum_engine.specs.refinement.HashName.{AsksNames}
+use Rattle.sum_engine.proofs.ExecutionLemmas.{asks_in, HappenedOrPrefix, step_performed, HappenedOrPrefix-by, refused_first}
 use Rattle.sum_engine.proofs.CountLemmas.{counts_then-nil}
 use Rattle.sum_engine.proofs.RestLemmas.{line_step, behavior_by, first_step, found_first, going-before}
 use Rattle.sum_sources.specs.declared.line_reader.LineStop.TheVariants as line_stops

@@ -1,5 +1,5 @@
 //! Opening a name and hashing what it gives.
-ghost use Rattle.std.specs.Prelude.{◌≡◌, ◌||◌, ◌∷◌, [], false, Ok, OnErr, IfSome, MatchResult};
+ghost use Rattle.std.specs.Prelude.{◌≡◌, ◌∷◌, [], false, Ok, IfSome, MatchResult};
 ghost use Rattle.sum_sources.specs.Contents.{Content};
 ghost use Rattle.sum_engine.specs.Behavior.{is_dash};
 
@@ -37,9 +37,9 @@ pub(crate) fn is_dash(name: &[u8]) -> bool
     name == b"-".as_slice()
 }
 
-ghost use Rattle.sum_engine.specs.refinement.HashName.{HashesName, IsRead, RefusedUnless, UnlessBroken};
+ghost use Rattle.sum_engine.specs.refinement.HashName.{HashesName, IsRead, AsksNames, MemoryWasRefused, UnlessBroken};
 ghost use Rattle.sum_engine.specs.refinement.HashName.{HasKindLen, digest_of_outcome};
-ghost use Rattle.sum_engine.specs.Execution.{InSomeWorld, AskedMore, KeepsStdin, ReadToEnd, Unfinished, AtEnd};
+ghost use Rattle.sum_engine.specs.Execution.{InSomeWorld, KeepsStdin, ReadToEnd, Unfinished, AtEnd};
 
 /// Opens the file of this name (`-` is standard input) and hashes it. The file is read into the buffer, piece by piece.
 /// `NoRoom` if the source was refused memory; the name then doesn't count as asked.
@@ -50,12 +50,9 @@ pub(crate) fn hash_name<I: Input + Drop, S: Source>(
     buffer: &mut [u8; PIECE],
 ) -> Result<HashOutcome, NoRoom>
     ensures outcome { InSomeWorld S.state inputs.old inputs.new (λ w v. HashesName kind w v name.now result) }
-    ensures asked { let asked = AskedMore (S.state inputs.old.source) (S.state inputs.new.source) in
-        MatchResult result (λ _. asked (name.now ∷ [])) (λ _. asked []) }
-    ensures stdin_taken { inputs.new.stdin_taken ≡ inputs.old.stdin_taken || is_dash name.now }
+    ensures asked { MatchResult result (λ _. AsksNames S.state inputs.old inputs.new (name.now ∷ []))
+        (λ _. MemoryWasRefused S.state inputs.old inputs.new) }
     ensures other_name { is_dash name.now ≡ false → KeepsStdin inputs.old inputs.new }
-    ensures stdin_kept { OnErr result (KeepsStdin inputs.old inputs.new) }
-    ensures refusals { RefusedUnless (S.state inputs.old.source) (S.state inputs.new.source) result }
     ensures read_to_end { UnlessBroken result (ReadToEnd S.state inputs.old inputs.new) }
     ensures digest_len { HasKindLen kind result }
 {

@@ -1,12 +1,14 @@
 -- Relates hashing one name to the world.
-use Rattle.std.specs.Prelude.{◌≡◌, [], ◌∷◌, length, Result, Ok, Err, ⊤}
+use Rattle.std.specs.Prelude.{◌≡◌, ◌||◌, List, [], ◌∷◌, length, Result, Ok, Err, ⊤}
+use Rattle.std.specs.List.{list_any}
 use Rattle.digest_kinds.specs.Kinds.{KindValue}
 use Rattle.sum_sources.specs.Contents.{Content}
 use Rattle.sum_sources.specs.Sources.{Answer, SourceState}
 use Rattle.digest_kinds.specs.Limits.{one_more}
 pub use Rattle.sum_engine.specs.declared.hash_name.HashOutcome.{HashOutcome}
 pub use Rattle.sum_sources.specs.declared.fault.NoRoom.{NoRoom}
-use Rattle.sum_engine.specs.Behavior.{ByteString, Fault, World, after, digest_or_fault, answer_to}
+use Rattle.sum_engine.specs.Behavior.{ByteString, Fault, World, is_dash, after, digest_or_fault, answer_to}
+use Rattle.sum_engine.specs.Execution.{InputsState, KeepsStdin, AskedMore}
 use Rattle.sum_engine.specs.declared.hash_name.HashOutcome.TheVariants as outcomes
 
 -- the digest of an outcome, or the fault of opening or reading
@@ -42,7 +44,14 @@ abbrev pub HasKindLen : KindValue → Result HashOutcome NoRoom → Type 0
 HasKindLen kind (Ok (outcomes.Read d)) = length d ≡ kind.len
 HasKindLen kind outcome = ⊤
 
--- no room only if the source was refused memory, which is one refusal more
-abbrev pub RefusedUnless : {A : Type 0} → SourceState → SourceState → Result A NoRoom → Type 0
-RefusedUnless a b (Err e) = b.counts.refusals ≡ one_more a.counts.refusals
-RefusedUnless a b (Ok x) = b.counts.refusals ≡ a.counts.refusals
+-- between these inputs the names were asked, and the source was refused no memory
+pub record AsksNames {S : Type 0} (state : S → SourceState) (a b : InputsState S) (names : List ByteString) : Type 0 where
+  pub asked : AskedMore (state a.source) (state b.source) names
+  pub taken : b.stdin_taken ≡ a.stdin_taken || list_any is_dash names
+  pub refusals : (state b.source).counts.refusals ≡ (state a.source).counts.refusals
+
+-- the source was refused memory, and no name was asked
+pub record MemoryWasRefused {S : Type 0} (state : S → SourceState) (a b : InputsState S) : Type 0 where
+  pub asked : AskedMore (state a.source) (state b.source) []
+  pub stdin : KeepsStdin a b
+  pub refusals : (state b.source).counts.refusals ≡ one_more (state a.source).counts.refusals

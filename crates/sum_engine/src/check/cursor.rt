@@ -55,12 +55,13 @@ impl<I: Input> CheckCursor<I> {
     ghost use Rattle.sum_sources.specs.declared.fault.Ending.TheVariants.{Whole};
     ghost use Rattle.sum_engine.specs.check.Checking.{rules_of};
     ghost use Rattle.sum_engine.specs.check.Reports.{good};
-    ghost use Rattle.sum_engine.specs.refinement.HashName.{RefusedUnless};
+    ghost use Rattle.sum_engine.specs.refinement.HashName.{AsksNames, MemoryWasRefused};
     ghost use Rattle.sum_engine.specs.check.NextVerdict.{HasNameRange, FindsVerdict};
-    ghost use Rattle.std.specs.Prelude.{◌||◌};
+    ghost use Rattle.std.specs.Prelude.{◌||◌, MatchResult};
     ghost use Rattle.std.specs.List.{list_any};
     ghost use Rattle.sum_engine.specs.Behavior.{is_dash};
-    ghost use Rattle.sum_engine.specs.check.NextVerdict.{counts_after, names_of_result, UnlessUnread};
+    ghost use Rattle.sum_engine.specs.check.NextVerdict.{counts_after, names_of_result, line_verdict_value, UnlessUnread};
+    ghost use Rattle.sum_engine.specs.check.Verdicts.{asks_of};
     ghost use Rattle.sum_engine.specs.refinement.FlushedWrites.{WritesAndFlushesBoth};
     ghost use Rattle.sum_engine.specs.refinement.FoundTexts.{found_err, found_out};
     ghost use Rattle.sum_sources.specs.declared.line_reader.LineStop.TheVariants.{Memory};
@@ -189,10 +190,9 @@ impl<I: Input> CheckCursor<I> {
         requires few { total self.old.counts < self.old.reader.lines }
         ensures verdict { InSomeWorld S.state inputs.old inputs.new (λ w v. JudgeLineOf self.old
             line.old.items self.new.counts line.new.items w v result) }
-        ensures asked { AskedMore (S.state inputs.old.source) (S.state inputs.new.source)
-            (names_of_result line.new.items (found_verdict result)) }
-        ensures stdin_taken { inputs.new.stdin_taken
-            ≡ inputs.old.stdin_taken || list_any is_dash (names_of_result line.new.items (found_verdict result)) }
+        ensures asked { MatchResult result
+            (λ v. AsksNames S.state inputs.old inputs.new (asks_of (line_verdict_value line.new.items v)))
+            (λ _. MemoryWasRefused S.state inputs.old inputs.new) }
         ensures name_range { IfOk result (λ v. HasNameRange line.new.items v) }
         ensures cursor { TakesLine self.old self.new line.old.items }
         ensures len { length line.new.items ≤ length line.old.items }
@@ -200,7 +200,6 @@ impl<I: Input> CheckCursor<I> {
         ensures counts { self.new.counts
             ≡ counts_after self.old.counts (found_verdict result) }
         ensures read_to_end { UnlessUnread (found_verdict result) (ReadToEnd S.state inputs.old inputs.new) }
-        ensures refusals { RefusedUnless (S.state inputs.old.source) (S.state inputs.new.source) result }
     {
         let (reading, form) = read_line(self.rules.algo, self.form, line);
         self.form = form;

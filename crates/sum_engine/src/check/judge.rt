@@ -1,11 +1,9 @@
 //! The verdict of a line.
-ghost use Rattle.std.specs.Prelude.{◌≡◌, ◌||◌, [], false, true, MatchResult, slice_range};
-ghost use Rattle.std.specs.List.{list_any};
-ghost use Rattle.sum_engine.specs.Behavior.{is_dash};
+ghost use Rattle.std.specs.Prelude.{◌≡◌, false, true, MatchResult, slice_range};
 ghost use Rattle.sum_engine.specs.check.Reports.{is_unread};
 ghost use Rattle.sum_engine.specs.check.Verdicts.{asks_by};
 ghost use Rattle.sum_lines.specs.grammar.ParsedLines.{entry};
-ghost use Rattle.sum_engine.specs.refinement.HashName.{RefusedUnless};
+ghost use Rattle.sum_engine.specs.refinement.HashName.{AsksNames, MemoryWasRefused};
 ghost use Rattle.sum_engine.specs.check.NextVerdict.{HasNameRange};
 
 use crate::check::rules::CheckRules;
@@ -62,7 +60,7 @@ impl LineVerdict {
 
 ghost use Rattle.sum_engine.specs.refinement.Judging.{JudgeOf};
 ghost use Rattle.sum_engine.specs.refinement.Judging.{verdict_of_outcome, listed_entry};
-ghost use Rattle.sum_engine.specs.Execution.{InSomeWorld, AskedMore, KeepsStdin, ReadToEnd};
+ghost use Rattle.sum_engine.specs.Execution.{InSomeWorld, KeepsStdin, ReadToEnd};
 
 /// An entry of a manifest: the digest of a file, with its kind, and the file's name.
 #[derive(Clone, Copy)]
@@ -81,13 +79,9 @@ pub(crate) fn judge<I: Input + Drop, S: Source>(
 ) -> Result<Verdict, NoRoom>
     ensures verdict { InSomeWorld S.state inputs.old inputs.new
         (λ w v. JudgeOf rules w v (entry (listed_entry listed.now)) result) }
-    ensures asked { let asked = AskedMore (S.state inputs.old.source) (S.state inputs.new.source) in
-        MatchResult result (λ v. asked (asks_by v listed.now.name.now)) (λ _. asked []) }
-    ensures stdin_taken { MatchResult result
-        (λ v. inputs.new.stdin_taken ≡ inputs.old.stdin_taken || list_any is_dash (asks_by v listed.now.name.now))
-        (λ _. KeepsStdin inputs.old inputs.new) }
+    ensures asked { MatchResult result (λ v. AsksNames S.state inputs.old inputs.new (asks_by v listed.now.name.now))
+        (λ _. MemoryWasRefused S.state inputs.old inputs.new) }
     ensures stdin_kept { rules.from_stdin ≡ true → KeepsStdin inputs.old inputs.new }
-    ensures refusals { RefusedUnless (S.state inputs.old.source) (S.state inputs.new.source) result }
     ensures read_to_end { MatchResult result (λ v. is_unread v ≡ false → ReadToEnd S.state inputs.old inputs.new)
         (λ _. ReadToEnd S.state inputs.old inputs.new) }
 {

@@ -1,9 +1,7 @@
-use Rattle.std.proofs.Common.{refl, ap, Ok, Err}
+use Rattle.std.proofs.Common.{refl, Ok, Err}
 use Rattle.std.proofs.lemmas.Result.{err_from_is_err_and}
 use Rattle.sum_engine.specs.Behavior.{answer_to, digest_or_fault}
-use Rattle.sum_engine.specs.Execution.{InputsState}
 use Rattle.sum_engine.specs.Generation.{generate_behavior}
-use Rattle.sum_engine.proofs.ExecutionLemmas.{asks_name}
 use Rattle.sum_engine.proofs.BehaviorLemmas.{Performs-refused}
 use Rattle.sum_engine.proofs.FlushedWriteLemmas.{writes_and_returns}
 use Rattle.sum_engine.proofs.GenerateLemmas.{generate-performed, one_step}
@@ -15,27 +13,25 @@ returns-in_err-outcome-clause-behavior g c =
     let settings = c.args.settings.now in
     let tool = c.args.tool.now in
     let name = c.args.name.now in
-    let kept = ap (λ (m : InputsState g.row.S.Denot). m.stdin_taken) c.in_err-outcome.ensures.stdin_kept in
     let stop = err_from_is_err_and c.from_residual.result c.from_residual.ensures.1 in
-    rw (stop.1, stop.2) (Performs-refused g.S.Source.state (λ w. generate_behavior settings tool w name) (λ g. g) c.args.streams.now
-    (record c.args.streams.now { inputs = c.hash_name.new.inputs })
-    (λ w. one_step settings tool name (digest_or_fault settings.kind (answer_to w name))) c.in_err-outcome.ensures.outcome
-    c.in_err-outcome.ensures.asked kept refl c.in_err-outcome.ensures.refusals)
+    rw (stop.1, stop.2) (Performs-refused g.S.Source.state (λ w. generate_behavior settings tool w name) (λ g. g)
+    c.args.streams.now (record c.args.streams.now { inputs = c.hash_name.new.inputs })
+    (λ w. one_step settings tool name (digest_or_fault settings.kind (answer_to w name)))
+    c.in_err-outcome.ensures.outcome c.in_err-outcome.ensures.asked refl)
 
 -- the name was read, and its line written
 pub returns-in-Ok-clause-behavior : goal.returns-in-Ok-clause-behavior
 returns-in-Ok-clause-behavior g c =
     let done = c.in_ok-outcome.ensures in
     generate-performed g.S.Source.state _ _ c.args.name.now _ c.args.streams.now
-    (record { inputs = c.hash_name.new.inputs; outputs = _ }) _ (Ok _) done.outcome
-    (asks_name done.asked done.stdin_taken done.refusals) c.in-Ok.ensures refl
+    (record { inputs = c.hash_name.new.inputs; outputs = _ }) _ (Ok _) done.outcome done.asked c.in-Ok.ensures refl
     (writes_and_returns c.put_line_flushed-written.result c.outcome_after.ensures c.put_line_flushed-written.ensures)
 
 -- it could not be opened or read, and the line of its fault was written
 pub returns-in-Err-clause-behavior : goal.returns-in-Err-clause-behavior
 returns-in-Err-clause-behavior g c =
     let done = c.in_ok-outcome.ensures in
+    let wrote = c.put_name_fault_line-written in
     generate-performed g.S.Source.state _ _ c.args.name.now _ c.args.streams.now
-    (record { inputs = c.hash_name.new.inputs; outputs = _ }) _ (Err _) done.outcome
-    (asks_name done.asked done.stdin_taken done.refusals) c.in-Err.ensures refl
-    (writes_and_returns c.put_name_fault_line-written.result c.outcome_after-in-Err.ensures c.put_name_fault_line-written.ensures)
+    (record { inputs = c.hash_name.new.inputs; outputs = _ }) _ (Err _) done.outcome done.asked c.in-Err.ensures refl
+    (writes_and_returns wrote.result c.outcome_after-in-Err.ensures wrote.ensures)
