@@ -8,7 +8,7 @@ use Rattle.sum_engine.specs.Behavior.{World, after, Event, Step, Behavior, trace
 use Rattle.sum_engine.specs.check.CheckerSteps.{step_then}
 use Rattle.sum_engine.specs.check.CheckerLaws.{EventsExtend}
 use Rattle.sum_engine.specs.refinement.FlushedWrites.{WritesAndReturns}
-use Rattle.sum_engine.specs.refinement.HashName.{AsksNames, MemoryWasRefused}
+use Rattle.sum_engine.specs.refinement.Names.{AsksNames, MemoryWasRefused}
 use Rattle.sum_engine.proofs.ExecutionLemmas.{asks_in, step_performed, names-by, err-by, out-by, Happened-none, Happened-then, HappenedOrPrefix-by, refused_in, refused_first}
 use Rattle.sum_engine.proofs.WorldLemmas.{InSomeWorld-map}
 

@@ -15,8 +15,8 @@ use Rattle.sum_engine.specs.check.Checking.{CheckSettings, rules_of, labels_of, 
 use Rattle.sum_engine.specs.Execution.{Phase, Stop, Memory, InputsState, OutputsState, StreamsState, in_world, InSomeWorld, Happened, PerformsSteps, Performs}
 use Rattle.sum_engine.specs.Generation.{name_fault_line}
 use Rattle.sum_engine.specs.refinement.FlushedWrites.{WritesAndReturns}
-use Rattle.sum_engine.specs.refinement.Openings.{stdin_taken_from, OpensFile, ClosesFile}
-use Rattle.sum_engine.specs.refinement.HashName.{AsksNames}
+use Rattle.sum_engine.specs.refinement.Names.{stdin_taken_from, OpensFile, ClosesFile}
+use Rattle.sum_engine.specs.refinement.Names.{AsksNames}
 use Rattle.sum_engine.proofs.ExecutionLemmas.{asks_name, asks_in, Happened-by, IsKept, kept_performs}
 use Rattle.sum_engine.proofs.WorldLemmas.{InSomeWorld-then, asked_none, dash_asked, opened_file, opened_fault, opened_nothing, stdin_given, may-closed}
 use Rattle.sum_engine.proofs.CheckLinesLemmas.{manifest_behavior}

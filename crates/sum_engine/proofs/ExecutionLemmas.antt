@@ -11,7 +11,7 @@ use Rattle.sum_sources.specs.Sources.{SourceState}
 use Rattle.sum_lines.specs.refinement.SinkStates.{AppendsPrefix}
 use Rattle.sum_engine.specs.Behavior.{World, is_dash, after, Event, Step, events_of, open_name, write_err, write_out, opened_name, err_byte, out_byte}
 use Rattle.sum_engine.specs.refinement.FlushedWrites.{WritesBoth, outcome_after}
-use Rattle.sum_engine.specs.refinement.HashName.{AsksNames, MemoryWasRefused}
+use Rattle.sum_engine.specs.refinement.Names.{AsksNames, MemoryWasRefused}
 use Rattle.sum_engine.specs.Execution.{InputsState, StreamsState, KeepsStdin, WorldState, in_world, AskedMore, Stop, Memory, Write, Happened, PrefixHappened, RefusedAt, RunsOutOfMemory, PerformsSteps}
 use Rattle.sum_engine.proofs.WorldLemmas.{after-append, asked_none, asked_both}
 

@@ -5,8 +5,8 @@ use Rattle.sum_sources.specs.Contents.{Content, InputState}
 use Rattle.sum_sources.specs.Sources.{SourceState}
 use Rattle.sum_engine.specs.Behavior.{is_dash}
 use Rattle.sum_engine.specs.Execution.{InputsState, Phase, InSomeWorld}
-use Rattle.sum_engine.specs.refinement.HashName.{HashOutcome, IsHashOutcome, IsRead, HashesName}
-use Rattle.sum_engine.specs.refinement.Openings.{stdin_taken_from, OpensFile, ClosesFile}
+use Rattle.sum_engine.specs.refinement.Names.{HashOutcome, IsHashOutcome, IsRead, HashesName}
+use Rattle.sum_engine.specs.refinement.Names.{stdin_taken_from, OpensFile, ClosesFile}
 use Rattle.sum_engine.proofs.WorldLemmas.{InSomeWorld-then, opened_file, stdin_given, may-closed}
 
 -- the outcome of reading a content is that of a name whose content this is

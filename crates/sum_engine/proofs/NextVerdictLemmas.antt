@@ -19,7 +19,7 @@ use Rattle.sum_engine.specs.check.Verdicts.{Verdict, Rules, lines_under}
 use Rattle.sum_engine.specs.Behavior.{Ending, Whole, Broken, World}
 use Rattle.sum_engine.specs.Execution.{InputsState, InSomeWorld}
 use Rattle.sum_engine.specs.check.CheckStates.{CursorValue, counts_with, state_at, InSomeCheck, CheckState, HandlesLine, next_judged}
-use Rattle.sum_engine.specs.refinement.HashName.{NoRoom}
+use Rattle.sum_engine.specs.refinement.Names.{NoRoom}
 use Rattle.sum_engine.specs.refinement.Judging.{JudgeOf, name_in_line, TakesLine, JudgeLineOf, parsed_at, found_verdict}
 use Rattle.sum_engine.proofs.RestLemmas.{rest_on}
 use Rattle.sum_engine.proofs.StepLemmas.{some_remains}

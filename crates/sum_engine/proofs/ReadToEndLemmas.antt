@@ -6,8 +6,8 @@ use Rattle.sum_sources.specs.Sources.{SourceState}
 use Rattle.sum_sources.specs.StandardInput.{given_state}
 use Rattle.digest_kinds.specs.Limits.{one_more}
 use Rattle.sum_engine.specs.Execution.{InputsState, Phase, Unfinished, AtEnd, count_after, IsStdinWhole, KeepsStdin, ReadToEnd}
-use Rattle.sum_engine.specs.refinement.HashName.{HashOutcome, UnlessBroken}
-use Rattle.sum_engine.specs.refinement.Openings.{stdin_taken_from, OpensFile, ClosesFile}
+use Rattle.sum_engine.specs.refinement.Names.{HashOutcome, UnlessBroken}
+use Rattle.sum_engine.specs.refinement.Names.{stdin_taken_from, OpensFile, ClosesFile}
 
 -- so many more, and then so many more
 count_after-add : (m n count : ℕ) → count_after m (count_after n count) ≡ count_after (m + n) count

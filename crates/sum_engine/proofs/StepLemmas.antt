@@ -12,10 +12,10 @@ use Rattle.sum_engine.specs.check.CheckStates.{CursorValue, state_at, InSomeChec
 use Rattle.sum_engine.specs.check.CheckerSteps.{Progress, Going, Ended, step_then, progress_before, step_answer, StepIs, TakesStep}
 use Rattle.sum_engine.specs.Execution.{Stop, Write, InputsState, StreamsState, WorldState, in_world}
 use Rattle.sum_engine.specs.check.NextVerdict.{AdvancesVerdicts, VerdictResult, line_verdict_value, FindsVerdict, HasNoVerdictLeft}
-use Rattle.sum_engine.specs.refinement.FoundTexts.{found_err, found_out}
+use Rattle.sum_engine.specs.refinement.Judging.{found_texts}
 use Rattle.sum_engine.proofs.FlushedWriteLemmas.{writes_and_returns}
 use Rattle.sum_engine.specs.refinement.FlushedWrites.{outcome_after, WritesAndFlushesBoth, WritesAndReturns}
-use Rattle.sum_engine.specs.refinement.HashName.{AsksNames}
+use Rattle.sum_engine.specs.refinement.Names.{AsksNames}
 use Rattle.sum_engine.proofs.ExecutionLemmas.{asks_in, HappenedOrPrefix, step_performed, HappenedOrPrefix-by, refused_first}
 use Rattle.sum_engine.proofs.CountLemmas.{counts_then-nil}
 use Rattle.sum_engine.proofs.RestLemmas.{line_step, behavior_by, first_step, found_first, going-before}
@@ -126,7 +126,8 @@ module _ {I S : Type 0} {input : I → InputState} {state : S → SourceState} {
     pub step_taken : {E : Type 0} (x : VerdictResult) (w : Result (Unit {0}) E) {y : Result Progress Stop}
         → FindsVerdict input state vector p q a.inputs b.inputs x
         → AdvancesVerdicts input state vector p q a.inputs b.inputs x
-        → WritesAndFlushesBoth a.outputs b.outputs (found_err q labels vector x) (found_out q labels vector x) w
+        → WritesAndFlushesBoth a.outputs b.outputs (found_texts q labels vector x).0
+        (found_texts q labels vector x).1 w
         → (x ≡ Err line_stops.Memory → (w ≡ Ok tt) × (b.outputs ≡ a.outputs)) → y ≡ step_answer q x (is_err w)
         → TakesStep input state vector labels p q a b y
     -- a line had a verdict; its report is written, and the lines after it remain

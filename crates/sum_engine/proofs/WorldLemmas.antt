@@ -7,7 +7,7 @@ use Rattle.sum_sources.specs.declared.sources.source.OpenFault.TheVariants as fa
 use Rattle.sum_sources.proofs.KnownLemmas.{IfKnown-then}
 use Rattle.sum_engine.specs.Behavior.{Fault, World, is_dash, answer_to, after_one, after}
 use Rattle.sum_engine.specs.Execution.{InputsState, Phase, KeepsStdin, InSomeWorld, AskedMore}
-use Rattle.sum_engine.specs.refinement.Openings.{stdin_taken_from, OpensFile, ClosesFile}
+use Rattle.sum_engine.specs.refinement.Names.{stdin_taken_from, OpensFile, ClosesFile}
 
 -- ---- names asked
 

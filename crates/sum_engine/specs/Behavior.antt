@@ -6,8 +6,8 @@ use Rattle.digest_kinds.specs.Kinds.{KindValue, digest}
 pub use Rattle.sum_sources.specs.declared.fault.Fault.{Fault}
 pub use Rattle.sum_sources.specs.declared.fault.Ending.{Ending}
 pub use Rattle.sum_sources.specs.declared.fault.Ending.TheVariants.{Whole, Broken}
-use Rattle.sum_sources.specs.Contents.{Content, clip, empty_content}
-use Rattle.sum_sources.specs.Sources.{Answer}
+pub use Rattle.sum_sources.specs.Contents.{Content, InputState, IfKnown, clip, empty_content}
+pub use Rattle.sum_sources.specs.Sources.{Answer, SourceState}
 
 -- each name's answer, by the names asked before it (a file may change in between); what standard input has left
 pub record World : Type 0 where

@@ -3,15 +3,13 @@ use Rattle.std.specs.Prelude.{ℕ, ◌≡◌, ◌⊎◌, zero, suc, Bool, true, 
 use Rattle.std.specs.List.{list_any}
 use Rattle.std.specs.Io.KnownBytes.{Appends}
 use Rattle.digest_kinds.specs.Limits.{one_more}
-use Rattle.sum_sources.specs.Contents.{Content, IfKnown}
-use Rattle.sum_sources.specs.Sources.{SourceState}
 pub use Rattle.sum_sources.specs.declared.inputs.phase.Phase.{Phase}
 pub use Rattle.sum_sources.specs.declared.inputs.phase.Phase.TheVariants.{Unfinished, AtEnd}
 use Rattle.sum_lines.specs.sinks.Sinks.{SinkState, IsPrefix}
 pub use Rattle.sum_engine.specs.declared.streams.Streams.{Streams}
 pub use Rattle.sum_engine.specs.declared.stop.Stop.{Stop}
 pub use Rattle.sum_engine.specs.declared.stop.Stop.TheVariants.{Memory, Write}
-use Rattle.sum_engine.specs.Behavior.{ByteString, World, is_dash, after, Event, Step, Behavior, trace, opened_name, err_byte, out_byte}
+use Rattle.sum_engine.specs.Behavior.{ByteString, World, is_dash, after, Event, Step, Behavior, trace, opened_name, err_byte, out_byte, Content, IfKnown, SourceState}
 
 -- where names are opened: the source itself; what standard input has left, if known, and whether it was taken
 pub record InputsState (S : Type 0) : Type 0 where
@@ -67,10 +65,6 @@ pub record StopHasCause {S A : Type 0} (state : S → SourceState) (Changes : �
   pub flushed : IsFlushed a.outputs → IsFlushed b.outputs
   pub refusals : RefusalsMatch state Changes a.inputs b.inputs r
   pub failures : FailuresMatch a.outputs b.outputs r
-
--- out of memory left both outputs as they were
-abbrev pub KeepsOutputsOnMemory : {A : Type 0} → OutputsState → OutputsState → Result A Stop → Type 0
-KeepsOutputsOnMemory a b r = r ≡ Err Memory → b ≡ a
 
 -- a count after n more
 abbrev pub count_after : ℕ → ℕ → ℕ

@@ -37,8 +37,8 @@ pub(crate) fn is_dash(name: &[u8]) -> bool
     name == b"-".as_slice()
 }
 
-ghost use Rattle.sum_engine.specs.refinement.HashName.{HashesName, IsRead, AsksNames, MemoryWasRefused, UnlessBroken};
-ghost use Rattle.sum_engine.specs.refinement.HashName.{HasKindLen, digest_of_outcome};
+ghost use Rattle.sum_engine.specs.refinement.Names.{HashesName, IsRead, AsksNames, MemoryWasRefused, UnlessBroken};
+ghost use Rattle.sum_engine.specs.refinement.Names.{HasKindLen, digest_of_outcome};
 ghost use Rattle.sum_engine.specs.Execution.{InSomeWorld, KeepsStdin, ReadToEnd, Unfinished, AtEnd};
 
 /// Opens the file of this name (`-` is standard input) and hashes it. The file is read into the buffer, piece by piece.

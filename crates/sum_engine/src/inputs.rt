@@ -2,7 +2,7 @@
 ghost use Rattle.std.specs.Prelude.{◌≡◌, false, true, Some};
 ghost use Rattle.std.specs.Option.{option_map, option_or};
 ghost use Rattle.sum_sources.specs.StandardInput.{given_state};
-ghost use Rattle.sum_engine.specs.refinement.Openings.{stdin_taken_from, OpensFile, ClosesFile};
+ghost use Rattle.sum_engine.specs.refinement.Names.{stdin_taken_from, OpensFile, ClosesFile};
 
 use std::marker::Model;
 use sum_sources::{Given, Input, OpenFault, Source, Stdin};

@@ -1,8 +1,6 @@
 -- The states of a manifest's check: what remains of it, and what was found so far.
 use Rattle.std.specs.Prelude.{ℕ, ◌≡◌, ◌+◌, ◌≤◌, List, [], ◌∷◌, length, None, option_map}
 use Rattle.sum_sources.specs.declared.line_reader.LineReader.{LineReader}
-use Rattle.sum_sources.specs.Contents.{Content, InputState, clip}
-use Rattle.sum_sources.specs.Sources.{SourceState}
 use Rattle.sum_sources.specs.ManifestLines.{past_line}
 use Rattle.sum_sources.specs.LineReaders.{remaining_content, MayRemain, consumed_count}
 use Rattle.sum_lines.specs.declared.reading.read_line.Form.TheVariants.{Undecided}
@@ -11,7 +9,7 @@ use Rattle.sum_lines.specs.grammar.ParsedLines.{parse_line}
 use Rattle.sum_engine.specs.check.Verdicts.{Form, Verdict, Ignored, Bad, Right, Wrong, Missing, Unread, lines_under, Rules, LineVerdictValue, judge, verdicts}
 use Rattle.sum_engine.specs.Execution.{InputsState, MayBeIn}
 use Rattle.sum_engine.specs.check.Reports.{LabelsValue, Counts, counts_of, entries, end_text, good}
-use Rattle.sum_engine.specs.Behavior.{ByteString, World, Behavior}
+use Rattle.sum_engine.specs.Behavior.{ByteString, World, Behavior, Content, InputState, clip, SourceState}
 use Rattle.sum_engine.specs.check.Checking.{line_steps}
 
 -- the counts of no line, those with one line more, and those of lines and then of others

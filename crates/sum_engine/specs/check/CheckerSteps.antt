@@ -3,12 +3,10 @@ use Rattle.std.specs.Prelude.{Bool, true, false, ◌≡◌, List, [], ◌∷◌,
 pub use Rattle.sum_engine.specs.declared.check.progress.Progress.{Progress}
 pub use Rattle.sum_engine.specs.declared.check.progress.Progress.TheVariants.{Going, Ended}
 use Rattle.sum_sources.specs.declared.line_reader.LineStop.TheVariants.{Fault, Memory}
-use Rattle.sum_sources.specs.Sources.{SourceState}
-use Rattle.sum_sources.specs.Contents.{InputState}
 use Rattle.sum_engine.specs.check.Verdicts.{Rules}
-use Rattle.sum_engine.specs.Execution.{Stop, Write, WorldState, PerformsSteps, StreamsState, IsFlushed, FailuresMatch, KeepsOutputsOnMemory, in_world}
+use Rattle.sum_engine.specs.Execution.{Stop, Write, WorldState, PerformsSteps, StreamsState, IsFlushed, FailuresMatch, in_world}
 use Rattle.sum_engine.specs.check.Reports.{LabelsValue, good}
-use Rattle.sum_engine.specs.Behavior.{ByteString, Whole, Step, Behavior}
+use Rattle.sum_engine.specs.Behavior.{ByteString, Whole, Step, Behavior, SourceState, InputState}
 use Rattle.sum_engine.specs.check.CheckStates.{CheckState, HandlesLine, remaining_behavior, CursorValue, InSomeCheck}
 use Rattle.sum_engine.specs.check.NextVerdict.{VerdictResult, AdvancesVerdicts}
 use Rattle.sum_engine.specs.declared.stop.Stop.TheVariants as stops
@@ -68,4 +66,4 @@ pub record AdvancesChecker {I S : Type 0} (input : I → InputState) (source : S
   pub verdict : AdvancesVerdicts input source vector p.cursor q.cursor a.inputs b.inputs found
   pub answer : x ≡ step_answer q.cursor found failed
   pub failures : FailuresMatch a.outputs b.outputs x
-  pub no_output_on_memory : KeepsOutputsOnMemory a.outputs b.outputs x
+  pub no_output_on_memory : x ≡ Err stops.Memory → b.outputs ≡ a.outputs

@@ -2,12 +2,10 @@
 use Rattle.std.specs.Prelude.{◌≡◌, ◌+◌, ◌≤◌, ◌<◌, ◌⊎◌, ◌||◌, List, [], ◌∷◌, length, slice_range, Bool, true, false, Option, None, Some, IfSome, Result, Ok, Err}
 use Rattle.std.specs.List.{list_any}
 use Rattle.digest_kinds.specs.Limits.{one_more}
-use Rattle.sum_engine.specs.Behavior.{ByteString, Ending, Whole, Broken, is_dash, after}
+use Rattle.sum_engine.specs.Behavior.{ByteString, Ending, Whole, Broken, is_dash, after, Content, IfKnown, InputState, SourceState}
 pub use Rattle.sum_sources.specs.declared.line_reader.LineStop.{LineStop}
 use Rattle.sum_sources.specs.declared.line_reader.LineStop.TheVariants.{Fault, Memory}
 use Rattle.sum_sources.specs.declared.line_reader.Next.TheVariants.{NoMore}
-use Rattle.sum_sources.specs.Contents.{Content, IfKnown, InputState}
-use Rattle.sum_sources.specs.Sources.{SourceState}
 use Rattle.sum_sources.specs.ManifestLines.{HasNoNewline}
 use Rattle.sum_sources.specs.LineReaders.{remaining_content, IsBounded, IsReadSoFar}
 use Rattle.sum_engine.specs.Execution.{InputsState, KeepsStdin, ReadToEnd, AskedMore}

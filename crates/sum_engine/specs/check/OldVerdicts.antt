@@ -1,9 +1,7 @@
 -- The law of old verdicts: a manifest of the time of older versions is checked alike under both profiles.
 use Rattle.std.specs.Prelude.{◌≡◌, ◌≢◌, ◌<◌, false, [], ◌∷◌, length, map, codes, All, Ok}
 use Rattle.sum_engine.specs.check.Reports.{LabelsValue, out_of, err_of, counts_of, end_text, good}
-use Rattle.sum_engine.specs.Behavior.{ByteString, Whole, World}
-use Rattle.sum_sources.specs.Contents.{Content, clip}
-use Rattle.sum_sources.specs.Sources.{Answer}
+use Rattle.sum_engine.specs.Behavior.{ByteString, Whole, World, Content, clip, Answer}
 use Rattle.sum_sources.specs.ManifestLines.{raw_lines}
 use Rattle.sum_engine.specs.check.Verdicts.{Algos, Form, lines_under, Rules, all_verdicts}
 use Rattle.sum_lines.specs.Escape.{Profile, present, escape, escape_by}

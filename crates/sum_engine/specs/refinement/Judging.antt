@@ -1,15 +1,15 @@
--- Relates what the code finds of a line to what the line says, and to its verdict.
-use Rattle.std.specs.Prelude.{ℕ, ◌≡◌, Bool, [], Some, Result, Ok, Err, if◌then◌else◌, bytes_eq}
+-- Relates what the code finds of a line to what the line says, to its verdict and to its report.
+use Rattle.std.specs.Prelude.{ℕ, ◌≡◌, Bool, [], None, Some, Result, Ok, Err, if◌then◌else◌, bytes_eq}
 use Rattle.sum_sources.specs.declared.fault.Fault.TheVariants.{NotFound}
 use Rattle.sum_lines.specs.grammar.Entries.{EntryValue, form_then, line_form}
 use Rattle.sum_engine.specs.declared.check.judge.ListedEntry.{ListedEntry}
-use Rattle.sum_engine.specs.refinement.HashName.{HashOutcome, NoRoom}
+use Rattle.sum_engine.specs.refinement.Names.{HashOutcome, NoRoom}
 use Rattle.sum_engine.specs.check.Verdicts.{Verdict, Right, Wrong, Missing, Unread, Rules, judge, asks_by, asks_of}
 use Rattle.sum_lines.specs.grammar.ParsedLines.{ParsedLine, ignored, bad, entry, parse_line}
-use Rattle.sum_engine.specs.Behavior.{ByteString, World, after}
-use Rattle.sum_engine.specs.check.Reports.{Counts}
+use Rattle.sum_engine.specs.Behavior.{ByteString, Whole, Broken, World, after}
+use Rattle.sum_engine.specs.check.Reports.{LabelsValue, Counts, err_of, out_of, end_text}
 use Rattle.sum_engine.specs.check.NextVerdict.{LineVerdict, VerdictResult, line_verdict_value}
-use Rattle.sum_sources.specs.declared.line_reader.LineStop.TheVariants.{Memory}
+use Rattle.sum_sources.specs.declared.line_reader.LineStop.TheVariants.{Fault, Memory}
 use Rattle.sum_engine.specs.check.CheckStates.{CursorValue, counts_with}
 use Rattle.sum_engine.specs.declared.hash_name.HashOutcome.TheVariants as outcomes
 
@@ -61,3 +61,12 @@ JudgeLineOf p line d vector w v (Ok found) =
 abbrev pub found_verdict : Result LineVerdict NoRoom → VerdictResult
 found_verdict (Err e) = Err Memory
 found_verdict (Ok v) = Ok (Some v)
+
+-- what a step writes that found this, to standard error and to standard output: a line's report, or the end
+abbrev pub found_texts : {I : Type 0} → CursorValue I → LabelsValue → ByteString → VerdictResult
+    → ByteString × ByteString
+found_texts p labels vector (Ok (Some v)) =
+    let j = line_verdict_value vector v in (err_of p.rules labels j, out_of p.rules labels j)
+found_texts p labels vector (Ok None) = (end_text p.rules labels Whole p.counts, [])
+found_texts p labels vector (Err (Fault f)) = (end_text p.rules labels (Broken f) p.counts, [])
+found_texts p labels vector (Err Memory) = ([], [])

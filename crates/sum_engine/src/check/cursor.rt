@@ -55,7 +55,7 @@ impl<I: Input> CheckCursor<I> {
     ghost use Rattle.sum_sources.specs.declared.fault.Ending.TheVariants.{Whole};
     ghost use Rattle.sum_engine.specs.check.Checking.{rules_of};
     ghost use Rattle.sum_engine.specs.check.Reports.{good};
-    ghost use Rattle.sum_engine.specs.refinement.HashName.{AsksNames, MemoryWasRefused};
+    ghost use Rattle.sum_engine.specs.refinement.Names.{AsksNames, MemoryWasRefused};
     ghost use Rattle.sum_engine.specs.check.NextVerdict.{HasNameRange, FindsVerdict};
     ghost use Rattle.std.specs.Prelude.{◌||◌, MatchResult};
     ghost use Rattle.std.specs.List.{list_any};
@@ -63,7 +63,7 @@ impl<I: Input> CheckCursor<I> {
     ghost use Rattle.sum_engine.specs.check.NextVerdict.{counts_after, names_of_result, line_verdict_value, UnlessUnread};
     ghost use Rattle.sum_engine.specs.check.Verdicts.{asks_of};
     ghost use Rattle.sum_engine.specs.refinement.FlushedWrites.{WritesAndFlushesBoth};
-    ghost use Rattle.sum_engine.specs.refinement.FoundTexts.{found_err, found_out};
+    ghost use Rattle.sum_engine.specs.refinement.Judging.{found_texts};
     ghost use Rattle.sum_sources.specs.declared.line_reader.LineStop.TheVariants.{Memory};
     ghost use Rattle.sum_engine.specs.refinement.Judging.{TakesLine, JudgeLineOf, found_verdict};
 
@@ -112,8 +112,8 @@ impl<I: Input> CheckCursor<I> {
         outputs: &mut Outputs<O, E>,
     ) -> Result<(), SinkFault>
         requires { IfOk found (λ found. IfSome found (λ v. HasNameRange line.now v)) }
-        ensures texts { WritesAndFlushesBoth outputs.old outputs.new (found_err self.now labels.now line.now found)
-            (found_out self.now labels.now line.now found) result }
+        ensures texts { WritesAndFlushesBoth outputs.old outputs.new (found_texts self.now labels.now line.now found).0
+            (found_texts self.now labels.now line.now found).1 result }
         ensures memory { found ≡ Err Memory → (result ≡ Ok tt) × (outputs.new ≡ outputs.old) }
     {
         match found {

@@ -3,7 +3,7 @@ ghost use Rattle.std.specs.Prelude.{◌≡◌, false, true, MatchResult, slice_r
 ghost use Rattle.sum_engine.specs.check.Reports.{is_unread};
 ghost use Rattle.sum_engine.specs.check.Verdicts.{asks_by};
 ghost use Rattle.sum_lines.specs.grammar.ParsedLines.{entry};
-ghost use Rattle.sum_engine.specs.refinement.HashName.{AsksNames, MemoryWasRefused};
+ghost use Rattle.sum_engine.specs.refinement.Names.{AsksNames, MemoryWasRefused};
 ghost use Rattle.sum_engine.specs.check.NextVerdict.{HasNameRange};
 
 use crate::check::rules::CheckRules;

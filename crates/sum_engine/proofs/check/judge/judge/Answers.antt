@@ -1,7 +1,7 @@
 use Rattle.std.proofs.Common.{◌≡◌, ◌&&◌, false, Ok, rules}
 use Rattle.sum_lines.specs.grammar.Entries.{EntryValue}
 use Rattle.sum_engine.specs.Behavior.{is_dash}
-use Rattle.sum_engine.specs.refinement.HashName.{HashesName}
+use Rattle.sum_engine.specs.refinement.Names.{HashesName}
 use Rattle.sum_engine.specs.refinement.Judging.{listed_entry}
 use Rattle.sum_engine.proofs.WorldLemmas.{InSomeWorld-map}
 use Rattle.sum_engine.proofs.VerdictLemmas.{judged_entry, entry_asks}
