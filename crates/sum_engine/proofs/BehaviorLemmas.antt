@@ -62,8 +62,9 @@ pub done_none : (whole : Behavior) (a : WorldState) → HasDoneUpTo whole whole 
 done_none whole a = record { done = []; steps = refl; good = refl; happened = Happened-none a }
 
 -- one step more happened
-pub done_more : {a b c : WorldState} {whole left : Behavior} (step : Step) (later : Behavior) → HasDoneUpTo whole left a b
-    → left ≡ step_then step later → Happened b c (trace (step ∷ [])) → HasDoneUpTo whole later a c
+pub done_more : {a b c : WorldState} {whole left : Behavior} (step : Step) (later : Behavior)
+    → HasDoneUpTo whole left a b → left ≡ step_then step later → Happened b c (trace (step ∷ []))
+    → HasDoneUpTo whole later a c
 done_more step later h is k = record {
   done = h.done ++ step ∷ [];
   steps = search (rules, append_assoc);

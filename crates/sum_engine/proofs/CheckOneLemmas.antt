@@ -78,9 +78,11 @@ module _ {S : Type 0} (state : S → SourceState) (settings : CheckSettings) (to
         PerformsSteps all.steps all.good (in_world state a w) (in_world state b v) x)
     opened_in dash c m b x w u v is asked answer ran =
         let did : Happened (in_world state a w) (in_world state (from_inputs m) u) (events_of (opening name)) =
-        Happened-by (name ∷ []) [] [] (asks_in state a (from_inputs m) asked answer.0) (Appends-nil _) (Appends-nil _) in
+        Happened-by (name ∷ []) [] [] (asks_in state a (from_inputs m) asked answer.0) (Appends-nil _)
+        (Appends-nil _) in
         let of = manifest_behavior (rules_of settings (is_dash name)) (labels_of settings tool name) (clip c) u in
-        rw (answer.1, ← answer.0) (behind_step (in_world state b v) of.good (opening name) of.steps x did (rw (← is) at ran))
+        rw (answer.1, ← answer.0) (behind_step (in_world state b v) of.good (opening name) of.steps x did
+        (rw (← is) at ran))
 
     -- The name was asked, and gave this content if it is known: then the run of its checker is that of the call. It
     -- goes backwards from the world after the call: the run has a world before it, and the opening one before that.
@@ -117,7 +119,8 @@ module _ {S : Type 0} (state : S → SourceState) (settings : CheckSettings) (to
       pub check_file : {n : InputsState S} {p : Phase} {file : F} (b : StreamsState S) (x : Result Bool Stop)
           → is_dash name ≡ false → OpensFile state content name a.inputs m (Ok file)
           → ClosesFile state p b.inputs n
-          → ManifestPerforms state (rules_of settings false) (labels_if false) (content file).content (from_inputs m) b x
+          → ManifestPerforms state (rules_of settings false) (labels_if false) (content file).content (from_inputs m) b
+          x
           → Performed (record b { inputs = n }) x
       check_file {n} {p} {file} b x is_file opens closes run =
           opened false (content file).content m (record b { inputs = n }) x is_file
@@ -141,10 +144,12 @@ module _ {S : Type 0} (state : S → SourceState) (settings : CheckSettings) (to
           (λ w v is. (rw (is.1, is_file) refl, is.0)) said
 
       -- there was no memory to open it
-      pub no_room : OpensFile state content name a.inputs m (Err open_faults.Memory) → Performed (from_inputs m) (Err Memory)
+      pub no_room : OpensFile state content name a.inputs m (Err open_faults.Memory)
+          → Performed (from_inputs m) (Err Memory)
       no_room opens =
           Performs-refused state (λ w. check_behavior settings tool w name) (λ g. g) a (from_inputs m)
-          (λ w. begins (after w (name ∷ [])) (answer_to w name)) (opened_nothing opens) (search (rules, asked_none)) refl
+          (λ w. begins (after w (name ∷ [])) (answer_to w name)) (opened_nothing opens) (search (rules, asked_none))
+          refl
         where
           -- checking begins with a step
           begins : (w : World) (answer : Answer) → (next : Step) × (rest : List Step) × ((check_behavior_by

@@ -103,7 +103,8 @@ prefix_err {a} names err out asked h same =
 
 -- all of it was, and a prefix of the text on standard output
 pub prefix_out : {a b : WorldState} (names : List (List ℕ)) (err out : List ℕ) → Asks a b names
-    → Appends a.outputs.err.written b.outputs.err.written err → AppendsPrefix a.outputs.out.written b.outputs.out.written out
+    → Appends a.outputs.err.written b.outputs.err.written err
+    → AppendsPrefix a.outputs.out.written b.outputs.out.written out
     → PrefixHappened a b (events_by names err out)
 prefix_out names err out asked all h =
     let rest : List Event = map write_out h.1.0 in
@@ -144,8 +145,8 @@ refused_in a b step world refused outputs =
 -- so memory ran out at the first step
 pub refused_first : {a b : WorldState} {steps : List Step} (next : Step) (later : List Step) → steps ≡ next ∷ later
     → RefusedAt next a b → RunsOutOfMemory steps a b
-refused_first {a} next later are refused =
-    record { done = []; next = next; later = later; between = a; are = are; happened = Happened-none a; refused = refused }
+refused_first {a} next later are here =
+    record { done = []; next = next; later = later; between = a; are = are; happened = Happened-none a; refused = here }
 
 -- ---- a state after which a file was closed, or standard input put back
 

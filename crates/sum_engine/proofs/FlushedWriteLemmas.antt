@@ -48,7 +48,7 @@ written_then {r = Err e} h k = record {
 
 -- a prefix of a text, and none of the next, by a call that returns this fault
 pub part_more : {E F : Type 0} {a b : SinkState} {x : List ℕ} {e : E} {P : F → Type 0} {r : Result (Unit {0}) F}
-    (y : List ℕ) → WritesAndFlushes a b x (Err e) → (f : F) × (r ≡ Err f) × P f → WritesAndFlushes {E = F} a b (x ++ y) r
+    (y : List ℕ) → WritesAndFlushes a b x (Err e) → (f : F) × (r ≡ Err f) × P f → WritesAndFlushes a b (x ++ y) r
 part_more y h stop = rw stop.1 (record {
   failures = h.failures;
   flushed = h.flushed;

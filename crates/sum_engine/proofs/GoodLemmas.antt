@@ -128,8 +128,8 @@ all-right r files w is steady all =
 
 -- the behavior, by these verdicts
 check_behavior-is : (check : CheckSettings) (tool manifest : List ℕ) (files : List ℕ → Answer) (w : World)
-    (is : List Item) → w.answer ≡ (λ asked. files) → All (Listed check.algo files) is → length (flat_map written_text is) < limit
-    → answer_to w manifest ≡ Ok (whole is)
+    (is : List Item) → w.answer ≡ (λ asked. files) → All (Listed check.algo files) is
+    → length (flat_map written_text is) < limit → answer_to w manifest ≡ Ok (whole is)
     → check_behavior check tool w manifest ≡ step_then (opening manifest)
     (content_behavior (rules_of check (is_dash manifest)) (labels_of check tool manifest) (whole is) (rights 0 is))
 check_behavior-is check tool manifest files w is steady all fits given =
@@ -144,8 +144,8 @@ check_behavior-is check tool manifest files w is steady all fits given =
 
 -- a manifest with at least one line is good, and each of its names is reported as right
 pub manifest_good : (check : CheckSettings) (tool manifest : List ℕ) (files : List ℕ → Answer) (w : World)
-    (is : List Item) → w.answer ≡ (λ asked. files) → All (Listed check.algo files) is → 0 < length is → length (flat_map written_text is) < limit
-    → answer_to w manifest ≡ Ok (whole is) → Found check tool w manifest is
+    (is : List Item) → w.answer ≡ (λ asked. files) → All (Listed check.algo files) is → 0 < length is
+    → length (flat_map written_text is) < limit → answer_to w manifest ≡ Ok (whole is) → Found check tool w manifest is
 manifest_good check tool manifest files w [] steady all some fits given = absurd (omega arith)
 manifest_good check tool manifest files w (i ∷ is) steady all some fits given =
     let r : Rules = rules_of check (is_dash manifest) in

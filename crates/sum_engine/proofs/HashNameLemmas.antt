@@ -31,8 +31,9 @@ module _ {S : Type 0} (state : S → SourceState) (kind : KindValue) (name : Lis
 
   -- a file was read and closed
   pub hashed_file : {F : Type 0} {content : F → InputState} {a m b : InputsState S} {p : Phase} {file : F}
-      (outcome : HashOutcome) → is_dash name ≡ false → OpensFile state content name a m (Ok file) → ClosesFile state p m b
-      → (c : Content) × IfSome (content file).content (λ d. c ≡ d) × IsRead kind c outcome → Hashed a b outcome
+      (outcome : HashOutcome) → is_dash name ≡ false → OpensFile state content name a m (Ok file)
+      → ClosesFile state p m b → (c : Content) × IfSome (content file).content (λ d. c ≡ d) × IsRead kind c outcome
+      → Hashed a b outcome
   hashed_file outcome is_file opens closes (c, may, read) =
       InSomeWorld-then (opened_file c is_file may opens) (may-closed closes)
       (λ w u v h same. (same ∙ h.0, rw h.1 (read-outcome kind c outcome read)))

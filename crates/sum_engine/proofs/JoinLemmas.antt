@@ -93,8 +93,8 @@ module _ (r : Rules) (labels : LabelsValue) (c : Content) (s : WorldState) where
       let remaining = drop_next k whole.steps (remaining_behavior r labels d).steps step.step
       (sym h.remaining ∙ ap (λ (q : Behavior). q.steps) is) in
       let rest = moves.rest ∙ ap past_line h.rest ∙ past_next k c in
-      let line = drop_next k (lines_under r.profile c) (lines_under r.profile d.rest) moves.line (sym h.lines ∙ moves.lines)
-      in
+      let line = drop_next k (lines_under r.profile c) (lines_under r.profile d.rest) moves.line
+      (sym h.lines ∙ moves.lines) in
       record {
         rest = rest;
         lines = sym line.0;
@@ -114,7 +114,8 @@ module _ (r : Rules) (labels : LabelsValue) (c : Content) (s : WorldState) where
       rw next (after_all more.0 b more.1 t (suc i) vectors (after_more h more.2) more.3)
 
   -- the whole behavior is what was done and what remains
-  along : {b : CheckState} {t : WorldState} {k : ℕ} → After b t k → HasDoneUpTo whole (remaining_behavior r labels b) s t
+  along : {b : CheckState} {t : WorldState} {k : ℕ} → After b t k
+      → HasDoneUpTo whole (remaining_behavior r labels b) s t
   along h = search (rules, take-append-drop)
 
   -- a step is left after k steps only if k is at most the number of lines

@@ -111,4 +111,5 @@ lines-are algos answer is all =
     let cut = raw_lines-joined Whole (map prefix is) [] none (All-nil (λ b. (b == 10) ≡ false)) in
     ap (map strip_carriage_return) (ap (λ b. raw_lines (make b)) (texts is ∙ sym (append-nil _)) ∙ cut
     ∙ append-nil (map prefix is))
-    ∙ strips-kept (map prefix is) (All-weaker Plainly HasNoCarriageReturn (λ l h k d lt. (h k d lt).1) (map prefix is) plain)
+    ∙ strips-kept (map prefix is)
+    (All-weaker Plainly HasNoCarriageReturn (λ l h k d lt. (h k d lt).1) (map prefix is) plain)

@@ -39,8 +39,9 @@ pub judged-line : {I : Type 0} (p : CursorValue I) (line : List ℕ) (said : Par
 judged-line p line said k d vector w v verdict start stop is h count place number = search rules
 
 -- the reader of the place p read a line, and became this one; q is the place once the line was judged
-module _ {I S : Type 0} (input : I → InputState) (source : S → SourceState) (p q : CursorValue I) (reader : LineReader I)
-    (a b : InputsState S) (line vector : List ℕ) (reads : ReadsSomeLine input p.reader reader (Ok Line) line)
+module _ {I S : Type 0} (input : I → InputState) (source : S → SourceState) (p q : CursorValue I)
+    (reader : LineReader I) (a b : InputsState S) (line vector : List ℕ)
+    (reads : ReadsSomeLine input p.reader reader (Ok Line) line)
     (number : reader.lines ≡ p.reader.lines + 1) (bounds : IsBounded reader) (now : p.rules.profile ≡ present) where
   -- the place once the line was judged, with the reader's own type
   abbrev then : CursorValue I

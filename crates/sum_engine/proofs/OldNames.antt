@@ -1,5 +1,5 @@
 -- A line without a carriage return, neither as a byte nor in its name, says the same under both profiles.
-use Rattle.std.proofs.Common.{rules, ◌≡◌, ◌≢◌, ℕ, ◌<◌, Bool, true, false, List, [], ◌∷◌, ◌++◌, length, refl, sym, inl, inr, arith, subst, codes, All}
+use Rattle.std.proofs.Common.{rules, ◌≡◌, ◌≢◌, ℕ, ◌<◌, Bool, true, false, List, [], ◌∷◌, ◌++◌, length, refl, sym, inl, inr, arith, subst, codes, append_assoc}
 use Rattle.std.proofs.lemmas.Bool.Decides.{nat_tests}
 use Rattle.std.proofs.lemmas.List.{take_at, drop_at}
 use Rattle.std.proofs.lemmas.List.Elements.{All-nil, All-cons, All-head, All-tail, All-take, All-drop}
@@ -15,15 +15,23 @@ use Rattle.sum_engine.specs.check.OldVerdicts.{older, HasNoCarriageReturn, Names
 use Rattle.sum_engine.proofs.CarriageReturnLemmas.{IsNoCarriageReturn}
 use Rattle.sum_lines.specs.grammar.Entries as entries
 
--- ---- parts of what has no carriage return
+-- ---- bytes without a carriage return
 
--- what holds of all of a list holds of all of a prefix of it
-pub all_left : {X : Type 0} (P : X → Type 0) (xs ys : List X) → All P (xs ++ ys) → All P xs
-all_left P xs ys h = subst (All P) (take_at xs ys _ refl) (All-take P (length xs) (xs ++ ys) h)
+-- a prefix has none
+pub front_clean : (xs ys : List ℕ) → HasNoCarriageReturn (xs ++ ys) → HasNoCarriageReturn xs
+front_clean xs ys h =
+    subst HasNoCarriageReturn (take_at xs ys _ refl) (All-take IsNoCarriageReturn (length xs) (xs ++ ys) h)
 
--- and of all of its rest
-pub all_right : {X : Type 0} (P : X → Type 0) (xs ys : List X) → All P (xs ++ ys) → All P ys
-all_right P xs ys h = subst (All P) (drop_at xs ys _ refl) (All-drop P (length xs) (xs ++ ys) h)
+-- nor has the rest
+pub rest_clean : (xs ys : List ℕ) → HasNoCarriageReturn (xs ++ ys) → HasNoCarriageReturn ys
+rest_clean xs ys h =
+    subst HasNoCarriageReturn (drop_at xs ys _ refl) (All-drop IsNoCarriageReturn (length xs) (xs ++ ys) h)
+
+-- nor a part between others
+part_clean : (front part rest line : List ℕ) → line ≡ front ++ (part ++ rest) → HasNoCarriageReturn line
+    → HasNoCarriageReturn part
+part_clean front part rest line is free =
+    front_clean part rest (rest_clean front (part ++ rest) (subst HasNoCarriageReturn is free))
 
 -- ---- the escape
 
@@ -42,14 +50,15 @@ same_escape (b ∷ bs) free = search (rules, All-head, byte_same, same_escape bs
 older_clean : (name : List ℕ) → HasNoCarriageReturn (escape_by older name) → HasNoCarriageReturn name
 older_clean [] free = All-nil IsNoCarriageReturn
 older_clean (b ∷ bs) free =
-    All-cons IsNoCarriageReturn b bs (first b (all_left IsNoCarriageReturn (escape_of older b) (escape_by older bs) free))
-    (older_clean bs (all_right IsNoCarriageReturn (escape_of older b) (escape_by older bs) free))
+    All-cons IsNoCarriageReturn b bs (first b (front_clean (escape_of older b) (escape_by older bs) free))
+    (older_clean bs (rest_clean (escape_of older b) (escape_by older bs) free))
   where
     first : (b : ℕ) → HasNoCarriageReturn (escape_of older b) → b ≢ 13
-    first b all = λ is. All-head IsNoCarriageReturn 13 [] (subst (λ x. HasNoCarriageReturn (escape_of older x)) is all) refl
+    first b all = λ is. All-head IsNoCarriageReturn 13 [] (rw is at all) refl
 
 -- so a name that bytes without one spell by the older escape has none
-older_name : (e : Bool) (raw name : List ℕ) → HasNoCarriageReturn raw → entries.Spells (escape_by older) e raw name → HasNoCarriageReturn name
+older_name : (e : Bool) (raw name : List ℕ) → HasNoCarriageReturn raw
+    → entries.Spells (escape_by older) e raw name → HasNoCarriageReturn name
 older_name true raw name free s = older_clean name (subst HasNoCarriageReturn s.is free)
 older_name false raw name free s = subst HasNoCarriageReturn s.is free
 
@@ -65,19 +74,19 @@ raw_clean Standard tail raw h is = All-tail IsNoCarriageReturn is.1 raw (subst H
 tag_clean : (E : List ℕ → List ℕ) (algos : Algos) (line : List ℕ) (s : EntryValue) → HasNoCarriageReturn line
     → (t : SpellsByTag E algos line s) → HasNoCarriageReturn t.raw
 tag_clean E algos line s free t =
-    let whole = subst HasNoCarriageReturn t.tagged.whole free in
-    all_left IsNoCarriageReturn t.raw _ (all_right IsNoCarriageReturn (codes "(") _
-    (all_right IsNoCarriageReturn (optional t.tagged.gap (codes " ")) _ (all_right IsNoCarriageReturn t.tagged.width _
-    (all_right IsNoCarriageReturn (tag s.kind.algo) _ (all_right IsNoCarriageReturn (mark t.escaped) _
-    (all_right IsNoCarriageReturn t.tagged.blanks _ whole))))))
+    let p = t.tagged in
+    let gap = optional p.gap (codes " ") ++ codes "(" in
+    let front = p.blanks ++ (mark t.escaped ++ (tag s.kind.algo ++ (p.width ++ gap))) in
+    let rest = codes ")" ++ (p.before ++ (codes "=" ++ (p.after ++ p.digits))) in
+    part_clean front t.raw rest line (search (rules, p.whole, append_assoc)) free
 
 -- and a plain one
-tail_clean : (E : List ℕ → List ℕ) (algos : Algos) (f : Form) (line : List ℕ) (s : EntryValue) → HasNoCarriageReturn line
-    → (t : SpellsByTail E algos f line s) → HasNoCarriageReturn t.raw
+tail_clean : (E : List ℕ → List ℕ) (algos : Algos) (f : Form) (line : List ℕ) (s : EntryValue)
+    → HasNoCarriageReturn line → (t : SpellsByTail E algos f line s) → HasNoCarriageReturn t.raw
 tail_clean E algos f line s free t =
-    let whole = subst HasNoCarriageReturn t.plain.whole free in
-    raw_clean f t.tail t.raw (All-tail IsNoCarriageReturn t.plain.blank t.tail (all_right IsNoCarriageReturn t.plain.digits _
-    (all_right IsNoCarriageReturn (mark t.escaped) _ (all_right IsNoCarriageReturn t.plain.blanks _ whole)))) t.is_raw
+    let p = t.plain in
+    let front = p.blanks ++ (mark t.escaped ++ (p.digits ++ p.blank ∷ [])) in
+    raw_clean f t.tail t.raw (part_clean front t.tail [] line (search (rules, p.whole, append_assoc)) free) t.is_raw
 
 -- ---- the entry
 
@@ -106,8 +115,9 @@ ignored_same : (line : List ℕ) (q : Bool) → 0 < length line → is_ignored_b
 ignored_same line q some h = search rules
 
 -- a line without one, in which no name has one, says the same under both profiles
-pub parse_line_same : (algos : Algos) (f : Form) (line : List ℕ) → HasNoCarriageReturn line → NamesNoCarriageReturn algos f line
-    → 0 < length line → (parse_line older algos f line ≡ parse_line present algos f line)
+pub parse_line_same : (algos : Algos) (f : Form) (line : List ℕ) → HasNoCarriageReturn line
+    → NamesNoCarriageReturn algos f line → 0 < length line
+    → (parse_line older algos f line ≡ parse_line present algos f line)
     × CleanParsedLine (parse_line present algos f line)
 parse_line_same algos f line free names some = go (parse_line present algos f line) refl
   where

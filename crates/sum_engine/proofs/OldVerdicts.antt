@@ -14,8 +14,8 @@ use Rattle.sum_lines.specs.grammar.ParsedLines.{ParsedLine, bad, parse_line}
 use Rattle.sum_engine.specs.check.Checking.{line_steps, content_behavior}
 use Rattle.sum_engine.specs.check.OldVerdicts.{older, rules_under, HasNoCarriageReturn, NamesNoCarriageReturn, IsOldManifest, OldVerdicts, OldOutcomes, OlderDiffers}
 use Rattle.sum_lines.proofs.ParsedLineLemmas.{parse_is_grammar}
-use Rattle.sum_engine.proofs.OldNames.{all_left, all_right, same_escape, CleanParsedLine, parse_line_same}
-use Rattle.sum_engine.proofs.CarriageReturnLemmas.{IsNoCarriageReturn, strips-kept}
+use Rattle.sum_engine.proofs.OldNames.{front_clean, rest_clean, same_escape, CleanParsedLine, parse_line_same}
+use Rattle.sum_engine.proofs.CarriageReturnLemmas.{strips-kept}
 use Rattle.sum_engine.proofs.CheckOneLemmas.{opening}
 use Rattle.sum_engine.specs.declared.settings.Report.TheVariants as reports
 
@@ -32,14 +32,15 @@ ended_clean e [] tail free = last_clean e tail free
 ended_clean e (p ∷ ps) tail free =
     let whole : HasNoCarriageReturn ((p ++ 10 ∷ []) ++ bytes_of_lines ps tail) =
     subst HasNoCarriageReturn (append_assoc (p ++ 10 ∷ []) (flat_map (λ piece. piece ++ 10 ∷ []) ps) tail) free in
-    All-cons HasNoCarriageReturn p (ps ++ last_line e tail) (all_left IsNoCarriageReturn p _ (all_left IsNoCarriageReturn (p ++ 10 ∷ []) _ whole))
-    (ended_clean e ps tail (all_right IsNoCarriageReturn (p ++ 10 ∷ []) _ whole))
+    All-cons HasNoCarriageReturn p (ps ++ last_line e tail) (front_clean p _ (front_clean (p ++ 10 ∷ []) _ whole))
+    (ended_clean e ps tail (rest_clean (p ++ 10 ∷ []) _ whole))
 
 -- so no line of a content has one
 pieces_clean : (c : Content) → HasNoCarriageReturn c.bytes → All HasNoCarriageReturn (raw_lines c)
 pieces_clean c free =
     let all = cut c.bytes in
-    subst (λ (bytes : List ℕ). All HasNoCarriageReturn (raw_lines (record { bytes = bytes; ending = c.ending }))) (sym all.2)
+    let lines : List ℕ → List (List ℕ) = λ bytes. raw_lines (record { bytes = bytes; ending = c.ending }) in
+    subst (λ bytes. All HasNoCarriageReturn (lines bytes)) (sym all.2)
     (subst (All HasNoCarriageReturn) (sym (raw_lines-joined c.ending all.0 all.1 all.3 all.4))
     (ended_clean c.ending all.0 all.1 (subst HasNoCarriageReturn all.2 free)))
 
@@ -93,8 +94,9 @@ all_same f g same [] all = refl
 all_same f g same (j ∷ js) all = search (rules, All-head, all_same f g same js (All-tail CleanName j js all))
 
 -- what a line of the manifest adds to standard error
-err_same : (r : Rules) (labels : LabelsValue) (n : ℕ) (v : Verdict) (name : List ℕ) → HasNoCarriageReturn labels.manifest
-    → HasNoCarriageReturn name → err_by (rules_under older r) labels n v name ≡ err_by (rules_under present r) labels n v name
+err_same : (r : Rules) (labels : LabelsValue) (n : ℕ) (v : Verdict) (name : List ℕ)
+    → HasNoCarriageReturn labels.manifest → HasNoCarriageReturn name
+    → err_by (rules_under older r) labels n v name ≡ err_by (rules_under present r) labels n v name
 err_same r labels n v name own free = search (rules, same_escape)
 
 -- the text at its end

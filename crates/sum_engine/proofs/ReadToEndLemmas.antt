@@ -23,7 +23,8 @@ ReadToEnd-trans h k = search (rules, count_after-add)
 
 -- no file was opened, and standard input is as it was
 pub ReadToEnd-none : {S : Type 0} (state : S → SourceState) (a b : InputsState S)
-    → (state b.source).counts.opened ≡ (state a.source).counts.opened → (state b.source).counts.ended ≡ (state a.source).counts.ended
+    → (state b.source).counts.opened ≡ (state a.source).counts.opened
+    → (state b.source).counts.ended ≡ (state a.source).counts.ended
     → b.stdin_taken ≡ a.stdin_taken → b.stdin_phase ≡ a.stdin_phase → ReadToEnd state a b
 ReadToEnd-none state a b opened ended taken phase = search rules
 

@@ -135,22 +135,26 @@ module _ {I S : Type 0} {input : I → InputState} {state : S → SourceState} {
         let j = line_verdict_value vector v in
         let asked : AsksNames state a.inputs b.inputs (asks_of j) =
         record { asked = did.asked; taken = did.stdin_taken; refusals = did.out_of_memory } in
-        let said = writes_and_returns w (answered q (Ok (Some v)) Going w refl refl is) (rw did.cursor.rules at wrote) in
+        let said =
+        writes_and_returns w (answered q (Ok (Some v)) Going w refl refl is) (rw did.cursor.rules at wrote) in
         rw said.returns (InSomeCheck-map found (λ c d w v f.
         let first = state_at p c w in
         let next = state_at q d v in
         step_by p.rules labels first next (in_world state a w) (in_world state b v) vector
         (line_step p.rules labels (length c.bytes) j) (remaining_behavior p.rules labels next) Going said.written
         (found_first p.rules labels first next j f.0.first f.0.counts f.1.rest) (going-before p.rules labels next)
-        (HappenedOrPrefix-by _ _ (asks_of j) _ _ said.written (asks_in state a b asked f.0.world) (said.writes.1 flushed).1)
+        (HappenedOrPrefix-by _ _ (asks_of j) _ _ said.written (asks_in state a b asked f.0.world)
+        (said.writes.1 flushed).1)
         (λ is. (refl, f.1))))
     -- no line was left; the end is written, and nothing remains
     step_taken (Ok None) w found did wrote kept is =
         let outcome = good q.rules Whole q.counts in
-        step_end Whole outcome found (record { asked = did.asked; taken = did.stdin_taken; refusals = did.out_of_memory }) did.cursor.rules refl
+        step_end Whole outcome found
+        (record { asked = did.asked; taken = did.stdin_taken; refusals = did.out_of_memory }) did.cursor.rules refl
         (writes_and_returns w (answered q (Ok None) (Ended outcome) w refl refl is) wrote)
     step_taken (Err (line_stops.Fault f)) w found did wrote kept is =
-        step_end (Broken f) false found (record { asked = did.asked; taken = did.stdin_taken; refusals = did.out_of_memory }) did.cursor.rules refl
+        step_end (Broken f) false found
+        (record { asked = did.asked; taken = did.stdin_taken; refusals = did.out_of_memory }) did.cursor.rules refl
         (writes_and_returns w (answered q (Err (line_stops.Fault f)) (Ended false) w refl refl is) wrote)
     -- memory ran out before the verdict; nothing is written, and all remains
     step_taken (Err line_stops.Memory) w found did wrote kept is = λ flushed.

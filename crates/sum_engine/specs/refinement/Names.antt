@@ -35,7 +35,8 @@ pub record ClosesFile {S : Type 0} (state : S → SourceState) (phase : Phase) (
   pub stdin : KeepsStdin a b
 
 -- between these inputs the names were asked, and the source was refused no memory
-pub record AsksNames {S : Type 0} (state : S → SourceState) (a b : InputsState S) (names : List ByteString) : Type 0 where
+pub record AsksNames {S : Type 0} (state : S → SourceState) (a b : InputsState S) (names : List ByteString)
+    : Type 0 where
   pub asked : AskedMore (state a.source) (state b.source) names
   pub taken : b.stdin_taken ≡ a.stdin_taken || list_any is_dash names
   pub refusals : (state b.source).counts.refusals ≡ (state a.source).counts.refusals

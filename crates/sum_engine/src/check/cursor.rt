@@ -60,7 +60,8 @@ impl<I: Input> CheckCursor<I> {
     ghost use Rattle.std.specs.Prelude.{◌||◌, MatchResult};
     ghost use Rattle.std.specs.List.{list_any};
     ghost use Rattle.sum_engine.specs.Behavior.{is_dash};
-    ghost use Rattle.sum_engine.specs.check.NextVerdict.{counts_after, names_of_result, line_verdict_value, UnlessUnread};
+    ghost use Rattle.sum_engine.specs.check.NextVerdict.{line_verdict_value, counts_after};
+    ghost use Rattle.sum_engine.specs.check.NextVerdict.{names_of_result, UnlessUnread};
     ghost use Rattle.sum_engine.specs.check.Verdicts.{asks_of};
     ghost use Rattle.sum_engine.specs.refinement.FlushedWrites.{WritesAndFlushesBoth};
     ghost use Rattle.sum_engine.specs.refinement.Judging.{found_texts};

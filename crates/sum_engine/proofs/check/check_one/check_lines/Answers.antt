@@ -12,8 +12,8 @@ lines-init g c = search (rules, HasComeTo-none, phase-initial, ReadToEnd-none)
 pub returns-in-Err-clause-behavior : goal.returns-in-Err-clause-behavior
 returns-in-Err-clause-behavior g c =
     let so_far = c.lines.invariant in
-    HasComeTo-last g.I.Input.state g.S.Source.state c.args.checker.now c.args.streams.now c.lines.checker c.step.new.self
-    c.lines.streams c.step.new.streams c.step.new.line.items (Err c.in-Err.stop) c.requires.start so_far.along
+    HasComeTo-last _ _ _ _ _ c.step.new.self _ c.step.new.streams c.step.new.line.items (Err c.in-Err.stop)
+    c.requires.start so_far.along
     (c.in-Err.ensures.advances so_far.going).verdict.cursor.bounds (c.in-Err.ensures.step so_far.going)
 
 -- the end was handled
@@ -21,8 +21,8 @@ pub returns-in-Ok-Ended-clause-behavior : goal.returns-in-Ok-Ended-clause-behavi
 returns-in-Ok-Ended-clause-behavior g c =
     let so_far = c.lines.invariant in
     let step = rw c.in-Ok-Ended.field-0-is at (c.in-Ok-Ended.ensures.step so_far.going) in
-    HasComeTo-last g.I.Input.state g.S.Source.state c.args.checker.now c.args.streams.now c.lines.checker c.step.new.self
-    c.lines.streams c.step.new.streams c.step.new.line.items (Ok c.in-Ok-Ended.good) c.requires.start so_far.along
+    HasComeTo-last _ _ _ _ _ c.step.new.self _ c.step.new.streams c.step.new.line.items (Ok c.in-Ok-Ended.good)
+    c.requires.start so_far.along
     (c.in-Ok-Ended.ensures.advances so_far.going).verdict.cursor.bounds step
 
 -- a good manifest has no file that could not be read
@@ -32,7 +32,8 @@ returns-in-Ok-Ended-clause-read_to_end g c = λ good.
     let is : c.in-Ok-Ended.field-0 ≡ Ended true = rw c.in-Ok-Ended.field-0-is cc in
     let advances = rw is at (c.in-Ok-Ended.ensures.advances so_far.going) in
     let did = advances.verdict in
-    let files = step-files c.lines.checker.cursor c.step.new.self.cursor advances.found did.cursor.counts did.read_to_end in
+    let files =
+    step-files c.lines.checker.cursor c.step.new.self.cursor advances.found did.cursor.counts did.read_to_end in
     let none = step-good c.lines.checker.cursor c.step.new.self.cursor advances.found advances.failed advances.answer in
     let before : c.lines.checker.cursor.counts.unread ≡ 0 = omega (arith, files.0, none) in
     ReadToEnd-trans (so_far.read_to_end before) (files.1 (none ∙ sym before))
@@ -44,10 +45,11 @@ lines-preserved g c =
     let done = c.in-Ok-Going.ensures in
     let advances = rw c.in-Ok-Going.field-0-is at (done.advances so_far.going) in
     let did = advances.verdict in
-    let files = step-files c.lines.checker.cursor c.step.new.self.cursor advances.found did.cursor.counts did.read_to_end in
+    let files =
+    step-files c.lines.checker.cursor c.step.new.self.cursor advances.found did.cursor.counts did.read_to_end in
     record {
-      along = HasComeTo-more g.I.Input.state g.S.Source.state c.args.checker.now c.args.streams.now c.lines.checker
-          c.step.new.self c.lines.streams c.step.new.streams c.step.new.line.items so_far.along advances done.flushed
+      along = HasComeTo-more _ _ _ _ _ c.step.new.self _ c.step.new.streams c.step.new.line.items so_far.along
+          advances done.flushed
           (rw c.in-Ok-Going.field-0-is at (done.step so_far.going));
       going = advances.final_answer;
       so_far = search rules;
@@ -56,6 +58,7 @@ lines-preserved g c =
           let before : c.lines.checker.cursor.counts.unread ≡ 0 = omega (arith, files.0, none) in
           ReadToEnd-trans (so_far.read_to_end before) (files.1 (none ∙ sym before));
       stdin = λ from.
-          KeepsStdin-trans c.args.streams.now.inputs c.lines.streams.inputs c.step.new.streams.inputs (so_far.stdin from)
+          KeepsStdin-trans c.args.streams.now.inputs c.lines.streams.inputs c.step.new.streams.inputs
+          (so_far.stdin from)
           (advances.verdict.stdin (ap (λ r. r.from_stdin) so_far.along.rules ∙ from));
     }

@@ -1,5 +1,4 @@
 use Rattle.std.proofs.Common.{◌≡◌, true, false, ap, rules}
-use Rattle.std.specs.Option.{option_map, option_or}
 use Rattle.sum_engine.specs.Behavior.{is_dash}
 use Rattle.sum_engine.specs.Execution.{InputsState}
 use Rattle.sum_engine.specs.check.Verdicts.{Rules}
@@ -24,9 +23,8 @@ returns-then-is_dash-clause-behavior g c =
       c.take_stdin-input.ensures.content,
       c.take_stdin-input.ensures.taken,
     ) at checked.ensures.behavior in
-    let phase = option_or checked.new.streams.inputs.stdin_phase (option_map (λ i. (g.J.Input.state i).phase) checked.result.1) in
-    rw (c.put_back_stdin.ensures.phase taken) (check_dash g.S.Source.state c.args.settings c.args.tool.now c.args.name.now
-    c.args.streams.now checked.new.streams phase _ dash run)
+    rw (c.put_back_stdin.ensures.phase taken) (check_dash g.S.Source.state c.args.settings c.args.tool.now
+    c.args.name.now c.args.streams.now checked.new.streams _ _ dash run)
 
 -- a good one was read to its end, and so were its files
 pub returns-then-is_dash-clause-read_to_end : goal.returns-then-is_dash-clause-read_to_end
@@ -41,8 +39,9 @@ returns-then-is_dash-clause-read_to_end g c = λ good.
       number = read.number;
       opened = read.opened;
       ended = read.ended;
-      stdin = put_back-whole g.J.Input.state c.args.streams.now.inputs checked.new.streams.inputs c.take_stdin-input.result
-          checked.result.1 c.take_stdin-input.ensures.phase kept (rw made.start.reader at (checked.ensures.phase good));
+      stdin = put_back-whole g.J.Input.state c.args.streams.now.inputs checked.new.streams.inputs
+          c.take_stdin-input.result checked.result.1 c.take_stdin-input.ensures.phase kept
+          (rw made.start.reader at (checked.ensures.phase good));
     })
 
 -- there was no memory to open it

@@ -20,6 +20,8 @@ returns-in_ok-verdict-in-Entry-clause-verdict g c =
     (sym (rw (listed.is, read.form) at read.parsed)) in
     let judged = rw c.deref.ensures.value at c.in_ok-verdict-in-Entry.ensures.verdict in
     rw c.count_verdict-in-Entry.ensures.is (InSomeWorld-map
-    {P = λ w v. JudgeOf old.rules w v (entry s) (Ok c.in_ok-verdict-in-Entry.verdict)} (rw (← c.self.view_is, ← c.self-inside.view_is) judged)
+    {P = λ w v. JudgeOf old.rules w v (entry s) (Ok c.in_ok-verdict-in-Entry.verdict)}
+    (rw (← c.self.view_is, ← c.self-inside.view_is) judged)
     (λ w v is. judged-line old line (entry s) _ _ vector w v _ _ _ said is
-    (rw (← c.self.view_is, ← c.self-inside.view_is) c.count_verdict-in-Entry.ensures.counts) refl (rw (← c.self.view_is, ← c.self-inside.view_is) refl)))
+    (rw (← c.self.view_is, ← c.self-inside.view_is) c.count_verdict-in-Entry.ensures.counts) refl
+    (rw (← c.self.view_is, ← c.self-inside.view_is) refl)))

@@ -20,9 +20,9 @@ returns-in_err-judge_line-in-Ok-Line-clause-verdict g c =
     let is = c.in-Ok-Line.field-0-is in
     let done = c.in_err-judge_line-in-Ok-Line.ensures in
     let stop = err_from_is_err_and c.from_residual.result c.from_residual.ensures.1 in
-    rw (stop.1, stop.2, ← c.self.view_is) (next_verdict-line g.I.Input.state g.S.Source.state _ _ c.next_line.new.self _ _
-    c.next_line.new.line.items c.judge_line.new.line.items (rw is at read.line) (rw is at read.reader.lines) read.bounds
-    c.self.invariant.2 (Err _) done.cursor done.len done.verdict)
+    rw (stop.1, stop.2, ← c.self.view_is) (next_verdict-line g.I.Input.state g.S.Source.state _ _ c.next_line.new.self
+    _ _ c.next_line.new.line.items c.judge_line.new.line.items (rw is at read.line) (rw is at read.reader.lines)
+    read.bounds c.self.invariant.2 (Err _) done.cursor done.len done.verdict)
 
 -- how far the manifest was read: to a line whose file could not be opened
 pub returns-in_err-judge_line-in-Ok-Line-clause-cursor : goal.returns-in_err-judge_line-in-Ok-Line-clause-cursor
