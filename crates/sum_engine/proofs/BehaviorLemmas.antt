@@ -2,9 +2,8 @@
 use Rattle.std.proofs.Common.{rules, ◌≡◌, ℕ, Bool, List, [], ◌∷◌, ◌++◌, Option, Result, Ok, Err, refl, ap, sym, ◌∙◌, subst, append_assoc, append-nil, flat_map, filter_map}
 use Rattle.std.proofs.lemmas.Grind.{flat_map-append}
 use Rattle.std.proofs.lemmas.List.Elements.{filter_map-append}
-use Rattle.sum_sources.specs.Sources.{SourceState}
 use Rattle.sum_engine.specs.Execution.{Stop, Memory, Write, StreamsState, WorldState, in_world, InSomeWorld, Happened, PerformsSteps, Performs}
-use Rattle.sum_engine.specs.Behavior.{World, after, Event, Step, Behavior, trace, events_of, single_step}
+use Rattle.sum_engine.specs.Behavior.{World, after, Event, Step, Behavior, trace, events_of, single_step, SourceState}
 use Rattle.sum_engine.specs.check.CheckerSteps.{step_then}
 use Rattle.sum_engine.specs.check.CheckerLaws.{EventsExtend}
 use Rattle.sum_engine.specs.refinement.FlushedWrites.{WritesAndReturns}

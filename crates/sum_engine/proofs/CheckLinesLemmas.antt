@@ -2,9 +2,8 @@
 -- (`HasComeTo`). A step that goes on keeps this. The step that ends or stops proves the contract by it.
 use Rattle.sum_engine.specs.check.NextVerdict.{VerdictResult, counts_after, UnlessUnread}
 use Rattle.std.proofs.Common.{rules, ◌+◌, ◌<◌, ◌≡◌, ℕ, Bool, List, [], ◌∷◌, length, Option, None, Some, Result, Ok, Err, refl, sym, ◌∙◌, subst, option_map, IfSome, MatchOption, arith, true, ◌≤◌}
-use Rattle.sum_engine.specs.Behavior.{World, Step, Behavior}
+use Rattle.sum_engine.specs.Behavior.{World, Step, Behavior, SourceState}
 use Rattle.sum_sources.specs.Contents.{Content, InputState, clip, limit}
-use Rattle.sum_sources.specs.Sources.{SourceState}
 use Rattle.sum_engine.specs.check.CheckStates.{CheckState, initial_state, IsAtStart, remaining_behavior, CursorValue, state_at, InSomeCheck}
 use Rattle.sum_engine.specs.check.CheckerSteps.{Progress, Going, Ended, StepIs, TakesStep, step_then, progress_before, CheckerValue, AdvancesChecker, step_answer}
 use Rattle.sum_sources.specs.LineReaders.{MayRemain, IsBounded, consumed_count, IsReadSoFar}

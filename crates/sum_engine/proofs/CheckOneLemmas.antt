@@ -3,13 +3,10 @@
 use Rattle.std.proofs.Common.{rules, ◌≡◌, ℕ, Bool, true, false, List, [], ◌∷◌, Option, IfSome, Result, Ok, Err, cond, refl, ap, codes}
 use Rattle.std.proofs.KnownBytes.{Appends-nil}
 use Rattle.std.proofs.Math.Bool.{or-false}
-use Rattle.sum_engine.specs.Behavior.{Fault, World, is_dash, answer_to, after, Step, events_of}
+use Rattle.sum_engine.specs.Behavior.{Fault, World, is_dash, answer_to, after, Step, events_of, SourceState, Answer, Content, InputState, clip}
 use Rattle.sum_sources.specs.declared.sources.source.OpenFault.{OpenFault}
-use Rattle.sum_sources.specs.Contents.{Content, InputState, clip}
-use Rattle.sum_sources.specs.Sources.{SourceState, Answer}
-use Rattle.sum_lines.specs.Escape.{present}
 use Rattle.sum_engine.specs.check.CheckerLaws.{ManifestPerforms}
-use Rattle.sum_engine.specs.check.Verdicts.{Rules}
+use Rattle.sum_engine.specs.check.Verdicts.{Rules, present}
 use Rattle.sum_engine.specs.check.Reports.{LabelsValue}
 use Rattle.sum_engine.specs.check.Checking.{CheckSettings, rules_of, labels_of, check_behavior_by, check_behavior}
 use Rattle.sum_engine.specs.Execution.{Phase, Stop, Memory, InputsState, OutputsState, StreamsState, in_world, InSomeWorld, Happened, PerformsSteps, Performs}

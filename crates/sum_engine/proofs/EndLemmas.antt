@@ -2,9 +2,8 @@
 use Rattle.std.proofs.Common.{rules, ◌≡◌, ℕ, Bool, List, [], length, Option, Some, Result, Ok, ap, sym, arith, if◌then◌else◌}
 use Rattle.sum_sources.specs.declared.fault.Ending.{Ending}
 use Rattle.sum_engine.specs.check.NextVerdict.{LineStop, LineVerdict, HasNoVerdictLeft, NextVerdictIs}
-use Rattle.sum_sources.specs.ManifestLines.{lines, raw_lines}
 use Rattle.sum_sources.proofs.LineLemmas.{pieces-nil, lines-nil}
-use Rattle.sum_engine.specs.check.Verdicts.{Rules}
+use Rattle.sum_engine.specs.check.Verdicts.{Rules, lines, raw_lines}
 use Rattle.sum_engine.specs.check.CheckStates.{CheckState, remaining_verdicts}
 use Rattle.sum_engine.specs.check.CheckerLaws.{ending_answer}
 

@@ -1,8 +1,7 @@
 -- A text that is written and flushed, and one such text after another.
 use Rattle.std.proofs.Common.{rules, ◌≡◌, ℕ, List, [], ◌++◌, Option, Result, Ok, Err, ap, ◌∙◌, append_assoc, subst}
-use Rattle.std.specs.Io.KnownBytes.{Appends}
 use Rattle.std.proofs.KnownBytes.{Appends-nil, Appends-trans}
-use Rattle.sum_lines.specs.sinks.Sinks.{SinkState, Accepts, Flushes}
+use Rattle.sum_lines.specs.sinks.Sinks.{SinkState, Accepts, Flushes, Appends}
 use Rattle.digest_kinds.specs.Limits.{one_more}
 use Rattle.sum_lines.specs.refinement.SinkStates.{AppendsPrefix}
 use Rattle.sum_lines.proofs.SinkLemmas.{Accepts-flush_failed}

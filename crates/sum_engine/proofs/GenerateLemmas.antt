@@ -1,8 +1,7 @@
 -- `generate_one`: the behavior of hashing one name, by the outcome of `hash_name` and what was then written.
 use Rattle.std.proofs.Common.{rules, ◌≡◌, ℕ, Bool, List, [], ◌∷◌, Result, Ok, Err, refl}
 use Rattle.digest_kinds.specs.Kinds.{KindValue}
-use Rattle.sum_engine.specs.Behavior.{Fault, digest_or_fault, Step, single_step}
-use Rattle.sum_sources.specs.Sources.{Answer, SourceState}
+use Rattle.sum_engine.specs.Behavior.{Fault, digest_or_fault, Step, single_step, Answer, SourceState}
 use Rattle.sum_engine.specs.refinement.Names.{AsksNames, HashOutcome, digest_of_outcome, HashesName, IsHashOutcome}
 use Rattle.sum_engine.specs.Generation.{Settings, generate_behavior, generate_behavior_by}
 use Rattle.sum_engine.specs.Execution.{Stop, StreamsState, InSomeWorld, Performs}

@@ -5,16 +5,11 @@ use Rattle.std.proofs.Math.Bool.{and-false, or-true}
 use Rattle.std.proofs.lemmas.List.Elements.{All-head, All-tail}
 use Rattle.std.proofs.lemmas.Slice.Eq.{bytes_eq-Decides}
 use Rattle.sum_engine.specs.check.Reports.{Report, LabelsValue, Counts, out_by, out_of, err_of, counts_of, end_text, good}
-use Rattle.sum_engine.specs.check.Verdicts.{Algos, Form, Right, Rules, LineVerdictValue, verdict_of, judge, verdicts, all_verdicts}
-use Rattle.sum_lines.specs.Escape.{present, escape}
-use Rattle.sum_lines.specs.grammar.Entries.{IsEntry, form}
-use Rattle.sum_engine.specs.Behavior.{Whole, World, answer_to, after, Behavior, out_text, err_text, is_dash}
+use Rattle.sum_engine.specs.check.Verdicts.{Algos, Form, Right, Rules, LineVerdictValue, verdict_of, judge, verdicts, all_verdicts, parse_line, past_line, present, escape, IsEntry, form}
+use Rattle.sum_engine.specs.Behavior.{Whole, World, answer_to, after, Behavior, out_text, err_text, is_dash, Answer}
 use Rattle.sum_sources.specs.Contents.{Content, limit}
-use Rattle.sum_sources.specs.Sources.{Answer}
 use Rattle.sum_sources.proofs.ContentLemmas.{limit-value, clip-short}
 use Rattle.sum_engine.specs.check.CheckerSteps.{step_then}
-use Rattle.sum_lines.specs.grammar.ParsedLines.{parse_line}
-use Rattle.sum_sources.specs.ManifestLines.{past_line}
 use Rattle.sum_engine.specs.check.Checking.{CheckSettings, line_steps, rules_of, labels_of, content_behavior, check_behavior_by, check_behavior}
 use Rattle.sum_lines.proofs.ParsedLineLemmas.{parse_is_grammar}
 use Rattle.sum_engine.proofs.ListedEntryLemmas.{Item, written_text, Listed, prefix, spelled_for, ReadableSoFar, back, whole, lines-are}

@@ -1,9 +1,7 @@
 -- `hash_name`: the outcome of hashing one name, in some world.
 use Rattle.std.proofs.Common.{rules, ◌≡◌, ◌∙◌, ℕ, true, false, List, Option, IfSome, Ok}
 use Rattle.digest_kinds.specs.Kinds.{KindValue}
-use Rattle.sum_sources.specs.Contents.{Content, InputState}
-use Rattle.sum_sources.specs.Sources.{SourceState}
-use Rattle.sum_engine.specs.Behavior.{is_dash}
+use Rattle.sum_engine.specs.Behavior.{is_dash, SourceState, Content, InputState}
 use Rattle.sum_engine.specs.Execution.{InputsState, Phase, InSomeWorld}
 use Rattle.sum_engine.specs.refinement.Names.{HashOutcome, IsHashOutcome, IsRead, HashesName}
 use Rattle.sum_engine.specs.refinement.Names.{stdin_taken_from, OpensFile, ClosesFile}

@@ -1,11 +1,8 @@
 -- `steps_join`: the steps of a new checker, one after another, by induction on the list of their vectors.
 use Rattle.std.proofs.Common.{rules, ◌≡◌, ℕ, zero, suc, ◌+◌, ◌-◌, ◌≤◌, Bool, true, List, [], ◌∷◌, ◌++◌, Ok, append-nil, length, take, drop, refl, ap, sym, ◌∙◌, arith, length-drop, flat_map, slice_index_or}
 use Rattle.std.proofs.lemmas.List.{take-append-drop}
-use Rattle.sum_sources.specs.Contents.{Content}
-use Rattle.sum_sources.specs.ManifestLines.{past_line, past_lines}
-use Rattle.sum_engine.specs.check.Verdicts.{Form, lines_under, Rules, LineVerdictValue, asks_of, verdicts, all_verdicts, judge}
-use Rattle.sum_lines.specs.grammar.ParsedLines.{parse_line}
-use Rattle.sum_engine.specs.Behavior.{World, after, Behavior, trace, events_of, out_text, err_text, asks}
+use Rattle.sum_engine.specs.check.Verdicts.{Form, lines_under, Rules, LineVerdictValue, asks_of, verdicts, all_verdicts, judge, parse_line, past_line, past_lines}
+use Rattle.sum_engine.specs.Behavior.{World, after, Behavior, trace, events_of, out_text, err_text, asks, Content}
 use Rattle.sum_engine.specs.check.Reports.{LabelsValue, out_of, err_of, counts_of, end_text}
 use Rattle.sum_engine.specs.check.Checking.{line_steps, content_behavior}
 use Rattle.sum_engine.specs.Execution.{Write, WorldState, Happened}

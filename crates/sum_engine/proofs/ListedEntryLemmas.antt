@@ -14,9 +14,8 @@ use Rattle.sum_lines.specs.Lines.{line}
 use Rattle.sum_lines.specs.grammar.Entries.{EntryValue, IsEntry, form}
 use Rattle.sum_lines.specs.grammar.LineLaws.{AllowsMode, IsWritable}
 use Rattle.sum_lines.proofs.PutLineLemmas.{prefix_of, read_back}
-use Rattle.sum_engine.specs.Behavior.{Whole, is_dash}
+use Rattle.sum_engine.specs.Behavior.{Whole, is_dash, Answer}
 use Rattle.sum_sources.specs.Contents.{Content, limit}
-use Rattle.sum_sources.specs.Sources.{Answer}
 use Rattle.sum_sources.specs.ManifestLines.{HasNoNewline, lines, raw_lines}
 use Rattle.sum_sources.proofs.CutLemmas.{raw_lines-joined}
 use Rattle.sum_engine.specs.check.OldVerdicts.{HasNoCarriageReturn}

@@ -1,22 +1,17 @@
 -- `CheckCursor::next_verdict`: the next verdict of a manifest, by what reading and judging its line did.
 use Rattle.std.proofs.Common.{rules, ◌≡◌, ◌∙◌, ℕ, ◌+◌, ◌<◌, ◌≤◌, List, [], length, slice_range, Option, None, Some, Result, Ok, Err, refl, inr, ◌∷◌, ap, sym, arith}
 use Rattle.sum_sources.specs.declared.line_reader.LineStop.TheVariants.{Fault, Memory}
-use Rattle.sum_sources.specs.Contents.{Content, InputState, IfKnown}
-use Rattle.sum_sources.specs.Sources.{SourceState}
 use Rattle.sum_sources.specs.declared.line_reader.Next.{Next}
 use Rattle.sum_sources.specs.declared.line_reader.Next.TheVariants.{Line, NoMore}
-use Rattle.sum_sources.specs.declared.line_reader.LineStop.{LineStop}
 use Rattle.sum_sources.specs.LineReaders.{AdvancesLines, IsBounded, ReadsSomeLine, remaining_content, remaining_by, consumed_count}
 use Rattle.sum_sources.specs.ManifestLines.{IsNextLine, lines}
-use Rattle.sum_lines.specs.Escape.{present}
 use Rattle.sum_sources.specs.declared.line_reader.LineReader.{LineReader}
 use Rattle.sum_sources.proofs.LineLemmas.{line-some}
 use Rattle.sum_sources.proofs.RemainLemmas.{MayRemain-known}
-use Rattle.sum_lines.specs.grammar.ParsedLines.{ParsedLine}
 use Rattle.sum_engine.specs.check.Reports.{Counts}
-use Rattle.sum_engine.specs.check.NextVerdict.{LineVerdict, line_verdict_value, HasNoVerdictLeft, FindsVerdict, VerdictResult, counts_after, AdvancesCursor, MemoryStopHasCause}
-use Rattle.sum_engine.specs.check.Verdicts.{Verdict, Rules, lines_under}
-use Rattle.sum_engine.specs.Behavior.{Ending, Whole, Broken, World}
+use Rattle.sum_engine.specs.check.NextVerdict.{LineVerdict, line_verdict_value, HasNoVerdictLeft, FindsVerdict, VerdictResult, counts_after, AdvancesCursor, MemoryStopHasCause, LineStop}
+use Rattle.sum_engine.specs.check.Verdicts.{Verdict, Rules, lines_under, present, ParsedLine}
+use Rattle.sum_engine.specs.Behavior.{Ending, Whole, Broken, World, SourceState, Content, InputState, IfKnown}
 use Rattle.sum_engine.specs.Execution.{InputsState, InSomeWorld}
 use Rattle.sum_engine.specs.check.CheckStates.{CursorValue, counts_with, state_at, InSomeCheck, CheckState, HandlesLine, next_judged}
 use Rattle.sum_engine.specs.refinement.Names.{NoRoom}

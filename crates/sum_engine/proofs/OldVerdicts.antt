@@ -2,15 +2,11 @@
 use Rattle.std.proofs.Common.{rules, ◌≡◌, ℕ, ◌+◌, ◌<◌, List, [], ◌∷◌, length, map, refl, ap, sym, subst, append_assoc, ◌++◌, All, flat_map, Ok, Err}
 use Rattle.std.proofs.lemmas.List.Elements.{All-nil, All-cons, All-head, All-tail}
 use Rattle.sum_engine.specs.check.Reports.{Report, LabelsValue, Counts, out_by, err_by, end_text}
-use Rattle.sum_engine.specs.Behavior.{Ending, Whole, Broken, World, after}
-use Rattle.sum_sources.specs.Contents.{Content, clip}
+use Rattle.sum_engine.specs.Behavior.{Ending, Whole, Broken, World, after, Content, clip}
 use Rattle.sum_sources.specs.ManifestLines.{raw_lines, last_line, past_line, bytes_of_lines}
 use Rattle.sum_sources.proofs.CutLemmas.{cut, raw_lines-joined}
-use Rattle.sum_engine.specs.check.Verdicts.{Algos, Form, Verdict, lines_under, Rules, LineVerdictValue, judge, asks_of, verdicts, all_verdicts}
-use Rattle.sum_lines.specs.grammar.Entries.{form}
-use Rattle.sum_lines.specs.Escape.{present}
+use Rattle.sum_engine.specs.check.Verdicts.{Algos, Form, Verdict, lines_under, Rules, LineVerdictValue, judge, asks_of, verdicts, all_verdicts, form, present, ParsedLine, bad, parse_line}
 use Rattle.sum_engine.specs.check.CheckerSteps.{step_then}
-use Rattle.sum_lines.specs.grammar.ParsedLines.{ParsedLine, bad, parse_line}
 use Rattle.sum_engine.specs.check.Checking.{line_steps, content_behavior}
 use Rattle.sum_engine.specs.check.OldVerdicts.{older, rules_under, HasNoCarriageReturn, NamesNoCarriageReturn, IsOldManifest, OldVerdicts, OldOutcomes, OlderDiffers}
 use Rattle.sum_lines.proofs.ParsedLineLemmas.{parse_is_grammar}

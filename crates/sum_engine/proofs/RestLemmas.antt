@@ -1,12 +1,8 @@
 -- The verdicts and the behavior that remain, after one line and the next.
 use Rattle.std.proofs.Common.{rules, ◌≡◌, ℕ, zero, suc, ◌+◌, Bool, List, [], ◌∷◌, length, refl}
-use Rattle.sum_sources.specs.Contents.{Content}
-use Rattle.sum_sources.specs.ManifestLines.{past_line, past_lines}
-use Rattle.sum_lines.specs.grammar.Entries.{form, form_then, line_form}
 use Rattle.sum_lines.proofs.FormLemmas.{form_next, parse_stays}
-use Rattle.sum_engine.specs.Behavior.{after, Ending, Step, Behavior}
-use Rattle.sum_engine.specs.check.Verdicts.{lines_under, Rules, LineVerdictValue, asks_of, verdicts}
-use Rattle.sum_lines.specs.grammar.ParsedLines.{parse_line}
+use Rattle.sum_engine.specs.Behavior.{after, Ending, Step, Behavior, Content}
+use Rattle.sum_engine.specs.check.Verdicts.{lines_under, Rules, LineVerdictValue, asks_of, verdicts, parse_line, past_line, past_lines, form, form_then, line_form}
 use Rattle.sum_engine.specs.check.Reports.{LabelsValue, Counts, counts_of, out_of, err_of, end_text, good}
 use Rattle.sum_engine.specs.check.Checking.{line_steps}
 use Rattle.sum_engine.specs.check.CheckStates.{counts_with, counts_then, CheckState, HandlesLine, next_judged, remaining_verdicts, remaining_behavior}

@@ -1,11 +1,8 @@
 -- `same_front`: later lines have no part in what a line says, by induction on the lines before it.
 use Rattle.std.proofs.Common.{rules, ◌≡◌, ℕ, ◌+◌, List, [], ◌∷◌, ◌++◌, length, take, refl, sym, ◌∙◌, append_assoc, length-append}
-use Rattle.sum_engine.specs.check.Verdicts.{Algos, Form, Rules, LineVerdictValue, judge, asks_of, verdicts}
+use Rattle.sum_engine.specs.check.Verdicts.{Algos, Form, Rules, LineVerdictValue, judge, asks_of, verdicts, parse_line, present, escape, EntryValue, IsEntry, form, form_then, line_form}
 use Rattle.sum_lines.specs.declared.reading.read_line.Form.TheVariants.{Undecided}
-use Rattle.sum_lines.specs.grammar.Entries.{EntryValue, IsEntry, form, form_then, line_form}
 use Rattle.sum_engine.specs.Behavior.{World, after}
-use Rattle.sum_lines.specs.Escape.{present, escape}
-use Rattle.sum_lines.specs.grammar.ParsedLines.{parse_line}
 use Rattle.sum_engine.specs.check.CheckerLaws.{SameFront}
 use Rattle.sum_lines.proofs.ParsedLineLemmas.{parse_is_grammar}
 use Rattle.sum_lines.proofs.FormLemmas.{form_next, parse_stays, same_parse, same_form}

@@ -2,9 +2,8 @@
 use Rattle.std.proofs.Common.{◌≡◌, ℕ, ◌+◌, ◌^◌, ◌<◌, Bool, true, false, is_err, option_map, if◌then◌else◌, List, [], length, Option, None, Some, MatchOption, Result, Ok, Err, inl, inr, ◌⊎◌, refl, ap, ◌∙◌, rules, arith}
 use Rattle.sum_sources.specs.declared.line_reader.LineReader.{LineReader}
 use Rattle.sum_sources.proofs.ContentLemmas.{limit-value}
-use Rattle.sum_engine.specs.Behavior.{Ending, Whole, Broken, Fault, World, Step, Behavior, events_of}
+use Rattle.sum_engine.specs.Behavior.{Ending, Whole, Broken, Fault, World, Step, Behavior, events_of, SourceState}
 use Rattle.sum_sources.specs.Contents.{Content, InputState, empty_content, limit}
-use Rattle.sum_sources.specs.Sources.{SourceState}
 use Rattle.sum_sources.specs.LineReaders.{remaining_content, MayRemain, IsBounded, consumed_count}
 use Rattle.sum_engine.specs.check.Reports.{LabelsValue, end_text, good}
 use Rattle.sum_engine.specs.check.Verdicts.{Rules, asks_of}

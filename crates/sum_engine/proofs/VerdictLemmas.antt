@@ -1,10 +1,8 @@
 -- `judge`: the verdict of an entry, by the outcome of hashing its name.
 use Rattle.std.proofs.Common.{rules, ◌≡◌, ◌&&◌, Bool, false, [], ◌∷◌, Ok}
-use Rattle.sum_lines.specs.grammar.Entries.{EntryValue}
 use Rattle.sum_engine.specs.refinement.Names.{HashOutcome, HashesName}
-use Rattle.sum_engine.specs.check.Verdicts.{Verdict, Rules, asks_by}
+use Rattle.sum_engine.specs.check.Verdicts.{Verdict, Rules, asks_by, EntryValue, entry}
 use Rattle.sum_engine.specs.Behavior.{World, is_dash}
-use Rattle.sum_lines.specs.grammar.ParsedLines.{entry}
 use Rattle.sum_engine.specs.refinement.Judging.{JudgeOf, verdict_of_outcome}
 
 -- an entry's verdict, by the outcome of hashing its name

@@ -1,11 +1,10 @@
 -- Asking names one after another, and worlds before and after.
 use Rattle.std.proofs.Common.{rules, ◌≡◌, ◌∙◌, ap, refl, ℕ, Bool, true, false, if◌then◌else◌, List, [], ◌∷◌, ◌++◌, Option, None, Some, IfSome, Ok, Err, append_assoc, append-nil}
 use Rattle.std.proofs.lemmas.List.Elements.{filter-append}
-use Rattle.sum_sources.specs.Contents.{Content, empty_content, IfKnown, InputState}
 use Rattle.sum_sources.specs.Sources.{KnownSource, Answer, SourceState, AsksName}
 use Rattle.sum_sources.specs.declared.sources.source.OpenFault.TheVariants as faults
 use Rattle.sum_sources.proofs.KnownLemmas.{IfKnown-then}
-use Rattle.sum_engine.specs.Behavior.{Fault, World, is_dash, answer_to, after_one, after}
+use Rattle.sum_engine.specs.Behavior.{Fault, World, is_dash, answer_to, after_one, after, Content, empty_content, IfKnown, InputState}
 use Rattle.sum_engine.specs.Execution.{InputsState, Phase, KeepsStdin, InSomeWorld, AskedMore}
 use Rattle.sum_engine.specs.refinement.Names.{stdin_taken_from, OpensFile, ClosesFile}
 

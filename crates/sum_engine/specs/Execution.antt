@@ -1,11 +1,10 @@
 -- The state of a call's streams, and what a call performs of a behavior: the form of the headline.
 use Rattle.std.specs.Prelude.{ℕ, ◌≡◌, ◌⊎◌, zero, suc, Bool, true, false, [], Option, Some, IfSome, Result, Err, ◌<◌, ◌||◌, List, ◌∷◌, ◌++◌, filter, not, filter_map, Ok}
 use Rattle.std.specs.List.{list_any}
-use Rattle.std.specs.Io.KnownBytes.{Appends}
 use Rattle.digest_kinds.specs.Limits.{one_more}
 pub use Rattle.sum_sources.specs.declared.inputs.phase.Phase.{Phase}
 pub use Rattle.sum_sources.specs.declared.inputs.phase.Phase.TheVariants.{Unfinished, AtEnd}
-use Rattle.sum_lines.specs.sinks.Sinks.{SinkState, IsPrefix}
+use Rattle.sum_lines.specs.sinks.Sinks.{SinkState, IsPrefix, Appends}
 pub use Rattle.sum_engine.specs.declared.streams.Streams.{Streams}
 pub use Rattle.sum_engine.specs.declared.stop.Stop.{Stop}
 pub use Rattle.sum_engine.specs.declared.stop.Stop.TheVariants.{Memory, Write}

@@ -1,12 +1,9 @@
 -- The states of a manifest's check: what remains of it, and what was found so far.
 use Rattle.std.specs.Prelude.{ℕ, ◌≡◌, ◌+◌, ◌≤◌, List, [], ◌∷◌, length, None, option_map}
 use Rattle.sum_sources.specs.declared.line_reader.LineReader.{LineReader}
-use Rattle.sum_sources.specs.ManifestLines.{past_line}
 use Rattle.sum_sources.specs.LineReaders.{remaining_content, MayRemain, consumed_count}
 use Rattle.sum_lines.specs.declared.reading.read_line.Form.TheVariants.{Undecided}
-use Rattle.sum_lines.specs.grammar.Entries.{form_then, line_form, form}
-use Rattle.sum_lines.specs.grammar.ParsedLines.{parse_line}
-use Rattle.sum_engine.specs.check.Verdicts.{Form, Verdict, Ignored, Bad, Right, Wrong, Missing, Unread, lines_under, Rules, LineVerdictValue, judge, verdicts}
+use Rattle.sum_engine.specs.check.Verdicts.{Form, Verdict, Ignored, Bad, Right, Wrong, Missing, Unread, lines_under, Rules, LineVerdictValue, judge, verdicts, past_line, parse_line, form_then, line_form, form}
 use Rattle.sum_engine.specs.Execution.{InputsState, MayBeIn}
 use Rattle.sum_engine.specs.check.Reports.{LabelsValue, Counts, counts_of, entries, end_text, good}
 use Rattle.sum_engine.specs.Behavior.{ByteString, World, Behavior, Content, InputState, clip, SourceState}

@@ -3,13 +3,10 @@ use Rattle.std.specs.Prelude.{ℕ, ◌≡◌, ◌+◌, ◌≤◌, ◌↔◌, Boo
 use Rattle.std.specs.Io.KnownBytes.{Appends}
 use Rattle.digest_kinds.specs.Kinds.{KindValue}
 use Rattle.sum_sources.specs.declared.line_reader.LineStop.TheVariants.{Fault}
-use Rattle.sum_sources.specs.ManifestLines.{past_lines}
-use Rattle.sum_lines.specs.Escape.{escape}
 use Rattle.sum_lines.specs.grammar.Shapes.{IsPlain}
-use Rattle.sum_lines.specs.grammar.Entries.{EntryValue, IsEntry, form}
 use Rattle.sum_engine.specs.Execution.{Stop, Write, StreamsState, WorldState, IsFlushed, InSomeWorld, in_world, AskedMore, Happened, PrefixHappened, PerformsSteps}
 use Rattle.sum_engine.specs.Behavior.{ByteString, after, Behavior, trace, out_text, err_text, asks, Ending, Whole, Broken, World, Content, clip, SourceState}
-use Rattle.sum_engine.specs.check.Verdicts.{lines_under, Rules, LineVerdictValue, asks_of, all_verdicts, verdicts}
+use Rattle.sum_engine.specs.check.Verdicts.{lines_under, Rules, LineVerdictValue, asks_of, all_verdicts, verdicts, past_lines, escape, EntryValue, IsEntry, form}
 use Rattle.sum_engine.specs.check.Reports.{LabelsValue, out_of, err_of, counts_of, end_text, good}
 use Rattle.sum_engine.specs.check.Checking.{content_behavior}
 use Rattle.sum_engine.specs.check.CheckStates.{CheckState, initial_state}

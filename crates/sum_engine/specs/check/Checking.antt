@@ -1,9 +1,7 @@
 -- The behavior of checking one manifest.
 use Rattle.std.specs.Prelude.{true, false, List, [], ◌∷◌, length, codes, Bool, if◌then◌else◌, Ok, Err}
-use Rattle.sum_sources.specs.ManifestLines.{past_line}
-use Rattle.sum_engine.specs.check.Verdicts.{Rules, LineVerdictValue, asks_of, all_verdicts}
+use Rattle.sum_engine.specs.check.Verdicts.{Rules, LineVerdictValue, asks_of, all_verdicts, past_line, present}
 use Rattle.sum_engine.specs.Behavior.{ByteString, World, is_dash, answer_to, after, behavior_then, Step, Behavior, single_step, Content, clip, Answer}
-use Rattle.sum_lines.specs.Escape.{present}
 use Rattle.sum_engine.specs.Generation.{name_fault_line}
 pub use Rattle.sum_engine.specs.declared.settings.CheckSettings.{CheckSettings}
 use Rattle.sum_engine.specs.check.Reports.{LabelsValue, out_of, err_of, counts_of, end_text, good}

@@ -2,11 +2,7 @@
 use Rattle.std.specs.Prelude.{◌≡◌, ◌≢◌, ◌<◌, false, [], ◌∷◌, length, map, codes, All, Ok}
 use Rattle.sum_engine.specs.check.Reports.{LabelsValue, out_of, err_of, counts_of, end_text, good}
 use Rattle.sum_engine.specs.Behavior.{ByteString, Whole, World, Content, clip, Answer}
-use Rattle.sum_sources.specs.ManifestLines.{raw_lines}
-use Rattle.sum_engine.specs.check.Verdicts.{Algos, Form, lines_under, Rules, all_verdicts}
-use Rattle.sum_lines.specs.Escape.{Profile, present, escape, escape_by}
-use Rattle.sum_lines.specs.grammar.Entries.{EntryValue, IsEntry, form}
-use Rattle.sum_lines.specs.grammar.ParsedLines.{bad, parse_line}
+use Rattle.sum_engine.specs.check.Verdicts.{Algos, Form, lines_under, Rules, all_verdicts, raw_lines, bad, parse_line, EntryValue, IsEntry, form, Profile, present, escape, escape_by}
 use Rattle.sum_engine.specs.check.Checking.{check_behavior_by}
 
 -- the profile of older versions

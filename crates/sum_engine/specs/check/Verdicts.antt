@@ -3,13 +3,13 @@ use Rattle.std.specs.Prelude.{ℕ, ◌+◌, ◌&&◌, Bool, true, false, List, [
 pub use Rattle.digest_kinds.specs.declared.algo.Algos.{Algos}
 use Rattle.sum_engine.specs.Behavior.{ByteString, Fault, World, is_dash, answer_to, after, digest_or_fault, Content, Answer}
 use Rattle.sum_sources.specs.declared.fault.Fault.TheVariants.{NotFound}
-use Rattle.sum_sources.specs.ManifestLines.{lines, raw_lines}
+pub use Rattle.sum_sources.specs.ManifestLines.{lines, raw_lines, past_line, past_lines}
 pub use Rattle.sum_lines.specs.declared.reading.read_line.Form.{Form}
-use Rattle.sum_lines.specs.grammar.Entries.{EntryValue, form}
+pub use Rattle.sum_lines.specs.grammar.Entries.{EntryValue, IsEntry, form, form_then, line_form}
 pub use Rattle.sum_engine.specs.declared.check.judge.Verdict.{Verdict}
 pub use Rattle.sum_engine.specs.declared.check.judge.Verdict.TheVariants.{Ignored, Bad, Right, Wrong, Missing, Unread}
-use Rattle.sum_lines.specs.Escape.{Profile}
-use Rattle.sum_lines.specs.grammar.ParsedLines.{ParsedLine, ignored, bad, entry, parse_line}
+pub use Rattle.sum_lines.specs.Escape.{Profile, present, escape, escape_by}
+pub use Rattle.sum_lines.specs.grammar.ParsedLines.{ParsedLine, ignored, bad, entry, parse_line}
 
 -- by what a manifest's lines are judged
 pub record Rules : Type 0 where

@@ -1,8 +1,6 @@
 -- Relates writing a text and flushing it to what a step writes, by outputs that are flushed before.
 use Rattle.std.specs.Prelude.{◌≡◌, ◌⊎◌, [], Result, Ok, Err, MatchResult, ⊤}
-use Rattle.digest_kinds.specs.Basics.{ByteString}
-use Rattle.std.specs.Io.KnownBytes.{Appends}
-use Rattle.sum_lines.specs.sinks.Sinks.{SinkState}
+use Rattle.sum_lines.specs.sinks.Sinks.{SinkState, ByteString, Appends}
 use Rattle.digest_kinds.specs.Limits.{one_more}
 use Rattle.sum_lines.specs.refinement.SinkStates.{AppendsPrefix}
 use Rattle.sum_engine.specs.Execution.{OutputsState, IsFlushed, HasNoFailure, HasOneFailure, Stop, Write}

@@ -1,11 +1,9 @@
 -- Relates what the code finds of a line to what the line says, to its verdict and to its report.
 use Rattle.std.specs.Prelude.{ℕ, ◌≡◌, Bool, [], None, Some, Result, Ok, Err, if◌then◌else◌, bytes_eq}
 use Rattle.sum_sources.specs.declared.fault.Fault.TheVariants.{NotFound}
-use Rattle.sum_lines.specs.grammar.Entries.{EntryValue, form_then, line_form}
 use Rattle.sum_engine.specs.declared.check.judge.ListedEntry.{ListedEntry}
 use Rattle.sum_engine.specs.refinement.Names.{HashOutcome, NoRoom}
-use Rattle.sum_engine.specs.check.Verdicts.{Verdict, Right, Wrong, Missing, Unread, Rules, judge, asks_by, asks_of}
-use Rattle.sum_lines.specs.grammar.ParsedLines.{ParsedLine, ignored, bad, entry, parse_line}
+use Rattle.sum_engine.specs.check.Verdicts.{Verdict, Right, Wrong, Missing, Unread, Rules, judge, asks_by, asks_of, EntryValue, form_then, line_form, ParsedLine, ignored, bad, entry, parse_line}
 use Rattle.sum_engine.specs.Behavior.{ByteString, Whole, Broken, World, after}
 use Rattle.sum_engine.specs.check.Reports.{LabelsValue, Counts, err_of, out_of, end_text}
 use Rattle.sum_engine.specs.check.NextVerdict.{LineVerdict, VerdictResult, line_verdict_value}
