@@ -13,14 +13,14 @@ no_lines : (drops : Bool) (e : Ending)
 no_lines drops e = search (rules, lines-nil, pieces-nil)
 
 -- nor a verdict
-none_left : (r : Rules) (e : Ending) (b : CheckState) → b.rest ≡ record { bytes = []; ending = e }
+none_left : (r : Rules) (e : Ending) (b : CheckState) → b.remaining ≡ record { bytes = []; ending = e }
     → remaining_verdicts r b ≡ []
-none_left r e b rest = search (rules, no_lines)
+none_left r e b remaining = search (rules, no_lines)
 
 pub end_stays : (r : Rules) (e : Ending) (vector : List ℕ) (a b c : CheckState)
     (x : Result (Option LineVerdict) LineStop)
     → HasNoVerdictLeft r e a b → NextVerdictIs r vector b c x → x ≡ ending_answer e
 end_stays r e vector a b c (Ok (Some v)) ended found =
-    let size : 0 ≡ length (remaining_verdicts r b) = ap length (sym (none_left r e b ended.rest)) in
+    let size : 0 ≡ length (remaining_verdicts r b) = ap length (sym (none_left r e b ended.remaining)) in
     absurd (omega (arith, size, ap length found.0.first))
 end_stays r e vector a b c x ended found = search rules

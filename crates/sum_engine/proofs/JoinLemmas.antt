@@ -9,7 +9,7 @@ use Rattle.sum_engine.specs.Execution.{Write, WorldState, Happened}
 use Rattle.sum_engine.specs.check.CheckStates.{CheckState, counts_then, remaining_verdicts, remaining_behavior, initial_state}
 use Rattle.sum_engine.specs.check.CheckerSteps.{Going, Ended, StepIs, step_then, progress_before}
 use Rattle.sum_engine.specs.check.CheckerLaws.{StepsGoing, StepsJoin, EndsManifest}
-use Rattle.sum_engine.proofs.RestLemmas.{past_next}
+use Rattle.sum_engine.proofs.RemainingLemmas.{past_next}
 use Rattle.sum_engine.proofs.ExecutionLemmas.{Happened-none, err-by, out-by, names-by}
 use Rattle.sum_engine.proofs.BehaviorLemmas.{HasDoneUpTo, done_stops, behavior_then-happened, events_extend}
 use Rattle.sum_engine.proofs.CheckLinesLemmas.{remaining-initial, none_left, done_last}
@@ -69,12 +69,12 @@ module _ (r : Rules) (labels : LabelsValue) (c : Content) (s : WorldState) where
 
   -- exactly the first k steps happened, and the others remain; the bytes consumed are those up to the end of line k
   pub record After (b : CheckState) (t : WorldState) (k : ℕ) : Type 0 where
-    pub rest : b.rest ≡ past_lines k c
-    pub lines : lines_under r.profile b.rest ≡ drop k (lines_under r.profile c)
+    pub remaining : b.remaining ≡ past_lines k c
+    pub lines : lines_under r.profile b.remaining ≡ drop k (lines_under r.profile c)
     pub consumed : b.consumed + length (past_lines k c).bytes ≡ length c.bytes
     pub taken : b.taken ≤ b.consumed + 8192
     pub done : Happened s t (trace (take k whole.steps))
-    pub remaining : (remaining_behavior r labels b).steps ≡ drop k whole.steps
+    pub steps : (remaining_behavior r labels b).steps ≡ drop k whole.steps
     pub good : (remaining_behavior r labels b).good ≡ whole.good
 
   -- no step yet
@@ -87,18 +87,18 @@ module _ (r : Rules) (labels : LabelsValue) (c : Content) (s : WorldState) where
   after_more {b} {d} {t} {z} {v} {k} h step =
       let moves = (step.going refl).1 in
       let is = step.is ∙ ap (step_then step.step) (step.going refl).0 in
-      let remaining = drop_next k whole.steps (remaining_behavior r labels d).steps step.step
-      (sym h.remaining ∙ ap (λ (q : Behavior). q.steps) is) in
-      let rest = moves.rest ∙ ap past_line h.rest ∙ past_next k c in
-      let line = drop_next k (lines_under r.profile c) (lines_under r.profile d.rest) moves.line
+      let steps = drop_next k whole.steps (remaining_behavior r labels d).steps step.step
+      (sym h.steps ∙ ap (λ (q : Behavior). q.steps) is) in
+      let remaining = moves.remaining ∙ ap past_line h.remaining ∙ past_next k c in
+      let line = drop_next k (lines_under r.profile c) (lines_under r.profile d.remaining) moves.line
       (sym h.lines ∙ moves.lines) in
       record {
-        rest = rest;
+        remaining = remaining;
         lines = sym line.0;
-        consumed = search (rules, rest);
+        consumed = search (rules, remaining);
         taken = moves.taken;
-        done = rw remaining.1 (behavior_then-happened (take k whole.steps) (step.step ∷ []) h.done step.performs.1);
-        remaining = sym remaining.0;
+        done = rw steps.1 (behavior_then-happened (take k whole.steps) (step.step ∷ []) h.done step.performs.1);
+        steps = sym steps.0;
         good = sym (ap (λ (q : Behavior). q.good) is) ∙ h.good;
       }
 
@@ -119,16 +119,16 @@ module _ (r : Rules) (labels : LabelsValue) (c : Content) (s : WorldState) where
   few : {b : CheckState} {t : WorldState} {k : ℕ} → After b t k → k ≤ length js
   few {b} {t} {k} h =
       let ks = remaining_verdicts r b in
-      let text = end_text r labels b.rest.ending (counts_then b.counts (counts_of ks)) in
-      let left = ap length h.remaining ∙ length-drop k whole.steps in
-      omega (arith, left, length_steps r labels text b.rest ks, length_steps r labels end c js)
+      let text = end_text r labels b.remaining.ending (counts_then b.counts (counts_of ks)) in
+      let left = ap length h.steps ∙ length-drop k whole.steps in
+      omega (arith, left, length_steps r labels text b.remaining ks, length_steps r labels end c js)
 
   -- the step that ends
   ends : {b : CheckState} {t : WorldState} {k : ℕ} → After b t k → (outcome : Bool) (vector : List ℕ) (d : CheckState)
       (z : WorldState) → StepIs r labels vector b d t z (Ok (Ended outcome)) → EndsManifest r labels c js k t z outcome
   ends {b} {t} {k} h outcome vector d z e =
       let none = none_left e.later.steps e.later.good outcome e.performs.0 in
-      let last = sym h.remaining ∙ ap (λ (q : Behavior). q.steps) e.is ∙ ap (λ steps. e.step ∷ steps) none.0 in
+      let last = sym h.steps ∙ ap (λ (q : Behavior). q.steps) e.is ∙ ap (λ steps. e.step ∷ steps) none.0 in
       let one : length whole.steps - k ≡ 1 = sym (length-drop k whole.steps) ∙ ap length last in
       let number : k ≡ length js = omega (arith, one, length_steps r labels end c js) in
       let step = last_step r labels end c js in
@@ -141,7 +141,7 @@ module _ (r : Rules) (labels : LabelsValue) (c : Content) (s : WorldState) where
 -- no vector is longer than its line
 vectors_fit : (r : Rules) (labels : LabelsValue) (a b : CheckState) (s t : WorldState) (vectors : List (List ℕ))
     → StepsGoing r labels a b s t vectors → (i : ℕ)
-    → length (slice_index_or vectors i []) ≤ length (slice_index_or (lines_under r.profile a.rest) i [])
+    → length (slice_index_or vectors i []) ≤ length (slice_index_or (lines_under r.profile a.remaining) i [])
 vectors_fit r labels a b s t [] is i = omega arith
 vectors_fit r labels a b s t (v ∷ vectors) more zero =
     let moves = (more.2.going refl).1 in

@@ -6,7 +6,7 @@ pub mod GenerateLemmas
 pub mod FlushedWriteLemmas
 pub mod VerdictLemmas
 pub mod CountLemmas
-pub mod RestLemmas
+pub mod RemainingLemmas
 pub mod StepLemmas
 pub mod EndLemmas
 pub mod NextVerdictLemmas

@@ -16,7 +16,7 @@ use Rattle.sum_engine.specs.Execution.{InputsState, InSomeWorld}
 use Rattle.sum_engine.specs.check.CheckStates.{CursorValue, counts_with, state_at, InSomeCheck, CheckState, HandlesLine, next_judged}
 use Rattle.sum_engine.specs.refinement.Names.{NoRoom}
 use Rattle.sum_engine.specs.refinement.Judging.{JudgeOf, name_in_line, TakesLine, JudgeLineOf, parsed_at, found_verdict}
-use Rattle.sum_engine.proofs.RestLemmas.{rest_on}
+use Rattle.sum_engine.proofs.RemainingLemmas.{remaining_next}
 use Rattle.sum_engine.proofs.StepLemmas.{some_remains}
 
 -- the lines of a content under the present profile
@@ -67,7 +67,7 @@ module _ {I S : Type 0} (input : I → InputState) (source : S → SourceState) 
       let handled : HandlesLine p.rules first last vector = record {
         line = line;
         lines = lines_now p.rules c now ∙ next.0 ∙ ap (λ l. line ∷ l) (sym (lines_now p.rules d now));
-        rest = next.1;
+        remaining = next.1;
         consumed = consumed;
         taken = omega (arith, bounds.ahead);
         number = number;
@@ -75,7 +75,7 @@ module _ {I S : Type 0} (input : I → InputState) (source : S → SourceState) 
         counts = search (rules, f.2, is);
         vector_len = few;
       } in
-      (search (rules, rest_on p.rules first last vector handled, is, f.1), handled)))
+      (search (rules, remaining_next p.rules first last vector handled, is, f.1), handled)))
   next_verdict-line (Err e) takes few judged =
       rw takes.reader (made judged (λ c d w v next consumed same. (same, line-some c d line next)))
 
@@ -103,7 +103,7 @@ module _ {I S : Type 0} (input : I → InputState) (source : S → SourceState) 
             ending = ended.1;
             world = refl;
             counts = counts;
-            rest = rw (final, left _) at may;
+            remaining = rw (final, left _) at may;
           },
         );
   }

@@ -17,7 +17,7 @@ use Rattle.sum_engine.specs.refinement.FlushedWrites.{outcome_after, WritesAndFl
 use Rattle.sum_engine.specs.refinement.Names.{AsksNames}
 use Rattle.sum_engine.proofs.ExecutionLemmas.{asks_in, HappenedOrPrefix, step_performed, HappenedOrPrefix-by, refused_first}
 use Rattle.sum_engine.proofs.CountLemmas.{counts_then-nil}
-use Rattle.sum_engine.proofs.RestLemmas.{line_step, behavior_by, first_step, found_first, going-before}
+use Rattle.sum_engine.proofs.RemainingLemmas.{line_step, behavior_by, first_step, found_first, going-before}
 use Rattle.sum_sources.specs.declared.line_reader.LineStop.TheVariants as line_stops
 
 -- ---- the states of a check, in some world
@@ -141,7 +141,7 @@ module _ {I S : Type 0} {input : I → InputState} {state : S → SourceState} {
         let next = state_at q d v in
         step_by p.rules labels first next (in_world state a w) (in_world state b v) vector
         (line_step p.rules labels (length c.bytes) j) (remaining_behavior p.rules labels next) Going said.written
-        (found_first p.rules labels first next j f.0.first f.0.counts f.1.rest) (going-before p.rules labels next)
+        (found_first p.rules labels first next j f.0.first f.0.counts f.1.remaining) (going-before p.rules labels next)
         (HappenedOrPrefix-by _ _ (asks_of j) _ _ said.written (asks_in state a b asked f.0.world)
         (said.writes.1 flushed).1)
         (λ is. (refl, f.1))))

@@ -7,7 +7,7 @@ ghost use Rattle.sum_engine.specs.refinement.Names.{stdin_taken_from, OpensFile,
 use std::marker::Model;
 use sum_sources::{Given, Input, OpenFault, Source, Stdin};
 
-/// Standard input, and where files are opened by their names.
+/// Standard input, and the source of files.
 #[derive(Debug, Drop)]
 pub struct Inputs<I: Input, S> {
     /// Standard input.

@@ -37,7 +37,7 @@ total c = entries c + c.bad
 -- the state of a manifest's check: what remains of it, the lines handled, the bytes that these consumed and those that
 -- its input has given, the form and the counts so far, and the world
 pub record CheckState : Type 0 where
-  pub rest : Content
+  pub remaining : Content
   pub number : ℕ
   pub consumed : ℕ
   pub taken : ℕ
@@ -48,7 +48,7 @@ pub record CheckState : Type 0 where
 -- before the first line
 abbrev pub initial_state : Content → World → CheckState
 initial_state c w =
-    record { rest = c; number = 0; consumed = 0; taken = 0; form = Undecided; counts = no_counts; world = w }
+    record { remaining = c; number = 0; consumed = 0; taken = 0; form = Undecided; counts = no_counts; world = w }
 
 -- the next line's verdict
 abbrev pub next_judged : Rules → CheckState → ByteString → LineVerdictValue
@@ -58,7 +58,7 @@ next_judged r a l =
 -- the verdicts of the lines that remain
 abbrev pub remaining_verdicts : Rules → CheckState → List LineVerdictValue
 remaining_verdicts r a =
-    let ls = lines_under r.profile a.rest in
+    let ls = lines_under r.profile a.remaining in
     verdicts r (form_then a.form (form r.algo ls)) a.world a.number ls
 
 -- the behavior that remains
@@ -67,16 +67,16 @@ remaining_behavior r labels a =
     let js = remaining_verdicts r a in
     let counts = counts_then a.counts (counts_of js) in
     record {
-      steps = line_steps r labels (end_text r labels a.rest.ending counts) a.rest js;
-      good = good r a.rest.ending counts;
+      steps = line_steps r labels (end_text r labels a.remaining.ending counts) a.remaining js;
+      good = good r a.remaining.ending counts;
     }
 
 -- one line was handled; the line's vector then holds this
 pub record HandlesLine (r : Rules) (a b : CheckState) (vector : ByteString) : Type 0 where
   pub line : ByteString
-  pub lines : lines_under r.profile a.rest ≡ line ∷ lines_under r.profile b.rest
-  pub rest : b.rest ≡ past_line a.rest
-  pub consumed : b.consumed + length b.rest.bytes ≡ a.consumed + length a.rest.bytes
+  pub lines : lines_under r.profile a.remaining ≡ line ∷ lines_under r.profile b.remaining
+  pub remaining : b.remaining ≡ past_line a.remaining
+  pub consumed : b.consumed + length b.remaining.bytes ≡ a.consumed + length a.remaining.bytes
   pub taken : b.taken ≤ b.consumed + 8192  -- at most so many bytes are read ahead
   pub number : b.number ≡ a.number + 1
   pub form : b.form ≡ form_then a.form (line_form r.algo line)
@@ -93,7 +93,7 @@ pub record CursorValue (I : Type 0) : Type 0 where
 -- the state of the check at a place, with this content in this world
 abbrev pub state_at : {I : Type 0} → CursorValue I → Content → World → CheckState
 state_at p c w = record {
-  rest = c;
+  remaining = c;
   number = p.reader.lines;
   consumed = consumed_count p.reader;
   taken = p.reader.taken;

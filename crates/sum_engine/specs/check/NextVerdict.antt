@@ -37,10 +37,10 @@ pub record FindsFirstVerdict (r : Rules) (a b : CheckState) (j : LineVerdictValu
 -- no line remained, and the manifest ends so; nothing was opened, and only that ending remains
 pub record HasNoVerdictLeft (r : Rules) (e : Ending) (a b : CheckState) : Type 0 where
   pub none : remaining_verdicts r a ≡ []
-  pub ending : a.rest.ending ≡ e
+  pub ending : a.remaining.ending ≡ e
   pub world : b.world ≡ a.world
   pub counts : b.counts ≡ a.counts
-  pub rest : b.rest ≡ record { bytes = []; ending = e }
+  pub remaining : b.remaining ≡ record { bytes = []; ending = e }
 
 -- what the next verdict is, by what the call returns
 abbrev pub NextVerdictIs : Rules → ByteString → CheckState → CheckState → VerdictResult → Type 0
@@ -48,7 +48,7 @@ NextVerdictIs r vector a b (Ok (Some v)) =
     FindsFirstVerdict r a b (line_verdict_value vector v) × HandlesLine r a b vector
 NextVerdictIs r vector a b (Ok None) = HasNoVerdictLeft r Whole a b
 NextVerdictIs r vector a b (Err (Fault f)) = HasNoVerdictLeft r (Broken f) a b
-NextVerdictIs r vector a b (Err Memory) = (b.world ≡ a.world) × (0 < length a.rest.bytes)
+NextVerdictIs r vector a b (Err Memory) = (b.world ≡ a.world) × (0 < length a.remaining.bytes)
 
 -- the same between two places and inputs, in some world
 abbrev pub FindsVerdict : {I S : Type 0} → (I → InputState) → (S → SourceState) → ByteString → CursorValue I

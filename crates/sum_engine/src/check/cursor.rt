@@ -68,7 +68,7 @@ impl<I: Input> CheckCursor<I> {
     ghost use Rattle.sum_sources.specs.declared.line_reader.LineStop.TheVariants.{Memory};
     ghost use Rattle.sum_engine.specs.refinement.Judging.{TakesLine, JudgeLineOf, found_verdict};
 
-    /// At the first line of the manifest that `input` gives.
+    /// A cursor at the first line of the manifest that `input` gives.
     pub(crate) fn new(settings: CheckSettings, from_stdin: bool, input: I) -> Self
         ensures rules { result.rules ≡ rules_of settings from_stdin }
         ensures start { IsAtStart I.state result input }

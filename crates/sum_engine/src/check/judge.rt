@@ -31,7 +31,7 @@ pub enum Verdict {
 }
 
 /// A line's number (the first is 1), its verdict, and where the name of its entry stands in the line's vector: from
-/// `start` up to `stop`. That range is empty if the line has no entry.
+/// `start` to before `stop`. That range is empty if the line has no entry.
 #[derive(Clone, Copy, Debug, PartialEq, Eq)]
 pub struct LineVerdict {
     pub number: u64,

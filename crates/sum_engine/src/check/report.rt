@@ -57,12 +57,12 @@ fn put_verdict<O: Sink>(out: &mut O, verdict: Verdict, name: &[u8]) -> Result<()
 }
 
 // Writes the name, as a line begins with it, and what follows it.
-fn put_name_line<'a, O: Sink>(out: &mut O, name: &'a [u8], rest: &'a [u8]) -> Result<(), SinkFault>
+fn put_name_line<'a, O: Sink>(out: &mut O, name: &'a [u8], text: &'a [u8]) -> Result<(), SinkFault>
     ensures { WritesAndFlushes (O.state out.old) (O.state out.new)
-        (concat (mark (escape_differs present name.now) ∷ escape name.now ∷ rest.now ∷ [])) result }
+        (concat (mark (escape_differs present name.now) ∷ escape name.now ∷ text.now ∷ [])) result }
 {
     let (mark, name) = mark_and_name(name);
-    put_parts_flushed(out, &[Part::Bytes(mark), name, Part::Bytes(rest)])
+    put_parts_flushed(out, &[Part::Bytes(mark), name, Part::Bytes(text)])
 }
 
 fn put_err<E: Sink>(

@@ -15,16 +15,16 @@ parse_line_now : (r : Rules) (a : CheckState) (l : List ℕ) (ls : List (List �
 parse_line_now r a l ls = search (rules, form_next, parse_stays)
 
 -- the first of those that remain
-pub rest_head : (r : Rules) (a : CheckState) (l : List ℕ) (ls : List (List ℕ)) → lines_under r.profile a.rest ≡ l ∷ ls
+pub remaining_head : (r : Rules) (a : CheckState) (l : List ℕ) (ls : List (List ℕ)) → lines_under r.profile a.remaining ≡ l ∷ ls
     → remaining_verdicts r a ≡ next_judged r a l ∷ verdicts r (form_then a.form (form r.algo (l ∷ ls)))
     (after a.world (asks_of (next_judged r a l))) (a.number + 1) ls
-rest_head r a l ls h = rw (h, parse_line_now r a l ls) refl
+remaining_head r a l ls h = rw (h, parse_line_now r a l ls) refl
 
 -- one line's verdict, and those that remain after it
-pub rest_on : (r : Rules) (a b : CheckState) (v : List ℕ) (h : HandlesLine r a b v)
+pub remaining_next : (r : Rules) (a b : CheckState) (v : List ℕ) (h : HandlesLine r a b v)
     → b.world ≡ after a.world (asks_of (next_judged r a h.line))
     → remaining_verdicts r a ≡ next_judged r a h.line ∷ remaining_verdicts r b
-rest_on r a b v h world = search (rules, rest_head, form_next)
+remaining_next r a b v h world = search (rules, remaining_head, form_next)
 
 -- ---- the behavior that remains
 
@@ -48,25 +48,25 @@ behavior_by-cons r labels e k c j js = search rules
 
 -- or with that of the end; before it all of the content remains
 pub first_step : (r : Rules) (labels : LabelsValue) (e : Ending) (k : Counts) (c : Content)
-    (js : List LineVerdictValue) → (s : Step) × (rest : Behavior)
-    × (behavior_by r labels e k c js ≡ step_then s rest) × (s.remaining ≡ length c.bytes)
+    (js : List LineVerdictValue) → (s : Step) × (later : Behavior)
+    × (behavior_by r labels e k c js ≡ step_then s later) × (s.remaining ≡ length c.bytes)
 first_step r labels e k c [] = (_, record { steps = []; good = good r e (counts_then k (counts_of [])) }, refl, refl)
 first_step r labels e k c (j ∷ js) = (_, _, behavior_by-cons r labels e k c j js, refl)
 
 -- a line was found, which is the first of those that remained
 pub found_first : (r : Rules) (labels : LabelsValue) (a b : CheckState) (j : LineVerdictValue)
     → remaining_verdicts r a ≡ j ∷ remaining_verdicts r b
-    → b.counts ≡ counts_with a.counts j.verdict → b.rest ≡ past_line a.rest
+    → b.counts ≡ counts_with a.counts j.verdict → b.remaining ≡ past_line a.remaining
     → remaining_behavior r labels a
-    ≡ step_then (line_step r labels (length a.rest.bytes) j) (remaining_behavior r labels b)
-found_first r labels a b j first counted rest = search rules
+    ≡ step_then (line_step r labels (length a.remaining.bytes) j) (remaining_behavior r labels b)
+found_first r labels a b j first counted remaining = search rules
 
 -- a step always remains
 pub going-before : (r : Rules) (labels : LabelsValue) (a : CheckState)
     → let left = remaining_behavior r labels a in progress_before left.steps left.good ≡ Going
 going-before r labels a =
     let js = remaining_verdicts r a in
-    by (end_text r labels a.rest.ending (counts_then a.counts (counts_of js))) a.rest js _
+    by (end_text r labels a.remaining.ending (counts_then a.counts (counts_of js))) a.remaining js _
   where
     by : (end : List ℕ) (c : Content) (js : List LineVerdictValue) (good : Bool)
         → progress_before (line_steps r labels end c js) good ≡ Going
