@@ -1,7 +1,9 @@
 -- Lemmas on the blocks of a message, on the hash after some of them, and on the digest.
-use Rattle.std.proofs.Common.{◌≡◌, ℕ, zero, suc, ◌+◌, ◌-◌, ◌*◌, ◌/◌, ◌<◌, ◌≤◌, true, false, List, [], ◌∷◌, ◌++◌, length, take, max, fold, drop, replicate, slice_index_or, refl, sym, ap, ◌∙◌, arith, flat_map}
-use Rattle.std.proofs.lemmas.List.{take-append-le, drop-append-le, take_all, length-drop, length-append, length-replicate, drop-drop, drop-take, take-take}
+use Rattle.std.proofs.Common.{◌≡◌, ℕ, zero, suc, ◌+◌, ◌-◌, ◌*◌, ◌/◌, ◌<◌, ◌≤◌, true, false, List, [], ◌∷◌, ◌++◌, length, take, max, fold, drop, add-one, replicate, slice_index_or, refl, sym, ap, ◌∙◌, arith, flat_map}
+use Rattle.std.proofs.lemmas.List.{take-append-le, drop-append-le, take_all, length-drop, length-append, length-replicate, map-id, drop-drop, drop-take, take-take}
 use Rattle.std.specs.List.{range_with_len}
+use Rattle.std.proofs.lemmas.Grind.{common_steps}
+use Rattle.std.proofs.lemmas.List.FromFn.{map-range_with_len_more}
 use Rattle.std.proofs.lemmas.List.Sums.{fold-append}
 use Rattle.std.specs.Simd.{first_chunks}
 use Rattle.byteorder.specs.Endian.{little_bytes}
@@ -25,12 +27,10 @@ pub whole_block : (m : ByteString) (i : ℕ) → 128 * (i + 1) ≤ length m
     → slice_index_or (blocks m) i [] ≡ take 128 (drop (128 * i) m)
 unfolding blocks
 whole_block m i fits =
-    let zeros : ByteString = replicate (128 * block_count (length m) - length m) 0 in
     let here : i < block_count (length m) = omega arith in
     let within : 128 * i ≤ length m = omega arith in
     let long : 128 ≤ length (drop (128 * i) m) = omega (arith, length-drop (128 * i) m) in
-    get_or-first_chunks 128 (block_count (length m)) (padded_message m) i [] here
-    ∙ ap (take 128) (drop-append-le (128 * i) m zeros within) ∙ take-append-le 128 (drop (128 * i) m) zeros long
+    rw (get_or-first_chunks, drop-append-le, take-append-le) refl
 
 -- the blocks of a message from one of them on
 pub are_blocks : (m : ByteString) (k count : ℕ) → 128 * (k + count) ≤ length m
@@ -90,24 +90,29 @@ last_block m k l =
 pub hash_after-more : (n : ℕ) (d : List ByteString) (k : ℕ)
     → hash_after n d (k + 1) ≡ compress (hash_after n d k) (slice_index_or d k []) (128 * (k + 1)) false
 unfolding hash_after
-hash_after-more n d k = let next : k + 1 ≡ suc k = omega arith in ap (hash_after n d) next
+hash_after-more n d k =
+    let range = simp map-id at (map-range_with_len_more (λ x. x) 0 k k (omega arith)) in rw (range, fold-append) refl
+
+-- no block
+hash_after-none : (n : ℕ) (d : List ByteString) → hash_after n d 0 ≡ initial n
+unfolding hash_after
+hash_after-none n d = refl
+
+-- what follows a block doesn't change it
+block-append : (m x : ByteString) (i : ℕ) → 128 * (i + 1) ≤ length m
+    → slice_index_or (blocks (m ++ x)) i [] ≡ slice_index_or (blocks m) i []
+block-append m x i fits =
+    let within : 128 * i ≤ length m = omega arith in
+    let longer : 128 * (i + 1) ≤ length (m ++ x) = omega (arith, length-append m x) in
+    let long : 128 ≤ length (drop (128 * i) m) = omega (arith, length-drop (128 * i) m) in
+    rw (whole_block, whole_block, drop-append-le, take-append-le) refl
 
 -- what follows the first blocks doesn't change the hash after them
 pub hash_after-append : (n : ℕ) (m x : ByteString) (k : ℕ) → 128 * k ≤ length m
     → hash_after n (blocks (m ++ x)) k ≡ hash_after n (blocks m) k
-unfolding hash_after
-hash_after-append n m x zero fits = refl
+hash_after-append n m x zero fits = rw (hash_after-none, hash_after-none) refl
 hash_after-append n m x (suc k) fits =
-    let before = hash_after-append n m x k (omega arith) in
-    let within : 128 * k ≤ length m = omega arith in
-    let longer : 128 * (k + 1) ≤ length (m ++ x) = omega (arith, length-append m x) in
-    let here : 128 * (k + 1) ≤ length m = omega arith in
-    let long : 128 ≤ length (drop (128 * k) m) = omega (arith, length-drop (128 * k) m) in
-    let block : slice_index_or (blocks (m ++ x)) k [] ≡ slice_index_or (blocks m) k [] =
-    whole_block (m ++ x) k longer
-    ∙ rw drop-append-le (take-append-le 128 (drop (128 * k) m) x long)
-    ∙ sym (whole_block m k here) in
-    rw (before, block) refl
+    rw (← add-one k) (grind (arith, hash_after-append n m x k (omega arith), hash_after-more, block-append))
 
 -- a full block that bytes follow
 pub hash_after-full : {h : List ℕ} {len t : ℕ} (n : ℕ) (buffer m : ByteString) (k : ℕ)
@@ -116,28 +121,12 @@ pub hash_after-full : {h : List ℕ} {len t : ℕ} (n : ℕ) (buffer m : ByteStr
     → compress h buffer t false ≡ hash_after n (blocks m) (k + 1)
 hash_after-full n buffer m k size full counted here hash rest = grind (arith, whole_block, take_all, hash_after-more)
 
--- a range with one more number
-range-more : (a n j : ℕ) → a + n ≡ j → range_with_len a (suc n) ≡ range_with_len a n ++ j ∷ []
-range-more a zero j at = let here : a ≡ j = omega arith in rw here refl
-range-more a (suc n) j at = ap (λ l. a ∷ l) (range-more (a + 1) n j (omega arith))
-
--- one block after another, from the first
-hash_after-is : (n : ℕ) (d : List ByteString) (k : ℕ)
-    → fold (λ h i. compress h (slice_index_or d i []) (128 * (i + 1)) false) (initial n) (range_with_len 0 k)
-    ≡ hash_after n d k
-unfolding hash_after
-hash_after-is n d zero = refl
-hash_after-is n d (suc k) =
-    let step : List ℕ → ℕ → List ℕ = λ h i. compress h (slice_index_or d i []) (128 * (i + 1)) false in
-    let split = fold-append step (initial n) (range_with_len 0 k) (k ∷ []) in
-    rw (range-more 0 k k (omega arith), split, hash_after-is n d k) refl
-
 -- the digest, by the last block
 blake2b-last : (n : ℕ) (m : ByteString) (k : ℕ) → IsLast m k
     → blake2b n m
     ≡ take n (flat_map (little_bytes 8) (compress (hash_after n (blocks m) k) (padded_rest m k) (length m) true))
-unfolding blake2b
-blake2b-last n m k l = grind (arith, length-blocks, hash_after-is, last_block)
+unfolding blake2b hash_after
+blake2b-last n m k l = grind (arith, length-blocks, last_block)
 
 -- the digest, from the hash before the last block and that block's bytes
 pub blake2b-from : {m last bytes : ByteString} {h : List ℕ} {k t : ℕ} (n : ℕ) → IsLast m k

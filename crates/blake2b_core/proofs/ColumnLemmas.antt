@@ -1,9 +1,10 @@
 -- Lemmas on rows of four words, whose columns are mixed at once.
-use Rattle.std.proofs.Common.{◌≡◌, ℕ, ◌-◌, ◌*◌, ◌/◌, ◌%◌, ◌^◌, ◌<◌, List, [], ◌∷◌, length, bit_or, bit_xor, refl, ap, arith}
+use Rattle.std.proofs.Common.{◌≡◌, ℕ, ◌-◌, ◌*◌, ◌/◌, ◌%◌, ◌^◌, ◌<◌, List, [], ◌∷◌, length, map, bit_or, bit_xor, refl, ap, arith}
 use Rattle.std.specs.Int.{rotate_right}
+use Rattle.std.specs.List.{range_with_len}
 use Rattle.std.specs.Simd.Lanes.{zip2}
 use Rattle.blake2b_core.specs.Compression.{◌!◌, ◌⊻◌, ◌⋙◌, mix}
-use Rattle.blake2b_core.specs.refinement.Columns.{columns, diagonals, row, rotated_row, word, words}
+use Rattle.blake2b_core.specs.refinement.Columns.{columns, diagonals, row, rotated_row, words}
 
 -- what holds of each of the four lanes
 below_four : (P : ℕ → Type 0) → P 0 → P 1 → P 2 → P 3 → (j : ℕ) → j < 4 → P j
@@ -35,7 +36,7 @@ shifts_rotate k low high =
 
 -- word j of each row
 abbrev column : List (List ℕ) → ℕ → List ℕ
-column v j = word v 0 j ∷ word v 1 j ∷ word v 2 j ∷ word v 3 j ∷ []
+column v j = map (λ i. row v i ! j) (range_with_len 0 4)
 
 -- the columns of r are those of v, each mixed by G
 abbrev Mixes : List (List ℕ) → List (List ℕ) → List ℕ → List ℕ → Type 0
