@@ -41,13 +41,9 @@ are_blocks m k count fits = grind (arith, length-first_chunks, get_or-first_chun
 pub first_chunks-take : (n k : ℕ) (xs : List ℕ) (j : ℕ) → n * k ≤ j → first_chunks n k (take j xs) ≡ first_chunks n k xs
 first_chunks-take n zero xs j fits = refl
 first_chunks-take n (suc k) xs j fits =
-    let product : n * suc k ≡ n + n * k = omega arith in
     let here : n ≤ j = omega arith in
-    let split : n + (j - n) ≡ j = omega arith in
-    let front : take n (take j xs) ≡ take n xs = take-take n j xs here in
-    let back : drop n (take j xs) ≡ take (j - n) (drop n xs) =
-    ap (λ i. drop n (take i xs)) (sym split) ∙ drop-take n (j - n) xs in
-    rw (front, back, first_chunks-take n k (drop n xs) (j - n) (omega arith)) refl
+    let split : j ≡ n + (j - n) = omega arith in
+    rw (take-take n j xs, split, drop-take, first_chunks-take n k (drop n xs) (j - n) (omega arith)) refl
 
 -- the last block of a message is the one that begins at byte 128 * k
 pub record IsLast (m : ByteString) (k : ℕ) : Type 0 where
@@ -74,17 +70,12 @@ last_block : (m : ByteString) (k : ℕ) → IsLast m k
 unfolding blocks
 last_block m k l =
     let starts : 128 * k ≤ length m = l.starts in
-    let ends : length m ≤ 128 * (k + 1) = l.ends in
     let count : block_count (length m) ≡ k + 1 = block_count-last m k l in
-    let fill : ℕ = 128 * block_count (length m) - length m in
-    let left : length (drop (128 * k) m) + 128 * k ≡ length m = omega (arith, length-drop (128 * k) m) in
-    let pad : fill ≡ 128 - length (drop (128 * k) m) = omega arith in
-    let size : length (drop (128 * k) m ++ replicate fill 0) ≡ 128 =
-    omega (arith, length-append (drop (128 * k) m) (replicate fill 0), length-replicate {A = ℕ} fill 0) in
-    get_or-first_chunks 128 (block_count (length m)) (padded_message m) k [] (omega arith)
-    ∙ ap (take 128) (drop-append-le (128 * k) m (replicate fill 0) starts)
-    ∙ take_all 128 (drop (128 * k) m ++ replicate fill 0) (omega arith)
-    ∙ ap (λ z. drop (128 * k) m ++ replicate z 0) pad
+    let here : k < block_count (length m) = omega arith in
+    let left = length-drop (128 * k) m in
+    let pad : 128 * block_count (length m) - length m ≡ 128 - length (drop (128 * k) m) = omega (arith, l.ends) in
+    let size : length (padded_rest m k) ≤ 128 = grind (arith, common_steps, l.ends) in
+    rw (get_or-first_chunks, drop-append-le, pad, take_all) refl
 
 -- one more block
 pub hash_after-more : (n : ℕ) (d : List ByteString) (k : ℕ)
@@ -121,16 +112,10 @@ pub hash_after-full : {h : List ℕ} {len t : ℕ} (n : ℕ) (buffer m : ByteStr
     → compress h buffer t false ≡ hash_after n (blocks m) (k + 1)
 hash_after-full n buffer m k size full counted here hash rest = grind (arith, whole_block, take_all, hash_after-more)
 
--- the digest, by the last block
-blake2b-last : (n : ℕ) (m : ByteString) (k : ℕ) → IsLast m k
-    → blake2b n m
-    ≡ take n (flat_map (little_bytes 8) (compress (hash_after n (blocks m) k) (padded_rest m k) (length m) true))
-unfolding blake2b hash_after
-blake2b-last n m k l = grind (arith, length-blocks, last_block)
-
 -- the digest, from the hash before the last block and that block's bytes
 pub blake2b-from : {m last bytes : ByteString} {h : List ℕ} {k t : ℕ} (n : ℕ) → IsLast m k
     → h ≡ hash_after n (blocks m) k → last ≡ bytes ++ replicate (128 - length bytes) 0
     → bytes ≡ drop (128 * k) m → t ≡ length m
     → take n (flat_map (little_bytes 8) (compress h last t true)) ≡ blake2b n m
-blake2b-from {m = m} {k = k} n l hash filled rest total = rw (hash, filled, rest, total) (sym (blake2b-last n m k l))
+unfolding blake2b hash_after
+blake2b-from n l hash filled rest total = grind (arith, length-blocks, last_block)
