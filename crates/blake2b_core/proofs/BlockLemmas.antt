@@ -33,9 +33,9 @@ whole_block m i fits =
     rw (get_or-first_chunks, drop-append-le, take-append-le) refl
 
 -- the blocks of a message from one of them on
-pub are_blocks : (m : ByteString) (k count : ℕ) → 128 * (k + count) ≤ length m
-    → AreBlocksFrom m k (first_chunks 128 count (drop (128 * k) m))
-are_blocks m k count fits = grind (arith, length-first_chunks, get_or-first_chunks, drop-drop, whole_block)
+pub are_blocks : {bs : List ByteString} (m : ByteString) (k count : ℕ) → 128 * (k + count) ≤ length m
+    → bs ≡ first_chunks 128 count (drop (128 * k) m) → AreBlocksFrom m k bs
+are_blocks m k count fits are = grind (arith, length-first_chunks, get_or-first_chunks, drop-drop, whole_block)
 
 -- whole chunks don't change when what follows them is cut off
 pub first_chunks-take : (n k : ℕ) (xs : List ℕ) (j : ℕ) → n * k ≤ j → first_chunks n k (take j xs) ≡ first_chunks n k xs
