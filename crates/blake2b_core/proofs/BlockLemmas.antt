@@ -105,13 +105,6 @@ hash_after-append n m x zero fits = rw (hash_after-none, hash_after-none) refl
 hash_after-append n m x (suc k) fits =
     rw (← add-one k) (grind (arith, hash_after-append n m x k (omega arith), hash_after-more, block-append))
 
--- a full block that bytes follow
-pub hash_after-full : {h : List ℕ} {len t : ℕ} (n : ℕ) (buffer m : ByteString) (k : ℕ)
-    → length buffer ≡ 128 → len ≡ 128 → t ≡ length m → 128 * k + len ≡ length m
-    → h ≡ hash_after n (blocks m) k → take len buffer ≡ drop (128 * k) m
-    → compress h buffer t false ≡ hash_after n (blocks m) (k + 1)
-hash_after-full n buffer m k size full counted here hash rest = grind (arith, whole_block, take_all, hash_after-more)
-
 -- the digest, from the hash before the last block and that block's bytes
 pub blake2b-from : {m last bytes : ByteString} {h : List ℕ} {k t : ℕ} (n : ℕ) → IsLast m k
     → h ≡ hash_after n (blocks m) k → last ≡ bytes ++ replicate (128 - length bytes) 0

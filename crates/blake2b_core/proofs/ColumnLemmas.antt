@@ -26,7 +26,7 @@ rotates k x low high =
 
 -- and for rows of four words
 pub shifts_rotate : (k : ℕ) → 0 < k → k < 64 → (a : List ℕ) → length a ≡ 4 → (b : List ℕ) → length b ≡ 4 → Rotates k a b
-shifts_rotate k low high (a ∷ b ∷ c ∷ d ∷ []) four (e ∷ f ∷ g ∷ h ∷ []) too = 
+shifts_rotate k low high (a ∷ b ∷ c ∷ d ∷ []) four (e ∷ f ∷ g ∷ h ∷ []) too =
     below_four _ (rotates k (a ⊻ e) low high) (rotates k (b ⊻ f) low high) (rotates k (c ⊻ g) low high)
     (rotates k (d ⊻ h) low high)
 shifts_rotate k low high _ four _ too = absurd (omega arith)
