@@ -16,7 +16,7 @@ use Rattle.digest_kinds.specs.Basics.{after_while}
 use Rattle.digest_kinds.specs.Kinds.{Algo, Blake2b, KindValue, BeginsWithTag, full_kind, full_len, has_len, tag}
 use Rattle.digest_kinds.specs.KindTexts.{IsWidth, NamesKind, kind_and_rest, kind_of_digits, kind_text}
 use Rattle.digest_kinds.proofs.BitsLemmas.{kind_of_digits-bits, kind_of_digits-some, decimal-digits}
-use Rattle.digest_kinds.proofs.PrefixLemmas.{map_some, prefix-and-rest, prefix_len-all}
+use Rattle.digest_kinds.proofs.PrefixLemmas.{map_some, prefix_passes, prefix-and-rest, prefix_len-all}
 
 -- what follows an algorithm's tag is the width of a kind of that algorithm, and then what is left
 pub record HasWidth (a : Algo) (s : List ℕ) (w : KindValue × List ℕ) : Type 0 where
@@ -36,7 +36,7 @@ width-bits : (s : List ℕ) (w : KindValue × List ℕ)
     → HasWidth Blake2b (45 ∷ s) w
 width-bits s w h =
     let k = map_some (λ k. (k, after_while is_ascii_digit s)) (kind_of_digits (take_while is_ascii_digit s)) h in
-    let bits = kind_of_digits-some (take_while is_ascii_digit s) k.0 k.1 in
+    let bits = kind_of_digits-some (take_while is_ascii_digit s) k.0 (prefix_passes is_ascii_digit s) k.1 in
     let has : has_len Blake2b bits.len ≡ true =
     and_from _ _ (le-leb 1 bits.len bits.some) (le-leb bits.len 64 bits.few) in
     rw (← k.2, bits.is) (record {

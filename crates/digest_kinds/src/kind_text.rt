@@ -7,8 +7,7 @@ ghost use Rattle.std.specs.List.{AllPass, prefix_len};
 ghost use Rattle.std.specs.Option.{option_map};
 ghost use Rattle.digest_kinds.specs.Basics.{after_while};
 ghost use Rattle.digest_kinds.specs.Kinds.{BeginsWithTag, KindValue, tag};
-ghost use Rattle.digest_kinds.specs.KindTexts.{NamesKind, kind_and_rest, kind_of_digits, kind_text};
-ghost use Rattle.digest_kinds.specs.refinement.ShortNumbers.{short_number};
+ghost use Rattle.digest_kinds.specs.KindTexts.{NamesKind, kind_and_rest, kind_of_digits, kind_text, short_number};
 
 use crate::algo::Algo;
 use crate::kind::Kind;
@@ -113,7 +112,6 @@ fn count_digits(bytes: &[u8]) -> usize
 }
 
 // BLAKE2b with as many bits as the digits write, a multiple of 8 up to 512.
-#[tactic(auto, using(crate::proofs::BitsLemmas::number_kind, crate::proofs::BitsLemmas::number_none))]
 fn kind_of_digits(digits: &[u8]) -> Option<Kind>
     requires { AllPass is_ascii_digit digits.now }
     ensures { result ≡ kind_of_digits digits.now }
