@@ -37,8 +37,7 @@ width-bits : (s : List ℕ) (w : KindValue × List ℕ)
 width-bits s w h =
     let k = map_some (λ k. (k, after_while is_ascii_digit s)) (kind_of_digits (take_while is_ascii_digit s)) h in
     let bits = kind_of_digits-some (take_while is_ascii_digit s) k.0 (prefix_passes is_ascii_digit s) k.1 in
-    let has : has_len Blake2b bits.len ≡ true =
-    and_from _ _ (le-leb 1 bits.len bits.some) (le-leb bits.len 64 bits.few) in
+    let has : has_len Blake2b bits.len ≡ true = grind (arith, bits.some, bits.few) in
     rw (← k.2, bits.is) (record {
       is_algo = refl;
       width = 45 ∷ take_while is_ascii_digit s;
@@ -67,22 +66,22 @@ pub kind_and_rest-alone : (kind : KindValue) (width : List ℕ) → IsWidth kind
     → kind_and_rest kind.algo width ≡ Some (kind, [])
 kind_and_rest-alone kind width is = search (rules, digits-alone, decimal-digits, kind_of_digits-bits)
 
--- so a text that begins with a tag names the kind that is read after the tag, if nothing follows
-pub names-read : (s : List ℕ) (a : Algo) → BeginsWithTag s a → (kind : KindValue)
-    → NamesKind s kind ↔ (kind_and_rest a (drop (length (tag a)) s) ≡ Some (kind, []))
-names-read s a begun kind = (
-  λ named.
-      let first = rw (← named.1) at (find-begins kind.algo named.0) in
-      let second = rw (← begun.1) at (find-begins a begun.0) in
-      let same : kind.algo ≡ a = same_Some kind.algo a (sym first ∙ second) in
-      rw (← same, named.1, drop_at (tag kind.algo) named.0 (length (tag kind.algo)) refl)
-      (kind_and_rest-alone kind named.0 named.2),
-  λ read.
-      let has = kind_and_rest-some a (drop (length (tag a)) s) (kind, []) read in
-      let whole : s ≡ tag a ++ drop (length (tag a)) s = rw (front_rest s (tag a) begun.0 begun.1) begun.1 in
-      let text = ap (λ l. tag a ++ l) (has.whole ∙ append-nil has.width) in
-      (has.width, whole ∙ text ∙ ap (λ b. tag b ++ has.width) (sym has.is_algo), has.is_width),
-)
+-- so a kind that a text names is read after the tag that begins the text, and nothing follows
+pub named_read : (s : List ℕ) (a : Algo) (kind : KindValue) → BeginsWithTag s a → NamesKind s kind
+    → kind_and_rest a (drop (length (tag a)) s) ≡ Some (kind, [])
+named_read s a kind begun named =
+    let first = rw (← named.1) at (find-begins kind.algo named.0) in
+    let second = rw (← begun.1) at (find-begins a begun.0) in
+    let same : kind.algo ≡ a = cc in
+    rw (← same, named.1, drop_at (tag kind.algo) named.0 (length (tag kind.algo)) refl)
+    (kind_and_rest-alone kind named.0 named.2)
+
+-- and the text names what is read so
+pub read_named : (s : List ℕ) (a : Algo) (kind : KindValue) → BeginsWithTag s a
+    → kind_and_rest a (drop (length (tag a)) s) ≡ Some (kind, []) → NamesKind s kind
+read_named s a kind begun read =
+    let has = kind_and_rest-some a (drop (length (tag a)) s) (kind, []) read in
+    (has.width, grind (arith, common_steps, begun.1, has.whole, has.is_algo), has.is_width)
 
 -- ---- the text of a kind
 
