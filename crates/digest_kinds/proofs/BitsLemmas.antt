@@ -25,7 +25,7 @@ digits-test = record {
   parts = λ c cs all.
       let range = and_parts _ _ (All-head IsDigit c cs all) in
       ((leb-true 48 c range.0, leb-true c 57 range.1), All-tail IsDigit c cs all);
-  more = λ c cs range all. All-cons IsDigit c cs (and_from _ _ (le-leb 48 c range.0) (le-leb c 57 range.1)) all;
+  more = λ c cs range all. grind (arith, All-cons, all);
 }
 
 -- and the number that they write

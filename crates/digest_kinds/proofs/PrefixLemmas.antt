@@ -31,11 +31,7 @@ none_of o h = grind arith
 -- its bytes pass
 pub prefix_passes : (p : ℕ → Bool) (xs : List ℕ) → AllPass p (take_while p xs)
 prefix_passes p [] = All-nil (λ x. p x ≡ true)
-prefix_passes p (x ∷ xs) = elim (cases_Bool (p x)) [
-  | inl pass ↦ rw (take_while-cons p x xs, pass)
-      (All-cons (λ x. p x ≡ true) x (take_while p xs) pass (prefix_passes p xs))
-  | inr stop ↦ rw (take_while-cons p x xs, stop) (All-nil (λ x. p x ≡ true))
-]
+prefix_passes p (x ∷ xs) = grind (arith, prefix_passes p xs, take_while-cons)
 
 -- it joins with what follows it
 pub prefix-and-rest : (p : ℕ → Bool) (xs : List ℕ) → xs ≡ take_while p xs ++ after_while p xs
@@ -52,9 +48,7 @@ prefix_len-stop p (x ∷ xs) y ys all stop =
 pub prefix_len-all : (p : ℕ → Bool) (xs : List ℕ) → AllPass p xs → prefix_len p xs ≡ length xs
 prefix_len-all p [] all = refl
 prefix_len-all p (x ∷ xs) all =
-    let head : p x ≡ true = All-head (λ x. p x ≡ true) x xs all in
-    let more = prefix_len-all p xs (All-tail (λ x. p x ≡ true) x xs all) in
-    rw head (omega arith)
+    grind (arith, prefix_len-all p xs (All-tail (λ x. p x ≡ true) x xs all), All-head)
 
 -- so that byte parts the prefix from the rest
 pub parts-at : (p : ℕ → Bool) (xs : List ℕ) (y : ℕ) (ys : List ℕ) → AllPass p xs → p y ≡ false

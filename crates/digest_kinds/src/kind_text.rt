@@ -28,6 +28,7 @@ pub struct KindPrefix<'a> {
 impl Kind {
     /// The text that names the kind: the algorithm's tag and, for a BLAKE2b kind of fewer than 64 bytes, a `-` and its
     /// bits, as `BLAKE2b-256`. It may be in `buffer`, whose old content doesn't matter.
+    #[tactic(auto, using(crate::proofs::KindTextLemmas::length_bits))]
     pub fn text_into(self, buffer: &mut [u8; 11]) -> &str
         ensures { result.now ≡ kind_text self }
     {
