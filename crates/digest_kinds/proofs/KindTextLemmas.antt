@@ -1,15 +1,13 @@
 -- What follows a tag is read as the width of a kind, and the text of a kind names it.
-use Rattle.std.proofs.Common.{ℕ, ◌↔◌, ◌≤◌, IsUtf8, codes, append-nil, ◌≡◌, true, false, ◌==◌, List, [], ◌∷◌, ◌++◌, length, drop, Some, refl, ap, sym, ◌∙◌, inl, inr, arith, rules, take_while, option_map, decimal, ◌*◌}
+use Rattle.std.proofs.Common.{ℕ, ◌≤◌, IsUtf8, codes, ◌≡◌, true, false, ◌==◌, List, [], ◌∷◌, ◌++◌, length, drop, Some, refl, ap, inl, inr, arith, rules, take_while, option_map, decimal, ◌*◌}
 use Rattle.std.proofs.lemmas.Grind.{common_steps}
 use Rattle.std.specs.Char.{is_ascii_digit}
 use Rattle.std.specs.List.{AllPass}
-use Rattle.std.proofs.lemmas.Bool.{and_from, le-leb}
 use Rattle.std.proofs.lemmas.Bool.Decides.{eqb_tells}
 use Rattle.std.proofs.lemmas.Option.{same_Some}
 use Rattle.std.proofs.lemmas.Fmt.{IsAscii-decimal, length-decimal-le}
 use Rattle.std.proofs.lemmas.Str.{IsAscii-append, IsUtf8-from_ascii}
 use Rattle.std.proofs.lemmas.List.{drop_at}
-use Rattle.std.proofs.lemmas.List.Prefix.{front_rest}
 use Rattle.digest_kinds.proofs.TagLemmas.{find-begins}
 use Rattle.digest_kinds.proofs.KindLemmas.{has_len-full, has_len-range}
 use Rattle.digest_kinds.specs.Basics.{after_while}

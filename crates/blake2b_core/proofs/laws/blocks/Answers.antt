@@ -1,4 +1,4 @@
-use Rattle.std.proofs.Common.{◌≡◌, ℕ, zero, suc, ◌+◌, ◌-◌, ◌*◌, ◌<◌, ◌≤◌, List, ◌++◌, length, take, drop, replicate, refl, ap, ◌∙◌, arith}
+use Rattle.std.proofs.Common.{◌≡◌, ℕ, zero, suc, ◌+◌, ◌-◌, ◌*◌, ◌<◌, List, length, take, drop, replicate, refl, ap, ◌∙◌, arith}
 use Rattle.std.specs.List.{concat}
 use Rattle.std.proofs.lemmas.Grind.{common_steps}
 use Rattle.std.proofs.lemmas.List.{take-append-drop, take-take, drop-take, take_all, length-append, length-replicate, length-take-le, length-drop}
@@ -26,8 +26,9 @@ returns c = λ m.
     record {
       sizes = λ k d below.
           let place : k < count = omega (arith, length-first_chunks 128 count (padded_message m)) in
+          let rest = length-drop (128 * k) (padded_message m) in
           ap length (get_or-first_chunks 128 count (padded_message m) k d place)
-          ∙ length-take-le 128 (drop (128 * k) (padded_message m)) (omega (arith, length-drop (128 * k) (padded_message m)));
+          ∙ length-take-le 128 (drop (128 * k) (padded_message m)) (omega arith);
       zeros = zeros;
       join = concat-first_chunks 128 count (padded_message m) ∙ take_all (128 * count) (padded_message m) (omega arith);
       fewest = λ some. omega arith;

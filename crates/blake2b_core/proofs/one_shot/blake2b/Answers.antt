@@ -1,8 +1,7 @@
-use Rattle.std.proofs.Common.{◌≡◌, ◌+◌, ◌-◌, ◌*◌, ◌/◌, ◌≤◌, length, ap, sym, subst, ◌∙◌, arith, refl}
+use Rattle.std.proofs.Common.{◌≡◌, ◌+◌, ◌-◌, ◌*◌, ◌/◌, length, ap, ◌∙◌, arith, refl}
 use Rattle.std.proofs.lemmas.List.{take_rest}
 use Rattle.blake2b_core.specs.Digest.{blocks}
 use Rattle.blake2b_core.specs.refinement.Chaining.{hash_after}
-use Rattle.blake2b_core.specs.refinement.Holding.{AreBlocksFrom}
 use Rattle.blake2b_core.proofs.BlockLemmas.{IsLast, are_blocks, blake2b-from}
 use Rattle.blake2b_core.proofs.one_shot.blake2b.Goals as goal
 

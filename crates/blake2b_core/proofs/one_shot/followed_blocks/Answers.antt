@@ -1,7 +1,5 @@
-use Rattle.std.proofs.Common.{◌≡◌, ℕ, ◌-◌, ◌*◌, ◌/◌, ◌≤◌, length, take, ap, ◌∙◌, arith}
+use Rattle.std.proofs.Common.{arith}
 use Rattle.std.proofs.lemmas.Grind.{common_steps}
-use Rattle.std.proofs.lemmas.List.{length-take-le}
-use Rattle.std.specs.Simd.{first_chunks}
 use Rattle.blake2b_core.proofs.BlockLemmas.{first_chunks-take}
 use Rattle.blake2b_core.proofs.one_shot.followed_blocks.Goals as goal
 

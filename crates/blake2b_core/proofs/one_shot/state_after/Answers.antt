@@ -1,6 +1,4 @@
-use Rattle.std.proofs.Common.{◌≡◌, ◌+◌, ◌*◌, ap, sym, ◌∙◌, arith}
-use Rattle.blake2b_core.specs.Digest.{blocks}
-use Rattle.blake2b_core.specs.refinement.Chaining.{hash_after}
+use Rattle.std.proofs.Common.{◌≡◌, ◌+◌, arith}
 use Rattle.blake2b_core.proofs.BlockLemmas.{hash_after-more}
 use Rattle.blake2b_core.proofs.one_shot.state_after.Goals as goal
 

@@ -1,8 +1,7 @@
-use Rattle.std.proofs.Common.{◌≡◌, ℕ, ◌+◌, ◌-◌, ◌*◌, ◌/◌, ◌≤◌, List, ◌++◌, length, take, drop, ap, sym, subst, ◌∙◌, arith, length-append}
+use Rattle.std.proofs.Common.{◌≡◌, ℕ, ◌+◌, ◌-◌, ◌*◌, ◌/◌, ◌≤◌, List, ◌++◌, length, take, ap, sym, ◌∙◌, arith, length-append}
 use Rattle.std.proofs.lemmas.Grind.{common_steps}
-use Rattle.std.proofs.lemmas.List.{drop_all, drop_at, length-take-le}
+use Rattle.std.proofs.lemmas.List.{drop_at, length-take-le}
 use Rattle.std.specs.Simd.{first_chunks}
-use Rattle.blake2b_core.specs.refinement.Holding.{AreBlocksFrom}
 use Rattle.blake2b_core.proofs.BlockLemmas.{are_blocks, first_chunks-take, hash_after-append}
 use Rattle.blake2b_core.proofs.incremental.Blake2b.absorb.Goals as goal
 

@@ -1,6 +1,6 @@
-use Rattle.std.proofs.Common.{◌≡◌, ℕ, ◌+◌, ◌-◌, List, ◌++◌, length, take, drop, ap, subst, arith, length-append}
+use Rattle.std.proofs.Common.{◌≡◌, ℕ, ◌-◌, List, ◌++◌, length, take, drop, subst, arith}
 use Rattle.std.proofs.lemmas.Grind.{common_steps}
-use Rattle.std.proofs.lemmas.List.{length-drop, nil_from_length, take_rest}
+use Rattle.std.proofs.lemmas.List.{nil_from_length}
 use Rattle.blake2b_core.specs.refinement.Holding.{HoldsSoFar}
 use Rattle.blake2b_core.proofs.incremental.Blake2b.update.Goals as goal
 

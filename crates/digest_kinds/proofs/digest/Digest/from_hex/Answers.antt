@@ -1,4 +1,4 @@
-use Rattle.std.proofs.Common.{refl, sym, ◌∙◌, ◌↔◌, IsOk, arith}
+use Rattle.std.proofs.Common.{◌↔◌, IsOk, arith}
 use Rattle.std.proofs.lemmas.Grind.{common_steps}
 use Rattle.digest_kinds.specs.Kinds.{IsDigits}
 use Rattle.digest_kinds.proofs.DigitLemmas.{IsOk-decoded}

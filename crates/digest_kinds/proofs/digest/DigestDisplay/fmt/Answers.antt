@@ -1,6 +1,6 @@
-use Rattle.std.proofs.Common.{◌≡◌, take, ap, ◌∙◌, arith}
+use Rattle.std.proofs.Common.{◌≡◌, take, arith}
 use Rattle.std.proofs.lemmas.Grind.{common_steps}
-use Rattle.hex.specs.Hex.{encode_lower, lower_digits}
+use Rattle.hex.specs.Hex.{encode_lower}
 use Rattle.hex.proofs.HexLemmas.{length-encode_with}
 use Rattle.digest_kinds.proofs.DigitLemmas.{IsUtf8-encode_lower}
 use Rattle.digest_kinds.proofs.digest.DigestDisplay.fmt.Goals as goal

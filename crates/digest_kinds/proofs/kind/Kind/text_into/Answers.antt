@@ -1,6 +1,6 @@
-use Rattle.std.proofs.Common.{◌≡◌, ◌∙◌, ◌++◌, take, ap, codes, decimal, rules, arith}
+use Rattle.std.proofs.Common.{◌≡◌, take, rules, arith}
 use Rattle.digest_kinds.specs.KindTexts.{kind_text}
-use Rattle.digest_kinds.proofs.KindTextLemmas.{IsUtf8-kind_text, kind_text_short, length_bits}
+use Rattle.digest_kinds.proofs.KindTextLemmas.{IsUtf8-kind_text, kind_text_short}
 use Rattle.digest_kinds.proofs.kind.Kind.text_into.Goals as goal
 
 -- what was written is the text, so it is UTF-8
