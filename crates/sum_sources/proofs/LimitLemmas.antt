@@ -44,19 +44,3 @@ clipped-bytes c d (b ∷ part) rest (suc n) t few some fits read =
     (rw limit-value (omega arith)) (rw limit-value (omega arith))
     ∙ ap (λ bytes. with_prefix bytes (clip_to (limit - (t + suc n)) d))
     (sym (take-append-le (suc n) (b ∷ part) rest few)))
-
--- a fault
-pub clipped-fault : (c d : Content) (f : Fault) (t : ℕ) → t < 2 ^ 61 → ReadsFrom c d (Err f) []
-    → ReadsFrom (clip_to (limit - t) c) (clip_to (limit - t) d) (Err f) []
-clipped-fault c d f t few read = grind (arith, limit-value)
-
--- the byte that doesn't count
-pub clipped-long : (c d : Content) (part : List ℕ) (n t : ℕ) → n ≤ length part → n ≡ 1 → t + n ≡ 2 ^ 61
-    → ReadsFrom c d (Ok n) part
-    → ReadsFrom (clip_to (limit - t) c) (clip_to (limit - (t + n)) d) (Err Other) []
-clipped-long c d part n t few one full read = grind (arith, limit-value)
-
--- nothing more is read then
-pub clipped-none : (x : Option Content) (t : ℕ) → t ≡ 2 ^ 61
-    → IfKnown x x (λ c d. ReadsFrom (clip_to (limit - t) c) (clip_to (limit - t) d) (Err Other) [])
-clipped-none x t full = grind (arith, limit-value)
