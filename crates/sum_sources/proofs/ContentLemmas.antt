@@ -7,11 +7,7 @@ use Rattle.sum_sources.specs.Faults.{Fault}
 
 -- these bytes were read between the two
 abbrev pub Gave : Content → Content → List ℕ → Type 0
-Gave c d bytes = (c.bytes ≡ bytes ++ d.bytes) × (d.ending ≡ c.ending)
-
--- so the first is the second with them as a prefix
-pub Gave-is : (c d : Content) (bytes : List ℕ) → Gave c d bytes → c ≡ with_prefix bytes d
-Gave-is c d bytes gave = grind arith
+Gave c d bytes = c ≡ with_prefix bytes d
 
 -- the limit as a number
 pub limit-value : limit ≡ 2 ^ 61

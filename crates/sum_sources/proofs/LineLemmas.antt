@@ -9,7 +9,7 @@ use Rattle.std.proofs.lemmas.List.Elements.{All-head, All-tail}
 use Rattle.sum_sources.specs.Faults.{Fault}
 use Rattle.sum_sources.specs.Contents.{Ending, Whole, Broken, Content, empty_content}
 use Rattle.sum_sources.specs.ManifestLines.{Line, NoMore, last_line, raw_lines, lines, HasNoNewline, IsNextLine}
-use Rattle.sum_sources.proofs.ContentLemmas.{Gave, Gave-is}
+use Rattle.sum_sources.proofs.ContentLemmas.{Gave}
 use Rattle.sum_sources.specs.declared.line_reader.LineStop.TheVariants as stops
 
 -- a newline ends the first piece
@@ -54,13 +54,13 @@ IsNextLine-last c piece none some gave = search (rules, after_piece, pieces-last
 -- if nothing remains, there is no line
 pub IsNextLine-none : (c : Content) (line : List ℕ) → Gave c empty_content []
     → IsNextLine c empty_content (Ok NoMore) line
-IsNextLine-none c line gave = rw (Gave-is c empty_content [] gave) (lines-nil Whole, refl)
+IsNextLine-none c line gave = rw gave (lines-nil Whole, refl)
 
 -- a fault leaves no line, whatever precedes it
 pub IsNextLine-fault : (c d : Content) (f : Fault) (piece : List ℕ) → HasNoNewline piece
     → Gave c (record { bytes = []; ending = Broken f }) piece → IsNextLine c d (Err (stops.Fault f)) []
 IsNextLine-fault c d f piece none gave =
-    rw (Gave-is c (record { bytes = []; ending = Broken f }) piece gave, append-nil)
+    rw (gave, append-nil)
     (ap (map strip_carriage_return) (pieces-last (Broken f) piece none), refl)
 
 -- what has a line has a byte

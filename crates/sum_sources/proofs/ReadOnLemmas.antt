@@ -82,7 +82,7 @@ no_memory {state = state} {old = old} {s = s} {line = line} h few some =
     some_line _ (remaining_content state old) (remaining_content state s) (Err stops.Memory)
     [] line (consumed_count old) 0 d d
     h.read known (omega (arith, h.sum, below_limit x s.ahead s.taken d few remains)) tt
-    (λ c gave. rw (gave.0, length-append) (omega arith))
+    (λ c gave. rw (gave, length-append) (omega arith))
 
 -- a stop is returned again
 pub stopped_again : {I : Type 0} (state : I → InputState) (r : LineReaderValue I) (stop : LineStop) (line : List ℕ)

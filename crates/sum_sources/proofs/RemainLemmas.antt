@@ -48,8 +48,8 @@ pub some_line : (F : Type 0) (x y : Option Content) (r : Result Next LineStop) (
     × OnOk r (m + length e.bytes ≡ n + length c.bytes)
 some_line F None y r line bytes n m d e read known fits sum of =
     let c = with_prefix bytes d in
-    (c, rw (limit-value, length-append) fits, of c (refl, refl), rw length-append sum)
+    (c, rw (limit-value, length-append) fits, of c refl, rw length-append sum)
 some_line F (Some c) (Some b) r line bytes n m d e read known fits sum of =
     let gave : Gave c d bytes = rw known read in
-    (c, refl, of c gave, rw (gave.0, length-append) sum)
+    (c, refl, of c gave, rw (gave, length-append) sum)
 some_line F (Some c) None r line bytes n m d e read known fits sum of = absurd read
