@@ -1,13 +1,9 @@
--- Contents that are the same, what was read of one so far, and when it is its own clip.
+-- When a content is its own clip, and the digest of some content.
 use Rattle.std.proofs.Common.{◌≡◌, ℕ, ◌^◌, ◌<◌, List, [], ◌++◌, length, Option, None, Some, IfSome, Ok, Err, refl, nat_lt, arith}
 use Rattle.std.proofs.lemmas.Bool.{cond-true, lt-ltb}
 use Rattle.digest_kinds.specs.Kinds.{KindValue, digest}
-use Rattle.sum_sources.specs.Contents.{Content, Whole, Broken, Hashes, HashesInput, clip_to, clip, limit, with_prefix}
+use Rattle.sum_sources.specs.Contents.{Content, Whole, Broken, Hashes, HashesInput, clip_to, clip, limit}
 use Rattle.sum_sources.specs.Faults.{Fault}
-
--- these bytes were read between the two
-abbrev pub Gave : Content → Content → List ℕ → Type 0
-Gave c d bytes = c ≡ with_prefix bytes d
 
 -- the limit as a number
 pub limit-value : limit ≡ 2 ^ 61
