@@ -1,5 +1,5 @@
 -- Contents of inputs: the limit of 2^61 bytes, what a read changes, and what hashing an input gives.
-use Rattle.std.specs.Prelude.{ℕ, zero, suc, ◌≡◌, ◌+◌, ◌-◌, ◌^◌, [], ◌++◌, take, length, Option, None, Some, Result, Ok, Err, ⊤, nat_lt, if◌then◌else◌, ◌∷◌, IfSome}
+use Rattle.std.specs.Prelude.{ℕ, zero, ◌≡◌, ◌+◌, ◌-◌, ◌^◌, [], ◌++◌, take, length, Option, None, Some, Result, Ok, Err, ⊤, nat_lt, if◌then◌else◌, ◌∷◌, IfSome}
 use Rattle.digest_kinds.specs.Basics.{ByteString}
 use Rattle.digest_kinds.specs.Kinds.{digest, KindValue}
 use Rattle.sum_sources.specs.Phases.{Phase}
@@ -45,9 +45,8 @@ with_prefix prefix c = record { bytes = prefix ++ c.bytes; ending = c.ending }
 -- a read takes some of the first bytes, or none if there is no room. If no byte remains, it gives the end or the fault
 -- of the content, and what remains after that may be anything
 abbrev pub ReadsFrom : Content → Content → Result ℕ Fault → ByteString → Type 0
-ReadsFrom c d (Ok zero) [] = d ≡ c
 ReadsFrom c d (Ok zero) (b ∷ buf) = c ≡ empty_content
-ReadsFrom c d (Ok (suc n)) buf = c ≡ with_prefix (take (suc n) buf) d
+ReadsFrom c d (Ok n) buf = c ≡ with_prefix (take n buf) d
 ReadsFrom c d (Err f) buf = c ≡ record { bytes = []; ending = Broken f }
 
 -- the digest of a content that ends whole, or the fault by which it ends

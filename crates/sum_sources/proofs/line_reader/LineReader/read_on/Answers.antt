@@ -61,8 +61,8 @@ returns-in-Ok-false-fill-clause-line g c =
 pub returns-in-Err-fill-clause-line : goal.returns-in-Err-fill-clause-line
 returns-in-Err-fill-clause-line g c =
     let (read, plain) = moved g (goal.at.returns-in-Err-fill-clause-line g c).In-Ok-false in
-    λ d is.
-    (_, ends_at _ _ read c.in-Err-fill.ensures.content (omega (arith, c.take_piece.ensures.few)), IsNextLine-fault d _ _ plain, tt)
+    let before = ends_at _ _ read c.in-Err-fill.ensures.content (omega (arith, c.take_piece.ensures.few)) in
+    λ d is. (_, before, IsNextLine-fault d _ _ plain, tt)
 
 -- memory was refused
 pub returns-in-Err-clause-line : goal.returns-in-Err-clause-line
