@@ -1,7 +1,8 @@
 -- Lemmas on the blocks of a message, on the hash after some of them, and on the digest.
-use Rattle.std.proofs.Common.{◌≡◌, ℕ, zero, suc, ◌+◌, ◌-◌, ◌*◌, ◌/◌, ◌<◌, ◌≤◌, true, false, List, [], ◌∷◌, ◌++◌, length, take, max, fold, drop, replicate, slice_index_or, refl, sym, ap, ◌∙◌, arith, flat_map}
-use Rattle.std.proofs.lemmas.List.{take-append-le, drop-append-le, take_all, length-drop, length-append, length-replicate, drop-drop, drop-take, take-take}
-use Rattle.std.specs.List.{range_with_len}
+use Rattle.std.proofs.Common.{◌≡◌, ℕ, zero, suc, ◌+◌, ◌-◌, ◌*◌, ◌/◌, ◌<◌, ◌≤◌, true, false, List, [], ◌++◌, length, take, max, drop, add-one, replicate, slice_index_or, refl, arith, flat_map}
+use Rattle.std.proofs.lemmas.List.{take-append-le, drop-append-le, take_all, length-drop, length-append, map-id, drop-drop, drop-take, take-take}
+use Rattle.std.proofs.lemmas.Grind.{common_steps}
+use Rattle.std.proofs.lemmas.List.FromFn.{map-range_with_len_more}
 use Rattle.std.proofs.lemmas.List.Sums.{fold-append}
 use Rattle.std.specs.Simd.{first_chunks}
 use Rattle.byteorder.specs.Endian.{little_bytes}
@@ -25,29 +26,23 @@ pub whole_block : (m : ByteString) (i : ℕ) → 128 * (i + 1) ≤ length m
     → slice_index_or (blocks m) i [] ≡ take 128 (drop (128 * i) m)
 unfolding blocks
 whole_block m i fits =
-    let zeros : ByteString = replicate (128 * block_count (length m) - length m) 0 in
     let here : i < block_count (length m) = omega arith in
     let within : 128 * i ≤ length m = omega arith in
     let long : 128 ≤ length (drop (128 * i) m) = omega (arith, length-drop (128 * i) m) in
-    get_or-first_chunks 128 (block_count (length m)) (padded_message m) i [] here
-    ∙ ap (take 128) (drop-append-le (128 * i) m zeros within) ∙ take-append-le 128 (drop (128 * i) m) zeros long
+    rw (get_or-first_chunks, drop-append-le, take-append-le) refl
 
 -- the blocks of a message from one of them on
-pub are_blocks : (m : ByteString) (k count : ℕ) → 128 * (k + count) ≤ length m
-    → AreBlocksFrom m k (first_chunks 128 count (drop (128 * k) m))
-are_blocks m k count fits = grind (arith, length-first_chunks, get_or-first_chunks, drop-drop, whole_block)
+pub are_blocks : {bs : List ByteString} (m : ByteString) (k count : ℕ) → 128 * (k + count) ≤ length m
+    → bs ≡ first_chunks 128 count (drop (128 * k) m) → AreBlocksFrom m k bs
+are_blocks m k count fits are = grind (arith, length-first_chunks, get_or-first_chunks, drop-drop, whole_block)
 
 -- whole chunks don't change when what follows them is cut off
 pub first_chunks-take : (n k : ℕ) (xs : List ℕ) (j : ℕ) → n * k ≤ j → first_chunks n k (take j xs) ≡ first_chunks n k xs
 first_chunks-take n zero xs j fits = refl
 first_chunks-take n (suc k) xs j fits =
-    let product : n * suc k ≡ n + n * k = omega arith in
     let here : n ≤ j = omega arith in
-    let split : n + (j - n) ≡ j = omega arith in
-    let front : take n (take j xs) ≡ take n xs = take-take n j xs here in
-    let back : drop n (take j xs) ≡ take (j - n) (drop n xs) =
-    ap (λ i. drop n (take i xs)) (sym split) ∙ drop-take n (j - n) xs in
-    rw (front, back, first_chunks-take n k (drop n xs) (j - n) (omega arith)) refl
+    let split : j ≡ n + (j - n) = omega arith in
+    rw (take-take n j xs, split, drop-take, first_chunks-take n k (drop n xs) (j - n) (omega arith)) refl
 
 -- the last block of a message is the one that begins at byte 128 * k
 pub record IsLast (m : ByteString) (k : ℕ) : Type 0 where
@@ -74,74 +69,45 @@ last_block : (m : ByteString) (k : ℕ) → IsLast m k
 unfolding blocks
 last_block m k l =
     let starts : 128 * k ≤ length m = l.starts in
-    let ends : length m ≤ 128 * (k + 1) = l.ends in
     let count : block_count (length m) ≡ k + 1 = block_count-last m k l in
-    let fill : ℕ = 128 * block_count (length m) - length m in
-    let left : length (drop (128 * k) m) + 128 * k ≡ length m = omega (arith, length-drop (128 * k) m) in
-    let pad : fill ≡ 128 - length (drop (128 * k) m) = omega arith in
-    let size : length (drop (128 * k) m ++ replicate fill 0) ≡ 128 =
-    omega (arith, length-append (drop (128 * k) m) (replicate fill 0), length-replicate {A = ℕ} fill 0) in
-    get_or-first_chunks 128 (block_count (length m)) (padded_message m) k [] (omega arith)
-    ∙ ap (take 128) (drop-append-le (128 * k) m (replicate fill 0) starts)
-    ∙ take_all 128 (drop (128 * k) m ++ replicate fill 0) (omega arith)
-    ∙ ap (λ z. drop (128 * k) m ++ replicate z 0) pad
+    let here : k < block_count (length m) = omega arith in
+    let left = length-drop (128 * k) m in
+    let pad : 128 * block_count (length m) - length m ≡ 128 - length (drop (128 * k) m) = omega (arith, l.ends) in
+    let size : length (padded_rest m k) ≤ 128 = grind (arith, common_steps, l.ends) in
+    rw (get_or-first_chunks, drop-append-le, pad, take_all) refl
 
 -- one more block
 pub hash_after-more : (n : ℕ) (d : List ByteString) (k : ℕ)
     → hash_after n d (k + 1) ≡ compress (hash_after n d k) (slice_index_or d k []) (128 * (k + 1)) false
 unfolding hash_after
-hash_after-more n d k = let next : k + 1 ≡ suc k = omega arith in ap (hash_after n d) next
+hash_after-more n d k =
+    let range = simp map-id at (map-range_with_len_more (λ x. x) 0 k k (omega arith)) in rw (range, fold-append) refl
+
+-- no block
+hash_after-none : (n : ℕ) (d : List ByteString) → hash_after n d 0 ≡ initial n
+unfolding hash_after
+hash_after-none n d = refl
+
+-- what follows a block doesn't change it
+block-append : (m x : ByteString) (i : ℕ) → 128 * (i + 1) ≤ length m
+    → slice_index_or (blocks (m ++ x)) i [] ≡ slice_index_or (blocks m) i []
+block-append m x i fits =
+    let within : 128 * i ≤ length m = omega arith in
+    let longer : 128 * (i + 1) ≤ length (m ++ x) = omega (arith, length-append m x) in
+    let long : 128 ≤ length (drop (128 * i) m) = omega (arith, length-drop (128 * i) m) in
+    rw (whole_block, whole_block, drop-append-le, take-append-le) refl
 
 -- what follows the first blocks doesn't change the hash after them
 pub hash_after-append : (n : ℕ) (m x : ByteString) (k : ℕ) → 128 * k ≤ length m
     → hash_after n (blocks (m ++ x)) k ≡ hash_after n (blocks m) k
-unfolding hash_after
-hash_after-append n m x zero fits = refl
+hash_after-append n m x zero fits = rw (hash_after-none, hash_after-none) refl
 hash_after-append n m x (suc k) fits =
-    let before = hash_after-append n m x k (omega arith) in
-    let within : 128 * k ≤ length m = omega arith in
-    let longer : 128 * (k + 1) ≤ length (m ++ x) = omega (arith, length-append m x) in
-    let here : 128 * (k + 1) ≤ length m = omega arith in
-    let long : 128 ≤ length (drop (128 * k) m) = omega (arith, length-drop (128 * k) m) in
-    let block : slice_index_or (blocks (m ++ x)) k [] ≡ slice_index_or (blocks m) k [] =
-    whole_block (m ++ x) k longer
-    ∙ rw drop-append-le (take-append-le 128 (drop (128 * k) m) x long)
-    ∙ sym (whole_block m k here) in
-    rw (before, block) refl
-
--- a full block that bytes follow
-pub hash_after-full : {h : List ℕ} {len t : ℕ} (n : ℕ) (buffer m : ByteString) (k : ℕ)
-    → length buffer ≡ 128 → len ≡ 128 → t ≡ length m → 128 * k + len ≡ length m
-    → h ≡ hash_after n (blocks m) k → take len buffer ≡ drop (128 * k) m
-    → compress h buffer t false ≡ hash_after n (blocks m) (k + 1)
-hash_after-full n buffer m k size full counted here hash rest = grind (arith, whole_block, take_all, hash_after-more)
-
--- a range with one more number
-range-more : (a n j : ℕ) → a + n ≡ j → range_with_len a (suc n) ≡ range_with_len a n ++ j ∷ []
-range-more a zero j at = let here : a ≡ j = omega arith in rw here refl
-range-more a (suc n) j at = ap (λ l. a ∷ l) (range-more (a + 1) n j (omega arith))
-
--- one block after another, from the first
-hash_after-is : (n : ℕ) (d : List ByteString) (k : ℕ)
-    → fold (λ h i. compress h (slice_index_or d i []) (128 * (i + 1)) false) (initial n) (range_with_len 0 k)
-    ≡ hash_after n d k
-unfolding hash_after
-hash_after-is n d zero = refl
-hash_after-is n d (suc k) =
-    let step : List ℕ → ℕ → List ℕ = λ h i. compress h (slice_index_or d i []) (128 * (i + 1)) false in
-    let split = fold-append step (initial n) (range_with_len 0 k) (k ∷ []) in
-    rw (range-more 0 k k (omega arith), split, hash_after-is n d k) refl
-
--- the digest, by the last block
-blake2b-last : (n : ℕ) (m : ByteString) (k : ℕ) → IsLast m k
-    → blake2b n m
-    ≡ take n (flat_map (little_bytes 8) (compress (hash_after n (blocks m) k) (padded_rest m k) (length m) true))
-unfolding blake2b
-blake2b-last n m k l = grind (arith, length-blocks, hash_after-is, last_block)
+    rw (← add-one k) (grind (arith, hash_after-append n m x k (omega arith), hash_after-more, block-append))
 
 -- the digest, from the hash before the last block and that block's bytes
 pub blake2b-from : {m last bytes : ByteString} {h : List ℕ} {k t : ℕ} (n : ℕ) → IsLast m k
     → h ≡ hash_after n (blocks m) k → last ≡ bytes ++ replicate (128 - length bytes) 0
     → bytes ≡ drop (128 * k) m → t ≡ length m
     → take n (flat_map (little_bytes 8) (compress h last t true)) ≡ blake2b n m
-blake2b-from {m = m} {k = k} n l hash filled rest total = rw (hash, filled, rest, total) (sym (blake2b-last n m k l))
+unfolding blake2b hash_after
+blake2b-from n l hash filled rest total = grind (arith, length-blocks, last_block)

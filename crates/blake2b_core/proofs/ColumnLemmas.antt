@@ -1,18 +1,14 @@
 -- Lemmas on rows of four words, whose columns are mixed at once.
-use Rattle.std.proofs.Common.{◌≡◌, ℕ, ◌-◌, ◌*◌, ◌/◌, ◌%◌, ◌^◌, ◌<◌, List, [], ◌∷◌, length, bit_or, bit_xor, refl, ap, arith}
+use Rattle.std.proofs.Common.{◌≡◌, ℕ, ◌-◌, ◌*◌, ◌/◌, ◌%◌, ◌^◌, ◌<◌, List, [], ◌∷◌, length, map, bit_or, bit_xor, refl, arith}
 use Rattle.std.specs.Int.{rotate_right}
+use Rattle.std.specs.List.{range_with_len}
 use Rattle.std.specs.Simd.Lanes.{zip2}
 use Rattle.blake2b_core.specs.Compression.{◌!◌, ◌⊻◌, ◌⋙◌, mix}
-use Rattle.blake2b_core.specs.refinement.Columns.{columns, diagonals, row, rotated_row, word, words}
+use Rattle.blake2b_core.specs.refinement.Columns.{columns, diagonals, row, rotated_row, words}
 
 -- what holds of each of the four lanes
 below_four : (P : ℕ → Type 0) → P 0 → P 1 → P 2 → P 3 → (j : ℕ) → j < 4 → P j
 below_four P p0 p1 p2 p3 j h = grind arith
-
--- what holds of each list of four elements
-four_lanes : (P : List ℕ → Type 0) → ((a b c d : ℕ) → P (a ∷ b ∷ c ∷ d ∷ [])) → (xs : List ℕ) → length xs ≡ 4 → P xs
-four_lanes P p (a ∷ b ∷ c ∷ d ∷ []) h = p a b c d
-four_lanes P p _ h = absurd (omega arith)
 
 -- two shifts of each lane and an or are a rotation
 abbrev Rotates : ℕ → List ℕ → List ℕ → Type 0
@@ -22,33 +18,31 @@ Rotates k a b = (j : ℕ) → j < 4
     (zip2 (λ x n. x * 2 ^ n % 2 ^ 64) (zip2 bit_xor a b) ((64 - k) ∷ (64 - k) ∷ (64 - k) ∷ (64 - k) ∷ [])) ! j
     ≡ (a ! j ⊻ b ! j) ⋙ k
 
--- so it is for rows of four words
-pub shifts_rotate : (k : ℕ) → 0 < k → k < 64 → (a : List ℕ) → length a ≡ 4 → (b : List ℕ) → length b ≡ 4 → Rotates k a b
-shifts_rotate k low high =
+-- so it is for one lane
+rotates : (k x : ℕ) → 0 < k → k < 64 → bit_or (x / 2 ^ k) (x * 2 ^ (64 - k) % 2 ^ 64) ≡ x ⋙ k
+rotates k x low high =
     let right : k % 64 ≡ k = omega arith in
-    let left : (64 - k) % 64 ≡ 64 - k = omega arith in
-    let lane : (x y : ℕ) → bit_or ((x ⊻ y) / 2 ^ k) ((x ⊻ y) * 2 ^ (64 - k) % 2 ^ 64) ≡ (x ⊻ y) ⋙ k =
-    λ x y. rw (rotate_right, right, left) refl in
-    four_lanes (λ a. (b : List ℕ) → length b ≡ 4 → Rotates k a b) (λ a0 a1 a2 a3.
-    four_lanes (Rotates k (a0 ∷ a1 ∷ a2 ∷ a3 ∷ [])) (λ b0 b1 b2 b3.
-    below_four _ (lane a0 b0) (lane a1 b1) (lane a2 b2) (lane a3 b3)))
+    let left : (64 - k) % 64 ≡ 64 - k = omega arith in rw (rotate_right, right, left) refl
+
+-- and for rows of four words
+pub shifts_rotate : (k : ℕ) → 0 < k → k < 64 → (a : List ℕ) → length a ≡ 4 → (b : List ℕ) → length b ≡ 4 → Rotates k a b
+shifts_rotate k low high (a ∷ b ∷ c ∷ d ∷ []) four (e ∷ f ∷ g ∷ h ∷ []) too =
+    below_four _ (rotates k (a ⊻ e) low high) (rotates k (b ⊻ f) low high) (rotates k (c ⊻ g) low high)
+    (rotates k (d ⊻ h) low high)
+shifts_rotate k low high _ four _ too = absurd (omega arith)
 
 -- word j of each row
 abbrev column : List (List ℕ) → ℕ → List ℕ
-column v j = word v 0 j ∷ word v 1 j ∷ word v 2 j ∷ word v 3 j ∷ []
+column v j = map (λ i. row v i ! j) (range_with_len 0 4)
 
 -- the columns of r are those of v, each mixed by G
 abbrev Mixes : List (List ℕ) → List (List ℕ) → List ℕ → List ℕ → Type 0
 Mixes r v x y = (j : ℕ) → j < 4 → column r j ≡ mix (column v j) 0 1 2 3 (x ! j) (y ! j)
 
--- equal rows have equal words
-at : (xs ys : List ℕ) → xs ≡ ys → (i : ℕ) → xs ! i ≡ ys ! i
-at xs ys e i = ap (λ l. l ! i) e
-
 -- four columns, lane by lane
-pub columns-rows : (r v : List (List ℕ)) (x y : List ℕ) → Mixes r v x y → words r ≡ columns (words v) x y
+pub columns_rows : (r v : List (List ℕ)) (x y : List ℕ) → Mixes r v x y → words r ≡ columns (words v) x y
 unfolding mix columns
-columns-rows r v x y mixes = grind arith
+columns_rows r v x y mixes = grind arith
 
 -- four diagonals, as columns: all rows but the second are rotated (a, c and d), their columns are mixed, and then they
 -- are rotated back (a', c' and d')

@@ -22,13 +22,13 @@ unfolding schedule
 picked-row m r k size below row = pick_l_left 0 m m 16 (sigma_row k) size below ∙ rw row refl
 
 -- the working vector before the first round, written out
-pub start-is : (h : List ℕ) (t : ℕ) (last : Bool) → length h ≡ 8
+pub start_is : (h : List ℕ) (t : ℕ) (last : Bool) → length h ≡ 8
     → start h t last ≡ h ! 0 ∷ h ! 1 ∷ h ! 2 ∷ h ! 3 ∷ h ! 4 ∷ h ! 5 ∷ h ! 6 ∷ h ! 7 ∷ iv ! 0 ∷ iv ! 1 ∷ iv ! 2 ∷ iv ! 3
     ∷ (iv ! 4 ⊻ t % 2 ^ 64) ∷ (iv ! 5 ⊻ t / 2 ^ 64) ∷ (if last then bit_not w64 (iv ! 6) else iv ! 6) ∷ iv ! 7 ∷ []
 unfolding start
-start-is (a ∷ b ∷ c ∷ d ∷ e ∷ f ∷ g ∷ h ∷ []) t true size = refl
-start-is (a ∷ b ∷ c ∷ d ∷ e ∷ f ∷ g ∷ h ∷ []) t false size = refl
-start-is _ t last size = absurd (omega arith)
+start_is (a ∷ b ∷ c ∷ d ∷ e ∷ f ∷ g ∷ h ∷ []) t true size = refl
+start_is (a ∷ b ∷ c ∷ d ∷ e ∷ f ∷ g ∷ h ∷ []) t false size = refl
+start_is _ t last size = absurd (omega arith)
 
 -- there are as many chunks as were asked for
 pub length-first_chunks : {X : Type 0} (n k : ℕ) (xs : List X) → length (first_chunks n k xs) ≡ k
@@ -51,11 +51,9 @@ little_number-take xs long = grind arith
 pub block_words-is : (m block : List ℕ) → length m ≡ 16 → length block ≡ 128
     → ((k : ℕ) → k < length m → m ! k ≡ little_number 8 (drop (8 * k) block)) → m ≡ block_words block
 block_words-is m block sixteen size read =
-    let count : length (map (little_number 8) (first_chunks 8 16 block)) ≡ 16 =
-    length-map (first_chunks 8 16 block) (little_number 8) in
+    let count = length-map (first_chunks 8 16 block) (little_number 8) in
     ext_get_or 0 m _ (sixteen ∙ sym count) (λ i below.
-    let i_below : i < 16 = omega arith in
-    let chunk = get_or-first_chunks 8 16 block i [] i_below in
-    let word = get_or-map (little_number 8) (first_chunks 8 16 block) i [] 0 i_below in
+    let here : i < 16 = omega arith in
     let long : 8 ≤ length (drop (8 * i) block) = omega (arith, length-drop (8 * i) block) in
-    read i below ∙ sym (word ∙ ap (little_number 8) chunk ∙ little_number-take (drop (8 * i) block) long))
+    read i below ∙ sym (get_or-map (little_number 8) (first_chunks 8 16 block) i [] 0 here
+    ∙ rw (get_or-first_chunks 8 16 block i [] here) (little_number-take (drop (8 * i) block) long)))

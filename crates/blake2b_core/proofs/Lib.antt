@@ -1,4 +1,3 @@
 pub mod CompressionLemmas
 pub mod BlockLemmas
-pub mod BufferLemmas
 pub mod ColumnLemmas

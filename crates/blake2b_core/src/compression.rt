@@ -51,6 +51,7 @@ fn round(m: Simd<u64, 16>, v: [u64x4; 4], r: usize) -> [u64x4; 4]
 
 // The working vector before the first round.
 #[inline(always)]
+#[tactic(auto, using(crate::proofs::CompressionLemmas::start_is))]
 fn start(h: &[u64; 8], t: u128, last: bool) -> [u64x4; 4]
     ensures { words result ≡ start h.now t last }
 {

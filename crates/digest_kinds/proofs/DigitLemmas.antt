@@ -1,6 +1,7 @@
 -- Digits that spell a digest, and decoding them.
-use Rattle.std.proofs.Common.{◌≡◌, ℕ, ◌/◌, ◌≤◌, ◌↔◌, List, length, Result, Ok, Err, IsOk, MatchResult, arith, refl, Bool, true, ltb, [], ◌∷◌, ◌<◌, ◌&&◌, IsAscii, IsUtf8, rules}
-use Rattle.std.proofs.lemmas.Bool.Decides.{Decides-by_and, Decides-ltb}
+use Rattle.std.proofs.Common.{◌≡◌, ℕ, ◌/◌, ◌≤◌, ◌↔◌, List, length, Result, Ok, Err, IsOk, MatchResult, arith, refl, ltb, IsAscii, IsUtf8, rules}
+use Rattle.std.proofs.lemmas.Bool.{ltb-true}
+use Rattle.std.proofs.lemmas.List.Sums.{AllPass-from_list_all}
 use Rattle.std.proofs.lemmas.Str.{IsUtf8-from_ascii}
 use Rattle.std.proofs.lemmas.Str.Ascii.{IsAscii-from_all}
 use Rattle.hex.specs.Hex.{decode_sized, encode_lower, lower_digits}
@@ -15,17 +16,11 @@ pub IsOk-decoded : {n : ℕ} (text : List ℕ) (r : Result Unit FromHexError) (o
     → IsOk r ↔ IsDigits text
 IsOk-decoded text r out half low high written = grind (arith, IsOk-decode_sized, IsOk-written)
 
--- whether all are ASCII, as a test that computes
-abbrev all_ascii : List ℕ → Bool
-all_ascii [] = true
-all_ascii (b ∷ bs) = ltb b 128 && all_ascii bs
-
 -- the digits are ASCII
 IsAscii-lower_digits : IsAscii lower_digits
 IsAscii-lower_digits =
-    let below = λ (b : ℕ). Decides-ltb b 128 in
-    let all = Decides-by_and (λ b. ltb b 128) (λ b. b < 128) all_ascii below refl (λ _ _. refl) lower_digits in
-    IsAscii-from_all lower_digits (all.0 refl)
+    let pass = AllPass-from_list_all (λ b. ltb b 128) lower_digits refl in
+    IsAscii-from_all lower_digits (λ k d below. ltb-true _ 128 (pass k d below))
 
 -- digits are a text
 pub IsUtf8-encode_lower : (bytes : List ℕ) → IsUtf8 (encode_lower bytes)

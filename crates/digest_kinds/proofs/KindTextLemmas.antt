@@ -1,22 +1,20 @@
 -- What follows a tag is read as the width of a kind, and the text of a kind names it.
-use Rattle.std.proofs.Common.{ℕ, ◌↔◌, ◌≤◌, IsUtf8, codes, append-nil, ◌≡◌, true, false, ◌==◌, List, [], ◌∷◌, ◌++◌, length, drop, Some, refl, ap, sym, ◌∙◌, inl, inr, arith, rules, take_while, option_map, decimal, ◌*◌}
+use Rattle.std.proofs.Common.{ℕ, ◌≤◌, IsUtf8, codes, ◌≡◌, true, false, ◌==◌, List, [], ◌∷◌, ◌++◌, length, drop, Some, refl, ap, inl, inr, arith, rules, take_while, option_map, decimal, ◌*◌}
 use Rattle.std.proofs.lemmas.Grind.{common_steps}
 use Rattle.std.specs.Char.{is_ascii_digit}
 use Rattle.std.specs.List.{AllPass}
-use Rattle.std.proofs.lemmas.Bool.{and_from, le-leb}
 use Rattle.std.proofs.lemmas.Bool.Decides.{eqb_tells}
 use Rattle.std.proofs.lemmas.Option.{same_Some}
 use Rattle.std.proofs.lemmas.Fmt.{IsAscii-decimal, length-decimal-le}
 use Rattle.std.proofs.lemmas.Str.{IsAscii-append, IsUtf8-from_ascii}
 use Rattle.std.proofs.lemmas.List.{drop_at}
-use Rattle.std.proofs.lemmas.List.Prefix.{front_rest}
 use Rattle.digest_kinds.proofs.TagLemmas.{find-begins}
 use Rattle.digest_kinds.proofs.KindLemmas.{has_len-full, has_len-range}
 use Rattle.digest_kinds.specs.Basics.{after_while}
 use Rattle.digest_kinds.specs.Kinds.{Algo, Blake2b, KindValue, BeginsWithTag, full_kind, full_len, has_len, tag}
 use Rattle.digest_kinds.specs.KindTexts.{IsWidth, NamesKind, kind_and_rest, kind_of_digits, kind_text}
 use Rattle.digest_kinds.proofs.BitsLemmas.{kind_of_digits-bits, kind_of_digits-some, decimal-digits}
-use Rattle.digest_kinds.proofs.PrefixLemmas.{map_some, prefix-and-rest, prefix_len-all}
+use Rattle.digest_kinds.proofs.PrefixLemmas.{map_some, prefix_passes, prefix-and-rest, prefix_len-all}
 
 -- what follows an algorithm's tag is the width of a kind of that algorithm, and then what is left
 pub record HasWidth (a : Algo) (s : List ℕ) (w : KindValue × List ℕ) : Type 0 where
@@ -36,9 +34,8 @@ width-bits : (s : List ℕ) (w : KindValue × List ℕ)
     → HasWidth Blake2b (45 ∷ s) w
 width-bits s w h =
     let k = map_some (λ k. (k, after_while is_ascii_digit s)) (kind_of_digits (take_while is_ascii_digit s)) h in
-    let bits = kind_of_digits-some (take_while is_ascii_digit s) k.0 k.1 in
-    let has : has_len Blake2b bits.len ≡ true =
-    and_from _ _ (le-leb 1 bits.len bits.some) (le-leb bits.len 64 bits.few) in
+    let bits = kind_of_digits-some (take_while is_ascii_digit s) k.0 (prefix_passes is_ascii_digit s) k.1 in
+    let has : has_len Blake2b bits.len ≡ true = grind (arith, bits.some, bits.few) in
     rw (← k.2, bits.is) (record {
       is_algo = refl;
       width = 45 ∷ take_while is_ascii_digit s;
@@ -67,22 +64,22 @@ pub kind_and_rest-alone : (kind : KindValue) (width : List ℕ) → IsWidth kind
     → kind_and_rest kind.algo width ≡ Some (kind, [])
 kind_and_rest-alone kind width is = search (rules, digits-alone, decimal-digits, kind_of_digits-bits)
 
--- so a text that begins with a tag names the kind that is read after the tag, if nothing follows
-pub names-read : (s : List ℕ) (a : Algo) → BeginsWithTag s a → (kind : KindValue)
-    → NamesKind s kind ↔ (kind_and_rest a (drop (length (tag a)) s) ≡ Some (kind, []))
-names-read s a begun kind = (
-  λ named.
-      let first = rw (← named.1) at (find-begins kind.algo named.0) in
-      let second = rw (← begun.1) at (find-begins a begun.0) in
-      let same : kind.algo ≡ a = same_Some kind.algo a (sym first ∙ second) in
-      rw (← same, named.1, drop_at (tag kind.algo) named.0 (length (tag kind.algo)) refl)
-      (kind_and_rest-alone kind named.0 named.2),
-  λ read.
-      let has = kind_and_rest-some a (drop (length (tag a)) s) (kind, []) read in
-      let whole : s ≡ tag a ++ drop (length (tag a)) s = rw (front_rest s (tag a) begun.0 begun.1) begun.1 in
-      let text = ap (λ l. tag a ++ l) (has.whole ∙ append-nil has.width) in
-      (has.width, whole ∙ text ∙ ap (λ b. tag b ++ has.width) (sym has.is_algo), has.is_width),
-)
+-- so a kind that a text names is read after the tag that begins the text, and nothing follows
+pub named_read : (s : List ℕ) (a : Algo) (kind : KindValue) → BeginsWithTag s a → NamesKind s kind
+    → kind_and_rest a (drop (length (tag a)) s) ≡ Some (kind, [])
+named_read s a kind begun named =
+    let first = rw (← named.1) at (find-begins kind.algo named.0) in
+    let second = rw (← begun.1) at (find-begins a begun.0) in
+    let same : kind.algo ≡ a = cc in
+    rw (← same, named.1, drop_at (tag kind.algo) named.0 (length (tag kind.algo)) refl)
+    (kind_and_rest-alone kind named.0 named.2)
+
+-- and the text names what is read so
+pub read_named : (s : List ℕ) (a : Algo) (kind : KindValue) → BeginsWithTag s a
+    → kind_and_rest a (drop (length (tag a)) s) ≡ Some (kind, []) → NamesKind s kind
+read_named s a kind begun read =
+    let has = kind_and_rest-some a (drop (length (tag a)) s) (kind, []) read in
+    (has.width, grind (arith, common_steps, begun.1, has.whole, has.is_algo), has.is_width)
 
 -- ---- the text of a kind
 

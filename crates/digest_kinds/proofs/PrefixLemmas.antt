@@ -1,11 +1,10 @@
 -- Options that have something, and the longest prefix that passes.
-use Rattle.std.proofs.Common.{ℕ, ◌≡◌, Bool, true, false, List, [], ◌∷◌, ◌++◌, length, Option, None, Some, Result, Ok, refl, sym, arith, inl, inr, take_while, option_map}
+use Rattle.std.proofs.Common.{ℕ, ◌≡◌, Bool, true, false, List, [], ◌∷◌, ◌++◌, length, Option, None, Some, Result, Ok, refl, sym, arith, take_while, option_map}
 use Rattle.std.specs.List.{AllPass, prefix_len}
 use Rattle.std.specs.Result.{result_ok}
-use Rattle.std.proofs.lemmas.Bool.{cases_Bool}
 use Rattle.std.proofs.lemmas.List.{take-append-drop, take_at, drop_at}
 use Rattle.std.proofs.lemmas.List.Sums.{take_while-cons}
-use Rattle.std.proofs.lemmas.List.Elements.{All-cons, All-head, All-tail, All-nil}
+use Rattle.std.proofs.lemmas.List.Elements.{All-head, All-tail, All-nil}
 use Rattle.digest_kinds.specs.Basics.{◌>>=◌, after_while}
 
 -- a step that gives something had something to go on with
@@ -31,11 +30,7 @@ none_of o h = grind arith
 -- its bytes pass
 pub prefix_passes : (p : ℕ → Bool) (xs : List ℕ) → AllPass p (take_while p xs)
 prefix_passes p [] = All-nil (λ x. p x ≡ true)
-prefix_passes p (x ∷ xs) = elim (cases_Bool (p x)) [
-  | inl pass ↦ rw (take_while-cons p x xs, pass)
-      (All-cons (λ x. p x ≡ true) x (take_while p xs) pass (prefix_passes p xs))
-  | inr stop ↦ rw (take_while-cons p x xs, stop) (All-nil (λ x. p x ≡ true))
-]
+prefix_passes p (x ∷ xs) = grind (arith, prefix_passes p xs, take_while-cons)
 
 -- it joins with what follows it
 pub prefix-and-rest : (p : ℕ → Bool) (xs : List ℕ) → xs ≡ take_while p xs ++ after_while p xs
@@ -52,9 +47,7 @@ prefix_len-stop p (x ∷ xs) y ys all stop =
 pub prefix_len-all : (p : ℕ → Bool) (xs : List ℕ) → AllPass p xs → prefix_len p xs ≡ length xs
 prefix_len-all p [] all = refl
 prefix_len-all p (x ∷ xs) all =
-    let head : p x ≡ true = All-head (λ x. p x ≡ true) x xs all in
-    let more = prefix_len-all p xs (All-tail (λ x. p x ≡ true) x xs all) in
-    rw head (omega arith)
+    grind (arith, prefix_len-all p xs (All-tail (λ x. p x ≡ true) x xs all), All-head)
 
 -- so that byte parts the prefix from the rest
 pub parts-at : (p : ℕ → Bool) (xs : List ℕ) (y : ℕ) (ys : List ℕ) → AllPass p xs → p y ≡ false

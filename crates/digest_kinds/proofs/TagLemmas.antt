@@ -3,6 +3,7 @@ use Rattle.std.proofs.Common.{◌≡◌, refl, sym, ℕ, Bool, true, List, [], �
 use Rattle.std.specs.List.{starts_with}
 use Rattle.std.proofs.lemmas.Slice.Eq.{starts_is}
 use Rattle.std.proofs.lemmas.Bool.Decides.{Decides-eqb}
+use Rattle.digest_kinds.proofs.PrefixLemmas.{none_of}
 use Rattle.digest_kinds.specs.Kinds.{all_algos, tag, BeginsWithTag, Algo}
 
 -- whether the algorithm's tag is a prefix of the bytes
@@ -28,8 +29,5 @@ IfSome-find-begins bytes (a ∷ algos) = grind (arith, IfSome-find-begins bytes 
 pub search-is : (bytes : List ℕ) (r : Option Algo) → IfSome r (λ a. BeginsWithTag bytes a)
     → ((a : Algo) → BeginsWithTag bytes a → r ≡ Some a) → r ≡ find (begins bytes) all_algos
 search-is bytes (Some a) tagged found = rw tagged.1 (sym (find-begins a tagged.0))
-search-is bytes None tagged found = go (find (begins bytes) all_algos) (IfSome-find-begins bytes all_algos)
-  where
-    go : (o : Option Algo) → IfSome o (λ a. BeginsWithTag bytes a) → None ≡ o
-    go None begun = refl
-    go (Some a) begun = let bad = found a begun in cc
+search-is bytes None tagged found =
+    none_of _ (λ a h. let bad = found a (rw h at (IfSome-find-begins bytes all_algos)) in cc)

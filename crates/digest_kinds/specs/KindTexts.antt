@@ -1,9 +1,10 @@
 -- The texts that name kinds: a tag and, for BLAKE2b, the digest's bits.
-use Rattle.std.specs.Prelude.{◌≡◌, ◌*◌, ◌⊎◌, ◌==◌, [], ◌∷◌, ◌++◌, codes, IsTrue, Option, Some, option_map, if◌then◌else◌, decimal, bytes_eq, find, take_while}
+use Rattle.std.specs.Prelude.{◌≡◌, ℕ, ◌*◌, ◌⊎◌, ◌==◌, ◌&&◌, not, nat_lt, [], ◌∷◌, ◌++◌, length, codes, IsTrue, Option, None, Some, option_map, if◌then◌else◌, decimal, take_while}
 use Rattle.std.specs.Char.{is_ascii_digit}
-use Rattle.std.specs.List.{range_with_len}
-use Rattle.digest_kinds.specs.Basics.{ByteString, after_while}
-use Rattle.digest_kinds.specs.Kinds.{Algo, Blake2b, KindValue, blake2b_kind, full_kind, full_len, has_len, tag}
+use Rattle.std.specs.Result.{result_ok}
+use Rattle.std.specs.Str.Parse.{digits_value}
+use Rattle.digest_kinds.specs.Basics.{ByteString, ◌>>=◌, after_while}
+use Rattle.digest_kinds.specs.Kinds.{Algo, Blake2b, KindValue, blake2b_of_bits, full_kind, full_len, has_len, tag}
 
 -- the text that names a kind: the tag and, for a BLAKE2b digest that isn't full, its bits, as `BLAKE2b-256`
 abbrev pub kind_text : KindValue → ByteString
@@ -24,9 +25,14 @@ TextsNameKinds = (kind : KindValue) → IsTrue (has_len kind.algo kind.len) → 
 
 -- ---- computed: these need not be believed
 
+-- the number that one to three digits without a leading zero write
+abbrev pub short_number : ByteString → Option ℕ
+short_number [] = None
+short_number (d ∷ ds) = if not (d == 48) && nat_lt (length ds) 3 then Some (digits_value 10 (d ∷ ds)) else None
+
 -- BLAKE2b with as many bits as these digits write
 abbrev pub kind_of_digits : ByteString → Option KindValue
-kind_of_digits ds = option_map blake2b_kind (find (λ n. bytes_eq (decimal (8 * n)) ds) (range_with_len 1 64))
+kind_of_digits ds = short_number ds >>= (λ bits. result_ok (blake2b_of_bits bits))
 
 -- the kind that follows a tag, and what follows that: for BLAKE2b a `-` (45) may precede its bits
 abbrev pub kind_and_rest : Algo → ByteString → Option (KindValue × ByteString)

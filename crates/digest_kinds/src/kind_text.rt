@@ -7,8 +7,7 @@ ghost use Rattle.std.specs.List.{AllPass, prefix_len};
 ghost use Rattle.std.specs.Option.{option_map};
 ghost use Rattle.digest_kinds.specs.Basics.{after_while};
 ghost use Rattle.digest_kinds.specs.Kinds.{BeginsWithTag, KindValue, tag};
-ghost use Rattle.digest_kinds.specs.KindTexts.{NamesKind, kind_and_rest, kind_of_digits, kind_text};
-ghost use Rattle.digest_kinds.specs.refinement.ShortNumbers.{short_number};
+ghost use Rattle.digest_kinds.specs.KindTexts.{NamesKind, kind_and_rest, kind_of_digits, kind_text, short_number};
 
 use crate::algo::Algo;
 use crate::kind::Kind;
@@ -29,6 +28,7 @@ pub struct KindPrefix<'a> {
 impl Kind {
     /// The text that names the kind: the algorithm's tag and, for a BLAKE2b kind of fewer than 64 bytes, a `-` and its
     /// bits, as `BLAKE2b-256`. It may be in `buffer`, whose old content doesn't matter.
+    #[tactic(auto, using(crate::proofs::KindTextLemmas::length_bits))]
     pub fn text_into(self, buffer: &mut [u8; 11]) -> &str
         ensures { result.now ≡ kind_text self }
     {
@@ -113,7 +113,6 @@ fn count_digits(bytes: &[u8]) -> usize
 }
 
 // BLAKE2b with as many bits as the digits write, a multiple of 8 up to 512.
-#[tactic(auto, using(crate::proofs::BitsLemmas::number_kind, crate::proofs::BitsLemmas::number_none))]
 fn kind_of_digits(digits: &[u8]) -> Option<Kind>
     requires { AllPass is_ascii_digit digits.now }
     ensures { result ≡ kind_of_digits digits.now }

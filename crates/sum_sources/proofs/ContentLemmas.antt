@@ -1,17 +1,9 @@
--- Contents that are the same, what was read of one so far, and when it is its own clip.
+-- When a content is its own clip, and the digest of some content.
 use Rattle.std.proofs.Common.{◌≡◌, ℕ, ◌^◌, ◌<◌, List, [], ◌++◌, length, Option, None, Some, IfSome, Ok, Err, refl, nat_lt, arith}
 use Rattle.std.proofs.lemmas.Bool.{cond-true, lt-ltb}
 use Rattle.digest_kinds.specs.Kinds.{KindValue, digest}
-use Rattle.sum_sources.specs.Contents.{Content, Whole, Broken, Hashes, clip_to, clip, limit, with_prefix}
+use Rattle.sum_sources.specs.Contents.{Content, Whole, Broken, Hashes, HashesInput, clip_to, clip, limit}
 use Rattle.sum_sources.specs.Faults.{Fault}
-
--- these bytes were read between the two
-abbrev pub Gave : Content → Content → List ℕ → Type 0
-Gave c d bytes = (c.bytes ≡ bytes ++ d.bytes) × (d.ending ≡ c.ending)
-
--- so the first is the second with them as a prefix
-pub Gave-is : (c d : Content) (bytes : List ℕ) → Gave c d bytes → c ≡ with_prefix bytes d
-Gave-is c d bytes gave = grind arith
 
 -- the limit as a number
 pub limit-value : limit ≡ 2 ^ 61
@@ -28,8 +20,7 @@ clip-short c short = clip_to-short limit c (rw limit-value short)
 
 -- some content has the digest of these bytes, or the known one
 pub some_digest : (kind : KindValue) (x : Option Content) (m d : List ℕ) → length m < 2 ^ 61 → d ≡ digest kind m
-    → IfSome x (λ c. Hashes kind (clip c) (Ok d))
-    → (c : Content) × IfSome x (λ k. c ≡ k) × Hashes kind (clip c) (Ok d)
+    → IfSome x (λ c. Hashes kind (clip c) (Ok d)) → HashesInput kind x (Ok d)
 some_digest kind None m d few is h =
     let c : Content = record { bytes = m; ending = Whole } in
     (c, tt, rw (clip-short c few) (refl, is))
@@ -37,7 +28,7 @@ some_digest kind (Some c) m d few is h = (c, refl, h)
 
 -- some content ends by this fault, or the known one
 pub some_fault : (kind : KindValue) (x : Option Content) (f : Fault) → IfSome x (λ c. Hashes kind (clip c) (Err f))
-    → (c : Content) × IfSome x (λ k. c ≡ k) × Hashes kind (clip c) (Err f)
+    → HashesInput kind x (Err f)
 some_fault kind None f h =
     let c : Content = record { bytes = []; ending = Broken f } in
     (c, tt, rw (clip-short c (omega arith)) refl)

@@ -20,43 +20,19 @@ length-clip_to n c some = grind (arith, common_steps)
 -- a prefix of a content may be clipped with it or before it
 clip_to-with_prefix : (n k : ℕ) (prefix : List ℕ) (c : Content) → n ≡ length prefix + k → 0 < k
     → clip_to n (with_prefix prefix c) ≡ with_prefix prefix (clip_to k c)
-clip_to-with_prefix n k prefix c sum some = elim (cases_lt (length c.bytes) k) [
-  | inl short ↦
-      rw (clip_to-short k c short)
-      (clip_to-short n (with_prefix prefix c) (omega (arith, length-append prefix c.bytes)))
-  | inr long ↦
-      let size : n - 1 ≡ length prefix + (k - 1) = omega arith in
-      let longer : n ≤ length (prefix ++ c.bytes) = omega (arith, length-append prefix c.bytes) in
-      rw (clip_to-long n (with_prefix prefix c) longer, clip_to-long k c long, size, take-append-add) refl
-]
+clip_to-with_prefix n k prefix c sum some =
+    let size : n - 1 ≡ length prefix + (k - 1) = omega arith in
+    let cut : take (n - 1) (prefix ++ c.bytes) ≡ prefix ++ take (k - 1) c.bytes = rw (size, take-append-add) refl in
+    grind (arith, length-append {A = ℕ}, cut)
 
 -- bytes that all count, or the end
 pub clipped-bytes : (c d : Content) (part rest : List ℕ) (n t : ℕ) → n ≤ length part → 0 < length part
     → t + n < 2 ^ 61 → ReadsFrom c d (Ok n) part
     → ReadsFrom (clip_to (limit - t) c) (clip_to (limit - (t + n)) d) (Ok n) (part ++ rest)
 clipped-bytes c d [] rest n t few some fits read = absurd (omega arith)
-clipped-bytes c d (b ∷ part) rest zero t few some fits read =
-    rw read (clip_to-short (limit - t) empty_content (rw limit-value (omega arith)))
+clipped-bytes c d (b ∷ part) rest zero t few some fits read = grind (arith, limit-value)
 clipped-bytes c d (b ∷ part) rest (suc n) t few some fits read =
-    let size : length (take (suc n) (b ∷ part)) ≡ suc n = length-take-le (suc n) (b ∷ part) few in
-    rw read
-    (clip_to-with_prefix (limit - t) (limit - (t + suc n)) (take (suc n) (b ∷ part)) d
-    (rw limit-value (omega arith)) (rw limit-value (omega arith))
-    ∙ ap (λ bytes. with_prefix bytes (clip_to (limit - (t + suc n)) d))
-    (sym (take-append-le (suc n) (b ∷ part) rest few)))
-
--- a fault
-pub clipped-fault : (c d : Content) (f : Fault) (t : ℕ) → t < 2 ^ 61 → ReadsFrom c d (Err f) []
-    → ReadsFrom (clip_to (limit - t) c) (clip_to (limit - t) d) (Err f) []
-clipped-fault c d f t few read = grind (arith, limit-value)
-
--- the byte that doesn't count
-pub clipped-long : (c d : Content) (part : List ℕ) (n t : ℕ) → n ≤ length part → n ≡ 1 → t + n ≡ 2 ^ 61
-    → ReadsFrom c d (Ok n) part
-    → ReadsFrom (clip_to (limit - t) c) (clip_to (limit - (t + n)) d) (Err Other) []
-clipped-long c d part n t few one full read = grind (arith, limit-value)
-
--- nothing more is read then
-pub clipped-none : (x : Option Content) (t : ℕ) → t ≡ 2 ^ 61
-    → IfKnown x x (λ c d. ReadsFrom (clip_to (limit - t) c) (clip_to (limit - t) d) (Err Other) [])
-clipped-none x t full = grind (arith, limit-value)
+    let size = length-take-le (suc n) (b ∷ part) few in
+    let clipped = clip_to-with_prefix (limit - t) (limit - (t + suc n)) (take (suc n) (b ∷ part)) d
+    (rw limit-value (omega arith)) (rw limit-value (omega arith)) in
+    grind (arith, take-append-le, clipped)

@@ -7,9 +7,8 @@ use Rattle.std.proofs.lemmas.List.{append-nil}
 use Rattle.std.proofs.lemmas.List.Splits.{slice_split_at, slice_split_none, length-slice_split}
 use Rattle.std.proofs.lemmas.List.Elements.{All-head, All-tail}
 use Rattle.sum_sources.specs.Faults.{Fault}
-use Rattle.sum_sources.specs.Contents.{Ending, Whole, Broken, Content, empty_content}
+use Rattle.sum_sources.specs.Contents.{Ending, Whole, Broken, Content, empty_content, with_prefix}
 use Rattle.sum_sources.specs.ManifestLines.{Line, NoMore, last_line, raw_lines, lines, HasNoNewline, IsNextLine}
-use Rattle.sum_sources.proofs.ContentLemmas.{Gave, Gave-is}
 use Rattle.sum_sources.specs.declared.line_reader.LineStop.TheVariants as stops
 
 -- a newline ends the first piece
@@ -41,27 +40,20 @@ pub lines-nil : (e : Ending) → lines (record { bytes = []; ending = e }) ≡ [
 lines-nil e = ap (map strip_carriage_return) (pieces-nil e)
 
 -- a newline ends the first line
-pub IsNextLine-ended : (c d : Content) (piece : List ℕ) → HasNoNewline piece → Gave c d (piece ++ 10 ∷ [])
-    → IsNextLine c d (Ok Line) (strip_carriage_return piece)
-IsNextLine-ended c d piece none gave = grind (arith, append_assoc, after_piece, pieces-newline)
+pub IsNextLine-ended : (d : Content) (piece : List ℕ) → HasNoNewline piece
+    → IsNextLine (with_prefix (piece ++ 10 ∷ []) d) d (Ok Line) (strip_carriage_return piece)
+IsNextLine-ended d piece none = grind (arith, append_assoc, after_piece, pieces-newline)
 
 -- a last piece that isn't empty is the only line left
-pub IsNextLine-last : (c : Content) (piece : List ℕ) → HasNoNewline piece → 0 < length piece
-    → Gave c empty_content piece
-    → IsNextLine c empty_content (Ok Line) (strip_carriage_return piece)
-IsNextLine-last c piece none some gave = search (rules, after_piece, pieces-last)
-
--- if nothing remains, there is no line
-pub IsNextLine-none : (c : Content) (line : List ℕ) → Gave c empty_content []
-    → IsNextLine c empty_content (Ok NoMore) line
-IsNextLine-none c line gave = rw (Gave-is c empty_content [] gave) (lines-nil Whole, refl)
+pub IsNextLine-last : (piece : List ℕ) → HasNoNewline piece → 0 < length piece
+    → IsNextLine (with_prefix piece empty_content) empty_content (Ok Line) (strip_carriage_return piece)
+IsNextLine-last piece none some = search (rules, after_piece, pieces-last)
 
 -- a fault leaves no line, whatever precedes it
-pub IsNextLine-fault : (c d : Content) (f : Fault) (piece : List ℕ) → HasNoNewline piece
-    → Gave c (record { bytes = []; ending = Broken f }) piece → IsNextLine c d (Err (stops.Fault f)) []
-IsNextLine-fault c d f piece none gave =
-    rw (Gave-is c (record { bytes = []; ending = Broken f }) piece gave, append-nil)
-    (ap (map strip_carriage_return) (pieces-last (Broken f) piece none), refl)
+pub IsNextLine-fault : (d : Content) (f : Fault) (piece : List ℕ) → HasNoNewline piece
+    → IsNextLine (with_prefix piece (record { bytes = []; ending = Broken f })) d (Err (stops.Fault f)) []
+IsNextLine-fault d f piece none =
+    rw append-nil (ap (map strip_carriage_return) (pieces-last (Broken f) piece none), refl)
 
 -- what has a line has a byte
 some_bytes : (bytes line : List ℕ) (e : Ending) (ls : List (List ℕ))

@@ -1,9 +1,9 @@
 -- Contents that may remain, and what may have remained before them.
-use Rattle.std.proofs.Common.{◌≡◌, ℕ, ◌+◌, ◌-◌, ◌^◌, ◌<◌, ◌≤◌, List, length, Option, None, Some, IfSome, MatchOption, Result, OnOk, option_map, refl, subst, arith, length-append}
+use Rattle.std.proofs.Common.{◌≡◌, ℕ, ◌+◌, ◌-◌, ◌^◌, ◌<◌, ◌≤◌, List, ◌++◌, length, Option, None, Some, IfSome, MatchOption, Result, OnOk, option_map, refl, subst, arith, length-append}
 use Rattle.sum_sources.specs.Contents.{Content, Whole, InputState, IfKnown, limit, clip_to, with_prefix}
 use Rattle.sum_sources.specs.ManifestLines.{Next, LineStop, IsNextLine}
 use Rattle.sum_sources.specs.LineReaders.{LineReaderValue, MayRemain, remaining_content, consumed_count}
-use Rattle.sum_sources.proofs.ContentLemmas.{Gave, limit-value}
+use Rattle.sum_sources.proofs.ContentLemmas.{limit-value}
 use Rattle.sum_sources.proofs.LimitLemmas.{length-clip_to}
 
 -- what holds of a content that may remain holds of the known one
@@ -38,18 +38,14 @@ some_ahead None ahead taken few some =
 some_ahead (Some c) ahead taken few some =
     (with_prefix ahead (clip_to (limit - taken) c), refl, rw length-append (omega arith))
 
--- a line of some content that may have remained before these bytes were read of it: of the known one, if it is known
-pub some_line : (F : Type 0) (x y : Option Content) (r : Result Next LineStop) (line bytes : List ℕ) (n m : ℕ)
-    (d e : Content)
-    → IfKnown x y (λ c d. Gave c d bytes) → MatchOption y F (λ b. d ≡ b) → n + (length bytes + length d.bytes) < 2 ^ 61
-    → OnOk r (m + length e.bytes ≡ n + (length bytes + length d.bytes))
-    → ((c : Content) → Gave c d bytes → IsNextLine c e r line)
-    → (c : Content) × MatchOption x (n + length c.bytes < limit) (λ a. c ≡ a) × IsNextLine c e r line
-    × OnOk r (m + length e.bytes ≡ n + length c.bytes)
-some_line F None y r line bytes n m d e read known fits sum of =
-    let c = with_prefix bytes d in
-    (c, rw (limit-value, length-append) fits, of c (refl, refl), rw length-append sum)
-some_line F (Some c) (Some b) r line bytes n m d e read known fits sum of =
-    let gave : Gave c d bytes = rw known read in
-    (c, refl, of c gave, rw (gave.0, length-append) sum)
-some_line F (Some c) None r line bytes n m d e read known fits sum of = absurd read
+-- what may remain is, with the bytes that were read before it, what may have remained then
+pub may_before : (x y : Option Content) (bytes : List ℕ) (n m : ℕ) (d : Content)
+    → IfKnown x y (λ c d. c ≡ with_prefix bytes d) → m ≡ n + length bytes → m + length d.bytes < 2 ^ 61
+    → MatchOption y (m + length d.bytes < limit) (λ b. d ≡ b)
+    → MatchOption x (n + length (bytes ++ d.bytes) < limit) (λ a. with_prefix bytes d ≡ a)
+may_before x y bytes n m d read sum few may = grind (arith, limit-value, length-append {A = ℕ})
+
+-- if just the rest remains, it may remain
+pub only_rest : (x y : Option Content) (n : ℕ) (rest : Content) → IfKnown x y (λ c d. c ≡ rest)
+    → n + length rest.bytes < 2 ^ 61 → MatchOption x (n + length rest.bytes < limit) (λ c. rest ≡ c)
+only_rest x y n rest is few = grind (arith, limit-value)

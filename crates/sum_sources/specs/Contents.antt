@@ -1,8 +1,8 @@
 -- Contents of inputs: the limit of 2^61 bytes, what a read changes, and what hashing an input gives.
-use Rattle.std.specs.Prelude.{ℕ, zero, suc, ◌≡◌, ◌+◌, ◌-◌, ◌^◌, [], ◌++◌, take, length, Option, None, Some, Result, Ok, Err, ⊤, nat_lt, if◌then◌else◌, ◌∷◌, IfOk, IfSome}
+use Rattle.std.specs.Prelude.{ℕ, zero, ◌≡◌, ◌+◌, ◌-◌, ◌^◌, [], ◌++◌, take, length, Option, None, Some, Result, Ok, Err, ⊤, nat_lt, if◌then◌else◌, ◌∷◌, IfSome}
 use Rattle.digest_kinds.specs.Basics.{ByteString}
 use Rattle.digest_kinds.specs.Kinds.{digest, KindValue}
-use Rattle.sum_sources.specs.Phases.{Phase, Unfinished, AtEnd}
+use Rattle.sum_sources.specs.Phases.{Phase}
 use Rattle.sum_sources.specs.Faults.{Fault, Other}
 pub use Rattle.sum_sources.specs.declared.fault.Ending.{Ending}
 pub use Rattle.sum_sources.specs.declared.fault.Ending.TheVariants.{Whole, Broken}
@@ -45,9 +45,8 @@ with_prefix prefix c = record { bytes = prefix ++ c.bytes; ending = c.ending }
 -- a read takes some of the first bytes, or none if there is no room. If no byte remains, it gives the end or the fault
 -- of the content, and what remains after that may be anything
 abbrev pub ReadsFrom : Content → Content → Result ℕ Fault → ByteString → Type 0
-ReadsFrom c d (Ok zero) [] = d ≡ c
 ReadsFrom c d (Ok zero) (b ∷ buf) = c ≡ empty_content
-ReadsFrom c d (Ok (suc n)) buf = c ≡ with_prefix (take (suc n) buf) d
+ReadsFrom c d (Ok n) buf = c ≡ with_prefix (take n buf) d
 ReadsFrom c d (Err f) buf = c ≡ record { bytes = []; ending = Broken f }
 
 -- the digest of a content that ends whole, or the fault by which it ends
@@ -55,11 +54,9 @@ abbrev pub Hashes : KindValue → Content → Result ByteString Fault → Type 0
 Hashes kind c (Ok d) = (c.ending ≡ Whole) × (d ≡ digest kind c.bytes)
 Hashes kind c (Err f) = c.ending ≡ Broken f
 
--- the digest, or the fault, of some content that an input had: of the known one, if it is known. If the input was
--- unfinished before, a digest is returned only if it is at its end
-pub record HashesInput (kind : KindValue) (a b : InputState) (r : Result ByteString Fault) : Type 0 where
-  pub digest : (c : Content) × IfSome a.content (λ d. c ≡ d) × Hashes kind (clip c) r
-  pub phase : IfOk r (λ d. a.phase ≡ Unfinished → b.phase ≡ AtEnd)
+-- the digest, or the fault, of some content that an input had: of the known one, if it is known
+abbrev pub HashesInput : KindValue → Option Content → Result ByteString Fault → Type 0
+HashesInput kind content r = (c : Content) × IfSome content (λ d. c ≡ d) × Hashes kind (clip c) r
 
 -- bytes taken from an input and bytes that remain in it, if they are known, add up to the same
 abbrev pub KeepsTotal : ℕ → InputState → ℕ → InputState → Type 0

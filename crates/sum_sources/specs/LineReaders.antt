@@ -1,10 +1,10 @@
 -- The state of a reader of lines, and what a call changes in it.
-use Rattle.std.specs.Prelude.{ℕ, ◌≡◌, ◌+◌, ◌-◌, ◌^◌, ◌<◌, ◌≤◌, ◌⊎◌, ⊤, [], length, Option, None, Some, Result, Ok, Err, OnOk, MatchOption, option_map}
+use Rattle.std.specs.Prelude.{ℕ, ◌≡◌, ◌+◌, ◌-◌, ◌^◌, ◌<◌, ◌≤◌, ◌⊎◌, [], length, Option, None, Some, Result, Ok, Err, IfOk, OnOk, MatchOption, option_map}
 use Rattle.digest_kinds.specs.Basics.{ByteString}
 use Rattle.sum_sources.specs.Contents.{Broken, Content, InputState, limit, clip_to, empty_content, with_prefix}
 use Rattle.sum_sources.specs.Faults.{Fault}
 use Rattle.sum_sources.specs.ManifestLines.{Next, Line, NoMore, LineStop, HasNoNewline, IsNextLine, lines_after}
-use Rattle.sum_sources.specs.Phases.{Phase, Unfinished, AtEnd}
+use Rattle.sum_sources.specs.Phases.{Unfinished, AtEnd}
 use Rattle.sum_sources.specs.declared.line_reader.LineStop.TheVariants as stops
 
 -- a reader of lines
@@ -57,16 +57,11 @@ abbrev pub IsFinalAnswerAfter : Result Next LineStop → Option (Result Next Lin
 IsFinalAnswerAfter (Ok Line) later = (later ≡ None) ⊎ (later ≡ Some (Ok NoMore))
 IsFinalAnswerAfter answer later = later ≡ Some answer
 
--- the phase of an input matches the final answer: unfinished if there is none yet, and at the end if that is the
--- answer. A stop says nothing of the phase
-abbrev pub MatchesPhase : Option (Result Next LineStop) → Phase → Type 0
-MatchesPhase None phase = phase ≡ Unfinished
-MatchesPhase (Some (Ok n)) phase = phase ≡ AtEnd
-MatchesPhase (Some (Err e)) phase = ⊤
-
--- the reader's input was read as far as its answers say
+-- the reader's input was read as far as its answers say: it is unfinished if no answer is final yet, and at the end if
+-- the final answer says that no line remains. A stop says nothing of it
 abbrev pub IsReadSoFar : {I : Type 0} → (I → InputState) → LineReaderValue I → Type 0
-IsReadSoFar state r = MatchesPhase r.final_answer (state r.input).phase
+IsReadSoFar state r = MatchOption r.final_answer ((state r.input).phase ≡ Unfinished)
+    (λ answer. IfOk answer (λ _. (state r.input).phase ≡ AtEnd))
 
 -- what a call of next_line changes in a reader, known or not
 pub record AdvancesLines {I : Type 0} (state : I → InputState) (old new : LineReaderValue I)

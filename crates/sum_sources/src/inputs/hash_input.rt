@@ -1,6 +1,7 @@
 //! The digest of an input.
 ghost use Rattle.std.specs.Prelude.{◌≡◌, [], length, IfOk};
 ghost use Rattle.sum_sources.specs.Contents.{HashesInput};
+ghost use Rattle.sum_sources.specs.Phases.{Unfinished, AtEnd};
 
 use crate::inputs::size_limit::read_limited;
 use crate::{Fault, Input, PIECE};
@@ -10,7 +11,8 @@ use digest_kinds::{Digest, Hasher};
 /// the input ends. An input of `LIMIT` bytes or more is `Fault::Other`.
 pub fn hash_input<I: Input, H: Hasher + Drop>(input: &mut I, hasher: H) -> Result<Digest, Fault>
     requires { H.holds hasher [] }
-    ensures input { HashesInput (H.kind_of hasher) (I.state input.old) (I.state input.new) result }
+    ensures digest { HashesInput (H.kind_of hasher) (I.state input.old).content result }
+    ensures phase { IfOk result (λ _. (I.state input.old).phase ≡ Unfinished → (I.state input.new).phase ≡ AtEnd) }
 {
     let mut buffer: [u8; PIECE] = [0; PIECE];
     hash_input_over(input, hasher, &mut buffer)
@@ -24,7 +26,8 @@ pub fn hash_input_over<I: Input, H: Hasher + Drop>(
     buffer: &mut [u8; PIECE],
 ) -> Result<Digest, Fault>
     requires { H.holds hasher [] }
-    ensures input { HashesInput (H.kind_of hasher) (I.state input.old) (I.state input.new) result }
+    ensures digest { HashesInput (H.kind_of hasher) (I.state input.old).content result }
+    ensures phase { IfOk result (λ _. (I.state input.old).phase ≡ Unfinished → (I.state input.new).phase ≡ AtEnd) }
     ensures len { IfOk result (λ d. length d ≡ (H.kind_of hasher).len) }
 {
     let mut taken = 0;

@@ -1,8 +1,7 @@
-use Rattle.std.proofs.Common.{ℕ, List, ◌++◌, length, ap}
+use Rattle.std.proofs.Common.{refl}
 use Rattle.std.proofs.lemmas.List.{drop-replicate}
 use Rattle.blake2b_core.proofs.one_shot.padded_block.Goals as goal
 
 -- the bytes, and zeros after them
 pub returns : goal.returns
-returns c = rw c.copy_from_slice.ensures.after
-    (ap (λ (l : List ℕ). c.args.bytes.now ++ l) (drop-replicate (length c.args.bytes.now) 128 0))
+returns c = rw (c.copy_from_slice.ensures.after, drop-replicate) refl

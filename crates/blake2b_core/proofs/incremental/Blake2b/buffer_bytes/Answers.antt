@@ -1,6 +1,6 @@
-use Rattle.std.proofs.Common.{◌≡◌, ◌+◌, ◌*◌, ◌≤◌, length, sym, ◌∙◌, arith, length-append, rules}
+use Rattle.std.proofs.Common.{◌≡◌, ◌+◌, ◌*◌, ◌≤◌, length, sym, ◌∙◌, arith, length-append}
+use Rattle.std.proofs.lemmas.Grind.{common_steps}
 use Rattle.blake2b_core.proofs.BlockLemmas.{hash_after-append}
-use Rattle.blake2b_core.proofs.BufferLemmas.{buffered-more}
 use Rattle.blake2b_core.proofs.incremental.Blake2b.buffer_bytes.Goals as goal
 
 -- the bytes are buffered after the others, and the blocks stay
@@ -10,12 +10,10 @@ returns-clause-holds c = λ m held.
     let bytes = c.args.bytes.now in
     let counted : 128 * held.done + s.buffer_len ≡ length m = held.count in
     let within : 128 * held.done ≤ length m = omega arith in
-    let room : s.buffer_len ≤ length s.buffer = search rules in
     record {
       taken = let taken = held.taken in omega (arith, length-append m bytes);
       done = held.done;
       count = omega (arith, length-append m bytes);
       hash = held.hash ∙ sym (hash_after-append s.len m bytes held.done within);
-      rest = buffered-more s.buffer_len _ (128 * held.done) s.buffer m room c.copy_from_slice.ensures.after within
-          held.rest;
+      rest = grind (arith, common_steps, c.copy_from_slice.ensures.after, held.rest);
     }

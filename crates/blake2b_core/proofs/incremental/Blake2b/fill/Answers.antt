@@ -1,6 +1,7 @@
-use Rattle.std.proofs.Common.{◌≡◌, ◌+◌, ◌-◌, ◌*◌, ◌++◌, length, take, sym, ◌∙◌, arith}
-use Rattle.std.proofs.lemmas.List.{drop_all, length-take-le}
-use Rattle.blake2b_core.proofs.BlockLemmas.{hash_after-full}
+use Rattle.std.proofs.Common.{◌≡◌, ◌+◌, ◌-◌, ◌*◌, ◌++◌, length, take, arith}
+use Rattle.std.proofs.lemmas.Grind.{common_steps}
+use Rattle.std.proofs.lemmas.List.{take_all}
+use Rattle.blake2b_core.proofs.BlockLemmas.{whole_block, hash_after-more}
 use Rattle.blake2b_core.proofs.incremental.Blake2b.fill.Goals as goal
 
 -- the buffered block is full, and is compressed
@@ -9,15 +10,12 @@ returns-clause-holds c = λ m before.
     let s = c.buffer_bytes.new.self in
     let all = m ++ take (128 - c.args.self.now.buffer_len) c.args.piece.now in
     let held = c.buffer_bytes.ensures.holds m before in
-    let part = length-take-le (128 - c.args.self.now.buffer_len) c.args.piece.now (omega arith) in
-    let full : s.buffer_len ≡ 128 = omega (arith, c.buffer_bytes.ensures.buffer_len, part) in
+    let full : s.buffer_len ≡ 128 = grind (arith, common_steps) in
     let counted : 128 * held.done + s.buffer_len ≡ length all = held.count in
-    let hash = hash_after-full s.len s.buffer all held.done c.buffer_bytes.ensures.size full
-    (c.from.ensures ∙ held.taken) counted held.hash held.rest in
     record {
       taken = held.taken;
       done = held.done + 1;
       count = omega arith;
-      hash = c.compress-self.ensures ∙ hash;
-      rest = sym (drop_all (128 * (held.done + 1)) all (omega arith));
+      hash = grind (arith, whole_block, take_all, hash_after-more, held.hash, held.rest, held.taken);
+      rest = grind (arith, common_steps);
     }

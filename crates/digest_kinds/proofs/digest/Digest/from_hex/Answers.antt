@@ -1,4 +1,4 @@
-use Rattle.std.proofs.Common.{refl, sym, ◌∙◌, ◌↔◌, IsOk, arith}
+use Rattle.std.proofs.Common.{◌↔◌, IsOk, arith}
 use Rattle.std.proofs.lemmas.Grind.{common_steps}
 use Rattle.digest_kinds.specs.Kinds.{IsDigits}
 use Rattle.digest_kinds.proofs.DigitLemmas.{IsOk-decoded}
@@ -14,12 +14,8 @@ decoded c =
 -- it isn't
 pub returns-in_err-ok-clause-found : goal.returns-in_err-ok-clause-found
 returns-in_err-ok-clause-found c =
-    let ok = decoded (goal.at.returns-in_err-ok-clause-found c).After-decode_to_slice in
-    let none = rw c.in_err-ok.was at c.ok.ensures.variant in
-    rw c.from_residual.ensures (λ s. cc s, λ d. none ∙ ok.1 d)
+    grind (arith, decoded (goal.at.returns-in_err-ok-clause-found c).After-decode_to_slice)
 
 -- it is
 pub returns-clause-found : goal.returns-clause-found
-returns-clause-found c =
-    let ok = decoded (goal.at.returns-clause-found c).After-decode_to_slice in
-    (λ _. ok.0 (sym c.ok.ensures.variant ∙ rw c.in_ok-ok.was refl), λ _. refl)
+returns-clause-found c = grind (arith, decoded (goal.at.returns-clause-found c).After-decode_to_slice)

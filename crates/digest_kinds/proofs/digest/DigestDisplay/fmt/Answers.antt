@@ -1,6 +1,6 @@
-use Rattle.std.proofs.Common.{◌≡◌, take, ap, ◌∙◌, arith}
-use Rattle.std.proofs.lemmas.List.{take_at}
-use Rattle.hex.specs.Hex.{encode_lower, lower_digits}
+use Rattle.std.proofs.Common.{◌≡◌, take, arith}
+use Rattle.std.proofs.lemmas.Grind.{common_steps}
+use Rattle.hex.specs.Hex.{encode_lower}
 use Rattle.hex.proofs.HexLemmas.{length-encode_with}
 use Rattle.digest_kinds.proofs.DigitLemmas.{IsUtf8-encode_lower}
 use Rattle.digest_kinds.proofs.digest.DigestDisplay.fmt.Goals as goal
@@ -8,9 +8,6 @@ use Rattle.digest_kinds.proofs.digest.DigestDisplay.fmt.Goals as goal
 -- the digits are a text, so the last branch isn't reached
 pub unreachable-requires : goal.unreachable-requires
 unreachable-requires g c =
-    let bytes = c.args.self.now in
-    let number = c.hex_into-count.ensures.number in
-    let spelled : take c.hex_into-count.result c.hex_into-count.new.out ≡ encode_lower bytes =
-    ap (take c.hex_into-count.result) c.hex_into-count.ensures.digits
-    ∙ take_at (encode_lower bytes) _ _ (omega (arith, number, length-encode_with lower_digits bytes)) in
-    c.in_default.ensures.cases.0 (rw spelled (IsUtf8-encode_lower bytes))
+    let spelled : take c.hex_into-count.result c.hex_into-count.new.out ≡ encode_lower c.args.self.now =
+    grind (arith, common_steps, length-encode_with) in
+    c.in_default.ensures.cases.0 (rw spelled (IsUtf8-encode_lower c.args.self.now))

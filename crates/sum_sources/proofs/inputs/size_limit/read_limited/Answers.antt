@@ -1,28 +1,25 @@
 use Rattle.std.proofs.Common.{rules, arith, ◌≡◌, ◌≤◌, length}
 use Rattle.std.proofs.lemmas.Result.{err_from_is_err_and}
-use Rattle.sum_sources.proofs.LimitLemmas.{clipped-bytes, clipped-fault, clipped-long, clipped-none}
+use Rattle.sum_sources.proofs.ContentLemmas.{limit-value}
+use Rattle.sum_sources.proofs.LimitLemmas.{clipped-bytes}
 use Rattle.sum_sources.proofs.KnownLemmas.{IfKnown-map}
 use Rattle.sum_sources.proofs.inputs.size_limit.read_limited.Goals as goal
 
 -- that it is too long was seen before
 pub returns-then-taken-eq-LIMIT-clause-bytes : goal.returns-then-taken-eq-LIMIT-clause-bytes
-returns-then-taken-eq-LIMIT-clause-bytes g c =
-    clipped-none (g.I.Input.state c.args.input.now).content _ c.if-taken-eq-LIMIT.true
+returns-then-taken-eq-LIMIT-clause-bytes g c = grind (arith, limit-value)
 
 -- the read met a fault
 pub returns-in_err-n-clause-bytes : goal.returns-in_err-n-clause-bytes
 returns-in_err-n-clause-bytes g c =
     let fault = err_from_is_err_and c.from_residual.result c.from_residual.ensures.1 in
-    rw (fault.1, fault.2)
-    (IfKnown-map _ _ (λ d e. clipped-fault d e _ _ (omega arith)) c.in_err-n.ensures.bytes)
+    rw fault.1 (grind (arith, limit-value))
 
 -- the byte that doesn't count was there
 pub returns-then-taken-eq-LIMIT-2-clause-bytes : goal.returns-then-taken-eq-LIMIT-2-clause-bytes
 returns-then-taken-eq-LIMIT-2-clause-bytes g c =
     let size : length c.read.new.buf ≡ c.max-size.result = search rules in
-    let few = c.in_ok-n.ensures.count in
-    IfKnown-map _ _ (λ d e. clipped-long d e _ _ _ few (omega arith) c.if-taken-eq-LIMIT-2.true)
-    c.in_ok-n.ensures.bytes
+    grind (arith, limit-value)
 
 -- bytes that count, or the end
 pub returns-clause-bytes : goal.returns-clause-bytes
