@@ -23,6 +23,3 @@ returns-in-Some-clause-grammar g c =
     let heard : is_ignored c.args.line.now.items ≡ false =
     rw c.deref.ensures.value at (sym c.is_ignored.ensures ∙ c.if-is_ignored.false) in
     matches (rw heard c.read_begun.ensures.parsed)
-
-pub returns-then-is_ignored-clause-grammar : goal.returns-then-is_ignored-clause-grammar
-returns-then-is_ignored-clause-grammar c w = matches (grind arith)

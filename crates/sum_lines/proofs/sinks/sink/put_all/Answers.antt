@@ -32,11 +32,6 @@ loop-rest-preserved g c =
           (IsOffered-more count before.offered c.in_ok-count.ensures.offers (took.1 some) took.0);
     }
 
--- all was written
-pub returns-clause-text : goal.returns-clause-text
-returns-clause-text g c =
-    HasLeft-none c.loop-rest.invariant.left (nil_from_length c.loop-rest.rest.now (search rules))
-
 -- all was offered
 pub returns-clause-offers : goal.returns-clause-offers
 returns-clause-offers g c =
