@@ -122,10 +122,6 @@ pub HasLeft-last : {E : Type 0} {a b : SinkState} {text rest : List ℕ} (c : Si
 HasLeft-last {rest = rest} c (Ok u) left last = rw left.cut (Accepts-trans left.prefix rest left.wrote last)
 HasLeft-last {rest = rest} c (Err e) left last = HasLeft-stop [] left (sym (append-nil rest)) last
 
--- nothing is left: all of the text was accepted
-pub HasLeft-none : {a b : SinkState} {text rest : List ℕ} → HasLeft a b text rest → rest ≡ [] → Accepts a b text
-HasLeft-none left none = rw (left.cut, none, append-nil) left.wrote
-
 -- a rest is what a write accepts of it, and what is left after that
 pub cut_at : (rest : List ℕ) (n : ℕ) → rest ≡ take n rest ++ take (length rest - n) (drop n rest)
 cut_at rest n = rw (take_rest rest n) (sym (take-append-drop n rest))

@@ -91,20 +91,6 @@ pub record IsHalfUnescaped (start bytes : List ℕ) (read write : ℕ) : Type 0 
   pub size : length bytes ≡ length start
   pub whole : escape (take write bytes) ++ drop read bytes ≡ start
 
--- one more byte was read and written
-pub IsHalfUnescaped-more : {start bytes : List ℕ} {read write : ℕ} (b width : ℕ)
-    → IsHalfUnescaped start bytes read write
-    → drop read bytes ≡ escape_of present b ++ drop width (drop read bytes) → 0 < width
-    → width ≤ length (drop read bytes)
-    → IsHalfUnescaped start (set bytes write b) (read + width) (write + 1)
-IsHalfUnescaped-more b width h here some fits = grind (arith, common_steps)
-
--- what was read is within the bytes
-pub IsHalfUnescaped-fits : {start bytes : List ℕ} {read write : ℕ} (width : ℕ) → IsHalfUnescaped start bytes read write
-    → width ≤ length (drop read bytes) → read + width ≤ length start
-IsHalfUnescaped-fits {bytes = bytes} {read = read} width h fits =
-    omega (arith, fits, h.within, h.size, length-drop read bytes)
-
 -- a rest that no escape begins
 pub IsHalfUnescaped-refused : {start bytes : List ℕ} {read write : ℕ} → IsHalfUnescaped start bytes read write
     → read < length bytes → ((b : ℕ) (rest : List ℕ) → drop read bytes ≢ escape_of present b ++ rest)

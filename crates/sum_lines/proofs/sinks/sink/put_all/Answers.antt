@@ -1,7 +1,7 @@
 use Rattle.std.proofs.Common.{rules, ◌<◌, [], length, sym, append-nil}
 use Rattle.std.proofs.lemmas.List.{take_rest, nil_from_length}
 use Rattle.std.proofs.lemmas.Result.{err_from_is_err_and}
-use Rattle.sum_lines.proofs.SinkLemmas.{FailsToFlush-write_failed, HasLeft-step, HasLeft-stop, HasLeft-none, cut_at}
+use Rattle.sum_lines.proofs.SinkLemmas.{FailsToFlush-write_failed, HasLeft-step, HasLeft-stop, cut_at}
 use Rattle.sum_lines.proofs.OfferLemmas.{IsOffered-more, IsOffered-last, IsOffered-none}
 use Rattle.sum_lines.proofs.sinks.sink.put_all.Goals as goal
 
