@@ -76,10 +76,10 @@ FailsToFlush-write_failed {text = text} dropped some =
     }
 
 -- a sink whose bytes are known, and that buffers nothing, accepted a piece
-pub Accepts-known : (old new piece : List ℕ) (failures : ℕ) → new ≡ old ++ piece
+pub accepts_known : (old new piece : List ℕ) (failures : ℕ) → new ≡ old ++ piece
     → Accepts (record { written = Some old; buffered = []; failures = failures })
     (record { written = Some new; buffered = []; failures = failures }) piece
-Accepts-known old new piece failures is = search rules
+accepts_known old new piece failures is = search rules
 
 -- ---- a text, piece after piece
 

@@ -1,9 +1,9 @@
 use Rattle.std.proofs.Common.{refl, sym}
-use Rattle.sum_lines.proofs.BeginningLemmas.{by-tag, no_tag}
+use Rattle.sum_lines.proofs.BeginningLemmas.{by_tag, no_tag}
 use Rattle.sum_lines.proofs.PlainLemmas.{uncut}
 use Rattle.sum_lines.proofs.reading.beginnings.find_beginning.Goals as goal
 
 -- a tag begins the text
 pub returns-in-Some-clause-read_as : goal.returns-in-Some-clause-read_as
 returns-in-Some-clause-read_as c =
-    by-tag _ _ c.in-Some.algo (rw c.text_after-text.ensures at (sym c.in-Some.ensures))
+    by_tag _ _ c.in-Some.algo (rw c.text_after-text.ensures at (sym c.in-Some.ensures))
