@@ -2,6 +2,7 @@
 -- failed. `a`, `b` and `c` are the sink before, between and after.
 use Rattle.std.proofs.Common.{ℕ, ◌≡◌, ◌<◌, ◌-◌, List, [], ◌++◌, length, take, drop, Option, None, Some, Result, Ok, Err, refl, ap, sym, ◌∙◌, append_assoc, append-nil, take-append-drop, length-append, arith, rules}
 use Rattle.std.proofs.lemmas.List.{take_rest, append_cancel_left}
+use Rattle.std.specs.Result.{IsErr}
 use Rattle.std.specs.Io.KnownBytes.{Appends, append_known}
 use Rattle.std.proofs.KnownBytes.{Appends-trans}
 use Rattle.sum_lines.specs.sinks.Sinks.{AppendsProperPrefix, SinkState, Accepts, FailsToWrite, FailsToFlush, WritesAll, Flushes}
@@ -125,3 +126,14 @@ HasLeft-last {rest = rest} c (Err e) left last = HasLeft-stop [] left (sym (appe
 -- a rest is what a write accepts of it, and what is left after that
 pub cut_at : (rest : List ℕ) (n : ℕ) → rest ≡ take n rest ++ take (length rest - n) (drop n rest)
 cut_at rest n = rw (take_rest rest n) (sym (take-append-drop n rest))
+
+-- a text's first part failed
+pub writes_stop : {E : Type 0} {a b : SinkState} (xs more : List ℕ) (r : Result (Unit {0}) E) → FailsToWrite a b xs
+    → IsErr r → WritesAll a b (xs ++ more) r
+writes_stop xs more (Ok u) failed err = cc
+writes_stop xs more (Err e) failed err = HasLeft-stop more HasLeft-all refl failed
+
+-- a text's first part was accepted, and then the rest was written, or that failed
+pub writes_then : {E : Type 0} {a b : SinkState} (c : SinkState) (xs ys : List ℕ) (r : Result (Unit {0}) E)
+    → Accepts a b xs → WritesAll b c ys r → WritesAll a c (xs ++ ys) r
+writes_then c xs ys r first rest = HasLeft-last c r (HasLeft-step xs HasLeft-all refl first) rest
