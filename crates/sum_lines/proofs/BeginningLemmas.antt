@@ -38,16 +38,16 @@ pub by_tag : (algos : Algos) (line : List ℕ) (a : Algo) → tag_in algos (text
 unfolding tagged_parts
 by_tag algos line a h =
     let s : List ℕ = (text line).1 in
-    let found = tag_in-some {algos = algos} {s = s} {a = a} h in
+    let found = tag_in-some algos s h in
     let begins : tag_in (One a) s ≡ Some a =
-    rw ((starts_is Decides-eqb s (tag a) (starts_with ◌==◌ s (tag a)) refl).1 _ found.is) refl in (
+    rw ((starts_is Decides-eqb s (tag a) (starts_with ◌==◌ s (tag a)) refl).1 _ found.1) refl in (
       begins,
       rw (h, begins) refl,
       none_of (plain_parts algos line) (λ p plain.
           let is = read_is_plain plain in
           let digits = plain-digits is in
           let same : s ≡ is.digits ++ (is.blank ∷ p.text) = ap (λ (x : Bool × List ℕ). x.1) (plain-prefix is) in
-          no_prefix a is.digits (is.blank ∷ p.text) _ digits.are digits.two (sym same ∙ found.is)),
+          no_prefix a is.digits (is.blank ∷ p.text) _ digits.are digits.two (sym same ∙ found.1)),
     )
 
 -- a line without a tag isn't tagged
@@ -57,7 +57,7 @@ no_tag algos line h = rw h refl
 
 -- a text in which the tag is found begins with it
 pub tag-begins : {a : Algo} (s : List ℕ) → tag_in (One a) s ≡ Some a → BeginsWithTag s a
-tag-begins {a} s h = let found = tag_in-some {algos = One a} {s = s} h in (drop (length (tag a)) s, found.is)
+tag-begins {a} s h = let found = tag_in-some (One a) s h in (drop (length (tag a)) s, found.1)
 
 -- ---- the blank after the digits
 
