@@ -25,10 +25,8 @@ raw-is f t raw h = grind arith
 
 -- what is found in place of a tail is its raw name
 is-raw : (f : Form) (t q : LinePartsValue) → with_raw f t ≡ Some q
-    → (raw : List ℕ) × IsRawName f t.text raw × (record t { text = raw } ≡ q)
-is-raw Undecided t q h = cc
-is-raw Reversed t q h = (t.text, refl, cc)
-is-raw Standard t q h = grind arith
+    → IsRawName f t.text q.text × (record t { text = q.text } ≡ q)
+is-raw f t q h = grind arith
 
 module _ (p : Profile) (algos : Algos) (f : Form) (line : List ℕ) where
   -- ---- the entry that a line has is computed
@@ -79,7 +77,7 @@ module _ (p : Profile) (algos : Algos) (f : Form) (line : List ℕ) where
   by-parts s None (Some q) tagged plain h =
       let named = bind_some (with_raw f q) (entry_of_parts p) h in
       let raw = is-raw f q named.0 named.1 in
-      by-tail s q raw.0 plain raw.1 (ap (entry_of_parts p) raw.2 ∙ named.2)
+      by-tail s q named.0.text plain raw.0 (ap (entry_of_parts p) raw.1 ∙ named.2)
 
   -- so what is computed is an entry of the line
   pub value_entry : (s : EntryValue) → entry_of p algos f line ≡ Some s → IsEntry (escape_by p) algos f line s
