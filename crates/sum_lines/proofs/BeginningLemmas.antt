@@ -20,7 +20,7 @@ use Rattle.digest_kinds.specs.Kinds.{BeginsWithTag, KindValue, full_len, has_len
 use Rattle.digest_kinds.proofs.KindLemmas.{has_len-full}
 use Rattle.digest_kinds.specs.declared.algo.Algo.TheVariants.{Blake2b}
 use Rattle.sum_lines.specs.refinement.Beginnings.{BeginsWithDigits, EndsAt, EndsDigits, IsReadAs}
-use Rattle.sum_lines.proofs.PrefixLemmas.{text}
+use Rattle.sum_lines.proofs.PrefixLemmas.{text, starts-append}
 use Rattle.digest_kinds.proofs.PrefixLemmas.{none_of}
 use Rattle.sum_lines.proofs.TaggedLemmas.{hex-no_blank, tag_in-some}
 use Rattle.sum_lines.specs.declared.reading.beginnings.Beginning.TheVariants as beginnings
@@ -37,17 +37,15 @@ pub by_tag : (algos : Algos) (line : List ℕ) (a : Algo) → tag_in algos (text
     → IsReadAs algos line (beginnings.Tag a)
 unfolding tagged_parts
 by_tag algos line a h =
-    let s : List ℕ = (text line).1 in
-    let found = tag_in-some algos s h in
-    let begins : tag_in (One a) s ≡ Some a =
-    rw ((starts_is Decides-eqb s (tag a) (starts_with ◌==◌ s (tag a)) refl).1 _ found.1) refl in (
+    let found = tag_in-some algos (text line).1 h in
+    let begins : tag_in (One a) (text line).1 ≡ Some a = rw found.1 (rw (starts-append (tag a) _) refl) in (
       begins,
       rw (h, begins) refl,
       none_of (plain_parts algos line) (λ p plain.
           let is = read_is_plain plain in
           let digits = plain-digits is in
-          let same : s ≡ is.digits ++ (is.blank ∷ p.text) = ap (λ (x : Bool × List ℕ). x.1) (plain-prefix is) in
-          no_prefix a is.digits (is.blank ∷ p.text) _ digits.are digits.two (sym same ∙ found.1)),
+          let same = ap (λ (x : Bool × List ℕ). x.1) (plain-prefix is) in
+          no_prefix a is.digits _ _ digits.are digits.two (sym same ∙ found.1)),
     )
 
 -- a line without a tag isn't tagged
@@ -63,10 +61,7 @@ tag-begins {a} s h = let found = tag_in-some (One a) s h in (drop (length (tag a
 
 -- an algorithm other than BLAKE2b has digests of one length, so a line's digits are as many
 pub fixed_len : (a : Algo) (s : List ℕ) (n : ℕ) → (a ≡ Blake2b → ⊥) → n ≡ 2 * full_len a → EndsAt a s n
-fixed_len a s n other is = λ d cut.
-    let one = has_len-full a (length d) other cut.has in
-    let size = cut-size cut in
-    omega (arith, is, one, size.0)
+fixed_len a s n other is = grind (arith, has_len-full, cut-size)
 
 -- if no blank is found among the first bytes, the line isn't plain
 pub search_none : (a : Algo) (s : List ℕ) {n : ℕ} (r : Option ℕ) → n ≡ min (length s) 129
@@ -123,14 +118,6 @@ pub plain_read : (a : Algo) (line : List ℕ) {d : List ℕ} {at : ℕ} (k : Kin
     ≡ plain_parts (One a) line
 unfolding plain_parts
 plain_read a line {d} {at} k ends spelled kind =
-    let s : List ℕ = (text line).1 in
     let within = ends.within in
-    let size = decoded-size (take at s) d spelled in
-    let len = length-take at s in
-    let half : at / 2 ≡ length d = omega (arith, size, len, within) in
-    let has = cond_some (has_len a (at / 2)) _ k (sym kind) in
-    let fits : has_len a (length d) ≡ true = ap (has_len a) (sym half) ∙ has.0 in
-    let rest = length-drop (at + 1) s in
-    let some : 0 < length (drop (at + 1) s) = omega (arith, rest, within) in
-    rw (first-blank s d at (omega (arith, within)) ends.blank spelled, spelled, fits)
-    (rw (lt-ltb 0 (length (drop (at + 1) s)) some, ← half, has.1) refl)
+    let blank = first-blank (text line).1 d at (omega arith) ends.blank spelled in
+    grind (arith, decoded-size, length-take, length-drop)

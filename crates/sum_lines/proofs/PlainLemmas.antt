@@ -80,12 +80,7 @@ pub record AreDigits (ds : List ℕ) : Type 0 where
 
 -- what decodes to a digest is such digits
 pub digits-of : (ds d : List ℕ) → decode_of ds ≡ Ok d → 0 < length d → AreDigits ds
-digits-of [] d h lt = let k = decode_of-ok [] d h in absurd (let e = k.2 in omega arith)
-digits-of (x ∷ xs) d h lt =
-    let k = decode_of-ok (x ∷ xs) d h in
-    let size : length (x ∷ xs) ≡ 2 * length d = k.2 in
-    let first : is_hex_digit x ≡ true = All-head IsHex x xs k.1 in
-    record { are = k.1; two = omega arith; begins = grind arith }
+digits-of ds d h lt = grind (arith, decode_of-ok, All-head)
 
 -- the first blank follows bytes that are none
 first-at : (xs : List ℕ) (b : ℕ) (ys : List ℕ) → AllPass (λ x. not (is_blank x)) xs → is_blank b ≡ true
@@ -111,7 +106,7 @@ plain_is_read p t =
     let no_blanks : AllPass (λ x. not (is_blank x)) t.digits =
     All-weaker IsHex (λ x. not (is_blank x) ≡ true) (λ x hex. ap not (hex-no_blank x hex)) t.digits digits.are in
     let cut = first-at t.digits t.blank p.text no_blanks t.is_one_blank in
-    rw (t.one, plain-prefix t, cut.0, cut.1, t.spelled, t.size, t.has, lt-ltb 0 (length p.text) t.some) refl
+    rw (t.one, plain-prefix t) (grind arith)
 
 -- ---- one shape
 
