@@ -9,7 +9,7 @@ use Rattle.memchr.specs.Find.{IsFirstByte, is_byte2}
 use Rattle.sum_lines.specs.grammar.Shapes.{Algo, is_blank, Algos, One}
 use Rattle.sum_lines.specs.grammar.LineParts.{plain_parts, tag_in, tagged_parts}
 use Rattle.sum_lines.proofs.PlainLemmas.{cut-within, no_prefix, plain-digits, plain-prefix, read_is_plain}
-use Rattle.sum_lines.proofs.ScanLemmas.{decoded-size, decoded-digits}
+use Rattle.sum_lines.proofs.ScanLemmas.{decoded_size, decoded-digits}
 use Rattle.std.proofs.lemmas.List.Elements.{All-get_or}
 use Rattle.std.proofs.lemmas.Option.{cond_some}
 use Rattle.std.proofs.lemmas.Bool.Decides.{Decides-eqb}
@@ -28,7 +28,7 @@ use Rattle.sum_lines.specs.declared.reading.beginnings.Beginning.TheVariants as 
 -- a cut has two digits for each byte of its digest, and so few that the search meets its blank
 cut-size : {a : Algo} {s d : List ℕ} → BeginsWithDigits a s d
     → (position_or_len is_blank s ≡ 2 * length d) × (length d ≤ 64)
-cut-size cut = search (rules, cut-within, decoded-size)
+cut-size cut = search (rules, cut-within, decoded_size)
 
 -- ---- the tag
 
@@ -120,4 +120,4 @@ unfolding plain_parts
 plain_read a line {d} {at} k ends spelled kind =
     let within = ends.within in
     let blank = first-blank (text line).1 d at (omega arith) ends.blank spelled in
-    grind (arith, decoded-size, length-take, length-drop)
+    grind (arith, decoded_size, length-take, length-drop)

@@ -44,8 +44,8 @@ last_some c k s last = grind (arith, rfind-at)
 -- ---- digits that spell no digest of that length
 
 -- a digest is spelled by two digits for each byte
-pub decoded-size : (s d : List ℕ) → decode_of s ≡ Ok d → length s ≡ 2 * length d
-decoded-size s d h = (decode_of-ok s d h).2
+pub decoded_size : (s d : List ℕ) → decode_of s ≡ Ok d → length s ≡ 2 * length d
+decoded_size s d h = (decode_of-ok s d h).2
 
 -- so such text is what a digest may be read of
 pub decoded-digits : (s d : List ℕ) → decode_of s ≡ Ok d → 1 ≤ length d → length d ≤ 64 → IsDigits s
@@ -53,7 +53,7 @@ decoded-digits s d h some few = grind (arith, decode_of-ok)
 
 -- other digits spell no digest of that length
 pub digest_other : (s d : List ℕ) (n : ℕ) → (length s ≡ 2 * n → ⊥) → decode_of s ≡ Ok d → length d ≢ n
-digest_other s d n other spelled = grind (arith, decoded-size)
+digest_other s d n other spelled = grind (arith, decoded_size)
 
 -- nor do such as the code reads none of
 pub digest_none : (s d : List ℕ) (n : ℕ) → 1 ≤ n → n ≤ 64 → (IsDigits s → ⊥) → decode_of s ≡ Ok d → length d ≢ n
