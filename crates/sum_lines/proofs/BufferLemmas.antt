@@ -7,11 +7,11 @@ use Rattle.sum_lines.specs.refinement.SinkStates.{FlushesBuffer}
 use Rattle.sum_lines.proofs.SinkLemmas.{Flushes-with_buffered}
 
 -- the buffer was emptied into the sink below
-pub Emptied : {E : Type 0} (a b : SinkState) (own : List ℕ) (r : Result (Unit {0}) E) → WritesAll a b own r
+pub emptied : {E : Type 0} (a b : SinkState) (own : List ℕ) (r : Result (Unit {0}) E) → WritesAll a b own r
     → FlushesBuffer (with_buffered a own) (with_buffered b []) r
-Emptied a b own r h = grind (arith, common_steps)
+emptied a b own r h = grind (arith, common_steps)
 
 -- the buffer was emptied, and then the sink below was flushed
-pub Flushed-below : {E : Type 0} {a : SinkState} (b c : SinkState) (own : List ℕ) (r : Result (Unit {0}) E)
+pub flushed_below : {E : Type 0} {a : SinkState} (b c : SinkState) (own : List ℕ) (r : Result (Unit {0}) E)
     → Accepts a (with_buffered b own) [] → own ≡ [] → Flushes b c r → Flushes a (with_buffered c own) r
-Flushed-below b c own r emptied none h = search (rules, Flushes-with_buffered)
+flushed_below b c own r emptied none h = search (rules, Flushes-with_buffered)

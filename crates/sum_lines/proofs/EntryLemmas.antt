@@ -1,4 +1,4 @@
--- The parts of entries, and the one form of a list of lines.
+-- The one form of a list of lines.
 use Rattle.std.proofs.lemmas.Grind.{common_steps}
 use Rattle.std.proofs.Common.{ℕ, ◌≡◌, Bool, true, false, List, [], ◌∷◌, ◌++◌, Option, None, Some, refl, sym, ◌∙◌, ◌⊎◌, inl, inr, arith}
 use Rattle.std.specs.List.{AllPass}
@@ -11,29 +11,10 @@ use Rattle.digest_kinds.proofs.PrefixLemmas.{none_of}
 use Rattle.sum_lines.proofs.TaggedLemmas.{BeginsText}
 use Rattle.sum_lines.proofs.PlainLemmas.{plain-digits, plain_is_read, read_is_plain}
 
--- ---- the parts of an entry
-
--- the parts of an entry's line, tagged or plain
-abbrev pub tag_parts : {escaped : List ℕ → List ℕ} {algos : Algos} {line : List ℕ} {s : EntryValue}
-    → SpellsByTag escaped algos line s → LinePartsValue
-tag_parts {s = s} by = record { escaped = by.escaped; kind = s.kind; digest = s.digest; text = by.raw }
-
--- those of a plain line
-abbrev pub tail_parts : {escaped : List ℕ → List ℕ} {algos : Algos} {f : Form} {line : List ℕ} {s : EntryValue}
-    → SpellsByTail escaped algos f line s → LinePartsValue
-tail_parts {s = s} by = record { escaped = by.escaped; kind = s.kind; digest = s.digest; text = by.tail }
-
--- ---- one form
-
--- the parts of a line that decides
-abbrev decided_parts : {algos : Algos} {line : List ℕ} {f : Form} → DecidesForm algos line f → LinePartsValue
-decided_parts d = record { escaped = d.escaped; kind = d.kind; digest = d.digest; text = d.tail }
-
 -- what a line decides is its own form, and stays
 pub decides-form : {algos : Algos} {line : List ℕ} {f : Form} → DecidesForm algos line f
     → (line_form algos line ≡ f) × ((g : Form) → form_then f g ≡ f)
-decides-form {algos} {line} d =
-    (rw (plain_is_read (decided_parts d) d.plain) (sym d.is), λ g. rw d.is (grind arith))
+decides-form d = (rw (plain_is_read _ d.plain) (sym d.is), λ g. rw d.is (grind arith))
 
 -- a line of either shape isn't ignored
 not_ignored : (blanks : List ℕ) (e : Bool) (xs rest : List ℕ) → AllPass is_blank blanks → BeginsText xs
@@ -60,7 +41,7 @@ decides-or algos line = go (plain_parts algos line) refl
     go : (o : Option LinePartsValue) → plain_parts algos line ≡ o
         → DecidesForm algos line (line_form algos line)
         ⊎ ((line_form algos line ≡ Undecided) × ((f : Form) → DecidesForm algos line f → ⊥))
-    go None h = inr (rw h refl, λ f d. let wrong = sym h ∙ plain_is_read (decided_parts d) d.plain in cc)
+    go None h = inr (rw h refl, λ f d. let wrong = sym h ∙ plain_is_read _ d.plain in cc)
     go (Some p) h = let plain = read_is_plain h in inl (record {
       escaped = p.escaped;
       kind = p.kind;
@@ -113,14 +94,12 @@ form_on f x g = grind arith
 form-append : (algos : Algos) (before after : List (List ℕ))
     → form algos (before ++ after) ≡ form_then (form algos before) (form algos after)
 form-append algos [] after = refl
-form-append algos (line ∷ before) after =
-    rw (form-cons algos line (before ++ after), form-append algos before after, form-cons algos line before)
-    (form_on (line_form algos line) (form algos before) (form algos after))
+form-append algos (line ∷ before) after = grind (arith, form-append algos before after)
 
 -- the form so far, and that of more lines
 pub form_next : (algos : Algos) (f : Form) (line : List ℕ) (later : List (List ℕ))
     → form_then f (form algos (line ∷ later)) ≡ form_then (form_then f (line_form algos line)) (form algos later)
-form_next algos f line later = rw (form-cons algos line later) (form_on f (line_form algos line) (form algos later))
+form_next algos f line later = grind arith
 
 -- the form of all lines, at a line
 pub form_at : (algos : Algos) (before later : List (List ℕ)) (line : List ℕ) → form algos (before ++ (line ∷ later))

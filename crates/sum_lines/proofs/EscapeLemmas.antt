@@ -29,18 +29,13 @@ escape-plain (x ∷ xs) (suc k) le none =
 pub escape-split : (xs : List ℕ) (k : ℕ) → k < length xs → Nowhere (Passes (is_byte3 92 10 13) xs) 0 k
     → escape xs ≡ take k xs ++ (escape_of present (get_or xs k 0) ++ escape (drop (k + 1) xs))
 escape-split xs k lt none =
-    let byte = get_or xs k 0 in
-    let rest : List ℕ = drop (k + 1) xs in
-    let cut : xs ≡ take k xs ++ (byte ∷ rest) = grind (arith, common_steps) in
-    ap escape cut
-    ∙ flat_map-append (escape_of present) (take k xs) (byte ∷ rest)
-    ∙ ap (λ l. l ++ (escape_of present byte ++ escape rest)) (escape-plain xs k (omega arith) none)
+    let cut : xs ≡ take k xs ++ (get_or xs k 0 ∷ drop (k + 1) xs) = grind (arith, common_steps) in
+    let split = ap escape cut ∙ flat_map-append (escape_of present) (take k xs) (get_or xs k 0 ∷ drop (k + 1) xs) in
+    rw (escape-plain xs k (omega arith) none) at split
 
 -- without a special byte a name is its own escape
 escape-none : (xs : List ℕ) → IsFirstByte (is_byte3 92 10 13) xs None → escape xs ≡ xs
-escape-none xs none =
-    let whole : escape (take (length xs) xs) ≡ take (length xs) xs = escape-plain xs (length xs) (omega arith) none in
-    rw (take-length xs) at whole
+escape-none xs none = rw (take-length xs) at (escape-plain xs (length xs) (omega arith) none)
 
 -- what a search for the first special byte says
 pub escape_cut : (xs : List ℕ) (r : Option ℕ) → IsFirstByte (is_byte3 92 10 13) xs r

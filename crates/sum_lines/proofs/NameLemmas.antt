@@ -15,8 +15,7 @@ use Rattle.std.proofs.lemmas.Grind.{common_steps}
 
 -- a range of a vector that was cut at the range's end
 pub part_of : (xs : List ℕ) (i j : ℕ) → i ≤ j → drop i (take j xs) ≡ slice_range xs i j
-part_of xs i j le = let sum : j ≡ i + (j - i) = omega arith in
-    ap (λ k. drop i (take k xs)) sum ∙ drop-take i (j - i) xs
+part_of xs i j le = let whole = drop-take i (j - i) xs in grind arith
 
 -- the bytes from a place on are left as the name whose escape they are, or are none
 pub unescaped : (from : ℕ) (old new : List ℕ) (r : Bool)

@@ -13,29 +13,20 @@ use Rattle.sum_lines.specs.grammar.LineLaws.{HasOneEntry, FitsGrammar, ParsesByG
 use Rattle.digest_kinds.proofs.PrefixLemmas.{bind_some, none_of}
 use Rattle.sum_lines.proofs.PlainLemmas.{apart, plain_is_read, read_is_plain}
 use Rattle.sum_lines.proofs.TaggedLemmas.{tagged_is_read, read_is_tagged}
-use Rattle.sum_lines.proofs.EntryLemmas.{tag_parts, tail_parts, plain-not_ignored, tagged-not_ignored}
+use Rattle.sum_lines.proofs.EntryLemmas.{plain-not_ignored, tagged-not_ignored}
 use Rattle.sum_lines.proofs.UnescapeLemmas.{spelled-is, is-spelled}
 
 -- ---- the raw name
 
--- the entry by what was found of a line
-abbrev pub entry_by : Profile → Form → Option LinePartsValue → Option LinePartsValue → Option EntryValue
-entry_by p f t q = option_or t (q >>= with_raw f) >>= entry_of_parts p
-
--- the parts with another text
-abbrev with_text : LinePartsValue → List ℕ → LinePartsValue
-with_text t raw = record { escaped = t.escaped; kind = t.kind; digest = t.digest; text = raw }
-
 -- the raw name of a tail is found
-raw-is : (f : Form) (t : LinePartsValue) (raw : List ℕ) → IsRawName f t.text raw → with_raw f t ≡ Some (with_text t raw)
+raw-is : (f : Form) (t : LinePartsValue) (raw : List ℕ) → IsRawName f t.text raw
+    → with_raw f t ≡ Some (record t { text = raw })
 raw-is f t raw h = grind arith
 
 -- what is found in place of a tail is its raw name
 is-raw : (f : Form) (t q : LinePartsValue) → with_raw f t ≡ Some q
-    → (raw : List ℕ) × IsRawName f t.text raw × (with_text t raw ≡ q)
-is-raw Undecided t q h = cc
-is-raw Reversed t q h = (t.text, refl, cc)
-is-raw Standard t q h = grind arith
+    → IsRawName f t.text q.text × (record t { text = q.text } ≡ q)
+is-raw f t q h = grind arith
 
 module _ (p : Profile) (algos : Algos) (f : Form) (line : List ℕ) where
   -- ---- the entry that a line has is computed
@@ -49,11 +40,12 @@ module _ (p : Profile) (algos : Algos) (f : Form) (line : List ℕ) where
   pub entry_value : (s : EntryValue) → IsEntry (escape_by p) algos f line s → entry_of p algos f line ≡ Some s
   unfolding entry_of
   entry_value s (_, inl t) =
-      rw (tagged_is_read (tag_parts t) t.tagged) (spelled-is p (tag_parts t) s.name t.spells)
+      let q : LinePartsValue = record { escaped = t.escaped; kind = s.kind; digest = s.digest; text = t.raw } in
+      rw (tagged_is_read q t.tagged) (spelled-is p q s.name t.spells)
   entry_value s (_, inr t) =
-      let q = tail_parts t in
+      let q : LinePartsValue = record { escaped = t.escaped; kind = s.kind; digest = s.digest; text = t.tail } in
       rw (← not-tagged t.plain, plain_is_read q t.plain, raw-is f q t.raw t.is_raw)
-      (spelled-is p (with_text q t.raw) s.name t.spells)
+      (spelled-is p (record q { text = t.raw }) s.name t.spells)
 
   -- ---- the entry that is computed is the line's
 
@@ -68,9 +60,9 @@ module _ (p : Profile) (algos : Algos) (f : Form) (line : List ℕ) where
 
   -- what a plain line's spell, with the raw name of its tail
   by-tail : (s : EntryValue) (t : LinePartsValue) (raw : List ℕ) → plain_parts algos line ≡ Some t
-      → IsRawName f t.text raw → entry_of_parts p (with_text t raw) ≡ Some s → IsEntry (escape_by p) algos f line s
+      → IsRawName f t.text raw → entry_of_parts p (record t { text = raw }) ≡ Some s → IsEntry (escape_by p) algos f line s
   by-tail s t raw found is h =
-      let name = is-spelled p (with_text t raw) s h in
+      let name = is-spelled p (record t { text = raw }) s h in
       let plain = read_is_plain found in
       rw (← name.2) (
         plain-not_ignored plain,
@@ -79,13 +71,13 @@ module _ (p : Profile) (algos : Algos) (f : Form) (line : List ℕ) where
 
   -- either of them, as a line is found to be tagged or only plain
   by-parts : (s : EntryValue) (t q : Option LinePartsValue) → tagged_parts algos line ≡ t → plain_parts algos line ≡ q
-      → entry_by p f t q ≡ Some s → IsEntry (escape_by p) algos f line s
+      → option_or t (q >>= with_raw f) >>= entry_of_parts p ≡ Some s → IsEntry (escape_by p) algos f line s
   by-parts s (Some t) q tagged plain h = by-tag s t tagged h
   by-parts s None None tagged plain h = cc
   by-parts s None (Some q) tagged plain h =
       let named = bind_some (with_raw f q) (entry_of_parts p) h in
       let raw = is-raw f q named.0 named.1 in
-      by-tail s q raw.0 plain raw.1 (ap (entry_of_parts p) raw.2 ∙ named.2)
+      by-tail s q named.0.text plain raw.0 (ap (entry_of_parts p) raw.1 ∙ named.2)
 
   -- so what is computed is an entry of the line
   pub value_entry : (s : EntryValue) → entry_of p algos f line ≡ Some s → IsEntry (escape_by p) algos f line s

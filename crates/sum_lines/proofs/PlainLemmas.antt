@@ -16,7 +16,7 @@ use Rattle.digest_kinds.specs.Basics.{after_while}
 use Rattle.sum_lines.specs.refinement.Beginnings.{BeginsWithDigits}
 use Rattle.sum_lines.proofs.PrefixLemmas.{text, rest-seam, mark_and_rest-is}
 use Rattle.digest_kinds.proofs.PrefixLemmas.{prefix_passes, prefix-and-rest, prefix_len-stop}
-use Rattle.sum_lines.proofs.TaggedLemmas.{BeginsText, begins-by, passes-other, after_tag, hex-no_blank, tagged-prefix, mark_and_rest-prefix}
+use Rattle.sum_lines.proofs.TaggedLemmas.{BeginsText, hex-no_blank, tagged-prefix, mark_and_rest-prefix}
 
 -- the parts are those of a plain line
 abbrev pub HasPlainParts : Algos → List ℕ → LinePartsValue → Type 0
@@ -80,17 +80,7 @@ pub record AreDigits (ds : List ℕ) : Type 0 where
 
 -- what decodes to a digest is such digits
 pub digits-of : (ds d : List ℕ) → decode_of ds ≡ Ok d → 0 < length d → AreDigits ds
-digits-of [] d h lt = let k = decode_of-ok [] d h in absurd (let e = k.2 in omega arith)
-digits-of (x ∷ xs) d h lt =
-    let k = decode_of-ok (x ∷ xs) d h in
-    let size : length (x ∷ xs) ≡ 2 * length d = k.2 in
-    let first : is_hex_digit x ≡ true = All-head IsHex x xs k.1 in
-    record {
-      are = k.1;
-      two = omega arith;
-      begins = begins-by x xs (hex-no_blank x first) (passes-other is_hex_digit 92 x first refl)
-          (passes-other is_hex_digit 35 x first refl);
-    }
+digits-of ds d h lt = grind (arith, decode_of-ok, All-head)
 
 -- the first blank follows bytes that are none
 first-at : (xs : List ℕ) (b : ℕ) (ys : List ℕ) → AllPass (λ x. not (is_blank x)) xs → is_blank b ≡ true
@@ -116,7 +106,7 @@ plain_is_read p t =
     let no_blanks : AllPass (λ x. not (is_blank x)) t.digits =
     All-weaker IsHex (λ x. not (is_blank x) ≡ true) (λ x hex. ap not (hex-no_blank x hex)) t.digits digits.are in
     let cut = first-at t.digits t.blank p.text no_blanks t.is_one_blank in
-    rw (t.one, plain-prefix t, cut.0, cut.1, t.spelled, t.size, t.has, lt-ltb 0 (length p.text) t.some) refl
+    rw (t.one, plain-prefix t) (grind arith)
 
 -- ---- one shape
 
@@ -130,9 +120,7 @@ no_prefix a ds s rest all two e = absurd (omega arith)
 -- no line is both plain and tagged
 pub apart : {algos others : Algos} {line : List ℕ} {e f : Bool} {kind other : KindValue} {d c tail raw : List ℕ}
     → IsPlain algos line e kind d tail → IsTagged others line f other c raw → ⊥
-apart {e = e} {f = f} {other = other} {tail = tail} p t =
+apart {other = other} p t =
     let digits = plain-digits p in
-    let same : (e, p.digits ++ (p.blank ∷ tail)) ≡ (f, tag other.algo ++ after_tag t) =
-    sym (plain-prefix p) ∙ tagged-prefix t in
-    no_prefix other.algo p.digits (p.blank ∷ tail) (after_tag t) digits.are digits.two
-    (ap (λ (x : Bool × List ℕ). x.1) same)
+    no_prefix other.algo p.digits _ _ digits.are digits.two
+    (ap (λ (x : Bool × List ℕ). x.1) (sym (plain-prefix p) ∙ tagged-prefix t))

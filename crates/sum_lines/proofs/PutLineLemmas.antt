@@ -53,13 +53,11 @@ back : {algos : Algos} {before later : List (List ℕ)} {kind : KindValue} {name
     → IsReadable (form algos (before ++ (prefix ∷ [])))
     → SpellsBack algos before later (prefix ++ (10 ∷ [])) kind name digest
 back {algos} {before} {later} {kind} {name} {digest} {prefix} one has keeps =
-    let f : Form = form algos (before ++ (prefix ∷ later)) in
-    let s : EntryValue = written_for kind name digest in
     record {
       prefix = prefix;
       whole = refl;
       one_line = one;
-      spells = λ t. (λ e. one_entry algos f prefix t s e has, λ same. rw same has);
+      spells = λ t. (λ e. one_entry algos _ prefix t _ e has, λ same. rw same has);
       keeps = keeps;
     }
 
@@ -69,9 +67,7 @@ module _ {kind : KindValue} {name digest : List ℕ} (before later : List (List 
     plain-back : (x : ℕ) → is_space_or_star x ≡ true → inline x ≡ true → IsReadable (form (One kind.algo) before)
         → SpellsBack (One kind.algo) before later (plain_line x name digest ++ (10 ∷ [])) kind name digest
     plain-back x star one_line readable =
-        let line : List ℕ = plain_line x name digest in
-        let now : (others : List (List ℕ)) → form (One kind.algo) (before ++ (line ∷ others)) ≡ Standard =
-        λ others. form-after (One kind.algo) before others line (plain-form w x star) readable in
+        let now = λ (others : List (List ℕ)). form-after _ before others _ (plain-form w x star) readable in
         back (IsInline-plain w x one_line) (plain-entry w x _ star (now later)) (inr (now []))
 
     -- and a tagged one
@@ -79,10 +75,9 @@ module _ {kind : KindValue} {name digest : List ℕ} (before later : List (List 
         → IsReadable (form algos before)
         → SpellsBack algos before later (tagged_line kind width name digest ++ (10 ∷ [])) kind name digest
     tagged-back algos width allowed is_width readable =
-        let line : List ℕ = tagged_line kind width name digest in
         let undecided = tagged-undecided (tagged-written w algos width allowed is_width) in
         back (IsInline-tagged w width is_width) (tagged-entry w algos width _ allowed is_width)
-        (form-kept algos before line undecided readable)
+        (form-kept algos before _ undecided readable)
 
 -- each of the three layouts is read back
 pub read_back : IsReadBack

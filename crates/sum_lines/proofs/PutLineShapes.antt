@@ -48,15 +48,10 @@ inline-width kind w (inr bits) =
     let digits = decimal-digits kind.len (has_len-range Blake2b kind.len bits.2).1 in
     rw bits.0 (inline-all is_ascii_digit (decimal (8 * kind.len)) refl refl digits)
 
--- each byte's escape
-escape_of-inline : (x : ℕ) → list_all inline (escape_of present x) ≡ true
-escape_of-inline x = grind arith
-
--- so an escaped name has none
+-- an escaped name has no end of a line
 pub inline-escape : (name : List ℕ) → list_all inline (escape name) ≡ true
 inline-escape [] = refl
-inline-escape (x ∷ xs) =
-    rw (list_all-append inline (escape_of present x) (escape xs), escape_of-inline x) (inline-escape xs)
+inline-escape (x ∷ xs) = grind (arith, list_all-append, inline-escape xs)
 
 -- ---- the lines without their newline
 
@@ -78,26 +73,20 @@ written_for kind name digest = record { kind = kind; digest = digest; name = nam
 abbrev pub is_space_or_star : ℕ → Bool
 is_space_or_star x = x == 32 || x == 42
 
--- what is written of a name is its escape or, if that doesn't differ, the name
-name-written : (name : List ℕ) → escape name ≡ cond (escape_differs present name) (escape name) name
-name-written name = grind (arith, bytes_eq-Decides)
-
 -- a tail that begins with that byte says that the list is Standard
 standard : (x : ℕ) (name : List ℕ) → 0 < length name → is_space_or_star x ≡ true
     → begins_standard (x ∷ escape name) ≡ true
-standard x name lt star = let some : 0 < length (escape name) = omega (arith, lt, length-escape name) in grind arith
+standard x name lt star = grind (arith, length-escape)
 
 module _ {kind : KindValue} {name digest : List ℕ} (w : IsWritable kind name digest) where
-  -- what is written spells the name
+  -- what is written spells the name: its escape or, if that doesn't differ, the name
   name-spelled : Spells escape (escape_differs present name) (escape name) name
-  name-spelled = record { no_nul = w.no_nul; is = name-written name }
+  name-spelled = grind (arith, bytes_eq-Decides)
 
   -- the digest's digits are read back
   pub digits-written : AreDigits (encode_lower digest)
-  digits-written =
-      let some = (has_len-range kind.algo kind.len w.has).0 in
-      let size = w.size in
-      digits-of (encode_lower digest) digest (decode_of-encode_lower digest w.bytes) (omega arith)
+  digits-written = digits-of (encode_lower digest) digest (decode_of-encode_lower digest w.bytes)
+      (omega (arith, has_len-range kind.algo kind.len w.has))
 
   -- a plain line has that shape
   plain-written : (x : ℕ)
@@ -119,10 +108,7 @@ module _ {kind : KindValue} {name digest : List ℕ} (w : IsWritable kind name d
   -- its star or second space makes the list Standard
   pub plain-form : (x : ℕ) → is_space_or_star x ≡ true
       → line_form (One kind.algo) (plain_line x name digest) ≡ Standard
-  plain-form x star =
-      let p : LinePartsValue =
-      record { escaped = escape_differs present name; kind = kind; digest = digest; text = x ∷ escape name } in
-      rw (plain_is_read p (plain-written x), standard x name w.some star) refl
+  plain-form x star = rw (plain_is_read _ (plain-written x), standard x name w.some star) refl
 
   -- in a Standard list it spells what it was written for
   pub plain-entry : (x : ℕ) (f : Form) → is_space_or_star x ≡ true → f ≡ Standard

@@ -44,8 +44,8 @@ last_some c k s last = grind (arith, rfind-at)
 -- ---- digits that spell no digest of that length
 
 -- a digest is spelled by two digits for each byte
-pub decoded-size : (s d : List ℕ) → decode_of s ≡ Ok d → length s ≡ 2 * length d
-decoded-size s d h = (decode_of-ok s d h).2
+pub decoded_size : (s d : List ℕ) → decode_of s ≡ Ok d → length s ≡ 2 * length d
+decoded_size s d h = (decode_of-ok s d h).2
 
 -- so such text is what a digest may be read of
 pub decoded-digits : (s d : List ℕ) → decode_of s ≡ Ok d → 1 ≤ length d → length d ≤ 64 → IsDigits s
@@ -53,7 +53,7 @@ decoded-digits s d h some few = grind (arith, decode_of-ok)
 
 -- other digits spell no digest of that length
 pub digest_other : (s d : List ℕ) (n : ℕ) → (length s ≡ 2 * n → ⊥) → decode_of s ≡ Ok d → length d ≢ n
-digest_other s d n other spelled same = let size = decoded-size s d spelled in other (omega (arith, size, same))
+digest_other s d n other spelled = grind (arith, decoded_size)
 
 -- nor do such as the code reads none of
 pub digest_none : (s d : List ℕ) (n : ℕ) → 1 ≤ n → n ≤ 64 → (IsDigits s → ⊥) → decode_of s ≡ Ok d → length d ≢ n
@@ -67,7 +67,7 @@ EndsIn line s = (prefix : List ℕ) × (line ≡ prefix ++ s)
 
 -- a line ends in its text
 pub front-ends : {line s : List ℕ} {f : Front} → IsFront line f → s ≡ (text line).1 → EndsIn line s
-front-ends {line} {s} {f} front is = (take f.start line, rw (is, ← front.text) (sym (take-append-drop f.start line)))
+front-ends {line} {f = f} front is = (take f.start line, grind (arith, common_steps))
 
 -- and so in what follows any part of that
 pub ends-after : {line s : List ℕ} (xs rest : List ℕ) → EndsIn line s → s ≡ xs ++ rest → EndsIn line rest
@@ -87,24 +87,15 @@ pub name_place : {line s inner : List ℕ} {name : List ℕ × List ℕ} (a : Al
     → (length inner ≤ length line) × (length line - length inner + length name.0 ≤ length line)
     × (slice_range line (length line - length inner) (length line - length inner + length name.0) ≡ name.0)
 name_place {s = s} {inner = inner} {name = name} a w ends wide opened split =
-    let tag_len : ℕ = length (tag a) in
-    let after_tag = ends-after (take tag_len s) (drop tag_len s) ends (sym (take-append-drop tag_len s)) in
-    let width = kind_and_rest-some a (drop tag_len s) w (sym wide) in
+    let width = kind_and_rest-some a (drop (length (tag a)) s) w (sym wide) in
     let gap = opened-some w.1 inner (sym opened) in
-    let behind_width = ends-after width.width w.1 after_tag width.whole in
-    let behind_gap = ends-after (optional gap.0 (32 ∷ [])) (40 ∷ inner) behind_width gap.1 in
-    place name.0 _ (ends-after (40 ∷ []) inner behind_gap refl) (rsplit-some 41 inner name (sym split))
+    let front = take (length (tag a)) s ++ (width.width ++ (optional gap.0 (32 ∷ []) ++ (40 ∷ []))) in
+    place name.0 _ (ends-after front inner ends (grind (arith, common_steps))) (rsplit-some 41 inner name (sym split))
 
 -- the end has its place in the line
 pub tail-place : {line tail : List ℕ} → EndsIn line tail
     → slice_range line (length line - length tail) (length line) ≡ tail
 tail-place ends = grind (arith, common_steps)
-
--- parts whose digest has to have n bytes, of digits that spell none of n
-none_of_size : {E : Type 0} (r : Result (List ℕ) E) (n m : ℕ) (p : List ℕ → LinePartsValue)
-    → ((d : List ℕ) → r ≡ Ok d → length d ≢ n)
-    → None ≡ (result_ok r >>= λ d. if length d == n && nat_lt 0 m then Some (p d) else None)
-none_of_size r n m p none = grind arith
 
 -- what was read step by step after the tag; no step looks which algorithm it is
 module _ {w : KindValue × List ℕ} {inner digits : List ℕ} {name : List ℕ × List ℕ} (a : Algo) (line : List ℕ)
@@ -118,21 +109,10 @@ module _ {w : KindValue × List ℕ} {inner digits : List ℕ} {name : List ℕ 
       → 0 < length name.0
       → Some (record { escaped = (text line).0; kind = w.0; digest = d; text = name.0 }) ≡ tagged_parts (One a) line
   unfolding tagged_parts
-  tagged-read {d} spelled size some =
-      rw (
-        found,
-        ← width,
-        ← opened,
-        ← split,
-        ← sign,
-        spelled,
-        eq-eqb (length d) w.0.len size,
-        lt-ltb 0 (length name.0) some,
-      ) refl
+  tagged-read {d} spelled size some = grind arith
 
   -- digits that spell no digest of the kind's length give no parts
   pub tagged-none : ((d : List ℕ) → decode_of (after_while is_blank digits) ≡ Ok d → length d ≢ w.0.len)
       → None ≡ tagged_parts (One a) line
   unfolding tagged_parts
-  tagged-none none = rw (found, ← width, ← opened, ← split, ← sign)
-      (none_of_size (decode_of (after_while is_blank digits)) w.0.len (length name.0) _ none)
+  tagged-none none = grind arith

@@ -1,7 +1,9 @@
 -- A text is written piece by piece. The lemmas say what of it is written after a piece was accepted, and after a write
 -- failed. `a`, `b` and `c` are the sink before, between and after.
+use Rattle.std.proofs.lemmas.Grind.{common_steps}
 use Rattle.std.proofs.Common.{ℕ, ◌≡◌, ◌<◌, ◌-◌, List, [], ◌++◌, length, take, drop, Option, None, Some, Result, Ok, Err, refl, ap, sym, ◌∙◌, append_assoc, append-nil, take-append-drop, length-append, arith, rules}
 use Rattle.std.proofs.lemmas.List.{take_rest, append_cancel_left}
+use Rattle.std.specs.Result.{IsErr}
 use Rattle.std.specs.Io.KnownBytes.{Appends, append_known}
 use Rattle.std.proofs.KnownBytes.{Appends-trans}
 use Rattle.sum_lines.specs.sinks.Sinks.{AppendsProperPrefix, SinkState, Accepts, FailsToWrite, FailsToFlush, WritesAll, Flushes}
@@ -18,13 +20,6 @@ Accepts-nil = search rules
 pub Accepts-trans : {a b c : SinkState} (xs ys : List ℕ) → Accepts a b xs → Accepts b c ys → Accepts a c (xs ++ ys)
 Accepts-trans xs ys first second = grind (arith, Appends-trans)
 
--- a text was accepted, and then a prefix of the buffered bytes was written
-written_prefix : (a b c : Option (List ℕ)) (buffered_before buffered_after text : List ℕ) → Grows a b
-    → Appends (append_known a buffered_before) (append_known b buffered_after) text → AppendsPrefix b c buffered_after
-    → AppendsPrefix a c (buffered_before ++ text)
-written_prefix a b c buffered_before buffered_after text grows accepted written =
-    grind (arith, append_assoc, append_cancel_left)
-
 -- a text was accepted, and then a proper prefix of the buffered bytes and one more piece was written
 written_proper_prefix : (a b c : Option (List ℕ)) (buffered_before buffered_after text piece later : List ℕ) → Grows a b
     → Appends (append_known a buffered_before) (append_known b buffered_after) text → 0 < length piece
@@ -32,23 +27,19 @@ written_proper_prefix : (a b c : Option (List ℕ)) (buffered_before buffered_af
     → AppendsProperPrefix a c (buffered_before ++ (text ++ (piece ++ later)))
 written_proper_prefix None b c buffered_before buffered_after text piece later grows accepted some written =
     ([], buffered_before ++ (text ++ (piece ++ later)), refl, grind (arith, length-append), tt)
-written_proper_prefix (Some x) b c buffered_before buffered_after text piece later grows accepted some written =
-    let grown = grows.1 in
-    let cut = written.2 in
-    let end = written.4 in (
-      grows.0 ++ written.0,
-      written.1 ++ later,
-      grind (arith, append_assoc, append_cancel_left),
-      omega (arith, written.3, length-append written.1 later),
-      grind (arith, append_assoc),
-    )
+written_proper_prefix (Some x) b c buffered_before buffered_after text piece later grows accepted some written = (
+  grows.0 ++ written.0,
+  written.1 ++ later,
+  grind (arith, append_assoc, append_cancel_left),
+  omega (arith, written.3, length-append written.1 later),
+  grind (arith, append_assoc),
+)
 
 -- a text was accepted, and then a call without a text failed: a prefix of the bytes buffered before and the text was
 -- written
 pub Accepts-flush_failed : {a b c : SinkState} (text : List ℕ) → Accepts a b text → FailsToFlush b c
     → AppendsPrefix a.written c.written (a.buffered ++ text)
-Accepts-flush_failed {a} {b} {c} text wrote dropped =
-    written_prefix a.written b.written c.written a.buffered b.buffered text wrote.written wrote.accepted dropped.written
+Accepts-flush_failed {a} {b} {c} text wrote dropped = grind (arith, append_assoc, append_cancel_left)
 
 -- nothing was written, and then a flush came
 pub Flushes-with_buffered : {E : Type 0} {a : SinkState} (b c : SinkState) (r : Result (Unit {0}) E) → Accepts a b []
@@ -63,23 +54,18 @@ Flushes-with_buffered b c (Err e) wrote dropped = record {
 -- a write failed that was to accept some of a text
 pub FailsToFlush-write_failed : {a b : SinkState} {text : List ℕ} → FailsToFlush a b → 0 < length text
     → FailsToWrite a b text
-FailsToFlush-write_failed {text = text} dropped some =
-    let prefix = dropped.written.0 in
-    let rest = dropped.written.1.0 in
-    let cut = dropped.written.1.1 in
-    let longer : 0 < length (rest ++ text) = omega (arith, some, length-append rest text) in
-    record {
-      nonempty = some;
-      written = (prefix, rest ++ text, grind (arith, append_assoc), longer, dropped.written.2);
-      buffered = dropped.buffered;
-      failures = dropped.failures;
-    }
+FailsToFlush-write_failed {text = text} dropped some = record {
+  nonempty = some;
+  written = (dropped.written.0, dropped.written.1.0 ++ text, grind (arith, append_assoc), grind (arith, length-append), dropped.written.2);
+  buffered = dropped.buffered;
+  failures = dropped.failures;
+}
 
 -- a sink whose bytes are known, and that buffers nothing, accepted a piece
-pub Accepts-known : (old new piece : List ℕ) (failures : ℕ) → new ≡ old ++ piece
+pub accepts_known : (old new piece : List ℕ) (failures : ℕ) → new ≡ old ++ piece
     → Accepts (record { written = Some old; buffered = []; failures = failures })
     (record { written = Some new; buffered = []; failures = failures }) piece
-Accepts-known old new piece failures is = search rules
+accepts_known old new piece failures is = search rules
 
 -- ---- a text, piece after piece
 
@@ -96,9 +82,9 @@ HasLeft-all = record { prefix = []; cut = refl; wrote = Accepts-nil }
 -- a piece of the rest was accepted
 pub HasLeft-step : {a b c : SinkState} {text rest more : List ℕ} (piece : List ℕ) → HasLeft a b text rest
     → rest ≡ piece ++ more → Accepts b c piece → HasLeft a c text more
-HasLeft-step {more = more} piece left cut written = record {
+HasLeft-step piece left cut written = record {
   prefix = left.prefix ++ piece;
-  cut = left.cut ∙ ap (λ l. left.prefix ++ l) cut ∙ sym (append_assoc left.prefix piece more);
+  cut = grind (arith, append_assoc);
   wrote = Accepts-trans left.prefix piece left.wrote written;
 }
 
@@ -107,9 +93,8 @@ pub HasLeft-stop : {a b c : SinkState} {text rest piece : List ℕ} (more : List
     → rest ≡ piece ++ more → FailsToWrite b c piece → FailsToWrite a c text
 HasLeft-stop {a} {b} {c} {piece = piece} more left cut failed =
     let whole = left.cut ∙ ap (λ l. left.prefix ++ l) cut in
-    let size = length-append left.prefix (piece ++ more) in
     record {
-      nonempty = rw whole (omega (arith, failed.nonempty, size, length-append piece more));
+      nonempty = grind (arith, length-append);
       written = rw whole (written_proper_prefix a.written b.written c.written a.buffered b.buffered left.prefix piece
           more left.wrote.written left.wrote.accepted failed.nonempty failed.written);
       buffered = failed.buffered;
@@ -122,10 +107,17 @@ pub HasLeft-last : {E : Type 0} {a b : SinkState} {text rest : List ℕ} (c : Si
 HasLeft-last {rest = rest} c (Ok u) left last = rw left.cut (Accepts-trans left.prefix rest left.wrote last)
 HasLeft-last {rest = rest} c (Err e) left last = HasLeft-stop [] left (sym (append-nil rest)) last
 
--- nothing is left: all of the text was accepted
-pub HasLeft-none : {a b : SinkState} {text rest : List ℕ} → HasLeft a b text rest → rest ≡ [] → Accepts a b text
-HasLeft-none left none = rw (left.cut, none, append-nil) left.wrote
-
 -- a rest is what a write accepts of it, and what is left after that
 pub cut_at : (rest : List ℕ) (n : ℕ) → rest ≡ take n rest ++ take (length rest - n) (drop n rest)
-cut_at rest n = rw (take_rest rest n) (sym (take-append-drop n rest))
+cut_at rest n = grind (arith, common_steps)
+
+-- a text's first part failed
+pub writes_stop : {E : Type 0} {a b : SinkState} (xs more : List ℕ) (r : Result (Unit {0}) E) → FailsToWrite a b xs
+    → IsErr r → WritesAll a b (xs ++ more) r
+writes_stop xs more (Ok u) failed err = cc
+writes_stop xs more (Err e) failed err = HasLeft-stop more HasLeft-all refl failed
+
+-- a text's first part was accepted, and then the rest was written, or that failed
+pub writes_then : {E : Type 0} {a b : SinkState} (c : SinkState) (xs ys : List ℕ) (r : Result (Unit {0}) E)
+    → Accepts a b xs → WritesAll b c ys r → WritesAll a c (xs ++ ys) r
+writes_then c xs ys r first rest = HasLeft-last c r (HasLeft-step xs HasLeft-all refl first) rest

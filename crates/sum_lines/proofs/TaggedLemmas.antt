@@ -30,18 +30,13 @@ use Rattle.hex.proofs.HexLemmas.{decode_of-ok}
 -- ---- the tag
 
 -- the algorithm that is found is allowed, and its tag begins the bytes
-pub record HasTag (algos : Algos) (s : List ℕ) (a : Algo) : Type 0 where
-  pub allowed : Allows algos a
-  pub is : s ≡ tag a ++ drop (length (tag a)) s
-
-pub tag_in-some : {algos : Algos} {s : List ℕ} {a : Algo} → tag_in algos s ≡ Some a → HasTag algos s a
-tag_in-some {algos = One b} {s} {a} h =
+pub tag_in-some : (algos : Algos) (s : List ℕ) {a : Algo} → tag_in algos s ≡ Some a
+    → Allows algos a × (s ≡ tag a ++ drop (length (tag a)) s)
+tag_in-some (One b) s {a} h =
     let found = cond_some (starts_with ◌==◌ s (tag b)) b a h in
-    let is = (starts_is Decides-eqb s (tag b) (starts_with ◌==◌ s (tag b)) refl).0 found.0 in
-    rw (← found.1) (record { allowed = refl; is = is })
-tag_in-some {algos = Any} {s} {a} h =
-    let found = rw h at (IfSome-find-begins s all_algos) in
-    record { allowed = tt; is = rw (front_rest s (tag a) found.0 found.1) found.1 }
+    rw (← found.1) (refl, (starts_is Decides-eqb s (tag b) _ refl).0 found.0)
+tag_in-some Any s h =
+    let found = rw h at (IfSome-find-begins s all_algos) in grind (arith, front_rest)
 
 -- ---- the whole line
 
@@ -65,7 +60,7 @@ read_is_tagged {algos} {line} {p} h =
     let digest = bind_some (result_ok (decode_of (after_while is_blank digits.0))) _ digits.2 in
     let is = cond_some (length digest.0 == width.0.0.len && nat_lt 0 (length name.0.0)) _ p digest.2 in
     let fits = and_parts (length digest.0 == width.0.0.len) (nat_lt 0 (length name.0.0)) is.0 in
-    let found = tag_in-some {algos = algos} {s = t.1} {a = algo.0} algo.1 in
+    let found = tag_in-some algos t.1 algo.1 in
     let wide = kind_and_rest-some algo.0 rest width.0 width.1 in
     let gap = opened-some w inner.0 inner.1 in
     rw (← is.1) (record {
@@ -75,7 +70,7 @@ read_is_tagged {algos} {line} {p} h =
       before = take_while is_blank name.0.1;
       after = take_while is_blank digits.0;
       digits = after_while is_blank digits.0;
-      allowed = rw wide.is_algo found.allowed;
+      allowed = rw wide.is_algo found.0;
       are_blanks = prefix_passes is_blank line;
       is_width = wide.is_width;
       some = ltb-true 0 (length name.0.0) fits.1;
@@ -91,7 +86,7 @@ read_is_tagged {algos} {line} {p} h =
         ← gap.1,
         ← wide.whole,
         wide.is_algo,
-        ← found.is,
+        ← found.1,
         ← mark_and_rest-is (after_while is_blank line),
       ) (prefix-and-rest is_blank line);
     })
@@ -99,35 +94,21 @@ read_is_tagged {algos} {line} {p} h =
 -- ---- bytes that a line may begin with
 
 -- their first is no blank, no backslash and no `#`
-pub record BeginsText (xs : List ℕ) : Type 0 where
-  pub first : ℕ
-  pub more : List ℕ
-  pub are : xs ≡ first ∷ more
-  pub no_blank : is_blank first ≡ false
-  pub no_mark : (first == 92) ≡ false
-  pub no_hash : (first == 35) ≡ false
-
--- such bytes, by their first
-pub begins-by : (x : ℕ) (xs : List ℕ) → is_blank x ≡ false → (x == 92) ≡ false → (x == 35) ≡ false → BeginsText (x ∷ xs)
-begins-by x xs no_blank no_mark no_hash = grind arith
+abbrev pub BeginsText : List ℕ → Type 0
+BeginsText [] = ⊥
+BeginsText (x ∷ xs) = (is_blank x ≡ false) × ((x == 92) ≡ false) × ((x == 35) ≡ false)
 
 -- after a line's blanks the backslash is read, if there is one
 pub mark_and_rest-prefix : (blanks : List ℕ) (e : Bool) (xs rest : List ℕ) → AllPass is_blank blanks → BeginsText xs
     → mark_and_rest (after_while is_blank (blanks ++ (mark e ++ (xs ++ rest)))) ≡ (e, xs ++ rest)
-mark_and_rest-prefix blanks true xs rest are b = ap mark_and_rest (parts-at is_blank blanks 92 (xs ++ rest) are refl).1
-mark_and_rest-prefix blanks false xs rest are b =
-    let behind : after_while is_blank (blanks ++ (b.first ∷ (b.more ++ rest))) ≡ b.first ∷ (b.more ++ rest) =
-    (parts-at is_blank blanks b.first (b.more ++ rest) are b.no_blank).1 in
-    let no_mark = b.no_mark in
-    rw (b.are, behind) (grind arith)
-
--- a byte that passes a test isn't one that doesn't
-pub passes-other : (test : ℕ → Bool) (c x : ℕ) → test x ≡ true → test c ≡ false → (x == c) ≡ false
-passes-other test c x pass stop = grind arith
+mark_and_rest-prefix blanks e [] rest are b = absurd b
+mark_and_rest-prefix blanks e (x ∷ xs) rest are b =
+    let marked = parts-at is_blank blanks 92 (x ∷ (xs ++ rest)) are refl in
+    let text = parts-at is_blank blanks x (xs ++ rest) are b.0 in grind arith
 
 -- a digit is no blank
 pub hex-no_blank : (x : ℕ) → is_hex_digit x ≡ true → is_blank x ≡ false
-hex-no_blank x h = rw (passes-other is_hex_digit 32 x h refl, passes-other is_hex_digit 9 x h refl) refl
+hex-no_blank x h = grind arith
 
 -- ---- the width, and the parenthesis after it
 
@@ -135,24 +116,16 @@ hex-no_blank x h = rw (passes-other is_hex_digit 32 x h refl, passes-other is_he
 abbrev pub opening : Bool → List ℕ → List ℕ
 opening g s = optional g (32 ∷ []) ++ (40 ∷ s)
 
--- decimal digits end before it
-digits-end : (ds : List ℕ) (g : Bool) (s : List ℕ) → AllPass is_ascii_digit ds
-    → (take_while is_ascii_digit (ds ++ opening g s) ≡ ds)
-    × (after_while is_ascii_digit (ds ++ opening g s) ≡ opening g s)
-digits-end ds true s all = parts-at is_ascii_digit ds 32 (40 ∷ s) all refl
-digits-end ds false s all = parts-at is_ascii_digit ds 40 s all refl
-
 -- a kind's width is read as that kind
 pub kind_and_rest-of : (kind : KindValue) (w : List ℕ) (g : Bool) (s : List ℕ) → IsWidth kind w
     → kind_and_rest kind.algo (w ++ opening g s) ≡ Some (kind, opening g s)
-kind_and_rest-of kind w g s h = search (rules, digits-end, decimal-digits, kind_of_digits-bits)
+kind_and_rest-of kind w g s h = search (rules, parts-at, decimal-digits, kind_of_digits-bits)
 
 -- ---- the tag
 
 -- the tag there is found
 pub tag_in-tag : (algos : Algos) (a : Algo) (s : List ℕ) → Allows algos a → tag_in algos (tag a ++ s) ≡ Some a
-tag_in-tag (One b) a s allowed = rw (← allowed, starts-append (tag a) s) refl
-tag_in-tag Any a s allowed = find-begins a s
+tag_in-tag algos a s allowed = grind (arith, starts-append, find-begins)
 
 -- ---- blanks, digits and the parenthesis
 
@@ -167,71 +140,43 @@ rest-hex blanks (d ∷ ds) are all =
 abbrev IsNot41 : ℕ → Type 0
 IsNot41 x = x ≢ 41
 
--- a blank is none
-blank-not41 : (x : ℕ) → is_blank x ≡ true → IsNot41 x
-blank-not41 x h = λ e. let bad = rw e at h in cc
-
--- nor is a digit
-hex-not41 : (x : ℕ) → is_hex_digit x ≡ true → IsNot41 x
-hex-not41 x h = λ e. let bad = rw e at h in cc
+-- bytes of a kind that it isn't are none
+free : (test : ℕ → Bool) (xs : List ℕ) → test 41 ≡ false → AllPass test xs → All IsNot41 xs
+free test xs stop all = All-weaker (λ x. test x ≡ true) IsNot41 (λ x pass e. let bad = rw e at pass in cc) xs all
 
 -- ---- a tagged line
 
 module _ {algos : Algos} {line : List ℕ} {e : Bool} {kind : KindValue} {d raw : List ℕ}
     (t : IsTagged algos line e kind d raw) where
-  -- what follows the closing parenthesis in it
-  abbrev pub after_name : List ℕ
-  after_name = t.before ++ (61 ∷ (t.after ++ t.digits))
-
-  -- what follows the opening one
+  -- what follows the opening parenthesis in it
   abbrev pub inner_of : List ℕ
-  inner_of = raw ++ (41 ∷ after_name)
-
-  -- what follows the tag
-  abbrev pub after_tag : List ℕ
-  after_tag = t.width ++ opening t.gap inner_of
+  inner_of = raw ++ (41 ∷ (t.before ++ (61 ∷ (t.after ++ t.digits))))
 
   -- its blanks and its backslash are passed over
-  pub tagged-prefix : text line ≡ (e, tag kind.algo ++ after_tag)
+  pub tagged-prefix : text line ≡ (e, tag kind.algo ++ (t.width ++ opening t.gap inner_of))
   tagged-prefix = grind (arith, mark_and_rest-prefix)
 
-module _ {algos : Algos} {line : List ℕ} (p : LinePartsValue) (t : HasTaggedParts algos line p) where
-  -- after the closing parenthesis come `=` and the digits
-  sign-found : after_while is_blank (after_name t) ≡ 61 ∷ (t.after ++ t.digits)
-  sign-found = (parts-at is_blank t.before 61 (t.after ++ t.digits) t.before_blanks refl).1
-
-  -- the digits are hexadecimal
-  digits-are : AllPass is_hex_digit t.digits
-  digits-are = (decode_of-ok t.digits p.digest t.spelled).1
-
-  -- and they are left after the blanks
-  pub digits-found : after_while is_blank (t.after ++ t.digits) ≡ t.digits
-  digits-found = rest-hex t.after t.digits t.after_blanks digits-are
-
-  -- it is the last parenthesis
-  after-free : All IsNot41 (after_name t)
-  after-free =
-      let end : All IsNot41 (t.after ++ t.digits) =
-      All-append IsNot41 t.after t.digits
-      (All-weaker _ IsNot41 blank-not41 t.after t.after_blanks)
-      (All-weaker _ IsNot41 hex-not41 t.digits digits-are) in
-      All-append IsNot41 t.before (61 ∷ (t.after ++ t.digits))
-      (All-weaker _ IsNot41 blank-not41 t.before t.before_blanks)
-      (All-cons IsNot41 61 (t.after ++ t.digits) (λ e. cc) end)
-
-  -- so the line is read as these parts
-  pub tagged_is_read : tagged_parts algos line ≡ Some p
-  unfolding tagged_parts
-  tagged_is_read = rw (
-    tagged-prefix t,
-    tag_in-tag algos p.kind.algo (after_tag t) t.allowed,
-    drop_at (tag p.kind.algo) (after_tag t) (length (tag p.kind.algo)) refl,
-    kind_and_rest-of p.kind t.width t.gap (inner_of t) t.is_width,
-    opened-at t.gap (inner_of t),
-    rsplit-at 41 p.text (after_name t) after-free,
-    sign-found,
-    digits-found,
-    t.spelled,
-    eq-eqb (length p.digest) p.kind.len t.size,
-    lt-ltb 0 (length p.text) t.some,
-  ) refl
+-- it is read as its parts
+pub tagged_is_read : {algos : Algos} {line : List ℕ} (p : LinePartsValue) → HasTaggedParts algos line p
+    → tagged_parts algos line ≡ Some p
+unfolding tagged_parts
+tagged_is_read {algos} p t =
+    let digits = (decode_of-ok t.digits p.digest t.spelled).1 in
+    let value : List ℕ = t.after ++ t.digits in
+    let value_free = All-append IsNot41 t.after t.digits (free is_blank t.after refl t.after_blanks)
+    (free is_hex_digit t.digits refl digits) in
+    let last = All-append IsNot41 t.before (61 ∷ value) (free is_blank t.before refl t.before_blanks)
+    (All-cons IsNot41 61 value (λ e. cc) value_free) in
+    rw (
+      tagged-prefix t,
+      tag_in-tag algos p.kind.algo _ t.allowed,
+      drop_at (tag p.kind.algo) _ (length (tag p.kind.algo)) refl,
+      kind_and_rest-of p.kind t.width t.gap (inner_of t) t.is_width,
+      opened-at t.gap (inner_of t),
+      rsplit-at 41 p.text (t.before ++ (61 ∷ value)) last,
+      (parts-at is_blank t.before 61 value t.before_blanks refl).1,
+      rest-hex t.after t.digits t.after_blanks digits,
+      t.spelled,
+      eq-eqb (length p.digest) p.kind.len t.size,
+      lt-ltb 0 (length p.text) t.some,
+    ) refl

@@ -1,6 +1,6 @@
 -- What is escaped can be read back. If some bytes are the escape of a name, both the definition and the code find the
 -- name.
-use Rattle.std.proofs.Common.{◌≡◌, ℕ, ◌<◌, ◌==◌, Bool, true, false, cond, List, [], ◌∷◌, ◌++◌, Some, refl, ap, sym, ◌∙◌, ◌≢◌, ◌+◌, ◌-◌, ◌≤◌, length, take, drop, set, append_assoc, arith, length-drop, All, nat_lt, rules}
+use Rattle.std.proofs.Common.{◌≡◌, ◌↔◌, ℕ, ◌<◌, ◌==◌, Bool, true, false, cond, List, [], ◌∷◌, ◌++◌, Some, refl, ap, sym, ◌∙◌, ◌≢◌, ◌+◌, ◌-◌, ◌≤◌, length, take, drop, set, append_assoc, arith, length-drop, All, nat_lt, rules}
 use Rattle.std.specs.List.{list_all}
 use Rattle.std.proofs.lemmas.List.{append-nil, append_cancel_left, length-take-le, take-take, take-append-le}
 use Rattle.std.proofs.lemmas.Option.{cond_some}
@@ -25,8 +25,7 @@ unescaped_bytes-append p (b ∷ bs) rest = grind (arith, append_assoc, unescaped
 
 -- up to its end
 pub unescaped_bytes-escape : (p : Profile) (n : List ℕ) → unescaped_bytes (escape_by p n) ≡ n
-unescaped_bytes-escape p n =
-    ap unescaped_bytes (sym (append-nil (escape_by p n))) ∙ unescaped_bytes-append p n [] ∙ append-nil n
+unescaped_bytes-escape p n = simp append-nil at (unescaped_bytes-append p n [])
 
 -- so a name is read back from its escape
 pub unescape-escape : (p : Profile) (n : List ℕ) → unescape p (escape_by p n) ≡ Some n
@@ -37,10 +36,6 @@ unescape-escape p n = search (rules, unescaped_bytes-escape)
 -- a name without NUL passes the test for it
 pub all-of : (xs : List ℕ) → All (λ b. 0 < b) xs → list_all (nat_lt 0) xs ≡ true
 all-of xs h = grind (arith, list_all-from_AllPass)
-
--- and what passes it has none
-of-all : (xs : List ℕ) → list_all (nat_lt 0) xs ≡ true → All (λ b. 0 < b) xs
-of-all xs h = grind (arith, common_steps)
 
 -- ---- the entry of a line's parts
 
@@ -54,35 +49,29 @@ escape-if : (p : Profile) (e : Bool) (raw n : List ℕ) → cond e (unescape p r
     → raw ≡ cond e (escape_by p n) n
 escape-if p e raw n h = search rules
 
--- the entry of such parts
-abbrev pub entry_of_text : LinePartsValue → List ℕ → EntryValue
-entry_of_text t n = record { kind = t.kind; digest = t.digest; name = n }
-
 -- so parts whose raw name spells a name spell an entry, and only such parts do
 pub spelled-is : (p : Profile) (t : LinePartsValue) (n : List ℕ) → Spells (escape_by p) t.escaped t.text n
-    → entry_of_parts p t ≡ Some (entry_of_text t n)
-spelled-is p t n s = rw (unescape-if p t.escaped t.text n s.is, all-of n s.no_nul) refl
+    → entry_of_parts p t ≡ Some (record { kind = t.kind; digest = t.digest; name = n })
+spelled-is p t n s = grind (arith, unescape-if, all-of)
 
 -- only such parts
 pub is-spelled : (p : Profile) (t : LinePartsValue) (s : EntryValue) → entry_of_parts p t ≡ Some s
-    → (n : List ℕ) × Spells (escape_by p) t.escaped t.text n × (entry_of_text t n ≡ s)
+    → (n : List ℕ) × Spells (escape_by p) t.escaped t.text n × (record { kind = t.kind; digest = t.digest; name = n } ≡ s)
 is-spelled p t s h =
     let n = bind_some (cond t.escaped (unescape p t.text) (Some t.text)) _ h in
-    let e = cond_some (list_all (nat_lt 0) n.0) (entry_of_text t n.0) s n.2 in
-    (n.0, record { no_nul = of-all n.0 e.0; is = escape-if p t.escaped t.text n.0 n.1 }, e.1)
+    let e = cond_some (list_all (nat_lt 0) n.0) _ s n.2 in
+    (n.0, grind (arith, common_steps, escape-if), e.1)
 
 -- what follows the escape of a in the escape of a name is the escape of what follows a in it
 pub escape-rest : (a n rest : List ℕ) → escape a ++ rest ≡ escape n → (m : List ℕ) × (n ≡ a ++ m) × (rest ≡ escape m)
 escape-rest a n rest h =
     let m = unescaped_bytes rest in
-    let is : n ≡ a ++ m =
-    sym (unescaped_bytes-escape present n) ∙ ap unescaped_bytes (sym h) ∙ unescaped_bytes-append present a rest in
+    let is : n ≡ a ++ m = rw (← unescaped_bytes-append present a rest, h) (sym (unescaped_bytes-escape present n)) in
     (m, is, append_cancel_left (escape a) rest (escape m) (h ∙ ap escape is ∙ flat_map-append (escape_of present) a m))
 
 -- no two names have the same escape
 pub escape-apart : (a b : List ℕ) → escape a ≡ escape b → a ≡ b
-escape-apart a b h =
-    sym (unescaped_bytes-escape present a) ∙ ap unescaped_bytes h ∙ unescaped_bytes-escape present b
+escape-apart a b h = simp (unescaped_bytes-escape present) at (ap unescaped_bytes h)
 
 -- what the loop keeps: the escape of what it wrote, and then what it has still to read, are the bytes at its start
 pub record IsHalfUnescaped (start bytes : List ℕ) (read write : ℕ) : Type 0 where
@@ -90,20 +79,6 @@ pub record IsHalfUnescaped (start bytes : List ℕ) (read write : ℕ) : Type 0 
   pub within : read ≤ length bytes
   pub size : length bytes ≡ length start
   pub whole : escape (take write bytes) ++ drop read bytes ≡ start
-
--- one more byte was read and written
-pub IsHalfUnescaped-more : {start bytes : List ℕ} {read write : ℕ} (b width : ℕ)
-    → IsHalfUnescaped start bytes read write
-    → drop read bytes ≡ escape_of present b ++ drop width (drop read bytes) → 0 < width
-    → width ≤ length (drop read bytes)
-    → IsHalfUnescaped start (set bytes write b) (read + width) (write + 1)
-IsHalfUnescaped-more b width h here some fits = grind (arith, common_steps)
-
--- what was read is within the bytes
-pub IsHalfUnescaped-fits : {start bytes : List ℕ} {read write : ℕ} (width : ℕ) → IsHalfUnescaped start bytes read write
-    → width ≤ length (drop read bytes) → read + width ≤ length start
-IsHalfUnescaped-fits {bytes = bytes} {read = read} width h fits =
-    omega (arith, fits, h.within, h.size, length-drop read bytes)
 
 -- a rest that no escape begins
 pub IsHalfUnescaped-refused : {start bytes : List ℕ} {read write : ℕ} → IsHalfUnescaped start bytes read write
@@ -119,20 +94,14 @@ IsHalfUnescaped-refused {bytes = bytes} {read = read} {write = write} h some non
 -- the bytes from a place on, which were replaced by the name
 pub in_place : (line new : List ℕ) (from : ℕ) (name : List ℕ) → drop from line ≡ escape name
     → new ≡ take from line ++ name
-    → (n : List ℕ) → (drop from line ≡ escape n → (true ≡ true) × (new ≡ take from line ++ n))
-    × ((true ≡ true) × (new ≡ take from line ++ n) → drop from line ≡ escape n)
+    → (n : List ℕ) → (drop from line ≡ escape n) ↔ ((true ≡ true) × (new ≡ take from line ++ n))
 in_place line new from name e is n = grind (arith, escape-apart, append_cancel_left)
-
--- a list cut within the second of its parts
-cut : (front : List ℕ) (len n : ℕ) (part post more : List ℕ) → length front + n ≤ len → n ≤ length part
-    → take (length front + n) (take len (front ++ (part ++ post) ++ more)) ≡ front ++ take n part
-cut front len n part post more fits le = grind (arith, take-take, take-append-le, append_assoc, take-append-add)
 
 -- a list cut at a place after the part that was written into it
 pub cut_after : {line d : List ℕ} (len from n : ℕ) (part post more : List ℕ) → d ≡ line → from + n ≤ len
     → from ≤ length line → n ≤ length part
     → take (from + n) (take len (take from d ++ (part ++ post) ++ more)) ≡ take from line ++ take n part
-cut_after len from n part post more e fits low le = grind (arith, common_steps, length-take-le, cut)
+cut_after len from n part post more e fits low le = grind (arith, common_steps, length-take-le, take-append-add)
 
 -- the rest of a list from a place on
 pub whole_after : (line d : List ℕ) (from : ℕ) → d ≡ line → take (length d - from) (drop from d) ≡ drop from line

@@ -19,6 +19,7 @@ pub fn one_form()
 
 /// What is computed of a line is what the line grammar says of it, whichever the profile. It is ignored, an entry, or
 /// bad, each if and only if the grammar says so.
+#[tactic(auto, using(crate::proofs::ParsedLineLemmas::parse_is_grammar))]
 pub fn parse_is_grammar()
     ensures { ParsesByGrammar }
 {}

@@ -58,6 +58,7 @@ pub(crate) fn front_of(line: &[u8]) -> Front
 }
 
 /// The line's text, which follows its front.
+#[tactic(auto, using(std::proofs::lemmas::List::take_rest))]
 pub(crate) fn text_after(line: &[u8], front: Front) -> &[u8]
     requires { IsFront line.now front }
     ensures { result.now ≡ (mark_and_rest (after_while is_blank line.now)).1 }
@@ -81,6 +82,7 @@ fn blanks(s: &[u8]) -> usize
 }
 
 /// What follows the text, if the bytes begin with it.
+#[tactic(auto, using(crate::proofs::ScanLemmas::after_is, std::proofs::lemmas::Slice::Eq::strip_prefix_is))]
 pub(crate) fn past_text<'a>(text: &[u8], s: &'a [u8]) -> Option<&'a [u8]>
     ensures { option_copied result ≡ strip_prefix text.now s.now }
 {
@@ -88,6 +90,7 @@ pub(crate) fn past_text<'a>(text: &[u8], s: &'a [u8]) -> Option<&'a [u8]>
 }
 
 /// What precedes the last such byte, and what follows it.
+#[tactic(auto, using(crate::proofs::ScanLemmas::last_none))]
 pub(crate) fn split_at_last(byte: u8, s: &[u8]) -> Option<(&[u8], &[u8])>
     ensures { option_map (λ p. (p.0.now, p.1.now)) result ≡ rsplit_once byte s.now }
 {

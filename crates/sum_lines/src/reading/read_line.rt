@@ -175,6 +175,7 @@ fn begins_standard(tail: &[u8]) -> bool
 
 // The entry of the parts, if their text spells a name without a NUL. After a backslash the text is the escape of the
 // name; without one it is the name.
+#[tactic(auto, using(crate::proofs::NameLemmas::part_of, std::proofs::lemmas::List::take_rest))]
 fn read_name<A: Allocator>(line: &mut Vec<u8, A>, found: LineParts) -> Reading
     requires size { length found.digest ≡ found.kind.len }
     requires ordered { found.start ≤ found.stop }

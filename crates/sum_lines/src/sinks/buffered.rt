@@ -62,6 +62,7 @@ impl<S: Sink> Buffered<S> {
     ghost use Rattle.sum_lines.specs.refinement.SinkStates.{FlushesBuffer};
 
     // Writes what is buffered to the sink below.
+    #[tactic(auto, using(crate::proofs::BufferLemmas::emptied))]
     fn flush_buffer(&mut self) -> Result<(), SinkFault>
         ensures bytes { FlushesBuffer (buffer_state S.state self.old) (buffer_state S.state self.new) result }
         ensures flushed { self.new.buffered ≡ [] }

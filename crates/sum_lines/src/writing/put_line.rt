@@ -35,6 +35,7 @@ ghost use Rattle.sum_lines.specs.grammar.Shapes.{mark};
 
 /// Gives the sink the line of a name and its digest. The digest has the kind's length. The sink isn't flushed, so it
 /// may buffer the line. `SinkFault` as `put_all`.
+#[tactic(auto, using(crate::proofs::SinkLemmas::writes_then))]
 pub fn put_line<S: Sink>(
     sink: &mut S,
     style: Style,
@@ -79,6 +80,7 @@ pub fn mark_and_name(name: &[u8]) -> (&'static [u8], Part<'_>)
 }
 
 // Writes a line without its end and without the backslash that may begin it.
+#[tactic(auto, using(crate::proofs::SinkLemmas::writes_then))]
 fn put_layout<'a, S: Sink>(
     sink: &mut S,
     mode: Mode,

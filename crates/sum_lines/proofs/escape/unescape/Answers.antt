@@ -1,6 +1,6 @@
 use Rattle.std.proofs.Common.{rules}
 use Rattle.std.proofs.lemmas.List.{take_rest}
-use Rattle.sum_lines.proofs.UnescapeLemmas.{IsHalfUnescaped-more, IsHalfUnescaped-fits, IsHalfUnescaped-refused}
+use Rattle.sum_lines.proofs.UnescapeLemmas.{IsHalfUnescaped-refused}
 use Rattle.sum_lines.proofs.escape.unescape.Goals as goal
 
 -- no escape begins what is left: the bytes are none
@@ -8,17 +8,3 @@ pub returns-in_err-byte-clause-none : goal.returns-in_err-byte-clause-none
 returns-in_err-byte-clause-none c =
     let none = rw (take_rest c.loop-read.bytes c.loop-read.read) at c.in_err-byte.ensures.none in
     rw c.from_residual.ensures (IsHalfUnescaped-refused c.loop-read.invariant c.loop-read-test.true none)
-
--- what is read stays within the bytes
-pub overflow_add-read : goal.overflow_add-read
-overflow_add-read c =
-    let width = rw (take_rest c.loop-read.bytes c.loop-read.read) at c.in_ok-byte.ensures.width in
-    let fits = IsHalfUnescaped-fits c.in_ok-byte.width c.loop-read.invariant width.1 in
-    search (rules, fits)
-
--- one more byte was read, and written
-pub loop-read-preserved : goal.loop-read-preserved
-loop-read-preserved c =
-    let width = rw (take_rest c.loop-read.bytes c.loop-read.read) at c.in_ok-byte.ensures.width in
-    let some = rw (take_rest c.loop-read.bytes c.loop-read.read) at c.in_ok-byte.ensures.some in
-    IsHalfUnescaped-more _ _ c.loop-read.invariant some width.0 width.1

@@ -1,11 +1,7 @@
-use Rattle.std.proofs.Common.{refl, sym, ◌+◌}
+use Rattle.std.proofs.Common.{sym, ◌+◌}
 use Rattle.std.proofs.lemmas.List.{take_rest}
-use Rattle.sum_lines.proofs.ScanLemmas.{last_none, last_some}
+use Rattle.sum_lines.proofs.ScanLemmas.{last_some}
 use Rattle.sum_lines.proofs.reading.line_parts.split_at_last.Goals as goal
-
--- the byte is nowhere
-pub returns-in_err-at : goal.returns-in_err-at
-returns-in_err-at c = rw (c.from_residual.ensures, last_none c.args.byte c.args.s.now c.in_err-at.ensures) refl
 
 -- it is at that place
 pub returns : goal.returns

@@ -1,5 +1,4 @@
-use Rattle.std.proofs.Common.{◌≡◌, false, refl, sym, ◌∙◌, arith}
-use Rattle.sum_lines.specs.grammar.Entries.{is_ignored}
+use Rattle.std.proofs.Common.{arith}
 use Rattle.sum_lines.specs.grammar.ParsedLines.{entry_of}
 use Rattle.sum_lines.proofs.ParsedLineLemmas.{matches}
 use Rattle.sum_lines.proofs.reading.read_line.read_line.Goals as goal
@@ -7,22 +6,11 @@ use Rattle.sum_lines.proofs.reading.read_line.read_line.Goals as goal
 -- a line that begins neither with a tag nor with digits is bad
 pub returns-in-None-clause-parsed : goal.returns-in-None-clause-parsed
 unfolding entry_of
-returns-in-None-clause-parsed g c =
-    let heard : is_ignored c.args.line.now.items ≡ false =
-    rw c.deref.ensures.value at (sym c.is_ignored.ensures ∙ c.if-is_ignored.false) in
-    let tagged = rw c.deref-3.ensures.value at c.in-None.ensures.tagged in
-    let plain = rw c.deref-3.ensures.value at c.in-None.ensures.plain in
-    rw (heard, ← tagged, ← plain) refl
+returns-in-None-clause-parsed g c = grind arith
 
 -- the grammar says of a line what is computed of it
 pub returns-in-None-clause-grammar : goal.returns-in-None-clause-grammar
 returns-in-None-clause-grammar g c = matches (returns-in-None-clause-parsed g c)
 
 pub returns-in-Some-clause-grammar : goal.returns-in-Some-clause-grammar
-returns-in-Some-clause-grammar g c =
-    let heard : is_ignored c.args.line.now.items ≡ false =
-    rw c.deref.ensures.value at (sym c.is_ignored.ensures ∙ c.if-is_ignored.false) in
-    matches (rw heard c.read_begun.ensures.parsed)
-
-pub returns-then-is_ignored-clause-grammar : goal.returns-then-is_ignored-clause-grammar
-returns-then-is_ignored-clause-grammar c w = matches (grind arith)
+returns-in-Some-clause-grammar g c = matches (grind arith)

@@ -1,6 +1,6 @@
 use Rattle.std.proofs.Common.{sym, arith, length, ◌∙◌}
 use Rattle.std.proofs.lemmas.Bool.{eqb-false}
-use Rattle.sum_lines.proofs.ScanLemmas.{decoded-size, digest_none, digest_other, front-ends, name_place, tagged-none, tagged-read}
+use Rattle.sum_lines.proofs.ScanLemmas.{decoded_size, digest_none, digest_other, front-ends, name_place, tagged-none, tagged-read}
 use Rattle.sum_lines.proofs.BeginningLemmas.{tag-begins}
 use Rattle.sum_lines.proofs.reading.tagged.tagged.Goals as goal
 
@@ -39,21 +39,16 @@ returns-clause-range c =
     let place = name_place _ _ ends c.in-Some.ensures c.in_ok-inner.ensures c.in_ok-raw.ensures in
     (omega arith, place.1)
 
--- the digest is as long as its digits say
-pub returns-clause-size : goal.returns-clause-size
-returns-clause-size c =
-    let few = rw c.len.ensures.value at c.if-digits-len.false in
-    let size = decoded-size _ c.in_ok-digest.digest c.in_ok-digest.ensures.value in
-    omega (arith, size, few)
-
 -- the parts that were found are the line's
 pub returns-clause-parts : goal.returns-clause-parts
 returns-clause-parts c =
     let ends = front-ends c.requires.front c.text_after-text.ensures in
     let place = name_place _ _ ends c.in-Some.ensures c.in_ok-inner.ensures c.in_ok-raw.ensures in
+    let few = rw c.len.ensures.value at c.if-digits-len.false in
+    let size = decoded_size _ c.in_ok-digest.digest c.in_ok-digest.ensures.value in
     let sign = rw c.skip_blanks.ensures at c.in_ok-past_text.ensures in
     let spelled = rw c.skip_blanks-digits.ensures at c.in_ok-digest.ensures.value in
     let some = eqb-false (length c.in_ok-raw.raw.now) 0 (sym c.is_empty.ensures ∙ c.if-is_empty.false) in
     let width = rw c.text_after-text.ensures at c.in-Some.ensures in
     rw (place.2, c.requires.front.mark) (tagged-read _ _ c.requires.tag width c.in_ok-inner.ensures
-    c.in_ok-raw.ensures sign spelled (returns-clause-size c) (omega (arith, some)))
+    c.in_ok-raw.ensures sign spelled (omega (arith, size, few)) (omega (arith, some)))

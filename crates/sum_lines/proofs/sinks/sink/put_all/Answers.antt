@@ -1,7 +1,7 @@
 use Rattle.std.proofs.Common.{rules, ◌<◌, [], length, sym, append-nil}
 use Rattle.std.proofs.lemmas.List.{take_rest, nil_from_length}
 use Rattle.std.proofs.lemmas.Result.{err_from_is_err_and}
-use Rattle.sum_lines.proofs.SinkLemmas.{FailsToFlush-write_failed, HasLeft-step, HasLeft-stop, HasLeft-none, cut_at}
+use Rattle.sum_lines.proofs.SinkLemmas.{FailsToFlush-write_failed, HasLeft-step, HasLeft-stop, cut_at}
 use Rattle.sum_lines.proofs.OfferLemmas.{IsOffered-more, IsOffered-last, IsOffered-none}
 use Rattle.sum_lines.proofs.sinks.sink.put_all.Goals as goal
 
@@ -31,11 +31,6 @@ loop-rest-preserved g c =
       offered = rw (take_rest rest count)
           (IsOffered-more count before.offered c.in_ok-count.ensures.offers (took.1 some) took.0);
     }
-
--- all was written
-pub returns-clause-text : goal.returns-clause-text
-returns-clause-text g c =
-    HasLeft-none c.loop-rest.invariant.left (nil_from_length c.loop-rest.rest.now (search rules))
 
 -- all was offered
 pub returns-clause-offers : goal.returns-clause-offers
