@@ -3,7 +3,7 @@ use Rattle.std.proofs.Common.{ℕ, ◌≡◌, ◌+◌, ◌-◌, ◌<◌, ◌≤�
 use Rattle.std.proofs.lemmas.List.Sums.{suffix_len_is}
 use Rattle.std.proofs.lemmas.Bool.{not_from_false, not_from_true, false_from_ne_true}
 use Rattle.std.specs.List.{suffix_len}
-use Rattle.std.proofs.lemmas.Option.{slice_get_within, IfSome_then}
+use Rattle.std.proofs.lemmas.Option.{slice_get_within, slice_get_cases, IfSome_then}
 use Rattle.std.proofs.lemmas.List.{append-nil, append_assoc}
 use Rattle.sum_words.specs.Items.{ByteString}
 use Rattle.memchr.specs.Find.{Passes, Nowhere, is_byte}
@@ -37,18 +37,9 @@ has_argument known first place word h le =
     IfSome_then known h (λ all at. omega (arith, slice_get_within all place word at, le))
 
 -- a long argument is one of them
-longer_is_one : (all : List ByteString) (place : ℕ) → IsSomeAnd (slice_get all place) (λ a. 4096 < length a)
-    → Any (λ a. 4096 < length a) all
-longer_is_one [] zero h = absurd h
-longer_is_one [] (suc place) h = absurd h
-longer_is_one (a ∷ all) zero h = (0, a, omega arith, refl, h)
-longer_is_one (a ∷ all) (suc place) h =
-    let (k, x, less, at, long) = longer_is_one all place h in (suc k, x, omega (arith, less), at, long)
-
 pub longer_unread : (known : Option (List ByteString)) (place : ℕ) → IsLonger known place 4096
     → IfSome known NeedsMemory
-longer_unread None place h = tt
-longer_unread (Some all) place h = inr (longer_is_one all place h)
+longer_unread known place h = grind (arith, slice_get_cases)
 
 -- the words are the arguments from the first place up to another
 abbrev pub HasWordsUpTo : Option (List ByteString) → ℕ → ℕ → List ByteString → Type 0

@@ -1,5 +1,5 @@
 -- One word: its prefixes, its characters, and what is left of it for a value.
-use Rattle.std.proofs.Common.{rules, ◌≡◌, ◌==◌, ◌≢◌, ℕ, ◌+◌, true, false, List, [], ◌∷◌, ◌++◌, codes, length, drop, Option, None, Some, MatchOption, refl, ap, sym, ◌∙◌, eqb, bytes_eq, encode_utf8_all, IsUtf8, encode_utf8}
+use Rattle.std.proofs.Common.{rules, ◌≡◌, ◌==◌, ◌≢◌, ℕ, ◌+◌, true, false, List, [], ◌∷◌, ◌++◌, codes, length, drop, Option, None, Some, MatchOption, refl, ap, sym, ◌∙◌, bytes_eq, encode_utf8_all, IsUtf8, encode_utf8}
 use denote.Ref.{Bor}
 use Rattle.std.specs.List.{starts_with}
 use Rattle.std.specs.Str.{chars, is_utf8}
@@ -8,8 +8,7 @@ use Rattle.std.proofs.lemmas.Str.Pattern.{starts_text}
 use Rattle.std.proofs.lemmas.Str.{chars-nil, chars_past_char, encodes-chars, IsUtf8-from_is_utf8, is_utf8-from_IsUtf8}
 use Rattle.std.proofs.lemmas.List.{nil_from_length}
 use Rattle.std.proofs.lemmas.Slice.Eq.{bytes_eq-Decides}
-use Rattle.std.proofs.lemmas.Bool.{eqb-true, false_from_ne_true}
-use Rattle.std.proofs.Math.Bool.{and-true}
+use Rattle.std.proofs.lemmas.Bool.{false_from_ne_true}
 use lib.Utf8.{encode}
 use Rattle.sum_words.specs.declared.tool.Tool.{Tool}
 use Rattle.sum_words.specs.Items.{Short, attached_value, a_value, a_word, length_value, fault, is_option_word, items_from}
@@ -29,10 +28,6 @@ prefix_stripped prefix text (Some x)
 pub first_char : {bs now xs ys : List ℕ} (c : ℕ) → IsUtf8 bs → xs ≡ bs → now ≡ ys → xs ≡ encode_utf8 c ++ ys
     → chars bs ≡ c ∷ chars now
 first_char {bs = bs} {ys = ys} c valid same rest first = rw rest (chars_past_char bs ys c valid (sym same ∙ first))
-
--- the first byte of what begins with a dash
-starts_with_dash : (b : ℕ) (bs : List ℕ) → starts_with ◌==◌ (b ∷ bs) (codes "-") ≡ true → b ≡ 45
-starts_with_dash b bs h = sym (eqb-true 45 b (sym (and-true (eqb 45 b)) ∙ h))
 
 -- something follows the dash of a word that begins with one and goes on
 pub nonempty_after_dash : (word rest : List ℕ) → is_option_word word ≡ true → rest ≡ drop 1 word → rest ≡ [] → ⊥

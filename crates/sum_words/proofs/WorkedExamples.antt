@@ -116,11 +116,6 @@ odd_words :
 unfolding chars encode name_or_fault option_of_letter tool_called is_utf8
 odd_words = (refl, refl, refl, refl, refl, refl, refl, refl, refl, refl)
 
--- no argument of these is longer than the page
-not_longer : (all : List ByteString) → AllByRecursion (λ a. length a ≤ 4096) all → SomeOne (λ a. 4096 < length a) all
-    → ⊥
-not_longer = grind (arith, common_steps)
-
 -- a command line without a word is always read, if the name is no longer than the page
 no_words : (name : ByteString) → length name ≤ 4096 → NeedsMemory (name ∷ []) → ⊥
 no_words = search rules

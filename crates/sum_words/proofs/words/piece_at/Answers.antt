@@ -1,4 +1,5 @@
 use Rattle.std.proofs.Common.{◌≤◌, length, sym}
+use Rattle.std.proofs.lemmas.Bool.{ltb-true}
 use Rattle.std.proofs.lemmas.Option.{slice_get_past}
 use Rattle.sum_words.specs.Words.{pieces_cut}
 use Rattle.sum_words.proofs.WordBytesLemmas.{piece_read, pieces_cut-length}
@@ -17,7 +18,7 @@ returns-in_err-end-clause-piece c =
 pub slice_bounds-result-count : goal.slice_bounds-result-count
 slice_bounds-result-count c =
     let looked = c.in_ok-end.ensures.lookup in
-    (piece_read c.args.bytes.now _ _ c.start_of-start.ensures looked.0 looked.1 c.requires).order
+    (piece_read c.args.bytes.now 0 _ _ c.start_of-start.ensures (ltb-true _ _ (sym looked.0)) looked.1 c.requires).order
 
 pub slice_bounds-result-start : goal.slice_bounds-result-start
 slice_bounds-result-start c = slice_bounds-result-count c
@@ -26,4 +27,4 @@ slice_bounds-result-start c = slice_bounds-result-count c
 pub slice_bounds-result-end : goal.slice_bounds-result-end
 slice_bounds-result-end c =
     let looked = c.in_ok-end.ensures.lookup in
-    (piece_read c.args.bytes.now _ _ c.start_of-start.ensures looked.0 looked.1 c.requires).within
+    (piece_read c.args.bytes.now 0 _ _ c.start_of-start.ensures (ltb-true _ _ (sym looked.0)) looked.1 c.requires).within
