@@ -1,8 +1,8 @@
 -- Words at their places, and bytes cut into pieces: one more piece, and the piece at a place.
-use Rattle.std.proofs.Common.{◌≡◌, ℕ, zero, suc, ◌-◌, ◌≤◌, List, [], ◌∷◌, ◌++◌, length, take, drop, get_or, Option, None, Some, refl, ap, arith, length-append, length-drop, slice_get, ◌+◌, ◌<◌}
-use Rattle.std.proofs.lemmas.List.{take-append-le, drop-append-le, drop_all, drop_more}
-use Rattle.std.proofs.Math.Seq.{drop-append_seam, take-length}
-use Rattle.std.proofs.lemmas.Option.{slice_get_within, slice_get_cases, get_or_from_slice_get}
+use Rattle.std.proofs.Common.{◌≡◌, ℕ, zero, suc, ◌-◌, ◌≤◌, List, [], ◌∷◌, ◌++◌, length, take, drop, get_or, Option, None, Some, refl, ap, arith, length-append, slice_get, ◌+◌, ◌<◌}
+use Rattle.std.proofs.lemmas.List.{drop_all, drop_more}
+use Rattle.std.proofs.lemmas.Option.{slice_get_within, slice_get_past, slice_get_cases, get_or_from_slice_get}
+use Rattle.std.proofs.lemmas.Grind.{common_steps}
 use Rattle.sum_words.specs.Items.{ByteString}
 use Rattle.sum_words.specs.Words.{pieces_cut, CutsAt}
 
@@ -29,17 +29,9 @@ CutsAt-within bytes from (end ∷ ends) cuts = omega (arith, cuts.0, CutsAt-with
 -- and that word is the last piece
 pub pieces_cut-push : (bytes word : List ℕ) (from : ℕ) (ends : List ℕ) → CutsAt bytes from ends
     → pieces_cut (bytes ++ word) from (ends ++ length (bytes ++ word) ∷ []) ≡ pieces_cut bytes from ends ++ word ∷ []
-pieces_cut-push bytes word from [] cuts =
-    let rest : drop from (bytes ++ word) ≡ word = rw cuts (drop-append_seam bytes word) in
-    let size : length (bytes ++ word) - from ≡ length word = omega (arith, cuts, length-append bytes word) in
-    ap (λ w. w ∷ []) (rw (rest, size) (take-length word))
+pieces_cut-push bytes word from [] cuts = grind (arith, common_steps)
 pieces_cut-push bytes word from (end ∷ ends) cuts =
-    let past : end ≤ length bytes = CutsAt-within bytes end ends cuts.1 in
-    let fits : from ≤ length bytes = omega (arith, cuts.0, past) in
-    let first : take (end - from) (drop from (bytes ++ word)) ≡ take (end - from) (drop from bytes) =
-    rw (drop-append-le from bytes word fits)
-    (take-append-le (end - from) (drop from bytes) word (omega (arith, length-drop from bytes, past))) in
-    rw (first, pieces_cut-push bytes word end ends cuts.1) refl
+    grind (arith, common_steps, pieces_cut-push bytes word end ends cuts.1, CutsAt-within bytes end ends cuts.1)
 
 -- there are as many pieces as places
 pub pieces_cut-length : (bytes : List ℕ) (from : ℕ) (ends : List ℕ)
@@ -64,3 +56,6 @@ piece_read bytes from [] i start inside end cuts = absurd (omega (arith, inside)
 piece_read bytes from (at ∷ ends) zero start inside end cuts =
     rw (start, end) (record { order = cuts.0; within = CutsAt-within bytes at ends cuts.1; piece = refl })
 piece_read bytes from (at ∷ ends) (suc i) start inside end cuts = piece_read bytes at ends i start (omega (arith, inside)) end cuts.1
+
+-- the lemmas of the piece at a place
+pub ruleset piece_steps = (piece_read, pieces_cut-length, slice_get_past)

@@ -1,5 +1,5 @@
 -- One word: its prefixes, its characters, and what is left of it for a value.
-use Rattle.std.proofs.Common.{rules, ◌≡◌, ◌==◌, ◌≢◌, ℕ, ◌+◌, true, false, List, [], ◌∷◌, ◌++◌, codes, length, drop, Option, None, Some, MatchOption, refl, ap, sym, ◌∙◌, bytes_eq, encode_utf8_all, IsUtf8, encode_utf8}
+use Rattle.std.proofs.Common.{rules, arith, ◌≡◌, ◌==◌, ◌≢◌, ℕ, ◌+◌, true, false, List, [], ◌∷◌, ◌++◌, codes, length, drop, Option, None, Some, MatchOption, refl, sym, bytes_eq, IsUtf8, encode_utf8}
 use denote.Ref.{Bor}
 use Rattle.std.specs.List.{starts_with}
 use Rattle.std.specs.Str.{chars, is_utf8}
@@ -27,7 +27,7 @@ prefix_stripped prefix text (Some x)
 -- the first character of a text
 pub first_char : {bs now xs ys : List ℕ} (c : ℕ) → IsUtf8 bs → xs ≡ bs → now ≡ ys → xs ≡ encode_utf8 c ++ ys
     → chars bs ≡ c ∷ chars now
-first_char {bs = bs} {ys = ys} c valid same rest first = rw rest (chars_past_char bs ys c valid (sym same ∙ first))
+first_char = grind (arith, chars_past_char)
 
 -- something follows the dash of a word that begins with one and goes on
 pub nonempty_after_dash : (word rest : List ℕ) → is_option_word word ≡ true → rest ≡ drop 1 word → rest ≡ [] → ⊥
@@ -45,22 +45,15 @@ no_dashes word none =
 -- such a word is a fault, and the last item
 pub no_text : (t : Tool) (word : List ℕ) (words : List (List ℕ)) → is_option_word word ≡ true → (IsUtf8 word → ⊥)
     → fault (not_text word) ∷ [] ≡ items_from t a_word (word ∷ words)
-no_text t word words dash none =
-    let odd : is_utf8 word ≡ false = false_from_ne_true _ (λ text. none (IsUtf8-from_is_utf8 word text)) in
-    rw (no_dashes word none, dash, odd) refl
+no_text t word words dash none = grind (arith, no_dashes, IsUtf8-from_is_utf8)
 
 -- a text is UTF-8
 pub ruleset utf8 = (is_utf8-from_IsUtf8)
 
 -- nothing is left of the word: the value is in the next one
 pub no_value : (bs : List ℕ) → length bs ≡ 0 → attached_value (chars bs) ≡ ([], a_value Short)
-no_value bs e = rw (nil_from_length bs e, chars-nil) refl
+no_value bs e = grind (arith, nil_from_length, chars-nil)
 
 -- what is left of the word is the value
 pub own_value : (bs : List ℕ) → IsUtf8 bs → length bs ≢ 0 → attached_value (chars bs) ≡ (length_value bs ∷ [], a_word)
-own_value bs valid some =
-    let whole : encode_utf8_all (chars bs) ≡ bs = encodes-chars bs valid in
-    elim (chars bs) as (λ cs. encode_utf8_all cs ≡ bs → attached_value cs ≡ (length_value bs ∷ [], a_word)) [
-      | [] ↦ λ w. absurd (some (ap length (sym w)))
-      | c ∷ cs ↦ λ w. ap (λ v. (length_value v ∷ [], a_word)) w
-    ] whole
+own_value bs valid some = grind (arith, encodes-chars bs valid)

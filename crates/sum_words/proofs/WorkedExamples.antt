@@ -1,7 +1,6 @@
 -- Worked examples: what the definitions say of some command lines, computed.
-use Rattle.std.proofs.Common.{rules, ◌≡◌, ◌==◌, ◌≤◌, ◌<◌, List, ℕ, [], ◌∷◌, Result, Ok, Err, refl, codes, true, false, length, arith, Any as SomeOne}
-use Rattle.std.proofs.lemmas.Grind.{common_steps}
-use Rattle.std.specs.List.{AllByRecursion, slice_split}
+use Rattle.std.proofs.Common.{rules, ◌≡◌, ◌==◌, ◌≤◌, List, ℕ, [], ◌∷◌, Result, Ok, Err, refl, codes, true, false, length}
+use Rattle.std.specs.List.{slice_split}
 use Rattle.std.specs.Str.{byte, chars, is_utf8}
 use Prim.Native.String.{String}
 use lib.Utf8.{encode}
