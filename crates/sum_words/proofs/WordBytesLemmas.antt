@@ -55,7 +55,8 @@ pub piece_read : {start end : ℕ} (bytes : List ℕ) (from : ℕ) (ends : List 
 piece_read bytes from [] i start inside end cuts = absurd (omega (arith, inside))
 piece_read bytes from (at ∷ ends) zero start inside end cuts =
     rw (start, end) (record { order = cuts.0; within = CutsAt-within bytes at ends cuts.1; piece = refl })
-piece_read bytes from (at ∷ ends) (suc i) start inside end cuts = piece_read bytes at ends i start (omega (arith, inside)) end cuts.1
+piece_read bytes from (at ∷ ends) (suc i) start inside end cuts =
+    piece_read bytes at ends i start (omega (arith, inside)) end cuts.1
 
 -- the lemmas of the piece at a place
 pub ruleset piece_steps = (piece_read, pieces_cut-length, slice_get_past)
