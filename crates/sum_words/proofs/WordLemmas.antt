@@ -1,6 +1,5 @@
 -- One word: its prefixes, its characters, and what is left of it for a value.
-use Rattle.std.proofs.Common.{rules, arith, ◌≡◌, ◌==◌, ◌≢◌, ℕ, ◌+◌, true, false, List, [], ◌∷◌, codes, length, drop, Option, None, Some, MatchOption, refl, sym, bytes_eq, IsUtf8}
-use denote.Ref.{Bor}
+use Rattle.std.proofs.Common.{rules, arith, ◌≡◌, ◌==◌, ◌≢◌, ℕ, ◌+◌, true, false, List, [], ◌∷◌, codes, length, drop, Option, None, Some, MatchOption, refl, sym, bytes_eq, IsUtf8, Bor}
 use Rattle.std.specs.List.{starts_with}
 use Rattle.std.specs.Str.{chars, is_utf8}
 use Rattle.std.specs.Str.Pattern.{FindsTextPrefix}
