@@ -1,5 +1,5 @@
 -- The words of a check ask for that check.
-use Rattle.std.proofs.Common.{rules, arith, ◌≡◌, Bool, true, false, not, List, [], ◌∷◌, ◌++◌, map, find, codes, None, Some, Ok, refl, ap, sym, ◌∙◌, bytes_eq}
+use Rattle.std.proofs.Common.{arith, ◌≡◌, Bool, true, not, List, [], ◌∷◌, ◌++◌, map, codes, Ok, refl, ap, sym, ◌∙◌}
 use Rattle.std.proofs.lemmas.Grind.{common_steps}
 use Rattle.std.specs.List.{list_all}
 use Rattle.std.specs.Str.{chars, is_utf8}
@@ -11,7 +11,7 @@ use Rattle.sum_words.specs.declared.parsing.options.Flag.{Flag}
 use Rattle.sum_words.specs.declared.tool.Tool.{Tool}
 use Rattle.sum_words.specs.declared.parsing.request.Request.TheVariants.{Check}
 use Rattle.sum_words.specs.Tools.{algos_of}
-use Rattle.sum_words.specs.Items.{ByteString, option, operand, a_word, items_from, full_name, flags_of, takes_value, name_part, value_part, name_or_fault}
+use Rattle.sum_words.specs.Items.{ByteString, option, operand, a_word, items_from, full_name, takes_value, name_or_fault}
 use Rattle.digests.specs.GenerationRuns.{check_options, check_words}
 
 -- ---- long options that every tool has, and that take no value
@@ -19,49 +19,21 @@ use Rattle.digests.specs.GenerationRuns.{check_options, check_words}
 abbrev takes_none : Flag → Bool
 takes_none flag = not (takes_value flag)
 
--- the full name of one means it
-full_name_found : (t : Tool) (flag : Flag) → takes_none flag ≡ true
-    → find (λ f. bytes_eq (full_name flag) (full_name f)) (flags_of t) ≡ Some flag
-full_name_found = search rules
-
--- how its word is read
-record IsLong (flag : Flag) : Type 0 where
-  no_value : takes_value flag ≡ false
-  name : name_part (full_name flag) ≡ full_name flag
-  value : value_part (full_name flag) ≡ None
-  more : bytes_eq (codes "--" ++ full_name flag) (codes "--") ≡ false
-  text : is_utf8 (codes "--" ++ full_name flag) ≡ true
-
-is-long : (flag : Flag) → takes_none flag ≡ true → IsLong flag
-unfolding chars encode is_utf8
-is-long = search rules
-
-long_name : (t : Tool) (flag : Flag) → takes_none flag ≡ true → name_or_fault t (full_name flag) ≡ Ok flag
-unfolding name_or_fault
-long_name t flag h = rw (full_name_found t flag h) refl
-
--- it is that option
+-- the word of one is that option
 long_word : (t : Tool) (flag : Flag) (more : List ByteString) → takes_none flag ≡ true
     → items_from t a_word ((codes "--" ++ full_name flag) ∷ more) ≡ option flag ∷ items_from t a_word more
-long_word t flag more h =
-    let long = is-long flag h in
-    rw (long.more, long.text, long.name, long.value, long_name t flag h, long.no_value) refl
+unfolding chars encode is_utf8 name_or_fault
+long_word = grind (arith, common_steps)
 
+-- and several words are those options
 long_words : (t : Tool) (fs : List Flag) (more : List ByteString) → list_all takes_none fs ≡ true
     → items_from t a_word (map (λ f. codes "--" ++ full_name f) fs ++ more) ≡ map option fs ++ items_from t a_word more
 long_words t [] more all = refl
 long_words t (flag ∷ fs) more all =
     let parts = and_parts _ _ all in
-    long_word t flag (map (λ f. codes "--" ++ full_name f) fs ++ more) parts.0
-    ∙ ap (λ xs. option flag ∷ xs) (long_words t fs more parts.1)
+    long_word t flag _ parts.0 ∙ ap (λ xs. option flag ∷ xs) (long_words t fs more parts.1)
 
 -- ---- the words of a check
-
--- they are those options and an operand
-items-are : (t : Tool) (check : CheckSettings) (manifest : ByteString)
-    → list_all takes_none (check_options check) ≡ true
-    → items_from t a_word (check_words check manifest) ≡ map option (check_options check) ++ operand manifest ∷ []
-items-are t check manifest all = long_words t (check_options check) (codes "--" ∷ manifest ∷ []) all
 
 abbrev settings : Tool → Report → Bool → Bool → CheckSettings
 settings t r s i = record { algo = algos_of t; report = r; strict = s; ignore_missing = i }
@@ -78,5 +50,5 @@ pub request-check_words : (t : Tool) (check : CheckSettings) (manifest : ByteStr
     → request t (check_words check manifest) ≡ Ok (Check check (manifest ∷ []))
 request-check_words t check manifest h =
     let is = options_ask t manifest check.report check.strict check.ignore_missing in
-    ap (request_of_items t) (items-are t check manifest is.0) ∙ is.1
+    ap (request_of_items t) (long_words t (check_options check) (codes "--" ∷ manifest ∷ []) is.0) ∙ is.1
     ∙ ap (λ a. Ok (Check (record check { algo = a }) (manifest ∷ []))) (sym h)

@@ -1,15 +1,12 @@
 -- Operands, one after another: the behavior of those before, followed by that of the rest, is the whole.
-use Rattle.std.proofs.Common.{◌≡◌, Bool, true, false, List, [], ◌∷◌, Result, Option, None, Some, Ok, Err, refl, ap, sym, ◌∙◌, subst, append_assoc, ◌&&◌}
-use denote.Ref.{Bor}
+use Rattle.std.proofs.Common.{◌≡◌, Bool, true, List, [], ◌∷◌, Option, None, Some, Ok, Err, refl, ap, sym, ◌∙◌, subst, append_assoc, append-nil, ◌&&◌, Bor}
 use Rattle.std.proofs.Math.Bool.{and_assoc, and-true}
-use Rattle.std.proofs.lemmas.List.{append-nil}
 use Rattle.sum_sources.specs.Sources.{SourceState}
 use Rattle.sum_engine.proofs.WorldLemmas.{InSomeWorld-map, InSomeWorld-then}
 use Rattle.sum_engine.specs.declared.stop.Stop.{Stop}
 use Rattle.sum_engine.specs.Behavior.{World, after, Behavior, behavior_then, trace, asks}
-use Rattle.sum_engine.specs.Execution.{InputsState, StreamsState, WorldState, IsFlushed, InSomeWorld, in_world, Happened, Performs, PerformsSteps, ReadToEnd}
+use Rattle.sum_engine.specs.Execution.{StreamsState, WorldState, IsFlushed, InSomeWorld, in_world, Happened, Performs, PerformsSteps}
 use Rattle.sum_engine.proofs.ExecutionLemmas.{Happened-none}
-use Rattle.sum_engine.proofs.ReadToEndLemmas.{ReadToEnd-trans}
 use Rattle.sum_engine.proofs.BehaviorLemmas.{behavior_then-happened, behavior_then-first, behavior_then-second, events_extend}
 use Rattle.sum_words.specs.Items.{ByteString}
 use Rattle.sum_words.specs.declared.tool.Tool.{Tool}
@@ -23,7 +20,7 @@ use Rattle.digests.specs.refinement.Operands.{operand_behavior}
 
 -- which two of three behaviors are joined first makes no difference
 behavior_then-assoc : (a b c : Behavior) → behavior_then (behavior_then a b) c ≡ behavior_then a (behavior_then b c)
-behavior_then-assoc a b c = rw (append_assoc a.steps b.steps c.steps, and_assoc a.good b.good c.good) refl
+behavior_then-assoc a b c = rw (append_assoc, and_assoc) refl
 
 -- `nothing` after a behavior adds nothing
 abbrev nothing : Behavior
@@ -31,7 +28,7 @@ nothing = record { steps = []; good = true }
 
 -- and then nothing: the behavior itself
 behavior_then-nothing : (a : Behavior) → behavior_then a nothing ≡ a
-behavior_then-nothing a = rw (append-nil a.steps, and-true a.good) refl
+behavior_then-nothing a = rw (append-nil, and-true) refl
 
 -- ---- operands, one after another
 
@@ -63,61 +60,68 @@ pub left-next : (old new : List ByteString) (next : Option (Bor ByteString)) →
 left-next old new None h = h.0
 left-next old new (Some name) h = h
 
-module _ {S : Type 0} (state : S → SourceState) (o : OperandsOfRun) where
-  -- the operands before the rest were done, from x to y, if both outputs were flushed
-  abbrev pub HasReached : List ByteString → StreamsState S → StreamsState S → Bool → Type 0
-  HasReached rest x y good = IsFlushed x.outputs → InSomeWorld state x.inputs y.inputs
+-- the operands before the rest were done, from x to y, if both outputs were flushed
+pub record HasReached {S : Type 0} (state : S → SourceState) (o : OperandsOfRun) (rest : List ByteString)
+    (x y : StreamsState S) (good : Bool) : Type 0 where
+  pub reached : IsFlushed x.outputs → InSomeWorld state x.inputs y.inputs
       (λ w v. HasDoneOperands o.one o.names rest (in_world state x w) (in_world state y v) good)
 
+module _ {S : Type 0} {state : S → SourceState} {o : OperandsOfRun} where
   -- before the first operand nothing happened
-  pub operands_done_start : (rest : List ByteString) (a : StreamsState S) → o.names ≡ rest → HasReached rest a a true
-  operands_done_start rest a is = λ flushed. record {
-    before = λ v fits. (
-      v,
-      fits,
-      record {
-        done = nothing;
-        total = ap (operands_behavior o.one v) is;
-        happened = Happened-none (in_world state a v);
-        is = refl;
-      },
-    );
+  pub operands_done_start : {rest : List ByteString} {a : StreamsState S} → o.names ≡ rest
+      → HasReached state o rest a a true
+  operands_done_start {a = a} is = record {
+    reached = λ flushed. record {
+      before = λ v fits. (
+        v,
+        fits,
+        record {
+          done = nothing;
+          total = ap (operands_behavior o.one v) is;
+          happened = Happened-none (in_world state a v);
+          is = refl;
+        },
+      );
+    };
   }
 
   -- one operand more happened
-  pub operands_done_step : (good this : Bool) (name : ByteString) (rest : List ByteString) (x y z : StreamsState S)
-      → HasReached (name ∷ rest) x y good → (IsFlushed x.outputs → IsFlushed y.outputs)
-      → Performs state (λ w. o.one w name) (λ g. g) y z (Ok this) → HasReached rest x z (good && this)
-  operands_done_step good this name rest x y z h kept k = λ flushed.
-      InSomeWorld-then (h flushed) (k (kept flushed)) (λ u v w p q.
-      let b = in_world state y v in
-      let c = in_world state z w in
-      let run = o.one v name in
-      let world : w ≡ after v (asks run) = (events_extend run b c q.1).0 in
-      record {
-        done = behavior_then p.done run;
-        total = p.total ∙ sym (behavior_then-assoc p.done run (operands_behavior o.one (after v (asks run)) rest))
-            ∙ ap (λ w. behavior_then (behavior_then p.done run) (operands_behavior o.one w rest)) (sym world);
-        happened = behavior_then-happened p.done.steps run.steps p.happened q.1;
-        is = ap (λ g. g && this) p.is ∙ ap (λ g. p.done.good && g) q.0;
-      })
+  pub operands_done_step : {good : Bool} {name : ByteString} {rest : List ByteString} {x y : StreamsState S}
+      (this : Bool) (z : StreamsState S) → HasReached state o (name ∷ rest) x y good
+      → (IsFlushed x.outputs → IsFlushed y.outputs)
+      → Performs state (λ w. o.one w name) (λ g. g) y z (Ok this) → HasReached state o rest x z (good && this)
+  operands_done_step {name = name} {rest = rest} {y = y} this z h kept k = record {
+    reached = λ flushed. InSomeWorld-then (h.reached flushed) (k (kept flushed)) (λ u v w p q.
+        let b = in_world state y v in
+        let c = in_world state z w in
+        let run = o.one v name in
+        let world : w ≡ after v (asks run) = (events_extend run b c q.1).0 in
+        record {
+          done = behavior_then p.done run;
+          total = p.total ∙ sym (behavior_then-assoc p.done run (operands_behavior o.one (after v (asks run)) rest))
+              ∙ ap (λ w. behavior_then (behavior_then p.done run) (operands_behavior o.one w rest)) (sym world);
+          happened = behavior_then-happened p.done.steps run.steps p.happened q.1;
+          is = ap (λ g. g && this) p.is ∙ ap (λ g. p.done.good && g) q.0;
+        });
+  }
 
   -- no operand is left
-  pub operands_done_end : (good : Bool) (x y : StreamsState S) → HasReached [] x y good
+  pub operands_done_end : {good : Bool} {x y : StreamsState S} → HasReached state o [] x y good
       → Performs state (λ w. operands_behavior o.one w o.names) status_of x y (Ok (status_of good))
-  operands_done_end good x y h = λ flushed. InSomeWorld-map (h flushed) (λ w v p.
+  operands_done_end h = λ flushed. InSomeWorld-map (h.reached flushed) (λ w v p.
       let total = p.total ∙ behavior_then-nothing p.done in (
         ap status_of (p.is ∙ ap (λ (r : Behavior). r.good) (sym total)),
         subst (λ (r : Behavior). Happened _ _ (trace r.steps)) (sym total) p.happened,
       ))
 
   -- the next operand stopped the run
-  pub operands_done_stop : (stop : Stop) (good : Bool) (name : ByteString) (rest : List ByteString)
-      (x y z : StreamsState S) → HasReached (name ∷ rest) x y good → (IsFlushed x.outputs → IsFlushed y.outputs)
+  pub operands_done_stop : {good : Bool} {name : ByteString} {rest : List ByteString} {x y : StreamsState S}
+      (stop : Stop) (z : StreamsState S) → HasReached state o (name ∷ rest) x y good
+      → (IsFlushed x.outputs → IsFlushed y.outputs)
       → Performs state (λ w. o.one w name) (λ g. g) y z (Err stop)
       → Performs state (λ w. operands_behavior o.one w o.names) status_of x z (Err stop)
-  operands_done_stop stop good name rest x y z h kept k = λ flushed.
-      InSomeWorld-then (h flushed) (k (kept flushed)) (λ u v w p q.
+  operands_done_stop {name = name} {rest = rest} {x = x} {y = y} stop z h kept k = λ flushed.
+      InSomeWorld-then (h.reached flushed) (k (kept flushed)) (λ u v w p q.
       let a = in_world state x u in
       let b = in_world state y v in
       let c = in_world state z w in
@@ -128,15 +132,3 @@ module _ {S : Type 0} (state : S → SourceState) (o : OperandsOfRun) where
       let all = behavior_then-second c status status p.done.steps (behavior_then run later).steps stop p.happened next
       in
       subst (λ (r : Behavior). PerformsSteps r.steps (status_of r.good) a c (Err stop)) (sym p.total) all)
-
--- ---- read to the end
-
--- the operands before were, if they were good, and this one, if it was
-pub read_step : {S : Type 0} (state : S → SourceState) (good this : Bool) (x y z : InputsState S)
-    → (good ≡ true → ReadToEnd state x y)
-    → (let answer : Result Bool Stop = Ok this in let yes : Result Bool Stop = Ok true in answer ≡ yes
-    → ReadToEnd state y z)
-    → good && this ≡ true → ReadToEnd state x z
-read_step state true true x y z h k all = ReadToEnd-trans (h refl) (k refl)
-read_step state true false x y z h k all = let no : false ≡ true = all in cc
-read_step state false this x y z h k all = let no : false ≡ true = all in cc

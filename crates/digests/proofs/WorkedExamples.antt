@@ -1,26 +1,27 @@
 -- Worked examples: the meaning of some command lines, computed. It has both texts, the names that are asked, and
 -- whether all is good.
+use Prim.Native.String.{String}
 use Rattle.std.proofs.Common.{◌≡◌, ◌++◌, Bool, List, [], ◌∷◌, refl, codes, true, false, flat_map, if◌then◌else◌, bytes_eq, Ok, Err}
 use Rattle.std.specs.Prelude.{⊤}
 use Rattle.std.specs.Str.{chars, is_utf8}
-use Rattle.std.specs.List.{concat}
 use Rattle.std.specs.Path.{rsplit_once}
 use lib.Utf8.{encode}
 use Rattle.md5.specs.Md5.{block_words as md5_words, rounds as md5_rounds, compress as md5_compress, hash_after as md5_after, digest_bytes as md5_bytes, md5}
 use Rattle.blake2b_core.specs.Compression.{mix, round, start, compress}
 use Rattle.blake2b_core.specs.Digest.{blocks, blake2b}
 use Rattle.sum_sources.specs.declared.fault.Fault.TheVariants.{NotFound, Other}
-use Rattle.sum_engine.specs.Behavior.{Whole, Broken, World, out_text, err_text, asks}
+use Rattle.sum_engine.specs.Behavior.{Whole, Broken, out_text, err_text, asks}
 use Rattle.std.specs.Fmt.{digits}
 use Rattle.hex.specs.Hex.{encode_with, decode_pairs}
 use Rattle.sum_lines.specs.grammar.LineParts.{plain_parts, tagged_parts}
 use Rattle.sum_sources.specs.ManifestLines.{raw_lines}
 use Rattle.sum_lines.specs.grammar.ParsedLines.{entry_of}
-use Rattle.sum_sources.specs.Contents.{Content, limit}
+use Rattle.sum_sources.specs.Contents.{Content, limit, empty_content}
 use Rattle.sum_sources.specs.Sources.{Answer}
 use Rattle.sum_words.specs.declared.tool.Tool.{Tool}
 use Rattle.sum_words.specs.declared.tool.Tool.TheVariants.{Md5sum, B2sum, Anysum}
 use Rattle.sum_words.specs.Items.{ByteString, name_or_fault, option_of_letter}
+use Rattle.sum_words.proofs.WorkedExamples.{words}
 use Rattle.digests.specs.Meaning.{meaning}
 
 -- what a worked example unfolds, so that its texts are computed
@@ -30,6 +31,10 @@ unfolding chars encode is_utf8 name_or_fault option_of_letter limit raw_lines en
     mix round start compress blocks blake2b
 meaning_on_literals = tt
 
+-- these lines, each with a newline
+abbrev lines : List String → ByteString
+lines texts = flat_map (λ text. codes text ++ codes "\n") texts
+
 -- bytes that end whole
 abbrev whole_content : ByteString → Content
 whole_content bytes = record { bytes = bytes; ending = Whole }
@@ -38,21 +43,13 @@ whole_content bytes = record { bytes = bytes; ending = Whole }
 abbrev broken_content : ByteString → Content
 broken_content bytes = record { bytes = bytes; ending = Broken Other }
 
--- the file `a` holds abc, `e` is empty, `l` has one content and standard input another; no other file is there
+-- the file `a` holds abc, `e` is empty, and `l` has this content; no other file is there
 abbrev answer_with : Content → ByteString → Answer
 answer_with l name =
     if bytes_eq name (codes "a") then Ok (whole_content (codes "abc"))
-    else if bytes_eq name (codes "e") then Ok (whole_content [])
+    else if bytes_eq name (codes "e") then Ok empty_content
     else if bytes_eq name (codes "l") then Ok l
     else Err NotFound
-
--- the content of these lines, which ends whole
-abbrev list_of : List ByteString → Content
-list_of lines = whole_content (flat_map (λ line. line ++ codes "\n") lines)
-
--- the world of these files
-abbrev world : Content → Content → World
-world l input = record { answer = λ asked. answer_with l; input = input }
 
 -- both texts of a run, the names that it asks, and whether all is good
 record Outcome : Type 0 where
@@ -61,192 +58,166 @@ record Outcome : Type 0 where
   asks : List ByteString
   good : Bool
 
--- the outcome of a command line in a world
-abbrev outcome : Tool → List ByteString → World → Outcome
-outcome tool words w =
-    let run = meaning tool words w in
+-- the outcome of a tool's words, if the file `l` has the first content and standard input the second
+abbrev outcome : Tool → List ByteString → Content → Content → Outcome
+outcome tool words l input =
+    let run = meaning tool words (record { answer = λ asked. answer_with l; input = input }) in
     record { out = out_text run; err = err_text run; asks = asks run; good = run.good }
 
--- md5sum a e
-files : outcome Md5sum
-    (codes "a" ∷ codes "e" ∷ [])
-    (world (whole_content []) (whole_content [])) ≡ record {
-      out = concat (codes "900150983cd24fb0d6963f7d28e17f72  a\n"
-          ∷ codes "d41d8cd98f00b204e9800998ecf8427e  e\n" ∷ []);
-      err = [];
-      asks = codes "a" ∷ codes "e" ∷ [];
-      good = true;
-    }
+-- two files
+files : outcome Md5sum (words "a e") empty_content empty_content ≡ record {
+  out = lines ("900150983cd24fb0d6963f7d28e17f72  a" ∷ "d41d8cd98f00b204e9800998ecf8427e  e" ∷ []);
+  err = [];
+  asks = words "a e";
+  good = true;
+}
 unfolding meaning_on_literals
 files = refl
 
--- md5sum a x e
-missing_file : outcome Md5sum
-    (codes "a" ∷ codes "x" ∷ codes "e" ∷ [])
-    (world (whole_content []) (whole_content [])) ≡ record {
-      out = concat (codes "900150983cd24fb0d6963f7d28e17f72  a\n"
-          ∷ codes "d41d8cd98f00b204e9800998ecf8427e  e\n" ∷ []);
-      err = concat (codes "md5sum: x: No such file or directory\n" ∷ []);
-      asks = codes "a" ∷ codes "x" ∷ codes "e" ∷ [];
-      good = false;
-    }
+-- a missing file between them
+missing_file : outcome Md5sum (words "a x e") empty_content empty_content ≡ record {
+  out = lines ("900150983cd24fb0d6963f7d28e17f72  a" ∷ "d41d8cd98f00b204e9800998ecf8427e  e" ∷ []);
+  err = lines ("md5sum: x: No such file or directory" ∷ []);
+  asks = words "a x e";
+  good = false;
+}
 unfolding meaning_on_literals
 missing_file = refl
 
--- md5sum - -, with `abc` on standard input
-stdin_twice : outcome Md5sum
-    (codes "-" ∷ codes "-" ∷ [])
-    (world (whole_content []) (whole_content (codes "abc"))) ≡ record {
-      out = concat (codes "900150983cd24fb0d6963f7d28e17f72  -\n"
-          ∷ codes "d41d8cd98f00b204e9800998ecf8427e  -\n" ∷ []);
-      err = [];
-      asks = codes "-" ∷ codes "-" ∷ [];
-      good = true;
-    }
+-- standard input, with `abc` on it, is empty the second time
+stdin_twice : outcome Md5sum (words "- -") empty_content (whole_content (codes "abc")) ≡ record {
+  out = lines ("900150983cd24fb0d6963f7d28e17f72  -" ∷ "d41d8cd98f00b204e9800998ecf8427e  -" ∷ []);
+  err = [];
+  asks = words "- -";
+  good = true;
+}
 unfolding meaning_on_literals
 stdin_twice = refl
 
--- md5sum, whose input gives three bytes and then a fault
-stdin_fails : outcome Md5sum
-    ([])
-    (world (whole_content []) (broken_content (codes "abc"))) ≡ record {
-      out = [];
-      err = concat (codes "md5sum: -: Input/output error\n" ∷ []);
-      asks = codes "-" ∷ [];
-      good = false;
-    }
+-- no word, and standard input that gives three bytes and then a fault
+stdin_fails : outcome Md5sum [] empty_content (broken_content (codes "abc")) ≡ record {
+  out = [];
+  err = lines ("md5sum: -: Input/output error" ∷ []);
+  asks = words "-";
+  good = false;
+}
 unfolding meaning_on_literals
 stdin_fails = refl
 
--- b2sum -l 256 --tag e
-tagged : outcome B2sum
-    (codes "-l" ∷ codes "256" ∷ codes "--tag" ∷ codes "e" ∷ [])
-    (world (whole_content []) (whole_content [])) ≡ record {
-      out = concat (codes "BLAKE2b-256 (e) = 0e5751c026e543b2e8ab2eb06099daa1d1e5df47778f7787faab45cdf12fe3a8\n" ∷ []);
-      err = [];
-      asks = codes "e" ∷ [];
-      good = true;
-    }
+-- a tagged line with a length
+tagged : outcome B2sum (words "-l 256 --tag e") empty_content empty_content ≡ record {
+  out = lines ("BLAKE2b-256 (e) = 0e5751c026e543b2e8ab2eb06099daa1d1e5df47778f7787faab45cdf12fe3a8" ∷ []);
+  err = [];
+  asks = words "e";
+  good = true;
+}
 unfolding meaning_on_literals
 tagged = refl
 
--- md5sum --foo --help
-unknown_option : outcome Md5sum
-    (codes "--foo" ∷ codes "--help" ∷ [])
-    (world (whole_content []) (whole_content [])) ≡ record {
-      out = [];
-      err = concat (codes "md5sum: unrecognized option '--foo'\n"
-          ∷ codes "Try 'md5sum --help' for more information.\n" ∷ []);
-      asks = [];
-      good = false;
-    }
+-- a fault before --help
+unknown_option : outcome Md5sum (words "--foo --help") empty_content empty_content ≡ record {
+  out = [];
+  err = lines ("md5sum: unrecognized option '--foo'" ∷ "Try 'md5sum --help' for more information." ∷ []);
+  asks = [];
+  good = false;
+}
 unfolding meaning_on_literals
 unknown_option = refl
 
--- md5sum -c l
-all_verdicts : outcome Md5sum
-    (codes "-c" ∷ codes "l" ∷ [])
-    (world (list_of (codes "900150983cd24fb0d6963f7d28e17f72  a"
-    ∷ codes "#c"
-    ∷ codes "junk"
-    ∷ codes "900150983cd24fb0d6963f7d28e17f72 *x"
-    ∷ codes "900150983cd24fb0d6963f7d28e17f72  e" ∷ [])) (whole_content [])) ≡ record {
-      out = concat (codes "a: OK\n"
-          ∷ codes "x: FAILED open or read\n"
-          ∷ codes "e: FAILED\n" ∷ []);
-      err = concat (codes "md5sum: x: No such file or directory\n"
-          ∷ codes "md5sum: WARNING: 1 line is improperly formatted\n"
-          ∷ codes "md5sum: WARNING: 1 listed file could not be read\n"
-          ∷ codes "md5sum: WARNING: 1 computed checksum did NOT match\n" ∷ []);
-      asks = codes "l" ∷ codes "a" ∷ codes "x" ∷ codes "e" ∷ [];
-      good = false;
-    }
+-- a manifest with lines of each kind
+abbrev mixed_manifest : Content
+mixed_manifest = whole_content (lines ("900150983cd24fb0d6963f7d28e17f72  a"
+    ∷ "#c"
+    ∷ "junk"
+    ∷ "900150983cd24fb0d6963f7d28e17f72 *x"
+    ∷ "900150983cd24fb0d6963f7d28e17f72  e" ∷ []))
+
+-- its check
+all_verdicts : outcome Md5sum (words "-c l") mixed_manifest empty_content ≡ record {
+  out = lines ("a: OK" ∷ "x: FAILED open or read" ∷ "e: FAILED" ∷ []);
+  err = lines ("md5sum: x: No such file or directory"
+      ∷ "md5sum: WARNING: 1 line is improperly formatted"
+      ∷ "md5sum: WARNING: 1 listed file could not be read"
+      ∷ "md5sum: WARNING: 1 computed checksum did NOT match" ∷ []);
+  asks = words "l a x e";
+  good = false;
+}
 unfolding meaning_on_literals
 all_verdicts = refl
 
--- md5sum -c --ignore-missing -w --strict l
-ignore_missing : outcome Md5sum
-    (codes "-c" ∷ codes "--ignore-missing" ∷ codes "-w" ∷ codes "--strict" ∷ codes "l" ∷ [])
-    (world (list_of (codes "900150983cd24fb0d6963f7d28e17f72  a"
-    ∷ codes "#c"
-    ∷ codes "junk"
-    ∷ codes "900150983cd24fb0d6963f7d28e17f72 *x"
-    ∷ codes "900150983cd24fb0d6963f7d28e17f72  e" ∷ [])) (whole_content [])) ≡ record {
-      out = concat (codes "a: OK\n"
-          ∷ codes "e: FAILED\n" ∷ []);
-      err = concat (codes "md5sum: l: 3: improperly formatted MD5 checksum line\n"
-          ∷ codes "md5sum: WARNING: 1 line is improperly formatted\n"
-          ∷ codes "md5sum: WARNING: 1 computed checksum did NOT match\n" ∷ []);
-      asks = codes "l" ∷ codes "a" ∷ codes "x" ∷ codes "e" ∷ [];
-      good = false;
-    }
+-- its check without missing files, with a warning for each bad line
+ignore_missing : outcome Md5sum (words "-c --ignore-missing -w --strict l") mixed_manifest empty_content ≡ record {
+  out = lines ("a: OK" ∷ "e: FAILED" ∷ []);
+  err = lines ("md5sum: l: 3: improperly formatted MD5 checksum line"
+      ∷ "md5sum: WARNING: 1 line is improperly formatted"
+      ∷ "md5sum: WARNING: 1 computed checksum did NOT match" ∷ []);
+  asks = words "l a x e";
+  good = false;
+}
 unfolding meaning_on_literals
 ignore_missing = refl
 
--- md5sum -c, whose manifest on standard input lists `-`
-nothing_to_check : outcome Md5sum
-    (codes "-c" ∷ [])
-    (world (whole_content []) (list_of (codes "900150983cd24fb0d6963f7d28e17f72  -" ∷ []))) ≡ record {
-      out = [];
-      err = concat (codes "md5sum: standard input: no properly formatted checksum lines found\n" ∷ []);
-      asks = codes "-" ∷ [];
-      good = false;
-    }
+-- a manifest that lists `-`
+abbrev dash_manifest : Content
+dash_manifest = whole_content (lines ("900150983cd24fb0d6963f7d28e17f72  -" ∷ []))
+
+-- if it is standard input, nothing is checked
+nothing_to_check : outcome Md5sum (words "-c") empty_content dash_manifest ≡ record {
+  out = [];
+  err = lines ("md5sum: standard input: no properly formatted checksum lines found" ∷ []);
+  asks = words "-";
+  good = false;
+}
 unfolding meaning_on_literals
 nothing_to_check = refl
 
--- md5sum -c l, where the manifest breaks off in its second line
+-- if it is a file, given twice, standard input is empty the second time
+stdin_listed : outcome Md5sum (words "-c l l") dash_manifest (whole_content (codes "abc")) ≡ record {
+  out = lines ("-: OK" ∷ "-: FAILED" ∷ []);
+  err = lines ("md5sum: WARNING: 1 computed checksum did NOT match" ∷ []);
+  asks = words "l - l -";
+  good = false;
+}
+unfolding meaning_on_literals
+stdin_listed = refl
+
+-- a manifest that breaks off in its second line
 manifest_fails : outcome Md5sum
-    (codes "-c" ∷ codes "l" ∷ [])
-    (world (broken_content (
-    codes "900150983cd24fb0d6963f7d28e17f72  a\n"
-    ++ codes "900150983cd24fb0d6963f7d28e17f72  a")) (whole_content [])) ≡ record {
-      out = concat (codes "a: OK\n" ∷ []);
-      err = concat (codes "md5sum: l: Input/output error\n" ∷ []);
-      asks = codes "l" ∷ codes "a" ∷ [];
+    (words "-c l")
+    (broken_content (codes "900150983cd24fb0d6963f7d28e17f72  a\n900150983cd24fb0d6963f7d28e17f72  a"))
+    empty_content ≡ record {
+      out = lines ("a: OK" ∷ []);
+      err = lines ("md5sum: l: Input/output error" ∷ []);
+      asks = words "l a";
       good = false;
     }
 unfolding meaning_on_literals
 manifest_fails = refl
 
--- md5sum -c l l, which lists `-`, with `abc` on standard input
-stdin_listed : outcome Md5sum
-    (codes "-c" ∷ codes "l" ∷ codes "l" ∷ [])
-    (world (list_of (codes "900150983cd24fb0d6963f7d28e17f72  -" ∷ [])) (whole_content (codes "abc"))) ≡ record {
-      out = concat (codes "-: OK\n"
-          ∷ codes "-: FAILED\n" ∷ []);
-      err = concat (codes "md5sum: WARNING: 1 computed checksum did NOT match\n" ∷ []);
-      asks = codes "l" ∷ codes "-" ∷ codes "l" ∷ codes "-" ∷ [];
-      good = false;
-    }
-unfolding meaning_on_literals
-stdin_listed = refl
-
--- md5sum -c l, whose first line has one blank, and the second two
+-- a manifest whose first line has one blank, and the second two
 reversed_form : outcome Md5sum
-    (codes "-c" ∷ codes "l" ∷ [])
-    (world (list_of (codes "900150983cd24fb0d6963f7d28e17f72 a"
-    ∷ codes "900150983cd24fb0d6963f7d28e17f72  a" ∷ [])) (whole_content [])) ≡ record {
-      out = concat (codes "a: OK\n"
-          ∷ codes " a: FAILED open or read\n" ∷ []);
-      err = concat (codes "md5sum:  a: No such file or directory\n"
-          ∷ codes "md5sum: WARNING: 1 listed file could not be read\n" ∷ []);
+    (words "-c l")
+    (whole_content (lines ("900150983cd24fb0d6963f7d28e17f72 a" ∷ "900150983cd24fb0d6963f7d28e17f72  a" ∷ [])))
+    empty_content ≡ record {
+      out = lines ("a: OK" ∷ " a: FAILED open or read" ∷ []);
+      err = lines ("md5sum:  a: No such file or directory"
+          ∷ "md5sum: WARNING: 1 listed file could not be read" ∷ []);
       asks = codes "l" ∷ codes "a" ∷ codes " a" ∷ [];
       good = false;
     }
 unfolding meaning_on_literals
 reversed_form = refl
 
--- anysum -c l
+-- a manifest with tagged lines of two algorithms, and one without a tag
 mixed_tags : outcome Anysum
-    (codes "-c" ∷ codes "l" ∷ [])
-    (world (list_of (codes "MD5 (a) = 900150983cd24fb0d6963f7d28e17f72"
-    ∷ codes "BLAKE2b-256 (e) = 0e5751c026e543b2e8ab2eb06099daa1d1e5df47778f7787faab45cdf12fe3a8"
-    ∷ codes "900150983cd24fb0d6963f7d28e17f72  a" ∷ [])) (whole_content [])) ≡ record {
-      out = concat (codes "a: OK\n"
-          ∷ codes "e: OK\n" ∷ []);
-      err = concat (codes "anysum: WARNING: 1 line is improperly formatted\n" ∷ []);
-      asks = codes "l" ∷ codes "a" ∷ codes "e" ∷ [];
+    (words "-c l")
+    (whole_content (lines ("MD5 (a) = 900150983cd24fb0d6963f7d28e17f72"
+    ∷ "BLAKE2b-256 (e) = 0e5751c026e543b2e8ab2eb06099daa1d1e5df47778f7787faab45cdf12fe3a8"
+    ∷ "900150983cd24fb0d6963f7d28e17f72  a" ∷ [])))
+    empty_content ≡ record {
+      out = lines ("a: OK" ∷ "e: OK" ∷ []);
+      err = lines ("anysum: WARNING: 1 line is improperly formatted" ∷ []);
+      asks = words "l a e";
       good = true;
     }
 unfolding meaning_on_literals

@@ -3,7 +3,7 @@ use Rattle.std.proofs.Common.{rules, ◌≡◌, ℕ, ◌<◌, false, List, [], �
 use Rattle.std.proofs.lemmas.List.{length-map, map-append}
 use Rattle.std.proofs.lemmas.List.Concat.{flat_map-append}
 use Rattle.std.proofs.lemmas.List.Folds.{flat_map-map}
-use Rattle.std.proofs.lemmas.List.Elements.{All-nil, All-head, All-tail, All-append, All-map, All-weaker, All-contains, All-contains_itself}
+use Rattle.std.proofs.lemmas.List.Elements.{All-nil, All-cons, All-head, All-tail, All-append, All-map}
 use Rattle.digest_kinds.specs.Kinds.{digest}
 use Rattle.sum_engine.specs.check.Verdicts.{Algos}
 use Rattle.sum_engine.specs.declared.check.judge.Verdict.TheVariants.{Right}
@@ -40,123 +40,84 @@ item answer s name = record { mode = s.style.mode; kind = s.kind; name = name; b
 abbrev items : (ByteString → Answer) → GenerationRun → List Item
 items answer g = map (item answer g.settings) g.names
 
--- a file that can be listed is read to its end
-read-is : (files : ByteString → Answer) (w : World) (s : Settings) (name : ByteString) → HasFiles w files
-    → IsListable files name → digest_or_fault s.kind (answer_to w name) ≡ Ok (digest s.kind (bytes_of (files name)))
-read-is files w s name has h = rw has (search rules)
+module _ (algos : Algos) (files later : ByteString → Answer) where
+  -- a file that can be listed is read to its end
+  read-is : (w : World) (s : Settings) (name : ByteString) → HasFiles w files → IsListable files name
+      → digest_or_fault s.kind (answer_to w name) ≡ Ok (digest s.kind (bytes_of (files name)))
+  read-is w s name has h = rw has (search rules)
 
--- so one line is written for it
-line-is : (files : ByteString → Answer) (w : World) (s : Settings) (tool name : ByteString) → HasFiles w files
-    → s.style.zero ≡ false → IsListable files name
-    → out_text (generate_behavior s tool w name) ≡ written_text (item files s name)
-line-is files w s tool name has newlines h = rw (read-is files w s name has h, newlines, append-nil) refl
+  -- so its line is written, and for all names their lines, one after another
+  lines-are : (s : Settings) (tool : ByteString) (names : List ByteString) (w : World) → HasFiles w files
+      → s.style.zero ≡ false → All (IsListable files) names
+      → out_text (operands_behavior (generate_behavior s tool) w names) ≡ flat_map written_text (map (item files s) names)
+  lines-are s tool [] w has newlines all = refl
+  lines-are s tool (name ∷ names) w has newlines all =
+      let asked = asks (generate_behavior s tool w name) in
+      let first : out_text (generate_behavior s tool w name) ≡ written_text (item files s name) =
+      rw (read-is w s name has (All-head (IsListable files) name names all), newlines, append-nil) refl in
+      let others = lines-are s tool names (after w asked) (after-steady files w asked has) newlines
+      (All-tail (IsListable files) name names all) in
+      rw (flat_map-append, first, others) refl
 
--- and for all names their lines, one after another
-lines-are : (files : ByteString → Answer) (s : Settings) (tool : ByteString) (names : List ByteString) (w : World)
-    → HasFiles w files → s.style.zero ≡ false → All (IsListable files) names
-    → out_text (operands_behavior (generate_behavior s tool) w names) ≡ flat_map written_text
-    (map (item files s) names)
-lines-are files s tool [] w has newlines all = refl
-lines-are files s tool (name ∷ names) w has newlines all =
-    let next : World = after w (asks (generate_behavior s tool w name)) in
-    let first = line-is files w s tool name has newlines (All-head (IsListable files) name names all) in
-    let others = lines-are files s tool names next
-    (after-steady files w (asks (generate_behavior s tool w name)) has) newlines
-    (All-tail (IsListable files) name names all) in
-    flat_map-append (λ st. st.out) (generate_behavior s tool w name).steps (operands_behavior (generate_behavior s tool)
-    next names).steps
-    ∙ rw (first, others) refl
+  -- a line is read back, if its file is the same
+  item-listed : {g : GenerationRun} {name : ByteString} → IsCheckable algos files later g → IsListable files name
+      → later name ≡ files name → Listed algos later (item files g.settings name)
+  item-listed c h same = search rules
 
--- ---- they are read back, and their files are the same
+  -- ---- several runs, one after another
 
--- one line
-item-listed : (algos : Algos) (files later : ByteString → Answer) (g : GenerationRun) (name : ByteString)
-    → IsCheckable algos files later g → IsListable files name → later name ≡ files name
-    → Listed algos later (item files g.settings name)
-item-listed algos files later g name c h same = search rules
+  -- their lines are read back
+  runs-listed : (gs : List GenerationRun) → All (IsCheckable algos files later) gs
+      → All (Listed algos later) (flat_map (items files) gs)
+  runs-listed [] all = All-nil (Listed algos later)
+  runs-listed (g ∷ gs) all =
+      let c = All-head (IsCheckable algos files later) g gs all in
+      All-append (Listed algos later) (items files g) (flat_map (items files) gs)
+      (All-map (Listed algos later) (item files g.settings) g.names (λ k d less.
+      item-listed c (c.listable k d less) (c.same k d less)))
+      (runs-listed gs (All-tail (IsCheckable algos files later) g gs all))
 
--- all lines of a run
-run-listed : (algos : Algos) (files later : ByteString → Answer) (g : GenerationRun) → IsCheckable algos files later g
-    → All (Listed algos later) (items files g)
-run-listed algos files later g c =
-    let Is : ByteString → Type 0 = λ name. Listed algos later (item files g.settings name) in
-    let is : (name : ByteString) → Contains g.names name → Is name = λ name one.
-    item-listed algos files later g name c (All-contains (IsListable files) g.names name c.listable one)
-    (All-contains (λ n. later n ≡ files n) g.names name c.same one) in
-    All-map (Listed algos later) (item files g.settings) g.names
-    (All-weaker (Contains g.names) Is is g.names (All-contains_itself g.names))
+  -- what they wrote is their lines
+  runs-text : (w : World) (gs : List GenerationRun) → HasFiles w files → All (IsCheckable algos files later) gs
+      → flat_map written_text (flat_map (items files) gs) ≡ flat_map (generation_output w) gs
+  runs-text w [] has all = refl
+  runs-text w (g ∷ gs) has all =
+      let c = All-head (IsCheckable algos files later) g gs all in
+      let others = runs-text w gs has (All-tail (IsCheckable algos files later) g gs all) in
+      rw (flat_map-append, ← lines-are g.settings g.tool g.names w has c.newlines c.listable, others) refl
 
--- ---- a manifest of such lines
+-- and these are for all of their names
+names-are : (files : ByteString → Answer) (s : Settings) (names : List ByteString)
+    → map (λ i. i.name) (map (item files s) names) ≡ names
+names-are files s [] = refl
+names-are files s (name ∷ names) = ap (λ l. name ∷ l) (names-are files s names)
 
--- a manifest that holds the lines for some names is good
-lines-good : (t : Tool) (check : CheckSettings) (manifest : ByteString) (later : ByteString → Answer) (v : World)
-    (xs : List Item) (names : List ByteString) (text : ByteString) → HasFiles v later → check.algo ≡ algos_of t
-    → All (Listed check.algo later) xs → map (λ i. i.name) xs ≡ names → flat_map written_text xs ≡ text
-    → 0 < length names → length text < limit
-    → answer_to v manifest ≡ Ok (record { bytes = text; ending = Whole })
-    → ReportsAllOk check.report (meaning t (check_words check manifest) v) names
-lines-good t check manifest later v xs names text has by all is same some fits given =
-    let count : length xs ≡ length names = sym (length-map xs (λ i. i.name)) ∙ ap length is in
-    let f = manifest_good check (name_of t) manifest later v xs has all (rw count some) (rw same fits)
-    (rw same given) in
-    let reported = f.out ∙ sym (flat_map-map (out_by present check.report Right) (λ i. i.name) xs) in
+runs-names : (files : ByteString → Answer) (gs : List GenerationRun)
+    → map (λ i. i.name) (flat_map (items files) gs) ≡ flat_map (λ g. g.names) gs
+runs-names files [] = refl
+runs-names files (g ∷ gs) = rw (map-append, names-are files g.settings g.names, runs-names files gs) refl
+
+-- ---- the laws
+
+-- what several runs wrote is a manifest of such lines
+pub joined_is_good : JoinedIsGood
+joined_is_good t check manifest files later w v gs has same by all some fits given =
+    let xs = flat_map (items files) gs in
+    let names = runs-names files gs in
+    let text = runs-text check.algo files later w gs has all in
+    let count : length xs ≡ length (flat_map (λ g. g.names) gs) = sym (length-map xs (λ i. i.name)) ∙ ap length names in
+    let f = manifest_good check (name_of t) manifest later v xs same (runs-listed check.algo files later gs all)
+    (rw count some) (rw text fits) (rw text given) in
     let asked = request-check_words t check manifest by in
     record {
       status = rw (asked, f.good) refl;
-      out = rw (asked, append-nil) (reported ∙ ap (flat_map (out_by present check.report Right)) is);
+      out = rw (asked, append-nil) (f.out ∙ sym (flat_map-map (out_by present check.report Right) (λ i. i.name) xs)
+          ∙ ap (flat_map (out_by present check.report Right)) names);
       err = rw (asked, append-nil) f.err;
     }
 
--- ---- one run
-
--- what it wrote is its lines
-run-text : (algos : Algos) (files later : ByteString → Answer) (w : World) (g : GenerationRun) → HasFiles w files
-    → IsCheckable algos files later g → flat_map written_text (items files g) ≡ generation_output w g
-run-text algos files later w g has c = sym (lines-are files g.settings g.tool g.names w has c.newlines c.listable)
-
--- and these are for its names
-names-are : (answer : ByteString → Answer) (s : Settings) (names : List ByteString)
-    → map (λ i. i.name) (map (item answer s) names) ≡ names
-names-are answer s [] = refl
-names-are answer s (name ∷ names) = ap (λ l. name ∷ l) (names-are answer s names)
-
--- the law of one run
+-- so is what one run wrote
 pub written_is_good : WrittenIsGood
 written_is_good t check manifest files later w v g has same by c =
-    lines-good t check manifest later v (items files g) g.names (generation_output w g) same by
-    (run-listed check.algo files later g c) (names-are files g.settings g.names)
-    (run-text check.algo files later w g has c)
-
--- ---- several runs: the same of each, one after another
-
--- their lines are read back
-runs-listed : (algos : Algos) (files later : ByteString → Answer) (gs : List GenerationRun)
-    → All (IsCheckable algos files later) gs → All (Listed algos later) (flat_map (items files) gs)
-runs-listed algos files later [] all = All-nil (Listed algos later)
-runs-listed algos files later (g ∷ gs) all =
-    All-append (Listed algos later) (items files g) (flat_map (items files) gs)
-    (run-listed algos files later g (All-head (IsCheckable algos files later) g gs all))
-    (runs-listed algos files later gs (All-tail (IsCheckable algos files later) g gs all))
-
--- what they wrote is their lines
-runs-text : (algos : Algos) (files later : ByteString → Answer) (w : World) (gs : List GenerationRun) → HasFiles w files
-    → All (IsCheckable algos files later) gs
-    → flat_map written_text (flat_map (items files) gs) ≡ flat_map (generation_output w) gs
-runs-text algos files later w [] has all = refl
-runs-text algos files later w (g ∷ gs) has all =
-    let first = run-text algos files later w g has (All-head (IsCheckable algos files later) g gs all) in
-    let others = runs-text algos files later w gs has (All-tail (IsCheckable algos files later) g gs all) in
-    rw (flat_map-append, first, others) refl
-
--- and these are for all of their names
-runs-names : (answer : ByteString → Answer) (gs : List GenerationRun)
-    → map (λ i. i.name) (flat_map (items answer) gs) ≡ flat_map (λ g. g.names) gs
-runs-names answer [] = refl
-runs-names answer (g ∷ gs) = rw (map-append, names-are answer g.settings g.names, runs-names answer gs) refl
-
--- the law of several runs
-pub joined_is_good : JoinedIsGood
-joined_is_good t check manifest files later w v gs has same by all =
-    lines-good t check manifest later v (flat_map (items files) gs) (flat_map (λ g. g.names) gs)
-    (flat_map (generation_output w) gs) same by (runs-listed check.algo files later gs all) (runs-names files gs)
-    (runs-text check.algo files later w gs has all)
+    simp append-nil at (joined_is_good t check manifest files later w v (g ∷ []) has same by
+    (All-cons (IsCheckable check.algo files later) g [] c (All-nil (IsCheckable check.algo files later))))

@@ -5,5 +5,5 @@ mod WordLemmas
 mod OptionLemmas
 mod RequestLemmas
 mod TextLemmas
-mod WorkedExamples
+pub mod WorkedExamples
 pub mod PlainWordLemmas

@@ -1,5 +1,5 @@
 -- Plain words are operands.
-use Rattle.std.proofs.Common.{rules, ◌≡◌, true, false, Bool, not, List, [], ◌∷◌, ◌++◌, map, codes, refl, ap, ◌∙◌, bytes_eq}
+use Rattle.std.proofs.Common.{rules, ◌≡◌, true, false, Bool, not, List, [], ◌∷◌, ◌++◌, map, codes, refl, ap, bytes_eq}
 use Rattle.std.specs.List.{AllPass}
 use Rattle.std.proofs.lemmas.List.Elements.{All-head, All-tail}
 use Rattle.sum_words.specs.declared.tool.Tool.{Tool}
@@ -13,15 +13,11 @@ is_plain word = not (is_option_word word)
 no_dashes : (word : ByteString) → is_plain word ≡ true → bytes_eq word (codes "--") ≡ false
 no_dashes = search rules
 
--- a plain word is an operand
-plain_word : (t : Tool) (word : ByteString) (more : List ByteString) → is_plain word ≡ true
-    → items_from t a_word (word ∷ more) ≡ operand word ∷ items_from t a_word more
-plain_word t word more h = rw (no_dashes word h, h) refl
-
 -- plain words are operands, whatever follows them
 pub plain_words : (t : Tool) (words more : List ByteString) → AllPass is_plain words
     → items_from t a_word (words ++ more) ≡ map operand words ++ items_from t a_word more
 plain_words t [] more h = refl
 plain_words t (word ∷ words) more h =
-    plain_word t word (words ++ more) (All-head (λ w. is_plain w ≡ true) word words h)
-    ∙ ap (λ xs. operand word ∷ xs) (plain_words t words more (All-tail (λ w. is_plain w ≡ true) word words h))
+    let plain = All-head (λ w. is_plain w ≡ true) word words h in
+    rw (no_dashes word plain, plain) (ap (λ xs. operand word ∷ xs)
+    (plain_words t words more (All-tail (λ w. is_plain w ≡ true) word words h)))

@@ -1,11 +1,11 @@
 -- The options read so far, and the number of a length value.
-use Rattle.std.proofs.Common.{rules, ◌≡◌, ◌≢◌, ℕ, zero, suc, get_or, ◌<◌, ◌^◌, true, List, [], ◌∷◌, length, Result, arith, IsUtf8}
+use Rattle.std.proofs.Common.{rules, ◌≡◌, ◌≢◌, ℕ, zero, suc, get_or, ◌<◌, true, List, [], ◌∷◌, Result, arith, IsUtf8}
 use Rattle.std.proofs.lemmas.Grind.{common_steps}
-use Rattle.std.specs.Result.{result_ok, OkIff}
+use Rattle.std.specs.Result.{result_ok}
 use Rattle.std.specs.Str.{all_ascii_digits}
-use Rattle.std.specs.Str.Parse.{ParsesUnsigned, digits_value}
+use Rattle.std.specs.Str.Parse.{ParsesUnsigned}
 use Rattle.std.proofs.lemmas.Str.{IsUtf8-from_ascii}
-use Rattle.std.proofs.lemmas.Str.Parse.{IsNumeralModel, numerals_by_value, tells_all_ascii_digits, parse_digits}
+use Rattle.std.proofs.lemmas.Str.Parse.{numerals_by_value, tells_all_ascii_digits, parse_digits}
 use Rattle.sum_words.specs.Items.{Flag, ByteString, ItemValue, option}
 use Rattle.sum_words.specs.Request.{early_request}
 use Rattle.sum_words.specs.refinement.OptionScan.{IsNumberOf}
@@ -25,17 +25,9 @@ digits_ascii (b ∷ bs) digits (suc i) = digits_ascii bs (tells_all_ascii_digits
 pub digits_text : (value : ByteString) → all_ascii_digits value ≡ true → IsUtf8 value
 digits_text value digits = IsUtf8-from_ascii value (digits_ascii value digits)
 
--- the value of a text of digits
-numerals : IsNumeralModel (λ ds. all_ascii_digits ds ≡ true) (digits_value 10)
-numerals = numerals_by_value _ tells_all_ascii_digits
-
 -- parsing digits returns their number, or it is too large
-number_of_digits : {E : Type 0} (value : ByteString) (r : Result ℕ E)
-    → OkIff r ((0 < length value) × (digits_value 10 value < 2 ^ 64)) (digits_value 10 value)
-    → all_ascii_digits value ≡ true → IsNumberOf value (result_ok r)
-number_of_digits = grind (arith, common_steps)
-
--- the same by the contract of parsing
 pub number_parsed : {E : Type 0} (value : ByteString) (r : Result ℕ E) → ParsesUnsigned 64 10 value r
     → all_ascii_digits value ≡ true → IsNumberOf value (result_ok r)
-number_parsed value r h digits = number_of_digits value r (parse_digits numerals 64 value r h digits) digits
+number_parsed value r h digits =
+    let parsed = parse_digits (numerals_by_value _ tells_all_ascii_digits) 64 value r h digits in
+    grind (arith, common_steps)

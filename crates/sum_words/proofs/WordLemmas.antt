@@ -1,6 +1,5 @@
 -- One word: its prefixes, its characters, and what is left of it for a value.
-use Rattle.std.proofs.Common.{rules, ◌≡◌, ◌==◌, ◌≢◌, ℕ, ◌+◌, true, false, List, [], ◌∷◌, ◌++◌, codes, length, drop, Option, None, Some, MatchOption, refl, ap, sym, ◌∙◌, eqb, bytes_eq, encode_utf8_all, IsUtf8, encode_utf8}
-use denote.Ref.{Bor}
+use Rattle.std.proofs.Common.{rules, arith, ◌≡◌, ◌==◌, ◌≢◌, ℕ, ◌+◌, true, false, List, [], ◌∷◌, codes, length, drop, Option, None, Some, MatchOption, refl, sym, bytes_eq, IsUtf8, Bor}
 use Rattle.std.specs.List.{starts_with}
 use Rattle.std.specs.Str.{chars, is_utf8}
 use Rattle.std.specs.Str.Pattern.{FindsTextPrefix}
@@ -8,11 +7,10 @@ use Rattle.std.proofs.lemmas.Str.Pattern.{starts_text}
 use Rattle.std.proofs.lemmas.Str.{chars-nil, chars_past_char, encodes-chars, IsUtf8-from_is_utf8, is_utf8-from_IsUtf8}
 use Rattle.std.proofs.lemmas.List.{nil_from_length}
 use Rattle.std.proofs.lemmas.Slice.Eq.{bytes_eq-Decides}
-use Rattle.std.proofs.lemmas.Bool.{eqb-true, false_from_ne_true}
-use Rattle.std.proofs.Math.Bool.{and-true}
+use Rattle.std.proofs.lemmas.Bool.{false_from_ne_true}
 use lib.Utf8.{encode}
 use Rattle.sum_words.specs.declared.tool.Tool.{Tool}
-use Rattle.sum_words.specs.Items.{Short, attached_value, a_value, a_word, length_value, fault, is_option_word, items_from}
+use Rattle.sum_words.specs.Items.{attached_value, a_word, length_value, fault, is_option_word, items_from}
 use Rattle.sum_words.specs.WordFaults.{not_text}
 
 -- the rest of a text after a prefix, as `strip_prefix` returns it
@@ -24,15 +22,6 @@ pub prefix_stripped : (prefix text : List ℕ) (r : Option (Bor (List ℕ)))
 prefix_stripped prefix text None h = sym (starts_text false prefix text h)
 prefix_stripped prefix text (Some x)
     (n, f, e, l) = (sym (starts_text true prefix text (n, f, (rw f.0 f.2))), (rw f.0 at e))
-
--- the first character of a text
-pub first_char : {bs now xs ys : List ℕ} (c : ℕ) → IsUtf8 bs → xs ≡ bs → now ≡ ys → xs ≡ encode_utf8 c ++ ys
-    → chars bs ≡ c ∷ chars now
-first_char {bs = bs} {ys = ys} c valid same rest first = rw rest (chars_past_char bs ys c valid (sym same ∙ first))
-
--- the first byte of what begins with a dash
-starts_with_dash : (b : ℕ) (bs : List ℕ) → starts_with ◌==◌ (b ∷ bs) (codes "-") ≡ true → b ≡ 45
-starts_with_dash b bs h = sym (eqb-true 45 b (sym (and-true (eqb 45 b)) ∙ h))
 
 -- something follows the dash of a word that begins with one and goes on
 pub nonempty_after_dash : (word rest : List ℕ) → is_option_word word ≡ true → rest ≡ drop 1 word → rest ≡ [] → ⊥
@@ -50,22 +39,14 @@ no_dashes word none =
 -- such a word is a fault, and the last item
 pub no_text : (t : Tool) (word : List ℕ) (words : List (List ℕ)) → is_option_word word ≡ true → (IsUtf8 word → ⊥)
     → fault (not_text word) ∷ [] ≡ items_from t a_word (word ∷ words)
-no_text t word words dash none =
-    let odd : is_utf8 word ≡ false = false_from_ne_true _ (λ text. none (IsUtf8-from_is_utf8 word text)) in
-    rw (no_dashes word none, dash, odd) refl
+no_text t word words dash none = grind (arith, no_dashes, IsUtf8-from_is_utf8)
 
 -- a text is UTF-8
 pub ruleset utf8 = (is_utf8-from_IsUtf8)
 
--- nothing is left of the word: the value is in the next one
-pub no_value : (bs : List ℕ) → length bs ≡ 0 → attached_value (chars bs) ≡ ([], a_value Short)
-no_value bs e = rw (nil_from_length bs e, chars-nil) refl
-
 -- what is left of the word is the value
 pub own_value : (bs : List ℕ) → IsUtf8 bs → length bs ≢ 0 → attached_value (chars bs) ≡ (length_value bs ∷ [], a_word)
-own_value bs valid some =
-    let whole : encode_utf8_all (chars bs) ≡ bs = encodes-chars bs valid in
-    elim (chars bs) as (λ cs. encode_utf8_all cs ≡ bs → attached_value cs ≡ (length_value bs ∷ [], a_word)) [
-      | [] ↦ λ w. absurd (some (ap length (sym w)))
-      | c ∷ cs ↦ λ w. ap (λ v. (length_value v ∷ [], a_word)) w
-    ] whole
+own_value bs valid some = grind (arith, encodes-chars bs valid)
+
+-- the lemmas of the value in a word
+pub ruleset values = (own_value, nil_from_length, chars-nil)

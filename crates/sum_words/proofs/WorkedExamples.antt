@@ -1,7 +1,6 @@
 -- Worked examples: what the definitions say of some command lines, computed.
-use Rattle.std.proofs.Common.{rules, ◌≡◌, ◌==◌, ◌≤◌, ◌<◌, List, ℕ, [], ◌∷◌, Result, Ok, Err, refl, codes, true, false, length, arith, Any as SomeOne}
-use Rattle.std.proofs.lemmas.Grind.{common_steps}
-use Rattle.std.specs.List.{AllByRecursion, slice_split}
+use Rattle.std.proofs.Common.{rules, ◌≡◌, ◌==◌, ◌≤◌, List, ℕ, [], ◌∷◌, Result, Ok, Err, refl, codes, true, false, length}
+use Rattle.std.specs.List.{slice_split}
 use Rattle.std.specs.Str.{byte, chars, is_utf8}
 use Prim.Native.String.{String}
 use lib.Utf8.{encode}
@@ -115,11 +114,6 @@ odd_words :
     × (command_line (codes "digests" ∷ (45 ∷ 255 ∷ []) ∷ codes "a" ∷ []) ≡ unknown_tool)
 unfolding chars encode name_or_fault option_of_letter tool_called is_utf8
 odd_words = (refl, refl, refl, refl, refl, refl, refl, refl, refl, refl)
-
--- no argument of these is longer than the page
-not_longer : (all : List ByteString) → AllByRecursion (λ a. length a ≤ 4096) all → SomeOne (λ a. 4096 < length a) all
-    → ⊥
-not_longer = grind (arith, common_steps)
 
 -- a command line without a word is always read, if the name is no longer than the page
 no_words : (name : ByteString) → length name ≤ 4096 → NeedsMemory (name ∷ []) → ⊥

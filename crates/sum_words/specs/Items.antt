@@ -1,15 +1,12 @@
 -- The items of a tool's words: options, values of --length, operands and a fault. No item follows a fault.
 use Prim.Native.String.{String}
-use denote.Enum.Bare.{sameb}
-use Rattle.std.specs.Prelude.{ℕ, ◌+◌, ◌==◌, ◌&&◌, ◌||◌, not, Bool, List, [], ◌∷◌, ◌++◌, map, drop, Option, None, Some, Result, Ok, Err, codes, if◌then◌else◌, option_map, filter, find, position, bytes_eq, chars, encode_utf8_all}
+use Rattle.std.specs.Prelude.{ℕ, ◌+◌, ◌==◌, ◌&&◌, not, Bool, true, false, List, [], ◌∷◌, ◌++◌, map, drop, Option, None, Some, Result, Ok, Err, codes, if◌then◌else◌, option_map, filter, find, position, bytes_eq, chars, encode_utf8_all}
 use Rattle.std.specs.List.{starts_with, before_first}
 use Rattle.std.specs.Option.{option_map_or}
 use Rattle.std.specs.Str.{byte, is_utf8}
 pub use Rattle.digest_kinds.specs.Basics.{ByteString}
 use Rattle.sum_words.specs.declared.tool.Tool.{Tool}
 pub use Rattle.sum_words.specs.declared.parsing.options.Flag.{Flag}
-use Rattle.sum_words.specs.contracts.tool.Tool.{the_type as tool_type}
-use Rattle.sum_words.specs.contracts.parsing.options.Flag.{the_type as flag_type}
 pub use Rattle.sum_words.specs.declared.parsing.options.Spelling.{Spelling}
 pub use Rattle.sum_words.specs.declared.parsing.options.Spelling.TheVariants.{Long, Short}
 use Rattle.sum_words.specs.WordFaults.{WordFaultValue, unknown_long, ambiguous_long, value_not_allowed, value_missing, unknown_short, not_text}
@@ -53,16 +50,18 @@ full_name flag = (row_of flag).name
 
 -- whether an option takes a value
 abbrev pub takes_value : Flag → Bool
-takes_value flag = sameb flag_type flag flags.Length
+takes_value flags.Length = true
+takes_value flag = false
 
 -- all options, in the order of help
 abbrev pub all_flags : List Flag
 all_flags = flags.Binary ∷ flags.Check ∷ flags.Length ∷ flags.Tag ∷ flags.Text ∷ flags.Zero ∷ flags.IgnoreMissing ∷
     flags.Quiet ∷ flags.Status ∷ flags.Strict ∷ flags.Warn ∷ flags.Help ∷ flags.Version ∷ []
 
--- whether a tool has an option: b2sum alone has the one that takes a value (`sameb` is `==`)
+-- whether a tool has an option: b2sum alone has the one that takes a value
 abbrev pub has_option : Tool → Flag → Bool
-has_option t flag = not (takes_value flag) || sameb tool_type t tools.B2sum
+has_option tools.B2sum flag = true
+has_option t flag = not (takes_value flag)
 
 -- a tool's options
 abbrev pub flags_of : Tool → List Flag

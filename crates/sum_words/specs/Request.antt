@@ -51,9 +51,13 @@ abbrev length_fault : ByteString → LengthFault → WordFaultValue
 length_fault value TooLong = length_invalid value
 length_fault value NotBytes = length_not_bytes value
 
--- the kind that a length value asks for, which is one or more digits: the number of bits
+-- whether a value is one or more digits
+abbrev pub is_number : ByteString → Bool
+is_number value = not (bytes_eq value []) && all_ascii_digits value
+
+-- the kind that a length value asks for, which is the number of bits
 abbrev pub length_kind : ByteString → Result KindValue WordFaultValue
-length_kind value = if bytes_eq value [] || not (all_ascii_digits value) then Err (length_invalid value)
+length_kind value = if not (is_number value) then Err (length_invalid value)
     else result_map_both (λ kind. kind) (length_fault value) (blake2b_of_bits (digits_value 10 value))
 
 -- the faults of several options, each after its condition: the first whose condition holds counts

@@ -4,8 +4,8 @@ use Rattle.std.specs.Str.{byte}
 use Rattle.sum_words.specs.Tools.{Algos, Tool, name_of, algos_of}
 use Rattle.digest_kinds.specs.declared.algo.Algos.TheVariants.{One, Any}
 use Rattle.digest_kinds.specs.Kinds.{tag}
-use Rattle.sum_engine.specs.declared.stop.Stop.{Stop}
-use Rattle.sum_engine.specs.declared.stop.Stop.TheVariants.{Memory, Write}
+pub use Rattle.sum_engine.specs.declared.stop.Stop.{Stop}
+pub use Rattle.sum_engine.specs.declared.stop.Stop.TheVariants.{Memory, Write}
 use Rattle.sum_words.specs.Items.{Flag, ByteString, row_of, full_name, takes_value, flags_of}
 use Rattle.sum_words.specs.WordFaults.{WordFaultValue, wording}
 

@@ -1,7 +1,6 @@
 -- What may be wrong with the words of a command line, and how it is said.
 use Rattle.std.specs.Prelude.{ℕ, ◌++◌, codes, encode_utf8}
-use Rattle.digest_kinds.specs.Basics.{ByteString}
-use Rattle.sum_lines.specs.Escape.{escape}
+use Rattle.sum_lines.specs.Escape.{escape, ByteString}
 use Rattle.sum_words.specs.declared.parsing.options.Spelling.{Spelling}
 use Rattle.sum_words.specs.declared.parsing.options.Spelling.TheVariants.{Long, Short}
 

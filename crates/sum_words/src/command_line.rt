@@ -130,7 +130,7 @@ fn grow<A: Allocator>(more: &mut Vec<u8, A>) -> Result<(), AllocError>
 }
 
 // The tool that the last part of the program's name names.
-#[tactic(auto, using(crate::proofs::CommandLineLemmas::longer_unread))]
+#[tactic(auto, using(std::proofs::lemmas::Option::slice_get_cases))]
 fn tool_called_by_name<A: Allocator, G: Arguments>(
     arguments: &G,
     room: &mut Room<A>,
@@ -154,7 +154,7 @@ fn last_part(path: &[u8]) -> &[u8]
 }
 
 // The tool that the first word names.
-#[tactic(auto, using(crate::proofs::CommandLineLemmas::longer_unread))]
+#[tactic(auto, using(std::proofs::lemmas::Option::slice_get_cases))]
 fn tool_called_by_word<A: Allocator, G: Arguments>(
     arguments: &G,
     room: &mut Room<A>,

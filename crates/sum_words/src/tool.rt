@@ -35,6 +35,7 @@ impl Tool {
     ];
 
     /// The tool of this name. `None` if no tool has it.
+    #[tactic(auto, using(crate::proofs::ToolLemmas::called_by_name))]
     pub fn from_word(word: &str) -> Option<Tool>
         ensures { (tool : Tool) → (result ≡ Some tool) ↔ (name_of tool ≡ word.now) }
     {

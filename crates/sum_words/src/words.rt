@@ -137,7 +137,7 @@ impl<'a> Iterator for WordsIter<'a> {
 }
 
 // The piece of the bytes at a place. `None` past the last.
-#[tactic(auto, using(crate::proofs::WordBytesLemmas::piece_read))]
+#[tactic(auto, using(crate::proofs::WordBytesLemmas::piece_steps))]
 fn piece_at<'a>(bytes: &'a [u8], ends: &'a [usize], i: usize) -> Option<&'a [u8]>
     requires { CutsAt bytes.now 0 ends.now }
     ensures piece { option_copied result ≡ slice_get (pieces_cut bytes.now 0 ends.now) i }

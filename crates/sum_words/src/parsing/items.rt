@@ -199,7 +199,7 @@ fn letter_step<'a>(tool: Tool, letter: char, rest: &'a str) -> ParserStep<'a>
 }
 
 // The step of the letter of an option that takes a value. The rest of the word is the value, if any is left.
-#[tactic(auto, using(crate::proofs::WordLemmas::no_value, crate::proofs::WordLemmas::own_value))]
+#[tactic(auto, using(crate::proofs::WordLemmas::values))]
 fn attached_value(rest: &str) -> ParserStep<'_>
     ensures { (t : Tool) (ws : List ByteString) →
         step_items t result ws ≡ read_then t (attached_value (chars rest.now)) ws }
@@ -238,7 +238,7 @@ fn letters_of(word: &str) -> (char, &str)
 }
 
 // The first character of a text, and the rest. `None` if it is empty.
-#[tactic(auto, using(crate::proofs::WordLemmas::first_char))]
+#[tactic(auto, using(std::proofs::lemmas::Str::chars_past_char))]
 fn first_letter(text: &str) -> Option<(char, &str)>
     ensures { MatchOption result ((text.now ≡ []) × (chars text.now ≡ []))
         (λ p. chars text.now ≡ p.0 ∷ chars p.1.now) }

@@ -115,7 +115,7 @@ impl Flag {
 
     /// The tool's option that a long name means: the one of this full name, or else the only one whose full name begins
     /// with it. `UnknownLong` if no full name does, `AmbiguousLong` if several do.
-    #[tactic(auto, unfolding(crate::specs::Items::name_or_fault))]
+    #[tactic(auto, using(crate::proofs::OptionLemmas::name_means))]
     pub fn of_name(tool: Tool, name: &str) -> Result<Flag, WordFault<'_>>
         ensures { result_value result ≡ name_or_fault tool name.now }
     {

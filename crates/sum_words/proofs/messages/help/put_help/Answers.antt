@@ -18,4 +18,5 @@ pub returns : goal.returns
 returns g c =
     let wrote = rw (usage_parts _ _ _ _ _ _ (c.as_bytes.ensures.value ∙ c.name.ensures) c.purpose.ensures)
     at c.in_ok-put_parts.ensures in
-    HasLeft-last _ c.put_options.result (HasLeft-step _ HasLeft-all refl wrote) (rw c.all_flags.ensures at c.put_options.ensures)
+    let options = rw c.all_flags.ensures at c.put_options.ensures in
+    HasLeft-last _ c.put_options.result (HasLeft-step _ HasLeft-all refl wrote) options

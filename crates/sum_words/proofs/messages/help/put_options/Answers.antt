@@ -1,21 +1,18 @@
-use Rattle.std.proofs.Common.{◌+◌, arith, ◌∙◌, drop}
-use Rattle.std.proofs.lemmas.List.{at_drop_more}
+use Rattle.std.proofs.Common.{arith}
 use Rattle.std.proofs.lemmas.Result.{err_from_is_err_and}
 use Rattle.sum_lines.proofs.SinkLemmas.{HasLeft-step, HasLeft-stop}
-use Rattle.sum_words.proofs.TextLemmas.{option_lines, option_lines_cons}
+use Rattle.sum_words.proofs.TextLemmas.{option_lines_from}
 use Rattle.sum_words.proofs.messages.help.put_options.Goals as goal
 
 -- a line failed
 pub returns-in_err-put_option : goal.returns-in_err-put_option
 returns-in_err-put_option g c =
     let failed = err_from_is_err_and c.from_residual.result c.from_residual.ensures.1 in
-    let cut = at_drop_more (option_lines c.args.tool) c.args.flags.now c.loop-flag.flag-index _ (omega arith)
-    ∙ option_lines_cons c.args.tool _ (drop (c.loop-flag.flag-index + 1) c.args.flags.now) in
+    let cut = option_lines_from c.args.tool c.args.flags.now c.loop-flag.flag-index _ (omega arith) in
     rw failed.1 (HasLeft-stop _ c.loop-flag.invariant cut c.in_err-put_option.ensures)
 
 -- a line was written
 pub loop-flag-preserved : goal.loop-flag-preserved
 loop-flag-preserved g c =
-    let cut = at_drop_more (option_lines c.args.tool) c.args.flags.now c.loop-flag.flag-index _ (omega arith)
-    ∙ option_lines_cons c.args.tool _ (drop (c.loop-flag.flag-index + 1) c.args.flags.now) in
+    let cut = option_lines_from c.args.tool c.args.flags.now c.loop-flag.flag-index _ (omega arith) in
     HasLeft-step _ c.loop-flag.invariant cut c.in_ok-put_option.ensures
