@@ -54,7 +54,7 @@ class Test(Repository):
                 ("a", "killed", 1, 1, ["a", "killed"]), ("a", good, 137, 1, [good, "test: the gate was broken off"]),
                 (f"{said}refused, as it must be: a goal (only because of it)", good, 0, 0, [good]),
                 (f"{said}refused, as it must be (only because a proof file names it): a file", good, 0, 1, weak),
-                (f"{said}BAD EDIT: the prover cannot read it", bad, 1, 1, [bad])):
+                (f"{said}BAD EDIT: the prover cannot read it", good, 0, 1, [bad])):
             self.expect(status, last, RT_SAYS=f"{line}\n{gate}", RT_ENDS=str(ends), umask=0o077)
         self.expect(3, ["tests "], RUN_ENDS="3")
 

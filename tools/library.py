@@ -34,7 +34,7 @@ def exported(crate):
 
 def first_sentence(comment):
     """The first sentence of a comment's lines."""
-    text = re.sub(r"\[(`[^`]*`)\](?:\([^)]*\))?", r"\1", " ".join(comment))
+    text = re.sub(r"\[(`[^`]*`)\](?:\([^)]*\))?", r"\1", " ".join(filter(None, comment)))
     return re.match(r".*?\.(?= [A-Z`]|$)", text)[0]
 
 

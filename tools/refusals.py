@@ -1,7 +1,7 @@
 #!/usr/bin/env python3
 """Makes the table of docs/TESTING.md anew: which clause refuses which wrong version.
 
-    tools/refusals.py         calls `rt must-fail`, which tries all of them
+    tools/refusals.py         calls `rt must-fail`
     tools/refusals.py FILE    takes a file with the output of that call, or of the gate"""
 
 import os
