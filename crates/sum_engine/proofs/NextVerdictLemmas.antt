@@ -99,7 +99,7 @@ module _ {I S : Type 0} (input : I → InputState) (source : S → SourceState) 
           some.1,
           fits,
           record {
-            none = rw none refl;
+            verdicts = rw none refl;
             ending = ended.1;
             world = refl;
             counts = counts;

@@ -116,7 +116,7 @@ module _ {I S : Type 0} {input : I → InputState} {state : S → SourceState} {
         record { names = []; err = end_text r labels e p.counts; out = []; remaining = length c.bytes } in
         step_by r labels (state_at p c w) (state_at q d v) (in_world state a w) (in_world state b v) vector step
         (record { steps = []; good = outcome }) (Ended outcome) wrote.written
-        (ap (behavior_by r labels c.ending p.counts c) f.none
+        (ap (behavior_by r labels c.ending p.counts c) f.verdicts
         ∙ rw (counts_then-nil p.counts, f.ending, sum, same, f.counts) refl) refl
         (HappenedOrPrefix-by (in_world state a w) (in_world state b v) [] _ [] wrote.written
         (asks_in state a b asked f.world) said) (λ h. cc)))

@@ -36,7 +36,7 @@ pub record FindsFirstVerdict (r : Rules) (a b : CheckState) (j : LineVerdictValu
 
 -- no line remained, and the manifest ends so; nothing was opened, and only that ending remains
 pub record HasNoVerdictLeft (r : Rules) (e : Ending) (a b : CheckState) : Type 0 where
-  pub none : remaining_verdicts r a ≡ []
+  pub verdicts : remaining_verdicts r a ≡ []
   pub ending : a.remaining.ending ≡ e
   pub world : b.world ≡ a.world
   pub counts : b.counts ≡ a.counts

@@ -18,8 +18,8 @@ returns-then-is_dash-clause-outcome g c =
 pub returns-in-Ok-clause-outcome : goal.returns-in-Ok-clause-outcome
 returns-in-Ok-clause-outcome g c =
     let file : is_dash c.args.name.now ≡ false = search rules in
-    hashed_file g.S.Source.state c.args.kind c.args.name.now _ file c.in-Ok.ensures c.close_file.ensures
-    (rw c.new-in-Ok.ensures.kind at c.read_digest-outcome-in-Ok.ensures.outcome)
+    hashed_file g.S.Source.state c.args.kind c.args.name.now {b = c.close_file.new.self} _ file c.in-Ok.ensures
+    c.close_file.ensures (rw c.new-in-Ok.ensures.kind at c.read_digest-outcome-in-Ok.ensures.outcome)
 
 pub returns-in-Ok-clause-read_to_end : goal.returns-in-Ok-clause-read_to_end
 returns-in-Ok-clause-read_to_end g c = search (rules, ReadToEnd-file, UnlessBroken-map)
@@ -28,4 +28,5 @@ returns-in-Ok-clause-read_to_end g c = search (rules, ReadToEnd-file, UnlessBrok
 pub returns-in-Err-Fault-clause-outcome : goal.returns-in-Err-Fault-clause-outcome
 returns-in-Err-Fault-clause-outcome g c =
     let file : is_dash c.args.name.now ≡ false = search rules in
-    rw c.in-Err-Fault.fault-is (opened_fault file (rw c.in-Err-Fault.field-0-is at c.in-Err-Fault.ensures))
+    rw c.in-Err-Fault.fault-is
+    (opened_fault {b = c.open_file.new.self} file (rw c.in-Err-Fault.field-0-is at c.in-Err-Fault.ensures))
