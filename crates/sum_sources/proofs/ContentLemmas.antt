@@ -1,5 +1,5 @@
 -- When a content is its own clip, and the digest of some content.
-use Rattle.std.proofs.Common.{◌≡◌, ℕ, ◌^◌, ◌<◌, List, [], ◌++◌, length, Option, None, Some, IfSome, Ok, Err, refl, nat_lt, arith}
+use Rattle.std.proofs.Common.{◌≡◌, ℕ, ◌^◌, ◌<◌, List, [], length, Option, None, Some, IfSome, Ok, Err, refl, nat_lt, arith}
 use Rattle.std.proofs.lemmas.Bool.{cond-true, lt-ltb}
 use Rattle.digest_kinds.specs.Kinds.{KindValue, digest}
 use Rattle.sum_sources.specs.Contents.{Content, Whole, Broken, Hashes, HashesInput, clip_to, clip, limit}

@@ -1,12 +1,12 @@
 -- Reads of the bytes that count, up to the limit.
 use Rattle.std.proofs.lemmas.Grind.{common_steps}
-use Rattle.std.proofs.Common.{◌≡◌, ◌∙◌, ℕ, zero, suc, ◌+◌, ◌-◌, ◌^◌, ◌<◌, ◌≤◌, List, [], ◌∷◌, ◌++◌, length, take, Ok, Err, ap, sym, Option, refl, arith, nat_lt, inl, inr, length-append}
-use Rattle.std.proofs.lemmas.Bool.{cond-false, le-ltb, cases_lt}
+use Rattle.std.proofs.Common.{◌≡◌, ℕ, zero, suc, ◌+◌, ◌-◌, ◌^◌, ◌<◌, ◌≤◌, List, [], ◌∷◌, ◌++◌, length, take, Ok, refl, arith, nat_lt, length-append}
+use Rattle.std.proofs.lemmas.Bool.{cond-false, le-ltb}
 use Rattle.std.proofs.lemmas.List.{length-take-le, take-append-le}
 use Rattle.std.proofs.Math.Seq.{take-append-add}
-use Rattle.sum_sources.specs.Faults.{Fault, Other}
-use Rattle.sum_sources.specs.Contents.{Broken, Content, limit, clip_to, IfKnown, ReadsFrom, empty_content, with_prefix}
-use Rattle.sum_sources.proofs.ContentLemmas.{limit-value, clip_to-short}
+use Rattle.sum_sources.specs.Faults.{Other}
+use Rattle.sum_sources.specs.Contents.{Broken, Content, limit, clip_to, ReadsFrom, with_prefix}
+use Rattle.sum_sources.proofs.ContentLemmas.{limit-value}
 
 -- a content of n bytes or more is cut
 clip_to-long : (n : ℕ) (c : Content) → n ≤ length c.bytes

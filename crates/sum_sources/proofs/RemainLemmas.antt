@@ -1,7 +1,6 @@
 -- Contents that may remain, and what may have remained before them.
-use Rattle.std.proofs.Common.{◌≡◌, ℕ, ◌+◌, ◌-◌, ◌^◌, ◌<◌, ◌≤◌, List, ◌++◌, length, Option, None, Some, IfSome, MatchOption, Result, OnOk, option_map, refl, subst, arith, length-append}
+use Rattle.std.proofs.Common.{◌≡◌, ℕ, ◌+◌, ◌-◌, ◌^◌, ◌<◌, ◌≤◌, List, ◌++◌, length, Option, None, Some, IfSome, MatchOption, option_map, refl, subst, arith, length-append}
 use Rattle.sum_sources.specs.Contents.{Content, Whole, InputState, IfKnown, limit, clip_to, with_prefix}
-use Rattle.sum_sources.specs.ManifestLines.{Next, LineStop, IsNextLine}
 use Rattle.sum_sources.specs.LineReaders.{LineReaderValue, MayRemain, remaining_content, consumed_count}
 use Rattle.sum_sources.proofs.ContentLemmas.{limit-value}
 use Rattle.sum_sources.proofs.LimitLemmas.{length-clip_to}
