@@ -36,11 +36,11 @@ numerals = numerals_by_value _ digits-test
 pub decimal-digits : (len : ℕ) → len ≤ 64 → AllPass is_ascii_digit (decimal (8 * len))
 decimal-digits len few = digits_decimal numerals (8 * len) (omega (arith, few))
 
--- one to three of them without a leading zero are a number
+-- one to three digits without a leading zero are a number
 short_number-is : (ds : List ℕ) → 48 < get_or ds 0 0 → length ds ≤ 3 → short_number ds ≡ Some (digits_value 10 ds)
 short_number-is ds lead few = grind arith
 
--- and any others are none
+-- only such digits are a number
 short_number-some : (ds : List ℕ) (v : ℕ) → short_number ds ≡ Some v
     → (v ≡ digits_value 10 ds) × (get_or ds 0 0 ≢ 48) × (0 < length ds) × (length ds ≤ 3)
 short_number-some ds v h = grind arith

@@ -1,8 +1,7 @@
 -- When a content is its own clip, and the digest of some content.
-use Rattle.std.proofs.Common.{◌≡◌, ℕ, ◌^◌, ◌<◌, List, [], ◌++◌, length, Option, None, Some, IfSome, Ok, Err, refl, nat_lt, arith}
-use Rattle.std.proofs.lemmas.Bool.{cond-true, lt-ltb}
+use Rattle.std.proofs.Common.{◌≡◌, ℕ, ◌^◌, ◌<◌, List, [], length, Option, None, Some, IfSome, Ok, Err, refl, arith}
 use Rattle.digest_kinds.specs.Kinds.{KindValue, digest}
-use Rattle.sum_sources.specs.Contents.{Content, Whole, Broken, Hashes, HashesInput, clip_to, clip, limit}
+use Rattle.sum_sources.specs.Contents.{Content, Whole, Broken, Hashes, HashesInput, clip, limit}
 use Rattle.sum_sources.specs.Faults.{Fault}
 
 -- the limit as a number
@@ -10,13 +9,9 @@ pub limit-value : limit ≡ 2 ^ 61
 unfolding limit
 limit-value = refl
 
--- a content of fewer than n bytes stays whole
-pub clip_to-short : (n : ℕ) (c : Content) → length c.bytes < n → clip_to n c ≡ c
-clip_to-short n c short = cond-true (nat_lt (length c.bytes) n) c _ (lt-ltb _ _ short)
-
--- so a short one is its own clip
+-- a short content is its own clip
 pub clip-short : (c : Content) → length c.bytes < 2 ^ 61 → clip c ≡ c
-clip-short c short = clip_to-short limit c (rw limit-value short)
+clip-short c short = grind (arith, limit-value)
 
 -- some content has the digest of these bytes, or the known one
 pub some_digest : (kind : KindValue) (x : Option Content) (m d : List ℕ) → length m < 2 ^ 61 → d ≡ digest kind m

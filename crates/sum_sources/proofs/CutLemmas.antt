@@ -23,19 +23,18 @@ cut_plain b bs plain (p ∷ ps, tail, is, all, none) =
     let rest : All HasNoNewline ps = All-tail HasNoNewline p ps all in
     ((b ∷ p) ∷ ps, tail, ap (λ l. b ∷ l) is, All-cons HasNoNewline (b ∷ p) ps longer rest, none)
 
--- so a byte before them can be cut, too; a newline begins an empty piece
-cut_more : (b : ℕ) (bs : List ℕ) → IsCut bs → IsCut (b ∷ bs)
-cut_more b bs (ended, tail, is, all, none) = elim (eqb_tells b 10) [
-  | inl newline ↦
-      let more : All HasNoNewline ([] ∷ ended) = All-cons HasNoNewline [] ended (All-nil IsPlain) all in
-      ([] ∷ ended, tail, rw newline.1 (ap (λ l. 10 ∷ l) is), more, none)
-  | inr other ↦ cut_plain b bs other.0 (ended, tail, is, all, none)
-]
+-- a newline begins an empty piece
+cut_newline : (bs : List ℕ) → IsCut bs → IsCut (10 ∷ bs)
+cut_newline bs (ended, tail, is, all, none) =
+    ([] ∷ ended, tail, ap (λ l. 10 ∷ l) is, All-cons HasNoNewline [] ended (All-nil IsPlain) all, none)
 
 -- all bytes can be cut
 pub cut : (bytes : List ℕ) → IsCut bytes
 cut [] = ([], [], refl, All-nil HasNoNewline, All-nil IsPlain)
-cut (b ∷ bs) = cut_more b bs (cut bs)
+cut (b ∷ bs) = elim (eqb_tells b 10) [
+  | inl newline ↦ rw newline.1 (cut_newline bs (cut bs))
+  | inr other ↦ cut_plain b bs other.0 (cut bs)
+]
 
 -- the pieces of bytes that were cut are those of the cut, and the last line
 pub raw_lines-joined : (ending : Ending) (ended : List (List ℕ)) (tail : List ℕ) → All HasNoNewline ended

@@ -1,17 +1,10 @@
 -- Reads of the bytes that count, up to the limit.
 use Rattle.std.proofs.lemmas.Grind.{common_steps}
-use Rattle.std.proofs.Common.{◌≡◌, ◌∙◌, ℕ, zero, suc, ◌+◌, ◌-◌, ◌^◌, ◌<◌, ◌≤◌, List, [], ◌∷◌, ◌++◌, length, take, Ok, Err, ap, sym, Option, refl, arith, nat_lt, inl, inr, length-append}
-use Rattle.std.proofs.lemmas.Bool.{cond-false, le-ltb, cases_lt}
+use Rattle.std.proofs.Common.{◌≡◌, ℕ, zero, suc, ◌+◌, ◌-◌, ◌^◌, ◌<◌, ◌≤◌, List, [], ◌∷◌, ◌++◌, length, take, Ok, refl, arith, length-append}
 use Rattle.std.proofs.lemmas.List.{length-take-le, take-append-le}
 use Rattle.std.proofs.Math.Seq.{take-append-add}
-use Rattle.sum_sources.specs.Faults.{Fault, Other}
-use Rattle.sum_sources.specs.Contents.{Broken, Content, limit, clip_to, IfKnown, ReadsFrom, empty_content, with_prefix}
-use Rattle.sum_sources.proofs.ContentLemmas.{limit-value, clip_to-short}
-
--- a content of n bytes or more is cut
-clip_to-long : (n : ℕ) (c : Content) → n ≤ length c.bytes
-    → clip_to n c ≡ record { bytes = take (n - 1) c.bytes; ending = Broken Other }
-clip_to-long n c long = cond-false (nat_lt (length c.bytes) n) c _ (le-ltb _ _ long)
+use Rattle.sum_sources.specs.Contents.{Content, limit, clip_to, ReadsFrom, with_prefix}
+use Rattle.sum_sources.proofs.ContentLemmas.{limit-value}
 
 -- fewer than n bytes count
 pub length-clip_to : (n : ℕ) (c : Content) → 0 < n → length (clip_to n c).bytes < n

@@ -1,19 +1,11 @@
 -- The piece of a line in the reader's buffer.
-use Rattle.std.proofs.Common.{◌≡◌, ℕ, ◌+◌, ◌-◌, ◌<◌, ◌≤◌, ◌==◌, List, ◌∷◌, ◌++◌, length, take, drop, get_or, false, refl, ap, ◌∙◌, arith, add-one, length-take, length-drop}
+use Rattle.std.proofs.Common.{◌≡◌, ℕ, ◌+◌, ◌-◌, ◌<◌, ◌≤◌, ◌==◌, List, ◌∷◌, ◌++◌, length, take, drop, get_or, false, refl, ◌∙◌, arith, add-one, length-take, length-drop}
 use Rattle.std.proofs.lemmas.List.{length-take-le, get_or-take, drop-take, drop-drop}
 use Rattle.std.proofs.lemmas.Bool.{false_from_ne_true}
 use Rattle.std.proofs.lemmas.List.Elements.{All-from_get_or}
 use Rattle.std.proofs.Math.Seq.{split_at, take-length}
 use Rattle.memchr.specs.Find.{Nowhere, Passes, is_byte}
 use Rattle.sum_sources.specs.ManifestLines.{HasNoNewline}
-
--- how many bytes are between the buffer's places
-pub length-buffered : (buf : List ℕ) (s e : ℕ) → s ≤ e → e ≤ length buf → length (take (e - s) (drop s buf)) ≡ e - s
-length-buffered buf s e low high = simp (length-take, length-drop) (omega arith)
-
--- so some are buffered if these differ
-pub some_buffered : (buf : List ℕ) (s e : ℕ) → s < e → e ≤ length buf → 0 < length (take (e - s) (drop s buf))
-some_buffered buf s e low high = rw (length-buffered buf s e (omega arith) high) (omega arith)
 
 -- the bytes before the first newline that is found have none
 pub plain_prefix : (bytes : List ℕ) (n : ℕ) → n ≤ length bytes → Nowhere (Passes (is_byte 10) bytes) 0 n
@@ -32,9 +24,6 @@ pub cut_buffer : (buf : List ℕ) (s e n : ℕ) → e ≤ length buf → n < e -
     → take (e - s) (drop s buf)
     ≡ take n (take (e - s) (drop s buf)) ++ (10 ∷ take (e - (s + (n + 1))) (drop (s + (n + 1)) buf))
 cut_buffer buf s e n high few newline =
-    let ahead : List ℕ = take (e - s) (drop s buf) in
-    let low : n < length ahead = omega (arith, length-buffered buf s e (omega arith) high) in
+    let low : n < length (take (e - s) (drop s buf)) = simp (length-take, length-drop) (omega arith) in
     let size : e - s ≡ (n + 1) + (e - (s + (n + 1))) = omega arith in
-    let behind : drop (n + 1) ahead ≡ take (e - (s + (n + 1))) (drop (s + (n + 1)) buf) =
-    ap (λ (k : ℕ). drop (n + 1) (take k (drop s buf))) size ∙ rw (drop-take, drop-drop) refl in
-    split_at ahead n 0 low ∙ rw (newline, ← add-one n, behind) refl
+    split_at (take (e - s) (drop s buf)) n 0 low ∙ rw (newline, ← add-one n, size, drop-take, drop-drop) refl

@@ -1,9 +1,9 @@
 -- What was read so far of a line, and what reading on adds to it.
 use Rattle.std.proofs.lemmas.Grind.{common_steps}
-use Rattle.std.proofs.Common.{◌≡◌, ℕ, ◌+◌, ◌^◌, ◌<◌, ◌≤◌, true, false, List, [], ◌∷◌, ◌++◌, length, Option, None, Some, Result, Ok, Err, OnOk, refl, ap, append_assoc, ◌==◌, rules, arith, length-append}
+use Rattle.std.proofs.Common.{◌≡◌, ℕ, ◌+◌, ◌^◌, ◌<◌, ◌≤◌, true, false, List, [], ◌∷◌, ◌++◌, length, Option, None, Some, Ok, Err, refl, ap, append_assoc, ◌==◌, arith, length-append}
 use Rattle.std.specs.Prelude.{⊤}
 use Rattle.std.proofs.lemmas.List.Elements.{All-append}
-use Rattle.sum_sources.specs.ManifestLines.{Next, Line, LineStop, HasNoNewline, IsNextLine}
+use Rattle.sum_sources.specs.ManifestLines.{Line, LineStop, HasNoNewline}
 use Rattle.sum_sources.specs.Contents.{Broken, Content, InputState, IfKnown, with_prefix}
 use Rattle.sum_sources.specs.LineReaders.{LineReaderValue, IsBounded, remaining_content, consumed_count, MayRemain, ReadsSomeLine}
 use Rattle.sum_sources.specs.refinement.LineStates.{TakesPiece}

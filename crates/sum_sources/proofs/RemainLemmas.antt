@@ -1,20 +1,14 @@
 -- Contents that may remain, and what may have remained before them.
-use Rattle.std.proofs.Common.{◌≡◌, ℕ, ◌+◌, ◌-◌, ◌^◌, ◌<◌, ◌≤◌, List, ◌++◌, length, Option, None, Some, IfSome, MatchOption, Result, OnOk, option_map, refl, subst, arith, length-append}
+use Rattle.std.proofs.Common.{◌≡◌, ℕ, ◌+◌, ◌-◌, ◌^◌, ◌<◌, ◌≤◌, List, ◌++◌, length, Option, None, Some, IfSome, MatchOption, option_map, refl, arith, length-append}
 use Rattle.sum_sources.specs.Contents.{Content, Whole, InputState, IfKnown, limit, clip_to, with_prefix}
-use Rattle.sum_sources.specs.ManifestLines.{Next, LineStop, IsNextLine}
-use Rattle.sum_sources.specs.LineReaders.{LineReaderValue, MayRemain, remaining_content, consumed_count}
+use Rattle.sum_sources.specs.LineReaders.{LineReaderValue, MayRemain, remaining_content}
 use Rattle.sum_sources.proofs.ContentLemmas.{limit-value}
 use Rattle.sum_sources.proofs.LimitLemmas.{length-clip_to}
 
 -- what holds of a content that may remain holds of the known one
 pub MayRemain-known : {I : Type 0} (state : I → InputState) (r : LineReaderValue I) (P : Content → Type 0)
     → (c : Content) × MayRemain state r c × P c → IfSome (remaining_content state r) P
-MayRemain-known state r P some = by (remaining_content state r) some.0 some.1 some.2
-  where
-    by : (x : Option Content) (c : Content)
-        → MatchOption x (consumed_count r + length c.bytes < limit) (λ d. c ≡ d) → P c → IfSome x P
-    by None c may p = tt
-    by (Some d) c is p = subst P is p
+MayRemain-known state r P (c, may, p) = grind (arith, p)
 
 -- what may remain of an input is below the limit
 pub below_limit : (x : Option Content) (ahead : List ℕ) (taken : ℕ) (d : Content)
@@ -22,10 +16,7 @@ pub below_limit : (x : Option Content) (ahead : List ℕ) (taken : ℕ) (d : Con
     → MatchOption (option_map (λ c. with_prefix ahead (clip_to (limit - taken) c)) x)
     ((taken - length ahead) + length d.bytes < limit) (λ b. d ≡ b)
     → (taken - length ahead) + length d.bytes < 2 ^ 61
-below_limit None ahead taken d few may = rw limit-value at may
-below_limit (Some c) ahead taken d few may =
-    let size = length-clip_to (2 ^ 61 - taken) c (omega arith) in
-    rw (may, limit-value, length-append) (omega arith)
+below_limit x ahead taken d few may = grind (arith, limit-value, length-append {A = ℕ}, length-clip_to)
 
 -- something may remain if something is ahead
 pub some_ahead : (x : Option Content) (ahead : List ℕ) (taken : ℕ) → (taken < 2 ^ 61) × (length ahead ≤ taken)

@@ -5,7 +5,6 @@ use Rattle.sum_sources.specs.Contents.{empty_content, Whole}
 use Rattle.sum_sources.proofs.LineLemmas.{lines-nil}
 use Rattle.sum_sources.proofs.ReadOnLemmas.{stopped_again}
 use Rattle.sum_sources.specs.refinement.LineStates.{line_reader_view, final_answer_in}
-use Rattle.sum_sources.proofs.PieceLemmas.{some_buffered}
 use Rattle.sum_sources.proofs.line_reader.LineReader.next_line.Goals as goal
 
 -- the end is returned again
@@ -19,5 +18,4 @@ returns-in-Stopped-clause-line g c =
     rw (← c.self.view_is)
     (stopped_again g.I.Input.state (line_reader_view c.self.inside) _ _ (ap final_answer_in c.in-Stopped.is)
     (grind (arith, common_steps))
-    (λ is. some_buffered c.self.inside.buf _ _ (c.self.invariant.wants (c.in-Stopped.is ∙ ap Stopped is))
-    (omega (arith, c.self.invariant.end_in, c.self.told))))
+    (λ is. grind (arith, common_steps, c.self.invariant.wants (c.in-Stopped.is ∙ ap Stopped is))))

@@ -1,7 +1,7 @@
 use Rattle.std.proofs.Common.{rules, arith, [], ◌≡◌, refl, append-nil}
 use Rattle.std.proofs.lemmas.Grind.{common_steps}
 use Rattle.std.proofs.lemmas.List.{nil_from_length}
-use Rattle.sum_sources.specs.Contents.{empty_content, with_prefix, Whole}
+use Rattle.sum_sources.specs.Contents.{empty_content, Whole}
 use Rattle.sum_sources.specs.ManifestLines.{HasNoNewline}
 use Rattle.sum_sources.proofs.LineLemmas.{IsNextLine-last, IsNextLine-fault, lines-nil}
 use Rattle.sum_sources.proofs.ReadOnLemmas.{HasRead, HasRead-more, ends_line, ends_at, no_memory}
@@ -13,8 +13,8 @@ use Rattle.sum_sources.proofs.line_reader.LineReader.read_on.Goals as goal
 pub returns-in-Ok-true-clause-line : goal.returns-in-Ok-true-clause-line
 returns-in-Ok-true-clause-line g c =
     let piece = rw c.in-Ok-true.field-0-test at c.in-Ok-true.ensures.piece in
-    ends_line c.loop-self.invariant.read c.loop-self.invariant.plain c.in-Ok-true.ensures.same c.take_piece.ensures.few
-    piece
+    let i = c.loop-self.invariant in
+    ends_line i.read i.plain c.in-Ok-true.ensures.same c.take_piece.ensures.few piece
 
 -- the whole buffer moved to the line
 moved : (g : given.Over) (c : In-Ok-false g)
@@ -35,13 +35,8 @@ returns-then-is_empty-clause-line g c =
     let sum = rw (← c.self-in-loop-self.view_is) at c.in-Ok-false-fill.ensures.consumed in
     let (read, plain) = moved g (goal.at.returns-then-is_empty-clause-line g c).In-Ok-false in
     let none : c.take_piece.new.line.items ≡ [] = nil_from_length _ (search rules) in
-    λ d is.
-    rw is (
-      with_prefix c.take_piece.new.line.items empty_content,
-      ends_at _ empty_content read ended (omega (arith, c.take_piece.ensures.few)),
-      (rw none (lines-nil Whole), refl),
-      rw append-nil (omega (arith, read.sum)),
-    )
+    let before = ends_at _ empty_content read ended (omega (arith, c.take_piece.ensures.few)) in
+    λ d is. rw is (_, before, (rw none (lines-nil Whole), refl), rw append-nil (omega (arith, read.sum)))
 
 -- the input has ended after a last line
 pub returns-in-Ok-false-fill-clause-line : goal.returns-in-Ok-false-fill-clause-line
@@ -49,13 +44,8 @@ returns-in-Ok-false-fill-clause-line g c =
     let ended = rw c.in-Ok-false-fill.field-0-test at c.in-Ok-false-fill.ensures.content in
     let sum = rw (← c.self-in-loop-self.view_is) at c.in-Ok-false-fill.ensures.consumed in
     let (read, plain) = moved g (goal.at.returns-in-Ok-false-fill-clause-line g c).In-Ok-false in
-    λ d is.
-    rw is (
-      with_prefix c.take_piece.new.line.items empty_content,
-      ends_at _ empty_content read ended (omega (arith, c.take_piece.ensures.few)),
-      IsNextLine-last _ plain (search rules),
-      rw append-nil (omega (arith, read.sum)),
-    )
+    let before = ends_at _ empty_content read ended (omega (arith, c.take_piece.ensures.few)) in
+    λ d is. rw is (_, before, IsNextLine-last _ plain (search rules), rw append-nil (omega (arith, read.sum)))
 
 -- the input has a fault
 pub returns-in-Err-fill-clause-line : goal.returns-in-Err-fill-clause-line

@@ -1,19 +1,18 @@
 use Rattle.std.proofs.Common.{arith}
+use Rattle.std.proofs.lemmas.Grind.{common_steps}
 use Rattle.std.proofs.lemmas.Bool.{eqb-true}
-use Rattle.sum_sources.proofs.PieceLemmas.{length-buffered, plain_piece, plain_prefix, cut_buffer}
+use Rattle.sum_sources.proofs.PieceLemmas.{plain_piece, plain_prefix, cut_buffer}
 use Rattle.sum_sources.proofs.line_reader.LineReader.take_piece.Goals as goal
 
 -- the piece up to the newline
 pub returns-in_ok-extend_from_slice-in-Some-clause-piece : goal.returns-in_ok-extend_from_slice-in-Some-clause-piece
 returns-in_ok-extend_from_slice-in-Some-clause-piece g c =
     let found = c.in-Some.ensures in
-    let size = length-buffered c.self.inside.buf c.self.inside.start c.self.inside.end c.self.invariant.start_in
-    (omega (arith, c.self.invariant.end_in, c.self.told)) in
     rw (← c.self.view_is) (
       _,
       plain_prefix _ _ (omega (arith, found.0.high)) found.0.before,
       cut_buffer c.self.inside.buf _ _ _ (omega (arith, c.self.invariant.end_in, c.self.told))
-          (omega (arith, found.0.high, size)) (eqb-true _ _ found.1),
+          (grind (arith, common_steps, found.0.high)) (eqb-true _ _ found.1),
       c.in_ok-extend_from_slice-in-Some.ensures.items,
     )
 
