@@ -1,8 +1,8 @@
 -- A text is written piece by piece. The lemmas say what of it is written after a piece was accepted, and after a write
 -- failed. `a`, `b` and `c` are the sink before, between and after.
 use Rattle.std.proofs.lemmas.Grind.{common_steps}
-use Rattle.std.proofs.Common.{ℕ, ◌≡◌, ◌<◌, ◌-◌, List, [], ◌++◌, length, take, drop, Option, None, Some, Result, Ok, Err, refl, ap, sym, ◌∙◌, append_assoc, append-nil, take-append-drop, length-append, arith, rules}
-use Rattle.std.proofs.lemmas.List.{take_rest, append_cancel_left}
+use Rattle.std.proofs.Common.{ℕ, ◌≡◌, ◌<◌, ◌-◌, List, [], ◌++◌, length, take, drop, Option, None, Some, Result, Ok, Err, refl, ap, sym, ◌∙◌, append_assoc, append-nil, length-append, arith, rules}
+use Rattle.std.proofs.lemmas.List.{append_cancel_left}
 use Rattle.std.specs.Result.{IsErr}
 use Rattle.std.specs.Io.KnownBytes.{Appends, append_known}
 use Rattle.std.proofs.KnownBytes.{Appends-trans}
@@ -54,12 +54,14 @@ Flushes-with_buffered b c (Err e) wrote dropped = record {
 -- a write failed that was to accept some of a text
 pub FailsToFlush-write_failed : {a b : SinkState} {text : List ℕ} → FailsToFlush a b → 0 < length text
     → FailsToWrite a b text
-FailsToFlush-write_failed {text = text} dropped some = record {
-  nonempty = some;
-  written = (dropped.written.0, dropped.written.1.0 ++ text, grind (arith, append_assoc), grind (arith, length-append), dropped.written.2);
-  buffered = dropped.buffered;
-  failures = dropped.failures;
-}
+FailsToFlush-write_failed {text = text} dropped some =
+    let (prefix, (rest, is), wrote) = dropped.written in
+    record {
+      nonempty = some;
+      written = (prefix, rest ++ text, grind (arith, append_assoc), grind (arith, length-append), wrote);
+      buffered = dropped.buffered;
+      failures = dropped.failures;
+    }
 
 -- a sink whose bytes are known, and that buffers nothing, accepted a piece
 pub accepts_known : (old new piece : List ℕ) (failures : ℕ) → new ≡ old ++ piece

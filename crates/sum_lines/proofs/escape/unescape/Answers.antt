@@ -1,4 +1,3 @@
-use Rattle.std.proofs.Common.{rules}
 use Rattle.std.proofs.lemmas.List.{take_rest}
 use Rattle.sum_lines.proofs.UnescapeLemmas.{IsHalfUnescaped-refused}
 use Rattle.sum_lines.proofs.escape.unescape.Goals as goal

@@ -1,4 +1,3 @@
-use Rattle.std.proofs.Common.{arith}
 use Rattle.sum_lines.proofs.BeginningLemmas.{end_none}
 use Rattle.sum_lines.proofs.reading.beginnings.digits_end.Goals as goal
 
