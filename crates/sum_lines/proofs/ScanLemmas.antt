@@ -10,7 +10,7 @@ use Rattle.digest_kinds.specs.Kinds.{KindValue, tag, IsDigits}
 use Rattle.sum_lines.specs.grammar.Shapes.{Algo, One, is_blank, optional}
 use Rattle.sum_lines.specs.grammar.LineParts.{strip_prefix, tag_in, tagged_parts}
 use Rattle.digest_kinds.specs.KindTexts.{kind_and_rest}
-use Rattle.sum_lines.specs.refinement.LinePartRanges.{IsFront}
+use Rattle.sum_lines.specs.refinement.Beginnings.{IsFront}
 use Rattle.sum_lines.specs.declared.reading.line_parts.Front.{Front}
 use Rattle.sum_lines.proofs.PrefixLemmas.{text, strip_prefix-some, strip_prefix-append, opened-some, rfind-at, rfind-none, rsplit-some}
 use Rattle.digest_kinds.proofs.PrefixLemmas.{none_of}

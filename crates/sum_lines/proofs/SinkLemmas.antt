@@ -8,7 +8,7 @@ use Rattle.std.specs.Io.KnownBytes.{Appends, append_known}
 use Rattle.std.proofs.KnownBytes.{Appends-trans}
 use Rattle.sum_lines.specs.sinks.Sinks.{AppendsProperPrefix, SinkState, Accepts, FailsToWrite, FailsToFlush, WritesAll, Flushes}
 use Rattle.digest_kinds.specs.Limits.{one_more}
-use Rattle.sum_lines.specs.refinement.SinkStates.{Grows, AppendsPrefix}
+use Rattle.sum_lines.specs.refinement.SinkStates.{AppendsPrefix}
 
 -- ---- two calls, one after the other
 
@@ -21,9 +21,9 @@ pub Accepts-trans : {a b c : SinkState} (xs ys : List ℕ) → Accepts a b xs �
 Accepts-trans xs ys first second = grind (arith, Appends-trans)
 
 -- a text was accepted, and then a proper prefix of the buffered bytes and one more piece was written
-written_proper_prefix : (a b c : Option (List ℕ)) (buffered_before buffered_after text piece later : List ℕ) → Grows a b
-    → Appends (append_known a buffered_before) (append_known b buffered_after) text → 0 < length piece
-    → AppendsProperPrefix b c (buffered_after ++ piece)
+written_proper_prefix : (a b c : Option (List ℕ)) (buffered_before buffered_after text piece later : List ℕ)
+    → (more : List ℕ) × Appends a b more → Appends (append_known a buffered_before) (append_known b buffered_after) text
+    → 0 < length piece → AppendsProperPrefix b c (buffered_after ++ piece)
     → AppendsProperPrefix a c (buffered_before ++ (text ++ (piece ++ later)))
 written_proper_prefix None b c buffered_before buffered_after text piece later grows accepted some written =
     ([], buffered_before ++ (text ++ (piece ++ later)), refl, grind (arith, length-append), tt)

@@ -2,7 +2,7 @@
 ghost use Rattle.std.specs.Prelude.{◌≡◌, ◌≢◌, ◌↔◌, ◌+◌, ◌<◌, ◌≤◌, ◌++◌, ℕ, length, vec_len, take, drop};
 ghost use Rattle.std.specs.Prelude.{slice_index, is_some, true, IfSome, IfNone, MatchOption};
 ghost use Rattle.sum_lines.specs.sinks.Sinks.{ByteString, WritesAll};
-ghost use Rattle.sum_lines.specs.Escape.{present, IsEscaped, escape, escape_of, escape_differs};
+ghost use Rattle.sum_lines.specs.Escape.{present, escape, escape_of, escape_differs};
 
 use crate::sinks::sink::{Sink, SinkFault, put_all};
 use memchr::memchr3;
@@ -77,7 +77,7 @@ pub fn unescape_in<A: Allocator>(line: &mut Vec<u8, A>, from: usize) -> bool
 fn unescape(bytes: &mut [u8]) -> Option<usize>
     ensures len { IfSome result (λ len. len ≤ length bytes.old) }
     ensures name { IfSome result (λ len. bytes.old ≡ escape (take len bytes.new)) }
-    ensures none { IfNone result (¬ IsEscaped bytes.old) }
+    ensures none { IfNone result ((n : ByteString) → bytes.old ≢ escape n) }
 {
     let mut read = 0;
     let mut write = 0;
