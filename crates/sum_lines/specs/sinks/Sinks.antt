@@ -1,4 +1,4 @@
--- The state of a sink, and what writing and flushing do to it; what a buffer over a sink buffers, and when it writes that.
+-- The state of a sink, and what writing and flushing do to it. What a buffer over a sink buffers, and when it flushes.
 pub use Rattle.digest_kinds.specs.Basics.{ByteString}
 use Rattle.digest_kinds.specs.Limits.{one_more}
 use Rattle.std.specs.Prelude.{ℕ, ◌≡◌, ◌<◌, ◌≤◌, ◌==◌, List, [], ◌∷◌, ◌++◌, length, take, if◌then◌else◌, ⊤, Option, Some, Result, Ok, Err, IfSome}
@@ -94,7 +94,7 @@ buffer_state state b = let a = state b.sink in
 abbrev pub kept_unless_full : ByteString → ByteString
 kept_unless_full buffered = if length buffered == 8192 then [] else buffered
 
--- what is written before a piece is accepted: all that is buffered, if it isn't kept, and nothing, if the piece is empty
+-- what is written before a piece is accepted: all that isn't kept, or nothing if the piece is empty
 abbrev pub flushed_before_write : ByteString → ByteString → ByteString
 flushed_before_write buffered [] = []
 flushed_before_write buffered (b ∷ bs) = if length buffered == 8192 then buffered else []

@@ -16,7 +16,7 @@ use digest_kinds::{Algo, Algos, Digest, Kind};
 #[tactic(auto, using(crate::proofs::BeginningLemmas::not_plain))]
 pub(crate) fn plain(algo: Algo, line: &[u8], front: Front, at: usize) -> Option<LineParts>
     requires front { IsFront line.now front }
-    requires ends { EndsDigits algo (mark_and_rest (after_while is_blank line.now)).1 at }
+    requires end { EndsDigits algo (mark_and_rest (after_while is_blank line.now)).1 at }
     ensures parts { option_map (line_parts line.now) result ≡ plain_parts (Algos.One algo) line.now }
     ensures range { IfSome result (λ p. (p.start ≤ p.stop) × (p.stop ≤ length line.now)) }
     ensures size { IfSome result (λ p. length p.digest ≡ p.kind.len) }

@@ -1,5 +1,6 @@
 //! A buffer over a sink.
-ghost use Rattle.std.specs.Prelude.{◌≡◌, ◌≤◌, ◌-◌, ◌+◌, ◌++◌, ◌==◌, [], if◌then◌else◌, length, min, take, Ok, IfOk, OnOk};
+ghost use Rattle.std.specs.Prelude.{◌≡◌, ◌≤◌, ◌-◌, ◌+◌, ◌++◌, ◌==◌, [], if◌then◌else◌};
+ghost use Rattle.std.specs.Prelude.{length, min, take, Ok, IfOk, OnOk};
 ghost use Rattle.sum_lines.specs.sinks.Sinks.{WritesSome, Flushes, OffersWhole};
 
 use crate::sinks::sink::{Sink, SinkFault, put_all};
