@@ -1,19 +1,15 @@
 -- What a line begins with, and the parts that it is then read as. The code looks for the first blank of a plain line's
 -- text among as many bytes as the longest digest has digits.
-use Rattle.std.proofs.Common.{ℕ, ◌≡◌, ◌*◌, ◌<◌, ◌≤◌, Bool, ◌==◌, List, ◌∷◌, length, take, get_or, min, None, Some, sym, arith, ◌+◌, ◌/◌, true, cond, ◌++◌, drop, Option, Ok, IfNone, IfSome, refl, ap, ◌∙◌, length-drop, rules}
-use Rattle.std.specs.List.{position_or_len, starts_with}
-use Rattle.std.proofs.lemmas.Bool.{lt-ltb}
+use Rattle.std.proofs.Common.{ℕ, ◌≡◌, ◌*◌, ◌<◌, ◌≤◌, Bool, List, length, take, get_or, min, None, Some, sym, arith, ◌+◌, ◌/◌, true, cond, drop, Option, Ok, IfNone, IfSome, refl, ap, ◌∙◌, length-drop, rules}
+use Rattle.std.specs.List.{position_or_len}
 use Rattle.std.proofs.lemmas.List.{get_or-take, length-take}
 use Rattle.std.proofs.lemmas.List.Sums.{passes_at_first, position_or_len_is}
 use Rattle.memchr.specs.Find.{IsFirstByte, is_byte2}
 use Rattle.sum_lines.specs.grammar.Shapes.{Algo, is_blank, Algos, One}
 use Rattle.sum_lines.specs.grammar.LineParts.{plain_parts, tag_in, tagged_parts}
-use Rattle.sum_lines.proofs.PlainLemmas.{cut-within, no_prefix, plain-digits, plain-prefix, read_is_plain}
-use Rattle.sum_lines.proofs.ScanLemmas.{decoded_size, decoded-digits}
+use Rattle.sum_lines.proofs.PlainLemmas.{uncut, cut-within, no_prefix, plain-digits, plain-prefix, read_is_plain}
+use Rattle.sum_lines.proofs.ScanLemmas.{two_digits, decoded-digits}
 use Rattle.std.proofs.lemmas.List.Elements.{All-get_or}
-use Rattle.std.proofs.lemmas.Option.{cond_some}
-use Rattle.std.proofs.lemmas.Bool.Decides.{Decides-eqb}
-use Rattle.std.proofs.lemmas.Slice.Eq.{starts_is}
 use Rattle.hex.specs.Hex.{decode_of, is_hex_digit}
 use Rattle.hex.proofs.HexLemmas.{decode_of-ok}
 use Rattle.digest_kinds.specs.Kinds.{BeginsWithTag, KindValue, full_len, has_len, tag, IsDigits}
@@ -28,7 +24,7 @@ use Rattle.sum_lines.specs.declared.reading.beginnings.Beginning.TheVariants as 
 -- a cut has two digits for each byte of its digest, and so few that the search meets its blank
 cut-size : {a : Algo} {s d : List ℕ} → BeginsWithDigits a s d
     → (position_or_len is_blank s ≡ 2 * length d) × (length d ≤ 64)
-cut-size cut = search (rules, cut-within, decoded_size)
+cut-size cut = search (rules, cut-within, two_digits)
 
 -- ---- the tag
 
@@ -110,6 +106,9 @@ pub digits_none : {a : Algo} {s : List ℕ} {at : ℕ} → EndsDigits a s at →
     → (d : List ℕ) → ¬ BeginsWithDigits a s d
 digits_none ends none d = grind (arith, decoded-digits)
 
+-- why a line isn't plain
+pub ruleset not_plain = (kind_none, digits_none, uncut)
+
 -- what is found so is read as the line's parts
 pub plain_read : (a : Algo) (line : List ℕ) {d : List ℕ} {at : ℕ} (k : KindValue) → let s = (text line).1 in
     EndsDigits a s at → decode_of (take at s) ≡ Ok d
@@ -120,4 +119,4 @@ unfolding plain_parts
 plain_read a line {d} {at} k ends spelled kind =
     let within = ends.within in
     let blank = first-blank (text line).1 d at (omega arith) ends.blank spelled in
-    grind (arith, decoded_size, length-take, length-drop)
+    grind (arith, two_digits, length-take, length-drop)

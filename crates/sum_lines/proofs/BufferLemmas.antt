@@ -1,10 +1,13 @@
 -- A buffer over a sink: what a call of the sink below does to the buffer's state.
 use Rattle.std.proofs.lemmas.Grind.{common_steps}
-use Rattle.std.proofs.Common.{ℕ, ◌≡◌, List, [], Result, arith, rules}
+use Rattle.std.proofs.Common.{ℕ, ◌≡◌, List, [], ◌++◌, Result, arith, rules}
 use Rattle.sum_lines.specs.sinks.Sinks.{SinkState, Accepts, Flushes, WritesAll}
-use Rattle.sum_lines.specs.sinks.Buffers.{with_buffered}
 use Rattle.sum_lines.specs.refinement.SinkStates.{FlushesBuffer}
 use Rattle.sum_lines.proofs.SinkLemmas.{Flushes-with_buffered}
+
+-- a sink's state, with these bytes buffered after its own
+abbrev with_buffered : SinkState → List ℕ → SinkState
+with_buffered a own = record { written = a.written; buffered = a.buffered ++ own; failures = a.failures }
 
 -- the buffer was emptied into the sink below
 pub emptied : {E : Type 0} (a b : SinkState) (own : List ℕ) (r : Result (Unit {0}) E) → WritesAll a b own r

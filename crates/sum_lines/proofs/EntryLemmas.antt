@@ -4,7 +4,7 @@ use Rattle.std.proofs.Common.{ℕ, ◌≡◌, Bool, true, false, List, [], ◌�
 use Rattle.std.specs.List.{AllPass}
 use Rattle.digest_kinds.specs.Kinds.{KindValue}
 use Rattle.sum_lines.specs.grammar.Shapes.{Algos, is_blank, mark, IsPlain, IsTagged}
-use Rattle.sum_lines.specs.grammar.Entries.{Form, Undecided, is_ignored, DecidesForm, IsForm, EntryValue, SpellsByTag, SpellsByTail, form_then, line_form, form}
+use Rattle.sum_lines.specs.grammar.Entries.{Form, Undecided, is_ignored, DecidesForm, IsForm, form_then, line_form, form}
 use Rattle.sum_lines.specs.grammar.LineParts.{LinePartsValue, plain_parts}
 use Rattle.sum_lines.specs.grammar.LineLaws.{HasOneForm}
 use Rattle.digest_kinds.proofs.PrefixLemmas.{none_of}
@@ -85,10 +85,6 @@ pub one_form : HasOneForm
 one_form algos lines f = (form-is algos lines f, λ e. rw e (is-form algos lines))
 
 -- ---- lines after lines
-
--- the form so far, then a line's, then that of the rest
-pub form_on : (f x g : Form) → form_then f (form_then x g) ≡ form_then (form_then f x) g
-form_on f x g = grind arith
 
 -- the form of two lists, one after the other
 form-append : (algos : Algos) (before after : List (List ℕ))

@@ -7,7 +7,7 @@ use Rattle.sum_lines.specs.grammar.ParsedLines.{entry_of, parse_line}
 use Rattle.sum_lines.specs.grammar.LineLaws.{KeepsParse, KeepsForm}
 use Rattle.sum_lines.proofs.PlainLemmas.{plain_is_read}
 use Rattle.sum_lines.proofs.EntryLemmas.{form_at}
-pub use Rattle.sum_lines.proofs.EntryLemmas.{form_next, form_on}
+pub use Rattle.sum_lines.proofs.EntryLemmas.{form_next}
 
 -- no later line changes how a line parses
 pub parse_stays : (p : Profile) (algos : Algos) (f g : Form) (line : List ℕ)

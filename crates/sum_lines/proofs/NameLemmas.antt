@@ -9,7 +9,7 @@ use Rattle.sum_lines.specs.grammar.Entries.{Standard, begins_standard}
 use Rattle.sum_lines.specs.declared.reading.line_parts.LineParts.{LineParts}
 use Rattle.sum_lines.specs.Escape.{present, escape}
 use Rattle.sum_lines.specs.grammar.ParsedLines.{unescape, with_raw}
-use Rattle.sum_lines.specs.refinement.LinePartRanges.{line_parts}
+use Rattle.sum_lines.specs.refinement.Beginnings.{line_parts}
 use Rattle.sum_lines.proofs.UnescapeLemmas.{all-of, unescape-escape}
 use Rattle.std.proofs.lemmas.Grind.{common_steps}
 

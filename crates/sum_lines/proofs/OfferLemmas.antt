@@ -1,5 +1,4 @@
 -- What was offered of a text, piece by piece, while it was written.
-use Rattle.std.proofs.lemmas.Grind.{common_steps}
 use Rattle.std.proofs.Common.{ℕ, ◌≡◌, ◌<◌, ◌≤◌, List, [], ◌∷◌, ◌++◌, length, take, drop, Option, refl, sym, append_assoc, append-nil, take-append-drop, length-take, arith}
 use Rattle.sum_lines.specs.sinks.Sinks.{Offers, IsRest, IsInOnePiece, OffersWhole}
 

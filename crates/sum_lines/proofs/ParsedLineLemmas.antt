@@ -5,7 +5,7 @@ use Rattle.std.proofs.lemmas.Option.{same_Some}
 use Rattle.digest_kinds.specs.Basics.{◌>>=◌}
 use Rattle.digest_kinds.specs.Kinds.{KindValue}
 use Rattle.sum_lines.specs.grammar.Shapes.{Algos, IsPlain}
-use Rattle.sum_lines.specs.grammar.Entries.{Form, Undecided, Standard, Reversed, EntryValue, IsEntry, IsRawName, is_ignored_by}
+use Rattle.sum_lines.specs.grammar.Entries.{Form, EntryValue, IsEntry, IsRawName, is_ignored_by}
 use Rattle.sum_lines.specs.Escape.{Profile, present, escape_by}
 use Rattle.sum_lines.specs.grammar.LineParts.{LinePartsValue, tagged_parts, plain_parts}
 use Rattle.sum_lines.specs.grammar.ParsedLines.{with_raw, entry_of_parts, entry_of, ParsedLine, parse_line}
@@ -60,7 +60,8 @@ module _ (p : Profile) (algos : Algos) (f : Form) (line : List ℕ) where
 
   -- what a plain line's spell, with the raw name of its tail
   by-tail : (s : EntryValue) (t : LinePartsValue) (raw : List ℕ) → plain_parts algos line ≡ Some t
-      → IsRawName f t.text raw → entry_of_parts p (record t { text = raw }) ≡ Some s → IsEntry (escape_by p) algos f line s
+      → IsRawName f t.text raw → entry_of_parts p (record t { text = raw }) ≡ Some s
+      → IsEntry (escape_by p) algos f line s
   by-tail s t raw found is h =
       let name = is-spelled p (record t { text = raw }) s h in
       let plain = read_is_plain found in

@@ -5,7 +5,7 @@ use Rattle.hex.specs.Hex.{encode_lower}
 use Rattle.digest_kinds.specs.Kinds.{KindValue}
 use Rattle.sum_lines.specs.grammar.Shapes.{Algos, One, mark, Allows, IsTagged}
 use Rattle.digest_kinds.specs.KindTexts.{IsWidth}
-use Rattle.sum_lines.specs.grammar.Entries.{Form, Undecided, Standard, EntryValue, IsEntry, line_form, form}
+use Rattle.sum_lines.specs.grammar.Entries.{Form, Undecided, Standard, IsEntry, line_form, form}
 use Rattle.sum_lines.specs.declared.writing.put_line.Mode.{Mode}
 use Rattle.sum_lines.specs.Escape.{present, escape, escape_differs}
 use Rattle.sum_lines.specs.grammar.LineParts.{plain_parts}

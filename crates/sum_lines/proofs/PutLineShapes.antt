@@ -1,7 +1,7 @@
 -- The lines that are written. Each has its shape, and spells the name and the digest that it was written for. It has no
 -- newline and no carriage return before its end.
 use Rattle.std.proofs.lemmas.Grind.{common_steps}
-use Rattle.std.proofs.Common.{ℕ, ◌≡◌, ◌≢◌, ◌*◌, ◌<◌, not, Bool, true, false, ◌==◌, ◌||◌, List, [], ◌∷◌, ◌++◌, length, refl, arith, inl, inr, cond, All, decimal}
+use Rattle.std.proofs.Common.{ℕ, ◌≡◌, ◌≢◌, ◌*◌, ◌<◌, not, Bool, true, false, ◌==◌, ◌||◌, List, [], ◌∷◌, ◌++◌, length, refl, arith, inl, inr, All, decimal}
 use Rattle.std.specs.List.{AllPass, list_all}
 use Rattle.std.proofs.lemmas.List.Folds.{list_all-append}
 use Rattle.std.proofs.lemmas.List.Sums.{list_all-from_AllPass}
@@ -10,7 +10,7 @@ use Rattle.digest_kinds.specs.Kinds.{KindValue, tag}
 use Rattle.sum_lines.specs.grammar.Shapes.{mark, is_blank, Allows, IsPlain, IsTagged, Algos, One}
 use Rattle.digest_kinds.specs.KindTexts.{IsWidth}
 use Rattle.digest_kinds.specs.declared.algo.Algo.TheVariants.{Blake2b}
-use Rattle.sum_lines.specs.Escape.{present, escape, escape_of, escape_differs}
+use Rattle.sum_lines.specs.Escape.{present, escape, escape_differs}
 use Rattle.std.specs.Char.{is_ascii_digit}
 use Rattle.digest_kinds.proofs.BitsLemmas.{decimal-digits}
 use Rattle.digest_kinds.proofs.KindLemmas.{has_len-range}
@@ -18,7 +18,6 @@ use Rattle.std.proofs.lemmas.Slice.Eq.{bytes_eq-Decides}
 use Rattle.hex.specs.Hex.{encode_lower, is_hex_digit}
 use Rattle.hex.proofs.HexLemmas.{decode_of-encode_lower}
 use Rattle.sum_lines.specs.grammar.Entries.{Form, Standard, begins_standard, line_form, Spells, EntryValue, IsEntry}
-use Rattle.sum_lines.specs.grammar.LineParts.{LinePartsValue}
 use Rattle.sum_lines.specs.grammar.LineLaws.{IsWritable}
 use Rattle.sum_lines.proofs.PlainLemmas.{AreDigits, digits-of, plain_is_read}
 use Rattle.sum_lines.proofs.EntryLemmas.{plain-not_ignored}

@@ -1,19 +1,16 @@
 -- What the functions that scan a line return, step by step.
-use Rattle.std.proofs.Common.{ℕ, ◌≡◌, ◌≢◌, ◌+◌, ◌-◌, ◌*◌, ◌<◌, ◌≤◌, List, [], ◌∷◌, ◌++◌, length, take, drop, slice_range, Option, None, Some, MatchOption, Result, Ok, Bor, refl, sym, arith, append_assoc, option_copied, eq-eqb, ◌==◌, ◌&&◌, nat_lt, if◌then◌else◌}
+use Rattle.std.proofs.Common.{ℕ, ◌≡◌, ◌≢◌, ◌+◌, ◌-◌, ◌*◌, ◌<◌, ◌≤◌, List, [], ◌∷◌, ◌++◌, length, take, drop, slice_range, Option, None, Some, MatchOption, Ok, Bor, sym, arith, append_assoc, option_copied}
 use Rattle.std.specs.Option.{option_or}
 use Rattle.std.specs.Path.{rsplit_once}
-use Rattle.std.specs.Result.{result_ok}
-use Rattle.std.proofs.lemmas.Bool.{lt-ltb}
 use Rattle.memchr.specs.Find.{Nowhere, Passes, IsLastByte, is_byte}
 use Rattle.hex.specs.Hex.{decode_of}
 use Rattle.hex.proofs.HexLemmas.{decode_of-ok}
-use Rattle.digest_kinds.specs.Basics.{◌>>=◌, after_while}
+use Rattle.digest_kinds.specs.Basics.{after_while}
 use Rattle.digest_kinds.specs.Kinds.{KindValue, tag, IsDigits}
 use Rattle.sum_lines.specs.grammar.Shapes.{Algo, One, is_blank, optional}
-use Rattle.std.proofs.lemmas.List.{take-append-drop}
-use Rattle.sum_lines.specs.grammar.LineParts.{LinePartsValue, strip_prefix, tag_in, tagged_parts}
+use Rattle.sum_lines.specs.grammar.LineParts.{strip_prefix, tag_in, tagged_parts}
 use Rattle.digest_kinds.specs.KindTexts.{kind_and_rest}
-use Rattle.sum_lines.specs.refinement.LinePartRanges.{IsFront}
+use Rattle.sum_lines.specs.refinement.Beginnings.{IsFront}
 use Rattle.sum_lines.specs.declared.reading.line_parts.Front.{Front}
 use Rattle.sum_lines.proofs.PrefixLemmas.{text, strip_prefix-some, strip_prefix-append, opened-some, rfind-at, rfind-none, rsplit-some}
 use Rattle.digest_kinds.proofs.PrefixLemmas.{none_of}
@@ -44,8 +41,8 @@ last_some c k s last = grind (arith, rfind-at)
 -- ---- digits that spell no digest of that length
 
 -- a digest is spelled by two digits for each byte
-pub decoded_size : (s d : List ℕ) → decode_of s ≡ Ok d → length s ≡ 2 * length d
-decoded_size s d h = (decode_of-ok s d h).2
+pub two_digits : (s d : List ℕ) → decode_of s ≡ Ok d → length s ≡ 2 * length d
+two_digits s d h = (decode_of-ok s d h).2
 
 -- so such text is what a digest may be read of
 pub decoded-digits : (s d : List ℕ) → decode_of s ≡ Ok d → 1 ≤ length d → length d ≤ 64 → IsDigits s
@@ -53,7 +50,7 @@ decoded-digits s d h some few = grind (arith, decode_of-ok)
 
 -- other digits spell no digest of that length
 pub digest_other : (s d : List ℕ) (n : ℕ) → (length s ≡ 2 * n → ⊥) → decode_of s ≡ Ok d → length d ≢ n
-digest_other s d n other spelled = grind (arith, decoded_size)
+digest_other s d n other spelled = grind (arith, two_digits)
 
 -- nor do such as the code reads none of
 pub digest_none : (s d : List ℕ) (n : ℕ) → 1 ≤ n → n ≤ 64 → (IsDigits s → ⊥) → decode_of s ≡ Ok d → length d ≢ n

@@ -1,14 +1,14 @@
 -- A text is written piece by piece. The lemmas say what of it is written after a piece was accepted, and after a write
 -- failed. `a`, `b` and `c` are the sink before, between and after.
 use Rattle.std.proofs.lemmas.Grind.{common_steps}
-use Rattle.std.proofs.Common.{ℕ, ◌≡◌, ◌<◌, ◌-◌, List, [], ◌++◌, length, take, drop, Option, None, Some, Result, Ok, Err, refl, ap, sym, ◌∙◌, append_assoc, append-nil, take-append-drop, length-append, arith, rules}
-use Rattle.std.proofs.lemmas.List.{take_rest, append_cancel_left}
+use Rattle.std.proofs.Common.{ℕ, ◌≡◌, ◌<◌, ◌-◌, List, [], ◌++◌, length, take, drop, Option, None, Some, Result, Ok, Err, refl, ap, sym, ◌∙◌, append_assoc, append-nil, length-append, arith, rules}
+use Rattle.std.proofs.lemmas.List.{append_cancel_left}
 use Rattle.std.specs.Result.{IsErr}
 use Rattle.std.specs.Io.KnownBytes.{Appends, append_known}
 use Rattle.std.proofs.KnownBytes.{Appends-trans}
 use Rattle.sum_lines.specs.sinks.Sinks.{AppendsProperPrefix, SinkState, Accepts, FailsToWrite, FailsToFlush, WritesAll, Flushes}
 use Rattle.digest_kinds.specs.Limits.{one_more}
-use Rattle.sum_lines.specs.refinement.SinkStates.{Grows, AppendsPrefix}
+use Rattle.sum_lines.specs.refinement.SinkStates.{AppendsPrefix}
 
 -- ---- two calls, one after the other
 
@@ -21,9 +21,9 @@ pub Accepts-trans : {a b c : SinkState} (xs ys : List ℕ) → Accepts a b xs �
 Accepts-trans xs ys first second = grind (arith, Appends-trans)
 
 -- a text was accepted, and then a proper prefix of the buffered bytes and one more piece was written
-written_proper_prefix : (a b c : Option (List ℕ)) (buffered_before buffered_after text piece later : List ℕ) → Grows a b
-    → Appends (append_known a buffered_before) (append_known b buffered_after) text → 0 < length piece
-    → AppendsProperPrefix b c (buffered_after ++ piece)
+written_proper_prefix : (a b c : Option (List ℕ)) (buffered_before buffered_after text piece later : List ℕ)
+    → (more : List ℕ) × Appends a b more → Appends (append_known a buffered_before) (append_known b buffered_after) text
+    → 0 < length piece → AppendsProperPrefix b c (buffered_after ++ piece)
     → AppendsProperPrefix a c (buffered_before ++ (text ++ (piece ++ later)))
 written_proper_prefix None b c buffered_before buffered_after text piece later grows accepted some written =
     ([], buffered_before ++ (text ++ (piece ++ later)), refl, grind (arith, length-append), tt)
@@ -54,12 +54,14 @@ Flushes-with_buffered b c (Err e) wrote dropped = record {
 -- a write failed that was to accept some of a text
 pub FailsToFlush-write_failed : {a b : SinkState} {text : List ℕ} → FailsToFlush a b → 0 < length text
     → FailsToWrite a b text
-FailsToFlush-write_failed {text = text} dropped some = record {
-  nonempty = some;
-  written = (dropped.written.0, dropped.written.1.0 ++ text, grind (arith, append_assoc), grind (arith, length-append), dropped.written.2);
-  buffered = dropped.buffered;
-  failures = dropped.failures;
-}
+FailsToFlush-write_failed {text = text} dropped some =
+    let (prefix, (rest, is), wrote) = dropped.written in
+    record {
+      nonempty = some;
+      written = (prefix, rest ++ text, grind (arith, append_assoc), grind (arith, length-append), wrote);
+      buffered = dropped.buffered;
+      failures = dropped.failures;
+    }
 
 -- a sink whose bytes are known, and that buffers nothing, accepted a piece
 pub accepts_known : (old new piece : List ℕ) (failures : ℕ) → new ≡ old ++ piece

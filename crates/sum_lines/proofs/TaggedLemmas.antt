@@ -1,8 +1,7 @@
 -- The parts that are read of a tagged line, put together, are the line. A line that is put together from the parts of a
 -- tagged line is read as these parts.
 use Rattle.std.proofs.lemmas.Grind.{common_steps}
-use Rattle.std.proofs.Common.{ℕ, ◌≡◌, Bool, true, ◌==◌, ◌&&◌, List, [], ◌∷◌, ◌++◌, length, drop, Some, refl, ap, ◌≢◌, false, eq-eqb, arith, nat_lt, take_while, All, rules}
-use Rattle.std.specs.Char.{is_ascii_digit}
+use Rattle.std.proofs.Common.{ℕ, ◌≡◌, Bool, true, ◌==◌, ◌&&◌, List, [], ◌∷◌, ◌++◌, length, drop, Some, refl, ◌≢◌, false, eq-eqb, arith, nat_lt, take_while, All, rules}
 use Rattle.std.specs.List.{starts_with, AllPass}
 use Rattle.std.specs.Option.{option_or}
 use Rattle.std.specs.Path.{rsplit_once}

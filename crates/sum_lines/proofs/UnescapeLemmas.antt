@@ -1,11 +1,11 @@
 -- What is escaped can be read back. If some bytes are the escape of a name, both the definition and the code find the
 -- name.
-use Rattle.std.proofs.Common.{◌≡◌, ◌↔◌, ℕ, ◌<◌, ◌==◌, Bool, true, false, cond, List, [], ◌∷◌, ◌++◌, Some, refl, ap, sym, ◌∙◌, ◌≢◌, ◌+◌, ◌-◌, ◌≤◌, length, take, drop, set, append_assoc, arith, length-drop, All, nat_lt, rules}
+use Rattle.std.proofs.Common.{◌≡◌, ◌↔◌, ℕ, ◌<◌, ◌==◌, Bool, true, false, cond, List, [], ◌∷◌, ◌++◌, Some, refl, ap, sym, ◌∙◌, ◌≢◌, ◌+◌, ◌-◌, ◌≤◌, length, take, drop, append_assoc, arith, length-drop, All, nat_lt, rules}
 use Rattle.std.specs.List.{list_all}
-use Rattle.std.proofs.lemmas.List.{append-nil, append_cancel_left, length-take-le, take-take, take-append-le}
+use Rattle.std.proofs.lemmas.List.{append-nil, append_cancel_left, length-take-le}
 use Rattle.std.proofs.lemmas.Option.{cond_some}
 use Rattle.std.proofs.lemmas.List.Sums.{list_all-from_AllPass}
-use Rattle.sum_lines.specs.Escape.{Profile, present, escape_of, escape_by, escape, IsEscaped}
+use Rattle.sum_lines.specs.Escape.{Profile, present, escape_of, escape_by, escape}
 use Rattle.sum_lines.specs.grammar.Entries.{Spells, EntryValue}
 use Rattle.sum_lines.specs.grammar.ParsedLines.{unescaped_bytes, unescape, entry_of_parts}
 use Rattle.sum_lines.specs.grammar.LineParts.{LinePartsValue}
@@ -56,7 +56,8 @@ spelled-is p t n s = grind (arith, unescape-if, all-of)
 
 -- only such parts
 pub is-spelled : (p : Profile) (t : LinePartsValue) (s : EntryValue) → entry_of_parts p t ≡ Some s
-    → (n : List ℕ) × Spells (escape_by p) t.escaped t.text n × (record { kind = t.kind; digest = t.digest; name = n } ≡ s)
+    → (n : List ℕ) × Spells (escape_by p) t.escaped t.text n
+    × (record { kind = t.kind; digest = t.digest; name = n } ≡ s)
 is-spelled p t s h =
     let n = bind_some (cond t.escaped (unescape p t.text) (Some t.text)) _ h in
     let e = cond_some (list_all (nat_lt 0) n.0) _ s n.2 in
@@ -83,9 +84,9 @@ pub record IsHalfUnescaped (start bytes : List ℕ) (read write : ℕ) : Type 0 
 -- a rest that no escape begins
 pub IsHalfUnescaped-refused : {start bytes : List ℕ} {read write : ℕ} → IsHalfUnescaped start bytes read write
     → read < length bytes → ((b : ℕ) (rest : List ℕ) → drop read bytes ≢ escape_of present b ++ rest)
-    → ¬ IsEscaped start
-IsHalfUnescaped-refused {bytes = bytes} {read = read} {write = write} h some none = λ e.
-    let rest = escape-rest (take write bytes) e.0 (drop read bytes) (h.whole ∙ e.1) in
+    → (n : List ℕ) → start ≢ escape n
+IsHalfUnescaped-refused {bytes = bytes} {read = read} {write = write} h some none n e =
+    let rest = escape-rest (take write bytes) n (drop read bytes) (h.whole ∙ e) in
     elim rest.0 as (λ m. drop read bytes ≡ escape m → ⊥) [
       | [] ↦ λ is. omega (arith, length-drop read bytes, ap length is)
       | b ∷ bs ↦ λ is. none b (escape bs) is

@@ -28,7 +28,3 @@ escape name = escape_by present name
 -- whether the escape of a name differs from the name
 abbrev pub escape_differs : Profile → ByteString → Bool
 escape_differs p name = not (bytes_eq (escape_by p name) name)
-
--- the bytes are the escape of some name
-abbrev pub IsEscaped : ByteString → Type 0
-IsEscaped bytes = (n : ByteString) × (bytes ≡ escape n)

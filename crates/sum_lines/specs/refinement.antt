@@ -1,6 +1,5 @@
 -- How values of the code relate to those of the definitions. The headline reaches none of this; the contracts of some
 -- public calls name some.
 pub mod PartTexts
-pub mod LinePartRanges
 pub mod Beginnings
 pub mod SinkStates

@@ -1,3 +1,2 @@
--- Sinks: what writing and flushing do to one, and what a buffer over one does.
+-- Sinks and buffers: what writing and flushing do to one.
 pub mod Sinks
-pub mod Buffers

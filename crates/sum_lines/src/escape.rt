@@ -2,7 +2,7 @@
 ghost use Rattle.std.specs.Prelude.{◌≡◌, ◌≢◌, ◌↔◌, ◌+◌, ◌<◌, ◌≤◌, ◌++◌, ℕ, length, vec_len, take, drop};
 ghost use Rattle.std.specs.Prelude.{slice_index, is_some, true, IfSome, IfNone, MatchOption};
 ghost use Rattle.sum_lines.specs.sinks.Sinks.{ByteString, WritesAll};
-ghost use Rattle.sum_lines.specs.Escape.{present, IsEscaped, escape, escape_of, escape_differs};
+ghost use Rattle.sum_lines.specs.Escape.{present, escape, escape_of, escape_differs};
 
 use crate::sinks::sink::{Sink, SinkFault, put_all};
 use memchr::memchr3;
@@ -34,7 +34,7 @@ pub fn put_escaped<S: Sink>(sink: &mut S, name: &[u8]) -> Result<(), SinkFault>
 #[tactic(auto, using(crate::proofs::EscapeLemmas::escape_cut, crate::proofs::EscapeLemmas::differs_by))]
 fn next_special(name: &[u8]) -> Option<usize>
     ensures within { IfSome result (λ at. at < length name.now) }
-    ensures differs { is_some result ≡ escape_differs present name.now }
+    ensures special { is_some result ≡ escape_differs present name.now }
     ensures cut { MatchOption result (escape name.now ≡ name.now) (λ at. escape name.now
         ≡ take at name.now ++ (escape_of present (slice_index name.now at) ++ escape (drop (at + 1) name.now))) }
 {
@@ -77,7 +77,7 @@ pub fn unescape_in<A: Allocator>(line: &mut Vec<u8, A>, from: usize) -> bool
 fn unescape(bytes: &mut [u8]) -> Option<usize>
     ensures len { IfSome result (λ len. len ≤ length bytes.old) }
     ensures name { IfSome result (λ len. bytes.old ≡ escape (take len bytes.new)) }
-    ensures none { IfNone result (¬ IsEscaped bytes.old) }
+    ensures no_name { IfNone result ((n : ByteString) → bytes.old ≢ escape n) }
 {
     let mut read = 0;
     let mut write = 0;
@@ -92,9 +92,9 @@ fn unescape(bytes: &mut [u8]) -> Option<usize>
 
 // The byte whose escape begins the bytes, and the length of its escape; `None` if no escape begins them.
 fn first_escaped(bytes: &[u8]) -> Option<(u8, usize)>
-    ensures some { IfSome result (λ r. bytes.now ≡ escape_of present r.0 ++ drop r.1 bytes.now) }
+    ensures escape { IfSome result (λ r. bytes.now ≡ escape_of present r.0 ++ drop r.1 bytes.now) }
     ensures width { IfSome result (λ r. (0 < r.1) × (r.1 ≤ length bytes.now)) }
-    ensures none { IfNone result ((b : ℕ) (rest : ByteString) → bytes.now ≢ escape_of present b ++ rest) }
+    ensures no_escape { IfNone result ((b : ℕ) (rest : ByteString) → bytes.now ≢ escape_of present b ++ rest) }
 {
     match bytes {
         [b'\\', b'\\', ..] => Some((b'\\', 2)),

@@ -1,13 +1,26 @@
--- Joins what a line begins with to the parts that it is read as.
-use Rattle.std.specs.Prelude.{ℕ, ◌≡◌, ◌+◌, ◌<◌, true, length, get_or, IsTrue, None, Some, Ok}
+-- Joins what the functions that scan a line return to the parts that it is read as.
+use Rattle.std.specs.Prelude.{ℕ, ◌≡◌, ◌+◌, ◌<◌, ◌≤◌, true, length, drop, slice_range, get_or, IsTrue, None, Some, Ok}
 use Rattle.std.specs.List.{position_or_len, before_first, after_first}
 use Rattle.hex.specs.Hex.{decode_of}
 use Rattle.digest_kinds.specs.Kinds.{has_len}
 use Rattle.sum_lines.specs.grammar.Shapes.{ByteString, Algo, Algos, One, is_blank}
 use Rattle.sum_lines.specs.declared.reading.beginnings.Beginning.{Beginning}
-use Rattle.sum_lines.specs.grammar.LineParts.{mark_and_rest, plain_parts, tag_in, tagged_parts}
+use Rattle.sum_lines.specs.declared.reading.line_parts.LineParts.{LineParts}
+use Rattle.sum_lines.specs.declared.reading.line_parts.Front.{Front}
+use Rattle.sum_lines.specs.grammar.LineParts.{LinePartsValue, mark_and_rest, plain_parts, tag_in, tagged_parts}
 use Rattle.digest_kinds.specs.Basics.{after_while}
 use Rattle.sum_lines.specs.declared.reading.beginnings.Beginning.TheVariants as beginnings
+
+-- the parts of a line whose text is that range
+abbrev pub line_parts : ByteString → LineParts → LinePartsValue
+line_parts line p =
+    record { escaped = p.escaped; kind = p.kind; digest = p.digest; text = slice_range line p.start p.stop }
+
+-- what precedes the line's text, and where that is
+pub record IsFront (line : ByteString) (f : Front) : Type 0 where
+  pub mark : f.escaped ≡ (mark_and_rest (after_while is_blank line)).0
+  pub text : drop f.start line ≡ (mark_and_rest (after_while is_blank line)).1
+  pub within : f.start ≤ length line
 
 -- a plain line's text: what precedes its first blank spells that digest, and something follows the blank
 pub record BeginsWithDigits (a : Algo) (s digest : ByteString) : Type 0 where

@@ -4,10 +4,6 @@ use Rattle.std.specs.Io.KnownBytes.{Appends}
 use Rattle.sum_lines.specs.sinks.Sinks.{ByteString, SinkState, IsPrefix, Accepts, FailsToFlush}
 use Rattle.sum_lines.specs.declared.sinks.told_sink.ToldSink.{ToldSink}
 
--- known bytes stay, and more may follow them
-abbrev pub Grows : Option ByteString → Option ByteString → Type 0
-Grows old new = (more : ByteString) × Appends old new more
-
 -- known bytes grow by a prefix of the text
 abbrev pub AppendsPrefix : Option ByteString → Option ByteString → ByteString → Type 0
 AppendsPrefix old new text = (prefix : ByteString) × IsPrefix prefix text × Appends old new prefix

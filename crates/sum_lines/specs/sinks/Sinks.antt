@@ -1,7 +1,7 @@
--- The state of a sink, and what writing and flushing do to it.
+-- The state of a sink, and what writing and flushing do to it. What a buffer over a sink buffers, and when it flushes.
 pub use Rattle.digest_kinds.specs.Basics.{ByteString}
 use Rattle.digest_kinds.specs.Limits.{one_more}
-use Rattle.std.specs.Prelude.{ℕ, ◌≡◌, ◌<◌, ◌≤◌, List, [], ◌∷◌, ◌++◌, length, take, ⊤, Option, Some, Result, Ok, Err, IfSome}
+use Rattle.std.specs.Prelude.{ℕ, ◌≡◌, ◌<◌, ◌≤◌, ◌==◌, List, [], ◌∷◌, ◌++◌, length, take, if◌then◌else◌, ⊤, Option, Some, Result, Ok, Err, IfSome}
 use Rattle.std.specs.Io.KnownBytes.{append_known}
 pub use Rattle.std.specs.Io.KnownBytes.{Appends}
 
@@ -77,3 +77,24 @@ IsInOnePiece text (piece ∷ rests) = (0 < length text) × (piece ≡ text) × A
 -- a sink was offered a text in one piece, and again only what was left of it
 abbrev pub OffersWhole : Option (List ByteString) → Option (List ByteString) → ByteString → Type 0
 OffersWhole old new text = (pieces : List ByteString) × Offers old new pieces × IsInOnePiece text pieces
+
+-- ---- a buffer over a sink
+
+-- a buffer: the sink below it, and what is buffered
+pub record BufferedValue (S : Type 0) : Type 0 where
+  pub sink : S
+  pub buffered : ByteString
+
+-- the state of a buffer: it buffers what the sink below does, and its own after that
+abbrev pub buffer_state : {S : Type 0} → (S → SinkState) → BufferedValue S → SinkState
+buffer_state state b = let a = state b.sink in
+    record { written = a.written; buffered = a.buffered ++ b.buffered; failures = a.failures }
+
+-- what stays buffered: all, if there is room for more, and nothing, if that is 8,192 bytes
+abbrev pub kept_unless_full : ByteString → ByteString
+kept_unless_full buffered = if length buffered == 8192 then [] else buffered
+
+-- what is written before a piece is accepted: all that isn't kept, or nothing if the piece is empty
+abbrev pub flushed_before_write : ByteString → ByteString → ByteString
+flushed_before_write buffered [] = []
+flushed_before_write buffered (b ∷ bs) = if length buffered == 8192 then buffered else []

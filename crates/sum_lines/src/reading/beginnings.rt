@@ -3,8 +3,7 @@
 ghost use Rattle.std.specs.Prelude.{◌≡◌, IfNone, IfSome, None};
 ghost use Rattle.sum_lines.specs.grammar.Shapes.{ByteString};
 ghost use Rattle.sum_lines.specs.grammar.LineParts.{plain_parts, tag_in, tagged_parts};
-ghost use Rattle.sum_lines.specs.refinement.Beginnings.{BeginsWithDigits, IsReadAs, EndsAt, EndsDigits};
-ghost use Rattle.sum_lines.specs.refinement.LinePartRanges.{IsFront};
+ghost use Rattle.sum_lines.specs.refinement.Beginnings.{BeginsWithDigits, IsReadAs, EndsAt, EndsDigits, IsFront};
 
 use crate::reading::line_parts::{Front, is_blank, text_after};
 use digest_kinds::{Algo, Algos, Kind};
@@ -29,8 +28,8 @@ pub(crate) enum Beginning {
 #[tactic(auto, using(crate::proofs::BeginningLemmas::no_tag), unfolding(crate::specs::grammar::LineParts::plain_parts))]
 pub(crate) fn find_beginning(algos: Algos, line: &[u8], front: Front) -> Option<Beginning>
     requires { IsFront line.now front }
-    ensures tagged { IfNone result (None ≡ tagged_parts algos line.now) }
-    ensures plain { IfNone result (None ≡ plain_parts algos line.now) }
+    ensures not_tagged { IfNone result (None ≡ tagged_parts algos line.now) }
+    ensures not_plain { IfNone result (None ≡ plain_parts algos line.now) }
     ensures read_as { IfSome result (IsReadAs algos line.now) }
 {
     let text = text_after(line, front);
@@ -61,8 +60,8 @@ fn tag_in(algos: Algos, text: &[u8]) -> Option<Algo>
 // The place of the blank after the digits, if something follows the blank. `None` only if no plain line has such a
 // text. The digits themselves aren't looked at.
 fn digits_end(algo: Algo, text: &[u8]) -> Option<usize>
-    ensures none { IfNone result ((d : ByteString) → ¬ BeginsWithDigits algo text.now d) }
-    ensures some { IfSome result (EndsDigits algo text.now) }
+    ensures not_plain { IfNone result ((d : ByteString) → ¬ BeginsWithDigits algo text.now d) }
+    ensures end { IfSome result (EndsDigits algo text.now) }
 {
     let at = digits_len(algo, text)?;
     match text.get(at) {
@@ -74,8 +73,8 @@ fn digits_end(algo: Algo, text: &[u8]) -> Option<usize>
 // How many digits the text has if it is that of a plain line. `None` only if no plain line has such a text.
 #[tactic(auto, using(crate::proofs::BeginningLemmas::search_none, crate::proofs::BeginningLemmas::search_some))]
 fn digits_len(algo: Algo, text: &[u8]) -> Option<usize>
-    ensures none { IfNone result ((d : ByteString) → ¬ BeginsWithDigits algo text.now d) }
-    ensures some { IfSome result (EndsAt algo text.now) }
+    ensures not_plain { IfNone result ((d : ByteString) → ¬ BeginsWithDigits algo text.now d) }
+    ensures end { IfSome result (EndsAt algo text.now) }
 {
     match algo {
         Algo::Blake2b => memchr2(b' ', b'\t', &text[..text.len().min(MOST_DIGITS + 1)]),

@@ -7,7 +7,7 @@ ghost use Rattle.std.specs.Path.{rsplit_once};
 ghost use Rattle.sum_lines.specs.grammar.LineParts.{strip_prefix, mark_and_rest};
 ghost use Rattle.digest_kinds.specs.Basics.{after_while};
 ghost use Rattle.sum_lines.specs.grammar.Shapes.{is_blank};
-ghost use Rattle.sum_lines.specs.refinement.LinePartRanges.{IsFront};
+ghost use Rattle.sum_lines.specs.refinement.Beginnings.{IsFront};
 
 use digest_kinds::{Digest, Kind};
 use memchr::memrchr;

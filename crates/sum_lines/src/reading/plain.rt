@@ -6,18 +6,17 @@ ghost use Rattle.digest_kinds.specs.Kinds.{has_len};
 ghost use Rattle.sum_lines.specs.grammar.Shapes.{is_blank};
 ghost use Rattle.sum_lines.specs.grammar.LineParts.{mark_and_rest, plain_parts};
 ghost use Rattle.digest_kinds.specs.Basics.{after_while};
-ghost use Rattle.sum_lines.specs.refinement.Beginnings.{EndsDigits};
-ghost use Rattle.sum_lines.specs.refinement.LinePartRanges.{IsFront, line_parts};
+ghost use Rattle.sum_lines.specs.refinement.Beginnings.{EndsDigits, IsFront, line_parts};
 
 use crate::reading::line_parts::{Front, LineParts, text_after};
 use digest_kinds::{Algo, Algos, Digest, Kind};
 
 /// Reads a plain line of that algorithm. In its text, the blank after the digits is at the place `at`. `None` if the
 /// line isn't plain.
-#[tactic(auto, using(crate::proofs::BeginningLemmas::kind_none, crate::proofs::BeginningLemmas::digits_none, crate::proofs::PlainLemmas::uncut))]
+#[tactic(auto, using(crate::proofs::BeginningLemmas::not_plain))]
 pub(crate) fn plain(algo: Algo, line: &[u8], front: Front, at: usize) -> Option<LineParts>
     requires front { IsFront line.now front }
-    requires ends { EndsDigits algo (mark_and_rest (after_while is_blank line.now)).1 at }
+    requires end { EndsDigits algo (mark_and_rest (after_while is_blank line.now)).1 at }
     ensures parts { option_map (line_parts line.now) result ≡ plain_parts (Algos.One algo) line.now }
     ensures range { IfSome result (λ p. (p.start ≤ p.stop) × (p.stop ≤ length line.now)) }
     ensures size { IfSome result (λ p. length p.digest ≡ p.kind.len) }

@@ -8,8 +8,7 @@ ghost use Rattle.sum_lines.specs.grammar.LineLaws.{FitsGrammar};
 ghost use Rattle.sum_lines.specs.grammar.ParsedLines.{bad, entry, entry_of, entry_of_parts, parse_line, unescape};
 ghost use Rattle.sum_lines.specs.grammar.ParsedLines.{with_raw, IsWithin, parsed_line_of};
 ghost use Rattle.sum_lines.specs.Escape.{present};
-ghost use Rattle.sum_lines.specs.refinement.Beginnings.{IsReadAs};
-ghost use Rattle.sum_lines.specs.refinement.LinePartRanges.{IsFront, line_parts};
+ghost use Rattle.sum_lines.specs.refinement.Beginnings.{IsReadAs, IsFront, line_parts};
 
 use crate::escape::unescape_in;
 use crate::reading::beginnings::{Beginning, find_beginning};

@@ -5,7 +5,7 @@ ghost use Rattle.std.specs.Option.{option_copied, option_map, option_or};
 ghost use Rattle.digest_kinds.specs.Basics.{after_while};
 ghost use Rattle.sum_lines.specs.grammar.Shapes.{is_blank};
 ghost use Rattle.sum_lines.specs.grammar.LineParts.{mark_and_rest, strip_prefix, tag_in, tagged_parts};
-ghost use Rattle.sum_lines.specs.refinement.LinePartRanges.{IsFront, line_parts};
+ghost use Rattle.sum_lines.specs.refinement.Beginnings.{IsFront, line_parts};
 
 use crate::reading::line_parts::{
     Front, LineParts, past_text, skip_blanks, split_at_last, text_after,
@@ -13,7 +13,7 @@ use crate::reading::line_parts::{
 use digest_kinds::{Algo, Algos, Digest, Kind};
 
 /// Reads a line whose text begins with that algorithm's tag. `None` if the line isn't tagged.
-#[tactic(auto, using(crate::proofs::ScanLemmas::decoded_size), unfolding(crate::specs::grammar::LineParts::tagged_parts))]
+#[tactic(auto, using(crate::proofs::ScanLemmas::two_digits), unfolding(crate::specs::grammar::LineParts::tagged_parts))]
 pub(crate) fn tagged(algo: Algo, line: &[u8], front: Front) -> Option<LineParts>
     requires front { IsFront line.now front }
     requires tag { tag_in (Algos.One algo) (mark_and_rest (after_while is_blank line.now)).1 ≡ Some algo }

@@ -1,5 +1,6 @@
 //! A buffer over a sink.
-ghost use Rattle.std.specs.Prelude.{◌≡◌, ◌≤◌, ◌-◌, ◌+◌, ◌++◌, [], length, min, take, Ok, IfOk, OnOk};
+ghost use Rattle.std.specs.Prelude.{◌≡◌, ◌≤◌, ◌-◌, ◌+◌, ◌++◌, ◌==◌, [], if◌then◌else◌};
+ghost use Rattle.std.specs.Prelude.{length, min, take, Ok, IfOk, OnOk};
 ghost use Rattle.sum_lines.specs.sinks.Sinks.{WritesSome, Flushes, OffersWhole};
 
 use crate::sinks::sink::{Sink, SinkFault, put_all};
@@ -20,7 +21,7 @@ pub struct Buffered<S> {
 
 impl<S> Model for Buffered<S> {
     ghost use Rattle.std.specs.Prelude.{◌≤◌, take};
-    ghost use Rattle.sum_lines.specs.sinks.Buffers.{BufferedValue};
+    ghost use Rattle.sum_lines.specs.sinks.Sinks.{BufferedValue};
     ghost use Rattle.sum_lines.specs.declared.sinks.buffered.TheConstants.{CAPACITY};
 
     ghost Value = { BufferedValue S };
@@ -58,7 +59,7 @@ impl<S> Buffered<S> {
 }
 
 impl<S: Sink> Buffered<S> {
-    ghost use Rattle.sum_lines.specs.sinks.Buffers.{buffer_state, flushed_if_full, kept_unless_full};
+    ghost use Rattle.sum_lines.specs.sinks.Sinks.{buffer_state, kept_unless_full};
     ghost use Rattle.sum_lines.specs.refinement.SinkStates.{FlushesBuffer};
 
     // Writes what is buffered to the sink below.
@@ -78,7 +79,7 @@ impl<S: Sink> Buffered<S> {
         ensures bytes { FlushesBuffer (buffer_state S.state self.old) (buffer_state S.state self.new) result }
         ensures buffered { OnOk result (self.new.buffered ≡ kept_unless_full self.old.buffered) }
         ensures offers { OffersWhole (S.offered self.old.sink) (S.offered self.new.sink)
-            (flushed_if_full self.old.buffered) }
+            (if length self.old.buffered == 8192 then self.old.buffered else []) }
     {
         if self.len < CAPACITY {
             return Ok(());
@@ -88,7 +89,7 @@ impl<S: Sink> Buffered<S> {
 }
 
 impl<S: Sink> Sink for Buffered<S> {
-    ghost use Rattle.sum_lines.specs.sinks.Buffers.{buffer_state, kept_unless_full, flushed_before_write};
+    ghost use Rattle.sum_lines.specs.sinks.Sinks.{buffer_state, kept_unless_full, flushed_before_write};
 
     ghost state = { buffer_state S.state };
 

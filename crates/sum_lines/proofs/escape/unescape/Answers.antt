@@ -1,10 +1,9 @@
-use Rattle.std.proofs.Common.{rules}
 use Rattle.std.proofs.lemmas.List.{take_rest}
 use Rattle.sum_lines.proofs.UnescapeLemmas.{IsHalfUnescaped-refused}
 use Rattle.sum_lines.proofs.escape.unescape.Goals as goal
 
 -- no escape begins what is left: the bytes are none
-pub returns-in_err-byte-clause-none : goal.returns-in_err-byte-clause-none
-returns-in_err-byte-clause-none c =
-    let none = rw (take_rest c.loop-read.bytes c.loop-read.read) at c.in_err-byte.ensures.none in
+pub returns-in_err-byte-clause-no_name : goal.returns-in_err-byte-clause-no_name
+returns-in_err-byte-clause-no_name c =
+    let none = rw (take_rest c.loop-read.bytes c.loop-read.read) at c.in_err-byte.ensures.no_escape in
     rw c.from_residual.ensures (IsHalfUnescaped-refused c.loop-read.invariant c.loop-read-test.true none)

@@ -1,6 +1,5 @@
-use Rattle.std.proofs.Common.{refl, sym}
-use Rattle.sum_lines.proofs.BeginningLemmas.{by_tag, no_tag}
-use Rattle.sum_lines.proofs.PlainLemmas.{uncut}
+use Rattle.std.proofs.Common.{sym}
+use Rattle.sum_lines.proofs.BeginningLemmas.{by_tag}
 use Rattle.sum_lines.proofs.reading.beginnings.find_beginning.Goals as goal
 
 -- a tag begins the text

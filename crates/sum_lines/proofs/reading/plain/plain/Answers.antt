@@ -14,7 +14,7 @@ returns-clause-parts c =
     let ends = front-ends c.requires.front text in
     let tail = ends-after (take n s) (drop n s) ends (sym (take-append-drop n s)) in
     rw (take_rest s n, tail-place tail, c.requires.front.mark, text)
-    (plain_read _ _ c.in_ok-kind.kind c.requires.ends (rw text at c.in_ok-digest.ensures.value) c.in_ok-kind.ensures)
+    (plain_read _ _ c.in_ok-kind.kind c.requires.end (rw text at c.in_ok-digest.ensures.value) c.in_ok-kind.ensures)
 
 -- the digest is as long as the kind says
 pub returns-clause-size : goal.returns-clause-size

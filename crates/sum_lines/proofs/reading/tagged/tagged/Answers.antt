@@ -1,6 +1,6 @@
 use Rattle.std.proofs.Common.{sym, arith, length, ◌∙◌}
 use Rattle.std.proofs.lemmas.Bool.{eqb-false}
-use Rattle.sum_lines.proofs.ScanLemmas.{decoded_size, digest_none, digest_other, front-ends, name_place, tagged-none, tagged-read}
+use Rattle.sum_lines.proofs.ScanLemmas.{two_digits, digest_none, digest_other, front-ends, name_place, tagged-none, tagged-read}
 use Rattle.sum_lines.proofs.BeginningLemmas.{tag-begins}
 use Rattle.sum_lines.proofs.reading.tagged.tagged.Goals as goal
 
@@ -45,7 +45,7 @@ returns-clause-parts c =
     let ends = front-ends c.requires.front c.text_after-text.ensures in
     let place = name_place _ _ ends c.in-Some.ensures c.in_ok-inner.ensures c.in_ok-raw.ensures in
     let few = rw c.len.ensures.value at c.if-digits-len.false in
-    let size = decoded_size _ c.in_ok-digest.digest c.in_ok-digest.ensures.value in
+    let size = two_digits _ c.in_ok-digest.digest c.in_ok-digest.ensures.value in
     let sign = rw c.skip_blanks.ensures at c.in_ok-past_text.ensures in
     let spelled = rw c.skip_blanks-digits.ensures at c.in_ok-digest.ensures.value in
     let some = eqb-false (length c.in_ok-raw.raw.now) 0 (sym c.is_empty.ensures ∙ c.if-is_empty.false) in
