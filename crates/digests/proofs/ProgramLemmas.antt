@@ -3,9 +3,8 @@ use Rattle.std.proofs.Common.{rules, arith, ◌≡◌, ℕ, List, [], Option, No
 use Rattle.sum_sources.specs.Sources.{SourceState}
 use Rattle.sum_engine.proofs.WorldLemmas.{InSomeWorld-map}
 use Rattle.sum_words.specs.Texts.{Stop}
-use Rattle.sum_engine.specs.Behavior.{World, Event, Behavior, trace, single_step}
+use Rattle.sum_engine.specs.Behavior.{World, Event, Behavior, trace, single_step, ByteString}
 use Rattle.sum_engine.specs.Execution.{OutputsState, StreamsState, WorldState, IsFlushed, FailuresMatch, Happened, Performs}
-use Rattle.sum_words.specs.Items.{ByteString}
 use Rattle.sum_words.specs.CommandLines.{CommandLineValue}
 use Rattle.digests.specs.Meaning.{status_of}
 use Rattle.digests.specs.Program.{CallPerforms, call_behavior, call_stop_line}

@@ -6,19 +6,17 @@ use Rattle.std.proofs.lemmas.List.Concat.{flat_map-append}
 use Rattle.std.proofs.lemmas.List.Folds.{flat_map-map}
 use Rattle.std.proofs.lemmas.List.Elements.{All-nil, All-cons, All-head, All-tail, All-append, All-map}
 use Rattle.digest_kinds.specs.Kinds.{digest}
-use Rattle.sum_engine.specs.check.Verdicts.{Algos}
 use Rattle.sum_engine.specs.declared.check.judge.Verdict.TheVariants.{Right}
 use Rattle.sum_engine.specs.check.Reports.{out_by}
 use Rattle.sum_lines.specs.Escape.{present}
-use Rattle.sum_engine.specs.Behavior.{World, answer_to, after, digest_or_fault, out_text, asks}
+use Rattle.sum_engine.specs.Behavior.{World, answer_to, after, digest_or_fault, out_text, asks, ByteString}
 use Rattle.sum_sources.specs.Sources.{Answer}
 use Rattle.sum_engine.specs.declared.settings.Settings.{Settings}
 use Rattle.sum_engine.specs.Generation.{generate_behavior}
 use Rattle.sum_engine.proofs.ListedEntryLemmas.{Item, written_text, Listed}
 use Rattle.sum_engine.proofs.GoodLemmas.{manifest_good}
 use Rattle.sum_engine.proofs.WorldLemmas.{after-steady}
-use Rattle.sum_words.specs.Tools.{name_of}
-use Rattle.sum_words.specs.Items.{ByteString}
+use Rattle.sum_words.specs.Tools.{name_of, Algos}
 use Rattle.digests.specs.Meaning.{operands_behavior}
 use Rattle.digests.proofs.CheckWords.{request-check_words}
 use Rattle.digests.specs.GenerationRuns.{IsListable, GenerationRun, generation_output, IsCheckable, HasFiles, WrittenIsGood, JoinedIsGood}
