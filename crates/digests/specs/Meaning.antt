@@ -8,8 +8,7 @@ use Rattle.sum_words.specs.declared.tool.Tool.{Tool}
 use Rattle.sum_words.specs.declared.parsing.request.Request.{Request}
 use Rattle.sum_words.specs.declared.parsing.request.Request.TheVariants.{Generate, Check, Help, Version}
 use Rattle.sum_words.specs.Tools.{name_of}
-use Rattle.sum_words.specs.WordFaults.{WordFaultValue}
-use Rattle.sum_words.specs.Request.{request}
+use Rattle.sum_words.specs.Request.{request, WordFaultValue}
 use Rattle.sum_words.specs.Texts.{fault_lines, help, version}
 
 -- the behavior of all operands, each in the world that the earlier ones leave

@@ -6,8 +6,7 @@ use Rattle.std.specs.Option.{option_transpose, option_map_or}
 use Rattle.std.specs.Result.{result_map_both}
 use Rattle.std.specs.Str.{all_ascii_digits}
 use Rattle.std.specs.Str.Parse.{digits_value}
-use Rattle.sum_words.specs.Tools.{Algos, Tool, algos_of}
-use Rattle.digest_kinds.specs.declared.algo.Algos.TheVariants.{One, Any}
+use Rattle.sum_words.specs.Tools.{Algos, Tool, algos_of, One, Any}
 use Rattle.digest_kinds.specs.declared.kind.LengthFault.{LengthFault}
 use Rattle.digest_kinds.specs.declared.kind.LengthFault.TheVariants.{TooLong, NotBytes}
 use Rattle.digest_kinds.specs.Kinds.{KindValue, full_kind, blake2b_of_bits}
@@ -18,7 +17,7 @@ use Rattle.sum_words.specs.Items.{Flag, ByteString, ItemValue, option, fault, a_
 use Rattle.sum_words.specs.contracts.parsing.options.Flag.{the_type}
 pub use Rattle.sum_words.specs.declared.parsing.request.Request.{Request}
 pub use Rattle.sum_words.specs.declared.parsing.request.Request.TheVariants.{Generate, Check, Help, Version}
-use Rattle.sum_words.specs.WordFaults.{WordFaultValue, length_invalid, length_not_bytes, tag_with_text, check_needed, zero_with_check, tag_with_check, mode_with_check, without_check}
+pub use Rattle.sum_words.specs.WordFaults.{WordFaultValue, length_invalid, length_not_bytes, tag_with_text, check_needed, zero_with_check, tag_with_check, mode_with_check, without_check}
 use Rattle.sum_lines.specs.declared.writing.put_line.Mode.TheVariants as modes
 use Rattle.sum_engine.specs.declared.settings.Report.TheVariants as reports
 use Rattle.sum_words.specs.declared.parsing.options.Flag.TheVariants as flags

@@ -1,8 +1,8 @@
 -- What may be wrong with the words of a command line, and how it is said.
 use Rattle.std.specs.Prelude.{ℕ, ◌++◌, codes, encode_utf8}
 use Rattle.sum_lines.specs.Escape.{escape, ByteString}
-use Rattle.sum_words.specs.declared.parsing.options.Spelling.{Spelling}
-use Rattle.sum_words.specs.declared.parsing.options.Spelling.TheVariants.{Long, Short}
+pub use Rattle.sum_words.specs.declared.parsing.options.Spelling.{Spelling}
+pub use Rattle.sum_words.specs.declared.parsing.options.Spelling.TheVariants.{Long, Short}
 
 -- a fault, with what its text shows: an option's name (typed or full), how it was written, a character, a value, a word
 pub data WordFaultValue : Type 0 where
