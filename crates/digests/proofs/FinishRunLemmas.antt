@@ -1,8 +1,7 @@
 -- The end of a program: a run that answered, both outputs flushed once more, and the line for a stop.
 use Rattle.std.proofs.Common.{rules, ◌≡◌, [], ◌∷◌, ◌++◌, Option, refl}
 use Rattle.std.specs.Io.KnownBytes.{Keeps, Appends}
-use Rattle.sum_lines.specs.sinks.Sinks.{SinkState, FailsToFlush}
-use Rattle.sum_words.specs.Items.{ByteString}
+use Rattle.sum_lines.specs.sinks.Sinks.{SinkState, FailsToFlush, ByteString}
 
 -- nothing has no prefix but nothing
 no_prefix : (prefix rest : ByteString) → [] ≡ prefix ++ rest → prefix ≡ []

@@ -2,13 +2,12 @@
 use Rattle.std.proofs.Common.{rules, ℕ, Bool, [], Result, refl}
 use Rattle.sum_sources.specs.Sources.{SourceState}
 use Rattle.sum_engine.specs.declared.stop.Stop.{Stop}
-use Rattle.sum_engine.specs.Behavior.{single_step}
+use Rattle.sum_engine.specs.Behavior.{single_step, ByteString}
 use Rattle.sum_engine.specs.Execution.{OutputsState, StreamsState, Performs, FailuresMatch}
 use Rattle.sum_engine.specs.refinement.FlushedWrites.{WritesAndFlushesBoth, WritesAndReturns, outcome_after}
 use Rattle.sum_engine.proofs.ExecutionLemmas.{asks_none}
 use Rattle.sum_engine.proofs.WorldLemmas.{InSomeWorld-none, asked_none}
 use Rattle.sum_engine.proofs.BehaviorLemmas.{Performs-step}
-use Rattle.sum_words.specs.Items.{ByteString}
 use Rattle.digests.specs.Meaning.{status_of}
 
 -- texts alone were written, or a prefix of them

@@ -4,11 +4,10 @@ use Rattle.std.proofs.Math.Bool.{and_assoc, and-true}
 use Rattle.sum_sources.specs.Sources.{SourceState}
 use Rattle.sum_engine.proofs.WorldLemmas.{InSomeWorld-map, InSomeWorld-then}
 use Rattle.sum_engine.specs.declared.stop.Stop.{Stop}
-use Rattle.sum_engine.specs.Behavior.{World, after, Behavior, behavior_then, trace, asks}
+use Rattle.sum_engine.specs.Behavior.{World, after, Behavior, behavior_then, trace, asks, ByteString}
 use Rattle.sum_engine.specs.Execution.{StreamsState, WorldState, IsFlushed, InSomeWorld, in_world, Happened, Performs, PerformsSteps}
 use Rattle.sum_engine.proofs.ExecutionLemmas.{Happened-none}
 use Rattle.sum_engine.proofs.BehaviorLemmas.{behavior_then-happened, behavior_then-first, behavior_then-second, events_extend}
-use Rattle.sum_words.specs.Items.{ByteString}
 use Rattle.sum_words.specs.declared.tool.Tool.{Tool}
 use Rattle.sum_words.specs.Tools.{name_of}
 use Rattle.sum_words.specs.refinement.ItemIterator.{TakesFirst}

@@ -1,29 +1,25 @@
 -- What generation writes is good under checking.
-use Rattle.std.proofs.Common.{rules, ◌≡◌, ℕ, ◌<◌, false, List, [], ◌∷◌, length, map, refl, ap, sym, ◌∙◌, append-nil, Ok, flat_map, All, Contains, Err}
+use Rattle.std.proofs.Common.{rules, ◌≡◌, ℕ, false, List, [], ◌∷◌, length, map, refl, ap, sym, ◌∙◌, append-nil, map-id, Ok, flat_map, All, Err}
 use Rattle.std.proofs.lemmas.List.{length-map, map-append}
+use Rattle.std.proofs.lemmas.Simd.{map-map}
 use Rattle.std.proofs.lemmas.List.Concat.{flat_map-append}
 use Rattle.std.proofs.lemmas.List.Folds.{flat_map-map}
 use Rattle.std.proofs.lemmas.List.Elements.{All-nil, All-cons, All-head, All-tail, All-append, All-map}
 use Rattle.digest_kinds.specs.Kinds.{digest}
-use Rattle.sum_engine.specs.check.Verdicts.{Algos}
 use Rattle.sum_engine.specs.declared.check.judge.Verdict.TheVariants.{Right}
 use Rattle.sum_engine.specs.check.Reports.{out_by}
 use Rattle.sum_lines.specs.Escape.{present}
-use Rattle.sum_engine.specs.Behavior.{Whole, World, answer_to, after, digest_or_fault, out_text, asks}
-use Rattle.sum_sources.specs.Contents.{limit}
+use Rattle.sum_engine.specs.Behavior.{World, answer_to, after, digest_or_fault, out_text, asks, ByteString}
 use Rattle.sum_sources.specs.Sources.{Answer}
 use Rattle.sum_engine.specs.declared.settings.Settings.{Settings}
-use Rattle.sum_engine.specs.declared.settings.CheckSettings.{CheckSettings}
 use Rattle.sum_engine.specs.Generation.{generate_behavior}
 use Rattle.sum_engine.proofs.ListedEntryLemmas.{Item, written_text, Listed}
 use Rattle.sum_engine.proofs.GoodLemmas.{manifest_good}
 use Rattle.sum_engine.proofs.WorldLemmas.{after-steady}
-use Rattle.sum_words.specs.declared.tool.Tool.{Tool}
-use Rattle.sum_words.specs.Tools.{name_of, algos_of}
-use Rattle.sum_words.specs.Items.{ByteString}
-use Rattle.digests.specs.Meaning.{operands_behavior, meaning}
+use Rattle.sum_words.specs.Tools.{name_of, Algos}
+use Rattle.digests.specs.Meaning.{operands_behavior}
 use Rattle.digests.proofs.CheckWords.{request-check_words}
-use Rattle.digests.specs.GenerationRuns.{IsListable, GenerationRun, generation_output, IsCheckable, HasFiles, ReportsAllOk, check_words, WrittenIsGood, JoinedIsGood}
+use Rattle.digests.specs.GenerationRuns.{IsListable, GenerationRun, generation_output, IsCheckable, HasFiles, WrittenIsGood, JoinedIsGood}
 
 -- ---- the lines of a run
 
@@ -87,15 +83,10 @@ module _ (algos : Algos) (files later : ByteString → Answer) where
       rw (flat_map-append, ← lines-are g.settings g.tool g.names w has c.newlines c.listable, others) refl
 
 -- and these are for all of their names
-names-are : (files : ByteString → Answer) (s : Settings) (names : List ByteString)
-    → map (λ i. i.name) (map (item files s) names) ≡ names
-names-are files s [] = refl
-names-are files s (name ∷ names) = ap (λ l. name ∷ l) (names-are files s names)
-
 runs-names : (files : ByteString → Answer) (gs : List GenerationRun)
     → map (λ i. i.name) (flat_map (items files) gs) ≡ flat_map (λ g. g.names) gs
 runs-names files [] = refl
-runs-names files (g ∷ gs) = rw (map-append, names-are files g.settings g.names, runs-names files gs) refl
+runs-names files (g ∷ gs) = rw (map-append, map-map, map-id, runs-names files gs) refl
 
 -- ---- the laws
 

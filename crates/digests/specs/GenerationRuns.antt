@@ -1,7 +1,6 @@
 -- What generation wrote is good: a later check of it reports OK for each file, if the files stay as they were.
 use Rattle.std.specs.Prelude.{◌≡◌, ◌<◌, false, List, [], ◌∷◌, ◌++◌, IsTrue, length, map, flat_map, codes, if◌then◌else◌, All, Ok, option_to_list}
 use Rattle.digest_kinds.specs.Kinds.{has_len}
-use Rattle.sum_engine.specs.check.Verdicts.{Algos}
 use Rattle.sum_engine.specs.declared.check.judge.Verdict.TheVariants.{Right}
 use Rattle.sum_engine.specs.check.Reports.{out_by}
 use Rattle.sum_lines.specs.Escape.{present}
@@ -14,7 +13,7 @@ use Rattle.sum_engine.specs.declared.settings.CheckSettings.{CheckSettings}
 use Rattle.sum_engine.specs.Generation.{generate_behavior}
 use Rattle.sum_words.specs.declared.parsing.options.Flag.{Flag}
 use Rattle.sum_words.specs.declared.tool.Tool.{Tool}
-use Rattle.sum_words.specs.Tools.{algos_of}
+use Rattle.sum_words.specs.Tools.{algos_of, Algos}
 use Rattle.sum_words.specs.Items.{ByteString, full_name}
 use Rattle.sum_words.specs.Request.{Report, report_flag}
 use Rattle.digests.specs.Meaning.{operands_behavior, meaning, status_of}

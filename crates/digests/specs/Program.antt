@@ -3,9 +3,8 @@ use Rattle.std.specs.Prelude.{ℕ, ◌≡◌, ◌⊎◌, false, List, [], Option
 use Rattle.sum_sources.specs.Sources.{SourceState}
 use Rattle.sum_lines.specs.sinks.Sinks.{SinkState, IsPrefix, Appends}
 use Rattle.digest_kinds.specs.Limits.{one_more}
-use Rattle.sum_engine.specs.Behavior.{World, Behavior, single_step}
+use Rattle.sum_engine.specs.Behavior.{World, Behavior, single_step, ByteString}
 use Rattle.sum_engine.specs.Execution.{OutputsState, StreamsState, IsFlushed, FailuresMatch, Performs}
-use Rattle.sum_words.specs.Items.{ByteString}
 use Rattle.sum_words.specs.CommandLines.{CommandLineValue, unknown_tool, invoke, command_line, NeedsMemory}
 use Rattle.sum_words.specs.Texts.{Stop, stop_line, unknown_tool_line, not_read_line}
 use Rattle.digests.specs.Meaning.{meaning, status_of}

@@ -7,10 +7,10 @@ use lib.Utf8.{encode}
 use Rattle.sum_lines.specs.grammar.Shapes.{Algo, One, Any}
 use Rattle.digest_kinds.specs.declared.algo.Algo.TheVariants.{Md5, Sha256, Blake2b}
 use Rattle.sum_words.specs.Request.{Mode, Request, Generate, Check, Help, Version, request}
-use Rattle.sum_words.specs.Items.{Long, Short, ByteString, name_or_fault, option_of_letter}
+use Rattle.sum_words.specs.Items.{ByteString, name_or_fault, option_of_letter}
 use Rattle.sum_words.specs.Tools.{tool_called}
 use Rattle.sum_words.specs.declared.tool.Tool.TheVariants.{Md5sum, Sha256sum, B2sum, Anysum}
-use Rattle.sum_words.specs.WordFaults.{WordFaultValue, unknown_long, ambiguous_long, value_not_allowed, value_missing, unknown_short, length_invalid, length_not_bytes, tag_with_text, zero_with_check, tag_with_check, mode_with_check, ignore_without_check, status_without_check, warn_without_check, quiet_without_check, strict_without_check, check_needed, not_text}
+use Rattle.sum_words.specs.WordFaults.{WordFaultValue, unknown_long, ambiguous_long, value_not_allowed, value_missing, unknown_short, length_invalid, length_not_bytes, tag_with_text, zero_with_check, tag_with_check, mode_with_check, without_check, check_needed, not_text, Long, Short}
 use Rattle.sum_words.specs.CommandLines.{unknown_tool, invoke, command_line, NeedsMemory}
 use Rattle.sum_lines.specs.declared.writing.put_line.Mode.TheVariants as modes
 use Rattle.sum_engine.specs.declared.settings.Report.TheVariants as reports
@@ -51,9 +51,9 @@ lengths = (refl, refl, refl, refl, refl, refl, refl, refl, refl, refl, refl, ref
 -- options, abbreviated ones among them, and their faults
 options :
     (request Sha256sum (words "--st l") ≡ Err (ambiguous_long (codes "st")))
-    × (request Sha256sum (words "--str l") ≡ Err strict_without_check)
+    × (request Sha256sum (words "--str l") ≡ Err (without_check (codes "strict")))
     × (request Sha256sum (words "-cq l") ≡ Err (unknown_short 113))
-    × (request Md5sum (words "--status --quiet a") ≡ Err quiet_without_check)
+    × (request Md5sum (words "--status --quiet a") ≡ Err (without_check (codes "quiet")))
     × (request Md5sum (words "--foo --help") ≡ Err (unknown_long (codes "foo")))
     × (request Md5sum (words "--help --foo") ≡ Ok Help)
     × (request Md5sum (words "--tag=1 a") ≡ Err (value_not_allowed (codes "tag")))
@@ -76,9 +76,9 @@ order :
     × (request Md5sum (words "-c --tag -z l") ≡ Err zero_with_check)
     × (request Md5sum (words "-c --tag l") ≡ Err tag_with_check)
     × (request Md5sum (words "-c -b l") ≡ Err mode_with_check)
-    × (request Md5sum (words "--strict --ignore-missing a") ≡ Err ignore_without_check)
-    × (request Md5sum (words "--quiet -w --status a") ≡ Err status_without_check)
-    × (request Md5sum (words "--status -w a") ≡ Err warn_without_check)
+    × (request Md5sum (words "--strict --ignore-missing a") ≡ Err (without_check (codes "ignore-missing")))
+    × (request Md5sum (words "--quiet -w --status a") ≡ Err (without_check (codes "status")))
+    × (request Md5sum (words "--status -w a") ≡ Err (without_check (codes "warn")))
     × (request Md5sum (words "-c -t --tag -t l") ≡ Err tag_with_text)
 unfolding chars encode name_or_fault option_of_letter is_utf8
 order = (refl, refl, refl, refl, refl, refl, refl, refl, refl, refl)
@@ -88,7 +88,7 @@ checking :
     (request Anysum [] ≡ Err check_needed)
     × (request Anysum (words "m") ≡ Err check_needed)
     × (request Anysum (words "-b m") ≡ Err check_needed)
-    × (request Anysum (words "--quiet m") ≡ Err quiet_without_check)
+    × (request Anysum (words "--quiet m") ≡ Err (without_check (codes "quiet")))
     × (request Anysum (words "-z -c m") ≡ Err zero_with_check)
     × (request Anysum (words "-c -l 8 m") ≡ Err (unknown_short 108))
     × (request Anysum (words "-c --length=8 m") ≡ Err (unknown_long (codes "length")))

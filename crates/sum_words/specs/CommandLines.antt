@@ -1,9 +1,17 @@
 -- What a command line asks for. It is a list of arguments, and the first of them is the program's name.
-use Rattle.std.specs.Prelude.{◌<◌, ◌⊎◌, ◌==◌, List, Any, length, drop, slice_get, Option, is_some, if◌then◌else◌, option_and_then}
+use Rattle.std.specs.Prelude.{ℕ, ◌≡◌, ◌<◌, ◌⊎◌, ◌==◌, List, Any, length, take, drop, slice_get, Option, None, Some, is_some, IsSomeAnd, Result, Ok, Err, if◌then◌else◌, option_and_then, ⊤}
+use Rattle.std.specs.declared.env.FillError.{FillError}
+use Rattle.std.specs.declared.env.FillError.TheVariants.{NotPresent, TooLong}
 use Rattle.std.specs.List.{after_last}
 use Rattle.std.specs.Option.{option_map_or}
-use Rattle.sum_words.specs.Tools.{Tool, tool_called}
-use Rattle.sum_words.specs.Items.{ByteString}
+use Rattle.sum_words.specs.Tools.{ByteString, Tool, tool_called}
+
+-- one `fill`: the buffer starts with the argument at the place; there is none; or it is longer than the buffer
+abbrev pub Fills : Option (List ByteString) → ℕ → ByteString → Result ℕ FillError → Type 0
+Fills None place buffer r = ⊤
+Fills (Some all) place buffer (Ok n) = slice_get all place ≡ Some (take n buffer)
+Fills (Some all) place buffer (Err NotPresent) = slice_get all place ≡ None
+Fills (Some all) place buffer (Err TooLong) = IsSomeAnd (slice_get all place) (λ a. length buffer < length a)
 
 -- the last part of a path: what follows its last slash (47)
 abbrev pub last_part : ByteString → ByteString

@@ -7,9 +7,7 @@ use Rattle.std.specs.Str.{byte, is_utf8}
 pub use Rattle.digest_kinds.specs.Basics.{ByteString}
 use Rattle.sum_words.specs.declared.tool.Tool.{Tool}
 pub use Rattle.sum_words.specs.declared.parsing.options.Flag.{Flag}
-pub use Rattle.sum_words.specs.declared.parsing.options.Spelling.{Spelling}
-pub use Rattle.sum_words.specs.declared.parsing.options.Spelling.TheVariants.{Long, Short}
-use Rattle.sum_words.specs.WordFaults.{WordFaultValue, unknown_long, ambiguous_long, value_not_allowed, value_missing, unknown_short, not_text}
+use Rattle.sum_words.specs.WordFaults.{WordFaultValue, unknown_long, ambiguous_long, value_not_allowed, value_missing, unknown_short, not_text, Spelling, Long, Short}
 use Rattle.sum_words.specs.declared.tool.Tool.TheVariants as tools
 use Rattle.sum_words.specs.declared.parsing.options.Flag.TheVariants as flags
 

@@ -4,6 +4,5 @@ pub mod Items
 pub mod Request
 pub mod Texts
 pub mod CommandLines
-pub mod Arguments
 pub mod Words
 pub mod refinement

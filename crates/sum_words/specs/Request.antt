@@ -6,19 +6,18 @@ use Rattle.std.specs.Option.{option_transpose, option_map_or}
 use Rattle.std.specs.Result.{result_map_both}
 use Rattle.std.specs.Str.{all_ascii_digits}
 use Rattle.std.specs.Str.Parse.{digits_value}
-use Rattle.sum_words.specs.Tools.{Algos, Tool, algos_of}
-use Rattle.digest_kinds.specs.declared.algo.Algos.TheVariants.{One, Any}
+use Rattle.sum_words.specs.Tools.{Algos, Tool, algos_of, One, Any}
 use Rattle.digest_kinds.specs.declared.kind.LengthFault.{LengthFault}
 use Rattle.digest_kinds.specs.declared.kind.LengthFault.TheVariants.{TooLong, NotBytes}
 use Rattle.digest_kinds.specs.Kinds.{KindValue, full_kind, blake2b_of_bits}
 pub use Rattle.sum_lines.specs.declared.writing.put_line.Mode.{Mode}
 use Rattle.sum_lines.specs.declared.writing.put_line.Style.{Style}
 pub use Rattle.sum_engine.specs.declared.settings.Report.{Report}
-use Rattle.sum_words.specs.Items.{Flag, ByteString, ItemValue, option, fault, a_word, items_from, option_in, value_in, operand_in}
+use Rattle.sum_words.specs.Items.{Flag, ByteString, ItemValue, option, fault, a_word, items_from, option_in, value_in, operand_in, full_name}
 use Rattle.sum_words.specs.contracts.parsing.options.Flag.{the_type}
 pub use Rattle.sum_words.specs.declared.parsing.request.Request.{Request}
 pub use Rattle.sum_words.specs.declared.parsing.request.Request.TheVariants.{Generate, Check, Help, Version}
-use Rattle.sum_words.specs.WordFaults.{WordFaultValue, length_invalid, length_not_bytes, tag_with_text, check_needed, zero_with_check, tag_with_check, ignore_without_check, status_without_check, mode_with_check, warn_without_check, quiet_without_check, strict_without_check}
+pub use Rattle.sum_words.specs.WordFaults.{WordFaultValue, length_invalid, length_not_bytes, tag_with_text, check_needed, zero_with_check, tag_with_check, mode_with_check, without_check}
 use Rattle.sum_lines.specs.declared.writing.put_line.Mode.TheVariants as modes
 use Rattle.sum_engine.specs.declared.settings.Report.TheVariants as reports
 use Rattle.sum_words.specs.declared.parsing.options.Flag.TheVariants as flags
@@ -67,11 +66,11 @@ faults given = let check = has flags.Check given in
     ∷ (has flags.Zero given && check, zero_with_check)
     ∷ (has flags.Tag given && check, tag_with_check)
     ∷ ((has flags.Binary given || has flags.Text given) && check, mode_with_check)
-    ∷ (has flags.IgnoreMissing given && not check, ignore_without_check)
-    ∷ (is_last flags.Status report_flags given && not check, status_without_check)
-    ∷ (is_last flags.Warn report_flags given && not check, warn_without_check)
-    ∷ (is_last flags.Quiet report_flags given && not check, quiet_without_check)
-    ∷ (has flags.Strict given && not check, strict_without_check) ∷ []
+    ∷ (has flags.IgnoreMissing given && not check, without_check (full_name flags.IgnoreMissing))
+    ∷ (is_last flags.Status report_flags given && not check, without_check (full_name flags.Status))
+    ∷ (is_last flags.Warn report_flags given && not check, without_check (full_name flags.Warn))
+    ∷ (is_last flags.Quiet report_flags given && not check, without_check (full_name flags.Quiet))
+    ∷ (has flags.Strict given && not check, without_check (full_name flags.Strict)) ∷ []
 
 -- the mode of the lines that are written
 abbrev pub mode_of : List Flag → Mode

@@ -1,8 +1,7 @@
 -- The texts that need no file: faults of words, help and version, and the lines of the program itself.
 use Rattle.std.specs.Prelude.{[], ◌-◌, ◌++◌, codes, flat_map, if◌then◌else◌, length, replicate, bytes_eq}
 use Rattle.std.specs.Str.{byte}
-use Rattle.sum_words.specs.Tools.{Algos, Tool, name_of, algos_of}
-use Rattle.digest_kinds.specs.declared.algo.Algos.TheVariants.{One, Any}
+use Rattle.sum_words.specs.Tools.{Algos, Tool, name_of, algos_of, One, Any}
 use Rattle.digest_kinds.specs.Kinds.{tag}
 pub use Rattle.sum_engine.specs.declared.stop.Stop.{Stop}
 pub use Rattle.sum_engine.specs.declared.stop.Stop.TheVariants.{Memory, Write}

@@ -1,9 +1,9 @@
 -- The tools: the name and the algorithms of each.
 use Rattle.std.specs.Prelude.{[], ◌∷◌, Option, codes, find, bytes_eq}
-use Rattle.digest_kinds.specs.Basics.{ByteString}
+pub use Rattle.digest_kinds.specs.Basics.{ByteString}
 use Rattle.digest_kinds.specs.declared.algo.Algo.TheVariants.{Md5, Sha1, Sha224, Sha256, Sha384, Sha512, Blake2b}
 pub use Rattle.digest_kinds.specs.declared.algo.Algos.{Algos}
-use Rattle.digest_kinds.specs.declared.algo.Algos.TheVariants.{One, Any}
+pub use Rattle.digest_kinds.specs.declared.algo.Algos.TheVariants.{One, Any}
 pub use Rattle.sum_words.specs.declared.tool.Tool.{Tool}
 use Rattle.sum_words.specs.declared.tool.Tool.TheVariants as tools
 

@@ -1,18 +1,16 @@
 -- What may be wrong with the words of a command line, and how it is said.
 use Rattle.std.specs.Prelude.{ℕ, ◌++◌, codes, encode_utf8}
 use Rattle.sum_lines.specs.Escape.{escape, ByteString}
-use Rattle.sum_words.specs.declared.parsing.options.Spelling.{Spelling}
-use Rattle.sum_words.specs.declared.parsing.options.Spelling.TheVariants.{Long, Short}
+pub use Rattle.sum_words.specs.declared.parsing.options.Spelling.{Spelling}
+pub use Rattle.sum_words.specs.declared.parsing.options.Spelling.TheVariants.{Long, Short}
 
 -- a fault, with what its text shows: an option's name (typed or full), how it was written, a character, a value, a word
 pub data WordFaultValue : Type 0 where
-  unknown_long ambiguous_long value_not_allowed : ByteString → WordFaultValue
+  unknown_long ambiguous_long value_not_allowed without_check : ByteString → WordFaultValue
   value_missing : Spelling → WordFaultValue
   unknown_short : ℕ → WordFaultValue
   length_invalid length_not_bytes not_text : ByteString → WordFaultValue
-  tag_with_text zero_with_check tag_with_check mode_with_check : WordFaultValue
-  ignore_without_check status_without_check warn_without_check quiet_without_check : WordFaultValue
-  strict_without_check check_needed : WordFaultValue
+  tag_with_text zero_with_check tag_with_check mode_with_check check_needed : WordFaultValue
 
 -- the text of a fault, in which what was typed is escaped as names are
 abbrev pub wording : WordFaultValue → ByteString
@@ -28,10 +26,6 @@ wording tag_with_text = codes "--tag does not support --text mode"
 wording zero_with_check = codes "the --zero option is not supported when verifying checksums"
 wording tag_with_check = codes "the --tag option is meaningless when verifying checksums"
 wording mode_with_check = codes "the --binary and --text options are meaningless when verifying checksums"
-wording ignore_without_check = codes "the --ignore-missing option is meaningful only when verifying checksums"
-wording status_without_check = codes "the --status option is meaningful only when verifying checksums"
-wording warn_without_check = codes "the --warn option is meaningful only when verifying checksums"
-wording quiet_without_check = codes "the --quiet option is meaningful only when verifying checksums"
-wording strict_without_check = codes "the --strict option is meaningful only when verifying checksums"
+wording (without_check name) = codes "the --" ++ name ++ codes " option is meaningful only when verifying checksums"
 wording check_needed = codes "--check is required"
 wording (not_text word) = codes "unrecognized option '" ++ escape word ++ codes "'"

@@ -1,7 +1,7 @@
 //! The arguments of the process.
 ghost use Rattle.std.specs.Prelude.{◌≡◌, ◌≤◌, List, Option, None, IfOk, length, map};
 ghost use Rattle.digest_kinds.specs.Basics.{ByteString};
-ghost use Rattle.sum_words.specs.Arguments.{Fills};
+ghost use Rattle.sum_words.specs.CommandLines.{Fills};
 
 use std::env::FillError;
 use std::marker::Model;

@@ -1,12 +1,10 @@
 -- Relates what a run returned to the end of the program.
 use Rattle.std.specs.Prelude.{ℕ, ◌≡◌, [], Option, None, Some, Result, Ok, Err}
 use Rattle.std.specs.Io.KnownBytes.{Keeps}
-use Rattle.sum_engine.specs.declared.stop.Stop.{Stop}
-use Rattle.sum_engine.specs.declared.stop.Stop.TheVariants.{Memory, Write}
 use Rattle.sum_engine.specs.Execution.{OutputsState, IsFlushed, HasNoFailure, HasOneFailure}
 use Rattle.sum_engine.specs.refinement.FlushedWrites.{WritesAndReturns}
 use Rattle.sum_words.specs.Items.{ByteString}
-use Rattle.sum_words.specs.Texts.{stop_line}
+use Rattle.sum_words.specs.Texts.{Stop, Write, stop_line}
 use Rattle.sum_words.specs.declared.tool.Tool.{Tool}
 use Rattle.digests.specs.Program.{ReportsStop}
 
@@ -18,8 +16,7 @@ tool_stop_line (Some tool) stop = stop_line tool stop
 -- both outputs are flushed after a run: its outcome stays, or is a write fault if a flush failed
 abbrev pub FlushesBoth : OutputsState → OutputsState → Result ℕ Stop → Result ℕ Stop → Type 0
 FlushesBoth a b (Ok status) (Ok other) = (other ≡ status) × HasNoFailure a b
-FlushesBoth a b (Ok status) (Err Write) = HasOneFailure a b
-FlushesBoth a b (Ok status) (Err Memory) = ⊥
+FlushesBoth a b (Ok status) (Err stop) = (stop ≡ Write) × HasOneFailure a b
 FlushesBoth a b (Err stop) r = (r ≡ Err stop) × (b ≡ a)
 
 -- nothing more was written

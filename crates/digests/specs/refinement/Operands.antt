@@ -1,10 +1,9 @@
 -- Relates a job to what it does with an operand.
 use Rattle.std.specs.Prelude.{ℕ}
-use Rattle.sum_engine.specs.Behavior.{World, Behavior}
+use Rattle.sum_engine.specs.Behavior.{World, Behavior, ByteString}
 use Rattle.sum_engine.specs.Execution.{IsOneMore, IsOneMoreAtMost}
 use Rattle.sum_engine.specs.Generation.{generate_behavior}
 use Rattle.sum_engine.specs.check.Checking.{check_behavior}
-use Rattle.sum_words.specs.Items.{ByteString}
 use Rattle.digests.specs.declared.run.Job.{Job}
 use Rattle.digests.specs.declared.run.Job.TheVariants.{Generate, Check}
 

@@ -1,5 +1,5 @@
 -- Relates the scan of the options to the request: the values so far, and what they make of it.
-use Rattle.std.specs.Prelude.{ℕ, ◌≡◌, ◌≤◌, ◌^◌, ◌||◌, true, Bool, List, [], Option, None, Some, Result, Ok, Err, filter, option_map, option_copied, filter_map}
+use Rattle.std.specs.Prelude.{ℕ, ◌≡◌, ◌<◌, ◌^◌, ◌||◌, true, Bool, List, [], Option, None, Some, SomeIff, Result, Ok, Err, filter, option_map, option_copied, filter_map}
 use Rattle.std.specs.List.{last_or}
 use Rattle.std.specs.Str.Parse.{digits_value}
 use Rattle.sum_words.specs.Request.{report_flag, Mode, early_request, has, mode_flags, report_flags, is_number}
@@ -54,5 +54,4 @@ IsScanOf (Early r) xs = early_request xs ≡ Some (result_value r)
 
 -- a value's number, or `None` if it isn't one below 2^64
 abbrev pub IsNumberOf : ByteString → Option ℕ → Type 0
-IsNumberOf value None = is_number value ≡ true → 2 ^ 64 ≤ digits_value 10 value
-IsNumberOf value (Some n) = (is_number value ≡ true) × (n ≡ digits_value 10 value)
+IsNumberOf value r = let n = digits_value 10 value in SomeIff r ((is_number value ≡ true) × (n < 2 ^ 64)) n
