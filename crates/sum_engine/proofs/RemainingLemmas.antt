@@ -15,7 +15,8 @@ parse_line_now : (r : Rules) (a : CheckState) (l : List ℕ) (ls : List (List �
 parse_line_now r a l ls = search (rules, form_next, parse_stays)
 
 -- the first of those that remain
-pub remaining_head : (r : Rules) (a : CheckState) (l : List ℕ) (ls : List (List ℕ)) → lines_under r.profile a.remaining ≡ l ∷ ls
+pub remaining_head : (r : Rules) (a : CheckState) (l : List ℕ) (ls : List (List ℕ))
+    → lines_under r.profile a.remaining ≡ l ∷ ls
     → remaining_verdicts r a ≡ next_judged r a l ∷ verdicts r (form_then a.form (form r.algo (l ∷ ls)))
     (after a.world (asks_of (next_judged r a l))) (a.number + 1) ls
 remaining_head r a l ls h = rw (h, parse_line_now r a l ls) refl

@@ -15,8 +15,9 @@ pub fn events_extend()
     ensures { EventsExtend }
 {}
 
-/// What a line spells doesn't depend on later lines. Nor does its verdict after the same asks. Nor does the form, if the
-/// line is plain. None of them depends on the manifest's name, if both manifests or neither came from standard input.
+/// What a line spells doesn't depend on later lines. Nor does its verdict after the same asks. Nor does the form, if
+/// the line is plain. None of them depends on the manifest's name, if both manifests or neither came from standard
+/// input.
 pub fn same_front()
     ensures { SameFront }
 {}
@@ -30,8 +31,8 @@ pub fn end_stays()
 /// A manifest has the same verdicts under the older profile and the present one if it has no empty line and no carriage
 /// return. A carriage return counts in the manifest's own name, as a byte, and as the escape `\r` in a name after a
 /// leading backslash. Older versions of the tools escaped no carriage return in names, dropped none before a line's end
-/// and found empty lines improperly formatted. The verdicts are those after the same asks; the reports and the summary are the same, too, and the
-/// manifest is good under both or under neither.
+/// and found empty lines improperly formatted. The verdicts are those after the same asks; the reports and the summary
+/// are the same, too, and the manifest is good under both or under neither.
 pub fn old_verdicts()
     ensures verdicts { OldVerdicts }
     ensures outcomes { OldOutcomes }

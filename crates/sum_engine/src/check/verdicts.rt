@@ -37,7 +37,8 @@ impl<I: Input> Verdicts<I> {
     ghost use Rattle.sum_engine.specs.check.NextVerdict.{AdvancesVerdicts, is_whole};
 
     /// The verdicts of the manifest that `input` gives, before its first line. `from_stdin` says whether the manifest
-    /// came from standard input: a line that names `-` is then improperly formatted. The report setting has no part in this.
+    /// came from standard input: a line that names `-` is then improperly formatted. The report setting has no part in
+    /// this.
     pub fn new(settings: CheckSettings, from_stdin: bool, input: I) -> Self
         ensures rules { result.cursor.rules ≡ rules_of settings from_stdin }
         ensures start { IsAtStart I.state result.cursor input }
