@@ -1,4 +1,5 @@
-use Rattle.std.proofs.Common.{rules, arith, ◌≡◌, ◌≤◌, length}
+use Rattle.std.proofs.Common.{arith}
+use Rattle.std.proofs.lemmas.Grind.{common_steps}
 use Rattle.std.proofs.lemmas.Result.{err_from_is_err_and}
 use Rattle.sum_sources.proofs.ContentLemmas.{limit-value}
 use Rattle.sum_sources.proofs.LimitLemmas.{clipped-bytes}
@@ -17,14 +18,11 @@ returns-in_err-n-clause-bytes g c =
 
 -- the byte that doesn't count was there
 pub returns-then-taken-eq-LIMIT-2-clause-bytes : goal.returns-then-taken-eq-LIMIT-2-clause-bytes
-returns-then-taken-eq-LIMIT-2-clause-bytes g c =
-    let size : length c.read.new.buf ≡ c.max-size.result = search rules in
-    grind (arith, limit-value)
+returns-then-taken-eq-LIMIT-2-clause-bytes g c = grind (arith, common_steps, limit-value)
 
 -- bytes that count, or the end
 pub returns-clause-bytes : goal.returns-clause-bytes
 returns-clause-bytes g c =
-    let size : length c.read.new.buf ≡ c.max-size.result = search rules in
-    let few : c.in_ok-n.n ≤ length c.read.new.buf = c.in_ok-n.ensures.count in
-    IfKnown-map _ _ (λ d e. clipped-bytes d e _ _ _ _ few (omega arith) (omega arith))
+    let few = c.in_ok-n.ensures.count in
+    IfKnown-map _ _ (λ d e. clipped-bytes d e _ _ _ _ few (grind (arith, common_steps)) (omega arith))
     c.in_ok-n.ensures.bytes
