@@ -16,14 +16,9 @@ loop-line-preserved g c =
     let number = rw is at c.in_ok-next_line.ensures.reader.lines in
     record {
       lines = λ d may.
-          let read = gives d may in
-          let before = so_far.lines read.0 read.1 in (
-            before.0,
-            before.1,
-            omega (arith, before.2, ap length read.2.0, number),
-            ap (λ (c : Content). c.ending) read.2.1
-                ∙ before.3,
-          );
+          let (rest, may_rest, cut, bytes) = gives d may in
+          let (all, may_all, count, ending) = so_far.lines rest may_rest in
+          (all, may_all, omega (arith, count, ap length cut.0, number), ap (λ (c : Content). c.ending) cut.1 ∙ ending);
       phase = λ phase. c.in_ok-next_line.ensures.reader.phase (so_far.phase phase);
     }
 
@@ -31,25 +26,20 @@ loop-line-preserved g c =
 pub returns-clause-count : goal.returns-clause-count
 returns-clause-count g c =
     let is : c.in_ok-next_line.field-0 ≡ NoMore = search rules in
-    let read = (rw is at c.in_ok-next_line.ensures.line) (record { bytes = []; ending = Whole })
+    let (rest, may_rest, cut, bytes) = (rw is at c.in_ok-next_line.ensures.line) (record { bytes = []; ending = Whole })
     (rw (rw is at c.in_ok-next_line.ensures.reader.final_answer) refl) in
-    let before = c.loop-line.invariant.lines read.0 read.1 in
+    let (all, may_all, count, ending) = c.loop-line.invariant.lines rest may_rest in
     let number = rw is at c.in_ok-next_line.ensures.reader.lines in
     MayRemain-known g.I.Input.state c.args.from.now (λ k. (k.ending ≡ Whole)
-    × (c.lines.result ≡ c.args.from.now.lines + length (lines k))) (
-      before.0,
-      before.1,
-      (
-        sym before.3 ∙ read.2.1,
-        omega (arith, c.lines.ensures, number, before.2, ap length read.2.0),
-      ),
-    )
+    × (c.lines.result ≡ c.args.from.now.lines + length (lines k)))
+    (all, may_all, (sym ending ∙ cut.1, omega (arith, c.lines.ensures, number, count, ap length cut.0)))
 
 -- the input ended by a fault
 pub returns-in_err-next_line-clause-fault : goal.returns-in_err-next_line-clause-fault
 returns-in_err-next_line-clause-fault g c = λ fault returned.
     let is : c.in_err-next_line.field-0.0 ≡ stops.Fault fault = search rules in
-    let read = (rw is at c.in_err-next_line.ensures.line) (record { bytes = []; ending = Broken fault })
+    let gives = rw is at c.in_err-next_line.ensures.line in
+    let (rest, may_rest, cut, bytes) = gives (record { bytes = []; ending = Broken fault })
     (rw (rw is at c.in_err-next_line.ensures.reader.final_answer) refl) in
-    let before = c.loop-line.invariant.lines read.0 read.1 in
-    MayRemain-known g.I.Input.state c.args.from.now (λ k. k.ending ≡ Broken fault) (before.0, before.1, sym before.3 ∙ read.2.1)
+    let (all, may_all, count, ending) = c.loop-line.invariant.lines rest may_rest in
+    MayRemain-known g.I.Input.state c.args.from.now (λ k. k.ending ≡ Broken fault) (all, may_all, sym ending ∙ cut.1)

@@ -1,8 +1,8 @@
 -- Relates the scan of the options to the request: the values so far, and what they make of it.
-use Rattle.std.specs.Prelude.{ℕ, ◌≡◌, ◌<◌, ◌^◌, ◌||◌, true, Bool, List, [], Option, None, Some, SomeIff, Result, Ok, Err, filter, option_map, option_copied, filter_map}
+use Rattle.std.specs.Prelude.{ℕ, ◌≡◌, ◌<◌, ◌^◌, ◌||◌, true, Bool, List, [], Option, None, Some, SomeIff, Result, Ok, Err, filter, option_copied, filter_map}
 use Rattle.std.specs.List.{last_or}
 use Rattle.std.specs.Str.Parse.{digits_value}
-use Rattle.sum_words.specs.Request.{report_flag, Mode, early_request, has, mode_flags, report_flags, is_number}
+use Rattle.sum_words.specs.Request.{report_flag, early_request, has, mode_flags, report_flags, is_number}
 use Rattle.sum_words.specs.Items.{Flag, ByteString, ItemValue, option_in, value_in}
 use Rattle.sum_words.specs.declared.messages.word_faults.WordFault.{WordFault}
 use Rattle.sum_words.specs.declared.parsing.request.Chosen.{Chosen}
@@ -10,14 +10,7 @@ use Rattle.sum_words.specs.declared.parsing.request.ScannedOptions.{ScannedOptio
 use Rattle.sum_words.specs.declared.parsing.request.ScannedOptions.TheVariants.{Options, Early}
 use Rattle.sum_words.specs.WordFaults.{WordFaultValue}
 use Rattle.sum_words.specs.refinement.ItemIterator.{word_fault_value}
-use Rattle.sum_lines.specs.declared.writing.put_line.Mode.TheVariants as modes
 use Rattle.sum_words.specs.declared.parsing.options.Flag.TheVariants as flags
-
--- the option that sets a mode
-abbrev pub mode_flag : Mode → Flag
-mode_flag modes.Text = flags.Text
-mode_flag modes.Binary = flags.Binary
-mode_flag modes.Tag = flags.Tag
 
 -- the last of these options that is given, or an earlier one if none is
 abbrev pub last_after : List Flag → Option Flag → List Flag → Option Flag
@@ -29,7 +22,7 @@ IsThere flag earlier rest all = (has flag (filter_map option_in rest) || earlier
 
 -- the options chosen so far and those of the rest are those of all items
 pub record IsChosenBy (c : Chosen) (rest all : List ItemValue) : Type 0 where
-  pub mode : last_after mode_flags (option_map mode_flag c.mode) (filter_map option_in rest)
+  pub mode : last_after mode_flags c.mode (filter_map option_in rest)
       ≡ last_after mode_flags None (filter_map option_in all)
   pub report : last_after report_flags (report_flag c.report) (filter_map option_in rest)
       ≡ last_after report_flags None (filter_map option_in all)

@@ -51,10 +51,11 @@ pub fn read_words<'a, A: Allocator>(
     asked_request(tool.algos(), kind, &chosen, Operands::new(tool, words))
 }
 
-// The options read so far. The last report setting and the last length count.
+// The options read so far. `mode` is the last option that sets a mode. The last report setting and the last length
+// count.
 #[derive(Clone, Copy)]
 struct Chosen<'a> {
-    mode: Option<Mode>,
+    mode: Option<Flag>,
     report: Report,
     length: Option<&'a [u8]>,
     binary: bool,
@@ -113,15 +114,15 @@ fn with_flag(chosen: Chosen<'_>, flag: Flag) -> Chosen<'_>
     let mut chosen = chosen;
     match flag {
         Flag::Binary => {
-            chosen.mode = Some(Mode::Binary);
+            chosen.mode = Some(Flag::Binary);
             chosen.binary = true;
         }
         Flag::Text => {
-            chosen.mode = Some(Mode::Text);
+            chosen.mode = Some(Flag::Text);
             chosen.text = true;
         }
         Flag::Tag => {
-            chosen.mode = Some(Mode::Tag);
+            chosen.mode = Some(Flag::Tag);
             chosen.tag = true;
         }
         Flag::Check => chosen.check = true,
@@ -196,7 +197,7 @@ fn fault_of_options(chosen: &Chosen<'_>) -> Option<WordFault<'static>>
         option_map word_fault_value result
         ≡ option_map (λ row. row.1) (find (λ row. row.0) (faults (filter_map option_in xs))) }
 {
-    if chosen.tag && matches!(chosen.mode, Some(Mode::Text)) {
+    if chosen.tag && matches!(chosen.mode, Some(Flag::Text)) {
         return Some(WordFault::TagWithText);
     }
     if chosen.zero && chosen.check {
@@ -266,7 +267,7 @@ fn mode(chosen: &Chosen<'_>) -> Mode
         return Mode::Tag;
     }
     match chosen.mode {
-        Some(Mode::Binary) => Mode::Binary,
+        Some(Flag::Binary) => Mode::Binary,
         _ => Mode::Text,
     }
 }
