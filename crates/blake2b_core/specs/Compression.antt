@@ -5,7 +5,7 @@ use Rattle.std.specs.List.{range_with_len}
 use Rattle.std.specs.Int.{w64, bit_not, rotate_right}
 use Rattle.std.specs.Simd.{first_chunks}
 use Rattle.byteorder.specs.Endian.{little_number}
-use Rattle.blake2b_core.specs.Bytes.{ByteString}
+pub use Rattle.blake2b_core.specs.Bytes.{ByteString}
 
 -- IV, the initialization vector
 abbrev pub iv : List ℕ

@@ -4,7 +4,7 @@ use Rattle.std.specs.List.{range_with_len}
 use Rattle.std.specs.Simd.{first_chunks}
 use Rattle.byteorder.specs.Endian.{little_bytes}
 use Rattle.blake2b_core.specs.Bytes.{ByteString}
-use Rattle.blake2b_core.specs.Compression.{◌!◌, ◌⊻◌, iv, compress}
+pub use Rattle.blake2b_core.specs.Compression.{◌!◌, ◌⊻◌, iv, compress}
 
 -- the blocks of the message m, each of 128 bytes: zeros fill up the last one, and the empty message has one block
 unfoldable pub blocks : ByteString → List ByteString

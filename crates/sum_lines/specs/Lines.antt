@@ -2,13 +2,12 @@
 use Rattle.std.specs.Prelude.{[], ◌∷◌, ◌++◌, codes, if◌then◌else◌}
 use Rattle.std.specs.List.{concat}
 use Rattle.hex.specs.Hex.{encode_lower}
-use Rattle.digest_kinds.specs.Kinds.{KindValue}
 use Rattle.digest_kinds.specs.KindTexts.{kind_text}
 pub use Rattle.sum_lines.specs.declared.writing.put_line.Style.{Style}
 pub use Rattle.sum_lines.specs.declared.writing.put_line.Mode.{Mode}
 use Rattle.sum_lines.specs.declared.writing.put_line.Mode.TheVariants.{Text, Binary, Tag}
 use Rattle.sum_lines.specs.Escape.{present, escape, escape_differs}
-use Rattle.sum_lines.specs.grammar.Shapes.{ByteString, mark}
+use Rattle.sum_lines.specs.grammar.Shapes.{ByteString, mark, KindValue}
 
 -- a line without its end and without the backslash that may begin it
 abbrev pub layout : Mode → KindValue → ByteString → ByteString → ByteString

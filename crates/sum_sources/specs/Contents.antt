@@ -3,7 +3,7 @@ use Rattle.std.specs.Prelude.{ℕ, zero, ◌≡◌, ◌+◌, ◌-◌, ◌^◌, [
 use Rattle.digest_kinds.specs.Basics.{ByteString}
 use Rattle.digest_kinds.specs.Kinds.{digest, KindValue}
 use Rattle.sum_sources.specs.Phases.{Phase}
-use Rattle.sum_sources.specs.Faults.{Fault, Other}
+pub use Rattle.sum_sources.specs.Faults.{Fault, Other}
 pub use Rattle.sum_sources.specs.declared.fault.Ending.{Ending}
 pub use Rattle.sum_sources.specs.declared.fault.Ending.TheVariants.{Whole, Broken}
 

@@ -1,8 +1,7 @@
 -- Inputs and sources in memory.
 use Rattle.std.specs.Prelude.{ℕ, List, [], ◌∷◌, if◌then◌else◌, bytes_eq, Err}
-use Rattle.digest_kinds.specs.Basics.{ByteString}
 use Rattle.sum_sources.specs.Contents.{Content}
-use Rattle.sum_sources.specs.Faults.{NotFound}
+use Rattle.sum_sources.specs.Faults.{NotFound, ByteString}
 use Rattle.sum_sources.specs.Sources.{Answer, KnownSource, FileCounts}
 use Rattle.sum_sources.specs.Phases.{Phase}
 

@@ -1,8 +1,7 @@
 -- The state of a reader of lines, and what a call changes in it.
 use Rattle.std.specs.Prelude.{ℕ, ◌≡◌, ◌+◌, ◌-◌, ◌^◌, ◌<◌, ◌≤◌, ◌⊎◌, [], length, Option, None, Some, Result, Ok, Err, IfOk, OnOk, MatchOption, option_map}
-use Rattle.digest_kinds.specs.Basics.{ByteString}
 use Rattle.sum_sources.specs.Contents.{Broken, Content, InputState, limit, clip_to, empty_content, with_prefix}
-use Rattle.sum_sources.specs.Faults.{Fault}
+use Rattle.sum_sources.specs.Faults.{Fault, ByteString}
 use Rattle.sum_sources.specs.ManifestLines.{Next, Line, NoMore, LineStop, HasNoNewline, IsNextLine, lines_after}
 use Rattle.sum_sources.specs.Phases.{Unfinished, AtEnd}
 use Rattle.sum_sources.specs.declared.line_reader.LineStop.TheVariants as stops

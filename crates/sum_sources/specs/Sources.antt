@@ -1,9 +1,8 @@
 -- Sources of files: what a source answers to a name, what opening and closing a file changes, and what it counts.
 use Rattle.std.specs.Prelude.{◌≡◌, List, [], ◌∷◌, ◌++◌, Option, Some, Result, Ok, Err, option_map}
-use Rattle.digest_kinds.specs.Basics.{ByteString}
 use Rattle.digest_kinds.specs.Limits.{one_more}
 use Rattle.sum_sources.specs.Contents.{Content, InputState}
-use Rattle.sum_sources.specs.Faults.{Fault}
+use Rattle.sum_sources.specs.Faults.{Fault, ByteString}
 use Rattle.sum_sources.specs.Phases.{Phase, AtEnd}
 pub use Rattle.sum_sources.specs.declared.sources.file_counts.FileCounts.{FileCounts}
 use Rattle.sum_sources.specs.declared.sources.source.OpenFault.{OpenFault}

@@ -1,8 +1,7 @@
 -- Joins the digest of a message to the state between its blocks.
 use Rattle.std.specs.Prelude.{ℕ, ◌+◌, ◌*◌, false, List, [], fold, slice_index_or, slice_set}
 use Rattle.std.specs.List.{range_with_len}
-use Rattle.blake2b_core.specs.Bytes.{ByteString}
-use Rattle.blake2b_core.specs.Compression.{◌!◌, ◌⊻◌, iv, compress}
+use Rattle.blake2b_core.specs.Compression.{◌!◌, ◌⊻◌, iv, compress, ByteString}
 
 -- h before the first block: IV, with the digest's length n in its first word
 abbrev pub initial : ℕ → List ℕ

@@ -4,8 +4,7 @@ use Rattle.std.specs.Prelude.{ℕ, ◌+◌, ◌/◌, ◌%◌, List, [], map, fol
 use Rattle.std.specs.List.{range_with_len}
 use Rattle.std.specs.Simd.{first_chunks}
 use Rattle.byteorder.specs.Endian.{little_number}
-use Rattle.blake2b_core.specs.Bytes.{ByteString}
-use Rattle.blake2b_core.specs.Compression.{◌!◌, ◌⊻◌, sigma, mix}
+use Rattle.blake2b_core.specs.Compression.{◌!◌, ◌⊻◌, sigma, mix, ByteString}
 
 -- row i of v
 abbrev pub row : List (List ℕ) → ℕ → List ℕ

@@ -1,9 +1,8 @@
 -- The laws of a checker's steps over a whole manifest, of the lines that precede a line, and of the end.
 use Rattle.std.specs.Prelude.{ℕ, ◌≡◌, ◌+◌, ◌≤◌, ◌↔◌, Bool, List, [], ◌∷◌, take, length, flat_map, Option, Result, IfSome, ◌++◌, None, Ok, Err, slice_index_or}
 use Rattle.std.specs.Io.KnownBytes.{Appends}
-use Rattle.digest_kinds.specs.Kinds.{KindValue}
 use Rattle.sum_sources.specs.declared.line_reader.LineStop.TheVariants.{Fault}
-use Rattle.sum_lines.specs.grammar.Shapes.{IsPlain}
+use Rattle.sum_lines.specs.grammar.Shapes.{IsPlain, KindValue}
 use Rattle.sum_engine.specs.Execution.{Stop, Write, StreamsState, WorldState, IsFlushed, InSomeWorld, in_world, AskedMore, Happened, PrefixHappened, PerformsSteps}
 use Rattle.sum_engine.specs.Behavior.{ByteString, after, Behavior, trace, out_text, err_text, asks, Ending, Whole, Broken, World, Content, clip, SourceState}
 use Rattle.sum_engine.specs.check.Verdicts.{lines_under, Rules, LineVerdictValue, asks_of, all_verdicts, verdicts, past_lines, escape, EntryValue, IsEntry, form}

@@ -2,8 +2,7 @@
 use denote.Enum.Bare.{sameb}
 use Rattle.std.specs.Prelude.{ℕ, ◌+◌, ◌==◌, ◌&&◌, ◌||◌, Bool, true, false, not, List, [], ◌∷◌, ◌++◌, decimal, codes, filter, length, if◌then◌else◌}
 use Rattle.std.specs.List.{concat}
-use Rattle.sum_lines.specs.grammar.Shapes.{One, Any, mark}
-use Rattle.digest_kinds.specs.Kinds.{tag}
+use Rattle.sum_lines.specs.grammar.Shapes.{One, Any, mark, tag}
 use Rattle.sum_engine.specs.Behavior.{ByteString, Ending, Whole, Broken}
 pub use Rattle.sum_engine.specs.declared.settings.Report.{Report}
 pub use Rattle.sum_engine.specs.declared.check.summary.Counts.{Counts}

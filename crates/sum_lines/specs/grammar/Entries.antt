@@ -1,8 +1,7 @@
 -- What the lines of a manifest say. The first plain line decides the form of all; and a line spells an entry.
 use Rattle.std.specs.Prelude.{ℕ, ◌≡◌, ◌<◌, ◌⊎◌, ◌==◌, ◌||◌, Bool, false, List, [], ◌∷◌, IsTrue, if◌then◌else◌, All}
 use Rattle.std.specs.Option.{option_map_or}
-use Rattle.digest_kinds.specs.Kinds.{KindValue}
-use Rattle.sum_lines.specs.grammar.Shapes.{ByteString, Algos, IsPlain, IsTagged}
+use Rattle.sum_lines.specs.grammar.Shapes.{ByteString, Algos, IsPlain, IsTagged, KindValue}
 use Rattle.sum_lines.specs.Escape.{Profile, present}
 use Rattle.sum_lines.specs.grammar.LineParts.{plain_parts}
 pub use Rattle.sum_lines.specs.declared.reading.read_line.Form.{Form}

@@ -1,8 +1,7 @@
 -- What the laws of the line grammar say, and what `read_line` promises by it.
 use Rattle.std.specs.Prelude.{◌≡◌, ◌≢◌, ◌<◌, ◌↔◌, ◌⊎◌, Bool, true, false, List, [], ◌∷◌, ◌++◌, length, codes, IsTrue, All}
 use Rattle.hex.specs.Hex.{IsBytes}
-use Rattle.digest_kinds.specs.Kinds.{KindValue, has_len}
-use Rattle.sum_lines.specs.grammar.Shapes.{ByteString, Algo, Algos, One, Any, IsPlain, IsTagged}
+use Rattle.sum_lines.specs.grammar.Shapes.{ByteString, Algo, Algos, One, Any, IsPlain, IsTagged, KindValue, has_len}
 use Rattle.sum_lines.specs.grammar.Entries.{Form, Undecided, Standard, EntryValue, IsEntry, IsForm, is_ignored_by, form}
 use Rattle.sum_lines.specs.Lines.{Mode, line}
 use Rattle.sum_lines.specs.declared.writing.put_line.Mode.TheVariants.{Tag}

@@ -3,12 +3,11 @@
 use Rattle.std.specs.Prelude.{◌≡◌, ◌≤◌, ◌==◌, ◌∷◌, length, drop, slice_range, nat_lt, bytes_eq, ⊤, Option, None, Some, if◌then◌else◌}
 use Rattle.std.specs.Option.{option_or, option_map_or}
 use Rattle.std.specs.List.{list_all}
-use Rattle.digest_kinds.specs.Basics.{ByteString, ◌>>=◌}
 use Rattle.digest_kinds.specs.declared.algo.Algos.{Algos}
 use Rattle.sum_lines.specs.grammar.Entries.{Form, Undecided, Standard, Reversed, EntryValue, begins_standard, is_ignored_by}
 use Rattle.sum_lines.specs.declared.reading.read_line.Reading.{Reading}
-use Rattle.sum_lines.specs.Escape.{Profile, escape_by}
-use Rattle.sum_lines.specs.grammar.LineParts.{LinePartsValue, tagged_parts, plain_parts}
+use Rattle.sum_lines.specs.Escape.{Profile, escape_by, ByteString}
+use Rattle.sum_lines.specs.grammar.LineParts.{LinePartsValue, tagged_parts, plain_parts, ◌>>=◌}
 use Rattle.sum_lines.specs.declared.reading.read_line.Reading.TheVariants as readings
 
 -- the bytes with one in place of a backslash (92) and the byte after it: a newline for `\n`, a carriage return for `\r`

@@ -2,9 +2,9 @@
 -- Either shape may begin with blanks and then one backslash. The backslash says that the name is escaped.
 use Rattle.std.specs.Prelude.{ℕ, ◌≡◌, ◌<◌, ◌==◌, ◌||◌, ⊤, Bool, true, [], ◌∷◌, ◌++◌, length, codes, IsTrue, Ok, if◌then◌else◌}
 use Rattle.std.specs.List.{AllPass}
-use Rattle.hex.specs.Hex.{decode_of}
+pub use Rattle.hex.specs.Hex.{decode_of}
 pub use Rattle.digest_kinds.specs.Basics.{ByteString}
-use Rattle.digest_kinds.specs.Kinds.{KindValue, has_len, tag}
+pub use Rattle.digest_kinds.specs.Kinds.{KindValue, has_len, tag}
 use Rattle.digest_kinds.specs.KindTexts.{IsWidth}
 pub use Rattle.digest_kinds.specs.declared.algo.Algo.{Algo}
 pub use Rattle.digest_kinds.specs.declared.algo.Algos.{Algos}

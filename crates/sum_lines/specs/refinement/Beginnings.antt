@@ -1,14 +1,11 @@
 -- Joins what the functions that scan a line return to the parts that it is read as.
 use Rattle.std.specs.Prelude.{ℕ, ◌≡◌, ◌+◌, ◌<◌, ◌≤◌, true, length, drop, slice_range, get_or, IsTrue, None, Some, Ok}
 use Rattle.std.specs.List.{position_or_len, before_first, after_first}
-use Rattle.hex.specs.Hex.{decode_of}
-use Rattle.digest_kinds.specs.Kinds.{has_len}
-use Rattle.sum_lines.specs.grammar.Shapes.{ByteString, Algo, Algos, One, is_blank}
+use Rattle.sum_lines.specs.grammar.Shapes.{ByteString, Algo, Algos, One, is_blank, decode_of, has_len}
 use Rattle.sum_lines.specs.declared.reading.beginnings.Beginning.{Beginning}
 use Rattle.sum_lines.specs.declared.reading.line_parts.LineParts.{LineParts}
 use Rattle.sum_lines.specs.declared.reading.line_parts.Front.{Front}
-use Rattle.sum_lines.specs.grammar.LineParts.{LinePartsValue, mark_and_rest, plain_parts, tag_in, tagged_parts}
-use Rattle.digest_kinds.specs.Basics.{after_while}
+use Rattle.sum_lines.specs.grammar.LineParts.{LinePartsValue, mark_and_rest, plain_parts, tag_in, tagged_parts, after_while}
 use Rattle.sum_lines.specs.declared.reading.beginnings.Beginning.TheVariants as beginnings
 
 -- the parts of a line whose text is that range

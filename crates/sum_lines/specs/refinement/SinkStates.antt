@@ -1,7 +1,6 @@
 -- Joins the calls of a sink: what its known bytes grow by, how a buffer is flushed, and the state of a ToldSink.
 use Rattle.std.specs.Prelude.{ℕ, ◌-◌, [], take, ⊤, Option, Some, Result, Ok, Err}
-use Rattle.std.specs.Io.KnownBytes.{Appends}
-use Rattle.sum_lines.specs.sinks.Sinks.{ByteString, SinkState, IsPrefix, Accepts, FailsToFlush}
+use Rattle.sum_lines.specs.sinks.Sinks.{ByteString, SinkState, IsPrefix, Accepts, FailsToFlush, Appends}
 use Rattle.sum_lines.specs.declared.sinks.told_sink.ToldSink.{ToldSink}
 
 -- known bytes grow by a prefix of the text

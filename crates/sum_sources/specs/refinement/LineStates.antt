@@ -1,7 +1,6 @@
 -- The view of a reader of lines, its invariant, and what its steps change.
 use Rattle.std.specs.Prelude.{◌≡◌, ◌+◌, ◌-◌, ◌^◌, ◌<◌, ◌≤◌, ◌⊎◌, take, drop, Option, None, Some, Result, Ok, Err, Bool, true, false, [], ◌∷◌, ◌++◌}
-use Rattle.sum_sources.specs.Contents.{Broken, Content, empty_content}
-use Rattle.sum_sources.specs.Faults.{Fault}
+use Rattle.sum_sources.specs.Contents.{Broken, Content, empty_content, Fault}
 use Rattle.digest_kinds.specs.Basics.{ByteString}
 use Rattle.sum_sources.specs.declared.line_reader.LineReader.TheInside.{Inside}
 use Rattle.sum_sources.specs.declared.line_reader.ReaderState.{ReaderState}
