@@ -24,9 +24,7 @@ not_ignored blanks e xs rest all b = grind (arith, common_steps)
 -- so a plain line isn't
 pub plain-not_ignored : {algos : Algos} {line : List ℕ} {e : Bool} {kind : KindValue} {d tail : List ℕ}
     → IsPlain algos line e kind d tail → is_ignored line ≡ false
-plain-not_ignored {e = e} {tail = tail} p =
-    let digits = plain-digits p in
-    rw p.whole (not_ignored p.blanks e p.digits (p.blank ∷ tail) p.are_blanks digits.begins)
+plain-not_ignored p = let digits = plain-digits p in grind (arith, not_ignored)
 
 -- and a tagged one
 pub tagged-not_ignored : {algos : Algos} {line : List ℕ} {e : Bool} {kind : KindValue} {d raw : List ℕ}
