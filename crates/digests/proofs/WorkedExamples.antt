@@ -64,7 +64,7 @@ outcome tool words l input =
     let run = meaning tool words (record { answer = λ asked. answer_with l; input = input }) in
     record { out = out_text run; err = err_text run; asks = asks run; good = run.good }
 
--- two files
+-- each of two files has a line
 files : outcome Md5sum (words "a e") empty_content empty_content ≡ record {
   out = lines ("900150983cd24fb0d6963f7d28e17f72  a" ∷ "d41d8cd98f00b204e9800998ecf8427e  e" ∷ []);
   err = [];
@@ -74,7 +74,7 @@ files : outcome Md5sum (words "a e") empty_content empty_content ≡ record {
 unfolding meaning_on_literals
 files = refl
 
--- a missing file between them
+-- a missing file is told, and the others have a line each
 missing_file : outcome Md5sum (words "a x e") empty_content empty_content ≡ record {
   out = lines ("900150983cd24fb0d6963f7d28e17f72  a" ∷ "d41d8cd98f00b204e9800998ecf8427e  e" ∷ []);
   err = lines ("md5sum: x: No such file or directory" ∷ []);
@@ -94,7 +94,7 @@ stdin_twice : outcome Md5sum (words "- -") empty_content (whole_content (codes "
 unfolding meaning_on_literals
 stdin_twice = refl
 
--- no word, and standard input that gives three bytes and then a fault
+-- without words standard input is read: it gives three bytes, and then a fault
 stdin_fails : outcome Md5sum [] empty_content (broken_content (codes "abc")) ≡ record {
   out = [];
   err = lines ("md5sum: -: Input/output error" ∷ []);
@@ -104,7 +104,7 @@ stdin_fails : outcome Md5sum [] empty_content (broken_content (codes "abc")) ≡
 unfolding meaning_on_literals
 stdin_fails = refl
 
--- a tagged line with a length
+-- a tagged line has the length
 tagged : outcome B2sum (words "-l 256 --tag e") empty_content empty_content ≡ record {
   out = lines ("BLAKE2b-256 (e) = 0e5751c026e543b2e8ab2eb06099daa1d1e5df47778f7787faab45cdf12fe3a8" ∷ []);
   err = [];
@@ -114,7 +114,7 @@ tagged : outcome B2sum (words "-l 256 --tag e") empty_content empty_content ≡ 
 unfolding meaning_on_literals
 tagged = refl
 
--- a fault before --help
+-- a fault before --help is told in place of the help
 unknown_option : outcome Md5sum (words "--foo --help") empty_content empty_content ≡ record {
   out = [];
   err = lines ("md5sum: unrecognized option '--foo'" ∷ "Try 'md5sum --help' for more information." ∷ []);
@@ -124,7 +124,7 @@ unknown_option : outcome Md5sum (words "--foo --help") empty_content empty_conte
 unfolding meaning_on_literals
 unknown_option = refl
 
--- a manifest with lines of each kind
+-- a manifest with a line of each kind
 abbrev mixed_manifest : Content
 mixed_manifest = whole_content (lines ("900150983cd24fb0d6963f7d28e17f72  a"
     ∷ "#c"
@@ -132,7 +132,7 @@ mixed_manifest = whole_content (lines ("900150983cd24fb0d6963f7d28e17f72  a"
     ∷ "900150983cd24fb0d6963f7d28e17f72 *x"
     ∷ "900150983cd24fb0d6963f7d28e17f72  e" ∷ []))
 
--- its check
+-- its check reports each kind
 all_verdicts : outcome Md5sum (words "-c l") mixed_manifest empty_content ≡ record {
   out = lines ("a: OK" ∷ "x: FAILED open or read" ∷ "e: FAILED" ∷ []);
   err = lines ("md5sum: x: No such file or directory"
@@ -145,7 +145,7 @@ all_verdicts : outcome Md5sum (words "-c l") mixed_manifest empty_content ≡ re
 unfolding meaning_on_literals
 all_verdicts = refl
 
--- its check without missing files, with a warning for each bad line
+-- its check passes over the missing file and names the bad line, if asked for that
 ignore_missing : outcome Md5sum (words "-c --ignore-missing -w --strict l") mixed_manifest empty_content ≡ record {
   out = lines ("a: OK" ∷ "e: FAILED" ∷ []);
   err = lines ("md5sum: l: 3: improperly formatted MD5 checksum line"
@@ -161,7 +161,7 @@ ignore_missing = refl
 abbrev dash_manifest : Content
 dash_manifest = whole_content (lines ("900150983cd24fb0d6963f7d28e17f72  -" ∷ []))
 
--- if it is standard input, nothing is checked
+-- if it is standard input, none of its lines counts
 nothing_to_check : outcome Md5sum (words "-c") empty_content dash_manifest ≡ record {
   out = [];
   err = lines ("md5sum: standard input: no properly formatted checksum lines found" ∷ []);
@@ -181,7 +181,7 @@ stdin_listed : outcome Md5sum (words "-c l l") dash_manifest (whole_content (cod
 unfolding meaning_on_literals
 stdin_listed = refl
 
--- a manifest that breaks off in its second line
+-- a manifest breaks off in its second line
 manifest_fails : outcome Md5sum
     (words "-c l")
     (broken_content (codes "900150983cd24fb0d6963f7d28e17f72  a\n900150983cd24fb0d6963f7d28e17f72  a"))
@@ -194,7 +194,7 @@ manifest_fails : outcome Md5sum
 unfolding meaning_on_literals
 manifest_fails = refl
 
--- a manifest whose first line has one blank, and the second two
+-- the first line has one blank, so a second blank belongs to the name
 reversed_form : outcome Md5sum
     (words "-c l")
     (whole_content (lines ("900150983cd24fb0d6963f7d28e17f72 a" ∷ "900150983cd24fb0d6963f7d28e17f72  a" ∷ [])))
@@ -208,7 +208,7 @@ reversed_form : outcome Md5sum
 unfolding meaning_on_literals
 reversed_form = refl
 
--- a manifest with tagged lines of two algorithms, and one without a tag
+-- anysum checks tagged lines of two algorithms, and a line without a tag is bad
 mixed_tags : outcome Anysum
     (words "-c l")
     (whole_content (lines ("MD5 (a) = 900150983cd24fb0d6963f7d28e17f72"

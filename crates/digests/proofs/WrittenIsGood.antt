@@ -45,7 +45,8 @@ module _ (algos : Algos) (files later : ByteString → Answer) where
   -- so its line is written, and for all names their lines, one after another
   lines-are : (s : Settings) (tool : ByteString) (names : List ByteString) (w : World) → HasFiles w files
       → s.style.zero ≡ false → All (IsListable files) names
-      → out_text (operands_behavior (generate_behavior s tool) w names) ≡ flat_map written_text (map (item files s) names)
+      → out_text (operands_behavior (generate_behavior s tool) w names)
+      ≡ flat_map written_text (map (item files s) names)
   lines-are s tool [] w has newlines all = refl
   lines-are s tool (name ∷ names) w has newlines all =
       let asked = asks (generate_behavior s tool w name) in

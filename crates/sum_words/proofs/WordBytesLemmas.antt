@@ -26,7 +26,7 @@ CutsAt-within : (bytes : List ℕ) (from : ℕ) (ends : List ℕ) → CutsAt byt
 CutsAt-within bytes from [] cuts = omega (arith, cuts)
 CutsAt-within bytes from (end ∷ ends) cuts = omega (arith, cuts.0, CutsAt-within bytes end ends cuts.1)
 
--- and that word is the last piece
+-- one more word is the last piece
 pub pieces_cut-push : (bytes word : List ℕ) (from : ℕ) (ends : List ℕ) → CutsAt bytes from ends
     → pieces_cut (bytes ++ word) from (ends ++ length (bytes ++ word) ∷ []) ≡ pieces_cut bytes from ends ++ word ∷ []
 pieces_cut-push bytes word from [] cuts = grind (arith, common_steps)
