@@ -1,0 +1,11 @@
+-- The law that some world agrees with what was read.
+use Rattle.std.specs.Prelude.{◌≡◌, IfSome}
+use Rattle.sum_engine.specs.Behavior.{World}
+use Rattle.sum_engine.specs.Execution.{InputsState, Agrees}
+
+-- some world agrees with what was read so far: the one in memory, as far as that is there
+pub record SomeWorldAgrees (a : InputsState) : Type 0 where
+  pub world : World
+  pub agrees : Agrees world a
+  pub files : IfSome a.source.told (λ told. world.answer ≡ told)
+  pub stdin : IfSome a.stdin.told (λ told. world.stdin ≡ told)
