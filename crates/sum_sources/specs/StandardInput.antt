@@ -43,17 +43,6 @@ told_file t = record (told_state t.content t.given t.phase) { opening = t.openin
 
 -- ---- standard input
 
--- whether standard input was taken
-abbrev pub stdin_taken : {I : Type 0} → StdinPlace I → Bool
-stdin_taken (Untaken i) = false
-stdin_taken place = true
-
--- the state of its input, where that is. While it is taken, that is unknown
-abbrev pub stdin_state : {I : Type 0} → (I → InputState) → StdinPlace I → Option InputState
-stdin_state state (Untaken i) = Some (state i)
-stdin_state state Taken = None
-stdin_state state (Returned i) = Some (state i)
-
 -- as long as it wasn't taken, nothing was read of it
 abbrev pub IsUnreadUntilTaken : {I : Type 0} → (I → InputState) → StdinPlace I → Type 0
 IsUnreadUntilTaken state (Untaken i) = (state i).reads ≡ unread
@@ -69,9 +58,9 @@ abbrev pub Gives : {I : Type 0} → (I → InputState) → StdinPlace I → Stdi
 Gives state (Untaken i) new given = (new ≡ Taken) × (given ≡ First i) × ((state i).reads ≡ unread)
 Gives state old new given = (new ≡ old) × (given ≡ Empty Unfinished)
 
--- the input is put back. An empty one is dropped, and so is one where nothing was taken
+-- what was taken is put back, and kept if nothing was before
 abbrev pub put_back : {I : Type 0} → StdinPlace I → Reply I → StdinPlace I
-put_back Taken (First i) = Returned i
+put_back Taken given = Returned given
 put_back place given = place
 
 -- ---- a closed input
