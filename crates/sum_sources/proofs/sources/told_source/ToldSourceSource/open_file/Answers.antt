@@ -33,7 +33,7 @@ invariant_of-self-in-Content g c =
 -- and so the state shows it
 abbrev with : {A : Type 0} → Inside A → List Opening → SourceState
 with s os = record {
-  told = Some (first_answer (map pair_of s.pairs.items));
+  told = Some (map pair_of s.pairs.items);
   openings = os;
   refusals = s.log.state.refusals;
 }
