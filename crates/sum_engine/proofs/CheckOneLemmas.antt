@@ -128,7 +128,7 @@ module _ (settings : CheckSettings) (tool name : List ℕ) (a : StreamsState) wh
       } in
       let all = check_behavior settings tool (world_at w a.inputs) name in
       kept_performs all.steps all.good a b (record b { inputs = n }) x kept
-      (opened false c m b x w file (asks_one file opens) (rw (file) answer) ran)
+      (opened false c m b x w file (asks_one a.inputs m name None file opens) (rw (file) answer) ran)
 
   -- it is standard input, which is taken, and put back
   pub check_dash : (m n : InputsState) (s t : InputState) (b : StreamsState) (x : Result Bool Stop)
@@ -138,7 +138,7 @@ module _ (settings : CheckSettings) (tool name : List ℕ) (a : StreamsState) wh
       → Performed (record b { inputs = n }) x
   check_dash m n s t b x dash gives same has stays back run = λ flushed w agrees.
       let stdin = rw back at agrees.stdin in
-      let of = stdin_content gives same has (rw stays refl) stdin in
+      let of = stdin_content gives same w n.stdin has (rw (back, stays) refl) agrees.stdin in
       let still : Agrees w b.inputs = record {
         answers = rw back at agrees.answers;
         stdin = stdin_before w b.inputs.stdin t stdin;
@@ -148,8 +148,8 @@ module _ (settings : CheckSettings) (tool name : List ℕ) (a : StreamsState) wh
       let all = check_behavior settings tool (world_at w a.inputs) name in
       let taken : b.inputs.stdin.taken ≡ true = rw stays (gives_taken gives) in
       kept_performs all.steps all.good a b (record b { inputs = n }) x
-      (record { outputs = refl; asked = rw back refl; taken = rw (back, taken) (taken_after t taken); refusals = rw back refl })
-      (opened true c m b x w dash (stdin_asked gives dash refl refl) (rw dash refl) ran)
+      (record { outputs = refl; asked = rw back refl; taken = rw (back, taken) (taken_after b.inputs.stdin t taken); refusals = rw back refl })
+      (opened true c m b x w dash (stdin_asked gives name m dash refl refl) (rw dash refl) ran)
 
   -- it could not be opened, and the line of its fault was written, or a prefix of it
   pub refused : (m : InputsState) (f : Fault) (outputs : OutputsState) (x : Result Bool Stop) → is_dash name ≡ false
@@ -159,7 +159,7 @@ module _ (settings : CheckSettings) (tool name : List ℕ) (a : StreamsState) wh
   refused m f outputs x file opens said =
       Performs-step (λ w. check_behavior settings tool w name) (λ g. g) false a
       (record a { inputs = m; outputs = outputs })
-      (asks_one file opens)
+      (asks_one a.inputs m name (Some (Err f)) file opens)
       (λ w agrees.
       let answer = fault_answered f _ (opening_agrees agrees a.inputs.source.openings [] name (Err f) (rw opens refl)) in
       rw (file, answer) refl) said

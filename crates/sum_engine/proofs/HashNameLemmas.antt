@@ -29,16 +29,16 @@ fault_outcome kind f (Ok c) same = elim same [ ]
 fault_outcome kind f (Err g) same = search rules
 
 -- it was opened, read and closed
-pub closed_file : {a m b : InputsState} {name : List ℕ} {s t : InputState}
+pub closed_file : (a m b : InputsState) (name : List ℕ) (s t : InputState)
     → m ≡ record a { source = and_opening a.source name None } → s ≡ opened_file a.source name → IsSameInput s t
     → b ≡ record m { source = after_closing m.source t }
     → b ≡ record a { source = and_opening a.source name (Some (Ok t.reads)) }
-closed_file {a} {m} {b} {name} {s} {t} opens is same closes =
+closed_file a m b name s t opens is same closes =
     let place : t.opening ≡ length a.source.openings = search rules in
     rw (closes, opens, place) (ap (λ os. record a { source = record a.source { openings = os } })
     (closed_at-seam a.source.openings [] (record { name = name; gave = None }) t.reads))
 
-module _ {w : World} {a b : InputsState} (kind : KindValue) (name : List ℕ) (agrees : Agrees w b)
+module _ {w : World} {b : InputsState} (a : InputsState) (kind : KindValue) (name : List ℕ) (agrees : Agrees w b)
     (file : is_dash name ≡ false)
   where
     -- it was read
@@ -58,22 +58,23 @@ module _ {w : World} {a b : InputsState} (kind : KindValue) (name : List ℕ) (a
 -- what agrees once this was put back agrees before
 pub stdin_before : (w : World) (x : StdinState) (t : InputState)
     → IfSome (stdin_after x t).reads (λ r. IsOf r w.stdin) → IfSome x.reads (λ r. IsOf r w.stdin)
-stdin_before w x t = by x.reads
+stdin_before w x t = by x.reads refl
   where
-    by : (r : Option Reads) → IfSome (stdin_by r x t).reads (λ r. IsOf r w.stdin) → IfSome r (λ r. IsOf r w.stdin)
-    by None of = tt
-    by (Some r) of = of
+    by : (r : Option Reads) → x.reads ≡ r → IfSome (stdin_by r x t).reads (λ r. IsOf r w.stdin)
+        → IfSome x.reads (λ r. IsOf r w.stdin)
+    by None none of = rw none tt
+    by (Some r) some of = of
 
 -- it stays taken
-pub taken_after : {x : StdinState} (t : InputState) → x.taken ≡ true → (stdin_after x t).taken ≡ true
-taken_after {x} t taken = by x.reads
+pub taken_after : (x : StdinState) (t : InputState) → x.taken ≡ true → (stdin_after x t).taken ≡ true
+taken_after x t taken = by x.reads
   where
     by : (r : Option Reads) → (stdin_by r x t).taken ≡ true
     by None = refl
     by (Some r) = taken
 
 -- it was taken
-module _ {a m : InputsState} {s t : InputState} (gives : GivesStdin s a m) where
+module _ {a m : InputsState} {s : InputState} (gives : GivesStdin s a m) where
   pub gives_taken : m.stdin.taken ≡ true
   gives_taken = search rules
 
@@ -81,9 +82,9 @@ module _ {a m : InputsState} {s t : InputState} (gives : GivesStdin s a m) where
   gives_source = search rules
 
   -- its name was asked
-  pub stdin_asked : {name : List ℕ} {b : InputsState} → is_dash name ≡ true → b.source ≡ m.source
+  pub stdin_asked : (name : List ℕ) (b : InputsState) → is_dash name ≡ true → b.source ≡ m.source
       → b.stdin.taken ≡ m.stdin.taken → AsksNames a b (name ∷ [])
-  stdin_asked {name} {b} dash source taken =
+  stdin_asked name b dash source taken =
       let one : list_any is_dash (name ∷ []) ≡ true = rw dash refl in
       record {
         asked = rw (source, gives_source, dash) (sym (append-nil (asked a)));
@@ -94,9 +95,9 @@ module _ {a m : InputsState} {s t : InputState} (gives : GivesStdin s a m) where
 -- it was taken and put back, once this was read of it
 module _ {a m : InputsState} {s t : InputState} (gives : GivesStdin s a m) (same : IsSameInput s t) where
   -- what was read is of its content in the world
-  pub stdin_content : {w : World} {b : StdinState} → HasContent t → b ≡ stdin_after m.stdin t
+  pub stdin_content : (w : World) (b : StdinState) → HasContent t → b ≡ stdin_after m.stdin t
       → IfSome b.reads (λ r. IsOf r w.stdin) → IsOf t.reads (world_at w a).stdin
-  stdin_content {w} {b} has back of = by gives.given
+  stdin_content w b has back of = by gives.given
     where
       by : ((a.stdin ≡ record { told = s.told; taken = false; reads = None })
           × (m ≡ record a { stdin = taken_stdin })) ⊎ ((a.stdin.taken ≡ true) × (s.told ≡ Some empty_content)
@@ -108,41 +109,45 @@ module _ {a m : InputsState} {s t : InputState} (gives : GivesStdin s a m) (same
           rw taken (rw empty at of)
 
   -- it was read so
-  pub stdin_reads : {Whole : Type 0} {b : StdinState} → IsAtEndIf Whole t.reads → b ≡ stdin_after m.stdin t
+  pub stdin_reads : {Whole : Type 0} (b : StdinState) → IsAtEndIf Whole t.reads → b ≡ stdin_after m.stdin t
       → (b ≡ a.stdin) ⊎ ReadsStdin Whole a.stdin b
-  stdin_reads {Whole} {b} read back = by gives.given m.stdin.reads refl
+  stdin_reads {Whole} b read back = by gives.given m.stdin.reads refl
     where
       by : ((a.stdin ≡ record { told = s.told; taken = false; reads = None })
           × (m ≡ record a { stdin = taken_stdin })) ⊎ ((a.stdin.taken ≡ true) × (s.told ≡ Some empty_content)
           × (a.stdin.reads ≡ None → a.stdin.told ≡ s.told) × (m ≡ a)) → (r : Option Reads) → m.stdin.reads ≡ r
           → (b ≡ a.stdin) ⊎ ReadsStdin Whole a.stdin b
-      by (inl (new, is)) r at = inr (t.reads, rw new refl, rw (back, is, new, same) refl, read)
+      by (inl (new, is)) r at = inr (t.reads, ap (λ (x : StdinState). x.reads) new, rw (back, is, new, same) refl, read)
       by (inr (taken, told, away, is)) None none =
-          inr (t.reads, rw is at none, rw (back, none, is, away (rw is at none), same) refl, read)
-      by (inr (taken, told, away, is)) (Some r) some = inl (rw (back, some, is) refl)
+          let none_before = sym (ap (λ (m : InputsState). m.stdin.reads) is) ∙ none in
+          let told = ap (λ (s : InputState). s.told) same ∙ sym (away none_before) in
+          inr (t.reads, none_before, back ∙ ap (λ r. stdin_by r m.stdin t) none
+              ∙ ap (λ told. record { told = told; taken = true; reads = Some t.reads }) told, read)
+      by (inr (taken, told, away, is)) (Some r) some =
+          inl (back ∙ ap (λ r. stdin_by r m.stdin t) some ∙ ap (λ (m : InputsState). m.stdin) is)
 
   -- how far all was read over the taking, some calls that left standard input, and the putting back
-  pub given_reads : {Whole : Type 0} {b n : InputsState} → IsAtEndIf Whole t.reads → ReadsToEndIf Whole m b
+  pub given_reads : {Whole : Type 0} (b n : InputsState) → IsAtEndIf Whole t.reads → ReadsToEndIf Whole m b
       → b.stdin ≡ m.stdin → n ≡ record b { stdin = stdin_after b.stdin t } → ReadsToEndIf Whole a n
-  given_reads {b = b} read reads kept back = record {
+  given_reads b n read reads kept back = record {
     told = rw (back, ← gives_source gives) reads.told;
     openings = rw (back, ← gives_source gives) reads.openings;
-    stdin = stdin_reads read (rw (back, kept) refl);
+    stdin = stdin_reads n.stdin read (rw (back, kept) refl);
   }
 
   -- the outcome of reading it
-  pub stdin_hashed : {w : World} {b : InputsState} (kind : KindValue) (name : List ℕ) (o : HashOutcome)
+  pub stdin_hashed : (w : World) (b : InputsState) (kind : KindValue) (name : List ℕ) (o : HashOutcome)
       → is_dash name ≡ true → HasContent t → b ≡ record m { stdin = stdin_after m.stdin t } → Agrees w b
       → (s.reads ≡ unread → (c : Content) → IsOf t.reads c → IsRead kind c o)
       → IsHashOutcome kind (answer_to (world_at w a) name) o
-  stdin_hashed {w} kind name o dash has back agrees read =
-      rw dash (read gives.reads (world_at w a).stdin (stdin_content has (rw back refl) agrees.stdin))
+  stdin_hashed w b kind name o dash has back agrees read =
+      rw dash (read gives.reads (world_at w a).stdin (stdin_content w b.stdin has (rw back refl) agrees.stdin))
 
 -- ---- no memory
 
 -- nothing was read
-pub refused_reads : {Whole : Type 0} {a b : InputsState} → MemoryWasRefused a b → ReadsToEndIf Whole a b
-refused_reads {Whole} {a} refused = record {
+pub refused_reads : {Whole : Type 0} (a b : InputsState) → MemoryWasRefused a b → ReadsToEndIf Whole a b
+refused_reads {Whole} a b refused = record {
   told = rw refused refl;
   openings = ([], rw refused (sym (append-nil a.source.openings)), All-nil (ReadsFile Whole));
   stdin = inl (rw refused refl);

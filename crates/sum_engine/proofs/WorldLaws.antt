@@ -1,7 +1,7 @@
 -- The law that some world agrees with what was read: by the laws of inputs and of sources.
 use Rattle.std.proofs.Common.{◌≡◌, IfSome, None, Some, refl}
 use Rattle.sum_sources.specs.Contents.{HasContent, IsOf}
-use Rattle.sum_sources.specs.Sources.{HasAnswers, SourceState}
+use Rattle.sum_sources.specs.Sources.{HasAnswers, SourceState, first_answer}
 use Rattle.sum_sources.specs.declared.inputs.stdin.StdinPlace.{StdinPlace}
 use Rattle.sum_sources.specs.declared.inputs.stdin.StdinPlace.TheVariants.{Untaken, Taken, Returned}
 use Rattle.sum_sources.specs.ToldLaws.{given_has_content}

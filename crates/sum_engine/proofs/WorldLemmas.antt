@@ -39,9 +39,9 @@ stdin_weaker a b f (inl same) = inl same
 stdin_weaker a b f (inr (r, new, is, read)) = inr (r, new, is, at_end_weaker (Ok r) f read)
 
 pub reads_weaker : {G H : Type 0} {a b : InputsState} → (H → G) → ReadsToEndIf G a b → ReadsToEndIf H a b
-reads_weaker {H = H} {a = a} {b = b} f h = record {
+reads_weaker {G = G} {H = H} {a = a} {b = b} f h = record {
   told = h.told;
-  openings = (h.openings.0, h.openings.1, All-weaker _ (ReadsFile H)
+  openings = (h.openings.0, h.openings.1, All-weaker (ReadsFile G) (ReadsFile H)
   (λ o (gave, is, read). (gave, is, at_end_weaker gave f read)) h.openings.0 h.openings.2);
   stdin = stdin_weaker a.stdin b.stdin f h.stdin;
 }
@@ -80,18 +80,18 @@ pub reads_then : {G H K : Type 0} {a b c : InputsState} → (K → G × H) → R
 reads_then f h k = reads_both (reads_weaker (λ x. (f x).0) h) (reads_weaker (λ x. (f x).1) k)
 
 -- one name was opened
-pub asks_one : {a b : InputsState} {name : List ℕ} {gave : Option (Result Reads Fault)} → is_dash name ≡ false
+pub asks_one : (a b : InputsState) (name : List ℕ) (gave : Option (Result Reads Fault)) → is_dash name ≡ false
     → b ≡ record a { source = and_opening a.source name gave } → AsksNames a b (name ∷ [])
-asks_one {a} {b} {name} {gave} file is = record {
+asks_one a b name gave file is = record {
   asked = rw is (map-append (λ o. o.name) a.source.openings (record { name = name; gave = gave } ∷ []) ∙ rw file refl);
   taken = rw (is, file) (search (rules, or-false));
   refusals = rw is refl;
 }
 
-pub reads_one : {Whole : Type 0} {a b : InputsState} {name : List ℕ} (gave : Result Reads Fault)
+pub reads_one : {Whole : Type 0} (a b : InputsState) (name : List ℕ) (gave : Result Reads Fault)
     → IfOk gave (IsAtEndIf Whole) → b ≡ record a { source = and_opening a.source name (Some gave) }
     → ReadsToEndIf Whole a b
-reads_one {Whole} {a} {b} {name} gave read is =
+reads_one {Whole} a b name gave read is =
     let o : Opening = record { name = name; gave = Some gave } in
     record {
       told = rw is refl;
@@ -131,10 +131,10 @@ AnswersAre-front f n (x ∷ xs) ys h = (h.0, AnswersAre-front f (suc n) xs ys h.
 
 AnswersAre-at : (f : ℕ → List ℕ → Answer) (n : ℕ) (xs ys : List Opening) (o : Opening) → AnswersAre f n (xs ++ o ∷ ys)
     → IsOfAnswer o.gave (f (length xs + n) o.name)
-AnswersAre-at f n [] ys o h = h.0
+AnswersAre-at f n [] ys o h = let here : 0 + n ≡ n = omega arith in rw here h.0
 AnswersAre-at f n (x ∷ xs) ys o h =
-    let next : suc (length xs + n) ≡ length xs + suc n = omega arith in
-    rw next (AnswersAre-at f (suc n) xs ys o h.1)
+    let next : length xs + suc n ≡ suc (length xs) + n = omega arith in
+    subst (λ k. IsOfAnswer o.gave (f k o.name)) next (AnswersAre-at f (suc n) xs ys o h.1)
 
 pub AnswersAre-open : (f : ℕ → List ℕ → Answer) (n : ℕ) (xs ys : List Opening) (o : Opening)
     → AnswersAre f n (xs ++ o ∷ ys) → AnswersAre f n (xs ++ record o { gave = None } ∷ ys)

@@ -16,7 +16,8 @@ returns-in-Err-Memory-clause-behavior g c =
 
 pub returns-in-Err-Memory-clause-reads : goal.returns-in-Err-Memory-clause-reads
 returns-in-Err-Memory-clause-reads g c =
-    refused_reads (rw c.in-Err-Memory.field-0-is at c.in-Err-Memory.ensures.source)
+    refused_reads c.args.streams.now.inputs c.open_file.new.self
+    (rw c.in-Err-Memory.field-0-is at c.in-Err-Memory.ensures.source)
 
 -- ---- it could not be opened, and the line of its fault was written, or a prefix of it
 
@@ -30,7 +31,8 @@ returns-in-Err-Fault-clause-behavior g c =
 
 pub returns-in-Err-Fault-clause-reads : goal.returns-in-Err-Fault-clause-reads
 returns-in-Err-Fault-clause-reads g c =
-    reads_one (Err _) tt (rw c.in-Err-Fault.field-0-is at c.in-Err-Fault.ensures.source)
+    reads_one c.args.streams.now.inputs c.open_file.new.self c.args.name.now (Err _) tt
+    (rw c.in-Err-Fault.field-0-is at c.in-Err-Fault.ensures.source)
 
 -- ---- it is a file
 
@@ -62,7 +64,7 @@ returns-then-is_dash-clause-behavior g c =
     let checked = c.run_to_end-result in
     let made = c.new-checker.ensures in
     let kept = checked.ensures.stdin (ap (λ (r : Rules). r.from_stdin) made.rules) in
-    let has = given_has_content g.J.Input.state g.J.Input.has_content checked.result.1 in
+    let has = given_has_content g.J.Input.state g.met.J.Input.has_content checked.result.1 in
     check_dash c.args.settings c.args.tool.now c.args.name.now c.args.streams.now c.take_stdin-input.new.self _ _ _
     checked.new.streams _ dash gives (rw made.start.reader at checked.ensures.same) has kept
     (c.put_back_stdin.ensures (rw kept (gives_taken gives)))
@@ -75,5 +77,6 @@ returns-then-is_dash-clause-reads g c =
     let made = c.new-checker.ensures in
     let kept = checked.ensures.stdin (ap (λ (r : Rules). r.from_stdin) made.rules) in
     let manifest = rw made.start.reader at checked.ensures.manifest in
-    given_reads gives (rw made.start.reader at checked.ensures.same) (manifest gives.reads) checked.ensures.reads kept
+    given_reads gives (rw made.start.reader at checked.ensures.same) checked.new.streams.inputs
+    c.put_back_stdin.new.self (manifest gives.reads) checked.ensures.reads kept
     (c.put_back_stdin.ensures (rw kept (gives_taken gives)))
