@@ -1,0 +1,97 @@
+use Rattle.std.proofs.Common.{rules, arith, refl, ap, sym, append-nil, inr, ◌∙◌}
+use Rattle.std.proofs.lemmas.Grind.{common_steps}
+use Rattle.std.proofs.lemmas.List.{nil_from_length}
+use Rattle.sum_sources.specs.ManifestLines.{HasNoNewline}
+use Rattle.sum_sources.specs.Contents.{Whole, Broken, Reads}
+use Rattle.sum_sources.specs.LineReaders.{IsReading, LineReaderValue}
+use Rattle.sum_sources.proofs.ReadOnLemmas.{not_ahead, HasRead, HasRead-given, HasRead-more, HasRead-filled, ends_line, ends_memory, has_ended, ends_empty, ends_last, ends_fault}
+use Rattle.sum_sources.proofs.line_reader.LineReader.read_on.Goals.{In-Ok-false}
+use Rattle.sum_sources.proofs.line_reader.LineReader.read_on.Given as given
+use Rattle.sum_sources.proofs.line_reader.LineReader.read_on.Goals as goal
+
+-- a newline ended the line
+pub returns-in-Ok-true-clause-line : goal.returns-in-Ok-true-clause-line
+returns-in-Ok-true-clause-line g c =
+    let piece = rw c.in-Ok-true.field-0-test at c.in-Ok-true.ensures.piece in
+    let i = c.loop-self.invariant in
+    let same = c.in-Ok-true.ensures.same in
+    λ reading. ends_line (i.read reading) i.plain same c.take_piece.ensures.few.0
+    (ap (λ (r : LineReaderValue _). r.final_answer) same ∙ i.going) piece
+
+-- memory was refused
+pub returns-in-Err-clause-line : goal.returns-in-Err-clause-line
+returns-in-Err-clause-line g c =
+    let refused = c.in-Err.ensures.memory refl in
+    λ reading. ends_memory (c.loop-self.invariant.read reading) (rw refused.0 at c.take_piece.ensures.few.0) refused.1
+    (search rules) _
+
+-- the whole buffer moved to the line
+moved : (g : given.Over) (c : In-Ok-false g)
+    → (IsReading g.I.Input.state c.args.self.now
+    → HasRead g.I.Input.state c.args.self.now c.take_piece.new.self c.take_piece.new.line.items)
+    × HasNoNewline c.take_piece.new.line.items
+moved g c =
+    let piece = rw c.in-Ok-false.field-0-test at c.in-Ok-false.ensures.piece in
+    let same = c.in-Ok-false.ensures.same in (
+      λ reading. rw piece.2 (HasRead-more _ c.take_piece.new.self.ahead same (c.loop-self.invariant.read reading)
+          (omega (arith, c.take_piece.ensures.few.0, ap (λ (r : LineReaderValue _). r.taken) same))
+          (rw piece.1 (sym (append-nil c.loop-self.self.ahead)))),
+      grind (arith, common_steps, c.loop-self.invariant.plain, piece.0),
+    )
+
+-- more bytes are ahead
+pub loop-self-preserved : goal.loop-self-preserved
+loop-self-preserved g c =
+    let (read, plain) = moved g (goal.at.loop-self-preserved g c).In-Ok-false in
+    let piece = rw c.in-Ok-false.field-0-test at c.in-Ok-false.ensures.piece in
+    let fills = rw c.in-Ok-true-fill.field-0-test at c.in-Ok-true-fill.ensures.reads in
+    record {
+      read = λ reading. let h = read reading in let (going, size) = HasRead-given h in
+          HasRead-filled h piece.1 (fills going size) c.in-Ok-true-fill.ensures.taken.0;
+      going = search rules;
+      sum = search rules;
+      plain = plain;
+      taken = search rules;
+      same = search rules;
+      lines = search rules;
+      unread = inr (not_ahead _ _ c.loop-self.invariant.unread piece.0);
+    }
+
+-- the input has ended, and the line is empty
+pub returns-then-is_empty-clause-line : goal.returns-then-is_empty-clause-line
+returns-then-is_empty-clause-line g c =
+    let (read, plain) = moved g (goal.at.returns-then-is_empty-clause-line g c).In-Ok-false in
+    let piece = rw c.in-Ok-false.field-0-test at c.in-Ok-false.ensures.piece in
+    let fills = rw c.in-Ok-false-fill.field-0-test at c.in-Ok-false-fill.ensures.reads in
+    λ reading.
+    let h = read reading in
+    let (going, size) = HasRead-given h in
+    let (ends, phase) = fills going size in
+    ends_empty (has_ended c.fill.new.self _ Whole h piece.1 ends phase (search rules) (search rules) (λ w. search rules)
+    (rw (← c.self-in-loop-self.view_is) refl)) (nil_from_length _ (search rules)) _
+
+-- the input has ended after a last line
+pub returns-in-Ok-false-fill-clause-line : goal.returns-in-Ok-false-fill-clause-line
+returns-in-Ok-false-fill-clause-line g c =
+    let (read, plain) = moved g (goal.at.returns-in-Ok-false-fill-clause-line g c).In-Ok-false in
+    let piece = rw c.in-Ok-false.field-0-test at c.in-Ok-false.ensures.piece in
+    let fills = rw c.in-Ok-false-fill.field-0-test at c.in-Ok-false-fill.ensures.reads in
+    λ reading.
+    let h = read reading in
+    let (going, size) = HasRead-given h in
+    let (ends, phase) = fills going size in
+    ends_last (has_ended c.fill.new.self _ Whole h piece.1 ends phase (search rules) (search rules) (λ w. search rules)
+    (rw (← c.self-in-loop-self.view_is) refl)) plain (search rules)
+
+-- the input has a fault
+pub returns-in-Err-fill-clause-line : goal.returns-in-Err-fill-clause-line
+returns-in-Err-fill-clause-line g c =
+    let (read, plain) = moved g (goal.at.returns-in-Err-fill-clause-line g c).In-Ok-false in
+    let piece = rw c.in-Ok-false.field-0-test at c.in-Ok-false.ensures.piece in
+    let e = c.in-Err-fill.ensures in
+    λ reading.
+    let h = read reading in
+    let (going, size) = HasRead-given h in
+    let (ends, phase) = e.reads going size in
+    ends_fault (has_ended c.fill.new.self c.fill.new.self (Broken _) h piece.1 ends phase (e.fault refl).0
+    (e.fault refl).1 (λ w. cc) (ap (λ a. record c.fill.new.self { final_answer = a }) e.final_answer)) plain _
