@@ -60,7 +60,7 @@ left-next old new None h = h.0
 left-next old new (Some name) h = h
 
 -- the status is 0 only if all is good
-pub good_status : (good : Bool) (status : ℕ) → status ≡ status_of good → Ok {E = Stop} status ≡ Ok 0 → good ≡ true
+pub good_status : (good : Bool) (status : ℕ) → status ≡ status_of good → status ≡ 0 → good ≡ true
 good_status true status is zero = refl
 good_status false status is zero = cc
 
@@ -84,12 +84,12 @@ module _ {o : OperandsOfRun} where
   }
 
   -- one operand more happened
-  pub operands_done_step : {good : Bool} {name : ByteString} {rest : List ByteString} {x y : StreamsState}
+  pub operands_done_step : {Whole : Type 0} {good : Bool} {name : ByteString} {rest : List ByteString} {x y : StreamsState}
       (this : Bool) (z : StreamsState) → HasReached o (name ∷ rest) x y good
-      → (IsFlushed x.outputs → IsFlushed y.outputs) → ReadsToEndIf (Ok this ≡ Ok true) y.inputs z.inputs
+      → (IsFlushed x.outputs → IsFlushed y.outputs) → (this ≡ true → Whole) → ReadsToEndIf Whole y.inputs z.inputs
       → Performs (λ w. o.one w name) (λ g. g) y z (Ok this) → HasReached o rest x z (good && this)
-  operands_done_step {good = good} {name = name} {rest = rest} {x = x} {y = y} this z h kept reads k = record {
-    reads = reads_then (λ all. let parts = and_parts good this all in (parts.0, ap Ok parts.1)) h.reads reads;
+  operands_done_step {good = good} {name = name} {rest = rest} {x = x} {y = y} this z h kept whole reads k = record {
+    reads = reads_then (λ all. let parts = and_parts good this all in (parts.0, whole parts.1)) h.reads reads;
     reached = λ flushed w agrees.
         let p = h.reached flushed w (agrees_before agrees reads) in
         let q = k (kept flushed) w agrees in

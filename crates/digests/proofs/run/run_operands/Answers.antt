@@ -1,4 +1,4 @@
-use Rattle.std.proofs.Common.{rules}
+use Rattle.std.proofs.Common.{rules, ◌≡◌, ap, Ok}
 use Rattle.sum_engine.proofs.WorldLemmas.{reads_weaker, reads_then}
 use Rattle.digests.proofs.OperandLemmas.{left-next, operands_done_start, operands_done_step, operands_done_end, operands_done_stop, good_status}
 use Rattle.digests.proofs.run.run_operands.Goals as goal
@@ -28,7 +28,7 @@ operands-preserved g c =
     record {
       reached = rw (← left-next c.operands.operands _ c.next-next.result c.next-next.ensures.steps)
           (operands_done_step c.in-Ok.this c.run_operand.new.streams (rw c.in-Some.is at so_far.reached)
-          so_far.so_far.flushed c.in-Ok.ensures.reads c.in-Ok.ensures.behavior);
+          so_far.so_far.flushed (λ good. ap Ok good) c.in-Ok.ensures.reads c.in-Ok.ensures.behavior);
       so_far = search rules;
     }
 
@@ -39,4 +39,6 @@ returns-clause-behavior g c =
 
 pub returns-clause-reads : goal.returns-clause-reads
 returns-clause-reads g c =
-    reads_weaker (good_status c.operands.good _ c.status.ensures) c.operands.invariant.reached.reads
+    reads_weaker (λ zero.
+    let is : c.status.result ≡ 0 = cc in
+    good_status c.operands.good c.status.result c.status.ensures is) c.operands.invariant.reached.reads
