@@ -1,7 +1,6 @@
 -- `check_one`: a manifest is opened, its checker runs to its end, and it is closed. Each of the three needs a world
 -- that the one before it leaves. So the closing is joined to the run (`closed`), and the opening to both (`opened`).
-use Rattle.std.proofs.Common.{rules, ◌≡◌, ℕ, Bool, true, false, List, [], ◌∷◌, Option, IfSome, Result, Ok, Err, cond, refl, ap, codes}
-use Rattle.std.proofs.KnownBytes.{Appends-nil}
+use Rattle.std.proofs.Common.{rules, ◌≡◌, ℕ, Bool, true, false, List, [], ◌∷◌, Option, IfSome, Result, Ok, Err, cond, refl, ap, sym, append-nil, codes}
 use Rattle.std.proofs.Math.Bool.{or-false}
 use Rattle.sum_engine.specs.Behavior.{Fault, World, is_dash, answer_to, after, Step, events_of, SourceState, Answer, Content, InputState, clip}
 use Rattle.sum_sources.specs.declared.sources.source.OpenFault.{OpenFault}
@@ -75,8 +74,8 @@ module _ {S : Type 0} (state : S → SourceState) (settings : CheckSettings) (to
         PerformsSteps all.steps all.good (in_world state a w) (in_world state b v) x)
     opened_in dash c m b x w u v is asked answer ran =
         let did : Happened (in_world state a w) (in_world state (from_inputs m) u) (events_of (opening name)) =
-        Happened-by (name ∷ []) [] [] (asks_in state a (from_inputs m) asked answer.0) (Appends-nil _)
-        (Appends-nil _) in
+        Happened-by (name ∷ []) [] [] (asks_in state a (from_inputs m) asked answer.0)
+        (sym (append-nil _)) (sym (append-nil _)) in
         let of = manifest_behavior (rules_of settings (is_dash name)) (labels_of settings tool name) (clip c) u in
         rw (answer.1, ← answer.0) (behind_step (in_world state b v) of.good (opening name) of.steps x did
         (rw (← is) at ran))

@@ -134,8 +134,9 @@ module _ {I S : Type 0} {input : I → InputState} {state : S → SourceState} {
         let j = line_verdict_value vector v in
         let asked : AsksNames state a.inputs b.inputs (asks_of j) =
         record { asked = did.asked; taken = did.stdin_taken; refusals = did.out_of_memory } in
-        let said =
-        writes_and_returns w (answered q (Ok (Some v)) Going w refl refl is) (rw did.cursor.rules at wrote) in
+        let step = line_step p.rules labels 0 j in
+        let said = writes_and_returns {a = a.outputs} {b = b.outputs} {err = step.err} {out = step.out} w
+        (answered q (Ok (Some v)) Going w refl refl is) (rw did.cursor.rules at wrote) in
         rw said.returns (InSomeCheck-map found (λ c d w v f.
         let first = state_at p c w in
         let next = state_at q d v in

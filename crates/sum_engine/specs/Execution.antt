@@ -1,10 +1,10 @@
 -- The state of a call's streams, and what a call performs of a behavior: the form of the headline.
-use Rattle.std.specs.Prelude.{ℕ, ◌≡◌, ◌⊎◌, zero, suc, Bool, true, false, [], Option, Some, IfSome, Result, Err, ◌<◌, ◌||◌, List, ◌∷◌, ◌++◌, filter, not, filter_map, Ok}
+use Rattle.std.specs.Prelude.{ℕ, ◌≡◌, ◌⊎◌, zero, suc, Bool, true, false, [], Option, Some, IfSome, Result, Err, ◌<◌, ◌+◌, ◌||◌, List, ◌∷◌, ◌++◌, filter, not, filter_map, Ok}
 use Rattle.std.specs.List.{list_any}
 use Rattle.digest_kinds.specs.Limits.{one_more}
 pub use Rattle.sum_sources.specs.declared.inputs.phase.Phase.{Phase}
 pub use Rattle.sum_sources.specs.declared.inputs.phase.Phase.TheVariants.{Unfinished, AtEnd}
-use Rattle.sum_lines.specs.sinks.Sinks.{SinkState, IsPrefix, Appends}
+use Rattle.sum_lines.specs.sinks.Sinks.{SinkState, IsPrefix}
 pub use Rattle.sum_engine.specs.declared.streams.Streams.{Streams}
 pub use Rattle.sum_engine.specs.declared.stop.Stop.{Stop}
 pub use Rattle.sum_engine.specs.declared.stop.Stop.TheVariants.{Memory, Write}
@@ -37,8 +37,8 @@ abbrev pub HasNoFailure : OutputsState → OutputsState → Type 0
 HasNoFailure a b = (b.out.failures ≡ a.out.failures) × (b.err.failures ≡ a.err.failures)
 
 abbrev pub HasOneFailure : OutputsState → OutputsState → Type 0
-HasOneFailure a b = ((b.out.failures ≡ one_more a.out.failures) × (b.err.failures ≡ a.err.failures))
-    ⊎ ((b.out.failures ≡ a.out.failures) × (b.err.failures ≡ one_more a.err.failures))
+HasOneFailure a b = ((b.out.failures ≡ a.out.failures + 1) × (b.err.failures ≡ a.err.failures))
+    ⊎ ((b.out.failures ≡ a.out.failures) × (b.err.failures ≡ a.err.failures + 1))
 
 -- a write fault has one failure more, of one output, and any other result none
 abbrev pub FailuresMatch : {A : Type 0} → OutputsState → OutputsState → Result A Stop → Type 0
@@ -112,8 +112,8 @@ pub record Happened (a b : WorldState) (es : List Event) : Type 0 where
   pub world : b.world ≡ after a.world (filter_map opened_name es)
   pub asked : AskedMore a.source b.source (filter_map opened_name es)
   pub stdin_taken : b.stdin_taken ≡ a.stdin_taken || list_any is_dash (filter_map opened_name es)
-  pub err : Appends a.outputs.err.written b.outputs.err.written (filter_map err_byte es)
-  pub out : Appends a.outputs.out.written b.outputs.out.written (filter_map out_byte es)
+  pub err : b.outputs.err.written ≡ a.outputs.err.written ++ filter_map err_byte es
+  pub out : b.outputs.out.written ≡ a.outputs.out.written ++ filter_map out_byte es
   pub refusals : b.source.counts.refusals ≡ a.source.counts.refusals
 
 -- a prefix of these events happened
