@@ -1,24 +1,20 @@
 -- Runs that write one text and nothing else: a fault, the help, the version.
 use Rattle.std.proofs.Common.{rules, ℕ, Bool, [], Result, refl}
-use Rattle.sum_sources.specs.Sources.{SourceState}
 use Rattle.sum_engine.specs.declared.stop.Stop.{Stop}
 use Rattle.sum_engine.specs.Behavior.{single_step, ByteString}
 use Rattle.sum_engine.specs.Execution.{OutputsState, StreamsState, Performs, FailuresMatch}
 use Rattle.sum_engine.specs.refinement.FlushedWrites.{WritesAndFlushesBoth, WritesAndReturns, outcome_after}
-use Rattle.sum_engine.proofs.ExecutionLemmas.{asks_none}
-use Rattle.sum_engine.proofs.WorldLemmas.{InSomeWorld-none, asked_none}
+use Rattle.sum_engine.proofs.WorldLemmas.{asks_none}
 use Rattle.sum_engine.proofs.BehaviorLemmas.{Performs-step}
 use Rattle.digests.specs.Meaning.{status_of}
 
 -- texts alone were written, or a prefix of them
-pub Performs-texts : {S : Type 0} (state : S → SourceState) (a : StreamsState S) (outputs : OutputsState)
-    (err out : ByteString) (good : Bool) (x : Result ℕ Stop)
-    → WritesAndReturns a.outputs outputs err out (status_of good) x
-    → Performs state (λ w. single_step [] err out good) status_of a (record a { outputs = outputs }) x
-Performs-texts state a outputs err out good x said =
-    Performs-step state (λ w. single_step [] err out good) status_of good a (record a { outputs = outputs })
-    (InSomeWorld-none state a.inputs)
-    (asks_none (asked_none (state a.inputs.source)) refl refl) (λ w v same. (refl, same)) said
+pub Performs-texts : (a : StreamsState) (outputs : OutputsState) (err out : ByteString) (good : Bool)
+    (x : Result ℕ Stop) → WritesAndReturns a.outputs outputs err out (status_of good) x
+    → Performs (λ w. single_step [] err out good) status_of a (record a { outputs = outputs }) x
+Performs-texts a outputs err out good x said =
+    Performs-step (λ w. single_step [] err out good) status_of good a (record a { outputs = outputs })
+    (asks_none a.inputs) (λ new w agrees. refl) said
 
 -- if that failed, one output did
 pub FailuresMatch-texts : {E : Type 0} (a b : OutputsState) (err out : ByteString) (status : ℕ)

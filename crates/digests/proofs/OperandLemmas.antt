@@ -1,11 +1,10 @@
 -- Operands, one after another: the behavior of those before, followed by that of the rest, is the whole.
 use Rattle.std.proofs.Common.{◌≡◌, Bool, true, List, [], ◌∷◌, Option, None, Some, Ok, Err, refl, ap, sym, ◌∙◌, subst, append_assoc, append-nil, ◌&&◌, Bor}
 use Rattle.std.proofs.Math.Bool.{and_assoc, and-true}
-use Rattle.sum_sources.specs.Sources.{SourceState}
-use Rattle.sum_engine.proofs.WorldLemmas.{InSomeWorld-map, InSomeWorld-then}
+use Rattle.sum_engine.proofs.WorldLemmas.{KeepsKnown-none, KeepsKnown-then, unread_then, agrees_before, world_after}
 use Rattle.sum_engine.specs.declared.stop.Stop.{Stop}
 use Rattle.sum_engine.specs.Behavior.{World, after, Behavior, behavior_then, trace, asks, ByteString}
-use Rattle.sum_engine.specs.Execution.{StreamsState, WorldState, IsFlushed, InSomeWorld, in_world, Happened, Performs, PerformsSteps}
+use Rattle.sum_engine.specs.Execution.{StreamsState, IsFlushed, IsStdinUnread, KeepsKnown, Agrees, world_at, Happened, Performs, PerformsSteps}
 use Rattle.sum_engine.proofs.ExecutionLemmas.{Happened-none}
 use Rattle.sum_engine.proofs.BehaviorLemmas.{behavior_then-happened, behavior_then-first, behavior_then-second, events_extend}
 use Rattle.sum_words.specs.declared.tool.Tool.{Tool}
@@ -31,11 +30,11 @@ behavior_then-nothing a = rw (append-nil, and-true) refl
 
 -- ---- operands, one after another
 
--- the behavior of the operands before the rest happened, and was good or not
-pub record HasDoneOperands (one : World → ByteString → Behavior) (names rest : List ByteString) (a b : WorldState)
-    (good : Bool) : Type 0 where
+-- the behavior of the operands before the rest happened, from the world w to the world v, and was good or not
+pub record HasDoneOperands (one : World → ByteString → Behavior) (names rest : List ByteString) (w v : World)
+    (a b : StreamsState) (good : Bool) : Type 0 where
   pub done : Behavior
-  pub total : operands_behavior one a.world names ≡ behavior_then done (operands_behavior one b.world rest)
+  pub total : operands_behavior one w names ≡ behavior_then done (operands_behavior one v rest)
   pub happened : Happened a b (trace done.steps)
   pub is : good ≡ done.good
 
@@ -60,74 +59,73 @@ left-next old new None h = h.0
 left-next old new (Some name) h = h
 
 -- the operands before the rest were done, from x to y, if both outputs were flushed
-pub record HasReached {S : Type 0} (state : S → SourceState) (o : OperandsOfRun) (rest : List ByteString)
-    (x y : StreamsState S) (good : Bool) : Type 0 where
-  pub reached : IsFlushed x.outputs → InSomeWorld state x.inputs y.inputs
-      (λ w v. HasDoneOperands o.one o.names rest (in_world state x w) (in_world state y v) good)
+pub record HasReached (o : OperandsOfRun) (rest : List ByteString) (x y : StreamsState) (good : Bool) : Type 0 where
+  pub known : KeepsKnown x.inputs y.inputs
+  pub reached : IsFlushed x.outputs → IsStdinUnread x.inputs → (w : World) → Agrees w y.inputs
+      → HasDoneOperands o.one o.names rest (world_at w x.inputs) (world_at w y.inputs) x y good
 
-module _ {S : Type 0} {state : S → SourceState} {o : OperandsOfRun} where
+module _ {o : OperandsOfRun} where
   -- before the first operand nothing happened
-  pub operands_done_start : {rest : List ByteString} {a : StreamsState S} → o.names ≡ rest
-      → HasReached state o rest a a true
+  pub operands_done_start : {rest : List ByteString} {a : StreamsState} → o.names ≡ rest → HasReached o rest a a true
   operands_done_start {a = a} is = record {
-    reached = λ flushed. record {
-      before = λ v fits. (
-        v,
-        fits,
-        record {
-          done = nothing;
-          total = ap (operands_behavior o.one v) is;
-          happened = Happened-none (in_world state a v);
-          is = refl;
-        },
-      );
+    known = KeepsKnown-none a.inputs;
+    reached = λ flushed new w agrees. record {
+      done = nothing;
+      total = ap (operands_behavior o.one (world_at w a.inputs)) is;
+      happened = Happened-none a;
+      is = refl;
     };
   }
 
   -- one operand more happened
-  pub operands_done_step : {good : Bool} {name : ByteString} {rest : List ByteString} {x y : StreamsState S}
-      (this : Bool) (z : StreamsState S) → HasReached state o (name ∷ rest) x y good
-      → (IsFlushed x.outputs → IsFlushed y.outputs)
-      → Performs state (λ w. o.one w name) (λ g. g) y z (Ok this) → HasReached state o rest x z (good && this)
-  operands_done_step {name = name} {rest = rest} {y = y} this z h kept k = record {
-    reached = λ flushed. InSomeWorld-then (h.reached flushed) (k (kept flushed)) (λ u v w p q.
-        let b = in_world state y v in
-        let c = in_world state z w in
+  pub operands_done_step : {good : Bool} {name : ByteString} {rest : List ByteString} {x y : StreamsState}
+      (this : Bool) (z : StreamsState) → HasReached o (name ∷ rest) x y good
+      → (IsFlushed x.outputs → IsFlushed y.outputs) → KeepsKnown y.inputs z.inputs
+      → Performs (λ w. o.one w name) (λ g. g) y z (Ok this) → HasReached o rest x z (good && this)
+  operands_done_step {name = name} {rest = rest} {x = x} {y = y} this z h kept known k = record {
+    known = KeepsKnown-then h.known known;
+    reached = λ flushed new w agrees.
+        let here = unread_then x.inputs y.inputs h.known.stdin new in
+        let p = h.reached flushed new w (agrees_before agrees known here) in
+        let q = k (kept flushed) here w agrees in
+        let v = world_at w y.inputs in
         let run = o.one v name in
-        let world : w ≡ after v (asks run) = (events_extend run b c q.1).0 in
+        let world : world_at w z.inputs ≡ after v (asks run) =
+        world_after w y.inputs z.inputs (asks run) (events_extend run y z q.1).0 in
         record {
           done = behavior_then p.done run;
           total = p.total ∙ sym (behavior_then-assoc p.done run (operands_behavior o.one (after v (asks run)) rest))
               ∙ ap (λ w. behavior_then (behavior_then p.done run) (operands_behavior o.one w rest)) (sym world);
           happened = behavior_then-happened p.done.steps run.steps p.happened q.1;
           is = ap (λ g. g && this) p.is ∙ ap (λ g. p.done.good && g) q.0;
-        });
+        };
   }
 
   -- no operand is left
-  pub operands_done_end : {good : Bool} {x y : StreamsState S} → HasReached state o [] x y good
-      → Performs state (λ w. operands_behavior o.one w o.names) status_of x y (Ok (status_of good))
-  operands_done_end h = λ flushed. InSomeWorld-map (h.reached flushed) (λ w v p.
+  pub operands_done_end : {good : Bool} {x y : StreamsState} → HasReached o [] x y good
+      → Performs (λ w. operands_behavior o.one w o.names) status_of x y (Ok (status_of good))
+  operands_done_end {x = x} {y = y} h = λ flushed new w agrees.
+      let p = h.reached flushed new w agrees in
       let total = p.total ∙ behavior_then-nothing p.done in (
         ap status_of (p.is ∙ ap (λ (r : Behavior). r.good) (sym total)),
-        subst (λ (r : Behavior). Happened _ _ (trace r.steps)) (sym total) p.happened,
-      ))
+        subst (λ (r : Behavior). Happened x y (trace r.steps)) (sym total) p.happened,
+      )
 
   -- the next operand stopped the run
-  pub operands_done_stop : {good : Bool} {name : ByteString} {rest : List ByteString} {x y : StreamsState S}
-      (stop : Stop) (z : StreamsState S) → HasReached state o (name ∷ rest) x y good
-      → (IsFlushed x.outputs → IsFlushed y.outputs)
-      → Performs state (λ w. o.one w name) (λ g. g) y z (Err stop)
-      → Performs state (λ w. operands_behavior o.one w o.names) status_of x z (Err stop)
-  operands_done_stop {name = name} {rest = rest} {x = x} {y = y} stop z h kept k = λ flushed.
-      InSomeWorld-then (h.reached flushed) (k (kept flushed)) (λ u v w p q.
-      let a = in_world state x u in
-      let b = in_world state y v in
-      let c = in_world state z w in
+  pub operands_done_stop : {good : Bool} {name : ByteString} {rest : List ByteString} {x y : StreamsState}
+      (stop : Stop) (z : StreamsState) → HasReached o (name ∷ rest) x y good
+      → (IsFlushed x.outputs → IsFlushed y.outputs) → KeepsKnown y.inputs z.inputs
+      → Performs (λ w. o.one w name) (λ g. g) y z (Err stop)
+      → Performs (λ w. operands_behavior o.one w o.names) status_of x z (Err stop)
+  operands_done_stop {name = name} {rest = rest} {x = x} {y = y} stop z h kept known k = λ flushed new w agrees.
+      let here = unread_then x.inputs y.inputs h.known.stdin new in
+      let p = h.reached flushed new w (agrees_before agrees known here) in
+      let q = k (kept flushed) here w agrees in
+      let v = world_at w y.inputs in
       let run = o.one v name in
       let later = operands_behavior o.one (after v (asks run)) rest in
       let status = status_of (behavior_then p.done (behavior_then run later)).good in
-      let next = behavior_then-first b c status run.good run.steps later.steps stop q in
-      let all = behavior_then-second c status status p.done.steps (behavior_then run later).steps stop p.happened next
+      let next = behavior_then-first y z status run.good run.steps later.steps stop q in
+      let all = behavior_then-second z status status p.done.steps (behavior_then run later).steps stop p.happened next
       in
-      subst (λ (r : Behavior). PerformsSteps r.steps (status_of r.good) a c (Err stop)) (sym p.total) all)
+      subst (λ (r : Behavior). PerformsSteps r.steps (status_of r.good) x z (Err stop)) (sym p.total) all

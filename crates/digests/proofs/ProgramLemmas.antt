@@ -1,10 +1,8 @@
 -- A run and its end, joined: what the whole program does.
 use Rattle.std.proofs.Common.{rules, arith, ◌≡◌, ℕ, List, [], Option, None, Result, Ok, Err, false, sym, refl, ◌∙◌, append-nil}
-use Rattle.sum_sources.specs.Sources.{SourceState}
-use Rattle.sum_engine.proofs.WorldLemmas.{InSomeWorld-map}
 use Rattle.sum_words.specs.Texts.{Stop}
 use Rattle.sum_engine.specs.Behavior.{World, Event, Behavior, trace, single_step, ByteString}
-use Rattle.sum_engine.specs.Execution.{OutputsState, StreamsState, WorldState, IsFlushed, FailuresMatch, Happened, Performs}
+use Rattle.sum_engine.specs.Execution.{OutputsState, StreamsState, world_at, IsFlushed, FailuresMatch, Happened, Performs}
 use Rattle.sum_words.specs.CommandLines.{CommandLineValue}
 use Rattle.digests.specs.Meaning.{status_of}
 use Rattle.digests.specs.Program.{CallPerforms, call_behavior, call_stop_line}
@@ -14,48 +12,45 @@ use Rattle.digests.proofs.MessageLemmas.{Performs-texts, FailuresMatch-texts}
 -- ---- a run that answered, and its end
 
 -- nothing more was done
-Happened-kept : {a b : WorldState} (es : List Event) (outputs : OutputsState) → Happened a b es
+Happened-kept : {a b : StreamsState} (es : List Event) (outputs : OutputsState) → Happened a b es
     → KeepsBoth b.outputs outputs → Happened a (record b { outputs = outputs }) es
 Happened-kept {a} {b} es outputs h kept = search rules
 
-module _ {S : Type 0} (state : S → SourceState) where
-  -- so a run that didn't stop is still done, once both outputs were flushed; or it failed after all events
-  Performs-flushed : (run : World → Behavior) (a b : StreamsState S) (outputs : OutputsState) (x : ℕ)
-      (later : Result ℕ Stop) → Performs state run status_of a b (Ok x)
-      → FlushesBoth b.outputs outputs (Ok x) later → KeepsBoth b.outputs outputs
-      → Performs state run status_of a (record b { outputs = outputs }) later
-  Performs-flushed run a b outputs x (Ok y) ran flushes kept = λ flushed. InSomeWorld-map (ran flushed) (λ w v p.
-      (flushes.0 ∙ p.0, Happened-kept (trace (run w).steps) outputs p.1 kept))
-  Performs-flushed run a b outputs x (Err stop) ran flushes kept = rw flushes.0 (λ flushed.
-      InSomeWorld-map (ran flushed) (λ w v p. (
-        trace (run w).steps,
-        ([], sym (append-nil (trace (run w).steps))),
-        Happened-kept (trace (run w).steps) outputs p.1 kept,
-      )))
+-- so a run that didn't stop is still done, once both outputs were flushed; or it failed after all events
+Performs-flushed : (run : World → Behavior) (a b : StreamsState) (outputs : OutputsState) (x : ℕ)
+    (later : Result ℕ Stop) → Performs run status_of a b (Ok x)
+    → FlushesBoth b.outputs outputs (Ok x) later → KeepsBoth b.outputs outputs
+    → Performs run status_of a (record b { outputs = outputs }) later
+Performs-flushed run a b outputs x (Ok y) ran flushes kept = λ flushed new w agrees.
+    let p = ran flushed new w agrees in
+    (flushes.0 ∙ p.0, Happened-kept (trace (run (world_at w a.inputs)).steps) outputs p.1 kept)
+Performs-flushed run a b outputs x (Err stop) ran flushes kept = rw flushes.0 (λ flushed new w agrees.
+    let all = trace (run (world_at w a.inputs)).steps in
+    (all, ([], sym (append-nil all)), Happened-kept all outputs (ran flushed new w agrees).1 kept))
 
-  -- a run and its end, by the run's answer and what the flushes returned; b is how things stood between
-  pub CallPerforms-finished : (status : ℕ) (line : Option CommandLineValue) (a b : StreamsState S)
-      (outputs : OutputsState) (answer : Result ℕ Stop) → Performs state (call_behavior line) status_of a b answer
-      → FailuresMatch a.outputs b.outputs answer → FinishesRun (call_stop_line line) answer b.outputs outputs status
-      → CallPerforms state line a (record b { outputs = outputs }) status
-  CallPerforms-finished status line a b outputs (Ok x) ran failed (later, m, flushes, kept, reports) = (
-    later,
-    record b { outputs = m },
-    Performs-flushed (call_behavior line) a b m x later ran flushes kept,
-    grind arith,
-    refl,
-    reports,
-  )
-  CallPerforms-finished status line a b outputs (Err stop) ran failed (later, m, flushes, kept, reports) =
-      (Err stop, b, ran, failed, refl, rw (flushes.0, flushes.1) at reports)
+-- a run and its end, by the run's answer and what the flushes returned; b is how things stood between
+pub CallPerforms-finished : (status : ℕ) (line : Option CommandLineValue) (a b : StreamsState)
+    (outputs : OutputsState) (answer : Result ℕ Stop) → Performs (call_behavior line) status_of a b answer
+    → FailuresMatch a.outputs b.outputs answer → FinishesRun (call_stop_line line) answer b.outputs outputs status
+    → CallPerforms line a (record b { outputs = outputs }) status
+CallPerforms-finished status line a b outputs (Ok x) ran failed (later, m, flushes, kept, reports) = (
+  later,
+  record b { outputs = m },
+  Performs-flushed (call_behavior line) a b m x later ran flushes kept,
+  grind arith,
+  refl,
+  reports,
+)
+CallPerforms-finished status line a b outputs (Err stop) ran failed (later, m, flushes, kept, reports) =
+    (Err stop, b, ran, failed, refl, rw (flushes.0, flushes.1) at reports)
 
-  -- a call in whose place this text is written
-  pub CallPerforms-refused : (status : ℕ) (line : Option CommandLineValue) (a : StreamsState S)
-      (outputs : OutputsState) (text : ByteString) → call_behavior line ≡ (λ w. single_step [] text [] false)
-      → call_stop_line line ≡ tool_stop_line None → Refuses text a.outputs outputs status → IsFlushed a.outputs
-      → CallPerforms state line a (record a { outputs = outputs }) status
-  CallPerforms-refused status line a outputs text is stop refused flushed =
-      let (answer, between, said, finish) = refused flushed in
-      CallPerforms-finished status line a (record a { outputs = between }) outputs answer
-      (rw is (Performs-texts state a between text [] false answer said))
-      (rw said.returns (FailuresMatch-texts a.outputs between text [] 1 said.written said.writes)) (rw stop finish)
+-- a call in whose place this text is written
+pub CallPerforms-refused : (status : ℕ) (line : Option CommandLineValue) (a : StreamsState)
+    (outputs : OutputsState) (text : ByteString) → call_behavior line ≡ (λ w. single_step [] text [] false)
+    → call_stop_line line ≡ tool_stop_line None → Refuses text a.outputs outputs status → IsFlushed a.outputs
+    → CallPerforms line a (record a { outputs = outputs }) status
+CallPerforms-refused status line a outputs text is stop refused flushed =
+    let (answer, between, said, finish) = refused flushed in
+    CallPerforms-finished status line a (record a { outputs = between }) outputs answer
+    (rw is (Performs-texts a between text [] false answer said))
+    (rw said.returns (FailuresMatch-texts a.outputs between text [] 1 said.written said.writes)) (rw stop finish)

@@ -10,7 +10,7 @@ use Rattle.md5.specs.Md5.{block_words as md5_words, rounds as md5_rounds, compre
 use Rattle.blake2b_core.specs.Compression.{mix, round, start, compress}
 use Rattle.blake2b_core.specs.Digest.{blocks, blake2b}
 use Rattle.sum_sources.specs.declared.fault.Fault.TheVariants.{NotFound, Other}
-use Rattle.sum_engine.specs.Behavior.{Whole, Broken, out_text, err_text, asks}
+use Rattle.sum_engine.specs.Behavior.{World, Whole, Broken, out_text, err_text, asks}
 use Rattle.std.specs.Fmt.{digits}
 use Rattle.hex.specs.Hex.{encode_with, decode_pairs}
 use Rattle.sum_lines.specs.grammar.LineParts.{plain_parts, tagged_parts}
@@ -61,7 +61,8 @@ record Outcome : Type 0 where
 -- the outcome of a tool's words, if the file `l` has the first content and standard input the second
 abbrev outcome : Tool → List ByteString → Content → Content → Outcome
 outcome tool words l input =
-    let run = meaning tool words (record { answer = λ asked. answer_with l; input = input }) in
+    let w : World = record { answer = λ n. answer_with l; input = input; opened = 0; stdin_taken = false } in
+    let run = meaning tool words w in
     record { out = out_text run; err = err_text run; asks = asks run; good = run.good }
 
 -- each of two files has a line

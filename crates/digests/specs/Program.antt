@@ -1,6 +1,5 @@
 -- What the program does, from the list of its arguments to its status.
 use Rattle.std.specs.Prelude.{ℕ, ◌≡◌, ◌+◌, ◌++◌, ◌⊎◌, false, List, [], Option, None, Some, Result, Ok, Err, IfSome}
-use Rattle.sum_sources.specs.Sources.{SourceState}
 use Rattle.sum_lines.specs.sinks.Sinks.{SinkState, IsPrefix}
 use Rattle.sum_engine.specs.Behavior.{World, Behavior, single_step, ByteString}
 use Rattle.sum_engine.specs.Execution.{OutputsState, StreamsState, IsFlushed, FailuresMatch, Performs}
@@ -31,16 +30,14 @@ ReportsStop line (Err stop) a b status = (status ≡ 1) × (b ≡ record a { err
     × WritesLine (line stop) a.err b.err
 
 -- THE PROGRAM, for one call: it performs the call's behavior, and then reports a stop
-abbrev pub CallPerforms : {S : Type 0} → (S → SourceState) → Option CommandLineValue
-    → StreamsState S → StreamsState S → ℕ → Type 0
-CallPerforms {S} state line a b status = (answer : Result ℕ Stop) × (between : StreamsState S)
-    × Performs state (call_behavior line) status_of a between answer
+abbrev pub CallPerforms : Option CommandLineValue → StreamsState → StreamsState → ℕ → Type 0
+CallPerforms line a b status = (answer : Result ℕ Stop) × (between : StreamsState)
+    × Performs (call_behavior line) status_of a between answer
     × FailuresMatch a.outputs between.outputs answer × (b.inputs ≡ between.inputs)
     × ReportsStop (call_stop_line line) answer between.outputs b.outputs status
 
 -- known arguments, flushed outputs: their call is performed, or, if it needs memory, that of words that were not read
-abbrev pub ProgramPerforms :
-    {S : Type 0} → (S → SourceState) → Option (List ByteString) → StreamsState S → StreamsState S → ℕ → Type 0
-ProgramPerforms state known a b status = IsFlushed a.outputs → IfSome known (λ arguments.
-    CallPerforms state (Some (command_line arguments)) a b status
-    ⊎ (NeedsMemory arguments × CallPerforms state None a b status))
+abbrev pub ProgramPerforms : Option (List ByteString) → StreamsState → StreamsState → ℕ → Type 0
+ProgramPerforms known a b status = IsFlushed a.outputs → IfSome known (λ arguments.
+    CallPerforms (Some (command_line arguments)) a b status
+    ⊎ (NeedsMemory arguments × CallPerforms None a b status))

@@ -1,6 +1,6 @@
 //! The run of a tool on its words.
-ghost use Rattle.std.specs.Prelude.{◌≡◌, ◌∷◌, true, Ok};
-ghost use Rattle.sum_engine.specs.Execution.{IsFlushed, FailuresMatch, ReadToEnd};
+ghost use Rattle.std.specs.Prelude.{◌≡◌, ◌∷◌};
+ghost use Rattle.sum_engine.specs.Execution.{IsFlushed, FailuresMatch, KeepsKnown};
 ghost use Rattle.sum_engine.specs.Execution.{RefusalsMatch, StopHasCause, Performs};
 ghost use Rattle.sum_engine.specs.refinement.FlushedWrites.{outcome_after};
 ghost use Rattle.sum_words.specs.Tools.{name_of};
@@ -31,16 +31,14 @@ pub fn run<A: Allocator + Copy, I: Input + Drop, S: Source, O: Sink, E: Sink>(
     words: &Words<A>,
     streams: &mut Streams<Inputs<I, S>, Outputs<O, E>>,
 ) -> Result<u8, Stop>
-    // If both outputs are flushed: the behavior that the words mean in some world.
-    ensures behavior { Performs S.state (meaning tool words.now) status_of streams.old streams.new result }
+    // If both outputs are flushed: the behavior that the words mean, in each world that agrees with what was read.
+    ensures behavior { Performs (meaning tool words.now) status_of streams.old streams.new result }
     ensures flushed { IsFlushed streams.old.outputs → IsFlushed streams.new.outputs }
-    // Also for unknown files: refusals rise only as the request allows.
-    ensures refusals { RefusalsMatch S.state (AllowsRefusals (request tool words.now)) streams.old.inputs
+    // Refusals rise only as the request allows.
+    ensures refusals { RefusalsMatch (AllowsRefusals (request tool words.now)) streams.old.inputs
         streams.new.inputs result }
     ensures failures { FailuresMatch streams.old.outputs streams.new.outputs result }
-    // Also for unknown files: status 0 only if each file that was opened, and standard input if taken, was read to its
-    // end.
-    ensures read_to_end { result ≡ Ok 0 → ReadToEnd S.state streams.old.inputs streams.new.inputs }
+    ensures known { KeepsKnown streams.old.inputs streams.new.inputs }
 {
     run_request(alloc, tool, read_words(tool, words), streams)
 }
@@ -52,10 +50,10 @@ fn run_request<A: Allocator + Copy, I: Input + Drop, S: Source, O: Sink, E: Sink
     asked: Result<Request, WordFault>,
     streams: &mut Streams<Inputs<I, S>, Outputs<O, E>>,
 ) -> Result<u8, Stop>
-    ensures behavior { Performs S.state (request_behavior tool (result_value asked.entry)) status_of streams.old
+    ensures behavior { Performs (request_behavior tool (result_value asked.entry)) status_of streams.old
         streams.new result }
-    ensures cause { StopHasCause S.state (AllowsRefusals (result_value asked.entry)) streams.old streams.new result }
-    ensures read_to_end { result ≡ Ok 0 → ReadToEnd S.state streams.old.inputs streams.new.inputs }
+    ensures cause { StopHasCause (AllowsRefusals (result_value asked.entry)) streams.old streams.new result }
+    ensures known { KeepsKnown streams.old.inputs streams.new.inputs }
 {
     match asked {
         Err(fault) => status_after_write(
@@ -102,10 +100,10 @@ fn run_operand<A: Allocator + Copy, I: Input + Drop, S: Source, O: Sink, E: Sink
     name: &[u8],
     streams: &mut Streams<Inputs<I, S>, Outputs<O, E>>,
 ) -> Result<bool, Stop>
-    ensures behavior { Performs S.state (λ w. operand_behavior job.now (name_of tool) w name.now) (λ good. good)
+    ensures behavior { Performs (λ w. operand_behavior job.now (name_of tool) w name.now) (λ good. good)
         streams.old streams.new result }
-    ensures cause { StopHasCause S.state (JobAllowsRefusals job.now) streams.old streams.new result }
-    ensures read_to_end { result ≡ Ok true → ReadToEnd S.state streams.old.inputs streams.new.inputs }
+    ensures cause { StopHasCause (JobAllowsRefusals job.now) streams.old streams.new result }
+    ensures known { KeepsKnown streams.old.inputs streams.new.inputs }
 {
     match job {
         Job::Generate(settings) => generate_one(settings, tool.name(), name, streams),
@@ -131,11 +129,11 @@ fn run_operands<A: Allocator + Copy, I: Input + Drop, S: Source, O: Sink, E: Sin
     operands: Operands,
     streams: &mut Streams<Inputs<I, S>, Outputs<O, E>>,
 ) -> Result<u8, Stop>
-    ensures behavior { Performs S.state (λ w. operands_behavior (operand_behavior job.now (name_of tool)) w
+    ensures behavior { Performs (λ w. operands_behavior (operand_behavior job.now (name_of tool)) w
         (or_dash operands.entry)) status_of
         streams.old streams.new result }
-    ensures cause { StopHasCause S.state (JobAllowsRefusals job.now) streams.old streams.new result }
-    ensures read_to_end { result ≡ Ok 0 → ReadToEnd S.state streams.old.inputs streams.new.inputs }
+    ensures cause { StopHasCause (JobAllowsRefusals job.now) streams.old streams.new result }
+    ensures known { KeepsKnown streams.old.inputs streams.new.inputs }
 {
     let mut operands = operands;
     let mut next = Some(first_name(&mut operands));

@@ -2,24 +2,23 @@
 use Rattle.std.proofs.Common.{rules, ◌≡◌, ℕ, Bool, List, [], ◌∷◌, ◌++◌, Option, Result, Ok, Err, refl, ap, sym, ◌∙◌, subst, append_assoc, append-nil, flat_map, filter_map}
 use Rattle.std.proofs.lemmas.Grind.{flat_map-append}
 use Rattle.std.proofs.lemmas.List.Elements.{filter_map-append}
-use Rattle.sum_engine.specs.Execution.{Stop, Memory, Write, StreamsState, WorldState, in_world, InSomeWorld, Happened, PerformsSteps, Performs}
-use Rattle.sum_engine.specs.Behavior.{World, after, Event, Step, Behavior, trace, events_of, single_step, SourceState}
+use Rattle.sum_engine.specs.Execution.{Stop, Memory, Write, StreamsState, AsksNames, Agrees, world_at, IsStdinUnread, Happened, PerformsSteps, Performs}
+use Rattle.sum_engine.specs.Behavior.{World, Event, Step, Behavior, trace, events_of, single_step}
 use Rattle.sum_engine.specs.check.CheckerSteps.{step_then}
 use Rattle.sum_engine.specs.check.CheckerLaws.{EventsExtend}
 use Rattle.sum_engine.specs.refinement.FlushedWrites.{WritesAndReturns}
-use Rattle.sum_engine.specs.refinement.Names.{AsksNames, MemoryWasRefused}
-use Rattle.sum_engine.proofs.ExecutionLemmas.{asks_in, step_performed, names-by, err-by, out-by, Happened-none, Happened-then, HappenedOrPrefix-by, refused_in, refused_first}
-use Rattle.sum_engine.proofs.WorldLemmas.{InSomeWorld-map}
+use Rattle.sum_engine.specs.refinement.Names.{MemoryWasRefused}
+use Rattle.sum_engine.proofs.ExecutionLemmas.{step_performed, names-by, err-by, out-by, Happened-none, Happened-then, HappenedOrPrefix-by, refused_in, refused_first}
 
 -- ---- a behavior after a step, and one behavior after another
 
 -- both happened
-pub behavior_then-happened : {a b c : WorldState} (r s : List Step) → Happened a b (trace r) → Happened b c (trace s)
+pub behavior_then-happened : {a b c : StreamsState} (r s : List Step) → Happened a b (trace r) → Happened b c (trace s)
     → Happened a c (trace (r ++ s))
 behavior_then-happened r s h k = rw (flat_map-append events_of r s) (Happened-then (trace r) (trace s) h k)
 
 -- the first happened, and the second stopped
-pub behavior_then-second : {A B : Type 0} {a b : WorldState} (c : WorldState) (x : A) (y : B) (r s : List Step)
+pub behavior_then-second : {A B : Type 0} {a b : StreamsState} (c : StreamsState) (x : A) (y : B) (r s : List Step)
     (stop : Stop)
     → Happened a b (trace r) → PerformsSteps s y b c (Err stop) → PerformsSteps (r ++ s) x a c (Err stop)
 behavior_then-second c x y r s Write h k =
@@ -35,13 +34,13 @@ behavior_then-second c x y r s Memory h k = record {
 }
 
 -- the first stopped
-pub behavior_then-first : {A B : Type 0} (a b : WorldState) (x : A) (y : B) (r s : List Step) (stop : Stop)
+pub behavior_then-first : {A B : Type 0} (a b : StreamsState) (x : A) (y : B) (r s : List Step) (stop : Stop)
     → PerformsSteps r y a b (Err stop) → PerformsSteps (r ++ s) x a b (Err stop)
 behavior_then-first a b x y r s Write h = (h.0, (h.1.0 ++ trace s, search (rules, flat_map-append, append_assoc)), h.2)
 behavior_then-first a b x y r s Memory h = search (rules, append_assoc)
 
 -- a behavior after its first step, which happened
-pub behind_step : {A : Type 0} {a b : WorldState} (c : WorldState) (x : A) (s : Step) (r : List Step)
+pub behind_step : {A : Type 0} {a b : StreamsState} (c : StreamsState) (x : A) (s : Step) (r : List Step)
     (y : Result A Stop)
     → Happened a b (events_of s) → PerformsSteps r x b c y → PerformsSteps (s ∷ r) x a c y
 behind_step c x s r (Ok good) h k = (k.0, Happened-then (events_of s) (trace r) h k.1)
@@ -50,18 +49,18 @@ behind_step c x s r (Err stop) h k = behavior_then-second c x x (s ∷ []) r sto
 -- ---- along a run
 
 -- of the whole run all happened but what is left
-pub record HasDoneUpTo (whole left : Behavior) (a b : WorldState) : Type 0 where
+pub record HasDoneUpTo (whole left : Behavior) (a b : StreamsState) : Type 0 where
   pub done : List Step
   pub steps : whole.steps ≡ done ++ left.steps
   pub good : left.good ≡ whole.good
   pub happened : Happened a b (trace done)
 
 -- nothing happened so far
-pub done_none : (whole : Behavior) (a : WorldState) → HasDoneUpTo whole whole a a
+pub done_none : (whole : Behavior) (a : StreamsState) → HasDoneUpTo whole whole a a
 done_none whole a = record { done = []; steps = refl; good = refl; happened = Happened-none a }
 
 -- one step more happened
-pub done_more : {a b c : WorldState} {whole left : Behavior} (step : Step) (later : Behavior)
+pub done_more : {a b c : StreamsState} {whole left : Behavior} (step : Step) (later : Behavior)
     → HasDoneUpTo whole left a b → left ≡ step_then step later → Happened b c (trace (step ∷ []))
     → HasDoneUpTo whole later a c
 done_more step later h is k = record {
@@ -72,12 +71,12 @@ done_more step later h is k = record {
 }
 
 -- no step is left: all happened
-pub done_end : {a b : WorldState} {whole left : Behavior} → HasDoneUpTo whole left a b → left.steps ≡ []
+pub done_end : {a b : StreamsState} {whole left : Behavior} → HasDoneUpTo whole left a b → left.steps ≡ []
     → (left.good ≡ whole.good) × Happened a b (trace whole.steps)
 done_end h none = (h.good, rw (h.steps, none, append-nil h.done) h.happened)
 
 -- the next step stopped
-pub done_stops : {A B : Type 0} {a b : WorldState} {whole left : Behavior} (c : WorldState) (x : A) (y : B)
+pub done_stops : {A B : Type 0} {a b : StreamsState} {whole left : Behavior} (c : StreamsState) (x : A) (y : B)
     (step : Step) (later : Behavior) (stop : Stop) → HasDoneUpTo whole left a b → left ≡ step_then step later
     → PerformsSteps (step ∷ []) y b c (Err stop) → PerformsSteps whole.steps x a c (Err stop)
 done_stops {a = a} {b = b} c x y step later stop h is k =
@@ -89,28 +88,22 @@ done_stops {a = a} {b = b} c x y step later stop h is k =
 -- ---- a run of one step
 
 -- the step was done, or a prefix of it
-pub Performs-step : {S A : Type 0} (state : S → SourceState) (run : World → Behavior) (outcome : Bool → A) (good : Bool)
-    (a b : StreamsState S) {names : List (List ℕ)} {err out : List ℕ} {x : Result A Stop} {P : World → World → Type 0}
-    → InSomeWorld state a.inputs b.inputs P → AsksNames state a.inputs b.inputs names
-    → ((w v : World) → P w v → (run w ≡ single_step names err out good) × (v ≡ after w names))
-    → WritesAndReturns a.outputs b.outputs err out (outcome good) x → Performs state run outcome a b x
-Performs-step state run outcome good a b {names} {err} {out} h asked is said = λ flushed.
-    InSomeWorld-map h (λ w v p.
-    let came = HappenedOrPrefix-by (in_world state a w) (in_world state b v) names err out said.written
-    (asks_in state a b asked (is w v p).1) (said.writes.1 flushed).1 in
-    rw ((is w v p).0, said.returns) (step_performed (outcome good) (in_world state a w) (in_world state b v) _
-    said.written came))
+pub Performs-step : {A : Type 0} (run : World → Behavior) (outcome : Bool → A) (good : Bool) (a b : StreamsState)
+    {names : List (List ℕ)} {err out : List ℕ} {x : Result A Stop} → AsksNames a.inputs b.inputs names
+    → (IsStdinUnread a.inputs → (w : World) → Agrees w b.inputs
+    → run (world_at w a.inputs) ≡ single_step names err out good)
+    → WritesAndReturns a.outputs b.outputs err out (outcome good) x → Performs run outcome a b x
+Performs-step run outcome good a b {names} {err} {out} asked is said = λ flushed new w agrees.
+    let came = HappenedOrPrefix-by a b names err out said.written asked (said.writes.1 flushed).1 in
+    rw (is new w agrees, said.returns) (step_performed (outcome good) a b _ said.written came)
 
 -- the source had no memory to open the first step's name
-pub Performs-refused : {S A : Type 0} (state : S → SourceState) (run : World → Behavior) (outcome : Bool → A)
-    (a b : StreamsState S)
+pub Performs-refused : {A : Type 0} (run : World → Behavior) (outcome : Bool → A) (a b : StreamsState)
     → ((w : World) → (s : Step) × (rest : List Step) × ((run w).steps ≡ s ∷ rest))
-    → InSomeWorld state a.inputs b.inputs (λ w v. v ≡ w) → MemoryWasRefused state a.inputs b.inputs
-    → b.outputs ≡ a.outputs → Performs state run outcome a b (Err Memory)
-Performs-refused state run outcome a b first same refused outputs = λ flushed.
-    InSomeWorld-map same (λ w v is.
-    let next = first w in
-    refused_first next.0 next.1 next.2 (refused_in a b next.0 is refused outputs))
+    → MemoryWasRefused a.inputs b.inputs → b.outputs ≡ a.outputs → Performs run outcome a b (Err Memory)
+Performs-refused run outcome a b first refused outputs = λ flushed new w agrees.
+    let next = first (world_at w a.inputs) in
+    refused_first next.0 next.1 next.2 (refused_in a b next.0 refused outputs)
 
 -- ---- what a run's events come to
 

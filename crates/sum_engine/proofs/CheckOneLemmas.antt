@@ -1,154 +1,177 @@
--- `check_one`: a manifest is opened, its checker runs to its end, and it is closed. Each of the three needs a world
--- that the one before it leaves. So the closing is joined to the run (`closed`), and the opening to both (`opened`).
-use Rattle.std.proofs.Common.{rules, ◌≡◌, ℕ, Bool, true, false, List, [], ◌∷◌, Option, IfSome, Result, Ok, Err, cond, refl, ap, sym, append-nil, codes}
+-- `check_one`: a manifest is opened, its checker runs to its end, and it is closed.
+use Rattle.std.proofs.Common.{rules, ◌≡◌, ℕ, Bool, true, false, List, [], ◌∷◌, Result, Ok, Err, Some, None, cond, refl, codes, ◌++◌, ◌∙◌, inl, sym, map, Option, append_assoc, append-nil}
+use Rattle.std.specs.Prelude.{length}
+use Rattle.std.proofs.lemmas.List.{map-append}
 use Rattle.std.proofs.Math.Bool.{or-false}
-use Rattle.sum_engine.specs.Behavior.{Fault, World, is_dash, answer_to, after, Step, events_of, SourceState, Answer, Content, InputState, clip}
-use Rattle.sum_sources.specs.declared.sources.source.OpenFault.{OpenFault}
+use Rattle.sum_sources.specs.Contents.{Reads, IsOf, IsSameInput, HasContent, empty_content, unread}
+use Rattle.sum_sources.specs.Sources.{Opening, opened_file, and_opening, after_closing}
+use Rattle.sum_sources.specs.SourceLaws.{closed_at-seam}
+use Rattle.sum_engine.specs.Behavior.{Fault, World, is_dash, answer_to, after, Step, events_of, Answer, Content, InputState, clip}
 use Rattle.sum_engine.specs.check.CheckerLaws.{ManifestPerforms}
-use Rattle.sum_engine.specs.check.Verdicts.{Rules, present}
+use Rattle.sum_engine.specs.check.Verdicts.{present}
 use Rattle.sum_engine.specs.check.Reports.{LabelsValue}
 use Rattle.sum_engine.specs.check.Checking.{CheckSettings, rules_of, labels_of, check_behavior_by, check_behavior}
-use Rattle.sum_engine.specs.Execution.{Phase, Stop, Memory, InputsState, OutputsState, StreamsState, in_world, InSomeWorld, Happened, PerformsSteps, Performs}
+use Rattle.sum_engine.specs.Execution.{Stop, Memory, InputsState, OutputsState, StreamsState, AsksNames, KeepsStdin, KeepsKnown, IsStdinUnread, AgreesAnswer, Agrees, world_at, Happened, PerformsSteps, Performs}
 use Rattle.sum_engine.specs.Generation.{name_fault_line}
 use Rattle.sum_engine.specs.refinement.FlushedWrites.{WritesAndReturns}
-use Rattle.sum_engine.specs.refinement.Names.{stdin_taken_from, OpensFile, ClosesFile}
-use Rattle.sum_engine.specs.refinement.Names.{AsksNames}
-use Rattle.sum_engine.proofs.ExecutionLemmas.{asks_name, asks_in, Happened-by, IsKept, kept_performs}
-use Rattle.sum_engine.proofs.WorldLemmas.{InSomeWorld-then, asked_none, dash_asked, opened_file, opened_fault, opened_nothing, stdin_given, may-closed}
+use Rattle.sum_engine.specs.refinement.Names.{GivesStdin, MemoryWasRefused}
+use Rattle.sum_engine.proofs.ExecutionLemmas.{Happened-by, IsKept, kept_performs}
+use Rattle.sum_engine.proofs.WorldLemmas.{stdin_then, unread_then, world_after, one_opening, opening_agrees, AgreesAnswers-open}
 use Rattle.sum_engine.proofs.CheckLinesLemmas.{manifest_behavior}
 use Rattle.sum_engine.proofs.BehaviorLemmas.{Performs-step, Performs-refused, behind_step}
-use Rattle.sum_sources.specs.declared.sources.source.OpenFault.TheVariants as open_faults
 
--- inputs after a file was closed, or standard input put back
-record IsClosed {S : Type 0} (state : S → SourceState) (b n : InputsState S) : Type 0 where
-  pub world : InSomeWorld state b n (λ w v. v ≡ w)
-  pub known : (state n.source).known ≡ (state b.source).known
-  pub refusals : (state n.source).counts.refusals ≡ (state b.source).counts.refusals
-  pub taken : n.stdin_taken ≡ b.stdin_taken
+-- what an opening is known to have given is what the name is answered
+content_answered : (r : Reads) (x : Answer) → AgreesAnswer (Ok r) x → (c : Content) × (x ≡ Ok c) × IsOf r c
+content_answered r (Ok c) of = (c, refl, of)
+content_answered r (Err f) of = elim of [ ]
 
--- a run that was performed up to the closing was performed up to what follows it
-closed : {S : Type 0} (state : S → SourceState) (r : Rules) (labels : LabelsValue) (known : Option Content)
-    (m b : StreamsState S) (n : InputsState S) (x : Result Bool Stop) → ManifestPerforms state r labels known m b x
-    → IsClosed state b.inputs n → ManifestPerforms state r labels known m (record b { inputs = n }) x
-closed state r labels known m b n x run end = λ flushed. InSomeWorld-then (run flushed) end.world (λ u v w ran same.
-    let all = manifest_behavior r labels (clip ran.0) u in
-    let kept : IsKept (in_world state b v) (in_world state (record b { inputs = n }) w) =
-    record { all_but_source = rw (same, end.taken) refl; known = end.known; refusals = end.refusals } in
-    (ran.0, ran.1, kept_performs all.steps all.good (in_world state m u) _ _ x kept ran.2))
+fault_answered : (f : Fault) (x : Answer) → AgreesAnswer (Err f) x → x ≡ Err f
+fault_answered f (Ok c) same = elim same [ ]
+fault_answered f (Err g) same = search rules
 
--- a name was asked by a call to open its file, if there was memory
-file_asks : {S F : Type 0} {state : S → SourceState} {content : F → InputState} {name : List ℕ} {a b : InputsState S}
-    {x : Result F OpenFault} → is_dash name ≡ false → OpensFile state content name a b x
-    → (x ≡ Err open_faults.Memory → ⊥) → AsksNames state a b (name ∷ [])
-file_asks {x = Ok file} is_file h some = search (rules, or-false)
-file_asks {x = Err (open_faults.Fault f)} is_file h some = search (rules, or-false)
-file_asks {x = Err open_faults.Memory} is_file h some = absurd (some refl)
+-- the openings before and after a manifest is closed that was opened after `before`
+closed_openings : (m b n : InputsState) (name : List ℕ) (before : List Opening) (s t : InputState)
+    → m.source.openings ≡ before ++ record { name = name; gave = None } ∷ [] → s.opening ≡ length before
+    → IsSameInput s t → (known : KeepsKnown m b) → n ≡ record b { source = after_closing b.source t }
+    → (b.source.openings ≡ before ++ record { name = name; gave = None } ∷ known.openings.0)
+    × (n.source.openings ≡ before ++ record { name = name; gave = Some (Ok t.reads) } ∷ known.openings.0)
+closed_openings m b n name before s t opens is same known closes =
+    let now : b.source.openings ≡ before ++ record { name = name; gave = None } ∷ known.openings.0 =
+    known.openings.1 ∙ rw (opens, append_assoc) refl in
+    let place : t.opening ≡ length before = search rules in
+    (now, rw (closes, now, place) (closed_at-seam before known.openings.0 (record { name = name; gave = None }) t.reads))
+
+-- nothing is forgotten over the opening, the run and the closing
+pub closed_known : (a m b n : InputsState) (name : List ℕ) (s t : InputState)
+    → m ≡ record a { source = and_opening a.source name None } → s ≡ opened_file a.source name → IsSameInput s t
+    → KeepsKnown m b → n ≡ record b { source = after_closing b.source t } → KeepsKnown a n
+closed_known a m b n name s t opens is same known closes =
+    let now = closed_openings m b n name a.source.openings s t (rw opens refl) (rw is refl) same known closes in
+    record {
+      told = rw closes (rw opens at known.told);
+      openings = (record { name = name; gave = Some (Ok t.reads) } ∷ known.openings.0, now.1);
+      stdin = stdin_then a b n (stdin_then a m b (inl (rw opens refl)) known.stdin) (inl (rw closes refl));
+    }
+
+-- what is known of an opening leaves its name
+same_names : (before later : List Opening) (name : List ℕ) (gave was : Option (Result Reads Fault))
+    → map (λ o. o.name) (before ++ record { name = name; gave = gave } ∷ later)
+    ≡ map (λ o. o.name) (before ++ record { name = name; gave = was } ∷ later)
+same_names before later name gave was =
+    map-append (λ o. o.name) before (record { name = name; gave = gave } ∷ later)
+    ∙ sym (map-append (λ o. o.name) before (record { name = name; gave = was } ∷ later))
 
 -- the step that opens a manifest of that name
 abbrev pub opening : List ℕ → Step
 opening name = record { names = name ∷ []; err = []; out = []; remaining = 0 }
 
 -- the manifest of that name is checked, from the streams a
-module _ {S : Type 0} (state : S → SourceState) (settings : CheckSettings) (tool name : List ℕ) (a : StreamsState S)
-  where
-    -- what a call does
-    abbrev Performed : StreamsState S → Result Bool Stop → Type 0
-    Performed b x = Performs state (λ w. check_behavior settings tool w name) (λ g. g) a b x
+module _ (settings : CheckSettings) (tool name : List ℕ) (a : StreamsState) where
+  -- what a call does
+  abbrev Performed : StreamsState → Result Bool Stop → Type 0
+  Performed b x = Performs (λ w. check_behavior settings tool w name) (λ g. g) a b x
 
-    -- the labels, by whether the manifest is standard input
-    abbrev labels_if : Bool → LabelsValue
-    labels_if dash = record (labels_of settings tool name) { manifest = cond dash (codes "standard input") name }
+  -- the labels, by whether the manifest is standard input
+  abbrev labels_if : Bool → LabelsValue
+  labels_if dash = record (labels_of settings tool name) { manifest = cond dash (codes "standard input") name }
 
-    -- the same streams with other inputs
-    abbrev from_inputs : InputsState S → StreamsState S
-    from_inputs inputs = record a { inputs = inputs }
+  -- the same streams with other inputs
+  abbrev from_inputs : InputsState → StreamsState
+  from_inputs inputs = record a { inputs = inputs }
 
-    -- The name was asked in the world w, which gave this content in the world u, and its checker then ran up to the
-    -- world v. So the opening happened, and the behavior of the content comes behind it.
-    opened_in : (dash : Bool) (c : Content) (m : InputsState S) (b : StreamsState S) (x : Result Bool Stop)
-        (w u v : World) → is_dash name ≡ dash → AsksNames state a.inputs m (name ∷ [])
-        → (u ≡ after w (name ∷ [])) × (answer_to w name ≡ Ok c)
-        → (let all = manifest_behavior (rules_of settings dash) (labels_if dash) (clip c) u in
-        PerformsSteps all.steps all.good (in_world state (from_inputs m) u) (in_world state b v) x)
-        → (let all = check_behavior settings tool w name in
-        PerformsSteps all.steps all.good (in_world state a w) (in_world state b v) x)
-    opened_in dash c m b x w u v is asked answer ran =
-        let did : Happened (in_world state a w) (in_world state (from_inputs m) u) (events_of (opening name)) =
-        Happened-by (name ∷ []) [] [] (asks_in state a (from_inputs m) asked answer.0)
-        (sym (append-nil _)) (sym (append-nil _)) in
-        let of = manifest_behavior (rules_of settings (is_dash name)) (labels_of settings tool name) (clip c) u in
-        rw (answer.1, ← answer.0) (behind_step (in_world state b v) of.good (opening name) of.steps x did
-        (rw (← is) at ran))
+  -- The name was asked, which gave this content, and its checker then ran. So the opening happened, and the behavior of
+  -- the content comes behind it.
+  opened : (dash : Bool) (c : Content) (m : InputsState) (b : StreamsState) (x : Result Bool Stop) (w : World)
+      → is_dash name ≡ dash → AsksNames a.inputs m (name ∷ []) → answer_to (world_at w a.inputs) name ≡ Ok c
+      → (let all = manifest_behavior (rules_of settings dash) (labels_if dash) (clip c) (world_at w m) in
+      PerformsSteps all.steps all.good (from_inputs m) b x)
+      → (let all = check_behavior settings tool (world_at w a.inputs) name in PerformsSteps all.steps all.good a b x)
+  opened dash c m b x w is asked answer ran =
+      let did : Happened a (from_inputs m) (events_of (opening name)) =
+      Happened-by (name ∷ []) [] [] asked (sym (append-nil _)) (sym (append-nil _)) in
+      let later = world_after w a.inputs m (name ∷ []) asked in
+      let of = manifest_behavior (rules_of settings (is_dash name)) (labels_of settings tool name) (clip c)
+      (world_at w m) in
+      rw (answer, ← later) (behind_step b of.good (opening name) of.steps x did (rw (← is) at ran))
 
-    -- The name was asked, and gave this content if it is known: then the run of its checker is that of the call. It
-    -- goes backwards from the world after the call: the run has a world before it, and the opening one before that.
-    opened : (dash : Bool) (known : Option Content) (m : InputsState S) (b : StreamsState S) (x : Result Bool Stop)
-        → is_dash name ≡ dash
-        → ((c : Content) → IfSome known (λ d. c ≡ d)
-        → InSomeWorld state a.inputs m (λ w v. (v ≡ after w (name ∷ [])) × (answer_to w name ≡ Ok c)))
-        → AsksNames state a.inputs m (name ∷ [])
-        → ManifestPerforms state (rules_of settings dash) (labels_if dash) known (from_inputs m) b x → Performed b x
-    opened dash known m b x is answer asked run = λ flushed. record {
-      before = λ v fits.
-          let (u, may, ran) = (run flushed).before v fits in
-          let (w, first, given) = (answer ran.0 ran.1).before u may in
-          (w, first, opened_in dash ran.0 m b x w u v is asked given ran.2);
-    }
+  -- it is a file, which is closed
+  pub check_file : (m n : InputsState) (s t : InputState) (b : StreamsState) (x : Result Bool Stop)
+      → is_dash name ≡ false → m ≡ record a.inputs { source = and_opening a.inputs.source name None }
+      → s ≡ opened_file a.inputs.source name → IsSameInput s t
+      → n ≡ record b.inputs { source = after_closing b.inputs.source t } → KeepsKnown m b.inputs
+      → ManifestPerforms (rules_of settings false) (labels_if false) s t (from_inputs m) b x
+      → Performed (record b { inputs = n }) x
+  check_file m n s t b x file opens is same closes known run = λ flushed new w agrees.
+      let before = a.inputs.source.openings in
+      let later = known.openings.0 in
+      let now = closed_openings m b.inputs n name before s t (rw opens refl) (rw is refl) same known closes in
+      let (c, answer, of) = content_answered t.reads _ (opening_agrees agrees before later name (Ok t.reads) now.1) in
+      let opened_one = one_opening a.inputs m name None file (rw opens refl) (rw opens refl) in
+      let here = unread_then a.inputs m opened_one.1.stdin new in
+      let still : Agrees w b.inputs = record {
+        answers = rw now.0 (AgreesAnswers-open w.answer before later _ (rw now.1 at agrees.answers));
+        input = rw closes at agrees.input;
+      } in
+      let ran = run flushed (search rules) here c of w still in
+      let kept : IsKept b (record b { inputs = n }) = record {
+        outputs = refl;
+        asked = rw (now.1, now.0) (same_names before later name (Some (Ok t.reads)) None);
+        taken = rw closes refl;
+        refusals = rw closes refl;
+      } in
+      let all = check_behavior settings tool (world_at w a.inputs) name in
+      kept_performs all.steps all.good a b (record b { inputs = n }) x kept
+      (opened false c m b x w file opened_one.0 (rw (file) answer) ran)
 
-    -- the manifest is standard input, which is taken, and put back
-    pub check_dash : (b : StreamsState S) (p : Option Phase) (x : Result Bool Stop) → is_dash name ≡ true
-        → ManifestPerforms state (rules_of settings true) (labels_if true) a.inputs.input
-        (from_inputs (stdin_taken_from a.inputs)) b x
-        → Performed (record b { inputs = record b.inputs { stdin_phase = p } }) x
-    check_dash b p x dash run =
-        let n = record b.inputs { stdin_phase = p } in
-        let taken = stdin_taken_from a.inputs in
-        let end : IsClosed state b.inputs n =
-        record { world = record { before = λ v fits. (v, fits, refl) }; known = refl; refusals = refl; taken = refl } in
-        opened true a.inputs.input taken (record b { inputs = n }) x dash (stdin_given state a.inputs name dash)
-        (asks_name (search (rules, dash_asked)) (search rules) refl)
-        (closed state (rules_of settings true) (labels_if true) a.inputs.input (from_inputs taken) b n x run end)
+  -- it is standard input, which is taken, and put back
+  pub check_dash : (m : InputsState) (s t : InputState) (b : StreamsState) (x : Result Bool Stop) → is_dash name ≡ true
+      → GivesStdin s a.inputs m → KeepsStdin m b.inputs → KeepsKnown m b.inputs
+      → ManifestPerforms (rules_of settings true) (labels_if true) s t (from_inputs m) b x
+      → Performed (record b { inputs = record b.inputs { stdin = Some t } }) x
+  check_dash m s t b x dash gives kept known run = λ flushed new w agrees.
+      let asked : AsksNames a.inputs m (name ∷ []) = search (rules, or-false, append-nil) in
+      let n = record b.inputs { stdin = Some t } in
+      let here : IsStdinUnread m = λ untaken. rw gives.after tt in
+      let before : Agrees w b.inputs =
+      record { answers = agrees.answers; input = rw (kept, gives.after) tt } in
+      let ran = run flushed (rw gives.given at (new gives.before)) here w.input agrees.input w before in
+      let all = check_behavior settings tool (world_at w a.inputs) name in
+      kept_performs all.steps all.good a b (record b { inputs = n }) x
+      (record { outputs = refl; asked = refl; taken = refl; refusals = refl })
+      (opened true w.input m b x w dash asked (rw (dash, gives.before) refl) ran)
 
-    -- the source was called to open the manifest
-    module _ {F : Type 0} {content : F → InputState} {m : InputsState S} where
-      -- it is a file, which is closed
-      pub check_file : {n : InputsState S} {p : Phase} {file : F} (b : StreamsState S) (x : Result Bool Stop)
-          → is_dash name ≡ false → OpensFile state content name a.inputs m (Ok file)
-          → ClosesFile state p b.inputs n
-          → ManifestPerforms state (rules_of settings false) (labels_if false) (content file).content (from_inputs m) b
-          x
-          → Performed (record b { inputs = n }) x
-      check_file {n} {p} {file} b x is_file opens closes run =
-          opened false (content file).content m (record b { inputs = n }) x is_file
-          (λ c may. opened_file c is_file may opens) (file_asks is_file opens (λ e. cc))
-          (closed state (rules_of settings false) (labels_if false) (content file).content (from_inputs m) b n x run
-          (record {
-            world = may-closed closes;
-            known = search rules;
-            refusals = search rules;
-            taken = ap (λ (m : InputsState S). m.stdin_taken) closes.stdin;
-          }))
+  -- it is standard input, which was taken before, and is empty
+  pub check_empty : (s t : InputState) (b : StreamsState) (x : Result Bool Stop) → is_dash name ≡ true
+      → a.inputs.stdin_taken ≡ true → s.told ≡ Some empty_content → s.reads ≡ unread → IsSameInput s t → HasContent t
+      → ManifestPerforms (rules_of settings true) (labels_if true) s t a b x → Performed b x
+  check_empty s t b x dash taken told new same has run = λ flushed unread w agrees.
+      let asked : AsksNames a.inputs a.inputs (name ∷ []) = search (rules, or-false, append-nil) in
+      let (c, is, of) = has in
+      let empty : c ≡ empty_content = rw (same, told) at is in
+      let ran = run flushed new unread empty_content (rw empty at of) w agrees in
+      opened true empty_content a.inputs b x w dash asked (rw (dash, taken) refl) ran
 
-      -- it could not be opened, and the line of its fault was written, or a prefix of it
-      pub refused : {f : Fault} (outputs : OutputsState) (x : Result Bool Stop) → is_dash name ≡ false
-          → OpensFile state content name a.inputs m (Err (open_faults.Fault f))
-          → WritesAndReturns a.outputs outputs (name_fault_line present tool name f) [] false x
-          → Performed (record a { inputs = m; outputs = outputs }) x
-      refused outputs x is_file opens said =
-          Performs-step state (λ w. check_behavior settings tool w name) (λ g. g) false a
-          (record a { inputs = m; outputs = outputs }) (opened_fault is_file opens) (file_asks is_file opens (λ e. cc))
-          (λ w v is. (rw (is.1, is_file) refl, is.0)) said
+  -- it could not be opened, and the line of its fault was written, or a prefix of it
+  pub refused : (m : InputsState) (f : Fault) (outputs : OutputsState) (x : Result Bool Stop) → is_dash name ≡ false
+      → m ≡ record a.inputs { source = and_opening a.inputs.source name (Some (Err f)) }
+      → WritesAndReturns a.outputs outputs (name_fault_line present tool name f) [] false x
+      → Performed (record a { inputs = m; outputs = outputs }) x
+  refused m f outputs x file opens said =
+      Performs-step (λ w. check_behavior settings tool w name) (λ g. g) false a
+      (record a { inputs = m; outputs = outputs })
+      (one_opening a.inputs m name (Some (Err f)) file (rw opens refl) (rw opens refl)).0
+      (λ new w agrees.
+      let answer = fault_answered f _ (opening_agrees agrees a.inputs.source.openings [] name (Err f) (rw opens refl)) in
+      rw (file, answer) refl) said
 
-      -- there was no memory to open it
-      pub no_room : OpensFile state content name a.inputs m (Err open_faults.Memory)
-          → Performed (from_inputs m) (Err Memory)
-      no_room opens =
-          Performs-refused state (λ w. check_behavior settings tool w name) (λ g. g) a (from_inputs m)
-          (λ w. begins (after w (name ∷ [])) (answer_to w name)) (opened_nothing opens) (search (rules, asked_none))
-          refl
-        where
-          -- checking begins with a step
-          begins : (w : World) (answer : Answer) → (next : Step) × (rest : List Step) × ((check_behavior_by
-              (rules_of settings (is_dash name)) (labels_of settings tool name) name w answer).steps ≡ next ∷ rest)
-          begins w (Err f) = (_, [], refl)
-          begins w (Ok c) = (opening name, _, refl)
+  -- there was no memory to open it
+  pub no_room : (m : InputsState) → MemoryWasRefused a.inputs m → Performed (from_inputs m) (Err Memory)
+  no_room m refused =
+      Performs-refused (λ w. check_behavior settings tool w name) (λ g. g) a (from_inputs m)
+      (λ w. begins (after w (name ∷ [])) (answer_to w name)) refused refl
+    where
+      -- checking begins with a step
+      begins : (w : World) (answer : Answer) → (next : Step) × (rest : List Step) × ((check_behavior_by
+          (rules_of settings (is_dash name)) (labels_of settings tool name) name w answer).steps ≡ next ∷ rest)
+      begins w (Err f) = (_, [], refl)
+      begins w (Ok c) = (opening name, _, refl)

@@ -1,15 +1,12 @@
 -- What happened from one state to another, one event after another.
-use Rattle.std.proofs.Common.{rules, ◌≡◌, ℕ, ◌||◌, List, [], ◌∷◌, ◌++◌, map, Option, None, Some, Result, Ok, Err, refl, ap, sym, ◌∙◌, inl, inr, append_assoc, append-nil, filter_map}
-use Rattle.std.specs.List.{list_any}
-use Rattle.std.proofs.Math.Bool.{or_assoc, or-false}
+use Rattle.std.proofs.Common.{rules, ◌≡◌, ℕ, List, [], ◌∷◌, ◌++◌, map, Option, None, Some, Result, Ok, Err, refl, ap, sym, ◌∙◌, inl, inr, append_assoc, append-nil, filter_map}
 use Rattle.std.proofs.lemmas.List.{map-append}
 use Rattle.std.proofs.lemmas.List.Elements.{filter_map-append}
-use Rattle.std.proofs.lemmas.List.Folds.{list_any-append}
-use Rattle.sum_engine.specs.Behavior.{World, is_dash, after, Event, Step, events_of, open_name, write_err, write_out, opened_name, err_byte, out_byte, SourceState}
+use Rattle.sum_engine.specs.Behavior.{Event, Step, events_of, open_name, write_err, write_out, opened_name, err_byte, out_byte}
 use Rattle.sum_engine.specs.refinement.FlushedWrites.{AppendsPrefix, WritesBoth, outcome_after}
-use Rattle.sum_engine.specs.refinement.Names.{AsksNames, MemoryWasRefused}
-use Rattle.sum_engine.specs.Execution.{InputsState, StreamsState, KeepsStdin, WorldState, in_world, AskedMore, Stop, Memory, Write, Happened, PrefixHappened, RefusedAt, RunsOutOfMemory, PerformsSteps}
-use Rattle.sum_engine.proofs.WorldLemmas.{after-append, asked_none, asked_both}
+use Rattle.sum_engine.specs.refinement.Names.{MemoryWasRefused}
+use Rattle.sum_engine.specs.Execution.{StreamsState, asked, AsksNames, Stop, Memory, Write, Happened, PrefixHappened, RefusedAt, RunsOutOfMemory, PerformsSteps}
+use Rattle.sum_engine.proofs.WorldLemmas.{asks_none, asks_then}
 
 -- ---- what of a step's events is of each kind
 
@@ -43,53 +40,30 @@ out-by names err out = search (rules, filter_map-append, kind-all, kind-none)
 
 -- ---- what happened
 
--- these names were asked, whatever was written
-pub record Asks (a b : WorldState) (names : List (List ℕ)) : Type 0 where
-  pub world : b.world ≡ after a.world names
-  pub asked : AskedMore a.source b.source names
-  pub taken : b.stdin_taken ≡ a.stdin_taken || list_any is_dash names
-  pub refusals : b.source.counts.refusals ≡ a.source.counts.refusals
-
--- between inputs no name was, or one
-pub asks_none : {S : Type 0} {state : S → SourceState} {a b : InputsState S}
-    → AskedMore (state a.source) (state b.source) [] → b.stdin_taken ≡ a.stdin_taken
-    → (state b.source).counts.refusals ≡ (state a.source).counts.refusals → AsksNames state a b []
-asks_none asked taken refusals = record { asked = asked; taken = search (rules, or-false); refusals = refusals }
-
-pub asks_name : {S : Type 0} {state : S → SourceState} {a b : InputsState S} {name : List ℕ}
-    → AskedMore (state a.source) (state b.source) (name ∷ []) → b.stdin_taken ≡ a.stdin_taken || is_dash name
-    → (state b.source).counts.refusals ≡ (state a.source).counts.refusals → AsksNames state a b (name ∷ [])
-asks_name asked taken refusals =
-    record { asked = asked; taken = search (rules, or-false); refusals = refusals }
-
--- so they were in each world
-pub asks_in : {S : Type 0} (state : S → SourceState) (a b : StreamsState S) {names : List (List ℕ)} {w v : World}
-    → AsksNames state a.inputs b.inputs names → v ≡ after w names → Asks (in_world state a w) (in_world state b v) names
-asks_in state a b h world = record { world = world; asked = h.asked; taken = h.taken; refusals = h.refusals }
-
--- so it is if they were opened, and nothing was written
-pub asks_by : {a b : WorldState} (names : List (List ℕ)) → Happened a b (map open_name names) → Asks a b names
+-- the names were asked if they were opened, and nothing was written
+pub asks_by : {a b : StreamsState} (names : List (List ℕ)) → Happened a b (map open_name names)
+    → AsksNames a.inputs b.inputs names
 asks_by names h = search (rules, kind-all)
 
 -- these names were asked and these texts written
-pub Happened-by : {a b : WorldState} (names : List (List ℕ)) (err out : List ℕ) → Asks a b names
+pub Happened-by : {a b : StreamsState} (names : List (List ℕ)) (err out : List ℕ) → AsksNames a.inputs b.inputs names
     → b.outputs.err.written ≡ a.outputs.err.written ++ err → b.outputs.out.written ≡ a.outputs.out.written ++ out
     → Happened a b (events_by names err out)
 Happened-by names err out h p q = search (rules, names-by, err-by, out-by)
 
 -- nothing
-pub Happened-none : (a : WorldState) → Happened a a []
-Happened-none a = search (rules, asked_none)
+pub Happened-none : (a : StreamsState) → Happened a a []
+Happened-none a = search (rules, asks_none)
 
 -- one thing after another
-pub Happened-then : {a b c : WorldState} (p q : List Event) → Happened a b p → Happened b c q → Happened a c (p ++ q)
+pub Happened-then : {a b c : StreamsState} (p q : List Event) → Happened a b p → Happened b c q → Happened a c (p ++ q)
 Happened-then {a} {b} {c} p q h k =
-    search (rules, after-append, asked_both, filter_map-append, list_any-append, or_assoc, append_assoc)
+    search (rules, asks_then, filter_map-append, append_assoc)
 
 -- ---- a prefix of it
 
 -- the names were asked, and of the text on standard error a prefix was written
-pub prefix_err : {a b : WorldState} (names : List (List ℕ)) (err out : List ℕ) → Asks a b names
+pub prefix_err : {a b : StreamsState} (names : List (List ℕ)) (err out : List ℕ) → AsksNames a.inputs b.inputs names
     → AppendsPrefix a.outputs.err.written b.outputs.err.written err → b.outputs.out.written ≡ a.outputs.out.written
     → PrefixHappened a b (events_by names err out)
 prefix_err {a} names err out asked h same =
@@ -98,7 +72,7 @@ prefix_err {a} names err out asked h same =
     (events_by names h.0 [], (rest, search (rules, map-append, append_assoc)), did)
 
 -- all of it was, and a prefix of the text on standard output
-pub prefix_out : {a b : WorldState} (names : List (List ℕ)) (err out : List ℕ) → Asks a b names
+pub prefix_out : {a b : StreamsState} (names : List (List ℕ)) (err out : List ℕ) → AsksNames a.inputs b.inputs names
     → b.outputs.err.written ≡ a.outputs.err.written ++ err
     → AppendsPrefix a.outputs.out.written b.outputs.out.written out
     → PrefixHappened a b (events_by names err out)
@@ -107,39 +81,33 @@ prefix_out names err out asked all h =
     (events_by names err h.0, (rest, search (rules, map-append, append_assoc)), Happened-by names err h.0 asked all h.2)
 
 -- what it wrote happened, or a prefix of it if it failed
-abbrev pub HappenedOrPrefix : {E : Type 0} → Result (Unit {0}) E → WorldState → WorldState → List Event → Type 0
+abbrev pub HappenedOrPrefix : {E : Type 0} → Result (Unit {0}) E → StreamsState → StreamsState → List Event → Type 0
 HappenedOrPrefix (Ok u) a b es = Happened a b es
 HappenedOrPrefix (Err e) a b es = PrefixHappened a b es
 
 -- the names were asked, and the two texts or a prefix of them were written
-pub HappenedOrPrefix-by : {E : Type 0} (a b : WorldState) (names : List (List ℕ)) (err out : List ℕ)
-    (x : Result (Unit {0}) E) → Asks a b names → WritesBoth a.outputs b.outputs err out x
+pub HappenedOrPrefix-by : {E : Type 0} (a b : StreamsState) (names : List (List ℕ)) (err out : List ℕ)
+    (x : Result (Unit {0}) E) → AsksNames a.inputs b.inputs names → WritesBoth a.outputs b.outputs err out x
     → HappenedOrPrefix x a b (events_by names err out)
 HappenedOrPrefix-by a b names err out (Ok u) asked h = Happened-by names err out asked h.0 h.1
 HappenedOrPrefix-by a b names err out (Err e) asked (inl h) = prefix_err names err out asked h.0 h.1
 HappenedOrPrefix-by a b names err out (Err e) asked (inr h) = prefix_out names err out asked h.0 h.1
 
 -- one step was performed, by what came of its events
-pub step_performed : {E A : Type 0} (outcome : A) (a b : WorldState) (step : Step) (x : Result (Unit {0}) E)
+pub step_performed : {E A : Type 0} (outcome : A) (a b : StreamsState) (step : Step) (x : Result (Unit {0}) E)
     → HappenedOrPrefix x a b (events_of step) → PerformsSteps (step ∷ []) outcome a b (outcome_after x outcome)
 step_performed outcome a b step (Ok u) came = rw (append-nil (events_of step)) (refl, came)
 step_performed outcome a b step (Err e) came = rw (append-nil (events_of step)) came
 
 -- ---- what stays
 
--- standard input stayed over one call and another
-pub KeepsStdin-trans : {S : Type 0} (a b c : InputsState S) → KeepsStdin a b → KeepsStdin b c → KeepsStdin a c
-KeepsStdin-trans {S} a b c h k = k ∙ ap (λ (m : InputsState S). record m { source = c.source }) h
-
 -- memory was refused, and so nothing was done of a step
-pub refused_in : {S : Type 0} {state : S → SourceState} (a b : StreamsState S) {w v : World} (step : Step) → v ≡ w
-    → MemoryWasRefused state a.inputs b.inputs → b.outputs ≡ a.outputs
-    → RefusedAt step (in_world state a w) (in_world state b v)
-refused_in a b step world refused outputs =
-    let taken = ap (λ (m : InputsState _). m.stdin_taken) refused.stdin in search rules
+pub refused_in : (a b : StreamsState) (step : Step) → MemoryWasRefused a.inputs b.inputs → b.outputs ≡ a.outputs
+    → RefusedAt step a b
+refused_in a b step refused outputs = search rules
 
 -- so memory ran out at the first step
-pub refused_first : {a b : WorldState} {steps : List Step} (next : Step) (later : List Step) → steps ≡ next ∷ later
+pub refused_first : {a b : StreamsState} {steps : List Step} (next : Step) (later : List Step) → steps ≡ next ∷ later
     → RefusedAt next a b → RunsOutOfMemory steps a b
 refused_first {a} next later are here =
     record { done = []; next = next; later = later; between = a; are = are; happened = Happened-none a; refused = here }
@@ -147,16 +115,17 @@ refused_first {a} next later are here =
 -- ---- a state after which a file was closed, or standard input put back
 
 -- what is the same of such a state
-pub record IsKept (b c : WorldState) : Type 0 where
-  pub all_but_source : c ≡ record b { source = c.source }
-  pub known : c.source.known ≡ b.source.known
-  pub refusals : c.source.counts.refusals ≡ b.source.counts.refusals
+pub record IsKept (b c : StreamsState) : Type 0 where
+  pub outputs : c.outputs ≡ b.outputs
+  pub asked : asked c.inputs ≡ asked b.inputs
+  pub taken : c.inputs.stdin_taken ≡ b.inputs.stdin_taken
+  pub refusals : c.inputs.source.refusals ≡ b.inputs.source.refusals
 
-kept_happened : (a b c : WorldState) (es : List Event) → IsKept b c → Happened a b es → Happened a c es
-kept_happened a b c es h did = rw h.all_but_source (search rules)
+kept_happened : (a b c : StreamsState) (es : List Event) → IsKept b c → Happened a b es → Happened a c es
+kept_happened a b c es h did = search rules
 
 -- what was performed up to the one was performed up to the other
-pub kept_performs : {A : Type 0} (steps : List Step) (x : A) (a b c : WorldState) (r : Result A Stop) → IsKept b c
+pub kept_performs : {A : Type 0} (steps : List Step) (x : A) (a b c : StreamsState) (r : Result A Stop) → IsKept b c
     → PerformsSteps steps x a b r → PerformsSteps steps x a c r
 kept_performs steps x a b c (Ok outcome) h did = (did.0, kept_happened a b c _ h did.1)
 kept_performs steps x a b c (Err Write) h did = (did.0, did.1, kept_happened a b c did.0 h did.2)
@@ -167,9 +136,5 @@ kept_performs steps x a b c (Err Memory) h did = record {
   between = did.between;
   are = did.are;
   happened = did.happened;
-  refused = (
-    h.all_but_source ∙ ap (λ (s : WorldState). record s { source = c.source }) did.refused.0,
-    rw h.known did.refused.1,
-    rw h.refusals did.refused.2,
-  );
+  refused = search rules;
 }

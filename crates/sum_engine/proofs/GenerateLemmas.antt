@@ -1,10 +1,10 @@
 -- `generate_one`: the behavior of hashing one name, by the outcome of `hash_name` and what was then written.
-use Rattle.std.proofs.Common.{rules, ◌≡◌, ℕ, Bool, List, [], ◌∷◌, Result, Ok, Err, refl}
+use Rattle.std.proofs.Common.{rules, ◌≡◌, ◌∙◌, ap, sym, ℕ, Bool, List, [], ◌∷◌, Result, Ok, Err, refl}
 use Rattle.digest_kinds.specs.Kinds.{KindValue}
-use Rattle.sum_engine.specs.Behavior.{Fault, digest_or_fault, Step, single_step, Answer, SourceState}
-use Rattle.sum_engine.specs.refinement.Names.{AsksNames, HashOutcome, digest_of_outcome, HashesName, IsHashOutcome}
+use Rattle.sum_engine.specs.Behavior.{Fault, digest_or_fault, Step, single_step, Answer, World, answer_to}
+use Rattle.sum_engine.specs.refinement.Names.{HashOutcome, digest_of_outcome, IsHashOutcome}
 use Rattle.sum_engine.specs.Generation.{Settings, generate_behavior, generate_behavior_by}
-use Rattle.sum_engine.specs.Execution.{Stop, StreamsState, InSomeWorld, Performs}
+use Rattle.sum_engine.specs.Execution.{Stop, StreamsState, AsksNames, Agrees, world_at, IsStdinUnread, Performs}
 use Rattle.sum_engine.specs.refinement.FlushedWrites.{WritesAndReturns}
 use Rattle.sum_engine.proofs.BehaviorLemmas.{Performs-step}
 
@@ -14,17 +14,19 @@ digest_or_fault-is : (kind : KindValue) (r : Answer) (a : HashOutcome) → IsHas
 digest_or_fault-is kind r a h = search rules
 
 -- the name was asked, with this digest or fault, and the line of that was written, or a prefix of it
-pub generate-performed : {S : Type 0} (state : S → SourceState) (settings : Settings) (tool name : List ℕ) (good : Bool)
-    (a b : StreamsState S) (outcome : HashOutcome) (found : Result (List ℕ) Fault) {err out : List ℕ}
-    {x : Result Bool Stop}
-    → InSomeWorld state a.inputs b.inputs (λ w v. HashesName settings.kind w v name (Ok outcome))
-    → AsksNames state a.inputs b.inputs (name ∷ []) → found ≡ digest_of_outcome outcome
+pub generate-performed : (settings : Settings) (tool name : List ℕ) (good : Bool) (a b : StreamsState)
+    (outcome : HashOutcome) (found : Result (List ℕ) Fault) {err out : List ℕ} {x : Result Bool Stop}
+    → (IsStdinUnread a.inputs → (w : World) → Agrees w b.inputs
+    → IsHashOutcome settings.kind (answer_to (world_at w a.inputs) name) outcome)
+    → AsksNames a.inputs b.inputs (name ∷ []) → found ≡ digest_of_outcome outcome
     → generate_behavior_by settings tool name found ≡ single_step (name ∷ []) err out good
     → WritesAndReturns a.outputs b.outputs err out good x
-    → Performs state (λ w. generate_behavior settings tool w name) (λ g. g) a b x
-generate-performed state settings tool name good a b outcome found h asked same is said =
-    Performs-step state (λ w. generate_behavior settings tool w name) (λ g. g) good a b h asked
-    (λ w v hashed. (search (rules, digest_or_fault-is), hashed.0)) said
+    → Performs (λ w. generate_behavior settings tool w name) (λ g. g) a b x
+generate-performed settings tool name good a b outcome found h asked same is said =
+    Performs-step (λ w. generate_behavior settings tool w name) (λ g. g) good a b asked
+    (λ new w agrees.
+    let by = digest_or_fault-is settings.kind (answer_to (world_at w a.inputs) name) outcome (h new w agrees) in
+    ap (generate_behavior_by settings tool name) (by ∙ sym same) ∙ is) said
 
 -- generation is one step
 pub one_step : (settings : Settings) (tool name : List ℕ) (x : Result (List ℕ) Fault)

@@ -5,7 +5,7 @@ use Rattle.sum_engine.specs.check.Verdicts.{Form, lines_under, Rules, LineVerdic
 use Rattle.sum_engine.specs.Behavior.{World, after, Behavior, trace, events_of, out_text, err_text, asks, Content}
 use Rattle.sum_engine.specs.check.Reports.{LabelsValue, out_of, err_of, counts_of, end_text}
 use Rattle.sum_engine.specs.check.Checking.{line_steps, content_behavior}
-use Rattle.sum_engine.specs.Execution.{Write, WorldState, Happened}
+use Rattle.sum_engine.specs.Execution.{Write, StreamsState, Happened}
 use Rattle.sum_engine.specs.check.CheckStates.{CheckState, counts_then, remaining_verdicts, remaining_behavior, initial_state}
 use Rattle.sum_engine.specs.check.CheckerSteps.{Going, Ended, StepIs, step_then, progress_before}
 use Rattle.sum_engine.specs.check.CheckerLaws.{StepsGoing, StepsJoin, EndsManifest}
@@ -56,10 +56,10 @@ drop_next (suc k) (x ∷ xs) ys y h = search (rules, drop_next k xs ys y h)
 
 -- ---- k steps of a new checker
 
-module _ (r : Rules) (labels : LabelsValue) (c : Content) (s : WorldState) where
+module _ (r : Rules) (labels : LabelsValue) (c : Content) (w : World) (s : StreamsState) where
   -- the manifest's verdicts and its behavior
   abbrev js : List LineVerdictValue
-  js = all_verdicts r s.world c
+  js = all_verdicts r w c
 
   abbrev whole : Behavior
   whole = content_behavior r labels c js
@@ -68,7 +68,7 @@ module _ (r : Rules) (labels : LabelsValue) (c : Content) (s : WorldState) where
   end = end_text r labels c.ending (counts_of js)
 
   -- exactly the first k steps happened, and the others remain; the bytes consumed are those up to the end of line k
-  pub record After (b : CheckState) (t : WorldState) (k : ℕ) : Type 0 where
+  pub record After (b : CheckState) (t : StreamsState) (k : ℕ) : Type 0 where
     pub remaining : b.remaining ≡ past_lines k c
     pub lines : lines_under r.profile b.remaining ≡ drop k (lines_under r.profile c)
     pub consumed : b.consumed + length (past_lines k c).bytes ≡ length c.bytes
@@ -78,11 +78,11 @@ module _ (r : Rules) (labels : LabelsValue) (c : Content) (s : WorldState) where
     pub good : (remaining_behavior r labels b).good ≡ whole.good
 
   -- no step yet
-  after_none : After (initial_state c s.world) s 0
+  after_none : After (initial_state c w) s 0
   after_none = search (rules, remaining-initial, Happened-none)
 
   -- one more
-  after_more : {b d : CheckState} {t z : WorldState} {v : List ℕ} {k : ℕ} → After b t k
+  after_more : {b d : CheckState} {t z : StreamsState} {v : List ℕ} {k : ℕ} → After b t k
       → StepIs r labels v b d t z (Ok Going) → After d z (suc k)
   after_more {b} {d} {t} {z} {v} {k} h step =
       let moves = (step.going refl).1 in
@@ -103,7 +103,7 @@ module _ (r : Rules) (labels : LabelsValue) (c : Content) (s : WorldState) where
       }
 
   -- all, one after another
-  after_all : (a b : CheckState) (m t : WorldState) (i : ℕ) (vectors : List (List ℕ)) → After a m i
+  after_all : (a b : CheckState) (m t : StreamsState) (i : ℕ) (vectors : List (List ℕ)) → After a m i
       → StepsGoing r labels a b m t vectors → After b t (i + length vectors)
   after_all a b m t i [] h is = let none : i + 0 ≡ i = omega arith in rw (is.0, is.1, none) h
   after_all a b m t i (v ∷ vectors) h more =
@@ -111,12 +111,12 @@ module _ (r : Rules) (labels : LabelsValue) (c : Content) (s : WorldState) where
       rw next (after_all more.0 b more.1 t (suc i) vectors (after_more h more.2) more.3)
 
   -- the whole behavior is what was done and what remains
-  along : {b : CheckState} {t : WorldState} {k : ℕ} → After b t k
+  along : {b : CheckState} {t : StreamsState} {k : ℕ} → After b t k
       → HasDoneUpTo whole (remaining_behavior r labels b) s t
   along h = search (rules, take-append-drop)
 
   -- a step is left after k steps only if k is at most the number of lines
-  few : {b : CheckState} {t : WorldState} {k : ℕ} → After b t k → k ≤ length js
+  few : {b : CheckState} {t : StreamsState} {k : ℕ} → After b t k → k ≤ length js
   few {b} {t} {k} h =
       let ks = remaining_verdicts r b in
       let text = end_text r labels b.remaining.ending (counts_then b.counts (counts_of ks)) in
@@ -124,8 +124,8 @@ module _ (r : Rules) (labels : LabelsValue) (c : Content) (s : WorldState) where
       omega (arith, left, length_steps r labels text b.remaining ks, length_steps r labels end c js)
 
   -- the step that ends
-  ends : {b : CheckState} {t : WorldState} {k : ℕ} → After b t k → (outcome : Bool) (vector : List ℕ) (d : CheckState)
-      (z : WorldState) → StepIs r labels vector b d t z (Ok (Ended outcome)) → EndsManifest r labels c js k t z outcome
+  ends : {b : CheckState} {t : StreamsState} {k : ℕ} → After b t k → (outcome : Bool) (vector : List ℕ) (d : CheckState)
+      (z : StreamsState) → StepIs r labels vector b d t z (Ok (Ended outcome)) → EndsManifest r labels c js k t z outcome
   ends {b} {t} {k} h outcome vector d z e =
       let none = none_left e.later.steps e.later.good outcome e.performs.0 in
       let last = sym h.steps ∙ ap (λ (q : Behavior). q.steps) e.is ∙ ap (λ steps. e.step ∷ steps) none.0 in
@@ -139,7 +139,7 @@ module _ (r : Rules) (labels : LabelsValue) (c : Content) (s : WorldState) where
       search (rules, number, length_verdicts, all.0, did, err-by, out-by, names-by)
 
 -- no vector is longer than its line
-vectors_fit : (r : Rules) (labels : LabelsValue) (a b : CheckState) (s t : WorldState) (vectors : List (List ℕ))
+vectors_fit : (r : Rules) (labels : LabelsValue) (a b : CheckState) (s t : StreamsState) (vectors : List (List ℕ))
     → StepsGoing r labels a b s t vectors → (i : ℕ)
     → length (slice_index_or vectors i []) ≤ length (slice_index_or (lines_under r.profile a.remaining) i [])
 vectors_fit r labels a b s t [] is i = omega arith
@@ -152,24 +152,23 @@ vectors_fit r labels a b s t (v ∷ vectors) more (suc i) =
 
 -- the law
 pub steps_join : StepsJoin
-steps_join r labels c b s t vectors going =
-    let js = all_verdicts r s.world c in
+steps_join r labels c w b s t vectors going =
+    let js = all_verdicts r w c in
     let k = length vectors in
     let start : 0 + k ≡ k = omega arith in
-    let h : After r labels c s b t k = rw start at (after_all r labels c s (initial_state c s.world) b s t 0 vectors
-    (after_none r labels c s) going) in
+    let h : After r labels c w s b t k = rw start at (after_all r labels c w s (initial_state c w) b s t 0 vectors
+    (after_none r labels c w s) going) in
     let all = content_behavior r labels c js in
     let some : Behavior = record { steps = take k all.steps; good = true } in
     let texts = events_extend some s t h.done in
-    let by = reports r labels (end_text r labels c.ending (counts_of js)) c js k (few r labels c s h) in
+    let by = reports r labels (end_text r labels c.ending (counts_of js)) c js k (few r labels c w s h) in
     record {
-      err = rw by.1 at texts.2;
-      out = rw by.0 at texts.3;
-      world = rw by.2 at texts.0;
-      asked = rw by.2 at texts.1;
+      err = rw by.1 at texts.1;
+      out = rw by.0 at texts.2;
+      asked = rw by.2 at texts.0;
       taken = omega (arith, h.taken, h.consumed);
-      vector_lens = vectors_fit r labels (initial_state c s.world) b s t vectors going;
-      end = ends r labels c s h;
+      vector_lens = vectors_fit r labels (initial_state c w) b s t vectors going;
+      end = ends r labels c w s h;
       cut = λ vector d z e. done_stops z all.good (progress_before e.later.steps e.later.good) e.step e.later Write
-          (along r labels c s h) e.is e.performs;
+          (along r labels c w s h) e.is e.performs;
     }

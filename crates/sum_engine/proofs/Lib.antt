@@ -1,7 +1,6 @@
 pub mod WorldLemmas
 pub mod HashNameLemmas
 pub mod ExecutionLemmas
-pub mod ReadToEndLemmas
 pub mod GenerateLemmas
 pub mod FlushedWriteLemmas
 pub mod VerdictLemmas
@@ -20,3 +19,4 @@ pub mod ListedEntryLemmas
 pub mod GoodLemmas
 pub mod OldNames
 pub mod OldVerdicts
+pub mod LogLaws

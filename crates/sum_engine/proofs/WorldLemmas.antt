@@ -1,12 +1,15 @@
--- Asking names one after another, and worlds before and after.
-use Rattle.std.proofs.Common.{rules, ◌≡◌, ◌∙◌, ap, refl, ℕ, Bool, true, false, if◌then◌else◌, List, [], ◌∷◌, ◌++◌, Option, None, Some, IfSome, Ok, Err, append_assoc, append-nil}
+-- Names asked one after another, and the worlds that agree with one call after another.
+use Rattle.std.proofs.Common.{rules, arith, ◌≡◌, ◌∙◌, ◌||◌, ◌+◌, ap, sym, refl, ℕ, suc, false, List, [], ◌∷◌, ◌++◌, Option, None, Some, Result, IfSome, append_assoc, append-nil, inl, inr, length-append}
+use Rattle.std.specs.Prelude.{◌⊎◌, length, filter, not}
+use Rattle.std.specs.List.{list_any}
+use Rattle.std.proofs.Math.Bool.{or_assoc, or-false}
+use Rattle.std.proofs.lemmas.List.{map-append, length-map}
 use Rattle.std.proofs.lemmas.List.Elements.{filter-append}
-use Rattle.sum_sources.specs.Sources.{KnownSource, Answer, SourceState, AsksName}
-use Rattle.sum_sources.specs.declared.sources.source.OpenFault.TheVariants as faults
-use Rattle.sum_sources.proofs.KnownLemmas.{IfKnown-then}
-use Rattle.sum_engine.specs.Behavior.{Fault, World, is_dash, answer_to, after_one, after, Content, empty_content, IfKnown, InputState}
-use Rattle.sum_engine.specs.Execution.{InputsState, Phase, KeepsStdin, InSomeWorld, AskedMore}
-use Rattle.sum_engine.specs.refinement.Names.{stdin_taken_from, OpensFile, ClosesFile}
+use Rattle.std.proofs.lemmas.List.Folds.{list_any-append}
+use Rattle.sum_sources.specs.Contents.{Reads, IsOf, unread}
+use Rattle.sum_sources.specs.Sources.{Opening, and_opening}
+use Rattle.sum_engine.specs.Behavior.{World, Answer, Fault, Content, InputState, is_dash, after_one, after}
+use Rattle.sum_engine.specs.Execution.{InputsState, AsksNames, KeepsKnown, KeepsStdin, TakesStdin, IsStdinUnread, AgreesAnswer, AgreesAnswers, Agrees, asked, world_at}
 
 -- ---- names asked
 
@@ -15,118 +18,124 @@ pub after-append : (w : World) (a b : List (List ℕ)) → after (after w a) b �
 after-append w [] b = refl
 after-append w (name ∷ names) b = after-append (after_one w name) names b
 
--- a source that answers alike whatever was asked goes on so
-pub after-steady : (files : List ℕ → Answer) (w : World) (names : List (List ℕ)) → w.answer ≡ (λ asked. files)
-    → (after w names).answer ≡ (λ asked. files)
-after-steady files w [] steady = steady
-after-steady files w (name ∷ names) steady =
-    after-steady files (after_one w name) names (by (is_dash name))
-  where
-    by : (dash : Bool) → (if dash then record w { input = empty_content }
-        else record w { answer = λ asked. w.answer (name ∷ asked) }).answer ≡ (λ asked. files)
-    by true = steady
-    by false = ap (λ f asked. f (name ∷ asked)) steady
-
 -- no name was asked
-pub asked_none : (a : SourceState) → AskedMore a a []
-asked_none a = search (rules, append-nil)
-
--- nor is the source asked for standard input
-pub dash_asked : (a : SourceState) (name : List ℕ) → is_dash name ≡ true → AskedMore a a (name ∷ [])
-dash_asked a name dash = search (rules, append-nil)
+pub asks_none : (a : InputsState) → AsksNames a a []
+asks_none a = search (rules, append-nil, or-false)
 
 -- some were, and then others
-pub asked_both : (a b c : SourceState) (names more : List (List ℕ)) → AskedMore a b names → AskedMore b c more
-    → AskedMore a c (names ++ more)
-asked_both a b c names more h k =
-    IfKnown-then a.known b.known c.known (λ s t u p q. search (rules, filter-append, append_assoc)) h k
+pub asks_then : {a b c : InputsState} {names more : List (List ℕ)} → AsksNames a b names → AsksNames b c more
+    → AsksNames a c (names ++ more)
+asks_then h k = search (rules, filter-append, append_assoc, list_any-append, or_assoc)
 
--- ---- some world before each one after
+-- ---- what is known
 
-module _ {S : Type 0} {state : S → SourceState} {a b : InputsState S} where
-  -- what follows of the worlds
-  pub InSomeWorld-map : {P Q : World → World → Type 0} → InSomeWorld state a b P
-      → ((w v : World) → P w v → Q w v) → InSomeWorld state a b Q
-  InSomeWorld-map h f =
-      record { before = λ v fits. let some = h.before v fits in (some.0, some.1, f some.0 v some.2) }
+-- of standard input, over one call and another
+pub KeepsStdin-then : (a b c : InputsState) → KeepsStdin a b → KeepsStdin b c → KeepsStdin a c
+KeepsStdin-then a b c h k = k ∙ ap (λ (m : InputsState). record m { source = c.source }) h
 
-  -- over one call and another
-  pub InSomeWorld-then : {c : InputsState S} {P Q R : World → World → Type 0} → InSomeWorld state a b P
-      → InSomeWorld state b c Q → ((w u v : World) → P w u → Q u v → R w v) → InSomeWorld state a c R
-  InSomeWorld-then h k f = record {
-    before = λ v fits.
-        let later = k.before v fits in
-        let some = h.before later.0 later.1 in
-        (some.0, some.1, f some.0 later.0 v some.2 later.2);
-  }
+pub stdin_then : (a b c : InputsState) → KeepsStdin a b ⊎ TakesStdin a b → KeepsStdin b c ⊎ TakesStdin b c
+    → KeepsStdin a c ⊎ TakesStdin a c
+stdin_then a b c (inl h) (inl k) = inl (KeepsStdin-then a b c h k)
+stdin_then a b c (inl h) (inr k) = inr (rw h at k)
+stdin_then a b c (inr h) (inl k) = inr (rw k h)
+stdin_then a b c (inr h) (inr k) = cc
 
--- nothing was done
-pub InSomeWorld-none : {S : Type 0} (state : S → SourceState) (a : InputsState S)
-    → InSomeWorld state a a (λ w v. v ≡ w)
-InSomeWorld-none state a = record { before = λ v fits. (v, fits, refl) }
+-- nothing is forgotten
+pub KeepsKnown-none : (a : InputsState) → KeepsKnown a a
+KeepsKnown-none a = record { told = refl; openings = ([], search (rules, append-nil)); stdin = inl refl }
 
--- ---- a file is opened
-
--- it is answered so, and then as before
-abbrev answer_first : Answer → (List (List ℕ) → List ℕ → Answer) → List (List ℕ) → List ℕ → Answer
-answer_first here later [] name = here
-answer_first here later (first ∷ asked) name = later asked name
-
--- so there is a world before each world after
-answered_by : (x y : Option KnownSource) (name : List ℕ) (r : Answer) (v : World) → is_dash name ≡ false
-    → IfKnown x y (λ s t. AsksName s t name (Some r)) → IfSome y (λ t. v.answer ≡ t.answer)
-    → (w : World) × IfSome x (λ s. w.answer ≡ s.answer) × (w.input ≡ v.input) × (v ≡ after w (name ∷ []))
-    × (answer_to w name ≡ r)
-answered_by None y name r v file h is =
-    let w : World = record { answer = answer_first r v.answer; input = v.input } in
-    (w, tt, refl, rw file refl, rw file refl)
-answered_by (Some s) None name r v file h is = absurd h
-answered_by (Some s) (Some t) name r v file h is =
-    let w : World = record v { answer = s.answer } in
-    let later : v.answer ≡ (λ asked. s.answer (name ∷ asked)) = is ∙ ap (λ (t : KnownSource). t.answer) h.0 in
-    (w, refl, refl, rw file (ap (λ f. record v { answer = f }) later), rw file (search rules))
-
--- opening the name gives this
-abbrev pub Answers : {S : Type 0} → (S → SourceState) → InputsState S → InputsState S → List ℕ → Answer → Type 0
-Answers state a b name r = InSomeWorld state a b (λ w v. (v ≡ after w (name ∷ [])) × (answer_to w name ≡ r))
-
-opened : {S : Type 0} (state : S → SourceState) (a b : InputsState S) (name : List ℕ) (r : Answer)
-    → is_dash name ≡ false → KeepsStdin a b
-    → IfKnown (state a.source).known (state b.source).known (λ s t. AsksName s t name (Some r))
-    → Answers state a b name r
-opened state a b name r file kept h = record {
-  before = λ v fits.
-      let some = answered_by (state a.source).known (state b.source).known name r v file h fits.0 in
-      (some.0, (some.1, search rules), (some.3, some.4));
+pub KeepsKnown-then : {a b c : InputsState} → KeepsKnown a b → KeepsKnown b c → KeepsKnown a c
+KeepsKnown-then {a} {b} {c} h k = record {
+  told = k.told ∙ h.told;
+  openings = (h.openings.0 ++ k.openings.0, search (rules, append_assoc));
+  stdin = stdin_then a b c h.stdin k.stdin;
 }
 
-module _ {S F : Type 0} {state : S → SourceState} {content : F → InputState} {a b : InputsState S} {name : List ℕ} where
-  -- a content that the file may have
-  pub opened_file : {file : F} (c : Content) → is_dash name ≡ false → IfSome (content file).content (λ d. c ≡ d)
-      → OpensFile state content name a b (Ok file) → Answers state a b name (Ok c)
-  opened_file c is_file may h = opened state a b name (Ok c) is_file h.stdin (search rules)
+-- unless it is taken, standard input stays unread
+pub unread_then : (a b : InputsState) → KeepsStdin a b ⊎ TakesStdin a b → IsStdinUnread a → IsStdinUnread b
+unread_then a b (inl h) new = rw h new
+unread_then a b (inr h) new = λ untaken. cc
 
-  -- the fault of opening
-  pub opened_fault : {f : Fault} → is_dash name ≡ false → OpensFile state content name a b (Err (faults.Fault f))
-      → Answers state a b name (Err f)
-  opened_fault {f} is_file h = opened state a b name (Err f) is_file h.stdin (search rules)
+-- one name was opened
+pub one_opening : (a b : InputsState) (name : List ℕ) (gave : Option (Result Reads Fault)) → is_dash name ≡ false
+    → b.source ≡ and_opening a.source name gave → KeepsStdin a b → AsksNames a b (name ∷ []) × KeepsKnown a b
+one_opening a b name gave file is stdin = (
+  record {
+    asked = rw is (map-append (λ o. o.name) a.source.openings (record { name = name; gave = gave } ∷ [])
+        ∙ rw file refl);
+    taken = rw (stdin, file) (search (rules, or-false));
+    refusals = rw is refl;
+  },
+  record { told = rw is refl; openings = (record { name = name; gave = gave } ∷ [], rw is refl); stdin = inl stdin },
+)
 
-  -- without memory nothing was asked
-  pub opened_nothing : OpensFile state content name a b (Err faults.Memory) → InSomeWorld state a b (λ w v. v ≡ w)
-  opened_nothing h = record { before = λ v fits. (v, search rules, refl) }
+-- ---- worlds
 
--- ---- standard input is taken, and files are closed
+-- what a name is answered, and standard input, stay as they are
+steady : (w : World) (names : List (List ℕ)) → ((after w names).answer ≡ w.answer) × ((after w names).input ≡ w.input)
+steady w [] = (refl, refl)
+steady w (name ∷ names) = search (rules, steady (after_one w name) names)
 
--- a content that standard input may have had
-pub stdin_given : {S : Type 0} (state : S → SourceState) (a : InputsState S) (name : List ℕ) → is_dash name ≡ true
-    → (c : Content) → IfSome a.input (λ d. c ≡ d)
-    → InSomeWorld state a (stdin_taken_from a) (λ w v. (v ≡ after w (name ∷ [])) × (answer_to w name ≡ Ok c))
-stdin_given state a name dash c may = record {
-  before = λ v fits. let w : World = record v { input = c } in
-      (w, (fits.0, may), (rw dash (ap (λ d. record v { input = d }) fits.1), rw dash refl));
+-- a source that answers alike whatever came before goes on so
+pub after-steady : (files : List ℕ → Answer) (w : World) (names : List (List ℕ)) → w.answer ≡ (λ opened. files)
+    → (after w names).answer ≡ (λ opened. files)
+after-steady files w names same = (steady w names).0 ∙ same
+
+-- the place in the world
+place : (w : World) (names : List (List ℕ))
+    → ((after w names).opened ≡ w.opened + length (filter (λ name. not (is_dash name)) names))
+    × ((after w names).stdin_taken ≡ w.stdin_taken || list_any is_dash names)
+place w [] = (omega arith, search (rules, or-false))
+place w (name ∷ names) = grind (arith, place (after_one w name) names, or_assoc)
+
+-- what agrees with openings agrees with the first of them; with one among them; and with them before one was closed
+AgreesAnswers-front : (f : ℕ → List ℕ → Answer) (xs ys : List Opening) → AgreesAnswers f (xs ++ ys) → AgreesAnswers f xs
+AgreesAnswers-front f [] ys h = tt
+AgreesAnswers-front f (x ∷ xs) ys h = (h.0, AgreesAnswers-front (λ n. f (suc n)) xs ys h.1)
+
+AgreesAnswers-at : (f : ℕ → List ℕ → Answer) (xs ys : List Opening) (o : Opening) → AgreesAnswers f (xs ++ o ∷ ys)
+    → IfSome o.gave (λ known. AgreesAnswer known (f (length xs) o.name))
+AgreesAnswers-at f [] ys o h = h.0
+AgreesAnswers-at f (x ∷ xs) ys o h = AgreesAnswers-at (λ n. f (suc n)) xs ys o h.1
+
+pub AgreesAnswers-open : (f : ℕ → List ℕ → Answer) (xs ys : List Opening) (o : Opening) → AgreesAnswers f (xs ++ o ∷ ys)
+    → AgreesAnswers f (xs ++ record o { gave = None } ∷ ys)
+AgreesAnswers-open f [] ys o h = (tt, h.1)
+AgreesAnswers-open f (x ∷ xs) ys o h = (h.0, AgreesAnswers-open (λ n. f (suc n)) xs ys o h.1)
+
+-- what is unread is of every content
+unread_is_of : (x : Option InputState) (c : Content) → IfSome x (λ s. s.reads ≡ unread) → IfSome x (λ s. IsOf s.reads c)
+unread_is_of None c h = tt
+unread_is_of (Some s) c h = rw h (c, refl)
+
+-- standard input agrees before it is taken, and stays so afterwards
+input_first : (w : World) (b c : InputsState) → KeepsStdin b c ⊎ TakesStdin b c → IsStdinUnread b
+    → IfSome c.stdin (λ s. IsOf s.reads w.input) → IfSome b.stdin (λ s. IsOf s.reads w.input)
+input_first w b c (inl kept) new of = rw kept at of
+input_first w b c (inr taken) new of = unread_is_of b.stdin w.input (new taken.0)
+
+-- a world that agrees with what is known after a call agrees with what was known before it
+pub agrees_before : {w : World} {b c : InputsState} → Agrees w c → KeepsKnown b c → IsStdinUnread b → Agrees w b
+agrees_before {w} {b} {c} h known new = record {
+  answers = AgreesAnswers-front w.answer b.source.openings known.openings.0 (rw known.openings.1 at h.answers);
+  input = input_first w b c known.stdin new h.input;
 }
 
--- a world stays one if a file is closed
-pub may-closed : {S : Type 0} {state : S → SourceState} {a b : InputsState S} {p : Phase} → ClosesFile state p a b
-    → InSomeWorld state a b (λ w v. v ≡ w)
-may-closed h = record { before = λ v fits. (v, search rules, refl) }
+-- the names that a call asked lead on in the world
+pub world_after : (w : World) (a b : InputsState) (names : List (List ℕ)) → AsksNames a b names
+    → world_at w b ≡ after (world_at w a) names
+world_after w a b names asks =
+    let size : length b.source.openings
+    ≡ length a.source.openings + length (filter (λ name. not (is_dash name)) names) =
+    sym (length-map b.source.openings (λ (o : Opening). o.name)) ∙ ap length asks.asked ∙ length-append (asked a) _
+    ∙ ap (λ n. n + length (filter (λ name. not (is_dash name)) names)) (length-map a.source.openings (λ (o : Opening). o.name)) in
+    search (rules, steady, place, size)
+
+-- ---- what an opening gave
+
+-- it is the answer to the name
+pub opening_agrees : {w : World} {b : InputsState} → Agrees w b → (before later : List Opening) (name : List ℕ)
+    (known : Result Reads Fault) → b.source.openings ≡ before ++ record { name = name; gave = Some known } ∷ later
+    → AgreesAnswer known (w.answer (length before) name)
+opening_agrees {w} {b} h before later name known is =
+    AgreesAnswers-at w.answer before later _ (rw is at h.answers)

@@ -1,31 +1,33 @@
 -- What a call can ask, the source's files and standard input; and what it does: a list of steps, between which memory
 -- may run out.
-use Rattle.std.specs.Prelude.{ℕ, ◌&&◌, Bool, List, [], ◌∷◌, ◌++◌, map, flat_map, Option, None, Some, codes, Result, Ok, Err, if◌then◌else◌, bytes_eq}
+use Rattle.std.specs.Prelude.{ℕ, ◌+◌, ◌&&◌, Bool, true, List, [], ◌∷◌, ◌++◌, map, flat_map, Option, None, Some, codes, Result, Ok, Err, if◌then◌else◌, bytes_eq}
 pub use Rattle.digest_kinds.specs.Basics.{ByteString}
 use Rattle.digest_kinds.specs.Kinds.{KindValue, digest}
 pub use Rattle.sum_sources.specs.declared.fault.Fault.{Fault}
 pub use Rattle.sum_sources.specs.declared.fault.Ending.{Ending}
 pub use Rattle.sum_sources.specs.declared.fault.Ending.TheVariants.{Whole, Broken}
-pub use Rattle.sum_sources.specs.Contents.{Content, InputState, IfKnown, clip, empty_content}
+pub use Rattle.sum_sources.specs.Contents.{Content, InputState, IsOf, clip, empty_content}
 pub use Rattle.sum_sources.specs.Sources.{Answer, SourceState}
 
--- each name's answer, by the names asked before it (a file may change in between); what standard input has left
+-- what opening a name gives, by how many openings came before (a file may change in between); and standard input
 pub record World : Type 0 where
-  pub answer : List ByteString → ByteString → Answer
+  pub answer : ℕ → ByteString → Answer
   pub input : Content
+  pub opened : ℕ  -- how many openings came before
+  pub stdin_taken : Bool  -- whether standard input was given
 
 -- the name of standard input
 abbrev pub is_dash : ByteString → Bool
 is_dash name = bytes_eq name (codes "-")
 
--- what opening a name gives: what standard input has left, or the source's answer
+-- what opening a name gives. Standard input is given once, and is empty from then on
 abbrev pub answer_to : World → ByteString → Answer
-answer_to w name = if is_dash name then Ok w.input else w.answer [] name
+answer_to w name = if is_dash name then Ok (if w.stdin_taken then empty_content else w.input)
+    else w.answer w.opened name
 
--- the world once this name was opened: standard input is given once, and is empty from then on
+-- the world once this name was opened
 abbrev pub after_one : World → ByteString → World
-after_one w name = if is_dash name then record w { input = empty_content }
-    else record w { answer = λ asked. w.answer (name ∷ asked) }
+after_one w name = if is_dash name then record w { stdin_taken = true } else record w { opened = w.opened + 1 }
 
 -- the world after these names were asked, one after another
 abbrev pub after : World → List ByteString → World

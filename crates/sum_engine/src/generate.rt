@@ -1,10 +1,10 @@
 //! The line of one name.
-ghost use Rattle.std.specs.Prelude.{◌≡◌, true, Ok, [], length};
+ghost use Rattle.std.specs.Prelude.{◌≡◌, [], length};
 ghost use Rattle.sum_lines.specs.Lines.{line};
 ghost use Rattle.sum_engine.specs.Generation.{generate_behavior};
 ghost use Rattle.sum_engine.specs.refinement.FlushedWrites.{WritesAndFlushesBoth};
-ghost use Rattle.sum_engine.specs.Execution.{IsFlushed, FailuresMatch, ReadToEnd, IsOneMore};
-ghost use Rattle.sum_engine.specs.Execution.{RefusalsMatch, Performs};
+ghost use Rattle.sum_engine.specs.Execution.{IsFlushed, FailuresMatch, IsOneMore, RefusalsMatch};
+ghost use Rattle.sum_engine.specs.Execution.{KeepsKnown, Performs};
 
 use crate::hash_name::hash_name;
 use crate::inputs::Inputs;
@@ -27,15 +27,14 @@ pub fn generate_one<I: Input + Drop, S: Source, O: Sink, E: Sink>(
     name: &[u8],
     streams: &mut Streams<Inputs<I, S>, Outputs<O, E>>,
 ) -> Result<bool, Stop>
-    // If both outputs are flushed: the behavior of hashing that name in some world, the known one if it is known.
-    ensures behavior { Performs S.state (λ w. generate_behavior settings.now tool.now w name.now) (λ good. good)
+    // If both outputs are flushed: the behavior of hashing that name, in each world that agrees with what was read.
+    ensures behavior { Performs (λ w. generate_behavior settings.now tool.now w name.now) (λ good. good)
         streams.old streams.new result }
     ensures flushed { IsFlushed streams.old.outputs → IsFlushed streams.new.outputs }
-    // Known or not, a stop has its cause: one refusal more of the source, or one failure more of one output.
-    ensures refusals { RefusalsMatch S.state IsOneMore streams.old.inputs streams.new.inputs result }
+    ensures known { KeepsKnown streams.old.inputs streams.new.inputs }
+    // A stop has its cause: one refusal more of the source, or one failure more of one output.
+    ensures refusals { RefusalsMatch IsOneMore streams.old.inputs streams.new.inputs result }
     ensures failures { FailuresMatch streams.old.outputs streams.new.outputs result }
-    // Known or not: true only if the file, or standard input, was read to its end.
-    ensures read_to_end { result ≡ Ok true → ReadToEnd S.state streams.old.inputs streams.new.inputs }
 {
     let mut buffer = [0; PIECE];
     let outcome = hash_name(settings.kind, name, &mut streams.inputs, &mut buffer)?;

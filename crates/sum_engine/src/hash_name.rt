@@ -1,7 +1,7 @@
 //! Opening a name and hashing what it gives.
-ghost use Rattle.std.specs.Prelude.{◌≡◌, ◌∷◌, [], false, Ok, IfSome, MatchResult};
-ghost use Rattle.sum_sources.specs.Contents.{Content};
-ghost use Rattle.sum_engine.specs.Behavior.{is_dash};
+ghost use Rattle.std.specs.Prelude.{◌≡◌, ◌∷◌, [], false, Ok, IfOk, MatchResult};
+ghost use Rattle.sum_sources.specs.Contents.{Content, unread, IsOf, IsSameInput};
+ghost use Rattle.sum_engine.specs.Behavior.{World, is_dash, answer_to};
 
 use crate::inputs::Inputs;
 use digest_kinds::{AnyHasher, Digest, Hasher, Kind};
@@ -37,9 +37,9 @@ pub(crate) fn is_dash(name: &[u8]) -> bool
     name == b"-".as_slice()
 }
 
-ghost use Rattle.sum_engine.specs.refinement.Names.{HashesName, IsRead, AsksNames, MemoryWasRefused, UnlessBroken};
-ghost use Rattle.sum_engine.specs.refinement.Names.{HasKindLen, digest_of_outcome};
-ghost use Rattle.sum_engine.specs.Execution.{InSomeWorld, KeepsStdin, ReadToEnd, Unfinished, AtEnd};
+ghost use Rattle.sum_engine.specs.refinement.Names.{IsHashOutcome, IsRead, MemoryWasRefused, HasKindLen};
+ghost use Rattle.sum_engine.specs.refinement.Names.{digest_of_outcome};
+ghost use Rattle.sum_engine.specs.Execution.{Agrees, world_at, AsksNames, KeepsKnown, KeepsStdin, IsStdinUnread};
 
 /// Opens the file of this name (`-` is standard input) and hashes it. The file is read into the buffer, piece by piece.
 /// `NoRoom` if the source was refused memory; the name then doesn't count as asked.
@@ -49,15 +49,20 @@ pub(crate) fn hash_name<I: Input + Drop, S: Source>(
     inputs: &mut Inputs<I, S>,
     buffer: &mut [u8; PIECE],
 ) -> Result<HashOutcome, NoRoom>
-    ensures outcome { InSomeWorld S.state inputs.old inputs.new (λ w v. HashesName kind w v name.now result) }
-    ensures asked { MatchResult result (λ _. AsksNames S.state inputs.old inputs.new (name.now ∷ []))
-        (λ _. MemoryWasRefused S.state inputs.old inputs.new) }
+    // In each world that agrees with what was read: the outcome of what the name gives.
+    ensures outcome { IsStdinUnread inputs.old → (w : World) → Agrees w inputs.new
+        → IfOk result (IsHashOutcome kind (answer_to (world_at w inputs.old) name.now)) }
+    ensures asked { MatchResult result (λ _. AsksNames inputs.old inputs.new (name.now ∷ []))
+        (λ _. MemoryWasRefused inputs.old inputs.new) }
     ensures other_name { is_dash name.now ≡ false → KeepsStdin inputs.old inputs.new }
-    ensures read_to_end { UnlessBroken result (ReadToEnd S.state inputs.old inputs.new) }
+    ensures known { KeepsKnown inputs.old inputs.new }
     ensures digest_len { HasKindLen kind result }
 {
     if is_dash(name) {
-        let mut input = inputs.take_stdin();
+        let Some(mut input) = inputs.take_stdin() else {
+            // It is empty from then on.
+            return Ok(HashOutcome::Read(AnyHasher::new(kind).finish()));
+        };
         let outcome = read_digest(&mut input, AnyHasher::new(kind), buffer);
         inputs.put_back_stdin(input);
         return Ok(outcome);
@@ -81,10 +86,9 @@ fn read_digest<F: Input, H: Hasher + Drop>(
     buffer: &mut [u8; PIECE],
 ) -> HashOutcome
     requires { H.holds hasher [] }
-    ensures outcome { (c : Content) × IfSome (F.state file.old).content (λ d. c ≡ d)
-        × IsRead (H.kind_of hasher) c result }
-    ensures phase { UnlessBroken (Ok result)
-        ((F.state file.old).phase ≡ Unfinished → (F.state file.new).phase ≡ AtEnd) }
+    ensures outcome { (F.state file.old).reads ≡ unread → (c : Content) → IsOf (F.state file.new).reads c
+        → IsRead (H.kind_of hasher) c result }
+    ensures same { IsSameInput (F.state file.old) (F.state file.new) }
     ensures digest_len { HasKindLen (H.kind_of hasher) (Ok result) }
 {
     match hash_input_over(file, hasher, buffer) {

@@ -1,66 +1,62 @@
 //! Where a call opens and reads.
-ghost use Rattle.std.specs.Prelude.{◌≡◌, false, true, Some};
-ghost use Rattle.std.specs.Option.{option_map, option_or};
-ghost use Rattle.sum_sources.specs.StandardInput.{given_state};
-ghost use Rattle.sum_engine.specs.refinement.Names.{stdin_taken_from, OpensFile, ClosesFile};
+ghost use Rattle.std.specs.Prelude.{◌≡◌, true, None, Some, IfOk, MatchOption};
+ghost use Rattle.sum_sources.specs.Sources.{IsOpen, opened_file, after_opening, after_closing};
+ghost use Rattle.sum_engine.specs.refinement.Names.{GivesStdin};
 
 use std::marker::Model;
 use sum_sources::{Given, Input, OpenFault, Source, Stdin};
 
 /// Standard input, and the source of files.
 #[derive(Debug, Drop)]
-pub struct Inputs<I: Input, S> {
+pub struct Inputs<I: Input, S: Source> {
     /// Standard input.
     pub stdin: Stdin<I>,
     /// Where files are opened by their names.
     pub source: S,
 }
 
-impl<I: Input, S> Model for Inputs<I, S> {
+impl<I: Input, S: Source> Model for Inputs<I, S> {
     ghost use Rattle.sum_engine.specs.Execution.{InputsState};
-    ghost use Rattle.sum_sources.specs.StandardInput.{stdin_state, stdin_taken, stdin_phase};
+    ghost use Rattle.sum_sources.specs.StandardInput.{stdin_state, stdin_taken};
 
-    ghost Value = { InputsState S };
+    ghost Value = { InputsState };
 
     ghost view = { λ inputs. record {
-      source = inputs.source;
-      input = (stdin_state I.state inputs.stdin).content;
+      source = S.state inputs.source;
+      stdin = stdin_state I.state inputs.stdin;
       stdin_taken = stdin_taken inputs.stdin;
-      stdin_phase = stdin_phase I.state inputs.stdin;
     } };
 }
 
 impl<I: Input + Drop, S: Source> Inputs<I, S> {
-    /// Takes standard input. The first time this is what standard input has left; afterwards it is an empty input.
-    pub(crate) fn take_stdin(&mut self) -> Given<I>
-        ensures content { (given_state I.state result).content ≡ self.old.input }
-        ensures phase { self.old.stdin_taken ≡ false
-            → self.old.stdin_phase ≡ Some (given_state I.state result).phase }
-        ensures taken { self.new ≡ stdin_taken_from self.old }
+    /// Takes standard input the first time.
+    pub(crate) fn take_stdin(&mut self) -> Option<Given<I>>
+        ensures { MatchOption result ((self.old.stdin_taken ≡ true) × (self.new ≡ self.old))
+            (λ given. GivesStdin (I.state given) self.old self.new) }
     {
         self.stdin.take()
     }
 
-    /// Puts back what `take_stdin` gave, so that its phase is known from then on. If several are put back, the first
-    /// that has an input stays.
+    /// Puts back what `take_stdin` gave, so that it is known from then on, if nothing was put back before.
     pub(crate) fn put_back_stdin(&mut self, given: Given<I>)
-        ensures phase { self.old.stdin_taken ≡ true → self.new ≡ record self.old {
-          stdin_phase = option_or self.old.stdin_phase (option_map (λ input. (I.state input).phase) given);
-        } }
+        ensures { (self.old.stdin_taken ≡ true) → (self.old.stdin ≡ None)
+            → self.new ≡ record self.old { stdin = Some (I.state given) } }
     {
         self.stdin.put_back(given);
     }
 
     /// Opens the file of this name, as the source does.
     pub(crate) fn open_file(&mut self, name: &[u8]) -> Result<S::File, OpenFault>
-        ensures { OpensFile S.state S.File.state name.now self.old self.new result }
+        ensures source { self.new ≡ record self.old { source = after_opening self.old.source name.now result } }
+        ensures file { IfOk result (λ file. S.File.state file ≡ opened_file self.old.source name.now) }
     {
         self.source.open_file(name)
     }
 
-    /// Closes a file, which the source counts if it is at its end.
+    /// Closes a file, so that what was read of it is known from then on.
     pub(crate) fn close_file(&mut self, file: S::File)
-        ensures { ClosesFile S.state (S.File.state file).phase self.old self.new }
+        requires { IsOpen self.old.source (S.File.state file) }
+        ensures { self.new ≡ record self.old { source = after_closing self.old.source (S.File.state file) } }
     {
         self.source.close_file(file);
     }

@@ -1,11 +1,11 @@
 //! The streams of a call.
 ghost use Rattle.std.specs.Prelude.{◌≡◌};
-ghost use Rattle.sum_sources.specs.StandardInput.{stdin_state, stdin_taken, stdin_phase};
+ghost use Rattle.sum_sources.specs.StandardInput.{stdin_state, stdin_taken};
 
 use crate::inputs::Inputs;
 use std::marker::Model;
 use sum_lines::Sink;
-use sum_sources::{Input, Stdin};
+use sum_sources::{Input, Source, Stdin};
 
 /// Both outputs.
 #[derive(Debug, Drop)]
@@ -33,13 +33,14 @@ pub struct Streams<In, Out> {
     pub outputs: Out,
 }
 
-impl<I: Input, S, O: Sink, E: Sink> Streams<Inputs<I, S>, Outputs<O, E>> {
+impl<I: Input, S: Source, O: Sink, E: Sink> Streams<Inputs<I, S>, Outputs<O, E>> {
     /// Streams of these parts.
     pub fn new(stdin: Stdin<I>, source: S, out: O, err: E) -> Self
-        ensures source { result.inputs.source ≡ source }
-        ensures input { result.inputs.input ≡ (stdin_state I.state stdin).content }
-        ensures stdin_taken { result.inputs.stdin_taken ≡ stdin_taken stdin }
-        ensures stdin_phase { result.inputs.stdin_phase ≡ stdin_phase I.state stdin }
+        ensures inputs { result.inputs ≡ record {
+          source = S.state source;
+          stdin = stdin_state I.state stdin;
+          stdin_taken = stdin_taken stdin;
+        } }
         ensures outputs { result.outputs ≡ record { out = O.state out; err = E.state err } }
     {
         Streams {

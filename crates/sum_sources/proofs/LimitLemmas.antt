@@ -1,31 +1,39 @@
--- Reads of the bytes that count, up to the limit.
-use Rattle.std.proofs.lemmas.Grind.{common_steps}
-use Rattle.std.proofs.Common.{◌≡◌, ℕ, zero, suc, ◌+◌, ◌-◌, ◌^◌, ◌<◌, ◌≤◌, List, [], ◌∷◌, ◌++◌, length, take, Ok, refl, arith, length-append}
-use Rattle.std.proofs.lemmas.List.{length-take-le, take-append-le}
-use Rattle.std.proofs.Math.Seq.{take-append-add}
-use Rattle.sum_sources.specs.Contents.{Content, limit, clip_to, ReadsFrom, with_prefix}
+-- `hash_input_over`: what its reads are of, up to the limit.
+use Rattle.std.proofs.Common.{◌≡◌, ℕ, ◌^◌, ◌<◌, ◌≤◌, ◌++◌, List, length, Ok, Err, refl, arith, length-append, inl, inr, ap, append-nil}
+use Rattle.digest_kinds.specs.Kinds.{KindValue, digest}
+use Rattle.sum_sources.specs.Contents.{Content, Reads, IsOf, Hashes, clip, Other, Fault, Broken}
+use Rattle.sum_sources.specs.refinement.LimitedReads.{AddsLimited, ReadsLimited}
+use Rattle.sum_sources.specs.Phases.{Unfinished}
 use Rattle.sum_sources.proofs.ContentLemmas.{limit-value}
 
--- fewer than n bytes count
-pub length-clip_to : (n : ℕ) (c : Content) → 0 < n → length (clip_to n c).bytes < n
-length-clip_to n c some = grind (arith, common_steps)
+-- a content that has as many bytes as the limit is too long
+clip-long : (c : Content) → 2 ^ 61 ≤ length c.bytes → (clip c).ending ≡ Broken Other
+clip-long c long = grind (arith, limit-value)
 
--- a prefix of a content may be clipped with it or before it
-clip_to-with_prefix : (n k : ℕ) (prefix : List ℕ) (c : Content) → n ≡ length prefix + k → 0 < k
-    → clip_to n (with_prefix prefix c) ≡ with_prefix prefix (clip_to k c)
-clip_to-with_prefix n k prefix c sum some =
-    let size : n - 1 ≡ length prefix + (k - 1) = omega arith in
-    let cut : take (n - 1) (prefix ++ c.bytes) ≡ prefix ++ take (k - 1) c.bytes = rw (size, take-append-add) refl in
-    grind (arith, length-append {A = ℕ}, cut)
+-- a fault, or the limit, after these bytes
+ends_by_fault : (t : ℕ) (bytes buf : List ℕ) (b : Reads) (f : Fault) → length bytes ≡ t
+    → t < 2 ^ 61 → AddsLimited t (record { bytes = bytes; phase = Unfinished }) b (Err f) buf
+    → (c : Content) → IsOf b c → (clip c).ending ≡ Broken f
+ends_by_fault t bytes buf b f size few (inl failed) c of = grind (arith, limit-value)
+ends_by_fault t bytes buf b f size few (inr (other, all, more, one, is)) c of =
+    let (rest, begins) = rw is at of in
+    rw other (clip-long c (omega (
+      arith,
+      length-append bytes more,
+      length-append (bytes ++ more) rest.bytes,
+      ap (λ (x : Content). length x.bytes) begins,
+    )))
 
--- bytes that all count, or the end
-pub clipped-bytes : (c d : Content) (part rest : List ℕ) (n t : ℕ) → n ≤ length part → 0 < length part
-    → t + n < 2 ^ 61 → ReadsFrom c d (Ok n) part
-    → ReadsFrom (clip_to (limit - t) c) (clip_to (limit - (t + n)) d) (Ok n) (part ++ rest)
-clipped-bytes c d [] rest n t few some fits read = absurd (omega arith)
-clipped-bytes c d (b ∷ part) rest zero t few some fits read = grind (arith, limit-value)
-clipped-bytes c d (b ∷ part) rest (suc n) t few some fits read =
-    let size = length-take-le (suc n) (b ∷ part) few in
-    let clipped = clip_to-with_prefix (limit - t) (limit - (t + suc n)) (take (suc n) (b ∷ part)) d
-    (rw limit-value (omega arith)) (rw limit-value (omega arith)) in
-    grind (arith, take-append-le, clipped)
+module _ {t : ℕ} {a b : Reads} {buf : List ℕ} where
+  -- the input had given these bytes, and then a read met its end
+  pub hashes_end : (kind : KindValue) (bytes d : List ℕ) → length bytes < 2 ^ 61 → d ≡ digest kind bytes
+      → a ≡ record { bytes = bytes; phase = Unfinished } → ReadsLimited t a b (Ok 0) buf
+      → (c : Content) → IsOf b c → Hashes kind (clip c) (Ok d)
+  hashes_end kind bytes d few is before read c of = grind (arith, limit-value, append-nil, read.adds)
+
+  -- or a fault, or the limit
+  pub ends_by : {f : Fault} (bytes : List ℕ) → length bytes ≡ t → t < 2 ^ 61
+      → a ≡ record { bytes = bytes; phase = Unfinished } → ReadsLimited t a b (Err f) buf
+      → (c : Content) → IsOf b c → (clip c).ending ≡ Broken f
+  ends_by {f} bytes size few before read =
+      ends_by_fault t bytes buf b f size few (rw before at read.adds refl)

@@ -50,10 +50,11 @@ pub IsNextLine-last : (piece : List ℕ) → HasNoNewline piece → 0 < length p
 IsNextLine-last piece none some = search (rules, after_piece, pieces-last)
 
 -- a fault leaves no line, whatever precedes it
-pub IsNextLine-fault : (d : Content) (f : Fault) (piece : List ℕ) → HasNoNewline piece
-    → IsNextLine (with_prefix piece (record { bytes = []; ending = Broken f })) d (Err (stops.Fault f)) []
-IsNextLine-fault d f piece none =
-    rw append-nil (ap (map strip_carriage_return) (pieces-last (Broken f) piece none), refl)
+pub IsNextLine-fault : (f : Fault) (piece : List ℕ) → HasNoNewline piece
+    → let fault : Content = record { bytes = []; ending = Broken f } in
+    IsNextLine (with_prefix piece fault) fault (Err (stops.Fault f)) []
+IsNextLine-fault f piece none =
+    (rw append-nil (ap (map strip_carriage_return) (pieces-last (Broken f) piece none)), refl, refl)
 
 -- what has a line has a byte
 some_bytes : (bytes line : List ℕ) (e : Ending) (ls : List (List ℕ))

@@ -1,8 +1,8 @@
--- Contents of inputs: the limit of 2^61 bytes, what a read changes, and what hashing an input gives.
-use Rattle.std.specs.Prelude.{ℕ, zero, ◌≡◌, ◌+◌, ◌-◌, ◌^◌, [], ◌++◌, take, length, Option, None, Some, Result, Ok, Err, ⊤, nat_lt, if◌then◌else◌, ◌∷◌, IfSome}
+-- Contents of inputs: what reads gave, of which content they are, the limit of 2^61 bytes, and digests.
+use Rattle.std.specs.Prelude.{ℕ, ◌≡◌, ◌-◌, ◌^◌, [], ◌++◌, take, length, Option, Result, Ok, Err, ⊤, nat_lt, if◌then◌else◌, IfSome}
 use Rattle.digest_kinds.specs.Basics.{ByteString}
 use Rattle.digest_kinds.specs.Kinds.{digest, KindValue}
-use Rattle.sum_sources.specs.Phases.{Phase}
+use Rattle.sum_sources.specs.Phases.{Phase, Unfinished, AtEnd, Failed, Past, phase_after}
 pub use Rattle.sum_sources.specs.Faults.{Fault, Other}
 pub use Rattle.sum_sources.specs.declared.fault.Ending.{Ending}
 pub use Rattle.sum_sources.specs.declared.fault.Ending.TheVariants.{Whole, Broken}
@@ -12,10 +12,31 @@ pub record Content : Type 0 where
   pub bytes : ByteString
   pub ending : Ending
 
--- the state of an input: its remaining content, if it is known; and how far it was read
-pub record InputState : Type 0 where
-  pub content : Option Content
+-- what an input's reads gave so far: all their bytes, and how far it was read
+pub record Reads : Type 0 where
+  pub bytes : ByteString
   pub phase : Phase
+
+-- nothing was read yet
+abbrev pub unread : Reads
+unread = record { bytes = []; phase = Unfinished }
+
+-- the bytes that a read gave: the first ones of the buffer
+abbrev pub bytes_of : Result ℕ Fault → ByteString → ByteString
+bytes_of (Ok n) buf = take n buf
+bytes_of (Err f) buf = []
+
+-- one read more, into a buffer of so many bytes
+abbrev pub and_read : Reads → ℕ → Result ℕ Fault → ByteString → Reads
+and_read r size result buf =
+    record { bytes = r.bytes ++ bytes_of result buf; phase = phase_after r.phase size result }
+
+-- the state of an input: which file it is, and what its reads gave
+pub record InputState : Type 0 where
+  pub opening : ℕ  -- how many openings of its source came before that of this file
+  pub name : ByteString  -- by which it was opened
+  pub told : Option Content  -- its content, if that is in memory
+  pub reads : Reads
 
 -- an input of so many bytes is too long
 unfoldable pub limit : ℕ
@@ -28,12 +49,6 @@ clip_to n c = if nat_lt (length c.bytes) n then c else record { bytes = take (n 
 abbrev pub clip : Content → Content
 clip = clip_to limit
 
--- P holds between the values before and after a call, if they are known. What is known stays known
-abbrev pub IfKnown : {A : Type 0} → Option A → Option A → (A → A → Type 0) → Type 0
-IfKnown None new P = ⊤
-IfKnown (Some a) None P = ⊥
-IfKnown (Some a) (Some b) P = P a b
-
 -- no bytes, and a whole ending
 abbrev pub empty_content : Content
 empty_content = record { bytes = []; ending = Whole }
@@ -42,27 +57,32 @@ empty_content = record { bytes = []; ending = Whole }
 abbrev pub with_prefix : ByteString → Content → Content
 with_prefix prefix c = record { bytes = prefix ++ c.bytes; ending = c.ending }
 
--- a read takes some of the first bytes, or none if there is no room. If no byte remains, it gives the end or the fault
--- of the content, and what remains after that may be anything
-abbrev pub ReadsFrom : Content → Content → Result ℕ Fault → ByteString → Type 0
-ReadsFrom c d (Ok zero) (b ∷ buf) = c ≡ empty_content
-ReadsFrom c d (Ok n) buf = c ≡ with_prefix (take n buf) d
-ReadsFrom c d (Err f) buf = c ≡ record { bytes = []; ending = Broken f }
+-- the content that begins with these bytes, or ends with them, by how far it was read. Nothing is known of a content
+-- that was read past its end
+abbrev pub IsReadTo : Phase → ByteString → Content → Type 0
+IsReadTo Unfinished bytes c = (rest : Content) × (c ≡ with_prefix bytes rest)
+IsReadTo AtEnd bytes c = c ≡ record { bytes = bytes; ending = Whole }
+IsReadTo (Failed f) bytes c = c ≡ record { bytes = bytes; ending = Broken f }
+IsReadTo Past bytes c = ⊤
+
+-- these reads are of that content
+abbrev pub IsOf : Reads → Content → Type 0
+IsOf r c = IsReadTo r.phase r.bytes c
+
+-- the reads of an input are of a content: of the one in memory, if it is there
+abbrev pub HasContent : InputState → Type 0
+HasContent s = (c : Content) × IfSome s.told (λ d. c ≡ d) × IsOf s.reads c
+
+-- the same input, of which more was read
+abbrev pub IsSameInput : InputState → InputState → Type 0
+IsSameInput a b = b ≡ record a { reads = b.reads }
 
 -- the digest of a content that ends whole, or the fault by which it ends
 abbrev pub Hashes : KindValue → Content → Result ByteString Fault → Type 0
 Hashes kind c (Ok d) = (c.ending ≡ Whole) × (d ≡ digest kind c.bytes)
 Hashes kind c (Err f) = c.ending ≡ Broken f
 
--- the digest, or the fault, of some content that an input had: of the known one, if it is known
-abbrev pub HashesInput : KindValue → Option Content → Result ByteString Fault → Type 0
-HashesInput kind content r = (c : Content) × IfSome content (λ d. c ≡ d) × Hashes kind (clip c) r
-
--- bytes taken from an input and bytes that remain in it, if they are known, add up to the same
-abbrev pub KeepsTotal : ℕ → InputState → ℕ → InputState → Type 0
-KeepsTotal before a after b = IfKnown a.content b.content (λ c d. after + length d.bytes ≡ before + length c.bytes)
-
--- an input over a reader
+-- an input over a reader, and what its reads gave
 pub record OverReader (R : Type 0) : Type 0 where
   pub reader : R
-  pub phase : Phase
+  pub log : InputState

@@ -2,8 +2,12 @@ pub mod Contents
 pub mod Faults
 pub mod InMemory
 pub mod LineReaders
+pub mod LogNotes
+pub mod Logs
 pub mod ManifestLines
 pub mod Phases
+pub mod SourceLaws
 pub mod Sources
 pub mod StandardInput
+pub mod ToldLaws
 pub mod refinement

@@ -1,9 +1,9 @@
 -- The state of a reader of lines, and what a call changes in it.
-use Rattle.std.specs.Prelude.{ℕ, ◌≡◌, ◌+◌, ◌-◌, ◌^◌, ◌<◌, ◌≤◌, ◌⊎◌, [], length, Option, None, Some, Result, Ok, Err, IfOk, OnOk, MatchOption, option_map}
-use Rattle.sum_sources.specs.Contents.{Broken, Content, InputState, limit, clip_to, empty_content, with_prefix}
+use Rattle.std.specs.Prelude.{ℕ, ◌≡◌, ◌+◌, ◌-◌, ◌^◌, ◌<◌, ◌≤◌, ◌⊎◌, ◌++◌, length, drop, Option, None, Some, Result, Ok, Err, OnOk}
+use Rattle.sum_sources.specs.Contents.{Content, InputState, IsOf, IsSameInput, clip}
 use Rattle.sum_sources.specs.Faults.{Fault, ByteString}
 use Rattle.sum_sources.specs.ManifestLines.{Next, Line, NoMore, LineStop, HasNoNewline, IsNextLine, lines_after}
-use Rattle.sum_sources.specs.Phases.{Unfinished, AtEnd}
+use Rattle.sum_sources.specs.Phases.{Unfinished}
 use Rattle.sum_sources.specs.declared.line_reader.LineStop.TheVariants as stops
 
 -- a reader of lines
@@ -26,29 +26,30 @@ pub record IsBounded {I : Type 0} (r : LineReaderValue I) : Type 0 where
   -- only a fault may come at the limit
   pub under : (r.taken < 2 ^ 61) ⊎ ((f : Fault) × (r.final_answer ≡ Some (Err (stops.Fault f))))
 
--- the remaining content, given the final answer: nothing after the end, and just the fault after a fault
-abbrev pub remaining_by : Option (Result Next LineStop) → Option Content → Option Content
-remaining_by (Some (Ok n)) c = Some empty_content
-remaining_by (Some (Err (stops.Fault f))) c = Some (record { bytes = []; ending = Broken f })
-remaining_by _ c = c
+-- a content past its first n bytes
+abbrev pub past : ℕ → Content → Content
+past n c = record { bytes = drop n c.bytes; ending = c.ending }
 
--- the remaining content, if known: the bytes read ahead and then the input's content, as far as the limit allows
-abbrev pub remaining_content : {I : Type 0} → (I → InputState) → LineReaderValue I → Option Content
-remaining_content state r =
-    remaining_by r.final_answer (option_map (λ c. with_prefix r.ahead (clip_to (limit - r.taken) c))
-    (state r.input).content)
+-- what remains of a content, as far as the limit allows
+abbrev pub remaining : {I : Type 0} → LineReaderValue I → Content → Content
+remaining r c = past (consumed_count r) (clip c)
 
--- a content that may remain: the known one, or any that the limit allows
-abbrev pub MayRemain : {I : Type 0} → (I → InputState) → LineReaderValue I → Content → Type 0
-MayRemain state r c = MatchOption (remaining_content state r) (consumed_count r + length c.bytes < limit) (λ d. c ≡ d)
+-- the next line was read, or an end: of each content that what was read of the input is of. If the result is `Ok`, bytes
+-- consumed and bytes that remain add up to the same
+abbrev pub ReadsLine : {I : Type 0} → (I → InputState) → LineReaderValue I → LineReaderValue I → Result Next LineStop
+    → ByteString → Type 0
+ReadsLine state old new result line = (c : Content) → IsOf (state new.input).reads c
+    → IsNextLine (remaining old c) (remaining new c) result line × OnOk result (consumed_count new
+    + length (remaining new c).bytes ≡ consumed_count old + length (remaining old c).bytes)
 
--- the next line was read: for each content that may remain now there is one that may have remained before, whose next
--- line it is. If the result is `Ok`, bytes consumed and remaining add up to the same
-abbrev pub ReadsSomeLine : {I : Type 0} → (I → InputState) → LineReaderValue I → LineReaderValue I
-    → Result Next LineStop → ByteString → Type 0
-ReadsSomeLine state old new result line = (d : Content) → MayRemain state new d → (c : Content) × MayRemain state old c
-    × IsNextLine c d result line × OnOk result (consumed_count new + length d.bytes
-    ≡ consumed_count old + length c.bytes)
+-- a reader of an input that was unread when the reader was made
+pub record IsReading {I : Type 0} (state : I → InputState) (r : LineReaderValue I) : Type 0 where
+  -- as long as no answer is final, the input has given what was consumed, and then what is ahead
+  pub going : r.final_answer ≡ None → (consumed : ByteString) × (length consumed + length r.ahead ≡ r.taken)
+      × ((state r.input).reads ≡ record { bytes = consumed ++ r.ahead; phase = Unfinished })
+  -- a final answer stays right
+  pub final : (answer : Result Next LineStop) → r.final_answer ≡ Some answer → (line : ByteString)
+      → ReadsLine state r r answer line
 
 -- what every later call returns, once this was returned. After the end or a stop, the same. After a line, either
 -- nothing is settled or it is the end
@@ -56,16 +57,18 @@ abbrev pub IsFinalAnswerAfter : Result Next LineStop → Option (Result Next Lin
 IsFinalAnswerAfter (Ok Line) later = (later ≡ None) ⊎ (later ≡ Some (Ok NoMore))
 IsFinalAnswerAfter answer later = later ≡ Some answer
 
--- the reader's input was read as far as its answers say: it is unfinished if no answer is final yet, and at the end if
--- the final answer says that no line remains. A stop says nothing of it
-abbrev pub IsReadSoFar : {I : Type 0} → (I → InputState) → LineReaderValue I → Type 0
-IsReadSoFar state r = MatchOption r.final_answer ((state r.input).phase ≡ Unfinished)
-    (λ answer. IfOk answer (λ _. (state r.input).phase ≡ AtEnd))
+-- the next line was read of an input that was unread when the reader was made, and reading goes on
+pub record ReadsOn {I : Type 0} (state : I → InputState) (old new : LineReaderValue I) (result : Result Next LineStop)
+    (bytes : ByteString) : Type 0 where
+  pub line : ReadsLine state old new result bytes
+  pub reading : IsReading state new
+  -- what was read by now is of no content that what was read before wasn't of
+  pub before : (c : Content) → IsOf (state new.input).reads c → IsOf (state old.input).reads c
 
--- what a call of next_line changes in a reader, known or not
+-- what a call of next_line changes in a reader
 pub record AdvancesLines {I : Type 0} (state : I → InputState) (old new : LineReaderValue I)
     (result : Result Next LineStop) : Type 0 where
   pub final_answer : IsFinalAnswerAfter result new.final_answer  -- what later calls return
   pub lines : new.lines ≡ lines_after old.lines result  -- a line that is returned is counted
   pub ahead : ¬ HasNoNewline old.ahead → new.input ≡ old.input  -- the input isn't read if a whole line was read ahead
-  pub phase : IsReadSoFar state old → IsReadSoFar state new  -- nor is it read again after its end
+  pub same : IsSameInput (state old.input) (state new.input)

@@ -35,12 +35,13 @@ HasNoNewline piece = All (λ b. (b == 10) ≡ false) piece
 abbrev pub bytes_of_lines : List ByteString → ByteString → ByteString
 bytes_of_lines ended tail = flat_map (λ piece. piece ++ 10 ∷ []) ended ++ tail
 
--- what next_line returns: the first line, and then the content past it remains; or, if there is no line, the ending; or
--- that memory was refused, only if something remains
+-- what next_line returns: the first line, and then the content past it remains; or, if there is no line, the ending,
+-- which remains; or that memory was refused, only if something remains
 abbrev pub IsNextLine : Content → Content → Result Next LineStop → ByteString → Type 0
 IsNextLine c d (Ok Line) line = (lines c ≡ line ∷ lines d) × (d ≡ past_line c)
-IsNextLine c d (Ok NoMore) line = (lines c ≡ []) × (c.ending ≡ Whole)
-IsNextLine c d (Err (stops.Fault f)) line = (lines c ≡ []) × (c.ending ≡ Broken f)
+IsNextLine c d (Ok NoMore) line = (lines c ≡ []) × (c.ending ≡ Whole) × (d ≡ record { bytes = []; ending = Whole })
+IsNextLine c d (Err (stops.Fault f)) line =
+    (lines c ≡ []) × (c.ending ≡ Broken f) × (d ≡ record { bytes = []; ending = Broken f })
 IsNextLine c d (Err stops.Memory) line = 0 < length c.bytes
 
 -- only a line changes the count of lines

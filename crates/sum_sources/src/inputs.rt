@@ -6,6 +6,7 @@ mod from_read_uninterrupted;
 pub(crate) mod hash_input;
 pub(crate) mod input;
 pub(crate) mod phase;
+pub(crate) mod read_log;
 pub(crate) mod size_limit;
 pub(crate) mod stdin;
 pub(crate) mod told;

@@ -29,7 +29,6 @@ pub use inputs::phase::Phase;
 pub use inputs::stdin::{Given, Stdin};
 pub use inputs::told::Told;
 pub use line_reader::{LineReader, LineStop, Next};
-pub use sources::file_counts::FileCounts;
 pub use sources::files::Files;
 pub use sources::source::{OpenFault, Source};
 pub use sources::told_source::{Answer, ToldSource};

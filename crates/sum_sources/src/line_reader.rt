@@ -2,7 +2,7 @@
 ghost use Rattle.std.specs.Prelude.{◌≡◌, ◌≤◌, ◌<◌, ◌+◌, ◌^◌, [], true, false, length};
 ghost use Rattle.std.specs.Prelude.{None, Some, Err, IfOk, IfSome, IsErr, MatchResult, if◌then◌else◌};
 ghost use Rattle.std.specs.Str.Lines.{strip_carriage_return};
-ghost use Rattle.sum_sources.specs.Contents.{IfKnown, KeepsTotal};
+ghost use Rattle.sum_sources.specs.Contents.{IsSameInput};
 
 use crate::inputs::size_limit::read_limited;
 use crate::{Fault, Input, NoRoom, PIECE, Phase};
@@ -84,18 +84,18 @@ fn drop_return<A: Allocator>(line: &mut Vec<u8, A>)
 }
 
 impl<I: Input> LineReader<I> {
-    ghost use Rattle.std.specs.Option.{option_map};
-    ghost use Rattle.sum_sources.specs.Contents.{clip};
+    ghost use Rattle.sum_sources.specs.Contents.{unread};
+    ghost use Rattle.sum_sources.specs.Phases.{Unfinished};
     ghost use Rattle.sum_sources.specs.ManifestLines.{HasNoNewline};
-    ghost use Rattle.sum_sources.specs.LineReaders.{remaining_content, consumed_count, IsBounded, IsFinalAnswerAfter};
-    ghost use Rattle.sum_sources.specs.LineReaders.{AdvancesLines, IsReadSoFar, ReadsSomeLine};
+    ghost use Rattle.sum_sources.specs.LineReaders.{consumed_count, IsBounded, IsFinalAnswerAfter};
+    ghost use Rattle.sum_sources.specs.LineReaders.{AdvancesLines, IsReading, ReadsOn};
     ghost use Rattle.sum_sources.specs.refinement.LineStates.{FillsBuffer, TakesPiece};
 
     /// A reader of the lines of `input`. If the input has `LIMIT` bytes or more, its first `LIMIT - 1` bytes count, and
     /// then `Fault::Other`.
     pub fn new(input: I) -> Self
         ensures is { result ≡ record { input = input; ahead = []; taken = 0; lines = 0; final_answer = None } }
-        ensures remaining_content { remaining_content I.state result ≡ option_map clip (I.state input).content }
+        ensures reading { (I.state input).reads ≡ unread → IsReading I.state result }
     {
         LineReader {
             input,
@@ -134,17 +134,17 @@ impl<I: Input> LineReader<I> {
     fn fill(&mut self) -> Result<bool, Fault>
         requires empty { self.old.ahead ≡ [] }
         requires going { self.old.final_answer ≡ None }
-        ensures content { IfKnown (remaining_content I.state self.old) (remaining_content I.state self.new)
-            (λ c d. FillsBuffer c d result) }
+        ensures reads { (I.state self.old.input).reads.phase ≡ Unfinished → FillsBuffer self.old.taken
+            (I.state self.old.input).reads (I.state self.new.input).reads self.new.ahead result }
+        ensures taken { IfOk result (λ _. (self.new.taken ≡ self.old.taken + length self.new.ahead)
+            × (self.new.taken < 2 ^ 61)) }
         ensures more { result ≡ Ok true → self.old.taken < self.new.taken }
-        ensures consumed { IfOk result (λ _. consumed_count self.new ≡ consumed_count self.old) }
-        ensures total { result ≡ Ok true → KeepsTotal self.old.taken (I.state self.old.input)
-            self.new.taken (I.state self.new.input) }
+        ensures end { IfOk result (λ more. more ≡ false → self.new.ahead ≡ []) }
+        ensures fault { IsErr result → (self.new.ahead ≡ []) × (self.old.taken ≤ self.new.taken) }
+        ensures same { IsSameInput (I.state self.old.input) (I.state self.new.input) }
         ensures lines { self.new.lines ≡ self.old.lines }
         ensures final_answer { MatchResult result (λ _. self.new.final_answer ≡ None)
             (λ fault. self.new.final_answer ≡ Some (Err (LineStop.Fault fault))) }
-        ensures phase { IfOk result (λ more. (I.state self.old.input).phase ≡ Phase.Unfinished
-            → (I.state self.new.input).phase ≡ (if more then Phase.Unfinished else Phase.AtEnd)) }
     {
         self.start = 0;
         self.end = 0;
@@ -192,13 +192,12 @@ impl<I: Input> LineReader<I> {
     fn read_on<A: Allocator>(&mut self, line: &mut Vec<u8, A>) -> Result<Next, LineStop>
         requires empty { line.old.items ≡ [] }
         requires going { self.old.final_answer ≡ None }
-        ensures line { ReadsSomeLine I.state self.old self.new result (strip_carriage_return line.new.items) }
-        ensures total { self.new.final_answer ≡ None → KeepsTotal self.old.taken (I.state self.old.input)
-            self.new.taken (I.state self.new.input) }
+        ensures line { IsReading I.state self.old
+            → ReadsOn I.state self.old self.new result (strip_carriage_return line.new.items) }
+        ensures same { IsSameInput (I.state self.old.input) (I.state self.new.input) }
         ensures some { result ≡ Ok Next.Line → consumed_count self.old < consumed_count self.new }
         ensures lines { self.new.lines ≡ self.old.lines }
         ensures final_answer { IsFinalAnswerAfter result self.new.final_answer }
-        ensures phase { IsReadSoFar I.state self.old → IsReadSoFar I.state self.new }
         ensures ahead { ¬ HasNoNewline self.old.ahead → self.new.input ≡ self.old.input }
     {
         loop {
@@ -231,15 +230,12 @@ impl<I: Input> LineReader<I> {
     /// `LineStop::Memory` if memory for the line was refused; bytes of the manifest were then still to come. After any
     /// of these the content of `line` is unspecified, and every later call returns the same and doesn't read the input.
     pub fn next_line<A: Allocator>(&mut self, line: &mut Vec<u8, A>) -> Result<Next, LineStop>
-        // The next line of some content that remained: of the known one, if it is known.
-        ensures line { ReadsSomeLine I.state self.old self.new result line.new.items }
+        // Of each content that what was read of the input is of: the next line of what remained.
+        ensures line { IsReading I.state self.old → ReadsOn I.state self.old self.new result line.new.items }
         // A final answer is returned again, and the reader stays as it is.
         ensures repeats { IfSome self.old.final_answer (λ answer. (result ≡ answer) × (self.new ≡ self.old)) }
-        // Known or not: the lines counted, how far the input was read, and which answers are final.
+        // The lines counted, and which answers are final.
         ensures reader { AdvancesLines I.state self.old self.new result }
-        // Bytes taken from the input and bytes that remain in it add up to the same.
-        ensures total { self.new.final_answer ≡ None → KeepsTotal self.old.taken (I.state self.old.input)
-            self.new.taken (I.state self.new.input) }
         // At most 8192 bytes are read ahead of the lines, and no count passes its limit.
         ensures bounds { IsBounded self.new }
     {

@@ -1,12 +1,13 @@
 -- The states of a manifest's check: what remains of it, and what was found so far.
-use Rattle.std.specs.Prelude.{ℕ, ◌≡◌, ◌+◌, ◌≤◌, List, [], ◌∷◌, length, None, option_map}
+use Rattle.std.specs.Prelude.{ℕ, ◌≡◌, ◌+◌, ◌≤◌, List, [], ◌∷◌, length, None}
 use Rattle.sum_sources.specs.declared.line_reader.LineReader.{LineReader}
-use Rattle.sum_sources.specs.LineReaders.{remaining_content, MayRemain, consumed_count}
+use Rattle.sum_sources.specs.Contents.{unread}
+use Rattle.sum_sources.specs.LineReaders.{remaining, consumed_count, IsReading}
 use Rattle.sum_lines.specs.declared.reading.read_line.Form.TheVariants.{Undecided}
 use Rattle.sum_engine.specs.check.Verdicts.{Form, Verdict, Ignored, Bad, Right, Wrong, Missing, Unread, lines_under, Rules, LineVerdictValue, judge, verdicts, past_line, parse_line, form_then, line_form, form}
-use Rattle.sum_engine.specs.Execution.{InputsState, MayBeIn}
+use Rattle.sum_engine.specs.Execution.{InputsState, Agrees, world_at}
 use Rattle.sum_engine.specs.check.Reports.{LabelsValue, Counts, counts_of, entries, end_text, good}
-use Rattle.sum_engine.specs.Behavior.{ByteString, World, Behavior, Content, InputState, clip, SourceState}
+use Rattle.sum_engine.specs.Behavior.{ByteString, World, Behavior, Content, InputState, IsOf}
 use Rattle.sum_engine.specs.check.Checking.{line_steps}
 
 -- the counts of no line, those with one line more, and those of lines and then of others
@@ -102,17 +103,18 @@ state_at p c w = record {
   world = w;
 }
 
--- P holds between the check's states at two places and inputs: for every content that may remain after, and every
--- world, there is a state before
-pub record InSomeCheck {I S : Type 0} (input : I → InputState) (source : S → SourceState) (p q : CursorValue I)
-    (a b : InputsState S) (P : CheckState → CheckState → Type 0) : Type 0 where
-  pub before : (d : Content) (v : World) → MayRemain input q.reader d → MayBeIn source b v
-      → (c : Content) × (w : World) × MayRemain input p.reader c × MayBeIn source a w
-      × P (state_at p c w) (state_at q d v)
+-- P holds between the check's states at two places and inputs: of each content of the manifest, and in each world, that
+-- agrees with what was read by then
+pub record InEachCheck {I : Type 0} (state : I → InputState) (p q : CursorValue I) (a b : InputsState)
+    (P : CheckState → CheckState → Type 0) : Type 0 where
+  pub holds : (c : Content) → IsOf (state q.reader.input).reads c → (w : World) → Agrees w b
+      → P (state_at p (remaining p.reader c) (world_at w a)) (state_at q (remaining q.reader c) (world_at w b))
+  pub reading : IsReading state q.reader
+  pub before : (c : Content) → IsOf (state q.reader.input).reads c → IsOf (state p.reader.input).reads c
 
--- it is at the first line of that input; nothing of it was read
+-- it is at the first line of that input
 pub record IsAtStart {I : Type 0} (state : I → InputState) (p : CursorValue I) (input : I) : Type 0 where
   pub reader : p.reader ≡ record { input = input; ahead = []; taken = 0; lines = 0; final_answer = None }
-  pub remaining : remaining_content state p.reader ≡ option_map clip (state input).content
+  pub reading : (state input).reads ≡ unread → IsReading state p.reader
   pub form : p.form ≡ Undecided
   pub counts : p.counts ≡ no_counts

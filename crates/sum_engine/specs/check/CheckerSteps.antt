@@ -4,10 +4,11 @@ pub use Rattle.sum_engine.specs.declared.check.progress.Progress.{Progress}
 pub use Rattle.sum_engine.specs.declared.check.progress.Progress.TheVariants.{Going, Ended}
 use Rattle.sum_sources.specs.declared.line_reader.LineStop.TheVariants.{Fault, Memory}
 use Rattle.sum_engine.specs.check.Verdicts.{Rules}
-use Rattle.sum_engine.specs.Execution.{Stop, Write, WorldState, PerformsSteps, StreamsState, IsFlushed, FailuresMatch, in_world}
+use Rattle.sum_engine.specs.Execution.{Stop, Write, StreamsState, PerformsSteps, IsFlushed, IsStdinUnread, FailuresMatch}
+use Rattle.sum_sources.specs.LineReaders.{IsReading}
 use Rattle.sum_engine.specs.check.Reports.{LabelsValue, good}
-use Rattle.sum_engine.specs.Behavior.{ByteString, Whole, Step, Behavior, SourceState, InputState}
-use Rattle.sum_engine.specs.check.CheckStates.{CheckState, HandlesLine, remaining_behavior, CursorValue, InSomeCheck}
+use Rattle.sum_engine.specs.Behavior.{ByteString, Whole, Step, Behavior, InputState}
+use Rattle.sum_engine.specs.check.CheckStates.{CheckState, HandlesLine, remaining_behavior, CursorValue, InEachCheck}
 use Rattle.sum_engine.specs.check.NextVerdict.{VerdictResult, AdvancesVerdicts}
 use Rattle.sum_engine.specs.declared.stop.Stop.TheVariants as stops
 
@@ -22,7 +23,7 @@ progress_before steps good = Going
 
 -- what a step does from a to b, and of the streams from s to t: it performs the first step of the behavior that
 -- remained; if it returns Going, a line was handled, and the others remain
-pub record StepIs (r : Rules) (labels : LabelsValue) (vector : ByteString) (a b : CheckState) (s t : WorldState)
+pub record StepIs (r : Rules) (labels : LabelsValue) (vector : ByteString) (a b : CheckState) (s t : StreamsState)
     (x : Result Progress Stop) : Type 0 where
   pub step : Step
   pub later : Behavior
@@ -30,11 +31,11 @@ pub record StepIs (r : Rules) (labels : LabelsValue) (vector : ByteString) (a b 
   pub performs : PerformsSteps (step ∷ []) (progress_before later.steps later.good) s t x
   pub going : x ≡ Ok Going → (later ≡ remaining_behavior r labels b) × HandlesLine r a b vector
 
--- a step in some world, if both outputs are flushed at the call
-abbrev pub TakesStep : {I S : Type 0} → (I → InputState) → (S → SourceState) → ByteString → LabelsValue → CursorValue I
-    → CursorValue I → StreamsState S → StreamsState S → Result Progress Stop → Type 0
-TakesStep input source vector labels p q a b x = IsFlushed a.outputs → InSomeCheck input source p q a.inputs b.inputs
-    (λ c d. StepIs p.rules labels vector c d (in_world source a c.world) (in_world source b d.world) x)
+-- a step, if both outputs are flushed at the call, of an input that was unread at the start
+abbrev pub TakesStep : {I : Type 0} → (I → InputState) → ByteString → LabelsValue → CursorValue I → CursorValue I
+    → StreamsState → StreamsState → Result Progress Stop → Type 0
+TakesStep state vector labels p q a b x = IsFlushed a.outputs → IsReading state p.reader → IsStdinUnread a.inputs
+    → InEachCheck state p q a.inputs b.inputs (λ c d. StepIs p.rules labels vector c d a b x)
 
 -- a checker: its place, what its reports show, and its final answer, if there is one
 pub record CheckerValue (I : Type 0) : Type 0 where
@@ -55,15 +56,15 @@ step_answer p (Ok (Some v)) false = Ok Going
 step_answer p (Ok None) false = Ok (Ended (good p.rules Whole p.counts))
 step_answer p (Err (Fault f)) false = Ok (Ended false)
 
--- what a step does to the checker, the files and the outputs, known or not
-pub record AdvancesChecker {I S : Type 0} (input : I → InputState) (source : S → SourceState) (vector : ByteString)
-    (p q : CheckerValue I) (a b : StreamsState S) (x : Result Progress Stop) : Type 0 where
+-- what a step does to the checker, the files and the outputs
+pub record AdvancesChecker {I : Type 0} (state : I → InputState) (vector : ByteString)
+    (p q : CheckerValue I) (a b : StreamsState) (x : Result Progress Stop) : Type 0 where
   pub labels : q.labels ≡ p.labels
   pub final_answer : q.final_answer ≡ final_answer_of_step x
   -- the next verdict was found, and then its text was written, or that failed
   pub found : VerdictResult
   pub failed : Bool
-  pub verdict : AdvancesVerdicts input source vector p.cursor q.cursor a.inputs b.inputs found
+  pub verdict : AdvancesVerdicts state vector p.cursor q.cursor a.inputs b.inputs found
   pub answer : x ≡ step_answer q.cursor found failed
   pub failures : FailuresMatch a.outputs b.outputs x
   pub no_output_on_memory : x ≡ Err stops.Memory → b.outputs ≡ a.outputs

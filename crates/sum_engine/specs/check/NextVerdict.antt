@@ -1,18 +1,18 @@
 -- What the next verdict of a manifest is; no text is written.
-use Rattle.std.specs.Prelude.{◌≡◌, ◌+◌, ◌≤◌, ◌<◌, ◌⊎◌, ◌||◌, List, [], ◌∷◌, length, slice_range, Bool, true, false, Option, None, Some, IfSome, Result, Ok, Err}
-use Rattle.std.specs.List.{list_any}
-use Rattle.digest_kinds.specs.Limits.{one_more}
-use Rattle.sum_engine.specs.Behavior.{ByteString, Ending, Whole, Broken, is_dash, after, Content, IfKnown, InputState, SourceState}
+use Rattle.std.specs.Prelude.{◌≡◌, ◌+◌, ◌≤◌, ◌<◌, ◌⊎◌, List, [], ◌∷◌, length, slice_range, Bool, true, false, Option, None, Some, Result, Ok, Err}
+use Rattle.sum_engine.specs.Behavior.{ByteString, Ending, Whole, Broken, after, InputState}
 pub use Rattle.sum_sources.specs.declared.line_reader.LineStop.{LineStop}
 use Rattle.sum_sources.specs.declared.line_reader.LineStop.TheVariants.{Fault, Memory}
 use Rattle.sum_sources.specs.declared.line_reader.Next.TheVariants.{NoMore}
 use Rattle.sum_sources.specs.ManifestLines.{HasNoNewline}
-use Rattle.sum_sources.specs.LineReaders.{remaining_content, IsBounded, IsReadSoFar}
-use Rattle.sum_engine.specs.Execution.{InputsState, KeepsStdin, ReadToEnd, AskedMore}
-use Rattle.sum_engine.specs.check.CheckStates.{CheckState, CursorValue, counts_with, HandlesLine, remaining_verdicts, InSomeCheck}
+use Rattle.sum_sources.specs.LineReaders.{IsBounded, IsReading}
+use Rattle.sum_sources.specs.Contents.{IsSameInput}
+use Rattle.sum_engine.specs.Execution.{InputsState, IsStdinUnread, KeepsStdin, KeepsKnown, AsksNames}
+use Rattle.sum_engine.specs.refinement.Names.{MemoryWasRefused}
+use Rattle.sum_engine.specs.check.CheckStates.{CheckState, CursorValue, counts_with, HandlesLine, remaining_verdicts, InEachCheck}
 pub use Rattle.sum_engine.specs.declared.check.judge.LineVerdict.{LineVerdict}
 use Rattle.sum_engine.specs.check.Verdicts.{Rules, LineVerdictValue, asks_of}
-use Rattle.sum_engine.specs.check.Reports.{Counts, is_unread}
+use Rattle.sum_engine.specs.check.Reports.{Counts}
 
 -- what a call for the next verdict returns
 abbrev pub VerdictResult : Type 0
@@ -50,11 +50,11 @@ NextVerdictIs r vector a b (Ok None) = HasNoVerdictLeft r Whole a b
 NextVerdictIs r vector a b (Err (Fault f)) = HasNoVerdictLeft r (Broken f) a b
 NextVerdictIs r vector a b (Err Memory) = (b.world ≡ a.world) × (0 < length a.remaining.bytes)
 
--- the same between two places and inputs, in some world
-abbrev pub FindsVerdict : {I S : Type 0} → (I → InputState) → (S → SourceState) → ByteString → CursorValue I
-    → CursorValue I → InputsState S → InputsState S → VerdictResult → Type 0
-FindsVerdict input source vector p q a b x =
-    InSomeCheck input source p q a b (λ c d. NextVerdictIs p.rules vector c d x)
+-- the same between two places and inputs, of an input that was unread at the start
+abbrev pub FindsVerdict : {I : Type 0} → (I → InputState) → ByteString → CursorValue I → CursorValue I → InputsState
+    → InputsState → VerdictResult → Type 0
+FindsVerdict state vector p q a b x = IsReading state p.reader → IsStdinUnread a
+    → InEachCheck state p q a b (λ c d. NextVerdictIs p.rules vector c d x)
 
 -- after a line there is no final answer yet, and any other answer is final
 abbrev pub final_answer_of_next : VerdictResult → Option VerdictResult
@@ -76,46 +76,33 @@ abbrev pub counts_after : Counts → VerdictResult → Counts
 counts_after c (Ok (Some v)) = counts_with c v.verdict
 counts_after c x = c
 
--- P, unless a listed file could not be read
-abbrev pub UnlessUnread : VerdictResult → Type 0 → Type 0
-UnlessUnread (Ok (Some v)) P = is_unread v.verdict ≡ false → P
-UnlessUnread x P = P
-
 -- the names that such a call asks
 abbrev pub names_of_result : ByteString → VerdictResult → List ByteString
 names_of_result vector (Ok (Some v)) = asks_of (line_verdict_value vector v)
 names_of_result vector x = []
 
--- out of memory, known or not: the source was refused it, or bytes of the manifest were still to come
-abbrev pub MemoryStopHasCause : SourceState → SourceState → Option Content → VerdictResult → Type 0
-MemoryStopHasCause a b c (Err Memory) = (b.counts.refusals ≡ one_more a.counts.refusals)
-    ⊎ ((b.counts.refusals ≡ a.counts.refusals) × IfSome c (λ d. 0 < length d.bytes))
-MemoryStopHasCause a b c x = b.counts.refusals ≡ a.counts.refusals
+-- what such a call asks: the name of the line's verdict, or none; or the source was refused memory
+abbrev pub AsksFor : ByteString → InputsState → InputsState → VerdictResult → Type 0
+AsksFor vector a b (Err Memory) = MemoryWasRefused a b ⊎ (b ≡ a)
+AsksFor vector a b x = AsksNames a b (names_of_result vector x)
 
--- what such a call does to the place, known or not
+-- what such a call does to the place
 pub record AdvancesCursor {I : Type 0} (state : I → InputState) (a b : CursorValue I) (x : VerdictResult)
     : Type 0 where
   pub rules : b.rules ≡ a.rules
   pub counts : b.counts ≡ counts_after a.counts x
-  -- bytes taken and bytes left in the input add up to the same, until its end or a stop was met
-  pub taken : b.reader.final_answer ≡ None → IfKnown (state a.reader.input).content (state b.reader.input).content
-      (λ c d. b.reader.taken + length d.bytes ≡ a.reader.taken + length c.bytes)
   pub number : (v : LineVerdict) → x ≡ Ok (Some v) → b.reader.lines ≡ a.reader.lines + 1
-  -- the input is read as far as the reader's answers say: if no line is left, to its end
-  pub phase : IsReadSoFar state a.reader → IsReadSoFar state b.reader
   pub end : x ≡ Ok None → b.reader.final_answer ≡ Some (Ok NoMore)
   -- if a whole line is read ahead, the input isn't read
   pub ahead : ¬ HasNoNewline a.reader.ahead → b.reader.input ≡ a.reader.input
+  pub same : IsSameInput (state a.reader.input) (state b.reader.input)
   pub bounds : IsBounded b.reader
 
--- what such a call does, known or not
-pub record AdvancesVerdicts {I S : Type 0} (input : I → InputState) (source : S → SourceState) (vector : ByteString)
-    (p q : CursorValue I) (a b : InputsState S) (x : VerdictResult) : Type 0 where
-  pub cursor : AdvancesCursor input p q x
-  pub out_of_memory : MemoryStopHasCause (source a.source) (source b.source) (remaining_content input p.reader) x
-  -- Right and Wrong only if the file that was opened was read to its end
-  pub read_to_end : UnlessUnread x (ReadToEnd source a b)
-  pub asked : AskedMore (source a.source) (source b.source) (names_of_result vector x)
-  pub stdin_taken : b.stdin_taken ≡ a.stdin_taken || list_any is_dash (names_of_result vector x)
+-- what such a call does
+pub record AdvancesVerdicts {I : Type 0} (state : I → InputState) (vector : ByteString) (p q : CursorValue I)
+    (a b : InputsState) (x : VerdictResult) : Type 0 where
+  pub cursor : AdvancesCursor state p q x
+  pub asked : AsksFor vector a b x
+  pub known : KeepsKnown a b
   -- the lines of standard input don't name it
   pub stdin : p.rules.from_stdin ≡ true → KeepsStdin a b

@@ -1,14 +1,14 @@
 -- Relates what the code finds of a line to what the line says, to its verdict and to its report.
-use Rattle.std.specs.Prelude.{ℕ, ◌≡◌, Bool, [], None, Some, Result, Ok, Err, if◌then◌else◌, bytes_eq}
+use Rattle.std.specs.Prelude.{ℕ, ◌≡◌, Bool, [], None, Some, Result, Ok, Err, if◌then◌else◌, bytes_eq, ⊤}
 use Rattle.sum_sources.specs.declared.fault.Fault.TheVariants.{NotFound}
 use Rattle.sum_engine.specs.declared.check.judge.ListedEntry.{ListedEntry}
 use Rattle.sum_engine.specs.refinement.Names.{HashOutcome, NoRoom}
-use Rattle.sum_engine.specs.check.Verdicts.{Verdict, Right, Wrong, Missing, Unread, Rules, judge, asks_by, asks_of, EntryValue, form_then, line_form, ParsedLine, ignored, bad, entry, parse_line}
-use Rattle.sum_engine.specs.Behavior.{ByteString, Whole, Broken, World, after}
-use Rattle.sum_engine.specs.check.Reports.{LabelsValue, Counts, err_of, out_of, end_text}
+use Rattle.sum_engine.specs.check.Verdicts.{Verdict, Right, Wrong, Missing, Unread, Rules, judge, EntryValue, form_then, line_form, ParsedLine, ignored, bad, entry, parse_line}
+use Rattle.sum_engine.specs.Behavior.{ByteString, Whole, Broken, World}
+use Rattle.sum_engine.specs.check.Reports.{LabelsValue, err_of, out_of, end_text}
 use Rattle.sum_engine.specs.check.NextVerdict.{LineVerdict, VerdictResult, line_verdict_value}
 use Rattle.sum_sources.specs.declared.line_reader.LineStop.TheVariants.{Fault, Memory}
-use Rattle.sum_engine.specs.check.CheckStates.{CursorValue, counts_with}
+use Rattle.sum_engine.specs.check.CheckStates.{CursorValue}
 use Rattle.sum_engine.specs.declared.hash_name.HashOutcome.TheVariants as outcomes
 
 -- the entry that a line spells
@@ -28,13 +28,11 @@ verdict_of_outcome ignore d (outcomes.NotOpened NotFound) = if ignore then Missi
 verdict_of_outcome ignore d (outcomes.NotOpened f) = Unread f
 verdict_of_outcome ignore d (outcomes.Broken f) = Unread f
 
--- a line that says this has this verdict, whatever its number, and its name was asked, if the verdict asks it; without
--- memory nothing was asked
-abbrev pub JudgeOf : Rules → World → World → ParsedLine → Result Verdict NoRoom → Type 0
-JudgeOf r w v x (Err e) = v ≡ w
-JudgeOf r w v x (Ok verdict) =
-    ((n : ℕ) → judge r w n x ≡ record { number = n; verdict = verdict; name = name_in_line x })
-    × (v ≡ after w (asks_by verdict (name_in_line x)))
+-- a line that says this has this verdict, whatever its number
+abbrev pub JudgeOf : Rules → World → ParsedLine → Result Verdict NoRoom → Type 0
+JudgeOf r w x (Err e) = ⊤
+JudgeOf r w x (Ok verdict) =
+    (n : ℕ) → judge r w n x ≡ record { number = n; verdict = verdict; name = name_in_line x }
 
 -- what a line says that was read at a place
 abbrev pub parsed_at : {I : Type 0} → CursorValue I → ByteString → ParsedLine
@@ -47,13 +45,12 @@ pub record TakesLine {I : Type 0} (a b : CursorValue I) (line : ByteString) : Ty
   pub reader : b.reader ≡ a.reader
   pub rules : b.rules ≡ a.rules
 
--- the last line that was read was judged, and its name was asked, if its verdict asks it; d are the counts then
-abbrev pub JudgeLineOf :
-    {I : Type 0} → CursorValue I → ByteString → Counts → ByteString → World → World → Result LineVerdict NoRoom → Type 0
-JudgeLineOf p line d vector w v (Err e) = v ≡ w
-JudgeLineOf p line d vector w v (Ok found) =
-    (judge p.rules w p.reader.lines (parsed_at p line) ≡ line_verdict_value vector found)
-    × (v ≡ after w (asks_of (line_verdict_value vector found))) × (d ≡ counts_with p.counts found.verdict)
+-- the last line that was read was judged
+abbrev pub JudgeLineOf : {I : Type 0} → CursorValue I → ByteString → ByteString → World → Result LineVerdict NoRoom
+    → Type 0
+JudgeLineOf p line vector w (Err e) = ⊤
+JudgeLineOf p line vector w (Ok found) =
+    judge p.rules w p.reader.lines (parsed_at p line) ≡ line_verdict_value vector found
 
 -- what a call for the next verdict returns that found this, or was refused memory to open the file
 abbrev pub found_verdict : Result LineVerdict NoRoom → VerdictResult

@@ -102,12 +102,13 @@ impl<'a, I: Input> Checker<'a, I> {
         // A final answer is returned again; checker and streams stay as they are.
         ensures repeats { IfSome self.old.final_answer
             (λ r. (result ≡ r) × (self.new ≡ self.old) × (streams.new ≡ streams.old)) }
-        // If both outputs are flushed: the next step of the behavior, in some world, the known one if it is known.
-        ensures step { self.old.final_answer ≡ None → TakesStep I.state S.state line.new.items self.old.labels
+        // If both outputs are flushed: the next step of the behavior, of each content and in each world that agree with
+        // what was read.
+        ensures step { self.old.final_answer ≡ None → TakesStep I.state line.new.items self.old.labels
             self.old.cursor self.new.cursor streams.old streams.new result }
-        // Known or not: what was found, how far the manifest was read, and which answers are final.
+        // What was found, and which answers are final.
         ensures advances { self.old.final_answer ≡ None
-            → AdvancesChecker I.state S.state line.new.items self.old self.new streams.old streams.new result }
+            → AdvancesChecker I.state line.new.items self.old self.new streams.old streams.new result }
         ensures flushed { IsFlushed streams.old.outputs → IsFlushed streams.new.outputs }
     {
         if let Some(answer) = self.final_answer() {

@@ -46,22 +46,19 @@ impl<I> Model for CheckCursor<I> {
 }
 
 impl<I: Input> CheckCursor<I> {
-    ghost use Rattle.sum_sources.specs.LineReaders.{remaining_content};
-    ghost use Rattle.sum_engine.specs.Execution.{KeepsStdin, ReadToEnd, InSomeWorld, AskedMore};
+    ghost use Rattle.sum_engine.specs.Execution.{KeepsStdin, KeepsKnown, IsStdinUnread, Agrees, world_at, AsksNames};
     ghost use Rattle.sum_engine.specs.check.CheckStates.{IsAtStart};
-    ghost use Rattle.sum_engine.specs.check.NextVerdict.{MemoryStopHasCause};
+    ghost use Rattle.sum_engine.specs.check.NextVerdict.{AsksFor};
     ghost use Rattle.sum_engine.specs.check.NextVerdict.{AdvancesCursor};
     ghost use Rattle.sum_engine.specs.check.CheckerSteps.{step_answer};
     ghost use Rattle.sum_sources.specs.declared.fault.Ending.TheVariants.{Whole};
     ghost use Rattle.sum_engine.specs.check.Checking.{rules_of};
     ghost use Rattle.sum_engine.specs.check.Reports.{good};
-    ghost use Rattle.sum_engine.specs.refinement.Names.{AsksNames, MemoryWasRefused};
+    ghost use Rattle.sum_engine.specs.refinement.Names.{MemoryWasRefused};
     ghost use Rattle.sum_engine.specs.check.NextVerdict.{HasNameRange, FindsVerdict};
-    ghost use Rattle.std.specs.Prelude.{◌||◌, MatchResult};
-    ghost use Rattle.std.specs.List.{list_any};
-    ghost use Rattle.sum_engine.specs.Behavior.{is_dash};
+    ghost use Rattle.std.specs.Prelude.{MatchResult};
+    ghost use Rattle.sum_engine.specs.Behavior.{World};
     ghost use Rattle.sum_engine.specs.check.NextVerdict.{line_verdict_value, counts_after};
-    ghost use Rattle.sum_engine.specs.check.NextVerdict.{names_of_result, UnlessUnread};
     ghost use Rattle.sum_engine.specs.check.Verdicts.{asks_of};
     ghost use Rattle.sum_engine.specs.refinement.FlushedWrites.{WritesAndFlushesBoth};
     ghost use Rattle.sum_engine.specs.refinement.Judging.{found_texts};
@@ -162,18 +159,12 @@ impl<I: Input> CheckCursor<I> {
         line: &mut Vec<u8, A>,
         inputs: &mut Inputs<J, S>,
     ) -> Result<Option<LineVerdict>, LineStop>
-        ensures verdict { FindsVerdict I.state S.state line.new.items self.old
-            self.new inputs.old inputs.new result }
-        ensures asked { AskedMore (S.state inputs.old.source) (S.state inputs.new.source)
-            (names_of_result line.new.items result) }
+        ensures verdict { FindsVerdict I.state line.new.items self.old self.new inputs.old inputs.new result }
         ensures name_range { IfOk result (λ found. IfSome found (λ v. HasNameRange line.new.items v)) }
-        ensures out_of_memory { MemoryStopHasCause (S.state inputs.old.source) (S.state inputs.new.source)
-            (remaining_content I.state self.old.reader) result }
+        ensures asked { AsksFor line.new.items inputs.old inputs.new result }
         ensures cursor { AdvancesCursor I.state self.old self.new result }
-        ensures stdin_taken { inputs.new.stdin_taken
-            ≡ inputs.old.stdin_taken || list_any is_dash (names_of_result line.new.items result) }
         ensures stdin_kept { self.old.rules.from_stdin ≡ true → KeepsStdin inputs.old inputs.new }
-        ensures read_to_end { UnlessUnread result (ReadToEnd S.state inputs.old inputs.new) }
+        ensures known { KeepsKnown inputs.old inputs.new }
     {
         match self.reader.next_line(line) {
             Err(stop) => Err(stop),
@@ -189,18 +180,17 @@ impl<I: Input> CheckCursor<I> {
         inputs: &mut Inputs<J, S>,
     ) -> Result<LineVerdict, NoRoom>
         requires few { total self.old.counts < self.old.reader.lines }
-        ensures verdict { InSomeWorld S.state inputs.old inputs.new (λ w v. JudgeLineOf self.old
-            line.old.items self.new.counts line.new.items w v result) }
+        ensures verdict { IsStdinUnread inputs.old → (w : World) → Agrees w inputs.new
+            → JudgeLineOf self.old line.old.items line.new.items (world_at w inputs.old) result }
         ensures asked { MatchResult result
-            (λ v. AsksNames S.state inputs.old inputs.new (asks_of (line_verdict_value line.new.items v)))
-            (λ _. MemoryWasRefused S.state inputs.old inputs.new) }
+            (λ v. AsksNames inputs.old inputs.new (asks_of (line_verdict_value line.new.items v)))
+            (λ _. MemoryWasRefused inputs.old inputs.new) }
         ensures name_range { IfOk result (λ v. HasNameRange line.new.items v) }
         ensures cursor { TakesLine self.old self.new line.old.items }
         ensures len { length line.new.items ≤ length line.old.items }
         ensures stdin_kept { self.old.rules.from_stdin ≡ true → KeepsStdin inputs.old inputs.new }
-        ensures counts { self.new.counts
-            ≡ counts_after self.old.counts (found_verdict result) }
-        ensures read_to_end { UnlessUnread (found_verdict result) (ReadToEnd S.state inputs.old inputs.new) }
+        ensures known { KeepsKnown inputs.old inputs.new }
+        ensures counts { self.new.counts ≡ counts_after self.old.counts (found_verdict result) }
     {
         let (reading, form) = read_line(self.rules.algo, self.form, line);
         self.form = form;

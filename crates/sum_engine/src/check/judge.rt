@@ -1,9 +1,8 @@
 //! The verdict of a line.
-ghost use Rattle.std.specs.Prelude.{◌≡◌, false, true, MatchResult, slice_range};
-ghost use Rattle.sum_engine.specs.check.Reports.{is_unread};
+ghost use Rattle.std.specs.Prelude.{◌≡◌, true, MatchResult, slice_range};
 ghost use Rattle.sum_engine.specs.check.Verdicts.{asks_by};
 ghost use Rattle.sum_lines.specs.grammar.ParsedLines.{entry};
-ghost use Rattle.sum_engine.specs.refinement.Names.{AsksNames, MemoryWasRefused};
+ghost use Rattle.sum_engine.specs.refinement.Names.{MemoryWasRefused};
 ghost use Rattle.sum_engine.specs.check.NextVerdict.{HasNameRange};
 
 use crate::check::rules::CheckRules;
@@ -60,7 +59,8 @@ impl LineVerdict {
 
 ghost use Rattle.sum_engine.specs.refinement.Judging.{JudgeOf};
 ghost use Rattle.sum_engine.specs.refinement.Judging.{verdict_of_outcome, listed_entry};
-ghost use Rattle.sum_engine.specs.Execution.{InSomeWorld, KeepsStdin, ReadToEnd};
+ghost use Rattle.sum_engine.specs.Behavior.{World};
+ghost use Rattle.sum_engine.specs.Execution.{Agrees, world_at, AsksNames, IsStdinUnread, KeepsKnown, KeepsStdin};
 
 /// An entry of a manifest: the digest of a file, with its kind, and the file's name.
 #[derive(Clone, Copy)]
@@ -77,13 +77,12 @@ pub(crate) fn judge<I: Input + Drop, S: Source>(
     inputs: &mut Inputs<I, S>,
     buffer: &mut [u8; PIECE],
 ) -> Result<Verdict, NoRoom>
-    ensures verdict { InSomeWorld S.state inputs.old inputs.new
-        (λ w v. JudgeOf rules w v (entry (listed_entry listed.now)) result) }
-    ensures asked { MatchResult result (λ v. AsksNames S.state inputs.old inputs.new (asks_by v listed.now.name.now))
-        (λ _. MemoryWasRefused S.state inputs.old inputs.new) }
+    ensures verdict { IsStdinUnread inputs.old → (w : World) → Agrees w inputs.new
+        → JudgeOf rules (world_at w inputs.old) (entry (listed_entry listed.now)) result }
+    ensures asked { MatchResult result (λ v. AsksNames inputs.old inputs.new (asks_by v listed.now.name.now))
+        (λ _. MemoryWasRefused inputs.old inputs.new) }
     ensures stdin_kept { rules.from_stdin ≡ true → KeepsStdin inputs.old inputs.new }
-    ensures read_to_end { MatchResult result (λ v. is_unread v ≡ false → ReadToEnd S.state inputs.old inputs.new)
-        (λ _. ReadToEnd S.state inputs.old inputs.new) }
+    ensures known { KeepsKnown inputs.old inputs.new }
 {
     if rules.from_stdin && is_dash(listed.name) {
         return Ok(Verdict::Bad);

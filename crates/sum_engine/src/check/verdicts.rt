@@ -80,14 +80,14 @@ impl<I: Input> Verdicts<I> {
         // A final answer is returned again; all but `line` stays as it is.
         ensures repeats { IfSome self.old.final_answer
             (λ r. (result ≡ r) × (self.new ≡ self.old) × (inputs.new ≡ inputs.old)) }
-        // In some world, the known one if it is known: the first of the verdicts that remained.
-        ensures verdict { self.old.final_answer ≡ None → FindsVerdict I.state S.state line.new.items
+        // Of each content and in each world that agree with what was read: the first of the verdicts that remained.
+        ensures verdict { self.old.final_answer ≡ None → FindsVerdict I.state line.new.items
             self.old.cursor self.new.cursor inputs.old inputs.new result }
         ensures name_range { IfOk result (λ found. IfSome found (λ v. HasNameRange line.new.items v)) }
         // After a line nothing is final; any other answer is.
         ensures final_answer { self.old.final_answer ≡ None → self.new.final_answer ≡ final_answer_of_next result }
-        // Known or not: how far the manifest and the listed file were read, and the cause of a stop.
-        ensures advances { self.old.final_answer ≡ None → AdvancesVerdicts I.state S.state line.new.items
+        // What was asked, the lines counted, and the cause of a stop.
+        ensures advances { self.old.final_answer ≡ None → AdvancesVerdicts I.state line.new.items
             self.old.cursor self.new.cursor inputs.old inputs.new result }
     {
         if let Some(answer) = self.final_answer {

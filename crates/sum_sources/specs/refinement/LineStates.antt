@@ -1,6 +1,7 @@
 -- The view of a reader of lines, its invariant, and what its steps change.
-use Rattle.std.specs.Prelude.{◌≡◌, ◌+◌, ◌-◌, ◌^◌, ◌<◌, ◌≤◌, ◌⊎◌, take, drop, Option, None, Some, Result, Ok, Err, Bool, true, false, [], ◌∷◌, ◌++◌}
-use Rattle.sum_sources.specs.Contents.{Broken, Content, empty_content, Fault}
+use Rattle.std.specs.Prelude.{ℕ, ◌≡◌, ◌+◌, ◌-◌, ◌^◌, ◌<◌, ◌≤◌, ◌⊎◌, length, take, drop, Option, None, Some, Result, Ok, Err, Bool, true, false, [], ◌∷◌, ◌++◌}
+use Rattle.sum_sources.specs.Contents.{Reads, Fault, Other}
+use Rattle.sum_sources.specs.Phases.{Unfinished, AtEnd, Failed}
 use Rattle.digest_kinds.specs.Basics.{ByteString}
 use Rattle.sum_sources.specs.declared.line_reader.LineReader.TheInside.{Inside}
 use Rattle.sum_sources.specs.declared.line_reader.ReaderState.{ReaderState}
@@ -34,11 +35,13 @@ pub record LineReaderInvariant {I : Type 0} (s : Inside I) : Type 0 where
   pub under : (s.taken < 2 ^ 61) ⊎ ((f : Fault) × (s.state ≡ Stopped (stops.Fault f)))
   pub wants : s.state ≡ Stopped stops.Memory → s.start < s.end
 
--- the empty buffer was filled, and the remaining content stays. Or nothing remains, and this is the ending
-abbrev pub FillsBuffer : Content → Content → Result Bool Fault → Type 0
-FillsBuffer c d (Ok true) = d ≡ c
-FillsBuffer c d (Ok false) = c ≡ empty_content
-FillsBuffer c d (Err f) = c ≡ record { bytes = []; ending = Broken f }
+-- the empty buffer was filled with bytes of an input that hasn't ended; or its end was read; or a fault, or a byte that
+-- reaches the limit
+abbrev pub FillsBuffer : ℕ → Reads → Reads → ByteString → Result Bool Fault → Type 0
+FillsBuffer taken a b ahead (Ok true) = b ≡ record a { bytes = a.bytes ++ ahead }
+FillsBuffer taken a b ahead (Ok false) = b ≡ record a { phase = AtEnd }
+FillsBuffer taken a b ahead (Err f) = (b ≡ record a { phase = Failed f }) ⊎ ((f ≡ Other) × (taken + 1 ≡ 2 ^ 61)
+    × (more : ByteString) × (length more ≡ 1) × (b ≡ record { bytes = a.bytes ++ more; phase = Unfinished }))
 
 -- a piece moves from the front of the buffer to the line's end: up to a newline, which is dropped, or the whole buffer
 abbrev pub TakesPiece : Bool → ByteString → ByteString → ByteString → ByteString → Type 0

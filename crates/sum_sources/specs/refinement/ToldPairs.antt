@@ -2,8 +2,7 @@
 use Rattle.std.specs.Prelude.{Ok, Err}
 use Rattle.sum_sources.specs.declared.sources.told_source.Answer.{Answer as ToldAnswer}
 use Rattle.sum_sources.specs.declared.sources.told_source.StoredPair.{StoredPair}
-use Rattle.sum_sources.specs.InMemory.{Pair}
-use Rattle.sum_sources.specs.Sources.{Answer}
+use Rattle.sum_sources.specs.Sources.{Answer, Pair}
 use Rattle.sum_sources.specs.declared.sources.told_source.Answer.TheVariants as answers
 
 -- the value of an answer

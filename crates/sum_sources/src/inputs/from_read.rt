@@ -1,18 +1,19 @@
 //! Inputs over std's readers.
 ghost use Rattle.std.specs.Prelude.{◌≡◌, ◌≤◌, length, IfOk, IfSome, MatchOption};
 ghost use Rattle.std.specs.Io.KnownBytes.{Keeps, ReadConsumes};
-ghost use Rattle.sum_sources.specs.Phases.{phase_after};
+ghost use Rattle.sum_sources.specs.Logs.{no_reads, logged};
 
+use crate::Fault;
 use crate::fault::fault_of;
-use crate::{Fault, Phase};
+use crate::inputs::read_log::ReadLog;
 use std::io::{ErrorKind, Read};
 use std::marker::Model;
 
-/// An input over a reader of std's. Contracts on contents don't know its bytes. Each read has the contract of `Read`.
+/// An input over a reader of std's.
 #[derive(Debug, Drop)]
 pub struct FromRead<R> {
     reader: R,
-    phase: Phase,
+    log: ReadLog,
 }
 
 impl<R> Model for FromRead<R> {
@@ -20,26 +21,30 @@ impl<R> Model for FromRead<R> {
 
     ghost Value = { OverReader R };
 
-    ghost view = { λ s. record { reader = s.reader; phase = s.phase } };
+    ghost view = { λ s. record { reader = s.reader; log = s.log.state } };
 }
 
 impl<R: Read> FromRead<R> {
     /// The input that reads from `reader`. Which fault an error of the reader is, its number decides. If the error has
     /// no number, its kind decides. The 1,000th interruption in a row within one read is `Fault::Other`.
     pub fn new(reader: R) -> Self
-        ensures { result ≡ record { reader = reader; phase = Phase.Unfinished } }
+        ensures { result ≡ record { reader = reader; log = no_reads } }
     {
-        FromRead {
-            reader,
-            phase: Phase::Unfinished,
-        }
+        FromRead::with_log(reader, ReadLog::new())
     }
 
-    /// How far the reader was read.
-    pub fn phase(&self) -> Phase
-        ensures { result ≡ self.now.phase }
+    // The file that a source opened.
+    pub(crate) fn with_log(reader: R, log: ReadLog) -> Self
+        ensures { result ≡ record { reader = reader; log = log.state } }
     {
-        self.phase
+        FromRead { reader, log }
+    }
+
+    // What its reads gave.
+    pub(crate) fn log(&self) -> &ReadLog
+        ensures { result.now.state ≡ self.now.log }
+    {
+        &self.log
     }
 
     /// The reader, as it is now.
@@ -49,31 +54,31 @@ impl<R: Read> FromRead<R> {
         self.reader
     }
 
-    // Calls the reader once, and keeps in the phase what it returned. Nothing else calls the reader. `None` if it was
-    // interrupted.
+    // Calls the reader once, and logs what it returned. Nothing else calls the reader. `None` if it was interrupted.
     pub(crate) fn read_once(&mut self, buf: &mut [u8]) -> Option<Result<usize, Fault>>
         ensures count { IfSome result (λ read. IfOk read (λ n. n ≤ length buf.new)) }
+        ensures size { length buf.new ≡ length buf.old }
         ensures given { MatchOption result (Keeps (R.remaining self.old.reader) (R.remaining self.new.reader)) (λ read.
             ReadConsumes (R.remaining self.old.reader) (R.remaining self.new.reader) read buf.new) }
-        ensures phase { MatchOption result (self.new.phase ≡ self.old.phase) (λ read.
-            self.new.phase ≡ phase_after self.old.phase (length buf.old) read) }
+        ensures log { MatchOption result (self.new.log ≡ self.old.log)
+            (λ read. self.new.log ≡ logged self.old.log buf.new read) }
     {
         let read = match self.reader.read(buf) {
             Ok(n) => Ok(n),
             Err(error) if error.kind() == ErrorKind::Interrupted => return None,
             Err(error) => Err(fault_of(&error)),
         };
-        self.phase = self.phase.after(buf.len(), &read);
+        self.log = self.log.and(buf, &read);
         Some(read)
     }
 
-    // A read of `size` bytes that fails by this fault. The reader isn't called.
-    pub(crate) fn fail(&mut self, size: usize, fault: Fault) -> Result<usize, Fault>
+    // A read that fails by this fault. The reader isn't called.
+    pub(crate) fn fail(&mut self, buf: &[u8], fault: Fault) -> Result<usize, Fault>
         ensures fault { result ≡ Err fault }
-        ensures phase { self.new ≡ record self.old { phase = phase_after self.old.phase size result } }
+        ensures log { self.new ≡ record self.old { log = logged self.old.log buf.now result } }
     {
         let read = Err(fault);
-        self.phase = self.phase.after(size, &read);
+        self.log = self.log.and(buf, &read);
         read
     }
 }

@@ -1,8 +1,7 @@
-//! Reads that go on after interruptions. They stand apart from `FromRead`, so that they can't touch its reader and
-//! phase.
+//! Reads that go on after interruptions. They stand apart from `FromRead`, so that they can't touch its reader and log.
 ghost use Rattle.std.specs.Prelude.{◌≡◌, ◌≤◌, length, IfOk};
 ghost use Rattle.std.specs.Io.KnownBytes.{ReadConsumes};
-ghost use Rattle.sum_sources.specs.Phases.{phase_after};
+ghost use Rattle.sum_sources.specs.Logs.{logged};
 
 use crate::{Fault, FromRead, Input};
 use digest_kinds::INTERRUPTIONS;
@@ -11,18 +10,23 @@ use std::io::Read;
 impl<R: Read> Input for FromRead<R> {
     ghost use Rattle.std.specs.Prelude.{None};
 
-    ghost state = { λ s. record { content = None; phase = s.phase } };
+    ghost state = { λ s. record s.log { told = None } };
 
     fn read(&mut self, buf: &mut [u8]) -> Result<usize, Fault>
         ensures count { IfOk result (λ n. n ≤ length buf.new) }
+        ensures size { length buf.new ≡ length buf.old }
         ensures given { ReadConsumes (R.remaining self.old.reader) (R.remaining self.new.reader) result buf.new }
-        ensures phase { self.new.phase ≡ phase_after self.old.phase (length buf.old) result }
+        ensures log { self.new.log ≡ logged self.old.log buf.new result }
     {
         for _ in 0..INTERRUPTIONS {
             if let Some(read) = self.read_once(buf) {
                 return read;
             }
         }
-        self.fail(buf.len(), Fault::Other)
+        self.fail(buf, Fault::Other)
     }
+
+    ghost use Rattle.sum_sources.specs.ToldLaws.{real_has_content};
+
+    ghost has_content = { λ s. real_has_content s.log };
 }

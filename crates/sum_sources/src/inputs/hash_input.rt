@@ -1,18 +1,19 @@
 //! The digest of an input.
 ghost use Rattle.std.specs.Prelude.{◌≡◌, [], length, IfOk};
-ghost use Rattle.sum_sources.specs.Contents.{HashesInput};
-ghost use Rattle.sum_sources.specs.Phases.{Unfinished, AtEnd};
+ghost use Rattle.sum_sources.specs.Contents.{Content, unread, IsOf, IsSameInput, Hashes, clip};
 
 use crate::inputs::size_limit::read_limited;
 use crate::{Fault, Input, PIECE};
 use digest_kinds::{Digest, Hasher};
 
-/// Reads `input` to its end and returns the digest that `hasher`, a new one, makes of its bytes; or the fault by which
-/// the input ends. An input of `LIMIT` bytes or more is `Fault::Other`.
+/// Reads `input`, which wasn't read before, to its end and returns the digest that `hasher`, a new one, makes of its
+/// bytes; or the fault by which the input ends. An input of `LIMIT` bytes or more is `Fault::Other`.
 pub fn hash_input<I: Input, H: Hasher + Drop>(input: &mut I, hasher: H) -> Result<Digest, Fault>
     requires { H.holds hasher [] }
-    ensures digest { HashesInput (H.kind_of hasher) (I.state input.old).content result }
-    ensures phase { IfOk result (λ _. (I.state input.old).phase ≡ Unfinished → (I.state input.new).phase ≡ AtEnd) }
+    // For each content that the reads of this call are of: its digest, or its fault.
+    ensures digest { (I.state input.old).reads ≡ unread → (c : Content) → IsOf (I.state input.new).reads c
+        → Hashes (H.kind_of hasher) (clip c) result }
+    ensures same { IsSameInput (I.state input.old) (I.state input.new) }
 {
     let mut buffer: [u8; PIECE] = [0; PIECE];
     hash_input_over(input, hasher, &mut buffer)
@@ -26,8 +27,9 @@ pub fn hash_input_over<I: Input, H: Hasher + Drop>(
     buffer: &mut [u8; PIECE],
 ) -> Result<Digest, Fault>
     requires { H.holds hasher [] }
-    ensures digest { HashesInput (H.kind_of hasher) (I.state input.old).content result }
-    ensures phase { IfOk result (λ _. (I.state input.old).phase ≡ Unfinished → (I.state input.new).phase ≡ AtEnd) }
+    ensures digest { (I.state input.old).reads ≡ unread → (c : Content) → IsOf (I.state input.new).reads c
+        → Hashes (H.kind_of hasher) (clip c) result }
+    ensures same { IsSameInput (I.state input.old) (I.state input.new) }
     ensures len { IfOk result (λ d. length d ≡ (H.kind_of hasher).len) }
 {
     let mut taken = 0;

@@ -11,10 +11,9 @@ pub enum Phase {
     Unfinished,
     /// The last read gave its end.
     AtEnd,
-    /// The last read failed.
-    Failed,
-    /// It was read again after its end or a fault, or a read asked for no bytes. It stays `Past` from then on. A type
-    /// that keeps no phase is always `Past`.
+    /// The last read failed, by this fault.
+    Failed(Fault),
+    /// It was read again after its end or a fault, or a read asked for no bytes. It stays `Past` from then on.
     Past,
 }
 
@@ -29,7 +28,7 @@ impl Phase {
         match (self, read) {
             (Phase::Unfinished, Ok(0)) => Phase::AtEnd,
             (Phase::Unfinished, Ok(_)) => Phase::Unfinished,
-            (Phase::Unfinished, Err(_)) => Phase::Failed,
+            (Phase::Unfinished, Err(fault)) => Phase::Failed(*fault),
             _ => Phase::Past,
         }
     }

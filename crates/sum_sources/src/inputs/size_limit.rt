@@ -1,34 +1,28 @@
 //! Reading up to the limit of 2^61 bytes.
-ghost use Rattle.std.specs.Prelude.{◌≡◌, ◌≤◌, ◌<◌, ◌+◌, ◌-◌, ◌^◌, length, IfOk, OnOk};
-ghost use Rattle.sum_sources.specs.Contents.{IfKnown, ReadsFrom, limit, clip_to, KeepsTotal};
-ghost use Rattle.sum_sources.specs.Phases.{phase_after};
+ghost use Rattle.std.specs.Prelude.{◌≡◌, ◌≤◌, ◌<◌, ◌+◌, ◌^◌, length, IfOk};
+ghost use Rattle.sum_sources.specs.Contents.{InputState, IsSameInput};
+ghost use Rattle.sum_sources.specs.refinement.LimitedReads.{ReadsLimited};
 
 use crate::{Fault, Input, PIECE};
 use digest_kinds::LIMIT;
 
-/// Reads as `Input::read`, from an input that has given `taken` bytes so far. At most `LIMIT - 1` of its bytes count.
+/// Reads as `Input::read`, from an input that has given `taken` bytes so far, fewer than `LIMIT`. At most `LIMIT - 1` of its bytes count.
 /// If it has one byte more, that is `Fault::Other`.
 pub(crate) fn read_limited<I: Input>(
     input: &mut I,
     taken: &mut u64,
     buffer: &mut [u8; PIECE],
 ) -> Result<usize, Fault>
-    requires { taken.old ≤ 2 ^ 61 }
+    requires { taken.old < 2 ^ 61 }
     ensures most { taken.new ≤ 2 ^ 61 }
     ensures size { length buffer.new ≡ 8192 }
     ensures count { IfOk result (λ n. n ≤ 8192) }
     ensures taken { IfOk result (λ n. taken.new ≡ taken.old + n) }
     ensures more { taken.old ≤ taken.new }
     ensures few { IfOk result (λ _. taken.new < 2 ^ 61) }
-    ensures bytes { IfKnown (I.state input.old).content (I.state input.new).content (λ c d.
-        ReadsFrom (clip_to (limit - taken.old) c) (clip_to (limit - taken.new) d) result buffer.new) }
-    ensures total { IfOk result (λ n. 0 < n
-        → KeepsTotal taken.old (I.state input.old) taken.new (I.state input.new)) }
-    ensures phase { OnOk result ((I.state input.new).phase ≡ phase_after (I.state input.old).phase 8192 result) }
+    ensures same { IsSameInput (I.state input.old) (I.state input.new) }
+    ensures reads { ReadsLimited taken.old (I.state input.old).reads (I.state input.new).reads result buffer.new }
 {
-    if *taken == LIMIT {
-        return Err(Fault::Other);
-    }
     // If no byte more counts, one byte shows whether the input ends there.
     let size = (LIMIT - 1 - *taken).min(PIECE as u64).max(1) as usize;
     let n = input.read(&mut buffer[..size])?;

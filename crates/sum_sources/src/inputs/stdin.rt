@@ -1,36 +1,30 @@
 //! Standard input, which a run gets once.
-ghost use Rattle.std.specs.Prelude.{◌≡◌, Some, None};
-ghost use Rattle.std.specs.Option.{option_or};
+ghost use Rattle.std.specs.Prelude.{◌≡◌, true, MatchOption};
+ghost use Rattle.sum_sources.specs.StandardInput.{stdin_taken, put_back};
 
 use crate::{Fault, Input};
 use std::marker::Model;
+use std::mem;
 
 /// Standard input. Its input can be taken once, and is put back.
 #[derive(Debug, Drop)]
-pub struct Stdin<I> {
-    input: Option<I>,
-    returned: Option<I>,
+pub enum Stdin<I> {
+    /// It wasn't taken.
+    Unread(I),
+    /// It was taken, and not put back.
+    Taken,
+    /// It was put back.
+    Returned(I),
 }
 
-impl<I> Model for Stdin<I> {
-    ghost use Rattle.sum_sources.specs.StandardInput.{StdinValue};
-
-    ghost Value = { StdinValue I };
-
-    ghost view = { λ s. record { input = s.input; returned = s.returned } };
-}
-
-/// What [`Stdin::take`] gives: the input of standard input, or an empty one. It can't be dropped, so whoever took it
-/// puts it back.
+/// The input of standard input, which [`Stdin::take`] gives. It can't be dropped, so whoever took it puts it back.
 #[derive(Debug)]
 pub struct Given<I> {
-    input: Option<I>,
+    input: I,
 }
 
 impl<I> Model for Given<I> {
-    ghost use Rattle.std.specs.Prelude.{Option};
-
-    ghost Value = { Option I };
+    ghost Value = { I };
 
     ghost view = { λ s. s.input };
 }
@@ -38,47 +32,45 @@ impl<I> Model for Given<I> {
 impl<I: Input> Stdin<I> {
     /// Standard input that gives `input` when it is taken.
     pub fn new(input: I) -> Self
-        ensures { result ≡ record { input = Some input; returned = None } }
+        ensures { result ≡ Stdin.Unread input }
     {
-        Stdin {
-            input: Some(input),
-            returned: None,
-        }
-    }
-
-    /// Returns the input the first time, an empty input afterwards.
-    pub fn take(&mut self) -> Given<I>
-        ensures given { result ≡ self.old.input }
-        ensures taken { self.new ≡ record self.old { input = None } }
-    {
-        Given {
-            input: self.input.take(),
-        }
+        Stdin::Unread(input)
     }
 }
 
 impl<I: Input + Drop> Stdin<I> {
-    /// Puts back what `take` gave, so that its phase is known from then on. If an input was put back before, that one
-    /// stays, and this one is dropped.
+    /// Returns its input the first time, and nothing afterwards.
+    pub fn take(&mut self) -> Option<Given<I>>
+        ensures { MatchOption result ((stdin_taken self.old ≡ true) × (self.new ≡ self.old))
+            (λ given. (self.old ≡ Stdin.Unread given) × (self.new ≡ Stdin.Taken)) }
+    {
+        match mem::replace(self, Stdin::Taken) {
+            Stdin::Unread(input) => Some(Given { input }),
+            taken => {
+                *self = taken;
+                None
+            }
+        }
+    }
+
+    /// Puts back what `take` gave, so that its state is known from then on. If it isn't taken now, what was given is
+    /// dropped.
     pub fn put_back(&mut self, given: Given<I>)
-        ensures returned { self.new ≡ record self.old { returned = option_or self.old.returned given } }
+        ensures { self.new ≡ put_back self.old given }
     {
         let Given { input } = given;
-        if self.returned.is_none() {
-            self.returned = input;
+        if let Stdin::Taken = self {
+            *self = Stdin::Returned(input);
         }
     }
 }
 
 impl<I: Input> Input for Given<I> {
-    ghost use Rattle.sum_sources.specs.StandardInput.{given_state};
-
-    ghost state = { λ s. given_state I.state s };
+    ghost state = { λ s. I.state s };
 
     fn read(&mut self, buf: &mut [u8]) -> Result<usize, Fault> {
-        match &mut self.input {
-            Some(input) => input.read(buf),
-            None => Ok(0),
-        }
+        self.input.read(buf)
     }
+
+    ghost has_content = { I.has_content };
 }

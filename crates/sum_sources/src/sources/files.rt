@@ -1,45 +1,42 @@
 //! Real files.
 ghost use Rattle.std.specs.Prelude.{◌≡◌, IfOk};
 ghost use Rattle.std.specs.Str.{IsUtf8};
-ghost use Rattle.sum_sources.specs.Sources.{counts_after_opening};
+ghost use Rattle.sum_sources.specs.Sources.{after_opening, opened_file};
+ghost use Rattle.sum_sources.specs.Logs.{no_openings};
 
 use crate::fault::fault_of;
-use crate::{Fault, FileCounts, FromRead, OpenFault, Phase, Source};
+use crate::sources::source_log::{Note, SourceLog};
+use crate::{Fault, FromRead, OpenFault, Source};
 use std::io::{self, ErrorKind, Read};
 use std::marker::Model;
 use std::{fs, rt};
 
-/// The files that the runtime opens. Contracts know their counts and nothing else of them.
+/// The files that the runtime opens.
 #[derive(Debug, Drop)]
 pub struct Files<R> {
     rt: R,
-    counts: FileCounts,
+    log: SourceLog,
 }
 
 impl<R> Model for Files<R> {
-    ghost use Rattle.sum_sources.specs.Sources.{FileCounts};
+    ghost use Rattle.sum_sources.specs.Sources.{SourceState};
 
-    ghost Value = { FileCounts };
+    ghost Value = { SourceState };
 
-    ghost view = { λ s. s.counts };
+    ghost use Rattle.std.specs.Prelude.{None};
+
+    ghost view = { λ s. record s.log.state { told = None } };
 }
 
 impl<R: rt::Files + Drop> Files<R> {
     /// The files of that runtime.
     pub fn new(rt: R) -> Self
-        ensures { result ≡ record { refusals = 0; opened = 0; ended = 0 } }
+        ensures { result ≡ no_openings }
     {
         Files {
             rt,
-            counts: FileCounts::NONE,
+            log: SourceLog::new(),
         }
-    }
-
-    /// What was counted so far.
-    pub fn counts(&self) -> FileCounts
-        ensures { result ≡ self.now }
-    {
-        self.counts
     }
 }
 
@@ -55,34 +52,34 @@ where
 {
     type File = FromRead<R::File>;
 
-    ghost use Rattle.std.specs.Prelude.{None};
-
-    ghost state = { λ s. record { known = None; counts = s } };
+    ghost state = { λ s. s };
 
     /// Opens the file. A name that isn't UTF-8 is `Fault::Other`, since the runtime's paths are texts. Any other fault
     /// is the system's. `OpenFault::Memory` if the runtime has no memory for the call.
-    fn open_file(&mut self, name: &[u8]) -> Result<FromRead<R::File>, OpenFault>
-        ensures counts { self.new ≡ counts_after_opening self.old result }
-        ensures phase { IfOk result (λ file. file.phase ≡ Phase.Unfinished) }
-        ensures text { (IsUtf8 name.now → ⊥) → result ≡ Err (OpenFault.Fault Fault.Other) }
-    {
+    fn open_file(&mut self, name: &[u8]) -> Result<FromRead<R::File>, OpenFault> {
         let Ok(path) = str::from_utf8(name) else {
+            self.log = self.log.and(&Note::Failed(name, Fault::Other));
             return Err(OpenFault::Fault(Fault::Other));
         };
         match fs::open(&self.rt, path) {
             Ok(file) => {
-                self.counts.opened();
-                Ok(FromRead::new(file))
+                let log = self.log.file(name);
+                self.log = self.log.and(&Note::Opened(name));
+                Ok(FromRead::with_log(file, log))
             }
             Err(error) if is_refusal(&error) => {
-                self.counts.refused();
+                self.log = self.log.and(&Note::Refused);
                 Err(OpenFault::Memory)
             }
-            Err(error) => Err(OpenFault::Fault(fault_of(&error))),
+            Err(error) => {
+                let fault = fault_of(&error);
+                self.log = self.log.and(&Note::Failed(name, fault));
+                Err(OpenFault::Fault(fault))
+            }
         }
     }
 
     fn close_file(&mut self, file: FromRead<R::File>) {
-        self.counts.closed(file.phase());
+        self.log = self.log.and(&Note::Closed(file.log()));
     }
 }

@@ -1,9 +1,8 @@
 //! The trait of a source of files, and why a file could not be opened.
 ghost use Rattle.std.specs.Prelude.{◌≡◌, IfOk};
-ghost use Rattle.sum_sources.specs.Contents.{IfKnown};
-ghost use Rattle.sum_sources.specs.Sources.{SourceState, OpensName, counts_after_opening, closed_state};
+ghost use Rattle.sum_sources.specs.Sources.{SourceState, IsOpen, opened_file, after_opening, after_closing};
 
-use crate::{Fault, Input, Phase};
+use crate::{Fault, Input};
 use thiserror::Error;
 
 /// Why a file could not be opened: by this `Fault`, or for want of `Memory`. After `Memory` nothing is known of the
@@ -16,24 +15,22 @@ pub enum OpenFault {
     Memory,
 }
 
-/// A source of files. Whoever writes one keeps a [`FileCounts`](crate::FileCounts), and tells it of each opening and
-/// closing.
+/// A source of files.
 pub trait Source {
     /// The input that reads an open file. If its type isn't `Drop`, whoever opened it has to close it.
     type File: Input;
 
-    /// What the source answers for each name, given the names asked so far, if that is known; and what it counts.
+    /// What was asked of it, and what is known of the answers. A source that isn't in memory keeps it for proofs alone.
     ghost state: { Self → SourceState };
 
     /// Opens the file of that name. `OpenFault::Fault` if it can't be opened. `OpenFault::Memory` only if memory was
     /// refused; then the name isn't recorded as asked.
     fn open_file(&mut self, name: &[u8]) -> Result<Self::File, OpenFault>
-        ensures answer { IfKnown (state self.old).known (state self.new).known (λ s t.
-            OpensName Self.File.state s t name.now result) }
-        ensures counts { (state self.new).counts ≡ counts_after_opening (state self.old).counts result }
-        ensures phase { IfOk result (λ file. (Self.File.state file).phase ≡ Phase.Unfinished) };
+        ensures state { state self.new ≡ after_opening (state self.old) name.now result }
+        ensures file { IfOk result (λ file. Self.File.state file ≡ opened_file (state self.old) name.now) };
 
-    /// Closes a file, and counts it if it is at its end.
+    /// Closes a file that this source opened, and keeps what was read of it.
     fn close_file(&mut self, file: Self::File)
-        ensures closed { state self.new ≡ closed_state (state self.old) (Self.File.state file).phase };
+        requires { IsOpen (state self.old) (Self.File.state file) }
+        ensures { state self.new ≡ after_closing (state self.old) (Self.File.state file) };
 }

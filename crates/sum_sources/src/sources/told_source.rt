@@ -1,12 +1,13 @@
 //! A source of files in memory.
-ghost use Rattle.std.specs.Prelude.{◌≡◌, ◌++◌, ◌∷◌, [], OnOk, OnErr, IfOk, map, max, slice_get};
+ghost use Rattle.std.specs.Prelude.{◌≡◌, ◌++◌, ◌∷◌, [], OnOk, OnErr, map, max, slice_get};
 ghost use Rattle.std.specs.Option.{option_map};
-ghost use Rattle.sum_sources.specs.InMemory.{first_answer, known_source};
-ghost use Rattle.sum_sources.specs.Sources.{OpensName, counts_after_opening};
-ghost use Rattle.digest_kinds.specs.Limits.{one_more};
+ghost use Rattle.sum_sources.specs.InMemory.{told_source};
+ghost use Rattle.sum_sources.specs.SourceLaws.{AreToldOpenings};
+ghost use Rattle.sum_sources.specs.Sources.{first_answer};
 ghost use Rattle.sum_sources.specs.refinement.ToldPairs.{pair_of, answer_value};
 
-use crate::{Ending, Fault, FileCounts, Input, NoRoom, OpenFault, Phase, Source, Told};
+use crate::sources::source_log::{Note, SourceLog};
+use crate::{Ending, Fault, Input, NoRoom, OpenFault, Source, Told};
 use std::alloc::Allocator;
 use std::marker::Model;
 
@@ -32,7 +33,7 @@ pub struct ToldSource<'a, A: Allocator + Copy> {
     asked: Vec<Vec<u8, A>, A>,
     alloc: A,
     piece: usize,
-    counts: FileCounts,
+    log: SourceLog,
 }
 
 impl<'a, A: Allocator + Copy> Model for ToldSource<'a, A> {
@@ -46,8 +47,13 @@ impl<'a, A: Allocator + Copy> Model for ToldSource<'a, A> {
       pairs = map pair_of s.pairs.items;
       asked = map (λ v. v.items) s.asked.items;
       piece = s.piece;
-      counts = s.counts;
+      openings = s.log.state.openings;
+      refusals = s.log.state.refusals;
     } };
+
+    ghost use Rattle.sum_sources.specs.SourceLaws.{AreToldOpenings};
+
+    ghost invariant = { λ s. AreToldOpenings (map pair_of s.pairs.items) s.log.state.openings };
 }
 
 // The answer of the first pair with the name.
@@ -69,7 +75,8 @@ impl<'a, A: Allocator + Copy> ToldSource<'a, A> {
           pairs = [];
           asked = [];
           piece = max piece 1;
-          counts = record { refusals = 0; opened = 0; ended = 0 };
+          openings = [];
+          refusals = 0;
         } }
     {
         ToldSource {
@@ -77,13 +84,14 @@ impl<'a, A: Allocator + Copy> ToldSource<'a, A> {
             asked: Vec::new(alloc),
             alloc,
             piece: piece.max(1),
-            counts: FileCounts::NONE,
+            log: SourceLog::new(),
         }
     }
 
-    /// Adds a pair of a name and its answer. An earlier pair with that name still answers for it. `NoRoom` if memory is
+    /// Adds a pair of a name and its answer, before any name is opened. An earlier pair with that name still answers for it. `NoRoom` if memory is
     /// refused; the pairs are then as before.
     pub fn add(&mut self, name: &[u8], answer: Answer<'a>) -> Result<(), NoRoom>
+        requires { self.old.openings ≡ [] }
         ensures ok { OnOk result (self.new ≡ record self.old {
           pairs = self.old.pairs ++ record { name = name.now; answer = answer_value answer.entry } ∷ [];
         }) }
@@ -98,22 +106,23 @@ impl<'a, A: Allocator + Copy> ToldSource<'a, A> {
         }
     }
 
-    // Records the name as asked, or counts the refusal.
+    // Records the name as asked.
     fn record_asked(&mut self, name: &[u8]) -> Result<(), NoRoom>
         ensures ok { OnOk result (self.new ≡ record self.old { asked = self.old.asked ++ name.now ∷ [] }) }
-        ensures err { OnErr result (self.new ≡ record self.old {
-          counts = record self.old.counts { refusals = one_more self.old.counts.refusals };
-        }) }
+        ensures err { OnErr result (self.new ≡ self.old) }
     {
         let asked = match Vec::from_slice(self.alloc, name) {
             Ok(name) => self.asked.push(name).is_ok(),
             Err(_) => false,
         };
-        if asked {
-            return Ok(());
-        }
-        self.counts.refused();
-        Err(NoRoom)
+        if asked { Ok(()) } else { Err(NoRoom) }
+    }
+
+    /// What was read of the files is of their contents, and each fault is the one that was told.
+    pub fn agrees(&self)
+        ensures { AreToldOpenings self.now.pairs self.now.openings }
+    {
+        let _ = &self.log;
     }
 
     /// The name at place `i`, from 0, of the names asked so far.
@@ -125,44 +134,32 @@ impl<'a, A: Allocator + Copy> ToldSource<'a, A> {
             None => None,
         }
     }
-
-    /// What was counted so far.
-    pub fn counts(&self) -> FileCounts
-        ensures { result ≡ self.now.counts }
-    {
-        self.counts
-    }
 }
 
 impl<'a, A: Allocator + Copy> Source for ToldSource<'a, A> {
     type File = Told<'a>;
 
-    ghost use Rattle.std.specs.Prelude.{Some};
-    ghost use Rattle.sum_sources.specs.InMemory.{known_source};
+    ghost state = { λ s. told_source s };
 
-    ghost state = { λ s. record { known = Some (known_source s); counts = s.counts } };
-
-    fn open_file(&mut self, name: &[u8]) -> Result<Told<'a>, OpenFault>
-        ensures answer { OpensName ⟦<Told<'a> as Input>⟧.state
-            (known_source self.old) (known_source self.new) name.now result }
-        ensures counts { self.new.counts ≡ counts_after_opening self.old.counts result }
-        ensures phase { IfOk result (λ file. file.phase ≡ Phase.Unfinished) }
-        ensures piece { IfOk result (λ file. file.piece ≡ max self.old.piece 1) }
-        ensures same { (self.new.pairs ≡ self.old.pairs) × (self.new.piece ≡ self.old.piece) }
-    {
+    fn open_file(&mut self, name: &[u8]) -> Result<Told<'a>, OpenFault> {
         let Ok(()) = self.record_asked(name) else {
+            self.log = self.log.and(&Note::Refused);
             return Err(OpenFault::Memory);
         };
         match answer_to(&self.pairs, name) {
-            Answer::Fault(fault) => Err(OpenFault::Fault(fault)),
+            Answer::Fault(fault) => {
+                self.log = self.log.and(&Note::Failed(name, fault));
+                Err(OpenFault::Fault(fault))
+            }
             Answer::Content(content, ending) => {
-                self.counts.opened();
-                Ok(Told::new(content, ending, self.piece))
+                let file = Told::opened(content, ending, self.piece, self.log.file(name));
+                self.log = self.log.and(&Note::Opened(name));
+                Ok(file)
             }
         }
     }
 
     fn close_file(&mut self, file: Told<'a>) {
-        self.counts.closed(file.phase());
+        self.log = self.log.and(&Note::Closed(file.log()));
     }
 }

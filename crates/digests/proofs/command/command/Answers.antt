@@ -9,7 +9,7 @@ pub returns-in-Ok-Invoke-clause-behavior : goal.returns-in-Ok-Invoke-clause-beha
 returns-in-Ok-Invoke-clause-behavior g c = λ hold.
     let read = rw c.in-Ok-Invoke.field-0-is at c.in-Ok-Invoke.ensures.line in
     let ran = c.run-outcome.ensures in
-    IfSome_then _ read (λ arguments is. inl (rw is (CallPerforms-finished g.S.Source.state c.finish_run.result
+    IfSome_then _ read (λ arguments is. inl (rw is (CallPerforms-finished c.finish_run.result
     (Some (invoke c.in-Ok-Invoke.tool c.in-Ok-Invoke.words)) c.args.streams.now c.run-outcome.new.streams
     c.finish_run.new.outputs c.run-outcome.result ran.behavior ran.failures
     (c.finish_run.ensures.finish (ran.flushed hold)))))
@@ -18,7 +18,7 @@ returns-in-Ok-Invoke-clause-behavior g c = λ hold.
 pub returns-in-Ok-UnknownTool-clause-behavior : goal.returns-in-Ok-UnknownTool-clause-behavior
 returns-in-Ok-UnknownTool-clause-behavior g c = λ hold.
     let read = rw c.in-Ok-UnknownTool.field-0-is at c.in-Ok-UnknownTool.ensures.line in
-    IfSome_then _ read (λ arguments is. inl (rw is (CallPerforms-refused g.S.Source.state c.refuse.result
+    IfSome_then _ read (λ arguments is. inl (rw is (CallPerforms-refused c.refuse.result
     (Some unknown_tool) c.args.streams.now c.refuse.new.outputs _ refl refl c.refuse.ensures.refusal hold)))
 
 -- the words couldn't be read: another line says so
@@ -27,6 +27,6 @@ returns-in-Err-clause-behavior g c = λ hold.
     let refused = c.refuse-in-Err in
     IfSome_then _ c.in-Err.ensures.not_read (λ arguments memory. inr (
       memory,
-      CallPerforms-refused g.S.Source.state
+      CallPerforms-refused
           refused.result None c.args.streams.now refused.new.outputs _ refl refl refused.ensures.refusal hold,
     ))

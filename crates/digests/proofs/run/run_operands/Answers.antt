@@ -1,6 +1,5 @@
-use Rattle.std.proofs.Common.{rules, refl, ap, Ok}
-use Rattle.std.proofs.lemmas.Bool.{and_parts}
-use Rattle.sum_engine.proofs.ReadToEndLemmas.{ReadToEnd-none, ReadToEnd-trans}
+use Rattle.std.proofs.Common.{rules}
+use Rattle.sum_engine.proofs.WorldLemmas.{KeepsKnown-then}
 use Rattle.digests.proofs.OperandLemmas.{left-next, operands_done_start, operands_done_step, operands_done_end, operands_done_stop}
 use Rattle.digests.proofs.run.run_operands.Goals as goal
 
@@ -9,7 +8,6 @@ pub operands-init : goal.operands-init
 operands-init g c = record {
   reached = operands_done_start c.first_name.ensures;
   so_far = search rules;
-  whole = λ good. ReadToEnd-none g.S.Source.state _ _ refl refl refl refl;
 }
 
 -- an operand stopped the run
@@ -17,7 +15,10 @@ pub returns-in-Err-clause-behavior : goal.returns-in-Err-clause-behavior
 returns-in-Err-clause-behavior g c =
     let so_far = c.operands.invariant in
     operands_done_stop c.in-Err.stop c.run_operand.new.streams (rw c.in-Some.is at so_far.reached)
-    so_far.so_far.flushed c.in-Err.ensures.behavior
+    so_far.so_far.flushed c.in-Err.ensures.known c.in-Err.ensures.behavior
+
+pub returns-in-Err-clause-known : goal.returns-in-Err-clause-known
+returns-in-Err-clause-known g c = KeepsKnown-then c.operands.invariant.reached.known c.in-Err.ensures.known
 
 -- an operand happened
 pub operands-preserved : goal.operands-preserved
@@ -26,11 +27,8 @@ operands-preserved g c =
     record {
       reached = rw (← left-next c.operands.operands _ c.next-next.result c.next-next.ensures.steps)
           (operands_done_step c.in-Ok.this c.run_operand.new.streams (rw c.in-Some.is at so_far.reached)
-          so_far.so_far.flushed c.in-Ok.ensures.behavior);
+          so_far.so_far.flushed c.in-Ok.ensures.known c.in-Ok.ensures.behavior);
       so_far = search rules;
-      whole = λ all.
-          let parts = and_parts _ _ all in
-          ReadToEnd-trans (so_far.whole parts.0) (c.in-Ok.ensures.read_to_end (ap Ok parts.1));
     }
 
 -- no operand is left

@@ -14,16 +14,16 @@ returns-in_err-outcome-clause-behavior g c =
     let tool = c.args.tool.now in
     let name = c.args.name.now in
     let stop = err_from_is_err_and c.from_residual.result c.from_residual.ensures.1 in
-    rw (stop.1, stop.2) (Performs-refused g.S.Source.state (λ w. generate_behavior settings tool w name) (λ g. g)
+    rw (stop.1, stop.2) (Performs-refused (λ w. generate_behavior settings tool w name) (λ g. g)
     c.args.streams.now (record c.args.streams.now { inputs = c.hash_name.new.inputs })
     (λ w. one_step settings tool name (digest_or_fault settings.kind (answer_to w name)))
-    c.in_err-outcome.ensures.outcome c.in_err-outcome.ensures.asked refl)
+    c.in_err-outcome.ensures.asked refl)
 
 -- the name was read, and its line written
 pub returns-in-Ok-clause-behavior : goal.returns-in-Ok-clause-behavior
 returns-in-Ok-clause-behavior g c =
     let done = c.in_ok-outcome.ensures in
-    generate-performed g.S.Source.state _ _ c.args.name.now _ c.args.streams.now
+    generate-performed _ _ c.args.name.now _ c.args.streams.now
     (record { inputs = c.hash_name.new.inputs; outputs = _ }) _ (Ok _) done.outcome done.asked c.in-Ok.ensures refl
     (writes_and_returns c.put_line_flushed-written.result c.outcome_after.ensures c.put_line_flushed-written.ensures)
 
@@ -32,6 +32,6 @@ pub returns-in-Err-clause-behavior : goal.returns-in-Err-clause-behavior
 returns-in-Err-clause-behavior g c =
     let done = c.in_ok-outcome.ensures in
     let wrote = c.put_name_fault_line-written in
-    generate-performed g.S.Source.state _ _ c.args.name.now _ c.args.streams.now
+    generate-performed _ _ c.args.name.now _ c.args.streams.now
     (record { inputs = c.hash_name.new.inputs; outputs = _ }) _ (Err _) done.outcome done.asked c.in-Err.ensures refl
     (writes_and_returns wrote.result c.outcome_after-in-Err.ensures wrote.ensures)

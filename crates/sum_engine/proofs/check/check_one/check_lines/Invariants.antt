@@ -1,19 +1,18 @@
 use Rattle.std.proofs.Common.{◌≡◌, ◌^◌, ◌-◌, Bool, true, Ok, None}
-use Rattle.sum_sources.specs.LineReaders.{IsReadSoFar}
-use Rattle.sum_engine.specs.Execution.{KeepsStdin, IsOneMoreAtMost, StopHasCause, ReadToEnd, Unfinished}
+use Rattle.sum_sources.specs.Contents.{IsSameInput}
+use Rattle.sum_engine.specs.Execution.{KeepsStdin, IsOneMoreAtMost, StopHasCause}
 use Rattle.sum_engine.proofs.CheckLinesLemmas.{HasComeTo}
 use Rattle.sum_engine.proofs.check.check_one.check_lines.Given as goal
 
 abbrev pub invariant-lines : goal.invariant-lines
 invariant-lines g l =
-    let input = l.fn.checker.cursor.reader.input in
+    let input = g.I.Input.state in
     let streams = l.fn.streams in
     record {
-      along : HasComeTo g.I.Input.state g.S.Source.state l.fn.checker streams l.checker l.streams;
+      along : HasComeTo input l.fn.checker streams l.checker l.streams;
       going : l.checker.final_answer ≡ None;
-      so_far : StopHasCause {A = Bool} g.S.Source.state IsOneMoreAtMost streams l.streams (Ok true);
-      phase : (g.I.Input.state input).phase ≡ Unfinished → IsReadSoFar g.I.Input.state l.checker.cursor.reader;
-      read_to_end : l.checker.cursor.counts.unread ≡ 0 → ReadToEnd g.S.Source.state streams.inputs l.streams.inputs;
+      so_far : StopHasCause {A = Bool} IsOneMoreAtMost streams l.streams (Ok true);
+      same : IsSameInput (input l.fn.checker.cursor.reader.input) (input l.checker.cursor.reader.input);
       stdin : l.fn.checker.cursor.rules.from_stdin ≡ true → KeepsStdin streams.inputs l.streams.inputs;
     }
 

@@ -1,9 +1,8 @@
-use Rattle.std.proofs.Common.{◌≡◌, ◌&&◌, false, Ok, rules}
+use Rattle.std.proofs.Common.{◌≡◌, ◌&&◌, false, rules}
 use Rattle.sum_lines.specs.grammar.Entries.{EntryValue}
 use Rattle.sum_engine.specs.Behavior.{is_dash}
-use Rattle.sum_engine.specs.refinement.Names.{HashesName}
 use Rattle.sum_engine.specs.refinement.Judging.{listed_entry}
-use Rattle.sum_engine.proofs.WorldLemmas.{InSomeWorld-map}
+use Rattle.sum_engine.specs.Execution.{world_at}
 use Rattle.sum_engine.proofs.VerdictLemmas.{judged_entry, entry_asks}
 use Rattle.sum_engine.proofs.check.judge.judge.Goals.{else-rules-via-then-rules+else-is_dash, else-rules-via-else-rules}
 use Rattle.sum_engine.proofs.check.judge.judge.Goals as goal
@@ -18,9 +17,9 @@ returns-clause-verdict g c =
       | else-rules-via-else-rules
           w ↦ search rules
     ] in
-    InSomeWorld-map {P = λ w v. HashesName s.kind w v s.name (Ok c.in_ok-outcome.outcome)}
-    c.in_ok-outcome.ensures.outcome (λ w v hashed.
-    judged_entry r w v s c.in_ok-outcome.outcome _ dash hashed (rw (← c.rules.view_is) c.compare.ensures))
+    λ new w agrees.
+    judged_entry r (world_at w c.args.inputs.now) s c.in_ok-outcome.outcome _ dash
+    (c.in_ok-outcome.ensures.outcome new w agrees) (rw (← c.rules.view_is) c.compare.ensures)
 
 pub returns-clause-asked : goal.returns-clause-asked
 returns-clause-asked g c = rw (entry_asks c.rules.inside.ignore_missing (listed_entry c.args.listed.now)

@@ -1,8 +1,8 @@
-use Rattle.std.proofs.Common.{◌≡◌, Ok, slice_range, refl, sym}
+use Rattle.std.proofs.Common.{◌≡◌, slice_range, refl, sym}
 use Rattle.sum_lines.specs.grammar.Entries.{EntryValue}
 use Rattle.sum_lines.specs.grammar.ParsedLines.{entry}
-use Rattle.sum_engine.specs.refinement.Judging.{JudgeOf, parsed_at}
-use Rattle.sum_engine.proofs.WorldLemmas.{InSomeWorld-map}
+use Rattle.sum_engine.specs.refinement.Judging.{parsed_at}
+use Rattle.sum_engine.specs.Execution.{world_at}
 use Rattle.sum_engine.proofs.NextVerdictLemmas.{judged-line}
 use Rattle.sum_engine.proofs.check.cursor.CheckCursor.judge_line.Goals as goal
 
@@ -19,9 +19,7 @@ returns-in_ok-verdict-in-Entry-clause-verdict g c =
     let said : parsed_at old line ≡ entry s = rw (← c.self.view_is, ← c.self-inside.view_is)
     (sym (rw (listed.is, read.form) at read.parsed)) in
     let judged = rw c.deref.ensures.value at c.in_ok-verdict-in-Entry.ensures.verdict in
-    rw c.count_verdict-in-Entry.ensures.is (InSomeWorld-map
-    {P = λ w v. JudgeOf old.rules w v (entry s) (Ok c.in_ok-verdict-in-Entry.verdict)}
-    (rw (← c.self.view_is, ← c.self-inside.view_is) judged)
-    (λ w v is. judged-line old line (entry s) _ _ vector w v _ _ _ said is
-    (rw (← c.self.view_is, ← c.self-inside.view_is) c.count_verdict-in-Entry.ensures.counts) refl
-    (rw (← c.self.view_is, ← c.self-inside.view_is) refl)))
+    rw c.count_verdict-in-Entry.ensures.is (λ new w agrees.
+    judged-line old line (entry s) _ vector (world_at w c.args.inputs.now) _ _ _ said
+    (rw (← c.self.view_is, ← c.self-inside.view_is) (judged new w agrees)) refl
+    (rw (← c.self.view_is, ← c.self-inside.view_is) refl))

@@ -1,6 +1,6 @@
-use Rattle.std.proofs.Common.{rules, refl, Ok, Err}
+use Rattle.std.proofs.Common.{rules, refl, inl, Ok, Err}
 use Rattle.std.proofs.lemmas.Result.{err_from_is_err_and}
-use Rattle.sum_engine.proofs.NextVerdictLemmas.{next_verdict-line, next_verdict-end, next_verdict-stopped, stop_cause, cursor-advanced}
+use Rattle.sum_engine.proofs.NextVerdictLemmas.{next_verdict-line, next_verdict-end, next_verdict-stopped, cursor-advanced}
 use Rattle.sum_engine.proofs.check.cursor.CheckCursor.next_verdict.Goals as goal
 
 -- a line was judged
@@ -9,9 +9,13 @@ returns-in_ok-judge_line-in-Ok-Line-clause-verdict g c =
     let read = c.in-Ok-Line.ensures in
     let is = c.in-Ok-Line.field-0-is in
     let done = c.in_ok-judge_line-in-Ok-Line.ensures in
-    rw (← c.self.view_is) (next_verdict-line g.I.Input.state g.S.Source.state _ _ c.next_line.new.self _ _
-    c.next_line.new.line.items c.judge_line.new.line.items (rw is at read.line) (rw is at read.reader.lines) read.bounds
-    c.self.invariant.2 (Ok _) done.cursor done.len done.verdict)
+    rw (← c.self.view_is) (λ reading new. next_verdict-line g.I.Input.state _ _ c.next_line.new.self _ _
+    c.next_line.new.line.items c.judge_line.new.line.items (rw is at (read.line (search rules)))
+    (rw is at read.reader.lines) read.bounds c.self.invariant.2 new (Ok _) done.cursor done.len done.counts done.asked
+    done.verdict)
+
+pub returns-in_ok-judge_line-in-Ok-Line-clause-cursor : goal.returns-in_ok-judge_line-in-Ok-Line-clause-cursor
+returns-in_ok-judge_line-in-Ok-Line-clause-cursor g c = search (rules, cursor-advanced)
 
 -- no memory to open the line's file
 pub returns-in_err-judge_line-in-Ok-Line-clause-verdict : goal.returns-in_err-judge_line-in-Ok-Line-clause-verdict
@@ -20,9 +24,10 @@ returns-in_err-judge_line-in-Ok-Line-clause-verdict g c =
     let is = c.in-Ok-Line.field-0-is in
     let done = c.in_err-judge_line-in-Ok-Line.ensures in
     let stop = err_from_is_err_and c.from_residual.result c.from_residual.ensures.1 in
-    rw (stop.1, stop.2, ← c.self.view_is) (next_verdict-line g.I.Input.state g.S.Source.state _ _ c.next_line.new.self
-    _ _ c.next_line.new.line.items c.judge_line.new.line.items (rw is at read.line) (rw is at read.reader.lines)
-    read.bounds c.self.invariant.2 (Err _) done.cursor done.len done.verdict)
+    rw (stop.1, stop.2, ← c.self.view_is) (λ reading new. next_verdict-line g.I.Input.state _ _ c.next_line.new.self
+    _ _ c.next_line.new.line.items c.judge_line.new.line.items (rw is at (read.line (search rules)))
+    (rw is at read.reader.lines) read.bounds c.self.invariant.2 new (Err _) done.cursor done.len done.counts
+    (inl done.asked) done.verdict)
 
 -- how far the manifest was read: to a line whose file could not be opened
 pub returns-in_err-judge_line-in-Ok-Line-clause-cursor : goal.returns-in_err-judge_line-in-Ok-Line-clause-cursor
@@ -35,9 +40,9 @@ pub returns-in-Ok-NoMore-clause-verdict : goal.returns-in-Ok-NoMore-clause-verdi
 returns-in-Ok-NoMore-clause-verdict g c =
     let read = c.in-Ok-NoMore.ensures in
     let is = c.in-Ok-NoMore.field-0-is in
-    rw (← c.self.view_is) (next_verdict-end g.I.Input.state g.S.Source.state _ _ _ c.next_line.new.line.items
-    c.next_line.new.line.items
-    c.self.invariant.2 refl (rw is at read.line) (rw is at read.reader.final_answer))
+    rw (← c.self.view_is) (λ reading new. next_verdict-end g.I.Input.state _ _ _ c.next_line.new.line.items
+    c.next_line.new.line.items c.self.invariant.2 refl (rw is at (read.line (search rules)))
+    (rw is at read.reader.final_answer))
 
 pub returns-in-Ok-NoMore-clause-cursor : goal.returns-in-Ok-NoMore-clause-cursor
 returns-in-Ok-NoMore-clause-cursor g c = search (rules, cursor-advanced)
@@ -46,12 +51,7 @@ returns-in-Ok-NoMore-clause-cursor g c = search (rules, cursor-advanced)
 pub returns-in-Err-clause-verdict : goal.returns-in-Err-clause-verdict
 returns-in-Err-clause-verdict g c =
     let read = c.in-Err.ensures in
-    next_verdict-stopped g.I.Input.state g.S.Source.state c.args.self.now _ _ c.next_line.new.line.items
-    c.next_line.new.line.items (rw (← c.self.view_is) c.self.invariant.2) (rw (← c.self.view_is) refl) c.in-Err.stop
-    (rw (← c.self.view_is) read.line) read.reader.final_answer
-
-pub returns-in-Err-clause-out_of_memory : goal.returns-in-Err-clause-out_of_memory
-returns-in-Err-clause-out_of_memory g c =
-    let read = c.in-Err.ensures in
-    stop_cause g.I.Input.state g.S.Source.state c.args.self.now.reader c.next_line.new.self c.args.inputs.now
-    c.next_line.new.line.items c.in-Err.stop (rw (← c.self.view_is) read.line) read.bounds
+    λ reading new.
+    next_verdict-stopped g.I.Input.state c.args.self.now _ _ c.next_line.new.line.items
+    c.next_line.new.line.items (rw (← c.self.view_is) c.self.invariant.2) (rw (← c.self.view_is) refl)
+    c.in-Err.stop (rw (← c.self.view_is) (read.line (search rules))) read.reader.final_answer

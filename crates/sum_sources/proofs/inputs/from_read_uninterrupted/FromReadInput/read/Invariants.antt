@@ -1,4 +1,4 @@
-use Rattle.std.proofs.Common.{◌≡◌}
+use Rattle.std.proofs.Common.{◌≡◌, length}
 use Rattle.std.specs.Io.KnownBytes.{Keeps}
 use Rattle.sum_sources.proofs.inputs.from_read_uninterrupted.FromReadInput.read.Given as goal
 
@@ -6,5 +6,6 @@ use Rattle.sum_sources.proofs.inputs.from_read_uninterrupted.FromReadInput.read.
 abbrev pub invariant-loop : goal.invariant-loop
 invariant-loop g l = record {
   given : Keeps (g.R.Read.remaining l.fn.self.reader) (g.R.Read.remaining l.self.reader);
-  phase : l.self.phase ≡ l.fn.self.phase;
+  log : l.self.log ≡ l.fn.self.log;
+  size : length l.buf ≡ length l.fn.buf;
 }

@@ -1,0 +1,19 @@
+-- `new` makes the empty struct, with the state that its clause names.
+use Rattle.sum_sources.proofs.LogSteps.{[], ◌∷◌, refl, proved, ftrue, vstruct, vnil, ‵, raw, ◌⊛◌, ◌$◌, ◌∵◌, !, qed, move, keep, split, suffices, done, agg, no_more, returns, enter, alloc_all, pass_all, free_all, look_at, sets, pure_i, alive, says, ends_at}
+use Rattle.sum_sources.specs.Logs.{no_reads}
+use Rattle.sum_sources.specs.contracts.inputs.read_log.ReadLog.{the_row as R}
+use Rattle.sum_sources.specs.contracts.inputs.read_log.ReadLog.new as f
+use Rattle.sum_sources.proofs.inputs.read_log.ReadLog.new.Statement.{statement}
+use Rattle.sum_sources.proofs.inputs.read_log.ReadLog.new.Code as code
+
+pub new_spec : {M : Type 1} → statement M
+new_spec 𝓤 𝓛 𝓜 𝓡 wired =
+    let c = f.clauses 𝓛 𝓜.mem 𝓡.returns in
+    proved 𝓛 f.ended tt c 𝓜 𝓡 tt f.Key.name code.function (code.unfolded 𝓤 𝓛.H 𝓜 𝓡 wired) (λ κs. tt) (λ κs. tt)
+    (λ κs qs bounds a g are.
+    let made : R.Denot = record { state = no_reads } in
+    qed 𝓛 ((raw (alive 𝓛 f.signature κs qs) ⊛ ‵ ftrue) ∷ ‵ ftrue ∷ []) ∵
+    keep ! (0 ∷ []) $ split ! $ enter ! _ _ _ _ _ $ alloc_all ! (λ l. pass_all ! refl tt $
+    sets ! (agg ! (no_more !)) refl (tt, tt) $ returns ! (look_at ! 0 refl) $ free_all ! refl $
+    suffices ! _ (ends_at 𝓛 f.ended tt c ((κs, qs, bounds, a, tt), g) (vstruct vnil) made tt tt) $ says ! refl $
+    pure_i ! (R.own_val made (vstruct vnil ∷ [])) ((λ vss. (tt, tt)), tt) ((tt, (refl, tt)), tt) $ move ! (1 ∷ 2 ∷ 0 ∷ []) $ done !))

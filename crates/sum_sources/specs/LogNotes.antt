@@ -1,0 +1,11 @@
+-- What is noted of a source.
+use Rattle.std.specs.Prelude.{◌+◌, None, Some, Err}
+use Rattle.sum_sources.specs.Sources.{SourceState, and_opening, after_closing}
+use Rattle.sum_sources.specs.declared.sources.source_log.Note.{Note}
+use Rattle.sum_sources.specs.declared.sources.source_log.Note.TheVariants.{Opened, Failed, Closed, Refused}
+
+abbrev pub noted : SourceState → Note → SourceState
+noted s (Opened name) = and_opening s name.now None
+noted s (Failed name fault) = and_opening s name.now (Some (Err fault))
+noted s (Closed log) = after_closing s log.now.state
+noted s Refused = record s { refusals = s.refusals + 1 }

@@ -1,0 +1,25 @@
+-- How far an input in memory was read.
+use Rattle.std.specs.Prelude.{ℕ, ◌≡◌, ◌<◌, ◌≤◌, ◌++◌, take, length, Result, ⊤, MatchResult}
+use Rattle.sum_sources.specs.Contents.{Content, Reads, Whole, Broken, Fault, bytes_of}
+use Rattle.sum_sources.specs.Faults.{ByteString}
+use Rattle.sum_sources.specs.StandardInput.{told_reads}
+use Rattle.sum_sources.specs.Phases.{Phase, AtEnd, Failed}
+
+-- its ending was read, once
+abbrev pub HasEnded : Phase → Type 0
+HasEnded AtEnd = ⊤
+HasEnded (Failed f) = ⊤
+HasEnded phase = ⊥
+
+-- of a content of which m bytes were given, a read gave those up to the first n; or, if none was left, its ending
+pub record GivesFrom (c : Content) (m n size : ℕ) (r : Result ℕ Fault) (buf : ByteString) : Type 0 where
+  pub bytes : take n c.bytes ≡ take m c.bytes ++ bytes_of r buf
+  pub ending : MatchResult r (λ k. k ≡ 0 → 0 < size → (length c.bytes ≤ m) × (c.ending ≡ Whole))
+      (λ f. (length c.bytes ≤ m) × (c.ending ≡ Broken f))
+
+-- what the fields of an input in memory keep
+pub record ToldInvariant (c : Content) (given size : ℕ) (phase : Phase) (reads : Reads) : Type 0 where
+  pub piece : 1 ≤ size
+  pub few : given ≤ length c.bytes
+  pub ended : HasEnded phase → length c.bytes ≤ given
+  pub log : reads ≡ told_reads c given phase
