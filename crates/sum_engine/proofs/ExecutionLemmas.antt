@@ -1,5 +1,5 @@
 -- What happened from one state to another, one event after another.
-use Rattle.std.proofs.Common.{rules, ◌≡◌, ℕ, List, [], ◌∷◌, ◌++◌, map, Option, None, Some, Result, Ok, Err, refl, ap, sym, ◌∙◌, inl, inr, append_assoc, append-nil, filter_map}
+use Rattle.std.proofs.Common.{rules, ◌≡◌, ℕ, List, [], ◌∷◌, ◌++◌, map, Option, None, Some, Result, Ok, Err, refl, ap, sym, ◌∙◌, inl, inr, arith, append_assoc, append-nil, filter_map}
 use Rattle.std.proofs.lemmas.List.{map-append}
 use Rattle.std.proofs.lemmas.List.Elements.{filter_map-append}
 use Rattle.sum_engine.specs.Behavior.{Event, Step, events_of, open_name, write_err, write_out, opened_name, err_byte, out_byte}
@@ -57,8 +57,11 @@ Happened-none a = search (rules, asks_none)
 
 -- one thing after another
 pub Happened-then : {a b c : StreamsState} (p q : List Event) → Happened a b p → Happened b c q → Happened a c (p ++ q)
-Happened-then {a} {b} {c} p q h k =
-    search (rules, asks_then, filter_map-append, append_assoc)
+Happened-then {a} {b} {c} p q h k = record {
+  inputs = search (rules, asks_then, filter_map-append, h.inputs, k.inputs);
+  err = let first = h.err in let then = k.err in grind (arith, append_assoc, filter_map-append);
+  out = let first = h.out in let then = k.out in grind (arith, append_assoc, filter_map-append);
+}
 
 -- ---- a prefix of it
 
