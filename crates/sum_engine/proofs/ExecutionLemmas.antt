@@ -121,7 +121,7 @@ refused_first {a} next later are here =
 pub record IsKept (b c : StreamsState) : Type 0 where
   pub outputs : c.outputs ≡ b.outputs
   pub asked : asked c.inputs ≡ asked b.inputs
-  pub taken : c.inputs.stdin_taken ≡ b.inputs.stdin_taken
+  pub taken : c.inputs.stdin.taken ≡ b.inputs.stdin.taken
   pub refusals : c.inputs.source.refusals ≡ b.inputs.source.refusals
 
 kept_happened : (a b c : StreamsState) (es : List Event) → IsKept b c → Happened a b es → Happened a c es

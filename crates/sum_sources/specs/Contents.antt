@@ -1,5 +1,5 @@
 -- Contents of inputs: what reads gave, of which content they are, the limit of 2^61 bytes, and digests.
-use Rattle.std.specs.Prelude.{ℕ, ◌≡◌, ◌-◌, ◌^◌, [], ◌++◌, take, length, Option, Result, Ok, Err, ⊤, nat_lt, if◌then◌else◌, IfSome}
+use Rattle.std.specs.Prelude.{ℕ, ◌≡◌, ◌-◌, ◌^◌, [], ◌++◌, take, length, Option, Result, Ok, Err, ⊤, nat_lt, if◌then◌else◌, IfSome, IfOk}
 use Rattle.digest_kinds.specs.Basics.{ByteString}
 use Rattle.digest_kinds.specs.Kinds.{digest, KindValue}
 use Rattle.sum_sources.specs.Phases.{Phase, Unfinished, AtEnd, Failed, Past, phase_after}
@@ -81,6 +81,15 @@ IsSameInput a b = b ≡ record a { reads = b.reads }
 abbrev pub Hashes : KindValue → Content → Result ByteString Fault → Type 0
 Hashes kind c (Ok d) = (c.ending ≡ Whole) × (d ≡ digest kind c.bytes)
 Hashes kind c (Err f) = c.ending ≡ Broken f
+
+-- what a call does that hashes an input
+pub record HashesInput (kind : KindValue) (old new : InputState) (result : Result ByteString Fault) : Type 0 where
+  pub same : IsSameInput old new
+  -- if it was unread: the digest of each content that its reads are of, or its fault
+  pub digest : old.reads ≡ unread → (c : Content) → IsOf new.reads c → Hashes kind (clip c) result
+  -- a digest is returned only at its end, and it is never read past its end or its fault
+  pub end : old.reads.phase ≡ Unfinished → IfOk result (λ _. new.reads.phase ≡ AtEnd)
+  pub past : old.reads.phase ≡ Unfinished → ¬ (new.reads.phase ≡ Past)
 
 -- an input over a reader, and what its reads gave
 pub record OverReader (R : Type 0) : Type 0 where

@@ -1,16 +1,32 @@
 -- Sources in memory.
-use Rattle.std.specs.Prelude.{ℕ, List, Some}
-use Rattle.sum_sources.specs.Faults.{ByteString}
-use Rattle.sum_sources.specs.Sources.{Pair, Opening, SourceState}
+use Rattle.std.specs.Prelude.{ℕ, suc, List, [], ◌∷◌, length, Option, None, Some, Result, Ok, Err}
+use Rattle.sum_sources.specs.Contents.{Reads, Fault}
+use Rattle.sum_sources.specs.Sources.{Answer, Answers, Opening, Pair, first_answer, SourceState}
+use Rattle.sum_sources.specs.StandardInput.{told_reads}
 
 -- a source in memory
 pub record ToldFiles : Type 0 where
   pub pairs : List Pair  -- in the order in which they were added
-  pub asked : List ByteString  -- the names asked
   pub piece : ℕ  -- the most bytes that one read of its files gives
   pub openings : List Opening
   pub refusals : ℕ
 
+-- what an opening gives by this answer, if so much was read of the file by the time it was closed
+abbrev pub told_gave : Answer → Option (Result Reads Fault) → Option (Result Reads Fault)
+told_gave (Err f) gave = Some (Err f)
+told_gave (Ok c) (Some (Ok r)) = Some (Ok (told_reads c (length r.bytes) r.phase))
+told_gave (Ok c) gave = None
+
+-- what these openings give, of which the first has so many before it
+abbrev pub told_openings : Answers → ℕ → List Opening → List Opening
+told_openings answer n [] = []
+told_openings answer n (o ∷ os) =
+    record o { gave = told_gave (answer n o.name) o.gave } ∷ told_openings answer (suc n) os
+
 -- its state
 abbrev pub told_source : ToldFiles → SourceState
-told_source s = record { told = Some s.pairs; openings = s.openings; refusals = s.refusals }
+told_source s = record {
+  told = Some s.pairs;
+  openings = told_openings (first_answer s.pairs) 0 s.openings;
+  refusals = s.refusals;
+}

@@ -3,7 +3,7 @@ use Rattle.std.specs.Prelude.{ℕ, ◌≡◌, ◌+◌, ◌-◌, ◌^◌, ◌<◌
 use Rattle.sum_sources.specs.Contents.{Content, InputState, IsOf, IsSameInput, clip}
 use Rattle.sum_sources.specs.Faults.{Fault, ByteString}
 use Rattle.sum_sources.specs.ManifestLines.{Next, Line, NoMore, LineStop, HasNoNewline, IsNextLine, lines_after}
-use Rattle.sum_sources.specs.Phases.{Unfinished}
+use Rattle.sum_sources.specs.Phases.{Unfinished, AtEnd, Past}
 use Rattle.sum_sources.specs.declared.line_reader.LineStop.TheVariants as stops
 
 -- a reader of lines
@@ -42,14 +42,20 @@ ReadsLine state old new result line = (c : Content) → IsOf (state new.input).r
     → IsNextLine (remaining old c) (remaining new c) result line × OnOk result (consumed_count new
     + length (remaining new c).bytes ≡ consumed_count old + length (remaining old c).bytes)
 
+-- the input hasn't ended, and has given what was consumed and then what is ahead
+abbrev pub IsUnderWay : {I : Type 0} → (I → InputState) → LineReaderValue I → Type 0
+IsUnderWay state r = (consumed : ByteString) × (length consumed + length r.ahead ≡ r.taken)
+    × ((state r.input).reads ≡ record { bytes = consumed ++ r.ahead; phase = Unfinished })
+
 -- a reader of an input that was unread when the reader was made
 pub record IsReading {I : Type 0} (state : I → InputState) (r : LineReaderValue I) : Type 0 where
-  -- as long as no answer is final, the input has given what was consumed, and then what is ahead
-  pub going : r.final_answer ≡ None → (consumed : ByteString) × (length consumed + length r.ahead ≡ r.taken)
-      × ((state r.input).reads ≡ record { bytes = consumed ++ r.ahead; phase = Unfinished })
+  pub under_way : r.final_answer ≡ None → IsUnderWay state r
   -- a final answer stays right
   pub final : (answer : Result Next LineStop) → r.final_answer ≡ Some answer → (line : ByteString)
       → ReadsLine state r r answer line
+  -- the input is at its end if no line remains, and is never read past its end or its fault
+  pub end : r.final_answer ≡ Some (Ok NoMore) → (state r.input).reads.phase ≡ AtEnd
+  pub past : ¬ ((state r.input).reads.phase ≡ Past)
 
 -- what every later call returns, once this was returned. After the end or a stop, the same. After a line, either
 -- nothing is settled or it is the end
@@ -72,3 +78,5 @@ pub record AdvancesLines {I : Type 0} (state : I → InputState) (old new : Line
   pub lines : new.lines ≡ lines_after old.lines result  -- a line that is returned is counted
   pub ahead : ¬ HasNoNewline old.ahead → new.input ≡ old.input  -- the input isn't read if a whole line was read ahead
   pub same : IsSameInput (state old.input) (state new.input)
+  -- each byte that the input gave is counted
+  pub taken : new.taken + length (state old.input).reads.bytes ≡ old.taken + length (state new.input).reads.bytes

@@ -1,8 +1,8 @@
 -- What the logs keep that only proofs see.
-use Rattle.std.specs.Prelude.{ℕ, [], length, None, Result}
+use Rattle.std.specs.Prelude.{ℕ, [], List, length, None, Result}
 use Rattle.sum_sources.specs.Faults.{Fault, ByteString}
 use Rattle.sum_sources.specs.Contents.{InputState, unread, and_read}
-use Rattle.sum_sources.specs.Sources.{SourceState}
+use Rattle.sum_sources.specs.Sources.{SourceState, Opening}
 
 -- no read of an input that no source opened, and that isn't in memory
 abbrev pub no_reads : InputState
@@ -12,6 +12,19 @@ no_reads = record { opening = 0; name = []; told = None; reads = unread }
 abbrev pub logged : InputState → ByteString → Result ℕ Fault → InputState
 logged s buf read = record s { reads = and_read s.reads (length buf) read buf }
 
--- no opening of a source that isn't in memory
-abbrev pub no_openings : SourceState
-no_openings = record { told = None; openings = []; refusals = 0 }
+-- what the log of a source keeps
+pub record SourceNotes : Type 0 where
+  pub openings : List Opening
+  pub refusals : ℕ  -- how many openings were refused memory
+
+-- no opening
+abbrev pub no_openings : SourceNotes
+no_openings = record { openings = []; refusals = 0 }
+
+-- the state of a source that has this log, and isn't in memory
+abbrev pub untold : SourceNotes → SourceState
+untold s = record { told = None; openings = s.openings; refusals = s.refusals }
+
+-- no read of the file that is opened next, by this name, and that isn't in memory
+abbrev pub next_file : SourceNotes → ByteString → InputState
+next_file s name = record no_reads { opening = length s.openings; name = name }

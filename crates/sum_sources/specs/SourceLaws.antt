@@ -1,52 +1,49 @@
--- Laws of the openings of a source.
-use Rattle.std.proofs.Common.{◌≡◌, ◌∙◌, ◌++◌, ◌∷◌, [], ap, refl, List, Ok, None, Some}
-use Rattle.std.specs.Prelude.{length, MatchOption, ⊤}
-use Rattle.std.specs.Option.{option_and_then}
-use Rattle.sum_sources.specs.Faults.{ByteString}
-use Rattle.sum_sources.specs.Contents.{Content, InputState, Reads, IsOf, HasContent}
-use Rattle.sum_sources.specs.Sources.{Pair, first_answer, content_of, Opening, AgreesAnswer, SourceState, IsOpen, closed_at, after_closing}
+-- The law of sources: each has answers to its openings.
+use Rattle.std.proofs.Common.{ℕ, zero, suc, [], ◌∷◌, refl, List, Ok, Err, None, Some}
+use Rattle.std.specs.Prelude.{length, Option, Result}
+use Rattle.sum_sources.specs.Contents.{Fault, Reads}
+use Rattle.sum_sources.specs.Faults.{NotFound}
+use Rattle.sum_sources.specs.Sources.{Answer, Answers, Opening, first_answer, IsOfAnswer, AnswersAre, HasAnswers}
+use Rattle.sum_sources.specs.Logs.{SourceNotes, untold}
+use Rattle.sum_sources.specs.InMemory.{ToldFiles, told_gave, told_openings, told_source}
+use Rattle.sum_sources.specs.ToldLaws.{some_content, told_is_of}
 
--- the opening after these
-pub closed_at-seam : (before later : List Opening) (o : Opening) (reads : Reads)
-    → closed_at (length before) reads (before ++ o ∷ later) ≡ before ++ record o { gave = Some (Ok reads) } ∷ later
-closed_at-seam [] later o reads = refl
-closed_at-seam (x ∷ xs) later o reads = ap (λ os. x ∷ os) (closed_at-seam xs later o reads)
+-- ---- sources in memory
 
--- ---- a source in memory
+told_gave_is : (answer : Answer) (gave : Option (Result Reads Fault)) → IsOfAnswer (told_gave answer gave) answer
+told_gave_is (Err f) gave = refl
+told_gave_is (Ok c) (Some (Ok r)) = told_is_of c (length r.bytes) r.phase
+told_gave_is (Ok c) (Some (Err f)) = tt
+told_gave_is (Ok c) None = tt
 
--- an opening agrees with these pairs: an open file has a content there, and what is known of one that isn't is of it
-abbrev pub IsToldOpening : List Pair → Opening → Type 0
-IsToldOpening pairs o = MatchOption o.gave ((c : Content) × (first_answer pairs o.name ≡ Ok c))
-    (λ known. AgreesAnswer known (first_answer pairs o.name))
+told_are : (answer : Answers) (n : ℕ) (os : List Opening) → AnswersAre answer n (told_openings answer n os)
+told_are answer n [] = tt
+told_are answer n (o ∷ os) = (told_gave_is (answer n o.name) o.gave, told_are answer (suc n) os)
 
--- so do all of them
-abbrev pub AreToldOpenings : List Pair → List Opening → Type 0
-AreToldOpenings pairs [] = ⊤
-AreToldOpenings pairs (o ∷ os) = IsToldOpening pairs o × AreToldOpenings pairs os
+pub told_has_answers : (s : ToldFiles) → HasAnswers (told_source s)
+told_has_answers s = (first_answer s.pairs, refl, told_are (first_answer s.pairs) 0 s.openings)
 
--- one more
-pub told_more : (pairs : List Pair) (os : List Opening) (o : Opening) → AreToldOpenings pairs os → IsToldOpening pairs o
-    → AreToldOpenings pairs (os ++ o ∷ [])
-told_more pairs [] o h one = (one, tt)
-told_more pairs (x ∷ xs) o h one = (h.0, told_more pairs xs o h.1 one)
+-- ---- sources that aren't in memory
 
--- an open file is closed, of which this was read
-told_close : (pairs : List Pair) (before later : List Opening) (name : ByteString) (r : Reads)
-    → ((c : Content) → first_answer pairs name ≡ Ok c → IsOf r c)
-    → AreToldOpenings pairs (before ++ record { name = name; gave = None } ∷ later)
-    → AreToldOpenings pairs (before ++ record { name = name; gave = Some (Ok r) } ∷ later)
-told_close pairs [] later name r of h = let (c, is) = h.0 in (rw is (of c is), h.1)
-told_close pairs (x ∷ xs) later name r of h = (h.0, told_close pairs xs later name r of h.1)
+-- an answer of which this is
+some_answer : (gave : Option (Result Reads Fault)) → (answer : Answer) × IsOfAnswer gave answer
+some_answer None = (Err NotFound, tt)
+some_answer (Some (Ok r)) = let (c, of) = some_content r.bytes r.phase in (Ok c, of)
+some_answer (Some (Err f)) = (Err f, refl)
 
--- LAW: closing a file that this source opened leaves all of them agreeing with the pairs
-pub told_closed : (s : SourceState) (pairs : List Pair) (file : InputState) → s.told ≡ Some pairs → IsOpen s file
-    → HasContent file → AreToldOpenings pairs s.openings → AreToldOpenings pairs (after_closing s file).openings
-told_closed s pairs file told here has h =
-    let (c, may, of) = has in
-    let read : (d : Content) → first_answer pairs file.name ≡ Ok d → IsOf file.reads d = λ d is.
-    let known : file.told ≡ Some d =
-    here.told ∙ ap (option_and_then (λ ps. content_of (first_answer ps file.name))) told ∙ ap content_of is in
-    let same : c ≡ d = rw known at may in
-    rw same at of in
-    rw (here.opening, here.are, closed_at-seam) (told_close pairs here.before here.later file.name file.reads read
-    (rw here.are at h))
+abbrev some_answers : List Opening → Answers
+some_answers [] n name = Err NotFound
+some_answers (o ∷ os) zero name = (some_answer o.gave).0
+some_answers (o ∷ os) (suc n) name = some_answers os n name
+
+shifted : (answer : Answers) (n : ℕ) (os : List Opening) → AnswersAre (λ k. answer (suc k)) n os
+    → AnswersAre answer (suc n) os
+shifted answer n [] h = tt
+shifted answer n (o ∷ os) h = (h.0, shifted answer (suc n) os h.1)
+
+some_are : (os : List Opening) → AnswersAre (some_answers os) 0 os
+some_are [] = tt
+some_are (o ∷ os) = ((some_answer o.gave).1, shifted (some_answers (o ∷ os)) 0 os (some_are os))
+
+pub untold_has_answers : (s : SourceNotes) → HasAnswers (untold s)
+untold_has_answers s = (some_answers s.openings, tt, some_are s.openings)

@@ -1,58 +1,75 @@
--- Sources of files: what was asked of one, and what is known of the answers.
-use Rattle.std.specs.Prelude.{ℕ, zero, suc, ◌≡◌, ◌+◌, List, [], ◌∷◌, ◌++◌, length, Option, None, Some, Result, Ok, Err, if◌then◌else◌, bytes_eq}
+-- Sources of files: what was asked of one, and what it answered.
+use Rattle.std.specs.Prelude.{ℕ, zero, suc, ◌≡◌, ◌+◌, List, [], ◌∷◌, ◌++◌, length, Option, None, Some, Result, Ok, Err, ⊤, IfSome, ◌&&◌, if◌then◌else◌, bytes_eq, nat_le}
 use Rattle.std.specs.Option.{option_and_then}
 use Rattle.sum_sources.specs.Contents.{Content, InputState, Reads, IsOf, unread}
 use Rattle.sum_sources.specs.Faults.{Fault, NotFound, ByteString}
 use Rattle.sum_sources.specs.declared.sources.source.OpenFault.{OpenFault}
 use Rattle.sum_sources.specs.declared.sources.source.OpenFault.TheVariants as faults
 
--- what a source has for a name: a content, or the fault of opening
+-- what opening a name gives: a content, or the fault of opening
 abbrev pub Answer : Type 0
 Answer = Result Content Fault
 
--- an opening: the name, and what is known of it: what was read of the file by the time it was closed, or the fault of
--- opening it. As long as the file is open nothing is known
+-- the answer to each opening, by how many came before it, and by its name: a file may change in between
+abbrev pub Answers : Type 0
+Answers = ℕ → ByteString → Answer
+
+-- an opening: the name; and what it gave: what was read of the file by the time it was closed, or the fault of opening
+-- it. As long as the file is open there is nothing yet
 pub record Opening : Type 0 where
   pub name : ByteString
   pub gave : Option (Result Reads Fault)
 
--- what is known of an opening agrees with an answer: what was read is of that content, or this is the fault of opening
-abbrev pub AgreesAnswer : Result Reads Fault → Answer → Type 0
-AgreesAnswer (Ok r) (Ok c) = IsOf r c
-AgreesAnswer (Err f) (Err g) = f ≡ g
-AgreesAnswer known answer = ⊥
+-- what an opening gave is of this answer: what was read is of that content, or this is the fault of opening
+abbrev pub IsOfAnswer : Option (Result Reads Fault) → Answer → Type 0
+IsOfAnswer None answer = ⊤
+IsOfAnswer (Some (Ok r)) (Ok c) = IsOf r c
+IsOfAnswer (Some (Err f)) (Err g) = f ≡ g
+IsOfAnswer gave answer = ⊥
 
--- a name, and the answer to it
+-- these are the answers to these openings, of which the first has so many before it
+abbrev pub AnswersAre : Answers → ℕ → List Opening → Type 0
+AnswersAre answer n [] = ⊤
+AnswersAre answer n (o ∷ os) = IsOfAnswer o.gave (answer n o.name) × AnswersAre answer (suc n) os
+
+-- a name in memory, the answer to it, and from which opening on: so many came before the pair was added
 pub record Pair : Type 0 where
   pub name : ByteString
   pub answer : Answer
+  pub from : ℕ
 
--- the answer of the first pair with the name. A name without a pair isn't found
-abbrev pub first_answer : List Pair → ByteString → Answer
-first_answer [] name = Err NotFound
-first_answer (p ∷ ps) name = if bytes_eq p.name name then p.answer else first_answer ps name
+-- the answer to the opening that has n before it: that of the first pair with the name that was added by then. A name
+-- without a pair isn't found
+abbrev pub first_answer : List Pair → Answers
+first_answer [] n name = Err NotFound
+first_answer (p ∷ ps) n name = if nat_le p.from n && bytes_eq p.name name then p.answer else first_answer ps n name
 
 -- the state of a source
 pub record SourceState : Type 0 where
-  pub told : Option (List Pair)  -- its names and their answers, if these are in memory
+  pub told : Option (List Pair)  -- its answers, if these are in memory
   pub openings : List Opening  -- in their order
   pub refusals : ℕ  -- how many openings were refused memory
+
+-- its openings have answers: those in memory, if they are there
+abbrev pub HasAnswers : SourceState → Type 0
+HasAnswers s = (answer : Answers) × IfSome s.told (λ pairs. answer ≡ first_answer pairs)
+    × AnswersAre answer 0 s.openings
 
 -- the content of an answer
 abbrev pub content_of : Answer → Option Content
 content_of (Ok c) = Some c
 content_of (Err f) = None
 
--- the content that is in memory for a name
-abbrev pub told_content : SourceState → ByteString → Option Content
-told_content s name = option_and_then (λ pairs. content_of (first_answer pairs name)) s.told
+-- the content that is in memory for a name, by how many openings came before
+abbrev pub content_at : SourceState → ℕ → ByteString → Option Content
+content_at s n name = option_and_then (λ pairs. content_of (first_answer pairs n name)) s.told
 
 -- a name is opened: this is the file, and nothing was read of it yet
 abbrev pub opened_file : SourceState → ByteString → InputState
 opened_file s name = record {
   opening = length s.openings;
   name = name;
-  told = told_content s name;
+  told = content_at s (length s.openings) name;
   reads = unread;
 }
 
@@ -72,7 +89,7 @@ pub record IsOpen (s : SourceState) (file : InputState) : Type 0 where
   pub later : List Opening
   pub are : s.openings ≡ before ++ record { name = file.name; gave = None } ∷ later
   pub opening : file.opening ≡ length before
-  pub told : file.told ≡ told_content s file.name
+  pub told : file.told ≡ content_at s file.opening file.name
 
 -- at the opening with so many before it this was read
 abbrev pub closed_at : ℕ → Reads → List Opening → List Opening

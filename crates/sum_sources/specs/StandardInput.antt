@@ -1,10 +1,12 @@
 -- Standard input: before it is taken, when it was taken, and after it was put back.
-use Rattle.std.specs.Prelude.{ℕ, pos, [], take, Option, None, Some, Bool, true, false}
-use Rattle.sum_sources.specs.Contents.{Content, Whole, Broken, InputState, Reads}
+use Rattle.std.specs.Prelude.{ℕ, ◌≡◌, pos, [], take, Option, None, Some, Bool, true, false, ⊤}
+use Rattle.sum_sources.specs.Contents.{Content, Whole, Broken, InputState, Reads, unread, empty_content}
 use Rattle.sum_sources.specs.Faults.{Os, ByteString}
 use Rattle.sum_sources.specs.Phases.{Phase, Unfinished, AtEnd, Failed, Past}
-pub use Rattle.sum_sources.specs.declared.inputs.stdin.Stdin.{Stdin}
-pub use Rattle.sum_sources.specs.declared.inputs.stdin.Stdin.TheVariants.{Unread, Taken, Returned}
+use Rattle.sum_sources.specs.declared.inputs.stdin.StdinPlace.{StdinPlace}
+use Rattle.sum_sources.specs.declared.inputs.stdin.StdinPlace.TheVariants.{Untaken, Taken, Returned}
+use Rattle.sum_sources.specs.declared.inputs.stdin.Reply.{Reply}
+use Rattle.sum_sources.specs.declared.inputs.stdin.Reply.TheVariants.{First, Empty}
 use Rattle.sum_sources.specs.declared.inputs.closable.Closable.{Closable}
 use Rattle.sum_sources.specs.declared.inputs.closable.Closable.TheVariants.{Open, Closed}
 use Rattle.sum_sources.specs.declared.fault.Ending.{Ending}
@@ -41,21 +43,25 @@ told_file t = record (told_state t.content t.given t.phase) { opening = t.openin
 
 -- ---- standard input
 
--- whether standard input was taken
-abbrev pub stdin_taken : {I : Type 0} → Stdin I → Bool
-stdin_taken (Unread i) = false
-stdin_taken stdin = true
+-- as long as it wasn't taken, nothing was read of it
+abbrev pub IsUnreadUntilTaken : {I : Type 0} → (I → InputState) → StdinPlace I → Type 0
+IsUnreadUntilTaken state (Untaken i) = (state i).reads ≡ unread
+IsUnreadUntilTaken state place = ⊤
 
--- its input's state. Nothing is known of that between the taking and the putting back
-abbrev pub stdin_state : {I : Type 0} → (I → InputState) → Stdin I → Option InputState
-stdin_state state (Unread i) = Some (state i)
-stdin_state state Taken = None
-stdin_state state (Returned i) = Some (state i)
+-- the state of what taking gives
+abbrev pub given_state : {I : Type 0} → (I → InputState) → Reply I → InputState
+given_state state (First i) = state i
+given_state state (Empty phase) = told_state empty_content 0 phase
 
--- what was taken is put back
-abbrev pub put_back : {I : Type 0} → Stdin I → I → Stdin I
-put_back Taken i = Returned i
-put_back stdin i = stdin
+-- taking gives the input the first time, of which nothing was read; and an empty one afterwards
+abbrev pub Gives : {I : Type 0} → (I → InputState) → StdinPlace I → StdinPlace I → Reply I → Type 0
+Gives state (Untaken i) new given = (new ≡ Taken) × (given ≡ First i) × ((state i).reads ≡ unread)
+Gives state old new given = (new ≡ old) × (given ≡ Empty Unfinished)
+
+-- what was taken is put back, and kept if nothing was before
+abbrev pub put_back : {I : Type 0} → StdinPlace I → Reply I → StdinPlace I
+put_back Taken given = Returned given
+put_back place given = place
 
 -- ---- a closed input
 

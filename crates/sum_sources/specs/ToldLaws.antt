@@ -1,13 +1,15 @@
--- The law of inputs in memory: what was read of one is of its content.
+-- The law of inputs: what was read of one is of a content, of the one in memory if it is there.
 use Rattle.std.proofs.Common.{rules, ℕ, None, refl, drop}
 use Rattle.std.proofs.lemmas.List.{take-append-drop}
 use Rattle.sum_sources.specs.Contents.{Content, InputState, HasContent, IsOf, IsReadTo, Whole, Broken, empty_content}
 use Rattle.sum_sources.specs.Faults.{Os, ByteString}
 use Rattle.std.specs.Prelude.{pos, []}
 use Rattle.sum_sources.specs.Phases.{Phase, Unfinished, AtEnd, Failed, Past}
-use Rattle.sum_sources.specs.StandardInput.{told_reads, ToldContent, told_state, told_file, phase_by, unless_closed}
+use Rattle.sum_sources.specs.StandardInput.{told_reads, ToldContent, told_state, told_file, phase_by, unless_closed, given_state}
 use Rattle.sum_sources.specs.declared.inputs.closable.Closable.{Closable}
 use Rattle.sum_sources.specs.declared.inputs.closable.Closable.TheVariants.{Open, Closed}
+use Rattle.sum_sources.specs.declared.inputs.stdin.Reply.{Reply}
+use Rattle.sum_sources.specs.declared.inputs.stdin.Reply.TheVariants.{First, Empty}
 
 -- after its ending was read
 at_ending : (c : Content) → IsOf (record { bytes = c.bytes; phase = phase_by c.ending }) c
@@ -31,6 +33,12 @@ pub closable_has_content : {I : Type 0} (state : I → InputState) (has : (i : I
 closable_has_content state has (Open i) = has i
 closable_has_content state has (Closed p) =
     told_has_content (record { bytes = []; ending = Broken (Os (pos 9)) }) 0 p
+
+-- of what standard input gives
+pub given_has_content : {I : Type 0} (state : I → InputState) (has : (i : I) → HasContent (state i)) (given : Reply I)
+    → HasContent (given_state state given)
+given_has_content state has (First i) = has i
+given_has_content state has (Empty phase) = told_has_content empty_content 0 phase
 
 -- ---- inputs that aren't in memory
 

@@ -134,8 +134,11 @@ impl<I: Input> LineReader<I> {
     fn fill(&mut self) -> Result<bool, Fault>
         requires empty { self.old.ahead ≡ [] }
         requires going { self.old.final_answer ≡ None }
-        ensures reads { (I.state self.old.input).reads.phase ≡ Unfinished → FillsBuffer self.old.taken
-            (I.state self.old.input).reads (I.state self.new.input).reads self.new.ahead result }
+        ensures reads { (I.state self.old.input).reads.phase ≡ Unfinished
+            → length (I.state self.old.input).reads.bytes ≡ self.old.taken
+            → FillsBuffer (I.state self.old.input).reads (I.state self.new.input).reads self.new.ahead result }
+        ensures bytes { self.new.taken + length (I.state self.old.input).reads.bytes
+            ≡ self.old.taken + length (I.state self.new.input).reads.bytes }
         ensures taken { IfOk result (λ _. (self.new.taken ≡ self.old.taken + length self.new.ahead)
             × (self.new.taken < 2 ^ 61)) }
         ensures more { result ≡ Ok true → self.old.taken < self.new.taken }
@@ -195,6 +198,8 @@ impl<I: Input> LineReader<I> {
         ensures line { IsReading I.state self.old
             → ReadsOn I.state self.old self.new result (strip_carriage_return line.new.items) }
         ensures same { IsSameInput (I.state self.old.input) (I.state self.new.input) }
+        ensures bytes { self.new.taken + length (I.state self.old.input).reads.bytes
+            ≡ self.old.taken + length (I.state self.new.input).reads.bytes }
         ensures some { result ≡ Ok Next.Line → consumed_count self.old < consumed_count self.new }
         ensures lines { self.new.lines ≡ self.old.lines }
         ensures final_answer { IsFinalAnswerAfter result self.new.final_answer }

@@ -2,7 +2,7 @@
 use Rattle.std.specs.Prelude.{ℕ, ◌≡◌, ◌+◌, ◌≤◌, ◌↔◌, Bool, List, [], ◌∷◌, take, length, flat_map, Option, Result, ◌++◌, None, Ok, Err, slice_index_or}
 use Rattle.sum_sources.specs.declared.line_reader.LineStop.TheVariants.{Fault}
 use Rattle.sum_lines.specs.grammar.Shapes.{IsPlain, KindValue}
-use Rattle.sum_engine.specs.Execution.{Stop, Write, StreamsState, IsFlushed, IsStdinUnread, Agrees, world_at, AsksNames, Happened, PrefixHappened, PerformsSteps}
+use Rattle.sum_engine.specs.Execution.{Stop, Write, StreamsState, IsFlushed, Agrees, world_at, AsksNames, Happened, PrefixHappened, PerformsSteps}
 use Rattle.sum_sources.specs.Contents.{unread}
 use Rattle.sum_engine.specs.Behavior.{ByteString, IsOf, InputState, Behavior, trace, out_text, err_text, asks, Ending, Whole, Broken, World, Content, clip}
 use Rattle.sum_engine.specs.check.Verdicts.{lines_under, Rules, LineVerdictValue, asks_of, all_verdicts, verdicts, past_lines, escape, EntryValue, IsEntry, form}
@@ -16,9 +16,8 @@ use Rattle.sum_engine.specs.check.NextVerdict.{LineStop, LineVerdict, HasNoVerdi
 -- each world, that agrees with what was read, its behavior
 abbrev pub ManifestPerforms : Rules → LabelsValue → InputState → InputState → StreamsState → StreamsState
     → Result Bool Stop → Type 0
-ManifestPerforms r labels s t a b x = IsFlushed a.outputs → s.reads ≡ unread → IsStdinUnread a.inputs → (c : Content)
-    → IsOf t.reads c → (w : World) → Agrees w b.inputs
-    → let all = content_behavior r labels (clip c) (all_verdicts r (world_at w a.inputs) (clip c)) in
+ManifestPerforms r labels s t a b x = IsFlushed a.outputs → s.reads ≡ unread → (c : Content) → IsOf t.reads c
+    → (w : World) → Agrees w b.inputs → let all = content_behavior r labels (clip c) (all_verdicts r (world_at w a.inputs) (clip c)) in
     PerformsSteps all.steps all.good a b x
 
 -- ---- the laws

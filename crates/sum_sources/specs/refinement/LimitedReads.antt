@@ -1,15 +1,27 @@
 -- What a read up to the limit adds to what was read.
-use Rattle.std.specs.Prelude.{ℕ, ◌≡◌, ◌+◌, ◌^◌, ◌⊎◌, ◌++◌, length, Result, Ok, Err}
-use Rattle.digest_kinds.specs.Basics.{ByteString}
-use Rattle.sum_sources.specs.Contents.{Reads, and_read, Fault, Other}
-use Rattle.sum_sources.specs.Phases.{Unfinished, Failed}
+use Rattle.std.specs.Prelude.{ℕ, zero, suc, ◌≡◌, ◌++◌, length, take, Result, Ok, Err}
+use Rattle.sum_sources.specs.Contents.{Content, Ending, Whole, Broken, Reads, IsOf, clip, Fault}
+use Rattle.sum_sources.specs.Faults.{ByteString}
+use Rattle.sum_sources.specs.Phases.{Phase, Unfinished, AtEnd, Past}
 
--- of an input that hasn't ended: bytes, the end, a fault; or a byte was read that reaches the limit, which counts as one
-abbrev pub AddsLimited : ℕ → Reads → Reads → Result ℕ Fault → ByteString → Type 0
-AddsLimited taken a b (Ok n) buf = b ≡ and_read a 8192 (Ok n) buf
-AddsLimited taken a b (Err f) buf = (b ≡ record a { phase = Failed f }) ⊎ ((f ≡ Other) × (taken + 1 ≡ 2 ^ 61)
-    × (more : ByteString) × (length more ≡ 1) × (b ≡ record { bytes = a.bytes ++ more; phase = Unfinished }))
+-- an input was found to end so, as far as the limit allows
+pub record FindsEnding (a b : Reads) (e : Ending) : Type 0 where
+  pub content : (c : Content) → IsOf b c → clip c ≡ record { bytes = a.bytes; ending = e }
+  pub before : (c : Content) → IsOf b c → IsOf a c
+
+-- an input that hasn't ended gives bytes; or its end; or a fault, or a byte that reaches the limit
+abbrev pub AddsLimited : Reads → Reads → Result ℕ Fault → ByteString → Type 0
+AddsLimited a b (Ok zero) buf = FindsEnding a b Whole
+AddsLimited a b (Ok (suc n)) buf = b ≡ record a { bytes = a.bytes ++ take (suc n) buf }
+AddsLimited a b (Err f) buf = FindsEnding a b (Broken f)
+
+-- and its phase
+abbrev pub IsPhaseOf : Phase → Result ℕ Fault → Type 0
+IsPhaseOf phase (Ok zero) = phase ≡ AtEnd
+IsPhaseOf phase (Ok (suc n)) = phase ≡ Unfinished
+IsPhaseOf phase (Err f) = ¬ (phase ≡ Past)
 
 -- so it is if the input hasn't ended, and has given so many bytes
 pub record ReadsLimited (taken : ℕ) (a b : Reads) (result : Result ℕ Fault) (buf : ByteString) : Type 0 where
-  pub adds : a.phase ≡ Unfinished → AddsLimited taken a b result buf
+  pub adds : a.phase ≡ Unfinished → length a.bytes ≡ taken → AddsLimited a b result buf
+  pub phase : a.phase ≡ Unfinished → IsPhaseOf b.phase result

@@ -1,6 +1,6 @@
 //! The digest of an input.
 ghost use Rattle.std.specs.Prelude.{◌≡◌, [], length, IfOk};
-ghost use Rattle.sum_sources.specs.Contents.{Content, unread, IsOf, IsSameInput, Hashes, clip};
+ghost use Rattle.sum_sources.specs.Contents.{HashesInput};
 
 use crate::inputs::size_limit::read_limited;
 use crate::{Fault, Input, PIECE};
@@ -10,10 +10,7 @@ use digest_kinds::{Digest, Hasher};
 /// bytes; or the fault by which the input ends. An input of `LIMIT` bytes or more is `Fault::Other`.
 pub fn hash_input<I: Input, H: Hasher + Drop>(input: &mut I, hasher: H) -> Result<Digest, Fault>
     requires { H.holds hasher [] }
-    // For each content that the reads of this call are of: its digest, or its fault.
-    ensures digest { (I.state input.old).reads ≡ unread → (c : Content) → IsOf (I.state input.new).reads c
-        → Hashes (H.kind_of hasher) (clip c) result }
-    ensures same { IsSameInput (I.state input.old) (I.state input.new) }
+    ensures { HashesInput (H.kind_of hasher) (I.state input.old) (I.state input.new) result }
 {
     let mut buffer: [u8; PIECE] = [0; PIECE];
     hash_input_over(input, hasher, &mut buffer)
@@ -27,9 +24,7 @@ pub fn hash_input_over<I: Input, H: Hasher + Drop>(
     buffer: &mut [u8; PIECE],
 ) -> Result<Digest, Fault>
     requires { H.holds hasher [] }
-    ensures digest { (I.state input.old).reads ≡ unread → (c : Content) → IsOf (I.state input.new).reads c
-        → Hashes (H.kind_of hasher) (clip c) result }
-    ensures same { IsSameInput (I.state input.old) (I.state input.new) }
+    ensures hashed { HashesInput (H.kind_of hasher) (I.state input.old) (I.state input.new) result }
     ensures len { IfOk result (λ d. length d ≡ (H.kind_of hasher).len) }
 {
     let mut taken = 0;

@@ -1,13 +1,13 @@
 //! Reading up to the limit of 2^61 bytes.
 ghost use Rattle.std.specs.Prelude.{◌≡◌, ◌≤◌, ◌<◌, ◌+◌, ◌^◌, length, IfOk};
-ghost use Rattle.sum_sources.specs.Contents.{InputState, IsSameInput};
+ghost use Rattle.sum_sources.specs.Contents.{IsSameInput};
 ghost use Rattle.sum_sources.specs.refinement.LimitedReads.{ReadsLimited};
 
 use crate::{Fault, Input, PIECE};
 use digest_kinds::LIMIT;
 
-/// Reads as `Input::read`, from an input that has given `taken` bytes so far, fewer than `LIMIT`. At most `LIMIT - 1` of its bytes count.
-/// If it has one byte more, that is `Fault::Other`.
+/// Reads as `Input::read`, from an input that has given `taken` bytes so far, fewer than `LIMIT`. At most `LIMIT - 1` of
+/// its bytes count. If it has one byte more, that is `Fault::Other`.
 pub(crate) fn read_limited<I: Input>(
     input: &mut I,
     taken: &mut u64,
@@ -20,6 +20,8 @@ pub(crate) fn read_limited<I: Input>(
     ensures taken { IfOk result (λ n. taken.new ≡ taken.old + n) }
     ensures more { taken.old ≤ taken.new }
     ensures few { IfOk result (λ _. taken.new < 2 ^ 61) }
+    ensures bytes { taken.new + length (I.state input.old).reads.bytes
+        ≡ taken.old + length (I.state input.new).reads.bytes }
     ensures same { IsSameInput (I.state input.old) (I.state input.new) }
     ensures reads { ReadsLimited taken.old (I.state input.old).reads (I.state input.new).reads result buffer.new }
 {

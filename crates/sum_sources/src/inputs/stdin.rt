@@ -1,76 +1,114 @@
 //! Standard input, which a run gets once.
-ghost use Rattle.std.specs.Prelude.{◌≡◌, true, MatchOption};
-ghost use Rattle.sum_sources.specs.StandardInput.{stdin_taken, put_back};
+ghost use Rattle.std.specs.Prelude.{◌≡◌};
+ghost use Rattle.sum_sources.specs.StandardInput.{Gives, put_back};
 
-use crate::{Fault, Input};
+use crate::{Fault, Input, Phase};
 use std::marker::Model;
 use std::mem;
 
-/// Standard input. Its input can be taken once, and is put back.
 #[derive(Debug, Drop)]
-pub enum Stdin<I> {
-    /// It wasn't taken.
-    Unread(I),
-    /// It was taken, and not put back.
+enum StdinPlace<I> {
+    Untaken(I),
     Taken,
-    /// It was put back.
-    Returned(I),
+    Returned(Reply<I>),
 }
 
-/// The input of standard input, which [`Stdin::take`] gives. It can't be dropped, so whoever took it puts it back.
+/// Standard input. Its input is given once, and is put back. Until then nothing was read of it.
+#[derive(Debug, Drop)]
+pub struct Stdin<I: Input> {
+    place: StdinPlace<I>,
+}
+
+impl<I: Input> Model for Stdin<I> {
+    ghost use Rattle.sum_sources.specs.declared.inputs.stdin.StdinPlace.{StdinPlace};
+    ghost use Rattle.sum_sources.specs.StandardInput.{IsUnreadUntilTaken};
+
+    ghost Value = { StdinPlace I };
+
+    ghost view = { λ s. s.place };
+
+    ghost invariant = { λ s. IsUnreadUntilTaken I.state s.place };
+}
+
+#[derive(Debug, Drop)]
+enum Reply<I> {
+    // the input of standard input
+    First(I),
+    // an empty one, that was read so far
+    Empty(Phase),
+}
+
+/// What [`Stdin::take`] gives: the input of standard input the first time, and an empty one afterwards. It can't be
+/// dropped, so whoever took it puts it back.
 #[derive(Debug)]
 pub struct Given<I> {
-    input: I,
+    reply: Reply<I>,
 }
 
 impl<I> Model for Given<I> {
-    ghost Value = { I };
+    ghost use Rattle.sum_sources.specs.declared.inputs.stdin.Reply.{Reply};
 
-    ghost view = { λ s. s.input };
+    ghost Value = { Reply I };
+
+    ghost view = { λ s. s.reply };
 }
 
 impl<I: Input> Stdin<I> {
-    /// Standard input that gives `input` when it is taken.
+    ghost use Rattle.sum_sources.specs.Contents.{unread};
+
+    /// Standard input that gives `input`, of which nothing was read, when it is taken.
     pub fn new(input: I) -> Self
-        ensures { result ≡ Stdin.Unread input }
+        requires { (I.state input).reads ≡ unread }
+        ensures { result ≡ StdinPlace.Untaken input }
     {
-        Stdin::Unread(input)
+        Stdin {
+            place: StdinPlace::Untaken(input),
+        }
     }
 }
 
 impl<I: Input + Drop> Stdin<I> {
-    /// Returns its input the first time, and nothing afterwards.
-    pub fn take(&mut self) -> Option<Given<I>>
-        ensures { MatchOption result ((stdin_taken self.old ≡ true) × (self.new ≡ self.old))
-            (λ given. (self.old ≡ Stdin.Unread given) × (self.new ≡ Stdin.Taken)) }
+    /// Returns its input the first time, an empty input afterwards.
+    pub fn take(&mut self) -> Given<I>
+        ensures { Gives I.state self.old self.new result }
     {
-        match mem::replace(self, Stdin::Taken) {
-            Stdin::Unread(input) => Some(Given { input }),
-            taken => {
-                *self = taken;
-                None
+        let reply = match mem::replace(&mut self.place, StdinPlace::Taken) {
+            StdinPlace::Untaken(input) => Reply::First(input),
+            place => {
+                self.place = place;
+                Reply::Empty(Phase::Unfinished)
             }
-        }
+        };
+        Given { reply }
     }
 
-    /// Puts back what `take` gave, so that its state is known from then on. If it isn't taken now, what was given is
-    /// dropped.
+    /// Puts back what `take` gave. It is kept if nothing was put back before, and dropped otherwise.
     pub fn put_back(&mut self, given: Given<I>)
         ensures { self.new ≡ put_back self.old given }
     {
-        let Given { input } = given;
-        if let Stdin::Taken = self {
-            *self = Stdin::Returned(input);
+        let Given { reply } = given;
+        if let StdinPlace::Taken = self.place {
+            self.place = StdinPlace::Returned(reply);
         }
     }
 }
 
 impl<I: Input> Input for Given<I> {
-    ghost state = { λ s. I.state s };
+    ghost use Rattle.sum_sources.specs.StandardInput.{given_state};
+    ghost use Rattle.sum_sources.specs.ToldLaws.{given_has_content};
+
+    ghost state = { λ s. given_state I.state s };
 
     fn read(&mut self, buf: &mut [u8]) -> Result<usize, Fault> {
-        self.input.read(buf)
+        match &mut self.reply {
+            Reply::First(input) => input.read(buf),
+            Reply::Empty(phase) => {
+                let end = Ok(0);
+                *phase = phase.after(buf.len(), &end);
+                end
+            }
+        }
     }
 
-    ghost has_content = { I.has_content };
+    ghost has_content = { given_has_content I.state I.has_content };
 }

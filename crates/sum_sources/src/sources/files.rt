@@ -1,7 +1,6 @@
 //! Real files.
 ghost use Rattle.std.specs.Prelude.{◌≡◌, IfOk};
 ghost use Rattle.std.specs.Str.{IsUtf8};
-ghost use Rattle.sum_sources.specs.Sources.{after_opening, opened_file};
 ghost use Rattle.sum_sources.specs.Logs.{no_openings};
 
 use crate::fault::fault_of;
@@ -19,13 +18,11 @@ pub struct Files<R> {
 }
 
 impl<R> Model for Files<R> {
-    ghost use Rattle.sum_sources.specs.Sources.{SourceState};
+    ghost use Rattle.sum_sources.specs.Logs.{SourceNotes};
 
-    ghost Value = { SourceState };
+    ghost Value = { SourceNotes };
 
-    ghost use Rattle.std.specs.Prelude.{None};
-
-    ghost view = { λ s. record s.log.state { told = None } };
+    ghost view = { λ s. s.log.state };
 }
 
 impl<R: rt::Files + Drop> Files<R> {
@@ -52,7 +49,10 @@ where
 {
     type File = FromRead<R::File>;
 
-    ghost state = { λ s. s };
+    ghost use Rattle.sum_sources.specs.Logs.{untold};
+    ghost use Rattle.sum_sources.specs.SourceLaws.{untold_has_answers};
+
+    ghost state = { λ s. untold s };
 
     /// Opens the file. A name that isn't UTF-8 is `Fault::Other`, since the runtime's paths are texts. Any other fault
     /// is the system's. `OpenFault::Memory` if the runtime has no memory for the call.
@@ -82,4 +82,6 @@ where
     fn close_file(&mut self, file: FromRead<R::File>) {
         self.log = self.log.and(&Note::Closed(file.log()));
     }
+
+    ghost has_answers = { untold_has_answers };
 }

@@ -1,6 +1,6 @@
 //! The trait of a source of files, and why a file could not be opened.
 ghost use Rattle.std.specs.Prelude.{◌≡◌, IfOk};
-ghost use Rattle.sum_sources.specs.Sources.{SourceState, IsOpen, opened_file, after_opening, after_closing};
+ghost use Rattle.sum_sources.specs.Sources.{SourceState, HasAnswers, IsOpen, opened_file, after_opening, after_closing};
 
 use crate::{Fault, Input};
 use thiserror::Error;
@@ -20,7 +20,7 @@ pub trait Source {
     /// The input that reads an open file. If its type isn't `Drop`, whoever opened it has to close it.
     type File: Input;
 
-    /// What was asked of it, and what is known of the answers. A source that isn't in memory keeps it for proofs alone.
+    /// What was asked of it, and what it answered. A source that isn't in memory keeps it for proofs alone.
     ghost state: { Self → SourceState };
 
     /// Opens the file of that name. `OpenFault::Fault` if it can't be opened. `OpenFault::Memory` only if memory was
@@ -33,4 +33,7 @@ pub trait Source {
     fn close_file(&mut self, file: Self::File)
         requires { IsOpen (state self.old) (Self.File.state file) }
         ensures { state self.new ≡ after_closing (state self.old) (Self.File.state file) };
+
+    /// Law: what it answered is of some answers, of those in memory if they are there.
+    ghost has_answers: { (s : Self) → HasAnswers (state s) };
 }

@@ -1,8 +1,7 @@
-//! What a source of files was asked, and what is known of the answers, for proofs alone.
+//! What a source of files was asked, and what it answered, for proofs alone.
 ghost use Rattle.std.specs.Prelude.{◌≡◌};
 ghost use Rattle.std.specs.Borrow.{ftrue};
-ghost use Rattle.sum_sources.specs.Sources.{SourceState, opened_file};
-ghost use Rattle.sum_sources.specs.Logs.{no_openings};
+ghost use Rattle.sum_sources.specs.Logs.{SourceNotes, no_openings, next_file};
 
 use crate::Fault;
 use crate::inputs::read_log::ReadLog;
@@ -11,7 +10,7 @@ use std::marker::Model;
 /// The openings of a source. Only proofs see it: it takes no room, and its methods do nothing.
 #[derive(Debug, Drop)]
 pub struct SourceLog {
-    pub ghost state: { SourceState },
+    pub ghost state: { SourceNotes },
 }
 
 impl Model for SourceLog {
@@ -37,7 +36,7 @@ pub enum Note<'a> {
 impl SourceLog {
     ghost use Rattle.sum_sources.specs.LogNotes.{noted};
 
-    /// No openings, of a source that isn't in memory.
+    /// No openings.
     pub fn new() -> SourceLog
         ensures { result.state ≡ no_openings }
     {
@@ -53,7 +52,7 @@ impl SourceLog {
 
     /// No reads yet of the file that is opened next, by this name.
     pub fn file(&self, name: &[u8]) -> ReadLog
-        ensures { result.state ≡ opened_file self.now.state name.now }
+        ensures { result.state ≡ next_file self.now.state name.now }
     {
         ReadLog {}
     }

@@ -1,10 +1,9 @@
 //! A source of files in memory.
-ghost use Rattle.std.specs.Prelude.{◌≡◌, ◌++◌, ◌∷◌, [], OnOk, OnErr, map, max, slice_get};
+ghost use Rattle.std.specs.Prelude.{◌≡◌, ◌++◌, ◌∷◌, [], OnOk, OnErr, length, map, max, slice_get};
 ghost use Rattle.std.specs.Option.{option_map};
 ghost use Rattle.sum_sources.specs.InMemory.{told_source};
-ghost use Rattle.sum_sources.specs.SourceLaws.{AreToldOpenings};
 ghost use Rattle.sum_sources.specs.Sources.{first_answer};
-ghost use Rattle.sum_sources.specs.refinement.ToldPairs.{pair_of, answer_value};
+ghost use Rattle.sum_sources.specs.refinement.ToldPairs.{pair_of, answer_value, AddsName};
 
 use crate::sources::source_log::{Note, SourceLog};
 use crate::{Ending, Fault, Input, NoRoom, OpenFault, Source, Told};
@@ -24,9 +23,11 @@ pub enum Answer<'a> {
 struct StoredPair<'a, A: Allocator> {
     name: Vec<u8, A>,
     answer: Answer<'a>,
+    // how many names were asked before it was added
+    from: usize,
 }
 
-/// A source in memory: a list of names, each with its answer. Contracts know its files.
+/// A source in memory: a list of names, each with its answer.
 #[derive(Debug, Drop)]
 pub struct ToldSource<'a, A: Allocator + Copy> {
     pairs: Vec<StoredPair<'a, A>, A>,
@@ -39,29 +40,31 @@ pub struct ToldSource<'a, A: Allocator + Copy> {
 impl<'a, A: Allocator + Copy> Model for ToldSource<'a, A> {
     ghost use Rattle.std.specs.Prelude.{map};
     ghost use Rattle.sum_sources.specs.InMemory.{ToldFiles};
-    ghost use Rattle.sum_sources.specs.refinement.ToldPairs.{pair_of};
+    ghost use Rattle.sum_sources.specs.refinement.ToldPairs.{pair_of, ToldSourceInvariant};
 
     ghost Value = { ToldFiles };
 
     ghost view = { λ s. record {
       pairs = map pair_of s.pairs.items;
-      asked = map (λ v. v.items) s.asked.items;
       piece = s.piece;
       openings = s.log.state.openings;
       refusals = s.log.state.refusals;
     } };
 
-    ghost use Rattle.sum_sources.specs.SourceLaws.{AreToldOpenings};
-
-    ghost invariant = { λ s. AreToldOpenings (map pair_of s.pairs.items) s.log.state.openings };
+    ghost invariant = { λ s. ToldSourceInvariant (map pair_of s.pairs.items) (map (λ v. v.items) s.asked.items)
+        s.log.state.openings };
 }
 
-// The answer of the first pair with the name.
-fn answer_to<'a, A: Allocator>(pairs: &[StoredPair<'a, A>], name: &[u8]) -> Answer<'a>
-    ensures { answer_value result ≡ first_answer (map pair_of pairs.now) name.now }
+// The answer of the first pair with the name that was added when so many names had been asked.
+fn answer_to<'a, A: Allocator>(
+    pairs: &[StoredPair<'a, A>],
+    asked: usize,
+    name: &[u8],
+) -> Answer<'a>
+    ensures { answer_value result ≡ first_answer (map pair_of pairs.now) asked name.now }
 {
     for pair in pairs {
-        if pair.name.as_slice() == name {
+        if pair.from <= asked && pair.name.as_slice() == name {
             return pair.answer;
         }
     }
@@ -71,13 +74,7 @@ fn answer_to<'a, A: Allocator>(pairs: &[StoredPair<'a, A>], name: &[u8]) -> Answ
 impl<'a, A: Allocator + Copy> ToldSource<'a, A> {
     /// A source without names, whose files give at most `piece` bytes a read (0 counts as 1).
     pub fn new(alloc: A, piece: usize) -> ToldSource<'a, A>
-        ensures { result ≡ record {
-          pairs = [];
-          asked = [];
-          piece = max piece 1;
-          openings = [];
-          refusals = 0;
-        } }
+        ensures { result ≡ record { pairs = []; piece = max piece 1; openings = []; refusals = 0 } }
     {
         ToldSource {
             pairs: Vec::new(alloc),
@@ -88,46 +85,31 @@ impl<'a, A: Allocator + Copy> ToldSource<'a, A> {
         }
     }
 
-    /// Adds a pair of a name and its answer, before any name is opened. An earlier pair with that name still answers for it. `NoRoom` if memory is
+    /// Adds a pair of a name and its answer. An earlier pair with that name still answers for it. `NoRoom` if memory is
     /// refused; the pairs are then as before.
     pub fn add(&mut self, name: &[u8], answer: Answer<'a>) -> Result<(), NoRoom>
-        requires { self.old.openings ≡ [] }
         ensures ok { OnOk result (self.new ≡ record self.old {
-          pairs = self.old.pairs ++ record { name = name.now; answer = answer_value answer.entry } ∷ [];
+          pairs = self.old.pairs ++ record {
+            name = name.now;
+            answer = answer_value answer.entry;
+            from = length self.old.openings;
+          } ∷ [];
         }) }
         ensures err { OnErr result (self.new ≡ self.old) }
     {
+        let from = self.asked.len();
         let Ok(name) = Vec::from_slice(self.alloc, name) else {
             return Err(NoRoom);
         };
-        match self.pairs.push(StoredPair { name, answer }) {
+        match self.pairs.push(StoredPair { name, answer, from }) {
             Ok(()) => Ok(()),
             Err(_) => Err(NoRoom),
         }
     }
 
-    // Records the name as asked.
-    fn record_asked(&mut self, name: &[u8]) -> Result<(), NoRoom>
-        ensures ok { OnOk result (self.new ≡ record self.old { asked = self.old.asked ++ name.now ∷ [] }) }
-        ensures err { OnErr result (self.new ≡ self.old) }
-    {
-        let asked = match Vec::from_slice(self.alloc, name) {
-            Ok(name) => self.asked.push(name).is_ok(),
-            Err(_) => false,
-        };
-        if asked { Ok(()) } else { Err(NoRoom) }
-    }
-
-    /// What was read of the files is of their contents, and each fault is the one that was told.
-    pub fn agrees(&self)
-        ensures { AreToldOpenings self.now.pairs self.now.openings }
-    {
-        let _ = &self.log;
-    }
-
     /// The name at place `i`, from 0, of the names asked so far.
     pub fn asked_name(&self, i: usize) -> Option<&[u8]>
-        ensures { option_map (λ n. n.now) result ≡ slice_get self.now.asked i }
+        ensures { option_map (λ n. n.now) result ≡ slice_get (map (λ o. o.name) self.now.openings) i }
     {
         match self.asked.get(i) {
             Some(name) => Some(name.as_slice()),
@@ -136,17 +118,30 @@ impl<'a, A: Allocator + Copy> ToldSource<'a, A> {
     }
 }
 
+// Adds a name to the names asked.
+fn add_name<A: Allocator + Copy>(alloc: A, asked: &mut Vec<Vec<u8, A>, A>, name: &[u8]) -> bool
+    ensures { AddsName name.now (map (λ v. v.items) asked.old.items) (map (λ v. v.items) asked.new.items) result }
+{
+    match Vec::from_slice(alloc, name) {
+        Ok(name) => asked.push(name).is_ok(),
+        Err(_) => false,
+    }
+}
+
 impl<'a, A: Allocator + Copy> Source for ToldSource<'a, A> {
+    ghost use Rattle.sum_sources.specs.SourceLaws.{told_has_answers};
+
     type File = Told<'a>;
 
     ghost state = { λ s. told_source s };
 
     fn open_file(&mut self, name: &[u8]) -> Result<Told<'a>, OpenFault> {
-        let Ok(()) = self.record_asked(name) else {
+        let before = self.asked.len();
+        if !add_name(self.alloc, &mut self.asked, name) {
             self.log = self.log.and(&Note::Refused);
             return Err(OpenFault::Memory);
-        };
-        match answer_to(&self.pairs, name) {
+        }
+        match answer_to(&self.pairs, before, name) {
             Answer::Fault(fault) => {
                 self.log = self.log.and(&Note::Failed(name, fault));
                 Err(OpenFault::Fault(fault))
@@ -162,4 +157,6 @@ impl<'a, A: Allocator + Copy> Source for ToldSource<'a, A> {
     fn close_file(&mut self, file: Told<'a>) {
         self.log = self.log.and(&Note::Closed(file.log()));
     }
+
+    ghost has_answers = { told_has_answers };
 }

@@ -8,6 +8,7 @@ abbrev pub invariant-loop-hasher : goal.invariant-loop-hasher
 invariant-loop-hasher g l = record {
   read : (m : List ℕ) × g.H.Hasher.holds l.hasher m × ((g.I.Input.state l.fn.input).reads ≡ unread
       → (g.I.Input.state l.input).reads ≡ record { bytes = m; phase = Unfinished });
+  phase : (g.I.Input.state l.fn.input).reads.phase ≡ Unfinished → (g.I.Input.state l.input).reads.phase ≡ Unfinished;
   same : IsSameInput (g.I.Input.state l.fn.input) (g.I.Input.state l.input);
   taken : g.H.Hasher.taken_of l.hasher ≡ l.taken;
   few : l.taken < 2 ^ 61;

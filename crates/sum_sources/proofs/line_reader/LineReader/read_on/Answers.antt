@@ -1,10 +1,10 @@
-use Rattle.std.proofs.Common.{rules, arith, refl, ap, append-nil, inr}
+use Rattle.std.proofs.Common.{rules, arith, refl, ap, sym, append-nil, inr, ◌∙◌}
 use Rattle.std.proofs.lemmas.Grind.{common_steps}
 use Rattle.std.proofs.lemmas.List.{nil_from_length}
 use Rattle.sum_sources.specs.ManifestLines.{HasNoNewline}
-use Rattle.sum_sources.specs.Contents.{Reads}
-use Rattle.sum_sources.specs.LineReaders.{IsReading}
-use Rattle.sum_sources.proofs.ReadOnLemmas.{not_ahead, HasRead, HasRead-more, HasRead-filled, ends_line, ended_whole, ended_broken, ends_empty, ends_last, ends_fault, ends_memory}
+use Rattle.sum_sources.specs.Contents.{Whole, Broken, Reads}
+use Rattle.sum_sources.specs.LineReaders.{IsReading, LineReaderValue}
+use Rattle.sum_sources.proofs.ReadOnLemmas.{not_ahead, HasRead, HasRead-given, HasRead-more, HasRead-filled, ends_line, ends_memory, has_ended, ends_empty, ends_last, ends_fault}
 use Rattle.sum_sources.proofs.line_reader.LineReader.read_on.Goals.{In-Ok-false}
 use Rattle.sum_sources.proofs.line_reader.LineReader.read_on.Given as given
 use Rattle.sum_sources.proofs.line_reader.LineReader.read_on.Goals as goal
@@ -14,7 +14,9 @@ pub returns-in-Ok-true-clause-line : goal.returns-in-Ok-true-clause-line
 returns-in-Ok-true-clause-line g c =
     let piece = rw c.in-Ok-true.field-0-test at c.in-Ok-true.ensures.piece in
     let i = c.loop-self.invariant in
-    λ reading. ends_line (i.read reading) i.plain c.in-Ok-true.ensures.same c.take_piece.ensures.few.0 piece
+    let same = c.in-Ok-true.ensures.same in
+    λ reading. ends_line (i.read reading) i.plain same c.take_piece.ensures.few.0
+    (ap (λ (r : LineReaderValue _). r.final_answer) same ∙ i.going) piece
 
 -- memory was refused
 pub returns-in-Err-clause-line : goal.returns-in-Err-clause-line
@@ -29,9 +31,11 @@ moved : (g : given.Over) (c : In-Ok-false g)
     → HasRead g.I.Input.state c.args.self.now c.take_piece.new.self c.take_piece.new.line.items)
     × HasNoNewline c.take_piece.new.line.items
 moved g c =
-    let piece = rw c.in-Ok-false.field-0-test at c.in-Ok-false.ensures.piece in (
-      λ reading. rw piece.2 (HasRead-more _ (c.loop-self.invariant.read reading) c.in-Ok-false.ensures.same
-          (rw (piece.1, append-nil) refl)),
+    let piece = rw c.in-Ok-false.field-0-test at c.in-Ok-false.ensures.piece in
+    let same = c.in-Ok-false.ensures.same in (
+      λ reading. rw piece.2 (HasRead-more _ c.take_piece.new.self.ahead same (c.loop-self.invariant.read reading)
+          (omega (arith, c.take_piece.ensures.few.0, ap (λ (r : LineReaderValue _). r.taken) same))
+          (rw piece.1 (sym (append-nil c.loop-self.self.ahead)))),
       grind (arith, common_steps, c.loop-self.invariant.plain, piece.0),
     )
 
@@ -42,11 +46,12 @@ loop-self-preserved g c =
     let piece = rw c.in-Ok-false.field-0-test at c.in-Ok-false.ensures.piece in
     let fills = rw c.in-Ok-true-fill.field-0-test at c.in-Ok-true-fill.ensures.reads in
     record {
-      read = λ reading. let h = read reading in HasRead-filled h piece.1 (fills (ap (λ (r : Reads). r.phase) h.read))
-          c.in-Ok-true-fill.ensures.taken.0 c.in-Ok-true-fill.ensures.final_answer;
+      read = λ reading. let h = read reading in let (going, size) = HasRead-given h in
+          HasRead-filled h piece.1 (fills going size) c.in-Ok-true-fill.ensures.taken.0;
       going = search rules;
       sum = search rules;
       plain = plain;
+      taken = search rules;
       same = search rules;
       lines = search rules;
       unread = inr (not_ahead _ _ c.loop-self.invariant.unread piece.0);
@@ -60,9 +65,10 @@ returns-then-is_empty-clause-line g c =
     let fills = rw c.in-Ok-false-fill.field-0-test at c.in-Ok-false-fill.ensures.reads in
     λ reading.
     let h = read reading in
-    ends_empty (ended_whole c.fill.new.self h piece.1 c.take_piece.ensures.few.0 (search rules) (search rules)
-    (fills (ap (λ (r : Reads). r.phase) h.read)) (rw (← c.self-in-loop-self.view_is) refl))
-    (nil_from_length _ (search rules)) _
+    let (going, size) = HasRead-given h in
+    let (ends, phase) = fills going size in
+    ends_empty (has_ended c.fill.new.self _ Whole h piece.1 ends phase (search rules) (search rules) (λ w. search rules)
+    (rw (← c.self-in-loop-self.view_is) refl)) (nil_from_length _ (search rules)) _
 
 -- the input has ended after a last line
 pub returns-in-Ok-false-fill-clause-line : goal.returns-in-Ok-false-fill-clause-line
@@ -72,8 +78,10 @@ returns-in-Ok-false-fill-clause-line g c =
     let fills = rw c.in-Ok-false-fill.field-0-test at c.in-Ok-false-fill.ensures.reads in
     λ reading.
     let h = read reading in
-    ends_last (ended_whole c.fill.new.self h piece.1 c.take_piece.ensures.few.0 (search rules) (search rules)
-    (fills (ap (λ (r : Reads). r.phase) h.read)) (rw (← c.self-in-loop-self.view_is) refl)) plain (search rules)
+    let (going, size) = HasRead-given h in
+    let (ends, phase) = fills going size in
+    ends_last (has_ended c.fill.new.self _ Whole h piece.1 ends phase (search rules) (search rules) (λ w. search rules)
+    (rw (← c.self-in-loop-self.view_is) refl)) plain (search rules)
 
 -- the input has a fault
 pub returns-in-Err-fill-clause-line : goal.returns-in-Err-fill-clause-line
@@ -83,5 +91,7 @@ returns-in-Err-fill-clause-line g c =
     let e = c.in-Err-fill.ensures in
     λ reading.
     let h = read reading in
-    ends_fault (ended_broken h piece.1 c.take_piece.ensures.few.0 (e.fault refl).0 (e.fault refl).1
-    (e.reads (ap (λ (r : Reads). r.phase) h.read)) e.final_answer) plain _
+    let (going, size) = HasRead-given h in
+    let (ends, phase) = e.reads going size in
+    ends_fault (has_ended c.fill.new.self c.fill.new.self (Broken _) h piece.1 ends phase (e.fault refl).0
+    (e.fault refl).1 (λ w. cc) (ap (λ a. record c.fill.new.self { final_answer = a }) e.final_answer)) plain _

@@ -12,6 +12,8 @@ invariant-loop-self g l = record {
   going : l.self.final_answer ≡ None;
   sum : consumed_count l.self ≡ consumed_count l.fn.self + length l.line.items;
   plain : HasNoNewline l.line.items;
+  taken : l.self.taken + length (g.I.Input.state l.fn.self.input).reads.bytes
+      ≡ l.fn.self.taken + length (g.I.Input.state l.self.input).reads.bytes;
   same : IsSameInput (g.I.Input.state l.fn.self.input) (g.I.Input.state l.self.input);
   lines : l.self.lines ≡ l.fn.self.lines;
   unread : (l.self ≡ l.fn.self) ⊎ HasNoNewline l.fn.self.ahead;

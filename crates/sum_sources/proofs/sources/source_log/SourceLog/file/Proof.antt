@@ -1,6 +1,6 @@
 -- `file` makes the empty struct, with the state that its clause names.
 use Rattle.sum_sources.proofs.LogSteps.{[], ◌∷◌, refl, proved, ftrue, named, vstruct, vnil, ‵, raw, ◌⊛◌, ◌$◌, ◌∵◌, !, qed, move, keep, split, suffices, done, agg, no_more, returns, enter, alloc_all, pass_all, free_all, look_at, sets, yes, owns, Valss, shr_vals, shr_Tells, shr_slice_vals, shr_slice_Tells, u8, pure_i, plain, types_at, alive, says, stay_none_ref, stay_none_slice, Stays, ends_at, Goes-none_ref, Goes-none_slice}
-use Rattle.sum_sources.specs.Sources.{opened_file}
+use Rattle.sum_sources.specs.Logs.{next_file}
 use Rattle.sum_sources.specs.contracts.sources.source_log.SourceLog.{the_row as Asks}
 use Rattle.sum_sources.specs.contracts.inputs.read_log.ReadLog.{the_row as R}
 use Rattle.sum_sources.specs.contracts.sources.source_log.SourceLog.file as f
@@ -17,7 +17,7 @@ file_spec 𝓤 𝓛 𝓜 𝓡 wired =
     f.Key.name code.function (code.unfolded 𝓤 𝓛.H 𝓜 𝓡 wired)
     (λ κs. (shr_vals, (shr_slice_vals, tt))) (λ κs. (shr_Tells (named 0) κs.0 Asks, (shr_slice_Tells (named 1) κs.1.0 u8, tt)))
     (λ κs qs bounds a g are.
-    let made : R.Denot = record { state = opened_file a.0.now.state a.1.0.now } in
+    let made : R.Denot = record { state = next_file a.0.now.state a.1.0.now } in
     let vss : Valss (types_at f.signature.params κs) = (shr_vals a.0, (shr_slice_vals a.1.0, tt)) in
     qed 𝓛 ((raw (alive 𝓛 f.signature κs qs) ⊛ ‵ (owns (types_at f.signature.params κs) a vss)) ∷ ‵ ftrue ∷ []) ∵
     keep ! (0 ∷ []) $ split ! $ enter ! _ _ _ _ _ $ alloc_all ! (λ l. pass_all ! refl ((tt, tt), ((tt, (tt, (record { fits = are.1.0.0.1.0 }, tt))), tt)) $

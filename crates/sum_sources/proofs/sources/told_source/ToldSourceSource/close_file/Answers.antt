@@ -1,13 +1,28 @@
-use Rattle.std.proofs.Common.{rules, refl}
-use Rattle.sum_sources.specs.InMemory.{told_source}
-use Rattle.sum_sources.specs.StandardInput.{told_file}
-use Rattle.sum_sources.specs.SourceLaws.{told_closed}
-use Rattle.sum_sources.specs.ToldLaws.{told_file_has_content}
+use Rattle.std.proofs.Common.{ap, map, List}
+use Rattle.sum_sources.specs.InMemory.{ToldFiles, told_source}
+use Rattle.sum_sources.specs.Sources.{Opening, SourceState}
+use Rattle.sum_sources.specs.refinement.ToldPairs.{pair_of}
+use Rattle.sum_sources.specs.declared.sources.told_source.ToldSource.TheInside.{Inside}
+use Rattle.sum_sources.proofs.ToldSourceLemmas.{closed_one, closed_state}
 use Rattle.sum_sources.proofs.sources.told_source.ToldSourceSource.close_file.Goals as goal
+
+abbrev value : {A : Type 0} → Inside A → ToldFiles
+value s = record {
+  pairs = map pair_of s.pairs.items;
+  piece = s.piece;
+  openings = s.log.state.openings;
+  refusals = s.log.state.refusals;
+}
 
 -- what was read of the file is of its content
 pub invariant_of-self : goal.invariant_of-self
 invariant_of-self g c =
-    let here = rw (← c.self.view_is) at c.requires in
     rw (c.and-self-inside.ensures, c.log.ensures.opening, c.log.ensures.reads)
-    (told_closed _ _ (told_file c.args.file) refl here (told_file_has_content c.args.file) c.self.invariant)
+    (closed_one (value c.self.inside) _ c.args.file (rw (← c.self.view_is) at c.requires) c.self.invariant)
+
+-- and so the state shows it
+pub returns : goal.returns
+returns g c =
+    rw (← c.self.view_is, c.and-self-inside.ensures, c.log.ensures.opening, c.log.ensures.reads)
+    (ap (λ (os : List Opening). record (told_source (value c.self.inside)) { openings = os })
+    (closed_state (value c.self.inside) _ c.args.file (rw (← c.self.view_is) at c.requires) c.self.invariant))

@@ -1,20 +1,57 @@
-use Rattle.std.proofs.Common.{rules, refl, sym, ap, ◌∙◌, ◌≡◌, Ok, Err, map}
+use Rattle.std.proofs.Common.{rules, refl, ap, ◌≡◌, Ok, Err, Some, map, List, length}
+use Rattle.sum_sources.specs.Sources.{Opening, SourceState}
 use Rattle.sum_sources.specs.Sources.{first_answer}
-use Rattle.sum_sources.specs.SourceLaws.{told_more}
-use Rattle.sum_sources.specs.refinement.ToldPairs.{pair_of, answer_value}
+use Rattle.sum_sources.specs.declared.sources.told_source.ToldSource.TheInside.{Inside}
+use Rattle.sum_sources.specs.refinement.ToldPairs.{pair_of}
+use Rattle.sum_sources.proofs.ToldSourceLemmas.{opened_one, opened_state, count_asked, told_same}
+use Rattle.sum_sources.proofs.sources.told_source.ToldSourceSource.open_file.Goals.{In-Fault, In-Content}
+use Rattle.sum_sources.proofs.sources.told_source.ToldSourceSource.open_file.Given as given
 use Rattle.sum_sources.proofs.sources.told_source.ToldSourceSource.open_file.Goals as goal
 
--- the fault is the answer
+-- the answer to the opening that has so many before it: a fault, or a content
+fault : (g : given.Over) (c : In-Fault g) → first_answer (map pair_of c.self.inside.pairs.items)
+    (length c.self.inside.log.state.openings) c.args.name.now ≡ Err c.in-Fault.fault
+fault g c = rw (← count_asked _ _ _ c.self.invariant.asked) (search rules)
+
+content : (g : given.Over) (c : In-Content g) → first_answer (map pair_of c.self.inside.pairs.items)
+    (length c.self.inside.log.state.openings) c.args.name.now
+    ≡ Ok (record { bytes = c.in-Content.content.now; ending = c.in-Content.ending })
+content g c = rw (← count_asked _ _ _ c.self.invariant.asked) (search rules)
+
 pub invariant_of-self-in-Fault : goal.invariant_of-self-in-Fault
 invariant_of-self-in-Fault g c =
-    let answer : first_answer (map pair_of c.self.inside.pairs.items) c.args.name.now ≡ Err c.in-Fault.fault =
-    search rules in
-    rw c.and-self-inside-in-Fault.ensures (told_more _ _ _ c.self.invariant (rw answer refl))
+    let is = fault g (goal.at.invariant_of-self-in-Fault g c).In-Fault in
+    rw (c.if-not-add_name.ensures, c.and-self-inside-in-Fault.ensures)
+    (opened_one _ _ _ _ c.self.invariant (rw is refl))
 
--- the file has the content of the answer
 pub invariant_of-self-in-Content : goal.invariant_of-self-in-Content
 invariant_of-self-in-Content g c =
-    let answer : first_answer (map pair_of c.self.inside.pairs.items) c.args.name.now
-    ≡ Ok (record { bytes = c.in-Content.content.now; ending = c.in-Content.ending }) =
-    search rules in
-    rw c.and-self-inside-in-Content.ensures (told_more _ _ _ c.self.invariant (_, answer))
+    let is = content g (goal.at.invariant_of-self-in-Content g c).In-Content in
+    rw (c.if-not-add_name.ensures, c.and-self-inside-in-Content.ensures)
+    (opened_one _ _ _ _ c.self.invariant (rw is refl))
+
+-- and so the state shows it
+abbrev with : {A : Type 0} → Inside A → List Opening → SourceState
+with s os = record {
+  told = Some (map pair_of s.pairs.items);
+  openings = os;
+  refusals = s.log.state.refusals;
+}
+
+pub returns-in-Fault-clause-state : goal.returns-in-Fault-clause-state
+returns-in-Fault-clause-state g c =
+    let is = fault g (goal.at.returns-in-Fault-clause-state g c).In-Fault in
+    rw (← c.self.view_is, c.and-self-inside-in-Fault.ensures)
+    (ap (with c.self.inside) (opened_state _ _ _ _ c.self.invariant (rw is refl)))
+
+pub returns-in-Content-clause-state : goal.returns-in-Content-clause-state
+returns-in-Content-clause-state g c =
+    let is = content g (goal.at.returns-in-Content-clause-state g c).In-Content in
+    rw (← c.self.view_is, c.and-self-inside-in-Content.ensures)
+    (ap (with c.self.inside) (opened_state _ _ _ _ c.self.invariant (rw is refl)))
+
+-- the file has the content of the answer
+pub returns-in-Content-clause-file : goal.returns-in-Content-clause-file
+returns-in-Content-clause-file g c =
+    let is = content g (goal.at.returns-in-Content-clause-file g c).In-Content in
+    rw (c.opened-file.ensures, c.file.ensures, ← c.self.view_is, told_same _ 0 _ c.self.invariant.told, is) refl
