@@ -38,6 +38,18 @@ class Documents(Case):
         self.assertEqual(sorted(named), sorted((crate, file[:-len(".edit")]) for crate, file in there),
                          "tools/refusals.py makes the table anew")
 
+    def test_refusals(self):
+        """tools/refusals.py writes nothing if a function that it names has no clause of that name."""
+        page, code = text_of("docs", "TESTING.md"), text_of("crates", "sum_lines", "src", "escape.rt")
+        place = code[:code.index("fn first_escaped")].count("\n") + 1
+        for goal in ("returns-clause-bytes`", "returns-in-Some-clause-escaped", "returns`"):
+            said = f"refused, as it must be: note: src/escape.rt:{place}:1: it is not proved (`{goal}"
+            self.write("said", f"rt: must-fail sum_lines/a.edit: {said}\n")
+            ran = self.run_command([os.path.join(TOP, "tools", "refusals.py"), self.path("said")])
+            self.assertEqual((ran.status, ran.err.decode()),
+                             (1, f"sum_lines/a.edit: first_escaped has no clause as in {said}\n"))
+        self.assertEqual(text_of("docs", "TESTING.md"), page)
+
     def test_text(self):
         """`--text` begins with the headline, counted as on the page, and goes down to BLAKE2b."""
         ran = self.run_command([os.path.join(TOP, "tools", "believed.py"), "--text"])
