@@ -20,14 +20,12 @@ class Documents(Case):
         self.assertEqual(believed.in_refinement(), [])
 
     def test_contracts_that_are_quoted(self):
-        """docs/PROMISES.md shows the clauses of `run` and of `command` as they are, and docs/LIBRARY.md `same`."""
-        code = Code()
-        for page, crate, names in (("PROMISES", "digests", ("run", "command")), ("LIBRARY", "example_same", ("same",))):
-            for name in names:
-                text = code.function(crate, name).text.strip()
-                contract = re.sub(r"(?m)^ +", "", text[text.index("ensures"):] if page == "PROMISES" else text)
-                shown = re.sub(r"(?m)^ +//.*\n|^ +", "", text_of("docs", f"{page}.md"))
-                self.assertTrue(contract in shown, f"docs/{page}.md doesn't show the contract of {name} as it is")
+        """docs/PROMISES.md shows the clauses of `run` and of `command` as they are."""
+        shown = re.sub(r"(?m)^ +//.*\n|^ +", "", text_of("docs", "PROMISES.md"))
+        for name in ("run", "command"):
+            text = Code().function("digests", name).text.strip()
+            contract = re.sub(r"(?m)^ +", "", text[text.index("ensures"):])
+            self.assertTrue(contract in shown, f"docs/PROMISES.md doesn't show the contract of {name} as it is")
 
     def test_wrong_versions(self):
         """The table of docs/TESTING.md has each wrong version once, in a row of its crate."""
