@@ -118,8 +118,10 @@ module _ {I : Type 0} (state : I → InputState) (first : CheckerValue I) (m : S
     labels = refl;
     flushed = λ flushed. flushed;
     reading = λ reading. reading;
-    happened = λ flushed reading c of w agrees.
-        done_none (left (state_at first.cursor (remaining first.cursor.reader c) (world_at w m.inputs))) m;
+    happened = λ flushed reading. record {
+      holds = λ c of w agrees.
+          done_none (left (state_at first.cursor (remaining first.cursor.reader c) (world_at w m.inputs))) m;
+    };
   }
 
   -- after a step more, which returned x, P holds if it follows of what happened before and of the step
@@ -129,11 +131,15 @@ module _ {I : Type 0} (state : I → InputState) (first : CheckerValue I) (m : S
       → ((a b d : CheckState) → HasDoneUpTo (left a) (left b) m n
       → StepIs first.cursor.rules first.labels vector b d n o x → P a d)
       → HoldsUpTo next.cursor o P
-  one_more_step {q = q} {n = n} next o vector x h advances step follows = λ flushed reading c of w agrees.
+  one_more_step {q = q} {n = n} next o vector x h advances step follows = λ flushed reading.
       let here = h.reading reading in
-      let before = h.happened flushed reading c (advances.verdict.cursor.before here c of) w
-      (agrees_before agrees advances.verdict.reads) in
-      follows _ _ _ before (rw (h.rules, h.labels) at (step (h.flushed flushed) here c of w agrees))
+      let before = h.happened flushed reading in
+      let stepped = step (h.flushed flushed) here in
+      record {
+        holds = λ c of w agrees.
+            follows _ _ _ (before.holds c (advances.verdict.cursor.before here c of) w
+            (agrees_before agrees advances.verdict.reads)) (rw (h.rules, h.labels) at (stepped.holds c of w agrees));
+      }
 
   -- a step that goes on comes one line further
   pub HasComeTo-more : (q next : CheckerValue I) (n o : StreamsState) (vector : List ℕ) → HasComeTo q n
@@ -165,7 +171,7 @@ module _ {I : Type 0} (state : I → InputState) (first : CheckerValue I) (m : S
       ≡ manifest_behavior first.cursor.rules first.labels (clip c) (world_at w m.inputs) =
       behavior-initial first.cursor.rules first.labels start c (world_at w m.inputs) in
       subst (λ (b : Behavior). PerformsSteps b.steps b.good m o x) all
-      (ended flushed (start.reading unread) c of w agrees)
+      ((ended flushed (start.reading unread)).holds c of w agrees)
 
   -- ---- how far the manifest's input was read
 

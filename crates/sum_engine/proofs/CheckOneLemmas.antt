@@ -1,5 +1,5 @@
 -- `check_one`: a manifest is opened, its checker runs to its end, and it is closed.
-use Rattle.std.proofs.Common.{rules, ◌≡◌, ℕ, Bool, true, false, List, [], ◌∷◌, Result, Ok, Err, Some, None, cond, refl, codes, ◌++◌, ◌∙◌, inl, sym, map, Option, append_assoc, append-nil}
+use Rattle.std.proofs.Common.{rules, ◌≡◌, ℕ, Bool, true, false, List, [], ◌∷◌, Result, Ok, Err, Some, None, cond, refl, ap, codes, ◌++◌, ◌∙◌, inl, sym, map, Option, append_assoc, append-nil}
 use Rattle.std.specs.Prelude.{length}
 use Rattle.std.proofs.lemmas.List.{map-append}
 use Rattle.std.proofs.Math.Bool.{or-false}
@@ -147,7 +147,7 @@ module _ (settings : CheckSettings) (tool name : List ℕ) (a : StreamsState) wh
       let all = check_behavior settings tool (world_at w a.inputs) name in
       let taken : b.inputs.stdin.taken ≡ true = rw stays (gives_taken gives) in
       kept_performs all.steps all.good a b (record b { inputs = n }) x
-      (record { outputs = refl; asked = rw back refl; taken = rw (back, taken) (taken_after b.inputs.stdin t taken); refusals = rw back refl })
+      (record { outputs = refl; asked = rw back refl; taken = ap (λ (m : InputsState). m.stdin.taken) back ∙ taken_after b.inputs.stdin t taken ∙ sym taken; refusals = rw back refl })
       (opened true c m b x w dash (stdin_asked gives name m dash refl refl) (rw dash refl) ran)
 
   -- it could not be opened, and the line of its fault was written, or a prefix of it

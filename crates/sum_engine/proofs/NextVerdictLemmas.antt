@@ -51,7 +51,7 @@ module _ {I : Type 0} (state : I → InputState) (p q : CursorValue I) (reader :
         → AsksFor vector a b (found_verdict x)
         → ((w : World) → Agrees w b → JudgeLineOf (record p { reader = reader }) line vector (world_at w a) x)
         → InEachCheck state p q a b (λ c d. NextVerdictIs p.rules vector c d (found_verdict x))
-    next_verdict-line (Ok found) takes few counted asked judged = rw takes.reader (λ c of w agrees.
+    next_verdict-line (Ok found) takes few counted asked judged = rw takes.reader (record { holds = λ c of w agrees.
         let (next, both) = reads.line c of in
         let is = rw number at (judged w agrees) in
         let first : CheckState = state_at p (remaining p.reader c) (world_at w a) in
@@ -71,11 +71,11 @@ module _ {I : Type 0} (state : I → InputState) (p q : CursorValue I) (reader :
         } in
         let world : world_at w b ≡ after (world_at w a) (asks_of (line_verdict_value vector found)) =
         world_after w a b _ asked in
-        (search (rules, remaining_next p.rules first last vector handled, f, world, counted), handled))
-    next_verdict-line (Err e) takes few counted asked judged = rw takes.reader (λ c of w agrees. (
+        (search (rules, remaining_next p.rules first last vector handled, f, world, counted), handled) })
+    next_verdict-line (Err e) takes few counted asked judged = rw takes.reader (record { holds = λ c of w agrees. (
       refused_world w a b asked,
       line-some (remaining p.reader c) (remaining reader c) line (reads.line c of).0,
-    ))
+    ) })
 
 -- ---- no line remained, or the reader stopped
 
@@ -87,15 +87,17 @@ module _ {I : Type 0} (state : I → InputState) (p q : CursorValue I) (a : Inpu
         → ((c d : Content) → IsNextLine c d n line
         → (lines c ≡ []) × (c.ending ≡ e) × (d ≡ record { bytes = []; ending = e }))
         → InEachCheck state p q a a (HasNoVerdictLeft p.rules e)
-    no_verdict_left e n reads ends = λ c of w agrees.
-        let ended = ends (remaining p.reader c) (remaining q.reader c) (reads.line c of).0 in
-        record {
-          verdicts = rw (lines_now p.rules (remaining p.reader c) now ∙ ended.0) refl;
-          ending = ended.1;
-          world = refl;
-          counts = counts;
-          remaining = ended.2;
-        }
+    no_verdict_left e n reads ends = record {
+      holds = λ c of w agrees.
+          let ended = ends (remaining p.reader c) (remaining q.reader c) (reads.line c of).0 in
+          record {
+            verdicts = rw (lines_now p.rules (remaining p.reader c) now ∙ ended.0) refl;
+            ending = ended.1;
+            world = refl;
+            counts = counts;
+            remaining = ended.2;
+          };
+    }
 
     -- the end
     pub next_verdict-end : ReadsOn state p.reader q.reader (Ok NoMore) line
@@ -106,7 +108,7 @@ module _ {I : Type 0} (state : I → InputState) (p q : CursorValue I) (a : Inpu
     pub next_verdict-stopped : (stop : LineStop) → ReadsOn state p.reader q.reader (Err stop) line
         → InEachCheck state p q a a (λ c d. NextVerdictIs p.rules vector c d (Err stop))
     next_verdict-stopped (Fault f) reads = no_verdict_left (Broken f) (Err (Fault f)) reads (λ c d is. is)
-    next_verdict-stopped Memory reads = λ c of w agrees. (refl, (reads.line c of).0)
+    next_verdict-stopped Memory reads = record { holds = λ c of w agrees. (refl, (reads.line c of).0) }
 
 -- ---- whatever was read
 

@@ -18,6 +18,15 @@ use Rattle.sum_engine.proofs.CountLemmas.{counts_then-nil}
 use Rattle.sum_engine.proofs.RemainingLemmas.{line_step, behavior_by, first_step, found_first, going-before}
 use Rattle.sum_sources.specs.declared.line_reader.LineStop.TheVariants as line_stops
 
+-- what follows of the states of a check
+InEachCheck-map : {I : Type 0} {state : I → InputState} {p q : CursorValue I} {a b : InputsState}
+    {P R : CheckState → CheckState → Type 0} → InEachCheck state p q a b P
+    → ((c : Content) (v w : World) → P (state_at p (remaining p.reader c) v) (state_at q (remaining q.reader c) w)
+    → R (state_at p (remaining p.reader c) v) (state_at q (remaining q.reader c) w))
+    → InEachCheck state p q a b R
+InEachCheck-map {a = a} {b = b} h f =
+    record { holds = λ c of w agrees. f c (world_at w a) (world_at w b) (h.holds c of w agrees) }
+
 -- ---- a step, by the verdict that was found
 
 -- a step of these events, or a prefix of them, by what remains after it
@@ -70,8 +79,7 @@ module _ {I : Type 0} {state : I → InputState} {p q : CursorValue I} (a b : St
         → WritesAndReturns a.outputs b.outputs (end_text q.rules labels e q.counts) [] (Ended outcome) y
         → TakesStep state vector labels p q a b y
     step_end e outcome found asked same sum wrote = λ flushed reading.
-        rw wrote.returns (λ c of z agrees.
-        let (v, w, f) = (world_at z a.inputs, world_at z b.inputs, found reading c of z agrees) in
+        rw wrote.returns (InEachCheck-map (found reading) (λ c v w f.
         let r = p.rules in
         let said = rw (same, f.counts) at (wrote.writes.1 flushed).1 in
         let k = remaining p.reader c in
@@ -81,7 +89,7 @@ module _ {I : Type 0} {state : I → InputState} {p q : CursorValue I} (a b : St
         (record { steps = []; good = outcome }) (Ended outcome) wrote.written
         (ap (behavior_by r labels k.ending p.counts k) f.verdicts
         ∙ rw (counts_then-nil p.counts, f.ending, sum, same, f.counts) refl) refl
-        (HappenedOrPrefix-by a b [] _ [] wrote.written asked said) (λ h. cc))
+        (HappenedOrPrefix-by a b [] _ [] wrote.written asked said) (λ h. cc)))
 
     -- the next verdict was found, and then its text was written, or a prefix of it
     pub step_taken : {E : Type 0} (x : VerdictResult) (w : Result (Unit {0}) E) {y : Result Progress Stop}
@@ -96,8 +104,7 @@ module _ {I : Type 0} {state : I → InputState} {p q : CursorValue I} (a b : St
         let step = line_step p.rules labels 0 j in
         let said = writes_and_returns {a = a.outputs} {b = b.outputs} {err = step.err} {out = step.out} w
         (answered q (Ok (Some v)) Going w refl refl is) (rw did.cursor.rules at wrote) in
-        rw said.returns (λ c of z agrees.
-        let (v, w, f) = (world_at z a.inputs, world_at z b.inputs, found reading c of z agrees) in
+        rw said.returns (InEachCheck-map (found reading) (λ c v w f.
         let k = remaining p.reader c in
         let first = state_at p k v in
         let next = state_at q (remaining q.reader c) w in
@@ -105,7 +112,7 @@ module _ {I : Type 0} {state : I → InputState} {p q : CursorValue I} (a b : St
         (line_step p.rules labels (length k.bytes) j) (remaining_behavior p.rules labels next) Going said.written
         (found_first p.rules labels first next j f.0.first f.0.counts f.1.remaining) (going-before p.rules labels next)
         (HappenedOrPrefix-by _ _ (asks_of j) _ _ said.written did.asked (said.writes.1 flushed).1)
-        (λ is. (refl, f.1)))
+        (λ is. (refl, f.1))))
     -- no line was left; the end is written, and nothing remains
     step_taken (Ok None) w found did wrote kept is =
         let outcome = good q.rules Whole q.counts in
@@ -116,8 +123,7 @@ module _ {I : Type 0} {state : I → InputState} {p q : CursorValue I} (a b : St
         (writes_and_returns w (answered q (Err (line_stops.Fault f)) (Ended false) w refl refl is) wrote)
     -- memory ran out before the verdict; nothing is written, and all remains
     step_taken (Err line_stops.Memory) w found did wrote kept is = λ flushed reading.
-        rw is (λ c of z agrees.
-        let (v, f) = (world_at z a.inputs, found reading c of z agrees) in
+        rw is (InEachCheck-map (found reading) (λ c v w f.
         let k = remaining p.reader c in
         let first = first_step p.rules labels k.ending p.counts k (remaining_verdicts p.rules (state_at p k v)) in
         let outputs = (kept refl).1 in
@@ -127,4 +133,4 @@ module _ {I : Type 0} {state : I → InputState} {p q : CursorValue I} (a b : St
           is = first.2;
           performs = refused_first first.0 [] refl (refused_by a b first.0 (rw (← first.3) at f.1) outputs did.asked);
           going = λ h. cc;
-        })
+        }))

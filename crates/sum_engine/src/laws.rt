@@ -10,7 +10,9 @@ use sum_sources::{Input, Source};
 pub fn some_world<I: Input, S: Source>(inputs: &Inputs<I, S>)
     ensures { SomeWorldAgrees inputs.now }
 {
-    let _ = inputs;
+    // Read, so that the proof sees the parts.
+    let _source = &inputs.source;
+    let _stdin = &inputs.stdin;
 }
 
 /// After k calls of `step` that each handled a line, both outputs grew by exactly the reports of the first k lines,

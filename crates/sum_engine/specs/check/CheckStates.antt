@@ -105,10 +105,10 @@ state_at p c w = record {
 
 -- P holds between the check's states at two places and inputs: of each content of the manifest, and in each world, that
 -- agrees with what was read by then
-abbrev pub InEachCheck : {I : Type 0} → (I → InputState) → CursorValue I → CursorValue I → InputsState → InputsState
-    → (CheckState → CheckState → Type 0) → Type 0
-InEachCheck state p q a b P = (c : Content) → IsOf (state q.reader.input).reads c → (w : World) → Agrees w b
-    → P (state_at p (remaining p.reader c) (world_at w a)) (state_at q (remaining q.reader c) (world_at w b))
+pub record InEachCheck {I : Type 0} (state : I → InputState) (p q : CursorValue I) (a b : InputsState)
+    (P : CheckState → CheckState → Type 0) : Type 0 where
+  pub holds : (c : Content) → IsOf (state q.reader.input).reads c → (w : World) → Agrees w b
+      → P (state_at p (remaining p.reader c) (world_at w a)) (state_at q (remaining q.reader c) (world_at w b))
 
 -- it is at the first line of that input
 pub record IsAtStart {I : Type 0} (state : I → InputState) (p : CursorValue I) (input : I) : Type 0 where
