@@ -12,7 +12,7 @@ use Rattle.sum_sources.specs.declared.inputs.stdin.Reply.{Reply}
 use Rattle.sum_sources.specs.declared.inputs.stdin.Reply.TheVariants.{First, Empty}
 
 -- after its ending was read
-at_ending : (c : Content) → IsOf (record { bytes = c.bytes; phase = phase_by c.ending }) c
+pub at_ending : (c : Content) → IsOf (record { bytes = c.bytes; phase = phase_by c.ending }) c
 at_ending c = Prim.search rules
 
 pub told_is_of : (c : Content) (n : ℕ) (phase : Phase) → IsOf (told_reads c n phase) c
