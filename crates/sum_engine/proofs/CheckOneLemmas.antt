@@ -2,7 +2,6 @@
 use Rattle.std.proofs.Common.{rules, ◌≡◌, ℕ, Bool, true, false, List, [], ◌∷◌, Result, Ok, Err, Some, None, cond, refl, ap, codes, ◌++◌, ◌∙◌, inl, sym, map, Option, append_assoc, append-nil}
 use Rattle.std.specs.Prelude.{length}
 use Rattle.std.proofs.lemmas.List.{map-append}
-use Rattle.std.proofs.KnownBytes.{Appends-nil}
 use Rattle.std.proofs.Math.Bool.{or-false}
 use Rattle.sum_sources.specs.Contents.{Reads, IsOf, IsSameInput, HasContent}
 use Rattle.std.proofs.lemmas.List.Elements.{All-cons}
@@ -97,7 +96,7 @@ module _ (settings : CheckSettings) (tool name : List ℕ) (a : StreamsState) wh
       → (let all = check_behavior settings tool (world_at w a.inputs) name in PerformsSteps all.steps all.good a b x)
   opened dash c m b x w is asked answer ran =
       let did : Happened a (from_inputs m) (events_of (opening name)) =
-      Happened-by (name ∷ []) [] [] asked (Appends-nil _) (Appends-nil _) in
+      Happened-by (name ∷ []) [] [] asked (sym (append-nil _)) (sym (append-nil _)) in
       let later = world_after w a.inputs m (name ∷ []) asked in
       let of = manifest_behavior (rules_of settings (is_dash name)) (labels_of settings tool name) (clip c)
       (world_at w m) in

@@ -101,8 +101,9 @@ module _ {I : Type 0} {state : I → InputState} {p q : CursorValue I} (a b : St
     -- a line had a verdict; its report is written, and the lines after it remain
     step_taken (Ok (Some v)) w found did wrote kept is = λ flushed reading.
         let j = line_verdict_value vector v in
-        let said =
-        writes_and_returns w (answered q (Ok (Some v)) Going w refl refl is) (rw did.cursor.rules at wrote) in
+        let step = line_step p.rules labels 0 j in
+        let said = writes_and_returns {a = a.outputs} {b = b.outputs} {err = step.err} {out = step.out} w
+        (answered q (Ok (Some v)) Going w refl refl is) (rw did.cursor.rules at wrote) in
         rw said.returns (InEachCheck-map (found reading) (λ c v w f.
         let k = remaining p.reader c in
         let first = state_at p k v in

@@ -4,7 +4,7 @@ use Rattle.sum_sources.specs.Contents.{HasContent, IsOf}
 use Rattle.sum_sources.specs.Sources.{HasAnswers, SourceState, first_answer}
 use Rattle.sum_sources.specs.declared.inputs.stdin.StdinPlace.{StdinPlace}
 use Rattle.sum_sources.specs.declared.inputs.stdin.StdinPlace.TheVariants.{Untaken, Taken, Returned}
-use Rattle.sum_sources.specs.ToldLaws.{given_has_content}
+use Rattle.sum_sources.specs.InputLaws.{given_has_content}
 use Rattle.sum_engine.specs.Behavior.{Content, InputState, empty_content}
 use Rattle.sum_engine.specs.Execution.{StdinState, stdin_of}
 use Rattle.sum_engine.specs.WorldLaws.{SomeWorldAgrees}

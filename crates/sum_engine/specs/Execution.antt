@@ -1,13 +1,12 @@
 -- The state of a call's streams, and what a call performs of a behavior: the form of the headline.
 use Rattle.std.specs.Prelude.{ℕ, ◌≡◌, ◌≢◌, ◌+◌, ◌⊎◌, Bool, true, false, [], Option, None, Some, IfSome, IfOk, Result, Ok, Err, ◌<◌, ◌||◌, List, ◌∷◌, ◌++◌, map, length, filter, not, filter_map, All, if◌then◌else◌}
 use Rattle.std.specs.List.{list_any}
-use Rattle.digest_kinds.specs.Limits.{one_more}
 use Rattle.sum_sources.specs.declared.inputs.phase.Phase.TheVariants.{AtEnd, Past}
 pub use Rattle.sum_sources.specs.Sources.{Opening, AnswersAre}
 use Rattle.sum_sources.specs.StandardInput.{given_state}
 use Rattle.sum_sources.specs.declared.inputs.stdin.StdinPlace.{StdinPlace}
 use Rattle.sum_sources.specs.declared.inputs.stdin.StdinPlace.TheVariants.{Untaken, Taken, Returned}
-use Rattle.sum_lines.specs.sinks.Sinks.{SinkState, IsPrefix, Appends}
+use Rattle.sum_lines.specs.sinks.Sinks.{SinkState, IsPrefix}
 pub use Rattle.sum_engine.specs.declared.streams.Streams.{Streams}
 pub use Rattle.sum_engine.specs.declared.stop.Stop.{Stop}
 pub use Rattle.sum_engine.specs.declared.stop.Stop.TheVariants.{Memory, Write}
@@ -51,8 +50,8 @@ abbrev pub HasNoFailure : OutputsState → OutputsState → Type 0
 HasNoFailure a b = (b.out.failures ≡ a.out.failures) × (b.err.failures ≡ a.err.failures)
 
 abbrev pub HasOneFailure : OutputsState → OutputsState → Type 0
-HasOneFailure a b = ((b.out.failures ≡ one_more a.out.failures) × (b.err.failures ≡ a.err.failures))
-    ⊎ ((b.out.failures ≡ a.out.failures) × (b.err.failures ≡ one_more a.err.failures))
+HasOneFailure a b = ((b.out.failures ≡ a.out.failures + 1) × (b.err.failures ≡ a.err.failures))
+    ⊎ ((b.out.failures ≡ a.out.failures) × (b.err.failures ≡ a.err.failures + 1))
 
 -- a write fault has one failure more, of one output, and any other result none
 abbrev pub FailuresMatch : {A : Type 0} → OutputsState → OutputsState → Result A Stop → Type 0
@@ -126,8 +125,8 @@ pub record AsksNames (a b : InputsState) (names : List ByteString) : Type 0 wher
 -- these events happened: the names were asked, and the bytes written
 pub record Happened (a b : StreamsState) (es : List Event) : Type 0 where
   pub inputs : AsksNames a.inputs b.inputs (filter_map opened_name es)
-  pub err : Appends a.outputs.err.written b.outputs.err.written (filter_map err_byte es)
-  pub out : Appends a.outputs.out.written b.outputs.out.written (filter_map out_byte es)
+  pub err : b.outputs.err.written ≡ a.outputs.err.written ++ filter_map err_byte es
+  pub out : b.outputs.out.written ≡ a.outputs.out.written ++ filter_map out_byte es
 
 -- a prefix of these events happened
 abbrev pub PrefixHappened : StreamsState → StreamsState → List Event → Type 0

@@ -95,11 +95,11 @@ module _ {I : Type 0} {state : I → InputState} where
             let (d, clipped) = clip-front state s h.under_way few c of in
             let before = remaining-at s c d front s.ahead (omega (arith, size)) clipped in
             let after = remaining-at (record s { ahead = ahead }) c d (front ++ more) ahead
-                (omega (arith, size, whole, parts, length-append front more))
-                (clipped ∙ ap (λ bs. with_prefix bs d) same) in
+            (omega (arith, size, whole, parts, length-append front more))
+            (clipped ∙ ap (λ bs. with_prefix bs d) same) in
             h.remains c of ∙ ap (with_prefix bytes) before
-                ∙ ap (λ bs. record { bytes = bs; ending = d.ending }) (joined bytes more ahead d.bytes s.ahead is)
-                ∙ ap (with_prefix (bytes ++ more)) (sym after);
+            ∙ ap (λ bs. record { bytes = bs; ending = d.ending }) (joined bytes more ahead d.bytes s.ahead is)
+            ∙ ap (with_prefix (bytes ++ more)) (sym after);
         before = h.before;
       })
 

@@ -1,6 +1,7 @@
 pub mod Contents
 pub mod Faults
 pub mod InMemory
+pub mod InputLaws
 pub mod LineReaders
 pub mod LogNotes
 pub mod Logs
@@ -9,5 +10,4 @@ pub mod Phases
 pub mod SourceLaws
 pub mod Sources
 pub mod StandardInput
-pub mod ToldLaws
 pub mod refinement

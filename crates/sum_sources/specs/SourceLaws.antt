@@ -6,17 +6,17 @@ use Rattle.sum_sources.specs.Faults.{NotFound}
 use Rattle.sum_sources.specs.Sources.{Answer, Answers, Opening, first_answer, IsOfAnswer, AnswersAre, HasAnswers}
 use Rattle.sum_sources.specs.Logs.{SourceNotes, untold}
 use Rattle.sum_sources.specs.InMemory.{ToldFiles, told_gave, told_openings, told_source}
-use Rattle.sum_sources.specs.ToldLaws.{some_content, told_is_of}
+use Rattle.sum_sources.specs.InputLaws.{some_content, told_is_of}
 
 -- ---- sources in memory
 
-told_gave_is : (answer : Answer) (gave : Option (Result Reads Fault)) → IsOfAnswer (told_gave answer gave) answer
+pub told_gave_is : (answer : Answer) (gave : Option (Result Reads Fault)) → IsOfAnswer (told_gave answer gave) answer
 told_gave_is (Err f) gave = refl
 told_gave_is (Ok c) (Some (Ok r)) = told_is_of c (length r.bytes) r.phase
 told_gave_is (Ok c) (Some (Err f)) = tt
 told_gave_is (Ok c) None = tt
 
-told_are : (answer : Answers) (n : ℕ) (os : List Opening) → AnswersAre answer n (told_openings answer n os)
+pub told_are : (answer : Answers) (n : ℕ) (os : List Opening) → AnswersAre answer n (told_openings answer n os)
 told_are answer n [] = tt
 told_are answer n (o ∷ os) = (told_gave_is (answer n o.name) o.gave, told_are answer (suc n) os)
 
@@ -26,22 +26,22 @@ told_has_answers s = (first_answer s.pairs, refl, told_are (first_answer s.pairs
 -- ---- sources that aren't in memory
 
 -- an answer of which this is
-some_answer : (gave : Option (Result Reads Fault)) → (answer : Answer) × IsOfAnswer gave answer
+pub some_answer : (gave : Option (Result Reads Fault)) → (answer : Answer) × IsOfAnswer gave answer
 some_answer None = (Err NotFound, tt)
 some_answer (Some (Ok r)) = let (c, of) = some_content r.bytes r.phase in (Ok c, of)
 some_answer (Some (Err f)) = (Err f, refl)
 
-abbrev some_answers : List Opening → Answers
+abbrev pub some_answers : List Opening → Answers
 some_answers [] n name = Err NotFound
 some_answers (o ∷ os) zero name = (some_answer o.gave).0
 some_answers (o ∷ os) (suc n) name = some_answers os n name
 
-shifted : (answer : Answers) (n : ℕ) (os : List Opening) → AnswersAre (λ k. answer (suc k)) n os
+pub shifted : (answer : Answers) (n : ℕ) (os : List Opening) → AnswersAre (λ k. answer (suc k)) n os
     → AnswersAre answer (suc n) os
 shifted answer n [] h = tt
 shifted answer n (o ∷ os) h = (h.0, shifted answer (suc n) os h.1)
 
-some_are : (os : List Opening) → AnswersAre (some_answers os) 0 os
+pub some_are : (os : List Opening) → AnswersAre (some_answers os) 0 os
 some_are [] = tt
 some_are (o ∷ os) = ((some_answer o.gave).1, shifted (some_answers (o ∷ os)) 0 os (some_are os))
 

@@ -1,7 +1,7 @@
 //! Where bytes come from: inputs and sources of files, in memory and real ones, the digest of an input, and the lines
 //! of a manifest. The crate calls `digest_kinds` and no other of ours.
 //!
-//! Whoever opened a file closes it. The source counts the files that were at their end when they were closed.
+//! Inputs and sources keep logs of what their calls gave. Only proofs see them. Whoever opened a file closes it.
 //!
 //! ```rust
 //! let mut files = ToldSource::new(alloc, PIECE);
@@ -10,7 +10,6 @@
 //! let digest = hash_input(&mut file, Md5Hasher::new())?;
 //! files.close_file(file);
 //! assert!(digest.same(&"900150983cd24fb0d6963f7d28e17f72".parse()?));
-//! assert!(files.counts().ended == 1);
 //! ```
 #![tactic(auto)]
 
@@ -26,9 +25,11 @@ pub use inputs::from_read::FromRead;
 pub use inputs::hash_input::{hash_input, hash_input_over};
 pub use inputs::input::{Input, PIECE};
 pub use inputs::phase::Phase;
+pub use inputs::read_log::ReadLog;
 pub use inputs::stdin::{Given, Stdin};
 pub use inputs::told::Told;
 pub use line_reader::{LineReader, LineStop, Next};
 pub use sources::files::Files;
 pub use sources::source::{OpenFault, Source};
+pub use sources::source_log::{Note, SourceLog};
 pub use sources::told_source::{Answer, ToldSource};

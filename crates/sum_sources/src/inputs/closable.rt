@@ -1,7 +1,7 @@
 //! An input that may be closed from the start.
 ghost use Rattle.std.specs.Prelude.{◌≡◌};
 ghost use Rattle.sum_sources.specs.StandardInput.{unless_closed};
-ghost use Rattle.sum_sources.specs.ToldLaws.{closable_has_content};
+ghost use Rattle.sum_sources.specs.InputLaws.{closable_has_content};
 
 use crate::fault::EBADF;
 use crate::{Fault, Input, Phase};

@@ -26,7 +26,7 @@ impl<R: Read> Input for FromRead<R> {
         self.fail(buf, Fault::Other)
     }
 
-    ghost use Rattle.sum_sources.specs.ToldLaws.{real_has_content};
+    ghost use Rattle.sum_sources.specs.InputLaws.{real_has_content};
 
     ghost has_content = { λ s. real_has_content s.log };
 }

@@ -95,7 +95,7 @@ impl<I: Input + Drop> Stdin<I> {
 
 impl<I: Input> Input for Given<I> {
     ghost use Rattle.sum_sources.specs.StandardInput.{given_state};
-    ghost use Rattle.sum_sources.specs.ToldLaws.{given_has_content};
+    ghost use Rattle.sum_sources.specs.InputLaws.{given_has_content};
 
     ghost state = { λ s. given_state I.state s };
 

@@ -125,7 +125,7 @@ impl<'a> Input for Told<'a> {
         result
     }
 
-    ghost use Rattle.sum_sources.specs.ToldLaws.{told_file_has_content};
+    ghost use Rattle.sum_sources.specs.InputLaws.{told_file_has_content};
 
     ghost has_content = { told_file_has_content };
 }

@@ -56,11 +56,7 @@ impl<'a, A: Allocator + Copy> Model for ToldSource<'a, A> {
 }
 
 // The answer of the first pair with the name that was added when so many names had been asked.
-fn answer_to<'a, A: Allocator>(
-    pairs: &[StoredPair<'a, A>],
-    asked: usize,
-    name: &[u8],
-) -> Answer<'a>
+fn answer_to<'a, A: Allocator>(pairs: &[StoredPair<'a, A>], asked: usize, name: &[u8]) -> Answer<'a>
     ensures { answer_value result ≡ first_answer (map pair_of pairs.now) asked name.now }
 {
     for pair in pairs {

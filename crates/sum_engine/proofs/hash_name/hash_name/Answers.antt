@@ -1,6 +1,6 @@
 use Rattle.std.proofs.Common.{rules, ◌≡◌, ◌∙◌, ap, sym, true, false, [], refl, Ok, Err}
 use Rattle.sum_sources.specs.StandardInput.{given_state}
-use Rattle.sum_sources.specs.ToldLaws.{given_has_content}
+use Rattle.sum_sources.specs.InputLaws.{given_has_content}
 use Rattle.sum_engine.specs.Behavior.{is_dash}
 use Rattle.sum_engine.specs.Execution.{InputsState}
 use Rattle.sum_engine.proofs.HashNameLemmas.{closed_file, hashed_file, hashed_fault, gives_taken, taken_after, stdin_asked, stdin_hashed, given_reads, refused_reads}

@@ -1,5 +1,5 @@
 use Rattle.std.proofs.Common.{rules, ◌≡◌, true, false, ap, refl, Err}
-use Rattle.sum_sources.specs.ToldLaws.{given_has_content}
+use Rattle.sum_sources.specs.InputLaws.{given_has_content}
 use Rattle.sum_engine.specs.Behavior.{is_dash}
 use Rattle.sum_engine.specs.check.Verdicts.{Rules}
 use Rattle.sum_engine.proofs.FlushedWriteLemmas.{writes_and_returns}
