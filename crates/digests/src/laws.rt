@@ -3,7 +3,7 @@
 ghost use Rattle.digests.specs.GenerationRuns.{WrittenIsGood, JoinedIsGood};
 ghost use Rattle.digests.specs.InMemory.{MeansInMemory};
 
-use sum_engine::laws::some_world;
+use sum_engine::laws::some_world_agrees;
 use sum_engine::{Inputs, Outputs, Streams};
 use sum_lines::Sink;
 use sum_sources::{Input, Source};
@@ -12,12 +12,12 @@ use sum_sources::{Input, Source};
 /// outputs were flushed, and the files and the standard input were in memory. Then the outputs got exactly the bytes,
 /// and `run` returned exactly the status, that the words mean by the whole contents of these; or it stopped, and a
 /// prefix of the run happened.
-pub fn means_in_memory<I: Input, S: Source, O: Sink, E: Sink>(
+pub fn told_performs<I: Input, S: Source, O: Sink, E: Sink>(
     streams: &Streams<Inputs<I, S>, Outputs<O, E>>,
 )
     ensures { MeansInMemory streams.now }
 {
-    some_world(&streams.inputs);
+    some_world_agrees(&streams.inputs);
 }
 
 /// A tool accepts what it wrote. Say that `md5sum a b` wrote the manifest `SUMS`. Then `md5sum --check -- SUMS` ends

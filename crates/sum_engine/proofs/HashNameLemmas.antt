@@ -121,8 +121,13 @@ module _ {a m : InputsState} {s t : InputState} (gives : GivesStdin s a m) (same
       by (inr (taken, told, away, is)) None none =
           let none_before = sym (ap (λ (m : InputsState). m.stdin.reads) is) ∙ none in
           let told = ap (λ (s : InputState). s.told) same ∙ sym (away none_before) in
-          inr (t.reads, none_before, back ∙ ap (λ r. stdin_by r m.stdin t) none
-              ∙ ap (λ told. record { told = told; taken = true; reads = Some t.reads }) told, read)
+          inr (
+            t.reads,
+            none_before,
+            back ∙ ap (λ r. stdin_by r m.stdin t) none
+                ∙ ap (λ told. record { told = told; taken = true; reads = Some t.reads }) told,
+            read,
+          )
       by (inr (taken, told, away, is)) (Some r) some =
           inl (back ∙ ap (λ r. stdin_by r m.stdin t) some ∙ ap (λ (m : InputsState). m.stdin) is)
 

@@ -51,31 +51,35 @@ module _ {I : Type 0} (state : I → InputState) (p q : CursorValue I) (reader :
         → AsksFor vector a b (found_verdict x)
         → ((w : World) → Agrees w b → JudgeLineOf (record p { reader = reader }) line vector (world_at w a) x)
         → InEachCheck state p q a b (λ c d. NextVerdictIs p.rules vector c d (found_verdict x))
-    next_verdict-line (Ok found) takes few counted asked judged = rw takes.reader (record { holds = λ c of w agrees.
-        let (next, both) = reads.line c of in
-        let is = rw number at (judged w agrees) in
-        let first : CheckState = state_at p (remaining p.reader c) (world_at w a) in
-        let last : CheckState = state_at then (remaining reader c) (world_at w b) in
-        let f : next_judged p.rules first line ≡ line_verdict_value vector found = is in
-        let handled : HandlesLine p.rules first last vector = record {
-          line = line;
-          lines = lines_now p.rules (remaining p.reader c) now ∙ next.0
-              ∙ ap (λ l. line ∷ l) (sym (lines_now p.rules (remaining reader c) now));
-          remaining = next.1;
-          consumed = both;
-          taken = omega (arith, bounds.ahead);
-          number = number;
-          form = takes.form;
-          counts = search (rules, counted, f);
-          vector_len = few;
-        } in
-        let world : world_at w b ≡ after (world_at w a) (asks_of (line_verdict_value vector found)) =
-        world_after w a b _ asked in
-        (search (rules, remaining_next p.rules first last vector handled, f, world, counted), handled) })
-    next_verdict-line (Err e) takes few counted asked judged = rw takes.reader (record { holds = λ c of w agrees. (
-      refused_world w a b asked,
-      line-some (remaining p.reader c) (remaining reader c) line (reads.line c of).0,
-    ) })
+    next_verdict-line (Ok found) takes few counted asked judged = rw takes.reader (record {
+      holds = λ c of w agrees.
+          let (next, both) = reads.line c of in
+          let is = rw number at (judged w agrees) in
+          let first : CheckState = state_at p (remaining p.reader c) (world_at w a) in
+          let last : CheckState = state_at then (remaining reader c) (world_at w b) in
+          let f : next_judged p.rules first line ≡ line_verdict_value vector found = is in
+          let handled : HandlesLine p.rules first last vector = record {
+            line = line;
+            lines = lines_now p.rules (remaining p.reader c) now ∙ next.0
+                ∙ ap (λ l. line ∷ l) (sym (lines_now p.rules (remaining reader c) now));
+            remaining = next.1;
+            consumed = both;
+            taken = omega (arith, bounds.ahead);
+            number = number;
+            form = takes.form;
+            counts = search (rules, counted, f);
+            vector_len = few;
+          } in
+          let world : world_at w b ≡ after (world_at w a) (asks_of (line_verdict_value vector found)) =
+          world_after w a b _ asked in
+          (search (rules, remaining_next p.rules first last vector handled, f, world, counted), handled);
+    })
+    next_verdict-line (Err e) takes few counted asked judged = rw takes.reader (record {
+      holds = λ c of w agrees. (
+        refused_world w a b asked,
+        line-some (remaining p.reader c) (remaining reader c) line (reads.line c of).0,
+      );
+    })
 
 -- ---- no line remained, or the reader stopped
 

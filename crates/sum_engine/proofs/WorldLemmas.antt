@@ -41,8 +41,12 @@ stdin_weaker a b f (inr (r, new, is, read)) = inr (r, new, is, at_end_weaker (Ok
 pub reads_weaker : {G H : Type 0} {a b : InputsState} → (H → G) → ReadsToEndIf G a b → ReadsToEndIf H a b
 reads_weaker {G = G} {H = H} {a = a} {b = b} f h = record {
   told = h.told;
-  openings = (h.openings.0, h.openings.1, All-weaker (ReadsFile G) (ReadsFile H)
-  (λ o (gave, is, read). (gave, is, at_end_weaker gave f read)) h.openings.0 h.openings.2);
+  openings = (
+    h.openings.0,
+    h.openings.1,
+    All-weaker (ReadsFile G) (ReadsFile H)
+        (λ o (gave, is, read). (gave, is, at_end_weaker gave f read)) h.openings.0 h.openings.2,
+  );
   stdin = stdin_weaker a.stdin b.stdin f h.stdin;
 }
 

@@ -7,7 +7,7 @@ use crate::inputs::Inputs;
 use sum_sources::{Input, Source};
 
 /// Some world agrees with all that was read so far. If the files and the standard input are in memory, theirs does.
-pub fn some_world<I: Input, S: Source>(inputs: &Inputs<I, S>)
+pub fn some_world_agrees<I: Input, S: Source>(inputs: &Inputs<I, S>)
     ensures { SomeWorldAgrees inputs.now }
 {
     // Read, so that the proof sees the parts.

@@ -1,5 +1,5 @@
 use Rattle.sum_engine.proofs.WorldLaws.{some_world}
-use Rattle.sum_engine.proofs.laws.some_world.Goals as goal
+use Rattle.sum_engine.proofs.laws.some_world_agrees.Goals as goal
 
 pub returns : goal.returns
 returns g c = rw (← c.inputs.view_is) (some_world _ g.I.Input.state _
