@@ -85,7 +85,8 @@ def rows(said):
             sys.exit(f"{crate}/{name}.edit isn't refused by a goal that can be read: {how}")
         code = text_of("crates", crate, "src", in_code[1]) if in_code else ""
         function = function_at(code, int(in_code[2])) if in_code else function_of(crate, in_proof[1])
-        goal = goal_of(in_code[3] if in_code else in_proof[2], in_proof or in_code[4], labels_of(items, crate, function))
+        labels = labels_of(items, crate, function)
+        goal = goal_of(in_code[3] if in_code else in_proof[2], in_proof or in_code[4], labels)
         if not goal:
             sys.exit(f"{crate}/{name}.edit: {function} has no clause as in {how}")
         found.setdefault((crate, function), {}).setdefault(goal, []).append(name)
