@@ -30,7 +30,7 @@ fn reads(
 ) {
     let (end, phase) = match ending {
         Ending::Whole => (Ok(Next::NoMore), Phase::AtEnd),
-        Ending::Broken(fault) => (Err(LineStop::Fault(fault)), Phase::Failed),
+        Ending::Broken(fault) => (Err(LineStop::Fault(fault)), Phase::Failed(fault)),
     };
     for piece in [1, 3, 8192] {
         let mut line = Vec::new(rt.alloc());
