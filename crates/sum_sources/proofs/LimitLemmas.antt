@@ -1,5 +1,5 @@
 -- `read_limited`: what an input's end, its fault and the limit say of its contents.
-use Rattle.std.proofs.Common.{◌≡◌, ℕ, zero, suc, ◌+◌, ◌-◌, ◌^◌, ◌<◌, ◌≤◌, [], ◌++◌, List, max, length, take, Ok, Err, refl, arith, length-append, ap, sym, append-nil, append_assoc, ◌∙◌}
+use Rattle.std.proofs.Common.{◌≡◌, ℕ, zero, suc, ◌+◌, ◌-◌, ◌^◌, ◌<◌, ◌≤◌, [], ◌++◌, List, max, length, take, Ok, Err, refl, arith, length-append, ap, append-nil, append_assoc, ◌∙◌}
 use Rattle.std.proofs.Math.Seq.{take-append-add}
 use Rattle.std.proofs.lemmas.List.{length-take-le, take-append-le}
 use Rattle.sum_sources.specs.Contents.{Content, Reads, IsOf, clip, limit, Ending, Whole, Other, Fault, Broken, with_prefix, and_read}

@@ -1,12 +1,12 @@
 -- What was read so far of a line, and what reading on adds to it.
-use Rattle.std.proofs.Common.{◌≡◌, ℕ, ◌+◌, ◌-◌, ◌^◌, ◌<◌, ◌≤◌, true, false, List, [], ◌∷◌, ◌++◌, length, take, drop, None, Some, Result, Ok, Err, refl, ap, sym, ◌∙◌, append_assoc, append-nil, ◌==◌, arith, length-append, inl, inr}
+use Rattle.std.proofs.Common.{◌≡◌, ℕ, ◌+◌, ◌-◌, ◌^◌, ◌<◌, ◌≤◌, true, false, List, [], ◌∷◌, ◌++◌, length, take, None, Some, Result, Ok, Err, refl, ap, sym, ◌∙◌, append_assoc, append-nil, ◌==◌, arith, length-append, inl, inr}
 use Rattle.std.specs.Prelude.{◌⊎◌, OnOk}
 use Rattle.std.proofs.Math.Seq.{take-append-add, drop-append_seam}
 use Rattle.std.proofs.lemmas.List.{drop_all}
 use Rattle.std.proofs.lemmas.List.Elements.{All-append}
 use Rattle.std.specs.Str.Lines.{strip_carriage_return}
 use Rattle.sum_sources.specs.ManifestLines.{Next, Line, NoMore, LineStop, HasNoNewline, IsNextLine}
-use Rattle.sum_sources.specs.Contents.{Ending, Whole, Broken, Content, Reads, InputState, IsOf, Fault, clip, clip_to, limit, empty_content, with_prefix}
+use Rattle.sum_sources.specs.Contents.{Ending, Whole, Broken, Content, Reads, InputState, IsOf, clip, clip_to, limit, with_prefix}
 use Rattle.sum_sources.specs.LineReaders.{LineReaderValue, consumed_count, past, remaining, IsUnderWay, IsReading, ReadsOn}
 use Rattle.sum_sources.specs.Phases.{Phase, Unfinished, AtEnd, Past}
 use Rattle.sum_sources.specs.refinement.LimitedReads.{FindsEnding, IsReadTo}

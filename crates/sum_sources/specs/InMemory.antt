@@ -1,5 +1,5 @@
 -- Sources in memory.
-use Rattle.std.specs.Prelude.{ℕ, zero, suc, List, [], ◌∷◌, length, ◌&&◌, Option, None, Some, Result, Ok, Err, if◌then◌else◌, bytes_eq, nat_le}
+use Rattle.std.specs.Prelude.{ℕ, suc, List, [], ◌∷◌, length, ◌&&◌, Option, None, Some, Result, Ok, Err, if◌then◌else◌, bytes_eq, nat_le}
 use Rattle.sum_sources.specs.Contents.{Reads, Fault}
 use Rattle.sum_sources.specs.Faults.{NotFound, ByteString}
 use Rattle.sum_sources.specs.Sources.{Answer, Answers, Opening, SourceState}

@@ -2,7 +2,7 @@ use Rattle.std.proofs.Common.{rules, arith, refl, ap, sym, append-nil, inr, â—Œâ
 use Rattle.std.proofs.lemmas.Grind.{common_steps}
 use Rattle.std.proofs.lemmas.List.{nil_from_length}
 use Rattle.sum_sources.specs.ManifestLines.{HasNoNewline, Line, NoMore}
-use Rattle.sum_sources.specs.Contents.{Whole, Broken, Reads}
+use Rattle.sum_sources.specs.Contents.{Whole, Broken}
 use Rattle.sum_sources.specs.LineReaders.{IsReading, LineReaderValue}
 use Rattle.sum_sources.proofs.ReadOnLemmas.{not_ahead, HasRead, HasRead-given, HasRead-more, HasRead-filled, ends_line, ends_memory, ends}
 use Rattle.sum_sources.proofs.LineLemmas.{IsNextLine-none, IsNextLine-last, IsNextLine-fault}
