@@ -1,4 +1,7 @@
 //! What the tests work on. The calls here have no contracts, so that the proofs of their callers are spared those.
+ghost use Rattle.std.specs.Prelude.{◌≡◌};
+ghost use Rattle.sum_sources.specs.Contents.{unread};
+
 use digest_kinds::{Algo, Algos, Kind};
 use std::alloc::{Allocator, Global};
 use std::process::Abort;
@@ -12,7 +15,9 @@ use sum_sources::{Answer, Ending, Input, NoRoom, Source, Stdin, Told, ToldSource
 /// Streams whose outputs are in memory.
 pub(crate) type Known<I, S> = Streams<Inputs<I, S>, Outputs<ToldSink<1000>, ToldSink<1000>>>;
 
-pub(crate) fn known<I: Input, S>(input: I, source: S) -> Known<I, S> {
+pub(crate) fn known<I: Input, S: Source>(input: I, source: S) -> Known<I, S>
+    requires { (I.state input).reads ≡ unread }
+{
     let (out, err) = (ToldSink::new(1000), ToldSink::new(1000));
     Streams::new(Stdin::new(input), source, out, err)
 }
@@ -104,7 +109,7 @@ pub(crate) fn step<L: Allocator, A: Allocator + Copy>(
 }
 
 /// Asserts that the outputs hold these texts.
-pub(crate) fn assert_wrote<I: Input, S>(
+pub(crate) fn assert_wrote<I: Input, S: Source>(
     rt: &impl Abort,
     streams: &Known<I, S>,
     out: &str,
