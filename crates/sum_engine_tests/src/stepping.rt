@@ -6,7 +6,7 @@ use std::alloc::Global;
 use std::process::Abort;
 use std::test::Fail;
 use sum_engine::{CheckSettings, Inputs, Progress, Verdict, Verdicts};
-use sum_sources::{Ending, Fault, Stdin, Told};
+use sum_sources::{Ending, Fault, Told};
 
 #[test]
 fn step_by_step(rt: HostRuntime) -> Result<(), Fail> {
@@ -65,10 +65,7 @@ fn finds(
     lines: &[(Verdict, &str)],
     good: bool,
 ) -> Result<(), Fail> {
-    let mut inputs = Inputs {
-        stdin: Stdin::new(Told::new(b"", Ending::Whole, 1)),
-        source: files(rt.alloc(), "", Ending::Whole)?,
-    };
+    let mut inputs = Inputs::of_files(files(rt.alloc(), "", Ending::Whole)?);
     let input = Told::new(manifest.as_bytes(), Ending::Whole, 7);
     let mut verdicts = Verdicts::new(settings, false, input);
     let mut line = Vec::new(rt.alloc());
