@@ -9,8 +9,8 @@ use Rattle.sum_sources.specs.Contents.{Reads, unread, IsOf, IsSameInput, HasCont
 use Rattle.sum_sources.specs.Sources.{IsOfAnswer, opened_file, and_opening, after_closing}
 use Rattle.sum_sources.proofs.ToldSourceLemmas.{closed_at-seam}
 use Rattle.sum_engine.specs.Behavior.{World, Answer, Content, SourceState, Fault, InputState, empty_content, is_dash, answer_to}
-use Rattle.sum_engine.specs.Execution.{StdinState, taken_stdin, InputsState, Agrees, world_at, asked, AsksNames, IsAtEndIf, ReadsFile, ReadsStdin, ReadsToEndIf}
-use Rattle.sum_engine.specs.refinement.Names.{HashOutcome, IsHashOutcome, IsRead, GivesStdin, stdin_by, stdin_after, MemoryWasRefused}
+use Rattle.sum_engine.specs.Execution.{StdinState, InputsState, Agrees, world_at, asked, AsksNames, IsAtEndIf, ReadsFile, ReadsStdin, ReadsToEndIf}
+use Rattle.sum_engine.specs.refinement.Names.{HashOutcome, IsHashOutcome, IsRead, taken_stdin, GivesStdin, stdin_by, stdin_after, MemoryWasRefused}
 use Rattle.sum_engine.specs.declared.hash_name.HashOutcome.TheVariants as outcomes
 use Rattle.sum_engine.proofs.WorldLemmas.{opening_agrees}
 

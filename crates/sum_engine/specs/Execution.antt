@@ -18,14 +18,10 @@ pub record StdinState : Type 0 where
   pub taken : Bool
   pub reads : Option Reads
 
--- while it is taken, an empty one stands in for it
-abbrev pub taken_stdin : StdinState
-taken_stdin = record { told = Some empty_content; taken = true; reads = None }
-
--- that of a value
+-- that of a value. While it is taken, an empty one stands in for it
 abbrev pub stdin_of : {I : Type 0} → (I → InputState) → StdinPlace I → StdinState
 stdin_of state (Untaken i) = record { told = (state i).told; taken = false; reads = None }
-stdin_of state Taken = taken_stdin
+stdin_of state Taken = record { told = Some empty_content; taken = true; reads = None }
 stdin_of state (Returned given) = let s = given_state state given in
     record { told = s.told; taken = true; reads = Some s.reads }
 
@@ -85,10 +81,8 @@ pub record Agrees (w : World) (a : InputsState) : Type 0 where
 
 -- the world from here on
 abbrev pub world_at : World → InputsState → World
-world_at w a = record w {
-  next = length a.source.openings;
-  stdin = if a.stdin.taken then empty_content else w.stdin;
-}
+world_at w a =
+    record w { next = length a.source.openings; stdin = if a.stdin.taken then empty_content else w.stdin }
 
 -- no read came after an end or a fault, or for no bytes; and if Whole holds, the end was found
 abbrev pub IsAtEndIf : Type 0 → Reads → Type 0

@@ -48,10 +48,16 @@ abbrev pub IsUnreadUntilTaken : {I : Type 0} → (I → InputState) → StdinPla
 IsUnreadUntilTaken state (Untaken i) = (state i).reads ≡ unread
 IsUnreadUntilTaken state place = ⊤
 
+-- what was read of an empty input, by its phase: it never failed
+abbrev pub empty_reads : Phase → Reads
+empty_reads (Failed f) = record { bytes = []; phase = AtEnd }
+empty_reads phase = record { bytes = []; phase = phase }
+
 -- the state of what taking gives
 abbrev pub given_state : {I : Type 0} → (I → InputState) → Reply I → InputState
 given_state state (First i) = state i
-given_state state (Empty phase) = told_state empty_content 0 phase
+given_state state (Empty phase) =
+    record { opening = 0; name = []; told = Some empty_content; reads = empty_reads phase }
 
 -- taking gives the input the first time, of which nothing was read; and an empty one afterwards
 abbrev pub Gives : {I : Type 0} → (I → InputState) → StdinPlace I → StdinPlace I → Reply I → Type 0

@@ -5,8 +5,12 @@ pub use Rattle.sum_sources.specs.declared.fault.NoRoom.{NoRoom}
 pub use Rattle.sum_engine.specs.declared.hash_name.HashOutcome.{HashOutcome}
 use Rattle.sum_sources.specs.Contents.{unread}
 use Rattle.sum_engine.specs.Behavior.{Content, InputState, Reads, empty_content, ByteString, Answer, Fault, digest_or_fault}
-use Rattle.sum_engine.specs.Execution.{StdinState, taken_stdin, InputsState}
+use Rattle.sum_engine.specs.Execution.{StdinState, InputsState}
 use Rattle.sum_engine.specs.declared.hash_name.HashOutcome.TheVariants as outcomes
+
+-- standard input while it is taken
+abbrev pub taken_stdin : StdinState
+taken_stdin = record { told = Some empty_content; taken = true; reads = None }
 
 -- this was given when standard input was taken: its own input the first time, and an empty one afterwards
 pub record GivesStdin (s : InputState) (a b : InputsState) : Type 0 where
