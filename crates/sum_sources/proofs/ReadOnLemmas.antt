@@ -240,7 +240,7 @@ ends {state = state} {old = old} {s = s} m {line = line} e answer h none finds n
     λ k c past of. rw (finds.content c of, all, drop_all k front (omega (arith, size, ap length none))) refl in
     let before : (c : Content) → IsOf (state m.input).reads c → remaining old c ≡ with_prefix line (just e) =
     λ c of. h.remains c (finds.before c of)
-        ∙ ap (with_prefix line) (left (consumed_count s) c (omega (arith, ap length none)) of) in
+    ∙ ap (with_prefix line) (left (consumed_count s) c (omega (arith, ap length none)) of) in
     let after : (c : Content) → IsOf (state m.input).reads c → remaining m c ≡ just e =
     λ c of. left (consumed_count m) c (omega (arith, more, ap length none')) of in
     rw is (record {
