@@ -57,8 +57,8 @@ empty_content = record { bytes = []; ending = Whole }
 abbrev pub with_prefix : ByteString → Content → Content
 with_prefix prefix c = record { bytes = prefix ++ c.bytes; ending = c.ending }
 
--- the content that begins with these bytes, or ends with them, by how far it was read. Nothing is known of a content
--- that was read past its end
+-- a content that begins with these bytes, or is all of them, by how far it was read. Bytes that were read past an end are
+-- of any content
 abbrev pub IsReadTo : Phase → ByteString → Content → Type 0
 IsReadTo Unfinished bytes c = (rest : Content) × (c ≡ with_prefix bytes rest)
 IsReadTo AtEnd bytes c = c ≡ record { bytes = bytes; ending = Whole }

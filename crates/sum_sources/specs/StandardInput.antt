@@ -48,7 +48,7 @@ abbrev pub stdin_taken : {I : Type 0} → StdinPlace I → Bool
 stdin_taken (Untaken i) = false
 stdin_taken place = true
 
--- the state of its input, where that is. While it is taken, that is unknown
+-- the state of its input. There is none while it is taken
 abbrev pub stdin_state : {I : Type 0} → (I → InputState) → StdinPlace I → Option InputState
 stdin_state state (Untaken i) = Some (state i)
 stdin_state state Taken = None

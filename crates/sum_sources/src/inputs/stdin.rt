@@ -82,8 +82,7 @@ impl<I: Input + Drop> Stdin<I> {
         Given { reply }
     }
 
-    /// Puts back what `take` gave, so that its state is known from then on. An empty input is dropped, and so is one that
-    /// is put back where nothing was taken.
+    /// Puts back what `take` gave. An empty input is dropped, and so is one that is put back where nothing was taken.
     pub fn put_back(&mut self, given: Given<I>)
         ensures { self.new ≡ put_back self.old given }
     {
