@@ -20,14 +20,12 @@ class Documents(Case):
         self.assertEqual(believed.in_refinement(), [])
 
     def test_contracts_that_are_quoted(self):
-        """docs/PROMISES.md shows the clauses of `run` and of `command` as they are, and docs/LIBRARY.md `same`."""
-        code = Code()
-        for page, crate, names in (("PROMISES", "digests", ("run", "command")), ("LIBRARY", "example_same", ("same",))):
-            for name in names:
-                text = code.function(crate, name).text.strip()
-                contract = re.sub(r"(?m)^ +", "", text[text.index("ensures"):] if page == "PROMISES" else text)
-                shown = re.sub(r"(?m)^ +//.*\n|^ +", "", text_of("docs", f"{page}.md"))
-                self.assertTrue(contract in shown, f"docs/{page}.md doesn't show the contract of {name} as it is")
+        """docs/PROMISES.md shows the clauses of `run` and of `command` as they are."""
+        shown = re.sub(r"(?m)^ +//.*\n|^ +", "", text_of("docs", "PROMISES.md"))
+        for name in ("run", "command"):
+            text = Code().function("digests", name).text.strip()
+            contract = re.sub(r"(?m)^ +", "", text[text.index("ensures"):])
+            self.assertTrue(contract in shown, f"docs/PROMISES.md doesn't show the contract of {name} as it is")
 
     def test_wrong_versions(self):
         """The table of docs/TESTING.md has each wrong version once, in a row of its crate."""
@@ -37,6 +35,18 @@ class Documents(Case):
         there = [path.split(os.sep)[-3::2] for path in glob.glob(os.path.join(TOP, "crates", "*", "must-fail", "*"))]
         self.assertEqual(sorted(named), sorted((crate, file[:-len(".edit")]) for crate, file in there),
                          "tools/refusals.py makes the table anew")
+
+    def test_refusals(self):
+        """tools/refusals.py writes nothing if a function that it names has no clause of that name."""
+        page, code = text_of("docs", "TESTING.md"), text_of("crates", "sum_lines", "src", "escape.rt")
+        place = code[:code.index("fn first_escaped")].count("\n") + 1
+        for goal in ("returns-clause-bytes`", "returns-in-Some-clause-escaped", "returns`"):
+            said = f"refused, as it must be: note: src/escape.rt:{place}:1: it is not proved (`{goal}"
+            self.write("said", f"rt: must-fail sum_lines/a.edit: {said}\n")
+            ran = self.run_command([os.path.join(TOP, "tools", "refusals.py"), self.path("said")])
+            self.assertEqual((ran.status, ran.err.decode()),
+                             (1, f"sum_lines/a.edit: first_escaped has no clause as in {said}\n"))
+        self.assertEqual(text_of("docs", "TESTING.md"), page)
 
     def test_text(self):
         """`--text` begins with the headline, counted as on the page, and goes down to BLAKE2b."""

@@ -33,7 +33,7 @@ def files(folder, ending):
 ITEM = re.compile(r"""(?mx)^(?P<public>pub[ ])?(?:pub\([^)]*\)[ ])?(?:
     (?:const[ ](?=fn))?(?P<kind>fn|trait|struct|enum|type|const)[ ](?P<name>\w+)
     | impl(?:<.*?>)?[ ](?:(?:\w+::)*(?P<trait>\w+(?:<\w+>)?)[ ]for[ ](?:&mut[ ])?)?(?:\w+::)*(?P<of>\w+)\b)""")
-MEMBER = re.compile(r"(?m)^    (pub )?(?:const (?=fn))?(fn|type) (\w+)")
+MEMBER = re.compile(r"(?m)^    (pub )?(?:pub\([^)]*\) )?(?:const (?=fn))?(fn|type) (\w+)")
 # What follows the head of an item: a clause, a ghost member, a body, or the end of the line.
 BEHIND_HEAD = re.compile(r"\s*(?:\b(?:requires|ensures)\b|\{|;$)", re.MULTILINE)
 ENSURES = re.compile(r"\s*\b(?:ensures|requires)\b(?:\s+\w+)?\s*(?=\{)")

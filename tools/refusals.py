@@ -11,7 +11,7 @@ import sys
 
 sys.dont_write_bytecode = True
 
-from rattle import TOP, crates, text_of  # noqa: E402  (nothing is to be left beside these files)
+from rattle import TOP, Code, crates, text_of  # noqa: E402  (nothing is to be left beside these files)
 
 PAGE = os.path.join(TOP, "docs", "TESTING.md")
 MARKS = "<!-- made by tools/refusals.py: what stands below -->\n", "\n<!-- and above this line -->"
@@ -46,10 +46,29 @@ def function_of(crate, path):
     return parts[-1]
 
 
-def goal_of(name):
-    """What a goal shows: a clause, what a callee requires, what a loop keeps, or a part of the function's proof."""
-    for pattern, says in ((r"returns.*-clause-(\w+)$", "{}"), (r"(\w+)[\w-]*-requires", "what `{}` requires"),
-                          (r"loop-(\w+)-(?:init|preserved)", "loop's `{}`"), (r"(returns)", "result")):
+def labels_of(code, crate, function):
+    """The labels of a function's clauses, and of those that its trait has; `result` for one that has no label."""
+    owner, _, name = function.rpartition("::")
+    blocks = [it for it in code.items if (it.crate, it.kind, it.name) == (crate, "impl", owner)]
+    blocks = [it for it in blocks if name in [member.name for member in it.members]]
+    traits = [it for it in code.items if it.kind == "trait" and it.name in [block.trait for block in blocks]]
+    own = [it for it in code.items if (it.crate, it.kind) == (crate, "fn") and not owner]
+    its = [it for it in own + [member for block in blocks + traits for member in block.members] if it.name == name]
+    labels = {label or "result" for it in its for label in re.findall(r"\bensures\b(?:\s+(\w+))?\s*\{", it.text)}
+    # Of a trait of std's no clause stands here.
+    return labels or {"result" for it in blocks if it.trait and not traits}
+
+
+def goal_of(name, whole, labels):
+    """What a goal shows: a clause, what a callee requires, what a loop keeps, or a part of the function's proof. None
+    for a clause that isn't one of these. The goal of a clause that stands alone doesn't name it. The end of a name that
+    isn't whole may be cut."""
+    if name.startswith("returns"):
+        _, marked, label = name.rpartition("-clause-")
+        found = [it for it in labels if not marked or it == label or not whole and it.startswith(label)]
+        return min(found) if found and (marked or len(found) == 1) else None
+    for pattern, says in ((r"(\w+)[\w-]*-requires", "what `{}` requires"),
+                          (r"loop-(\w+)-(?:init|preserved)", "loop's `{}`")):
         found = re.match(pattern, name)
         if found:
             return says.format(found[1])
@@ -58,16 +77,16 @@ def goal_of(name):
 
 def rows(said):
     """The clauses by the functions, each with the wrong versions that it refuses."""
-    found = {}
+    found, items = {}, Code()
     for crate, name, how in said:
         in_code, in_proof = AT.match(how), IN_PROOF.match(how)
         if not in_code and not in_proof:
             sys.exit(f"{crate}/{name}.edit isn't refused by a goal that can be read: {how}")
         code = text_of("crates", crate, "src", in_code[1]) if in_code else ""
         function = function_at(code, int(in_code[2])) if in_code else function_of(crate, in_proof[1])
-        goal = goal_of(in_code[3] if in_code else in_proof[2])
-        if in_code and not in_code[4]:
-            goal = next(label for label in re.findall(r"ensures (\w+)", code) if label.startswith(goal))
+        goal = goal_of(in_code[3] if in_code else in_proof[2], in_proof or in_code[4], labels_of(items, crate, function))
+        if not goal:
+            sys.exit(f"{crate}/{name}.edit: {function} has no clause as in {how}")
         found.setdefault((crate, function), {}).setdefault(goal, []).append(name)
     return found
 

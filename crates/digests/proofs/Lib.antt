@@ -5,3 +5,4 @@ mod ProgramLemmas
 mod CheckWords
 mod WrittenIsGood
 mod WorkedExamples
+pub mod InMemory

@@ -14,7 +14,7 @@ pub Performs-texts : (a : StreamsState) (outputs : OutputsState) (err out : Byte
     → Performs (λ w. single_step [] err out good) status_of a (record a { outputs = outputs }) x
 Performs-texts a outputs err out good x said =
     Performs-step (λ w. single_step [] err out good) status_of good a (record a { outputs = outputs })
-    (asks_none a.inputs) (λ new w agrees. refl) said
+    (asks_none a.inputs) (λ w agrees. refl) said
 
 -- if that failed, one output did
 pub FailuresMatch-texts : {E : Type 0} (a b : OutputsState) (err out : ByteString) (status : ℕ)

@@ -1,10 +1,11 @@
 -- Operands, one after another: the behavior of those before, followed by that of the rest, is the whole.
-use Rattle.std.proofs.Common.{◌≡◌, Bool, true, List, [], ◌∷◌, Option, None, Some, Ok, Err, refl, ap, sym, ◌∙◌, subst, append_assoc, append-nil, ◌&&◌, Bor}
+use Rattle.std.proofs.Common.{◌≡◌, ℕ, Bool, true, false, List, [], ◌∷◌, Option, None, Some, Ok, Err, refl, ap, sym, ◌∙◌, subst, append_assoc, append-nil, ◌&&◌, Bor}
 use Rattle.std.proofs.Math.Bool.{and_assoc, and-true}
-use Rattle.sum_engine.proofs.WorldLemmas.{KeepsKnown-none, KeepsKnown-then, unread_then, agrees_before, world_after}
+use Rattle.std.proofs.lemmas.Bool.{and_parts}
+use Rattle.sum_engine.proofs.WorldLemmas.{reads_none, reads_then, agrees_before, world_after}
 use Rattle.sum_engine.specs.declared.stop.Stop.{Stop}
 use Rattle.sum_engine.specs.Behavior.{World, after, Behavior, behavior_then, trace, asks, ByteString}
-use Rattle.sum_engine.specs.Execution.{StreamsState, IsFlushed, IsStdinUnread, KeepsKnown, Agrees, world_at, Happened, Performs, PerformsSteps}
+use Rattle.sum_engine.specs.Execution.{StreamsState, IsFlushed, ReadsToEndIf, Agrees, world_at, Happened, Performs, PerformsSteps}
 use Rattle.sum_engine.proofs.ExecutionLemmas.{Happened-none}
 use Rattle.sum_engine.proofs.BehaviorLemmas.{behavior_then-happened, behavior_then-first, behavior_then-second, events_extend}
 use Rattle.sum_words.specs.declared.tool.Tool.{Tool}
@@ -58,18 +59,23 @@ pub left-next : (old new : List ByteString) (next : Option (Bor ByteString)) →
 left-next old new None h = h.0
 left-next old new (Some name) h = h
 
+-- the status is 0 only if all is good
+pub good_status : (good : Bool) (status : ℕ) → status ≡ status_of good → status ≡ 0 → good ≡ true
+good_status true status is zero = refl
+good_status false status is zero = cc
+
 -- the operands before the rest were done, from x to y, if both outputs were flushed
 pub record HasReached (o : OperandsOfRun) (rest : List ByteString) (x y : StreamsState) (good : Bool) : Type 0 where
-  pub known : KeepsKnown x.inputs y.inputs
-  pub reached : IsFlushed x.outputs → IsStdinUnread x.inputs → (w : World) → Agrees w y.inputs
+  pub reads : ReadsToEndIf (good ≡ true) x.inputs y.inputs
+  pub reached : IsFlushed x.outputs → (w : World) → Agrees w y.inputs
       → HasDoneOperands o.one o.names rest (world_at w x.inputs) (world_at w y.inputs) x y good
 
 module _ {o : OperandsOfRun} where
   -- before the first operand nothing happened
   pub operands_done_start : {rest : List ByteString} {a : StreamsState} → o.names ≡ rest → HasReached o rest a a true
   operands_done_start {a = a} is = record {
-    known = KeepsKnown-none a.inputs;
-    reached = λ flushed new w agrees. record {
+    reads = reads_none a.inputs;
+    reached = λ flushed w agrees. record {
       done = nothing;
       total = ap (operands_behavior o.one (world_at w a.inputs)) is;
       happened = Happened-none a;
@@ -78,16 +84,15 @@ module _ {o : OperandsOfRun} where
   }
 
   -- one operand more happened
-  pub operands_done_step : {good : Bool} {name : ByteString} {rest : List ByteString} {x y : StreamsState}
+  pub operands_done_step : {Whole : Type 0} {good : Bool} {name : ByteString} {rest : List ByteString} {x y : StreamsState}
       (this : Bool) (z : StreamsState) → HasReached o (name ∷ rest) x y good
-      → (IsFlushed x.outputs → IsFlushed y.outputs) → KeepsKnown y.inputs z.inputs
+      → (IsFlushed x.outputs → IsFlushed y.outputs) → (this ≡ true → Whole) → ReadsToEndIf Whole y.inputs z.inputs
       → Performs (λ w. o.one w name) (λ g. g) y z (Ok this) → HasReached o rest x z (good && this)
-  operands_done_step {name = name} {rest = rest} {x = x} {y = y} this z h kept known k = record {
-    known = KeepsKnown-then h.known known;
-    reached = λ flushed new w agrees.
-        let here = unread_then x.inputs y.inputs h.known.stdin new in
-        let p = h.reached flushed new w (agrees_before agrees known here) in
-        let q = k (kept flushed) here w agrees in
+  operands_done_step {good = good} {name = name} {rest = rest} {x = x} {y = y} this z h kept whole reads k = record {
+    reads = reads_then (λ all. let parts = and_parts good this all in (parts.0, whole parts.1)) h.reads reads;
+    reached = λ flushed w agrees.
+        let p = h.reached flushed w (agrees_before agrees reads) in
+        let q = k (kept flushed) w agrees in
         let v = world_at w y.inputs in
         let run = o.one v name in
         let world : world_at w z.inputs ≡ after v (asks run) =
@@ -104,23 +109,22 @@ module _ {o : OperandsOfRun} where
   -- no operand is left
   pub operands_done_end : {good : Bool} {x y : StreamsState} → HasReached o [] x y good
       → Performs (λ w. operands_behavior o.one w o.names) status_of x y (Ok (status_of good))
-  operands_done_end {x = x} {y = y} h = λ flushed new w agrees.
-      let p = h.reached flushed new w agrees in
+  operands_done_end {x = x} {y = y} h = λ flushed w agrees.
+      let p = h.reached flushed w agrees in
       let total = p.total ∙ behavior_then-nothing p.done in (
         ap status_of (p.is ∙ ap (λ (r : Behavior). r.good) (sym total)),
         subst (λ (r : Behavior). Happened x y (trace r.steps)) (sym total) p.happened,
       )
 
   -- the next operand stopped the run
-  pub operands_done_stop : {good : Bool} {name : ByteString} {rest : List ByteString} {x y : StreamsState}
+  pub operands_done_stop : {Whole : Type 0} {good : Bool} {name : ByteString} {rest : List ByteString} {x y : StreamsState}
       (stop : Stop) (z : StreamsState) → HasReached o (name ∷ rest) x y good
-      → (IsFlushed x.outputs → IsFlushed y.outputs) → KeepsKnown y.inputs z.inputs
+      → (IsFlushed x.outputs → IsFlushed y.outputs) → ReadsToEndIf Whole y.inputs z.inputs
       → Performs (λ w. o.one w name) (λ g. g) y z (Err stop)
       → Performs (λ w. operands_behavior o.one w o.names) status_of x z (Err stop)
-  operands_done_stop {name = name} {rest = rest} {x = x} {y = y} stop z h kept known k = λ flushed new w agrees.
-      let here = unread_then x.inputs y.inputs h.known.stdin new in
-      let p = h.reached flushed new w (agrees_before agrees known here) in
-      let q = k (kept flushed) here w agrees in
+  operands_done_stop {name = name} {rest = rest} {x = x} {y = y} stop z h kept reads k = λ flushed w agrees.
+      let p = h.reached flushed w (agrees_before agrees reads) in
+      let q = k (kept flushed) w agrees in
       let v = world_at w y.inputs in
       let run = o.one v name in
       let later = operands_behavior o.one (after v (asks run)) rest in

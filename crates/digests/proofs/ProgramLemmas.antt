@@ -21,12 +21,12 @@ Performs-flushed : (run : World → Behavior) (a b : StreamsState) (outputs : Ou
     (later : Result ℕ Stop) → Performs run status_of a b (Ok x)
     → FlushesBoth b.outputs outputs (Ok x) later → KeepsBoth b.outputs outputs
     → Performs run status_of a (record b { outputs = outputs }) later
-Performs-flushed run a b outputs x (Ok y) ran flushes kept = λ flushed new w agrees.
-    let p = ran flushed new w agrees in
+Performs-flushed run a b outputs x (Ok y) ran flushes kept = λ flushed w agrees.
+    let p = ran flushed w agrees in
     (flushes.0 ∙ p.0, Happened-kept (trace (run (world_at w a.inputs)).steps) outputs p.1 kept)
-Performs-flushed run a b outputs x (Err stop) ran flushes kept = rw flushes.0 (λ flushed new w agrees.
+Performs-flushed run a b outputs x (Err stop) ran flushes kept = rw flushes.0 (λ flushed w agrees.
     let all = trace (run (world_at w a.inputs)).steps in
-    (all, ([], sym (append-nil all)), Happened-kept all outputs (ran flushed new w agrees).1 kept))
+    (all, ([], sym (append-nil all)), Happened-kept all outputs (ran flushed w agrees).1 kept))
 
 -- a run and its end, by the run's answer and what the flushes returned; b is how things stood between
 pub CallPerforms-finished : (status : ℕ) (line : Option CommandLineValue) (a b : StreamsState)

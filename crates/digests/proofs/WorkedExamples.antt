@@ -61,7 +61,7 @@ record Outcome : Type 0 where
 -- the outcome of a tool's words, if the file `l` has the first content and standard input the second
 abbrev outcome : Tool → List ByteString → Content → Content → Outcome
 outcome tool words l input =
-    let w : World = record { answer = λ n. answer_with l; input = input; opened = 0; stdin_taken = false } in
+    let w : World = record { answer = λ n. answer_with l; next = 0; stdin = input } in
     let run = meaning tool words w in
     record { out = out_text run; err = err_text run; asks = asks run; good = run.good }
 

@@ -1,4 +1,5 @@
 pub mod Meaning
 pub mod Program
 pub mod GenerationRuns
+pub mod InMemory
 pub mod refinement

@@ -1,7 +1,6 @@
 -- What the program does, from the list of its arguments to its status.
-use Rattle.std.specs.Prelude.{ℕ, ◌≡◌, ◌⊎◌, false, List, [], Option, None, Some, Result, Ok, Err, IfSome}
-use Rattle.sum_lines.specs.sinks.Sinks.{SinkState, IsPrefix, Appends}
-use Rattle.digest_kinds.specs.Limits.{one_more}
+use Rattle.std.specs.Prelude.{ℕ, ◌≡◌, ◌+◌, ◌++◌, ◌⊎◌, false, List, [], Option, None, Some, Result, Ok, Err, IfSome}
+use Rattle.sum_lines.specs.sinks.Sinks.{SinkState, IsPrefix}
 use Rattle.sum_engine.specs.Behavior.{World, Behavior, single_step, ByteString}
 use Rattle.sum_engine.specs.Execution.{OutputsState, StreamsState, IsFlushed, FailuresMatch, Performs}
 use Rattle.sum_words.specs.CommandLines.{CommandLineValue, unknown_tool, invoke, command_line, NeedsMemory}
@@ -21,8 +20,8 @@ call_stop_line line stop = []
 
 -- an output wrote a line: all of it, or a prefix if the output failed
 abbrev pub WritesLine : ByteString → SinkState → SinkState → Type 0
-WritesLine line a b = (said : ByteString) × Appends a.written b.written said
-    × (((said ≡ line) × (b.failures ≡ a.failures)) ⊎ (IsPrefix said line × (b.failures ≡ one_more a.failures)))
+WritesLine line a b = (said : ByteString) × (b.written ≡ a.written ++ said)
+    × (((said ≡ line) × (b.failures ≡ a.failures)) ⊎ (IsPrefix said line × (b.failures ≡ a.failures + 1)))
 
 -- a run's status is returned; after a stop, standard error gets its line, and the status is 1
 abbrev pub ReportsStop : (Stop → ByteString) → Result ℕ Stop → OutputsState → OutputsState → ℕ → Type 0

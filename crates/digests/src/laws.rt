@@ -1,5 +1,24 @@
-//! The laws of what the tools wrote. Each is the contract of a function that does nothing.
+//! The laws of a run over files in memory, and of what the tools wrote. Each is the contract of a function that does
+//! nothing.
 ghost use Rattle.digests.specs.GenerationRuns.{WrittenIsGood, JoinedIsGood};
+ghost use Rattle.digests.specs.InMemory.{MeansInMemory};
+
+use sum_engine::laws::some_world_agrees;
+use sum_engine::{Inputs, Outputs, Streams};
+use sum_lines::Sink;
+use sum_sources::{Input, Source};
+
+/// The headline for files in memory, of whatever types. Say that `run` left these streams, and that before it both
+/// outputs were flushed, and the files and the standard input were in memory. Then the outputs got exactly the bytes,
+/// and `run` returned exactly the status, that the words mean by the whole contents of these; or it stopped, and a
+/// prefix of the run happened.
+pub fn told_performs<I: Input, S: Source, O: Sink, E: Sink>(
+    streams: &Streams<Inputs<I, S>, Outputs<O, E>>,
+)
+    ensures { MeansInMemory streams.now }
+{
+    some_world_agrees(&streams.inputs);
+}
 
 /// A tool accepts what it wrote. Say that `md5sum a b` wrote the manifest `SUMS`. Then `md5sum --check -- SUMS` ends
 /// with status 0, and writes `a: OK` and `b: OK` and nothing else. Other settings of checking may precede `--`: with

@@ -1,6 +1,6 @@
 //! The run of a tool on its words.
-ghost use Rattle.std.specs.Prelude.{◌≡◌, ◌∷◌};
-ghost use Rattle.sum_engine.specs.Execution.{IsFlushed, FailuresMatch, KeepsKnown};
+ghost use Rattle.std.specs.Prelude.{◌≡◌, ◌∷◌, true, Ok};
+ghost use Rattle.sum_engine.specs.Execution.{IsFlushed, FailuresMatch, ReadsToEndIf};
 ghost use Rattle.sum_engine.specs.Execution.{RefusalsMatch, StopHasCause, Performs};
 ghost use Rattle.sum_engine.specs.refinement.FlushedWrites.{outcome_after};
 ghost use Rattle.sum_words.specs.Tools.{name_of};
@@ -31,14 +31,15 @@ pub fn run<A: Allocator + Copy, I: Input + Drop, S: Source, O: Sink, E: Sink>(
     words: &Words<A>,
     streams: &mut Streams<Inputs<I, S>, Outputs<O, E>>,
 ) -> Result<u8, Stop>
-    // If both outputs are flushed: the behavior that the words mean, in each world that agrees with what was read.
+    // If both outputs are flushed: the behavior that the words mean, in every world that agrees with what was read.
     ensures behavior { Performs (meaning tool words.now) status_of streams.old streams.new result }
     ensures flushed { IsFlushed streams.old.outputs → IsFlushed streams.new.outputs }
     // Refusals rise only as the request allows.
     ensures refusals { RefusalsMatch (AllowsRefusals (request tool words.now)) streams.old.inputs
         streams.new.inputs result }
     ensures failures { FailuresMatch streams.old.outputs streams.new.outputs result }
-    ensures known { KeepsKnown streams.old.inputs streams.new.inputs }
+    // Status 0 only if all that was opened was read to its end; and never further.
+    ensures reads { ReadsToEndIf (result ≡ Ok 0) streams.old.inputs streams.new.inputs }
 {
     run_request(alloc, tool, read_words(tool, words), streams)
 }
@@ -53,7 +54,7 @@ fn run_request<A: Allocator + Copy, I: Input + Drop, S: Source, O: Sink, E: Sink
     ensures behavior { Performs (request_behavior tool (result_value asked.entry)) status_of streams.old
         streams.new result }
     ensures cause { StopHasCause (AllowsRefusals (result_value asked.entry)) streams.old streams.new result }
-    ensures known { KeepsKnown streams.old.inputs streams.new.inputs }
+    ensures reads { ReadsToEndIf (result ≡ Ok 0) streams.old.inputs streams.new.inputs }
 {
     match asked {
         Err(fault) => status_after_write(
@@ -103,7 +104,7 @@ fn run_operand<A: Allocator + Copy, I: Input + Drop, S: Source, O: Sink, E: Sink
     ensures behavior { Performs (λ w. operand_behavior job.now (name_of tool) w name.now) (λ good. good)
         streams.old streams.new result }
     ensures cause { StopHasCause (JobAllowsRefusals job.now) streams.old streams.new result }
-    ensures known { KeepsKnown streams.old.inputs streams.new.inputs }
+    ensures reads { ReadsToEndIf (result ≡ Ok true) streams.old.inputs streams.new.inputs }
 {
     match job {
         Job::Generate(settings) => generate_one(settings, tool.name(), name, streams),
@@ -133,7 +134,7 @@ fn run_operands<A: Allocator + Copy, I: Input + Drop, S: Source, O: Sink, E: Sin
         (or_dash operands.entry)) status_of
         streams.old streams.new result }
     ensures cause { StopHasCause (JobAllowsRefusals job.now) streams.old streams.new result }
-    ensures known { KeepsKnown streams.old.inputs streams.new.inputs }
+    ensures reads { ReadsToEndIf (result ≡ Ok 0) streams.old.inputs streams.new.inputs }
 {
     let mut operands = operands;
     let mut next = Some(first_name(&mut operands));

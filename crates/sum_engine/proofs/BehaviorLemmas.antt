@@ -2,7 +2,7 @@
 use Rattle.std.proofs.Common.{rules, ◌≡◌, ℕ, Bool, List, [], ◌∷◌, ◌++◌, Option, Result, Ok, Err, refl, ap, sym, ◌∙◌, subst, append_assoc, append-nil, flat_map, filter_map}
 use Rattle.std.proofs.lemmas.Grind.{flat_map-append}
 use Rattle.std.proofs.lemmas.List.Elements.{filter_map-append}
-use Rattle.sum_engine.specs.Execution.{Stop, Memory, Write, StreamsState, AsksNames, Agrees, world_at, IsStdinUnread, Happened, PerformsSteps, Performs}
+use Rattle.sum_engine.specs.Execution.{Stop, Memory, Write, StreamsState, AsksNames, Agrees, world_at, Happened, PerformsSteps, Performs}
 use Rattle.sum_engine.specs.Behavior.{World, Event, Step, Behavior, trace, events_of, single_step}
 use Rattle.sum_engine.specs.check.CheckerSteps.{step_then}
 use Rattle.sum_engine.specs.check.CheckerLaws.{EventsExtend}
@@ -90,18 +90,17 @@ done_stops {a = a} {b = b} c x y step later stop h is k =
 -- the step was done, or a prefix of it
 pub Performs-step : {A : Type 0} (run : World → Behavior) (outcome : Bool → A) (good : Bool) (a b : StreamsState)
     {names : List (List ℕ)} {err out : List ℕ} {x : Result A Stop} → AsksNames a.inputs b.inputs names
-    → (IsStdinUnread a.inputs → (w : World) → Agrees w b.inputs
-    → run (world_at w a.inputs) ≡ single_step names err out good)
+    → ((w : World) → Agrees w b.inputs → run (world_at w a.inputs) ≡ single_step names err out good)
     → WritesAndReturns a.outputs b.outputs err out (outcome good) x → Performs run outcome a b x
-Performs-step run outcome good a b {names} {err} {out} asked is said = λ flushed new w agrees.
+Performs-step run outcome good a b {names} {err} {out} asked is said = λ flushed w agrees.
     let came = HappenedOrPrefix-by a b names err out said.written asked (said.writes.1 flushed).1 in
-    rw (is new w agrees, said.returns) (step_performed (outcome good) a b _ said.written came)
+    rw (is w agrees, said.returns) (step_performed (outcome good) a b _ said.written came)
 
 -- the source had no memory to open the first step's name
 pub Performs-refused : {A : Type 0} (run : World → Behavior) (outcome : Bool → A) (a b : StreamsState)
     → ((w : World) → (s : Step) × (rest : List Step) × ((run w).steps ≡ s ∷ rest))
     → MemoryWasRefused a.inputs b.inputs → b.outputs ≡ a.outputs → Performs run outcome a b (Err Memory)
-Performs-refused run outcome a b first refused outputs = λ flushed new w agrees.
+Performs-refused run outcome a b first refused outputs = λ flushed w agrees.
     let next = first (world_at w a.inputs) in
     refused_first next.0 next.1 next.2 (refused_in a b next.0 refused outputs)
 

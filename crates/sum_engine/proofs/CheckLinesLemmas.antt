@@ -1,19 +1,20 @@
 -- `check_lines`: a new checker runs to its end. What happened so far and what remains is the whole behavior
 -- (`HasComeTo`). A step that goes on keeps this. The step that ends or stops proves the contract by it.
-use Rattle.std.proofs.Common.{rules, ◌≡◌, ℕ, Bool, List, [], ◌∷◌, Result, Ok, Err, Some, None, true, false, refl, ap, ◌∙◌, subst}
+use Rattle.std.proofs.Common.{rules, ◌≡◌, ℕ, Bool, List, [], ◌∷◌, Result, Ok, Err, Some, None, true, false, refl, ap, ◌∙◌, subst, arith}
+use Rattle.sum_sources.specs.Contents.{unread}
 use Rattle.sum_engine.specs.Behavior.{World, Step, Behavior, Content, InputState, clip}
 use Rattle.sum_engine.specs.check.CheckStates.{CheckState, initial_state, IsAtStart, remaining_behavior, CursorValue, state_at, InEachCheck}
 use Rattle.sum_engine.specs.check.CheckerSteps.{Progress, Going, Ended, StepIs, TakesStep, step_then, progress_before, step_answer, CheckerValue, AdvancesChecker}
-use Rattle.sum_engine.specs.check.NextVerdict.{VerdictResult, LineVerdict}
+use Rattle.sum_engine.specs.check.NextVerdict.{VerdictResult, LineVerdict, counts_after, IsNotUnread}
 use Rattle.sum_sources.specs.declared.line_reader.LineStop.TheVariants.{Fault, Memory}
 use Rattle.sum_sources.specs.LineReaders.{remaining, IsReading}
 use Rattle.sum_engine.specs.check.CheckerLaws.{ManifestPerforms}
 use Rattle.sum_engine.specs.check.Verdicts.{Rules, all_verdicts}
-use Rattle.sum_engine.specs.Execution.{Stop, StreamsState, IsFlushed, IsStdinUnread, KeepsKnown, world_at, PerformsSteps}
+use Rattle.sum_engine.specs.Execution.{Stop, StreamsState, IsFlushed, IsAtEndIf, world_at, PerformsSteps}
 use Rattle.sum_engine.specs.check.Reports.{LabelsValue}
 use Rattle.sum_engine.specs.check.Checking.{content_behavior}
 use Rattle.sum_engine.proofs.CountLemmas.{counts_then-none}
-use Rattle.sum_engine.proofs.WorldLemmas.{KeepsKnown-none, KeepsKnown-then, unread_then, agrees_before}
+use Rattle.sum_engine.proofs.WorldLemmas.{agrees_before}
 use Rattle.sum_engine.proofs.BehaviorLemmas.{HasDoneUpTo, done_none, done_more, done_end, done_stops}
 
 -- ---- before the first step
@@ -58,6 +59,22 @@ done_last c step later (Ok good) h is k =
 done_last {whole} c step later (Err stop) h is k =
     done_stops c whole.good (progress_before later.steps later.good) step later stop h is k
 
+-- it returns that all is good only at the end, and only if each listed file could be read
+pub good_end : {I : Type 0} (q : CursorValue I) (found : VerdictResult) (failed : Bool)
+    → Ok (Ended true) ≡ step_answer q found failed → (found ≡ Ok None) × (q.counts.unread ≡ 0)
+good_end q (Ok (Some v)) true is = cc
+good_end q (Ok (Some v)) false is = cc
+good_end q (Ok None) true is = cc
+good_end q (Ok None) false is = search rules
+good_end q (Err Memory) failed is = cc
+good_end q (Err (Fault f)) true is = cc
+good_end q (Err (Fault f)) false is = cc
+
+-- none was counted that could not be read only if none was before, and this one isn't such a line
+pub none_unread : {I : Type 0} (p q : CursorValue I) (found : VerdictResult) → q.counts ≡ counts_after p.counts found
+    → q.counts.unread ≡ 0 → (p.counts.unread ≡ 0) × IsNotUnread found
+none_unread p q found counted none = search (rules, arith)
+
 -- a step goes on only after a line
 pub step-goes : {I : Type 0} (q : CursorValue I) (found : VerdictResult) (failed : Bool)
     → Ok Going ≡ step_answer q found failed → (v : LineVerdict) × (found ≡ Ok (Some v))
@@ -83,7 +100,7 @@ module _ {I : Type 0} (state : I → InputState) (first : CheckerValue I) (m : S
   -- P holds between the state there and that at another place and streams, if both outputs were flushed, of an input that
   -- was unread
   abbrev HoldsUpTo : CursorValue I → StreamsState → (CheckState → CheckState → Type 0) → Type 0
-  HoldsUpTo q n P = IsFlushed m.outputs → IsReading state first.cursor.reader → IsStdinUnread m.inputs
+  HoldsUpTo q n P = IsFlushed m.outputs → IsReading state first.cursor.reader
       → InEachCheck state first.cursor q m.inputs n.inputs P
 
   -- the check came so far, to this checker and these streams, by the same rules and labels
@@ -91,7 +108,7 @@ module _ {I : Type 0} (state : I → InputState) (first : CheckerValue I) (m : S
     pub rules : q.cursor.rules ≡ first.cursor.rules
     pub labels : q.labels ≡ first.labels
     pub flushed : IsFlushed m.outputs → IsFlushed n.outputs
-    pub known : KeepsKnown m.inputs n.inputs
+    pub reading : IsReading state first.cursor.reader → IsReading state q.cursor.reader
     pub happened : HoldsUpTo q.cursor n (λ a b. HasDoneUpTo (left a) (left b) m n)
 
   -- it begins so
@@ -100,33 +117,28 @@ module _ {I : Type 0} (state : I → InputState) (first : CheckerValue I) (m : S
     rules = refl;
     labels = refl;
     flushed = λ flushed. flushed;
-    known = KeepsKnown-none m.inputs;
-    happened = λ flushed reading new. record {
+    reading = λ reading. reading;
+    happened = λ flushed reading. record {
       holds = λ c of w agrees.
           done_none (left (state_at first.cursor (remaining first.cursor.reader c) (world_at w m.inputs))) m;
-      reading = reading;
-      before = λ c of. of;
     };
   }
 
   -- after a step more, which returned x, P holds if it follows of what happened before and of the step
-  one_more_step : {q : CheckerValue I} {n : StreamsState} (next : CheckerValue I) (o : StreamsState)
-      (vector : List ℕ) (x : Result Progress Stop) {P : CheckState → CheckState → Type 0} → HasComeTo q n
-      → TakesStep state vector q.labels q.cursor next.cursor n o x → KeepsKnown n.inputs o.inputs
+  one_more_step : {q : CheckerValue I} {n : StreamsState} (next : CheckerValue I) (o : StreamsState) (vector : List ℕ)
+      (x : Result Progress Stop) {P : CheckState → CheckState → Type 0} → HasComeTo q n
+      → AdvancesChecker state vector q next n o x → TakesStep state vector q.labels q.cursor next.cursor n o x
       → ((a b d : CheckState) → HasDoneUpTo (left a) (left b) m n
       → StepIs first.cursor.rules first.labels vector b d n o x → P a d)
       → HoldsUpTo next.cursor o P
-  one_more_step {q} {n} next o vector x h step known follows = λ flushed reading new.
-      let here = h.happened flushed reading new in
-      let unread = unread_then m.inputs n.inputs h.known.stdin new in
-      let stepped = step (h.flushed flushed) here.reading unread in
+  one_more_step {q = q} {n = n} next o vector x h advances step follows = λ flushed reading.
+      let here = h.reading reading in
+      let before = h.happened flushed reading in
+      let stepped = step (h.flushed flushed) here in
       record {
         holds = λ c of w agrees.
-            let before = here.holds c (stepped.before c of) w (agrees_before agrees known unread) in
-            let one = rw (h.rules, h.labels) at (stepped.holds c of w agrees) in
-            follows _ _ _ before one;
-        reading = stepped.reading;
-        before = λ c of. here.before c (stepped.before c of);
+            follows _ _ _ (before.holds c (advances.verdict.cursor.before here c of) w
+            (agrees_before agrees advances.verdict.reads)) (rw (h.rules, h.labels) at (stepped.holds c of w agrees));
       }
 
   -- a step that goes on comes one line further
@@ -137,8 +149,8 @@ module _ {I : Type 0} (state : I → InputState) (first : CheckerValue I) (m : S
     rules = advances.verdict.cursor.rules ∙ h.rules;
     labels = advances.labels ∙ h.labels;
     flushed = λ all. flushed (h.flushed all);
-    known = KeepsKnown-then h.known advances.verdict.known;
-    happened = one_more_step next o vector (Ok Going) h step advances.verdict.known (λ a b d along step.
+    reading = λ reading. advances.verdict.cursor.reading (h.reading reading);
+    happened = one_more_step next o vector (Ok Going) h advances step (λ a b d along step.
         subst (λ later. HasDoneUpTo (left a) later m o)
         (step.going refl).0 (done_more step.step step.later along step.is step.performs.1));
   }
@@ -146,16 +158,31 @@ module _ {I : Type 0} (state : I → InputState) (first : CheckerValue I) (m : S
   -- the step that ends completes the manifest's behavior. One that stops leaves a prefix of it after a write fault,
   -- and whole steps if memory ran out
   pub HasComeTo-last : (q last : CheckerValue I) (n o : StreamsState) (vector : List ℕ) (x : Result Bool Stop)
-      → IsAtStart state first.cursor first.cursor.reader.input → HasComeTo q n → KeepsKnown n.inputs o.inputs
+      → IsAtStart state first.cursor first.cursor.reader.input → HasComeTo q n
+      → AdvancesChecker state vector q last n o (ends x)
       → TakesStep state vector q.labels q.cursor last.cursor n o (ends x)
       → ManifestPerforms first.cursor.rules first.labels (state first.cursor.reader.input)
       (state last.cursor.reader.input) m o x
-  HasComeTo-last q last n o vector x start h known step = λ flushed unread new c of w agrees.
-      let ended : InEachCheck state first.cursor last.cursor m.inputs o.inputs
-      (λ a d. PerformsSteps (left a).steps (left a).good m o x) =
-      one_more_step last o vector (ends x) h step known (λ a b d along step.
-      done_last o step.step step.later x along step.is step.performs) flushed (start.reading unread) new in
+  HasComeTo-last q last n o vector x start h advances step = λ flushed unread c of w agrees.
+      let ended : HoldsUpTo last.cursor o (λ a d. PerformsSteps (left a).steps (left a).good m o x) =
+      one_more_step last o vector (ends x) h advances step (λ a b d along step.
+      done_last o step.step step.later x along step.is step.performs) in
       let all : left (state_at first.cursor (remaining first.cursor.reader c) (world_at w m.inputs))
       ≡ manifest_behavior first.cursor.rules first.labels (clip c) (world_at w m.inputs) =
       behavior-initial first.cursor.rules first.labels start c (world_at w m.inputs) in
-      subst (λ (b : Behavior). PerformsSteps b.steps b.good m o x) all (ended.holds c of w agrees)
+      subst (λ (b : Behavior). PerformsSteps b.steps b.good m o x) all
+      ((ended flushed (start.reading unread)).holds c of w agrees)
+
+  -- ---- how far the manifest's input was read
+
+  -- never past its end or a fault; and to its end, if it is good
+  pub manifest_read : (q last : CheckerValue I) (n o : StreamsState) (vector : List ℕ) (x : Result Bool Stop)
+      → IsAtStart state first.cursor first.cursor.reader.input → HasComeTo q n
+      → AdvancesChecker state vector q last n o (ends x) → (state first.cursor.reader.input).reads ≡ unread
+      → IsAtEndIf (x ≡ Ok true) (state last.cursor.reader.input).reads
+  manifest_read q last n o vector x start h advances unread =
+      let reading = advances.verdict.cursor.reading (h.reading (start.reading unread)) in (
+        reading.past,
+        λ good. reading.end (advances.verdict.cursor.end (good_end last.cursor advances.found advances.failed
+            (rw good at advances.answer)).0),
+      )

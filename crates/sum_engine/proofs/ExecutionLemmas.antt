@@ -1,12 +1,9 @@
 -- What happened from one state to another, one event after another.
-use Rattle.std.proofs.Common.{rules, ◌≡◌, ℕ, List, [], ◌∷◌, ◌++◌, map, Option, None, Some, Result, Ok, Err, refl, inl, inr, append_assoc, append-nil, filter_map}
-use Rattle.std.specs.Io.KnownBytes.{Appends}
-use Rattle.std.proofs.KnownBytes.{Appends-nil, Appends-trans}
+use Rattle.std.proofs.Common.{rules, ◌≡◌, ℕ, List, [], ◌∷◌, ◌++◌, map, Option, None, Some, Result, Ok, Err, refl, ap, sym, ◌∙◌, inl, inr, arith, append_assoc, append-nil, filter_map}
 use Rattle.std.proofs.lemmas.List.{map-append}
 use Rattle.std.proofs.lemmas.List.Elements.{filter_map-append}
-use Rattle.sum_lines.specs.refinement.SinkStates.{AppendsPrefix}
 use Rattle.sum_engine.specs.Behavior.{Event, Step, events_of, open_name, write_err, write_out, opened_name, err_byte, out_byte}
-use Rattle.sum_engine.specs.refinement.FlushedWrites.{WritesBoth, outcome_after}
+use Rattle.sum_engine.specs.refinement.FlushedWrites.{AppendsPrefix, WritesBoth, outcome_after}
 use Rattle.sum_engine.specs.refinement.Names.{MemoryWasRefused}
 use Rattle.sum_engine.specs.Execution.{StreamsState, asked, AsksNames, Stop, Memory, Write, Happened, PrefixHappened, RefusedAt, RunsOutOfMemory, PerformsSteps}
 use Rattle.sum_engine.proofs.WorldLemmas.{asks_none, asks_then}
@@ -50,7 +47,7 @@ asks_by names h = search (rules, kind-all)
 
 -- these names were asked and these texts written
 pub Happened-by : {a b : StreamsState} (names : List (List ℕ)) (err out : List ℕ) → AsksNames a.inputs b.inputs names
-    → Appends a.outputs.err.written b.outputs.err.written err → Appends a.outputs.out.written b.outputs.out.written out
+    → b.outputs.err.written ≡ a.outputs.err.written ++ err → b.outputs.out.written ≡ a.outputs.out.written ++ out
     → Happened a b (events_by names err out)
 Happened-by names err out h p q = search (rules, names-by, err-by, out-by)
 
@@ -60,8 +57,11 @@ Happened-none a = search (rules, asks_none)
 
 -- one thing after another
 pub Happened-then : {a b c : StreamsState} (p q : List Event) → Happened a b p → Happened b c q → Happened a c (p ++ q)
-Happened-then {a} {b} {c} p q h k =
-    search (rules, asks_then, filter_map-append, Appends-trans)
+Happened-then {a} {b} {c} p q h k = record {
+  inputs = search (rules, asks_then, filter_map-append, h.inputs, k.inputs);
+  err = let first = h.err in let then = k.err in grind (arith, append_assoc, filter_map-append);
+  out = let first = h.out in let then = k.out in grind (arith, append_assoc, filter_map-append);
+}
 
 -- ---- a prefix of it
 
@@ -71,12 +71,12 @@ pub prefix_err : {a b : StreamsState} (names : List (List ℕ)) (err out : List 
     → PrefixHappened a b (events_by names err out)
 prefix_err {a} names err out asked h same =
     let rest : List Event = map write_err h.1.0 ++ map write_out out in
-    let did = Happened-by names h.0 [] asked h.2 (rw same (Appends-nil a.outputs.out.written)) in
+    let did = Happened-by names h.0 [] asked h.2 (same ∙ sym (append-nil a.outputs.out.written)) in
     (events_by names h.0 [], (rest, search (rules, map-append, append_assoc)), did)
 
 -- all of it was, and a prefix of the text on standard output
 pub prefix_out : {a b : StreamsState} (names : List (List ℕ)) (err out : List ℕ) → AsksNames a.inputs b.inputs names
-    → Appends a.outputs.err.written b.outputs.err.written err
+    → b.outputs.err.written ≡ a.outputs.err.written ++ err
     → AppendsPrefix a.outputs.out.written b.outputs.out.written out
     → PrefixHappened a b (events_by names err out)
 prefix_out names err out asked all h =
@@ -121,7 +121,7 @@ refused_first {a} next later are here =
 pub record IsKept (b c : StreamsState) : Type 0 where
   pub outputs : c.outputs ≡ b.outputs
   pub asked : asked c.inputs ≡ asked b.inputs
-  pub taken : c.inputs.stdin_taken ≡ b.inputs.stdin_taken
+  pub taken : c.inputs.stdin.taken ≡ b.inputs.stdin.taken
   pub refusals : c.inputs.source.refusals ≡ b.inputs.source.refusals
 
 kept_happened : (a b c : StreamsState) (es : List Event) → IsKept b c → Happened a b es → Happened a c es

@@ -19,4 +19,4 @@ pub mod ListedEntryLemmas
 pub mod GoodLemmas
 pub mod OldNames
 pub mod OldVerdicts
-pub mod LogLaws
+pub mod WorldLaws

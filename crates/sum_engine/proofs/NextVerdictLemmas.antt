@@ -4,14 +4,14 @@ use Rattle.std.specs.Prelude.{◌⊎◌}
 use Rattle.sum_sources.specs.declared.line_reader.LineStop.TheVariants.{Fault, Memory}
 use Rattle.sum_sources.specs.declared.line_reader.Next.{Next}
 use Rattle.sum_sources.specs.declared.line_reader.Next.TheVariants.{Line, NoMore}
-use Rattle.sum_sources.specs.LineReaders.{AdvancesLines, IsBounded, ReadsOn, remaining}
+use Rattle.sum_sources.specs.LineReaders.{AdvancesLines, IsBounded, IsReading, ReadsOn, remaining}
 use Rattle.sum_sources.specs.ManifestLines.{IsNextLine, lines}
 use Rattle.sum_sources.specs.declared.line_reader.LineReader.{LineReader}
 use Rattle.sum_sources.proofs.LineLemmas.{line-some}
 use Rattle.sum_engine.specs.check.NextVerdict.{LineVerdict, line_verdict_value, HasNoVerdictLeft, NextVerdictIs, VerdictResult, counts_after, AdvancesCursor, AsksFor, LineStop}
 use Rattle.sum_engine.specs.check.Verdicts.{Verdict, Rules, lines_under, asks_of, present, ParsedLine}
 use Rattle.sum_engine.specs.Behavior.{Ending, Whole, Broken, World, Content, InputState, after}
-use Rattle.sum_engine.specs.Execution.{InputsState, Agrees, world_at, IsStdinUnread}
+use Rattle.sum_engine.specs.Execution.{InputsState, Agrees, world_at}
 use Rattle.sum_engine.specs.check.CheckStates.{CursorValue, state_at, InEachCheck, CheckState, HandlesLine, next_judged}
 use Rattle.sum_engine.specs.refinement.Names.{NoRoom, MemoryWasRefused}
 use Rattle.sum_engine.specs.refinement.Judging.{JudgeOf, name_in_line, TakesLine, JudgeLineOf, parsed_at, found_verdict}
@@ -40,7 +40,6 @@ judged-line p line said k vector w verdict start stop is h place number = search
 module _ {I : Type 0} (state : I → InputState) (p q : CursorValue I) (reader : LineReader I) (a b : InputsState)
     (line vector : List ℕ) (reads : ReadsOn state p.reader reader (Ok Line) line)
     (number : reader.lines ≡ p.reader.lines + 1) (bounds : IsBounded reader) (now : p.rules.profile ≡ present)
-    (new : IsStdinUnread a)
   where
     -- the place once the line was judged, with the reader's own type
     abbrev then : CursorValue I
@@ -50,13 +49,12 @@ module _ {I : Type 0} (state : I → InputState) (p q : CursorValue I) (reader :
     pub next_verdict-line : (x : Result LineVerdict NoRoom) → TakesLine (record p { reader = reader }) q line
         → length vector ≤ length line → q.counts ≡ counts_after p.counts (found_verdict x)
         → AsksFor vector a b (found_verdict x)
-        → (IsStdinUnread a → (w : World) → Agrees w b
-        → JudgeLineOf (record p { reader = reader }) line vector (world_at w a) x)
+        → ((w : World) → Agrees w b → JudgeLineOf (record p { reader = reader }) line vector (world_at w a) x)
         → InEachCheck state p q a b (λ c d. NextVerdictIs p.rules vector c d (found_verdict x))
     next_verdict-line (Ok found) takes few counted asked judged = rw takes.reader (record {
       holds = λ c of w agrees.
           let (next, both) = reads.line c of in
-          let is = rw number at (judged new w agrees) in
+          let is = rw number at (judged w agrees) in
           let first : CheckState = state_at p (remaining p.reader c) (world_at w a) in
           let last : CheckState = state_at then (remaining reader c) (world_at w b) in
           let f : next_judged p.rules first line ≡ line_verdict_value vector found = is in
@@ -75,31 +73,25 @@ module _ {I : Type 0} (state : I → InputState) (p q : CursorValue I) (reader :
           let world : world_at w b ≡ after (world_at w a) (asks_of (line_verdict_value vector found)) =
           world_after w a b _ asked in
           (search (rules, remaining_next p.rules first last vector handled, f, world, counted), handled);
-      reading = reads.reading;
-      before = reads.before;
     })
     next_verdict-line (Err e) takes few counted asked judged = rw takes.reader (record {
       holds = λ c of w agrees. (
         refused_world w a b asked,
         line-some (remaining p.reader c) (remaining reader c) line (reads.line c of).0,
       );
-      reading = reads.reading;
-      before = reads.before;
     })
 
 -- ---- no line remained, or the reader stopped
 
--- nothing is read again once an answer is final
 module _ {I : Type 0} (state : I → InputState) (p q : CursorValue I) (a : InputsState) (line vector : List ℕ)
     (now : p.rules.profile ≡ present) (counts : q.counts ≡ p.counts)
   where
     -- the reader returned that the content without a line ends so
     no_verdict_left : (e : Ending) (n : Result Next LineStop) → ReadsOn state p.reader q.reader n line
-        → q.reader.final_answer ≡ Some n
         → ((c d : Content) → IsNextLine c d n line
         → (lines c ≡ []) × (c.ending ≡ e) × (d ≡ record { bytes = []; ending = e }))
         → InEachCheck state p q a a (HasNoVerdictLeft p.rules e)
-    no_verdict_left e n reads final ends = record {
+    no_verdict_left e n reads ends = record {
       holds = λ c of w agrees.
           let ended = ends (remaining p.reader c) (remaining q.reader c) (reads.line c of).0 in
           record {
@@ -109,41 +101,36 @@ module _ {I : Type 0} (state : I → InputState) (p q : CursorValue I) (a : Inpu
             counts = counts;
             remaining = ended.2;
           };
-      reading = reads.reading;
-      before = reads.before;
     }
 
     -- the end
     pub next_verdict-end : ReadsOn state p.reader q.reader (Ok NoMore) line
-        → q.reader.final_answer ≡ Some (Ok NoMore)
         → InEachCheck state p q a a (λ c d. NextVerdictIs p.rules vector c d (Ok None))
-    next_verdict-end reads final = no_verdict_left Whole (Ok NoMore) reads final (λ c d is. is)
+    next_verdict-end reads = no_verdict_left Whole (Ok NoMore) reads (λ c d is. is)
 
     -- a fault, or no memory for the line
     pub next_verdict-stopped : (stop : LineStop) → ReadsOn state p.reader q.reader (Err stop) line
-        → q.reader.final_answer ≡ Some (Err stop)
         → InEachCheck state p q a a (λ c d. NextVerdictIs p.rules vector c d (Err stop))
-    next_verdict-stopped (Fault f) reads final = no_verdict_left (Broken f) (Err (Fault f)) reads final (λ c d is. is)
-    next_verdict-stopped Memory reads final = record {
-      holds = λ c of w agrees. (refl, (reads.line c of).0);
-      reading = reads.reading;
-      before = reads.before;
-    }
+    next_verdict-stopped (Fault f) reads = no_verdict_left (Broken f) (Err (Fault f)) reads (λ c d is. is)
+    next_verdict-stopped Memory reads = record { holds = λ c of w agrees. (refl, (reads.line c of).0) }
 
 -- ---- whatever was read
 
 -- how the place advanced, by what the reader returned
 pub cursor-advanced : {I : Type 0} (state : I → InputState) (p q : CursorValue I) (reader : LineReader I)
-    (n : Result Next LineStop) (x : VerdictResult) → q.reader ≡ reader → q.rules ≡ p.rules
+    (n : Result Next LineStop) (line : List ℕ) (x : VerdictResult) → q.reader ≡ reader → q.rules ≡ p.rules
     → q.counts ≡ counts_after p.counts x → AdvancesLines state p.reader reader n
-    → IsBounded reader → ((v : LineVerdict) → x ≡ Ok (Some v) → n ≡ Ok Line) → (x ≡ Ok None → n ≡ Ok NoMore)
+    → IsBounded reader → (IsReading state p.reader → ReadsOn state p.reader reader n line)
+    → ((v : LineVerdict) → x ≡ Ok (Some v) → n ≡ Ok Line) → (x ≡ Ok None → n ≡ Ok NoMore)
     → AdvancesCursor state p q x
-cursor-advanced state p q reader n x is rules counts lines bounds found none = rw is (record {
+cursor-advanced state p q reader n line x is rules counts lines bounds reads found none = rw is (record {
   rules = rules;
   counts = counts;
   number = λ v h. rw (found v h) at lines.lines;
   end = λ h. rw (none h) at lines.final_answer;
-  ahead = lines.ahead;
-  same = lines.same;
+  found = n;
+  reader = lines;
   bounds = bounds;
+  reading = λ reading. (reads reading).reading;
+  before = λ reading. (reads reading).before;
 })

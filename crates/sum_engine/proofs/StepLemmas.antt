@@ -7,7 +7,7 @@ use Rattle.sum_engine.specs.check.Reports.{LabelsValue, end_text, good}
 use Rattle.sum_engine.specs.check.Verdicts.{Rules, asks_of}
 use Rattle.sum_engine.specs.check.CheckStates.{CursorValue, state_at, InEachCheck, CheckState, HandlesLine, remaining_verdicts, remaining_behavior}
 use Rattle.sum_engine.specs.check.CheckerSteps.{Progress, Going, Ended, step_then, progress_before, step_answer, StepIs, TakesStep}
-use Rattle.sum_engine.specs.Execution.{Stop, Write, InputsState, StreamsState, AsksNames, IsStdinUnread, RefusedAt, world_at}
+use Rattle.sum_engine.specs.Execution.{Stop, Write, InputsState, StreamsState, AsksNames, RefusedAt, world_at}
 use Rattle.sum_engine.specs.check.NextVerdict.{AdvancesVerdicts, VerdictResult, line_verdict_value, FindsVerdict, HasNoVerdictLeft}
 use Rattle.sum_engine.specs.refinement.Judging.{found_texts}
 use Rattle.sum_engine.proofs.FlushedWriteLemmas.{writes_and_returns}
@@ -18,19 +18,14 @@ use Rattle.sum_engine.proofs.CountLemmas.{counts_then-nil}
 use Rattle.sum_engine.proofs.RemainingLemmas.{line_step, behavior_by, first_step, found_first, going-before}
 use Rattle.sum_sources.specs.declared.line_reader.LineStop.TheVariants as line_stops
 
--- ---- the states of a check
-
--- what follows of the states
-pub InEachCheck-map : {I : Type 0} {state : I → InputState} {p q : CursorValue I} {a b : InputsState}
+-- what follows of the states of a check
+InEachCheck-map : {I : Type 0} {state : I → InputState} {p q : CursorValue I} {a b : InputsState}
     {P R : CheckState → CheckState → Type 0} → InEachCheck state p q a b P
     → ((c : Content) (v w : World) → P (state_at p (remaining p.reader c) v) (state_at q (remaining q.reader c) w)
     → R (state_at p (remaining p.reader c) v) (state_at q (remaining q.reader c) w))
     → InEachCheck state p q a b R
-InEachCheck-map {a = a} {b = b} h f = record {
-  holds = λ c of w agrees. f c (world_at w a) (world_at w b) (h.holds c of w agrees);
-  reading = h.reading;
-  before = h.before;
-}
+InEachCheck-map {a = a} {b = b} h f =
+    record { holds = λ c of w agrees. f c (world_at w a) (world_at w b) (h.holds c of w agrees) }
 
 -- ---- a step, by the verdict that was found
 
@@ -79,13 +74,12 @@ module _ {I : Type 0} {state : I → InputState} {p q : CursorValue I} (a b : St
   where
     -- the end was found, and its text was written, or a prefix of it
     step_end : (e : Ending) (outcome : Bool) {y : Result Progress Stop}
-        → (IsReading state p.reader → IsStdinUnread a.inputs
-        → InEachCheck state p q a.inputs b.inputs (HasNoVerdictLeft p.rules e))
+        → (IsReading state p.reader → InEachCheck state p q a.inputs b.inputs (HasNoVerdictLeft p.rules e))
         → AsksNames a.inputs b.inputs [] → q.rules ≡ p.rules → outcome ≡ good q.rules e q.counts
         → WritesAndReturns a.outputs b.outputs (end_text q.rules labels e q.counts) [] (Ended outcome) y
         → TakesStep state vector labels p q a b y
-    step_end e outcome found asked same sum wrote = λ flushed reading new.
-        rw wrote.returns (InEachCheck-map (found reading new) (λ c v w f.
+    step_end e outcome found asked same sum wrote = λ flushed reading.
+        rw wrote.returns (InEachCheck-map (found reading) (λ c v w f.
         let r = p.rules in
         let said = rw (same, f.counts) at (wrote.writes.1 flushed).1 in
         let k = remaining p.reader c in
@@ -105,11 +99,12 @@ module _ {I : Type 0} {state : I → InputState} {p q : CursorValue I} (a b : St
         → (x ≡ Err line_stops.Memory → (w ≡ Ok tt) × (b.outputs ≡ a.outputs)) → y ≡ step_answer q x (is_err w)
         → TakesStep state vector labels p q a b y
     -- a line had a verdict; its report is written, and the lines after it remain
-    step_taken (Ok (Some v)) w found did wrote kept is = λ flushed reading new.
+    step_taken (Ok (Some v)) w found did wrote kept is = λ flushed reading.
         let j = line_verdict_value vector v in
-        let said =
-        writes_and_returns w (answered q (Ok (Some v)) Going w refl refl is) (rw did.cursor.rules at wrote) in
-        rw said.returns (InEachCheck-map (found reading new) (λ c v w f.
+        let step = line_step p.rules labels 0 j in
+        let said = writes_and_returns {a = a.outputs} {b = b.outputs} {err = step.err} {out = step.out} w
+        (answered q (Ok (Some v)) Going w refl refl is) (rw did.cursor.rules at wrote) in
+        rw said.returns (InEachCheck-map (found reading) (λ c v w f.
         let k = remaining p.reader c in
         let first = state_at p k v in
         let next = state_at q (remaining q.reader c) w in
@@ -127,8 +122,8 @@ module _ {I : Type 0} {state : I → InputState} {p q : CursorValue I} (a b : St
         step_end (Broken f) false found did.asked did.cursor.rules refl
         (writes_and_returns w (answered q (Err (line_stops.Fault f)) (Ended false) w refl refl is) wrote)
     -- memory ran out before the verdict; nothing is written, and all remains
-    step_taken (Err line_stops.Memory) w found did wrote kept is = λ flushed reading new.
-        rw is (InEachCheck-map (found reading new) (λ c v w f.
+    step_taken (Err line_stops.Memory) w found did wrote kept is = λ flushed reading.
+        rw is (InEachCheck-map (found reading) (λ c v w f.
         let k = remaining p.reader c in
         let first = first_step p.rules labels k.ending p.counts k (remaining_verdicts p.rules (state_at p k v)) in
         let outputs = (kept refl).1 in

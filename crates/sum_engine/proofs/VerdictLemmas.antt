@@ -1,6 +1,8 @@
 -- `judge`: the verdict of an entry, by the outcome of hashing its name.
-use Rattle.std.proofs.Common.{rules, ◌≡◌, ◌&&◌, Bool, false, [], ◌∷◌, Ok, Err, refl}
-use Rattle.sum_engine.specs.refinement.Names.{HashOutcome, IsHashOutcome}
+use Rattle.std.proofs.Common.{rules, ◌≡◌, ◌&&◌, ℕ, List, Bool, false, [], ◌∷◌, Ok, Err, refl, ap}
+use Rattle.sum_engine.specs.refinement.Names.{HashOutcome, IsHashOutcome, IsNotBroken}
+use Rattle.sum_engine.specs.declared.hash_name.HashOutcome.TheVariants.{Read, NotOpened, Broken}
+use Rattle.sum_engine.specs.check.Reports.{is_unread}
 use Rattle.sum_engine.specs.check.Verdicts.{Verdict, Rules, asks_by, EntryValue, entry}
 use Rattle.sum_engine.specs.Behavior.{World, Answer, answer_to, is_dash}
 use Rattle.sum_engine.specs.refinement.Judging.{JudgeOf, verdict_of_outcome}
@@ -19,3 +21,10 @@ judged_entry r w s a verdict dash h is = by (answer_to w s.name) refl h
 pub entry_asks : (ignore : Bool) (s : EntryValue) (a : HashOutcome) (verdict : Verdict)
     → verdict ≡ verdict_of_outcome ignore s.digest a → asks_by verdict s.name ≡ s.name ∷ []
 entry_asks ignore s a verdict is = search rules
+
+-- it says that the file could not be read, if reading it failed
+pub verdict_read : (ignore : Bool) (digest : List ℕ) (a : HashOutcome) (verdict : Verdict)
+    → verdict ≡ verdict_of_outcome ignore digest a → is_unread verdict ≡ false → IsNotBroken (Ok a)
+verdict_read ignore digest (Read d) verdict is read = tt
+verdict_read ignore digest (NotOpened f) verdict is read = tt
+verdict_read ignore digest (Broken f) verdict is read = cc (ap is_unread is)

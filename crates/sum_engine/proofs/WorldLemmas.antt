@@ -1,15 +1,15 @@
 -- Names asked one after another, and the worlds that agree with one call after another.
-use Rattle.std.proofs.Common.{rules, arith, ◌≡◌, ◌∙◌, ◌||◌, ◌+◌, ap, sym, refl, ℕ, suc, false, List, [], ◌∷◌, ◌++◌, Option, None, Some, Result, IfSome, append_assoc, append-nil, inl, inr, length-append}
+use Rattle.std.proofs.Common.{rules, arith, ◌≡◌, ◌∙◌, ◌||◌, ◌+◌, ap, sym, refl, subst, ℕ, suc, Bool, true, false, List, [], ◌∷◌, ◌++◌, Option, None, Some, Result, Ok, Err, IfSome, IfOk, All, append_assoc, append-nil, inl, inr, length-append, if◌then◌else◌}
 use Rattle.std.specs.Prelude.{◌⊎◌, length, filter, not}
 use Rattle.std.specs.List.{list_any}
 use Rattle.std.proofs.Math.Bool.{or_assoc, or-false}
 use Rattle.std.proofs.lemmas.List.{map-append, length-map}
-use Rattle.std.proofs.lemmas.List.Elements.{filter-append}
+use Rattle.std.proofs.lemmas.List.Elements.{filter-append, All-nil, All-cons, All-append, All-weaker}
 use Rattle.std.proofs.lemmas.List.Folds.{list_any-append}
-use Rattle.sum_sources.specs.Contents.{Reads, IsOf, unread}
-use Rattle.sum_sources.specs.Sources.{Opening, and_opening}
-use Rattle.sum_engine.specs.Behavior.{World, Answer, Fault, Content, InputState, is_dash, after_one, after}
-use Rattle.sum_engine.specs.Execution.{InputsState, AsksNames, KeepsKnown, KeepsStdin, TakesStdin, IsStdinUnread, AgreesAnswer, AgreesAnswers, Agrees, asked, world_at}
+use Rattle.sum_sources.specs.Contents.{Reads, IsOf}
+use Rattle.sum_sources.specs.Sources.{Opening, IsOfAnswer, and_opening}
+use Rattle.sum_engine.specs.Behavior.{World, Answer, Fault, empty_content, is_dash, after_one, after}
+use Rattle.sum_engine.specs.Execution.{StdinState, InputsState, AsksNames, AnswersAre, Agrees, asked, world_at, IsAtEndIf, ReadsFile, ReadsStdin, ReadsToEndIf}
 
 -- ---- names asked
 
@@ -27,98 +27,135 @@ pub asks_then : {a b c : InputsState} {names more : List (List ℕ)} → AsksNam
     → AsksNames a c (names ++ more)
 asks_then h k = search (rules, filter-append, append_assoc, list_any-append, or_assoc)
 
--- ---- what is known
+-- ---- what was read
 
--- of standard input, over one call and another
-pub KeepsStdin-then : (a b c : InputsState) → KeepsStdin a b → KeepsStdin b c → KeepsStdin a c
-KeepsStdin-then a b c h k = k ∙ ap (λ (m : InputsState). record m { source = c.source }) h
+-- what was read to its end if G holds was read to its end if H holds, from which G follows
+at_end_weaker : {G H : Type 0} (gave : Result Reads Fault) → (H → G) → IfOk gave (IsAtEndIf G) → IfOk gave (IsAtEndIf H)
+at_end_weaker (Ok r) f h = (h.0, λ whole. h.1 (f whole))
+at_end_weaker (Err e) f h = tt
 
-pub stdin_then : (a b c : InputsState) → KeepsStdin a b ⊎ TakesStdin a b → KeepsStdin b c ⊎ TakesStdin b c
-    → KeepsStdin a c ⊎ TakesStdin a c
-stdin_then a b c (inl h) (inl k) = inl (KeepsStdin-then a b c h k)
+stdin_weaker : {G H : Type 0} (a b : StdinState) → (H → G) → (b ≡ a) ⊎ ReadsStdin G a b → (b ≡ a) ⊎ ReadsStdin H a b
+stdin_weaker a b f (inl same) = inl same
+stdin_weaker a b f (inr (r, new, is, read)) = inr (r, new, is, at_end_weaker (Ok r) f read)
+
+pub reads_weaker : {G H : Type 0} {a b : InputsState} → (H → G) → ReadsToEndIf G a b → ReadsToEndIf H a b
+reads_weaker {G = G} {H = H} {a = a} {b = b} f h = record {
+  told = h.told;
+  openings = (
+    h.openings.0,
+    h.openings.1,
+    All-weaker (ReadsFile G) (ReadsFile H)
+        (λ o (gave, is, read). (gave, is, at_end_weaker gave f read)) h.openings.0 h.openings.2,
+  );
+  stdin = stdin_weaker a.stdin b.stdin f h.stdin;
+}
+
+-- nothing was opened
+pub reads_none : {Whole : Type 0} (a : InputsState) → ReadsToEndIf Whole a a
+reads_none {Whole} a = record {
+  told = refl;
+  openings = ([], sym (append-nil a.source.openings), All-nil (ReadsFile Whole));
+  stdin = inl refl;
+}
+
+-- standard input over one call and another: it is put back once
+stdin_then : {Whole : Type 0} (a b c : StdinState) → (b ≡ a) ⊎ ReadsStdin Whole a b → (c ≡ b) ⊎ ReadsStdin Whole b c
+    → (c ≡ a) ⊎ ReadsStdin Whole a c
+stdin_then a b c (inl h) (inl k) = inl (k ∙ h)
 stdin_then a b c (inl h) (inr k) = inr (rw h at k)
 stdin_then a b c (inr h) (inl k) = inr (rw k h)
 stdin_then a b c (inr h) (inr k) = cc
 
--- nothing is forgotten
-pub KeepsKnown-none : (a : InputsState) → KeepsKnown a a
-KeepsKnown-none a = record { told = refl; openings = ([], search (rules, append-nil)); stdin = inl refl }
-
-pub KeepsKnown-then : {a b c : InputsState} → KeepsKnown a b → KeepsKnown b c → KeepsKnown a c
-KeepsKnown-then {a} {b} {c} h k = record {
+-- one call and another
+reads_both : {Whole : Type 0} {a b c : InputsState} → ReadsToEndIf Whole a b → ReadsToEndIf Whole b c
+    → ReadsToEndIf Whole a c
+reads_both {Whole} {a} {b} {c} h k = record {
   told = k.told ∙ h.told;
-  openings = (h.openings.0 ++ k.openings.0, search (rules, append_assoc));
-  stdin = stdin_then a b c h.stdin k.stdin;
+  openings = (
+    h.openings.0 ++ k.openings.0,
+    k.openings.1 ∙ ap (λ os. os ++ k.openings.0) h.openings.1 ∙ append_assoc a.source.openings h.openings.0 k.openings.0,
+    All-append (ReadsFile Whole) h.openings.0 k.openings.0 h.openings.2 k.openings.2,
+  );
+  stdin = stdin_then a.stdin b.stdin c.stdin h.stdin k.stdin;
 }
 
--- unless it is taken, standard input stays unread
-pub unread_then : (a b : InputsState) → KeepsStdin a b ⊎ TakesStdin a b → IsStdinUnread a → IsStdinUnread b
-unread_then a b (inl h) new = rw h new
-unread_then a b (inr h) new = λ untaken. cc
+pub reads_then : {G H K : Type 0} {a b c : InputsState} → (K → G × H) → ReadsToEndIf G a b → ReadsToEndIf H b c
+    → ReadsToEndIf K a c
+reads_then f h k = reads_both (reads_weaker (λ x. (f x).0) h) (reads_weaker (λ x. (f x).1) k)
 
 -- one name was opened
-pub one_opening : (a b : InputsState) (name : List ℕ) (gave : Option (Result Reads Fault)) → is_dash name ≡ false
-    → b.source ≡ and_opening a.source name gave → KeepsStdin a b → AsksNames a b (name ∷ []) × KeepsKnown a b
-one_opening a b name gave file is stdin = (
-  record {
-    asked = rw is (map-append (λ o. o.name) a.source.openings (record { name = name; gave = gave } ∷ [])
-        ∙ rw file refl);
-    taken = rw (stdin, file) (search (rules, or-false));
-    refusals = rw is refl;
-  },
-  record { told = rw is refl; openings = (record { name = name; gave = gave } ∷ [], rw is refl); stdin = inl stdin },
-)
+pub asks_one : (a b : InputsState) (name : List ℕ) (gave : Option (Result Reads Fault)) → is_dash name ≡ false
+    → b ≡ record a { source = and_opening a.source name gave } → AsksNames a b (name ∷ [])
+asks_one a b name gave file is = record {
+  asked = rw is (map-append (λ o. o.name) a.source.openings (record { name = name; gave = gave } ∷ []) ∙ rw file refl);
+  taken = rw (is, file) (search (rules, or-false));
+  refusals = rw is refl;
+}
+
+pub reads_one : {Whole : Type 0} (a b : InputsState) (name : List ℕ) (gave : Result Reads Fault)
+    → IfOk gave (IsAtEndIf Whole) → b ≡ record a { source = and_opening a.source name (Some gave) }
+    → ReadsToEndIf Whole a b
+reads_one {Whole} a b name gave read is =
+    let o : Opening = record { name = name; gave = Some gave } in
+    record {
+      told = rw is refl;
+      openings = (o ∷ [], rw is refl, All-cons (ReadsFile Whole) o [] (gave, refl, read) (All-nil (ReadsFile Whole)));
+      stdin = inl (rw is refl);
+    }
 
 -- ---- worlds
 
 -- what a name is answered, and standard input, stay as they are
-steady : (w : World) (names : List (List ℕ)) → ((after w names).answer ≡ w.answer) × ((after w names).input ≡ w.input)
-steady w [] = (refl, refl)
+steady : (w : World) (names : List (List ℕ)) → (after w names).answer ≡ w.answer
+steady w [] = refl
 steady w (name ∷ names) = search (rules, steady (after_one w name) names)
 
 -- a source that answers alike whatever came before goes on so
 pub after-steady : (files : List ℕ → Answer) (w : World) (names : List (List ℕ)) → w.answer ≡ (λ opened. files)
     → (after w names).answer ≡ (λ opened. files)
-after-steady files w names same = (steady w names).0 ∙ same
+after-steady files w names same = steady w names ∙ same
 
--- the place in the world
+-- how many openings came before
 place : (w : World) (names : List (List ℕ))
-    → ((after w names).opened ≡ w.opened + length (filter (λ name. not (is_dash name)) names))
-    × ((after w names).stdin_taken ≡ w.stdin_taken || list_any is_dash names)
-place w [] = (omega arith, search (rules, or-false))
-place w (name ∷ names) = grind (arith, place (after_one w name) names, or_assoc)
+    → (after w names).next ≡ w.next + length (filter (λ name. not (is_dash name)) names)
+place w [] = omega arith
+place w (name ∷ names) = grind (arith, place (after_one w name) names)
 
--- what agrees with openings agrees with the first of them; with one among them; and with them before one was closed
-AgreesAnswers-front : (f : ℕ → List ℕ → Answer) (xs ys : List Opening) → AgreesAnswers f (xs ++ ys) → AgreesAnswers f xs
-AgreesAnswers-front f [] ys h = tt
-AgreesAnswers-front f (x ∷ xs) ys h = (h.0, AgreesAnswers-front (λ n. f (suc n)) xs ys h.1)
+-- standard input is empty once it was given
+given : (w : World) (names : List (List ℕ))
+    → (after w names).stdin ≡ (if list_any is_dash names then empty_content else w.stdin)
+given w [] = refl
+given w (name ∷ names) = grind (arith, given (after_one w name) names)
 
-AgreesAnswers-at : (f : ℕ → List ℕ → Answer) (xs ys : List Opening) (o : Opening) → AgreesAnswers f (xs ++ o ∷ ys)
-    → IfSome o.gave (λ known. AgreesAnswer known (f (length xs) o.name))
-AgreesAnswers-at f [] ys o h = h.0
-AgreesAnswers-at f (x ∷ xs) ys o h = AgreesAnswers-at (λ n. f (suc n)) xs ys o h.1
+-- the answers to openings are those to the first of them; to one among them; and also if one of them is open
+AnswersAre-front : (f : ℕ → List ℕ → Answer) (n : ℕ) (xs ys : List Opening) → AnswersAre f n (xs ++ ys)
+    → AnswersAre f n xs
+AnswersAre-front f n [] ys h = tt
+AnswersAre-front f n (x ∷ xs) ys h = (h.0, AnswersAre-front f (suc n) xs ys h.1)
 
-pub AgreesAnswers-open : (f : ℕ → List ℕ → Answer) (xs ys : List Opening) (o : Opening) → AgreesAnswers f (xs ++ o ∷ ys)
-    → AgreesAnswers f (xs ++ record o { gave = None } ∷ ys)
-AgreesAnswers-open f [] ys o h = (tt, h.1)
-AgreesAnswers-open f (x ∷ xs) ys o h = (h.0, AgreesAnswers-open (λ n. f (suc n)) xs ys o h.1)
+AnswersAre-at : (f : ℕ → List ℕ → Answer) (n : ℕ) (xs ys : List Opening) (o : Opening) → AnswersAre f n (xs ++ o ∷ ys)
+    → IsOfAnswer o.gave (f (length xs + n) o.name)
+AnswersAre-at f n [] ys o h = let here : 0 + n ≡ n = omega arith in rw here h.0
+AnswersAre-at f n (x ∷ xs) ys o h =
+    let next : length xs + suc n ≡ suc (length xs) + n = omega arith in
+    subst (λ k. IsOfAnswer o.gave (f k o.name)) next (AnswersAre-at f (suc n) xs ys o h.1)
 
--- what is unread is of every content
-unread_is_of : (x : Option InputState) (c : Content) → IfSome x (λ s. s.reads ≡ unread) → IfSome x (λ s. IsOf s.reads c)
-unread_is_of None c h = tt
-unread_is_of (Some s) c h = rw h (c, refl)
+pub AnswersAre-open : (f : ℕ → List ℕ → Answer) (n : ℕ) (xs ys : List Opening) (o : Opening)
+    → AnswersAre f n (xs ++ o ∷ ys) → AnswersAre f n (xs ++ record o { gave = None } ∷ ys)
+AnswersAre-open f n [] ys o h = (tt, h.1)
+AnswersAre-open f n (x ∷ xs) ys o h = (h.0, AnswersAre-open f (suc n) xs ys o h.1)
 
 -- standard input agrees before it is taken, and stays so afterwards
-input_first : (w : World) (b c : InputsState) → KeepsStdin b c ⊎ TakesStdin b c → IsStdinUnread b
-    → IfSome c.stdin (λ s. IsOf s.reads w.input) → IfSome b.stdin (λ s. IsOf s.reads w.input)
-input_first w b c (inl kept) new of = rw kept at of
-input_first w b c (inr taken) new of = unread_is_of b.stdin w.input (new taken.0)
+stdin_first : {Whole : Type 0} (w : World) (b c : StdinState) → (c ≡ b) ⊎ ReadsStdin Whole b c
+    → IfSome c.reads (λ r. IsOf r w.stdin) → IfSome b.reads (λ r. IsOf r w.stdin)
+stdin_first w b c (inl kept) of = rw kept at of
+stdin_first w b c (inr taken) of = rw taken.1 tt
 
--- a world that agrees with what is known after a call agrees with what was known before it
-pub agrees_before : {w : World} {b c : InputsState} → Agrees w c → KeepsKnown b c → IsStdinUnread b → Agrees w b
-agrees_before {w} {b} {c} h known new = record {
-  answers = AgreesAnswers-front w.answer b.source.openings known.openings.0 (rw known.openings.1 at h.answers);
-  input = input_first w b c known.stdin new h.input;
+-- a world that agrees with what was read after a call agrees with what was read before it
+pub agrees_before : {Whole : Type 0} {w : World} {b c : InputsState} → Agrees w c → ReadsToEndIf Whole b c → Agrees w b
+agrees_before {w = w} {b = b} {c = c} h reads = record {
+  answers = AnswersAre-front w.answer 0 b.source.openings reads.openings.0 (rw reads.openings.1 at h.answers);
+  stdin = stdin_first w b.stdin c.stdin reads.stdin h.stdin;
 }
 
 -- the names that a call asked lead on in the world
@@ -129,13 +166,14 @@ world_after w a b names asks =
     ≡ length a.source.openings + length (filter (λ name. not (is_dash name)) names) =
     sym (length-map b.source.openings (λ (o : Opening). o.name)) ∙ ap length asks.asked ∙ length-append (asked a) _
     ∙ ap (λ n. n + length (filter (λ name. not (is_dash name)) names)) (length-map a.source.openings (λ (o : Opening). o.name)) in
-    search (rules, steady, place, size)
+    search (rules, steady, place, given, size)
 
 -- ---- what an opening gave
 
 -- it is the answer to the name
 pub opening_agrees : {w : World} {b : InputsState} → Agrees w b → (before later : List Opening) (name : List ℕ)
-    (known : Result Reads Fault) → b.source.openings ≡ before ++ record { name = name; gave = Some known } ∷ later
-    → AgreesAnswer known (w.answer (length before) name)
-opening_agrees {w} {b} h before later name known is =
-    AgreesAnswers-at w.answer before later _ (rw is at h.answers)
+    (gave : Result Reads Fault) → b.source.openings ≡ before ++ record { name = name; gave = Some gave } ∷ later
+    → IsOfAnswer (Some gave) (w.answer (length before) name)
+opening_agrees {w} {b} h before later name gave is =
+    let first : length before + 0 ≡ length before = omega arith in
+    rw first at (AnswersAre-at w.answer 0 before later _ (rw is at h.answers))

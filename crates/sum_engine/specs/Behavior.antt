@@ -1,33 +1,32 @@
 -- What a call can ask, the source's files and standard input; and what it does: a list of steps, between which memory
 -- may run out.
-use Rattle.std.specs.Prelude.{ℕ, ◌+◌, ◌&&◌, Bool, true, List, [], ◌∷◌, ◌++◌, map, flat_map, Option, None, Some, codes, Result, Ok, Err, if◌then◌else◌, bytes_eq}
+use Rattle.std.specs.Prelude.{ℕ, ◌+◌, ◌&&◌, Bool, List, [], ◌∷◌, ◌++◌, map, flat_map, Option, None, Some, codes, Result, Ok, Err, if◌then◌else◌, bytes_eq}
 pub use Rattle.digest_kinds.specs.Basics.{ByteString}
 use Rattle.digest_kinds.specs.Kinds.{KindValue, digest}
 pub use Rattle.sum_sources.specs.declared.fault.Fault.{Fault}
 pub use Rattle.sum_sources.specs.declared.fault.Ending.{Ending}
 pub use Rattle.sum_sources.specs.declared.fault.Ending.TheVariants.{Whole, Broken}
-pub use Rattle.sum_sources.specs.Contents.{Content, InputState, IsOf, clip, empty_content}
+pub use Rattle.sum_sources.specs.Contents.{Content, InputState, Reads, IsOf, clip, empty_content}
 pub use Rattle.sum_sources.specs.Sources.{Answer, SourceState}
 
--- what opening a name gives, by how many openings came before (a file may change in between); and standard input
+-- what the outside may be: what each opening gives, by how many came before and by its name (a file may change in
+-- between); and what standard input gives
 pub record World : Type 0 where
   pub answer : ℕ → ByteString → Answer
-  pub input : Content
-  pub opened : ℕ  -- how many openings came before
-  pub stdin_taken : Bool  -- whether standard input was given
+  pub next : ℕ  -- how many openings came before
+  pub stdin : Content
 
 -- the name of standard input
 abbrev pub is_dash : ByteString → Bool
 is_dash name = bytes_eq name (codes "-")
 
--- what opening a name gives. Standard input is given once, and is empty from then on
+-- what opening a name gives
 abbrev pub answer_to : World → ByteString → Answer
-answer_to w name = if is_dash name then Ok (if w.stdin_taken then empty_content else w.input)
-    else w.answer w.opened name
+answer_to w name = if is_dash name then Ok w.stdin else w.answer w.next name
 
--- the world once this name was opened
+-- the world once this name was opened: standard input is given once, and is empty from then on
 abbrev pub after_one : World → ByteString → World
-after_one w name = if is_dash name then record w { stdin_taken = true } else record w { opened = w.opened + 1 }
+after_one w name = if is_dash name then record w { stdin = empty_content } else record w { next = w.next + 1 }
 
 -- the world after these names were asked, one after another
 abbrev pub after : World → List ByteString → World
@@ -39,7 +38,7 @@ abbrev pub digest_by : KindValue → ByteString → Ending → Result (ByteStrin
 digest_by kind bytes Whole = Ok (digest kind bytes)
 digest_by kind bytes (Broken f) = Err f
 
--- what reading a answer gives: the digest of all its bytes, or the fault of opening or reading it
+-- what reading an answer gives: the digest of all its bytes, or the fault of opening or reading it
 abbrev pub digest_or_fault : KindValue → Answer → Result (ByteString) Fault
 digest_or_fault kind (Err f) = Err f
 digest_or_fault kind (Ok c) = digest_by kind (clip c).bytes (clip c).ending

@@ -1,28 +1,34 @@
 -- The state of a call's streams, and what a call performs of a behavior: the form of the headline.
-use Rattle.std.specs.Prelude.{ℕ, zero, suc, ◌≡◌, ◌+◌, ◌⊎◌, Bool, true, false, [], Option, Some, IfSome, Result, Ok, Err, ◌<◌, ◌||◌, List, ◌∷◌, ◌++◌, map, length, filter, not, filter_map, ⊤}
+use Rattle.std.specs.Prelude.{ℕ, ◌≡◌, ◌≢◌, ◌+◌, ◌⊎◌, Bool, true, false, [], Option, None, Some, IfSome, IfOk, Result, Ok, Err, ◌<◌, ◌||◌, List, ◌∷◌, ◌++◌, map, length, filter, not, filter_map, All, if◌then◌else◌}
 use Rattle.std.specs.List.{list_any}
-use Rattle.digest_kinds.specs.Limits.{one_more}
-use Rattle.sum_sources.specs.Contents.{unread, IsSameInput}
-pub use Rattle.sum_sources.specs.Sources.{Opening, AgreesAnswer}
-use Rattle.sum_lines.specs.sinks.Sinks.{SinkState, IsPrefix, Appends}
+use Rattle.sum_sources.specs.declared.inputs.phase.Phase.TheVariants.{AtEnd, Past}
+pub use Rattle.sum_sources.specs.Sources.{Opening, AnswersAre}
+use Rattle.sum_sources.specs.StandardInput.{given_state}
+use Rattle.sum_sources.specs.declared.inputs.stdin.StdinPlace.{StdinPlace}
+use Rattle.sum_sources.specs.declared.inputs.stdin.StdinPlace.TheVariants.{Untaken, Taken, Returned}
+use Rattle.sum_lines.specs.sinks.Sinks.{SinkState, IsPrefix}
 pub use Rattle.sum_engine.specs.declared.streams.Streams.{Streams}
 pub use Rattle.sum_engine.specs.declared.stop.Stop.{Stop}
 pub use Rattle.sum_engine.specs.declared.stop.Stop.TheVariants.{Memory, Write}
-use Rattle.sum_engine.specs.Behavior.{ByteString, World, Answer, is_dash, Event, Step, Behavior, trace, opened_name, err_byte, out_byte, IsOf, InputState, SourceState}
+use Rattle.sum_engine.specs.Behavior.{ByteString, World, Answer, is_dash, Event, Step, Behavior, trace, opened_name, err_byte, out_byte, Content, Reads, IsOf, empty_content, InputState, SourceState, Fault}
 
--- where names are opened: the source; and standard input, of which nothing is known until what was taken is put back
+-- standard input: its content, if that is in memory; whether it was taken; what was read of it, once it was put back
+pub record StdinState : Type 0 where
+  pub told : Option Content
+  pub taken : Bool
+  pub reads : Option Reads
+
+-- that of a value. While it is taken, an empty one stands in for it
+abbrev pub stdin_of : {I : Type 0} → (I → InputState) → StdinPlace I → StdinState
+stdin_of state (Untaken i) = record { told = (state i).told; taken = false; reads = None }
+stdin_of state Taken = record { told = Some empty_content; taken = true; reads = None }
+stdin_of state (Returned given) = let s = given_state state given in
+    record { told = s.told; taken = true; reads = Some s.reads }
+
+-- where names are opened
 pub record InputsState : Type 0 where
   pub source : SourceState
-  pub stdin : Option InputState
-  pub stdin_taken : Bool
-
--- standard input stayed as it was
-abbrev pub KeepsStdin : InputsState → InputsState → Type 0
-KeepsStdin a b = b ≡ record a { source = b.source }
-
--- unless standard input was taken, nothing of it was read
-abbrev pub IsStdinUnread : InputsState → Type 0
-IsStdinUnread a = a.stdin_taken ≡ false → IfSome a.stdin (λ s. s.reads ≡ unread)
+  pub stdin : StdinState
 
 pub record OutputsState : Type 0 where
   pub out : SinkState
@@ -40,8 +46,8 @@ abbrev pub HasNoFailure : OutputsState → OutputsState → Type 0
 HasNoFailure a b = (b.out.failures ≡ a.out.failures) × (b.err.failures ≡ a.err.failures)
 
 abbrev pub HasOneFailure : OutputsState → OutputsState → Type 0
-HasOneFailure a b = ((b.out.failures ≡ one_more a.out.failures) × (b.err.failures ≡ a.err.failures))
-    ⊎ ((b.out.failures ≡ a.out.failures) × (b.err.failures ≡ one_more a.err.failures))
+HasOneFailure a b = ((b.out.failures ≡ a.out.failures + 1) × (b.err.failures ≡ a.err.failures))
+    ⊎ ((b.out.failures ≡ a.out.failures) × (b.err.failures ≡ a.err.failures + 1))
 
 -- a write fault has one failure more, of one output, and any other result none
 abbrev pub FailuresMatch : {A : Type 0} → OutputsState → OutputsState → Result A Stop → Type 0
@@ -68,31 +74,35 @@ pub record StopHasCause {A : Type 0} (Changes : ℕ → ℕ → Type 0) (a b : S
 
 -- ---- what was read
 
--- standard input was taken and put back
-abbrev pub TakesStdin : InputsState → InputsState → Type 0
-TakesStdin a b = (a.stdin_taken ≡ false) × (b.stdin_taken ≡ true)
-    × IfSome a.stdin (λ s. (t : InputState) × (b.stdin ≡ Some t) × IsSameInput s t)
+-- a world agrees with all that was read so far
+pub record Agrees (w : World) (a : InputsState) : Type 0 where
+  pub answers : AnswersAre w.answer 0 a.source.openings
+  pub stdin : IfSome a.stdin.reads (λ r. IsOf r w.stdin)
 
--- what was known of openings stays known; standard input stayed as it was, or was taken
-pub record KeepsKnown (a b : InputsState) : Type 0 where
-  pub told : b.source.told ≡ a.source.told
-  pub openings : (more : List Opening) × (b.source.openings ≡ a.source.openings ++ more)
-  pub stdin : KeepsStdin a b ⊎ TakesStdin a b
-
--- what is known of these openings agrees with these answers to the first of them, to the second, and so on
-abbrev pub AgreesAnswers : (ℕ → ByteString → Answer) → List Opening → Type 0
-AgreesAnswers answer [] = ⊤
-AgreesAnswers answer (o ∷ os) =
-    IfSome o.gave (λ known. AgreesAnswer known (answer zero o.name)) × AgreesAnswers (λ n. answer (suc n)) os
-
--- a world agrees with all that was read
-pub record Agrees (w : World) (b : InputsState) : Type 0 where
-  pub answers : AgreesAnswers w.answer b.source.openings
-  pub input : IfSome b.stdin (λ s. IsOf s.reads w.input)
-
--- the world from a call on
+-- the world from here on
 abbrev pub world_at : World → InputsState → World
-world_at w a = record w { opened = length a.source.openings; stdin_taken = a.stdin_taken }
+world_at w a =
+    record w { next = length a.source.openings; stdin = if a.stdin.taken then empty_content else w.stdin }
+
+-- no read came after an end or a fault, or for no bytes; and if Whole holds, the end was found
+abbrev pub IsAtEndIf : Type 0 → Reads → Type 0
+IsAtEndIf Whole r = (r.phase ≢ Past) × (Whole → r.phase ≡ AtEnd)
+
+-- a file was opened, read so, and closed; or it could not be opened
+abbrev pub ReadsFile : Type 0 → Opening → Type 0
+ReadsFile Whole o = (gave : Result Reads Fault) × (o.gave ≡ Some gave) × IfOk gave (IsAtEndIf Whole)
+
+-- standard input was taken, read so, and put back
+abbrev pub ReadsStdin : Type 0 → StdinState → StdinState → Type 0
+ReadsStdin Whole a b = (r : Reads) × (a.reads ≡ None)
+    × (b ≡ record { told = a.told; taken = true; reads = Some r }) × IsAtEndIf Whole r
+
+-- READ TO THE END, if Whole holds; and never past it: so a call read each file that it opened, and standard input, if it
+-- took that. What was opened before stays as it was
+pub record ReadsToEndIf (Whole : Type 0) (a b : InputsState) : Type 0 where
+  pub told : b.source.told ≡ a.source.told
+  pub openings : (more : List Opening) × (b.source.openings ≡ a.source.openings ++ more) × All (ReadsFile Whole) more
+  pub stdin : (b.stdin ≡ a.stdin) ⊎ ReadsStdin Whole a.stdin b.stdin
 
 -- ---- what happened
 
@@ -103,14 +113,14 @@ asked a = map (λ o. o.name) a.source.openings
 -- these names were asked, and the source was refused no memory
 pub record AsksNames (a b : InputsState) (names : List ByteString) : Type 0 where
   pub asked : asked b ≡ asked a ++ filter (λ name. not (is_dash name)) names
-  pub taken : b.stdin_taken ≡ a.stdin_taken || list_any is_dash names
+  pub taken : b.stdin.taken ≡ a.stdin.taken || list_any is_dash names
   pub refusals : b.source.refusals ≡ a.source.refusals
 
 -- these events happened: the names were asked, and the bytes written
 pub record Happened (a b : StreamsState) (es : List Event) : Type 0 where
   pub inputs : AsksNames a.inputs b.inputs (filter_map opened_name es)
-  pub err : Appends a.outputs.err.written b.outputs.err.written (filter_map err_byte es)
-  pub out : Appends a.outputs.out.written b.outputs.out.written (filter_map out_byte es)
+  pub err : b.outputs.err.written ≡ a.outputs.err.written ++ filter_map err_byte es
+  pub out : b.outputs.out.written ≡ a.outputs.out.written ++ filter_map out_byte es
 
 -- a prefix of these events happened
 abbrev pub PrefixHappened : StreamsState → StreamsState → List Event → Type 0
@@ -120,7 +130,7 @@ PrefixHappened a b es = (prefix : List Event) × IsPrefix prefix es × Happened 
 pub record RefusedAt (s : Step) (a b : StreamsState) : Type 0 where
   pub outputs : b.outputs ≡ a.outputs
   pub asked : asked b.inputs ≡ asked a.inputs
-  pub taken : b.inputs.stdin_taken ≡ a.inputs.stdin_taken
+  pub taken : b.inputs.stdin.taken ≡ a.inputs.stdin.taken
   pub cause : IsOneMore a.inputs.source.refusals b.inputs.source.refusals
       ⊎ ((b.inputs.source.refusals ≡ a.inputs.source.refusals) × (0 < s.remaining))
 
@@ -141,9 +151,9 @@ PerformsSteps steps x a b (Ok outcome) = (outcome ≡ x) × Happened a b (trace 
 PerformsSteps steps x a b (Err Write) = PrefixHappened a b (trace steps)
 PerformsSteps steps x a b (Err Memory) = RunsOutOfMemory steps a b
 
--- the same of the behavior of each world that agrees with what was read by the end of the call, if both outputs are
--- flushed and standard input is unread; what is returned depends on its `good`
+-- the same of a behavior in each world that agrees with what was read by the end of the call, if both outputs are
+-- flushed; what is returned depends on its `good`
 abbrev pub Performs : {A : Type 0} → (World → Behavior) → (Bool → A) → StreamsState → StreamsState → Result A Stop
     → Type 0
-Performs behavior outcome a b r = IsFlushed a.outputs → IsStdinUnread a.inputs → (w : World) → Agrees w b.inputs
+Performs behavior outcome a b r = IsFlushed a.outputs → (w : World) → Agrees w b.inputs
     → let all = behavior (world_at w a.inputs) in PerformsSteps all.steps (outcome all.good) a b r

@@ -1,10 +1,10 @@
 //! The line of one name.
-ghost use Rattle.std.specs.Prelude.{◌≡◌, [], length};
+ghost use Rattle.std.specs.Prelude.{◌≡◌, [], length, true, Ok};
 ghost use Rattle.sum_lines.specs.Lines.{line};
 ghost use Rattle.sum_engine.specs.Generation.{generate_behavior};
 ghost use Rattle.sum_engine.specs.refinement.FlushedWrites.{WritesAndFlushesBoth};
 ghost use Rattle.sum_engine.specs.Execution.{IsFlushed, FailuresMatch, IsOneMore, RefusalsMatch};
-ghost use Rattle.sum_engine.specs.Execution.{KeepsKnown, Performs};
+ghost use Rattle.sum_engine.specs.Execution.{Performs, ReadsToEndIf};
 
 use crate::hash_name::hash_name;
 use crate::inputs::Inputs;
@@ -27,11 +27,12 @@ pub fn generate_one<I: Input + Drop, S: Source, O: Sink, E: Sink>(
     name: &[u8],
     streams: &mut Streams<Inputs<I, S>, Outputs<O, E>>,
 ) -> Result<bool, Stop>
-    // If both outputs are flushed: the behavior of hashing that name, in each world that agrees with what was read.
+    // If both outputs are flushed: the behavior of hashing that name, in every world that agrees with what was read.
     ensures behavior { Performs (λ w. generate_behavior settings.now tool.now w name.now) (λ good. good)
         streams.old streams.new result }
     ensures flushed { IsFlushed streams.old.outputs → IsFlushed streams.new.outputs }
-    ensures known { KeepsKnown streams.old.inputs streams.new.inputs }
+    // True only if the file was read to its end; and whatever is returned, it was read no further.
+    ensures reads { ReadsToEndIf (result ≡ Ok true) streams.old.inputs streams.new.inputs }
     // A stop has its cause: one refusal more of the source, or one failure more of one output.
     ensures refusals { RefusalsMatch IsOneMore streams.old.inputs streams.new.inputs result }
     ensures failures { FailuresMatch streams.old.outputs streams.new.outputs result }

@@ -38,8 +38,8 @@ pub(crate) fn is_dash(name: &[u8]) -> bool
 }
 
 ghost use Rattle.sum_engine.specs.refinement.Names.{IsHashOutcome, IsRead, MemoryWasRefused, HasKindLen};
-ghost use Rattle.sum_engine.specs.refinement.Names.{digest_of_outcome};
-ghost use Rattle.sum_engine.specs.Execution.{Agrees, world_at, AsksNames, KeepsKnown, KeepsStdin, IsStdinUnread};
+ghost use Rattle.sum_engine.specs.refinement.Names.{digest_of_outcome, IsNotBroken};
+ghost use Rattle.sum_engine.specs.Execution.{Agrees, world_at, AsksNames, IsAtEndIf, ReadsToEndIf};
 
 /// Opens the file of this name (`-` is standard input) and hashes it. The file is read into the buffer, piece by piece.
 /// `NoRoom` if the source was refused memory; the name then doesn't count as asked.
@@ -49,20 +49,17 @@ pub(crate) fn hash_name<I: Input + Drop, S: Source>(
     inputs: &mut Inputs<I, S>,
     buffer: &mut [u8; PIECE],
 ) -> Result<HashOutcome, NoRoom>
-    // In each world that agrees with what was read: the outcome of what the name gives.
-    ensures outcome { IsStdinUnread inputs.old → (w : World) → Agrees w inputs.new
+    // In every world that agrees with what was read: the outcome of what the name gives.
+    ensures outcome { (w : World) → Agrees w inputs.new
         → IfOk result (IsHashOutcome kind (answer_to (world_at w inputs.old) name.now)) }
     ensures asked { MatchResult result (λ _. AsksNames inputs.old inputs.new (name.now ∷ []))
         (λ _. MemoryWasRefused inputs.old inputs.new) }
-    ensures other_name { is_dash name.now ≡ false → KeepsStdin inputs.old inputs.new }
-    ensures known { KeepsKnown inputs.old inputs.new }
+    ensures other_name { is_dash name.now ≡ false → inputs.new.stdin ≡ inputs.old.stdin }
+    ensures reads { ReadsToEndIf (IsNotBroken result) inputs.old inputs.new }
     ensures digest_len { HasKindLen kind result }
 {
     if is_dash(name) {
-        let Some(mut input) = inputs.take_stdin() else {
-            // It is empty from then on.
-            return Ok(HashOutcome::Read(AnyHasher::new(kind).finish()));
-        };
+        let mut input = inputs.take_stdin();
         let outcome = read_digest(&mut input, AnyHasher::new(kind), buffer);
         inputs.put_back_stdin(input);
         return Ok(outcome);
@@ -89,6 +86,7 @@ fn read_digest<F: Input, H: Hasher + Drop>(
     ensures outcome { (F.state file.old).reads ≡ unread → (c : Content) → IsOf (F.state file.new).reads c
         → IsRead (H.kind_of hasher) c result }
     ensures same { IsSameInput (F.state file.old) (F.state file.new) }
+    ensures reads { (F.state file.old).reads ≡ unread → IsAtEndIf (IsNotBroken (Ok result)) (F.state file.new).reads }
     ensures digest_len { HasKindLen (H.kind_of hasher) (Ok result) }
 {
     match hash_input_over(file, hasher, buffer) {

@@ -1,7 +1,8 @@
 //! Where a call opens and reads.
-ghost use Rattle.std.specs.Prelude.{◌≡◌, true, None, Some, IfOk, MatchOption};
+ghost use Rattle.std.specs.Prelude.{◌≡◌, true, IfOk};
 ghost use Rattle.sum_sources.specs.Sources.{IsOpen, opened_file, after_opening, after_closing};
-ghost use Rattle.sum_engine.specs.refinement.Names.{GivesStdin};
+ghost use Rattle.sum_sources.specs.StandardInput.{given_state};
+ghost use Rattle.sum_engine.specs.refinement.Names.{GivesStdin, stdin_after};
 
 use std::marker::Model;
 use sum_sources::{Given, Input, OpenFault, Source, Stdin};
@@ -16,31 +17,25 @@ pub struct Inputs<I: Input, S: Source> {
 }
 
 impl<I: Input, S: Source> Model for Inputs<I, S> {
-    ghost use Rattle.sum_engine.specs.Execution.{InputsState};
-    ghost use Rattle.sum_sources.specs.StandardInput.{stdin_state, stdin_taken};
+    ghost use Rattle.sum_engine.specs.Execution.{InputsState, stdin_of};
 
     ghost Value = { InputsState };
 
-    ghost view = { λ inputs. record {
-      source = S.state inputs.source;
-      stdin = stdin_state I.state inputs.stdin;
-      stdin_taken = stdin_taken inputs.stdin;
-    } };
+    ghost view = { λ inputs. record { source = S.state inputs.source; stdin = stdin_of I.state inputs.stdin } };
 }
 
 impl<I: Input + Drop, S: Source> Inputs<I, S> {
-    /// Takes standard input the first time.
-    pub(crate) fn take_stdin(&mut self) -> Option<Given<I>>
-        ensures { MatchOption result ((self.old.stdin_taken ≡ true) × (self.new ≡ self.old))
-            (λ given. GivesStdin (I.state given) self.old self.new) }
+    /// Takes standard input the first time, and an empty one afterwards.
+    pub(crate) fn take_stdin(&mut self) -> Given<I>
+        ensures { GivesStdin (given_state I.state result) self.old self.new }
     {
         self.stdin.take()
     }
 
-    /// Puts back what `take_stdin` gave, so that it is known from then on, if nothing was put back before.
+    /// Puts back what `take_stdin` gave.
     pub(crate) fn put_back_stdin(&mut self, given: Given<I>)
-        ensures { (self.old.stdin_taken ≡ true) → (self.old.stdin ≡ None)
-            → self.new ≡ record self.old { stdin = Some (I.state given) } }
+        ensures { self.old.stdin.taken ≡ true
+            → self.new ≡ record self.old { stdin = stdin_after self.old.stdin (given_state I.state given) } }
     {
         self.stdin.put_back(given);
     }
@@ -53,7 +48,7 @@ impl<I: Input + Drop, S: Source> Inputs<I, S> {
         self.source.open_file(name)
     }
 
-    /// Closes a file, so that what was read of it is known from then on.
+    /// Closes a file, as the source does.
     pub(crate) fn close_file(&mut self, file: S::File)
         requires { IsOpen self.old.source (S.File.state file) }
         ensures { self.new ≡ record self.old { source = after_closing self.old.source (S.File.state file) } }

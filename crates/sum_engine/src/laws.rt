@@ -1,6 +1,19 @@
-//! Laws over whole checks: what the steps of a [`Checker`](crate::Checker) do together.
+//! Laws of what was read; and over whole checks: what the steps of a [`Checker`](crate::Checker) do together.
+ghost use Rattle.sum_engine.specs.WorldLaws.{SomeWorldAgrees};
 ghost use Rattle.sum_engine.specs.check.OldVerdicts.{OldVerdicts, OldOutcomes, OlderDiffers};
 ghost use Rattle.sum_engine.specs.check.CheckerLaws.{StepsJoin, EventsExtend, SameFront, EndStays};
+
+use crate::inputs::Inputs;
+use sum_sources::{Input, Source};
+
+/// Some world agrees with all that was read so far. If the files and the standard input are in memory, theirs does.
+pub fn some_world_agrees<I: Input, S: Source>(inputs: &Inputs<I, S>)
+    ensures { SomeWorldAgrees inputs.now }
+{
+    // Read, so that the proof sees the parts.
+    let _source = &inputs.source;
+    let _stdin = &inputs.stdin;
+}
 
 /// After k calls of `step` that each handled a line, both outputs grew by exactly the reports of the first k lines,
 /// whose names were asked; the input gave at most 8192 bytes beyond the end of line k; and each line's vector held at

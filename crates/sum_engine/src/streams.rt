@@ -1,6 +1,6 @@
 //! The streams of a call.
 ghost use Rattle.std.specs.Prelude.{◌≡◌};
-ghost use Rattle.sum_sources.specs.StandardInput.{stdin_state, stdin_taken};
+ghost use Rattle.sum_engine.specs.Execution.{stdin_of};
 
 use crate::inputs::Inputs;
 use std::marker::Model;
@@ -36,11 +36,7 @@ pub struct Streams<In, Out> {
 impl<I: Input, S: Source, O: Sink, E: Sink> Streams<Inputs<I, S>, Outputs<O, E>> {
     /// Streams of these parts.
     pub fn new(stdin: Stdin<I>, source: S, out: O, err: E) -> Self
-        ensures inputs { result.inputs ≡ record {
-          source = S.state source;
-          stdin = stdin_state I.state stdin;
-          stdin_taken = stdin_taken stdin;
-        } }
+        ensures inputs { result.inputs ≡ record { source = S.state source; stdin = stdin_of I.state stdin } }
         ensures outputs { result.outputs ≡ record { out = O.state out; err = E.state err } }
     {
         Streams {

@@ -1,73 +1,76 @@
 -- A text is written piece by piece. The lemmas say what of it is written after a piece was accepted, and after a write
 -- failed. `a`, `b` and `c` are the sink before, between and after.
 use Rattle.std.proofs.lemmas.Grind.{common_steps}
-use Rattle.std.proofs.Common.{ℕ, ◌≡◌, ◌<◌, ◌-◌, List, [], ◌++◌, length, take, drop, Option, None, Some, Result, Ok, Err, refl, ap, sym, ◌∙◌, append_assoc, append-nil, length-append, arith, rules}
-use Rattle.std.proofs.lemmas.List.{append_cancel_left}
+use Rattle.std.proofs.Common.{ℕ, ◌≡◌, ◌<◌, ◌-◌, ◌+◌, List, [], ◌++◌, length, take, drop, Result, Ok, Err, refl, ap, sym, ◌∙◌, append_assoc, append-nil, length-append, arith}
 use Rattle.std.specs.Result.{IsErr}
-use Rattle.std.specs.Io.KnownBytes.{Appends, append_known}
-use Rattle.std.proofs.KnownBytes.{Appends-trans}
-use Rattle.sum_lines.specs.sinks.Sinks.{AppendsProperPrefix, SinkState, Accepts, FailsToWrite, FailsToFlush, WritesAll, Flushes}
-use Rattle.digest_kinds.specs.Limits.{one_more}
-use Rattle.sum_lines.specs.refinement.SinkStates.{AppendsPrefix}
+use Rattle.sum_lines.specs.sinks.Sinks.{SinkState, Accepts, Fails, IsPrefix, FailsToWrite, FailsToFlush, WritesAll, Flushes}
 
 -- ---- two calls, one after the other
 
 -- nothing is accepted if nothing is done
 pub Accepts-nil : {a : SinkState} → Accepts a a []
-Accepts-nil = search rules
+Accepts-nil {a} = record { written = ([], sym (append-nil a.written), append-nil a.buffered); failures = refl }
+
+-- what was written of two texts precedes what is left of them
+left_of_both : {a b : SinkState} {text : List ℕ} (piece more rest : List ℕ) (first : Accepts a b text)
+    → b.buffered ++ piece ≡ more ++ rest → a.buffered ++ (text ++ piece) ≡ (first.written.0 ++ more) ++ rest
+left_of_both piece more rest first cut = grind (arith, append_assoc)
 
 -- one text was accepted, and then another
 pub Accepts-trans : {a b c : SinkState} (xs ys : List ℕ) → Accepts a b xs → Accepts b c ys → Accepts a c (xs ++ ys)
-Accepts-trans xs ys first second = grind (arith, Appends-trans)
+Accepts-trans {c} xs ys first second = record {
+  written = (
+    first.written.0 ++ second.written.0,
+    grind (arith, append_assoc),
+    left_of_both ys second.written.0 c.buffered first second.written.2,
+  );
+  failures = second.failures ∙ first.failures;
+}
 
--- a text was accepted, and then a proper prefix of the buffered bytes and one more piece was written
-written_proper_prefix : (a b c : Option (List ℕ)) (buffered_before buffered_after text piece later : List ℕ)
-    → (more : List ℕ) × Appends a b more → Appends (append_known a buffered_before) (append_known b buffered_after) text
-    → 0 < length piece → AppendsProperPrefix b c (buffered_after ++ piece)
-    → AppendsProperPrefix a c (buffered_before ++ (text ++ (piece ++ later)))
-written_proper_prefix None b c buffered_before buffered_after text piece later grows accepted some written =
-    ([], buffered_before ++ (text ++ (piece ++ later)), refl, grind (arith, length-append), tt)
-written_proper_prefix (Some x) b c buffered_before buffered_after text piece later grows accepted some written = (
-  grows.0 ++ written.0,
-  written.1 ++ later,
-  grind (arith, append_assoc, append_cancel_left),
-  omega (arith, written.3, length-append written.1 later),
-  grind (arith, append_assoc),
-)
+-- a text was accepted, and then a call failed
+Fails-then : {a b c : SinkState} {text : List ℕ} {P Q : List ℕ → Type 0} (first : Accepts a b text) → Fails b c P
+    → ((more : List ℕ) → P more → Q (first.written.0 ++ more)) → Fails a c Q
+Fails-then first failed all = record {
+  written = (first.written.0 ++ failed.written.0, grind (arith, append_assoc), all _ failed.written.2);
+  buffered = failed.buffered;
+  failures = failed.failures ∙ ap (λ n. n + 1) first.failures;
+}
 
 -- a text was accepted, and then a call without a text failed: a prefix of the bytes buffered before and the text was
 -- written
 pub Accepts-flush_failed : {a b c : SinkState} (text : List ℕ) → Accepts a b text → FailsToFlush b c
-    → AppendsPrefix a.written c.written (a.buffered ++ text)
-Accepts-flush_failed {a} {b} {c} text wrote dropped = grind (arith, append_assoc, append_cancel_left)
+    → Fails a c (λ more. IsPrefix more (a.buffered ++ text))
+Accepts-flush_failed {b} text first dropped = Fails-then first dropped (λ more (rest, cut).
+    (rest, rw append-nil at (left_of_both [] more rest first (append-nil b.buffered ∙ cut))))
 
 -- nothing was written, and then a flush came
 pub Flushes-with_buffered : {E : Type 0} {a : SinkState} (b c : SinkState) (r : Result (Unit {0}) E) → Accepts a b []
     → Flushes b c r → Flushes a c r
-Flushes-with_buffered {a = a} b c (Ok u) wrote flushed = search rules
-Flushes-with_buffered b c (Err e) wrote dropped = record {
-  written = rw append-nil at (Accepts-flush_failed [] wrote dropped);
-  buffered = dropped.buffered;
-  failures = dropped.failures ∙ ap one_more wrote.failures;
-}
+Flushes-with_buffered {a = a} b c (Ok u) wrote flushed =
+    let all : b.written ++ b.buffered ≡ a.written ++ a.buffered = grind (arith, append_assoc, append-nil) in
+    rw (all, wrote.failures) at flushed
+Flushes-with_buffered b c (Err e) wrote dropped = rw append-nil at (Accepts-flush_failed [] wrote dropped)
 
 -- a write failed that was to accept some of a text
 pub FailsToFlush-write_failed : {a b : SinkState} {text : List ℕ} → FailsToFlush a b → 0 < length text
     → FailsToWrite a b text
 FailsToFlush-write_failed {text = text} dropped some =
-    let (prefix, (rest, is), wrote) = dropped.written in
+    let (more, wrote, (rest, cut)) = dropped.written in
     record {
       nonempty = some;
-      written = (prefix, rest ++ text, grind (arith, append_assoc), grind (arith, length-append), wrote);
-      buffered = dropped.buffered;
-      failures = dropped.failures;
+      fails = record {
+        written = (more, wrote, (rest ++ text, grind (arith, length-append), grind (arith, append_assoc)));
+        buffered = dropped.buffered;
+        failures = dropped.failures;
+      };
     }
 
--- a sink whose bytes are known, and that buffers nothing, accepted a piece
-pub accepts_known : (old new piece : List ℕ) (failures : ℕ) → new ≡ old ++ piece
-    → Accepts (record { written = Some old; buffered = []; failures = failures })
-    (record { written = Some new; buffered = []; failures = failures }) piece
-accepts_known old new piece failures is = search rules
+-- a sink that buffers nothing wrote a piece
+pub accepts_at_once : (old new piece : List ℕ) (failures : ℕ) → new ≡ old ++ piece
+    → Accepts (record { written = old; buffered = []; failures = failures })
+    (record { written = new; buffered = []; failures = failures }) piece
+accepts_at_once old new piece failures is =
+    record { written = (piece, is, sym (append-nil piece)); failures = refl }
 
 -- ---- a text, piece after piece
 
@@ -93,14 +96,13 @@ HasLeft-step piece left cut written = record {
 -- a piece of the rest failed: so did the whole text
 pub HasLeft-stop : {a b c : SinkState} {text rest piece : List ℕ} (more : List ℕ) → HasLeft a b text rest
     → rest ≡ piece ++ more → FailsToWrite b c piece → FailsToWrite a c text
-HasLeft-stop {a} {b} {c} {piece = piece} more left cut failed =
-    let whole = left.cut ∙ ap (λ l. left.prefix ++ l) cut in
+HasLeft-stop {piece = piece} more left cut failed =
+    let some = failed.nonempty in
     record {
       nonempty = grind (arith, length-append);
-      written = rw whole (written_proper_prefix a.written b.written c.written a.buffered b.buffered left.prefix piece
-          more left.wrote.written left.wrote.accepted failed.nonempty failed.written);
-      buffered = failed.buffered;
-      failures = failed.failures ∙ ap one_more left.wrote.failures;
+      fails = Fails-then left.wrote failed.fails (λ wrote (rest, left_some, is).
+          let both = left_of_both piece wrote rest left.wrote is in
+          (rest ++ more, grind (arith, length-append), grind (arith, append_assoc)));
     }
 
 -- the last piece is all of the rest: its result is that of the whole text

@@ -4,3 +4,4 @@ pub(crate) mod buffered;
 pub(crate) mod from_write;
 pub(crate) mod sink;
 pub(crate) mod told_sink;
+pub(crate) mod writes;

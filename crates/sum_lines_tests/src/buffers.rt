@@ -1,14 +1,16 @@
 //! The pieces that a buffer offers to the sink below: worked lines, long texts, short writes, flushes and faults.
 
-ghost use Rattle.std.specs.Prelude.{◌≡◌, [], None};
-ghost use Rattle.digest_kinds.specs.Limits.{one_more};
+ghost use Rattle.std.specs.Prelude.{◌≡◌, ◌+◌};
+ghost use Rattle.sum_lines.specs.refinement.SinkStates.{log_state};
 
 use crate::calls::{flush, known_sink, offer, put};
 use digest_kinds::{Algo, Digest, Kind};
 use std::io;
 use std::io::{ErrorKind, Write};
 use std::process::Abort;
-use sum_lines::{Buffered, FromWrite, Mode, Sink, SinkFault, Style, ToldSink, put_line};
+use sum_lines::{
+    Buffered, FromWrite, Mode, Sink, SinkFault, Style, ToldSink, Writes, put_line,
+};
 
 const DIGITS: &[u8] = b"900150983cd24fb0d6963f7d28e17f72";
 
@@ -20,34 +22,35 @@ struct Recorder {
     fails_at: u64,
     writes: u64,
     failures: u64,
+    log: Writes,
     asked: ToldSink<32768>,
     taken: ToldSink<32768>,
 }
 
 impl Recorder {
-    fn new(most: usize, fails_at: u64) -> Self
-        ensures { (⟦<Recorder as Sink>⟧.state result).failures ≡ 0 }
-    {
+    fn new(most: usize, fails_at: u64) -> Self {
         Recorder {
             most,
             fails_at,
             writes: 0,
             failures: 0,
+            log: Writes::new(),
             asked: ToldSink::new(32768),
             taken: ToldSink::new(32768),
         }
     }
 
     fn fault(&mut self) -> SinkFault
-        ensures { self.new.failures ≡ one_more self.old.failures }
+        ensures { self.new.log ≡ record self.old.log { failures = self.old.log.failures + 1 } }
     {
         self.failures = self.failures.saturating_add(1);
+        self.log = self.log.and_failure();
         SinkFault
     }
 }
 
 impl Sink for Recorder {
-    ghost state = { λ s. record { written = None; buffered = []; failures = s.failures } };
+    ghost state = { λ s. log_state s.log };
 
     fn write(&mut self, piece: &[u8]) -> Result<usize, SinkFault> {
         self.writes = self.writes.saturating_add(1);
@@ -60,7 +63,10 @@ impl Sink for Recorder {
             return Err(self.fault());
         }
         match put(&mut self.taken, &piece[..count]) {
-            Ok(()) => Ok(count),
+            Ok(()) => {
+                self.log = self.log.and(&piece[..count]);
+                Ok(count)
+            }
             Err(SinkFault) => Err(self.fault()),
         }
     }

@@ -1,10 +1,13 @@
 //! What no contract says of sinks: when a real writer's interruptions, refusals and flushes become a fault.
 
+ghost use Rattle.std.specs.Prelude.{◌≡◌, ◌++◌, IfOk};
+
 use crate::calls::{flush, known_sink, offer, put};
 use std::io;
 use std::io::{ErrorKind, Write};
+use std::mem::size_of;
 use std::process::Abort;
-use sum_lines::{FromWrite, Part, Sink, SinkFault, ToldSink, put_escaped, put_number, put_parts};
+use sum_lines::{FromWrite, Part, Sink, SinkFault, ToldSink, Writes, put_all, put_escaped, put_number, put_parts};
 
 // A writer that fails so often, with an error of this kind, before it accepts anything.
 #[derive(Drop)]
@@ -147,6 +150,7 @@ fn check_flush(rt: &impl Abort, unflushed: Option<ErrorKind>, answer: Result<(),
     let mut sink = FromWrite::new(&mut writer);
     assert_eq!(rt; offer(&mut sink, b"abc"), Ok(3));
     assert_eq!(rt; flush(&mut sink), answer);
+    drop(sink);
     assert_eq!(rt; (writer.writes, writer.flushes), (1, 1));
 }
 
@@ -242,4 +246,28 @@ fn a_writer_is_given_back(rt: HostRuntime) {
     let mut sink = FromWrite::new(Counts::new(2, None));
     assert_eq!(rt; put(&mut sink, b"abc"), Ok(()));
     assert_eq!(rt; sink.into_inner().writes, 2);
+}
+
+#[test]
+fn a_log_takes_no_memory(rt: HostRuntime) {
+    assert_eq!(rt; size_of::<Writes>(), 0);
+    assert_eq!(rt; size_of::<FromWrite<Counts>>(), size_of::<Counts>());
+    assert_eq!(rt; size_of::<ToldSink<8>>(), 24);
+}
+
+// What a writer in memory holds after all of the bytes were put into a sink over it.
+fn appended(bytes: Vec<u8>, more: &[u8]) -> Result<Vec<u8>, SinkFault>
+    ensures { IfOk result (λ v. v.items ≡ bytes.items ++ more.now) }
+{
+    let mut sink = FromWrite::new(bytes);
+    put_all(&mut sink, more)?;
+    Ok(sink.into_inner())
+}
+
+#[test]
+fn a_writer_in_memory_is_known(rt: HostRuntime) {
+    let mut held = Vec::new(rt.alloc());
+    assert!(rt; held.push(b'a').is_ok());
+    let bytes = appended(held, b"bc").expect(&rt, "room");
+    assert_eq!(rt; bytes.as_slice(), b"abc".as_slice());
 }

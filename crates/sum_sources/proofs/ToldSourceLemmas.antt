@@ -4,8 +4,8 @@ use Rattle.std.proofs.lemmas.List.{take_min, length-take, length-map, map-append
 use Rattle.sum_sources.specs.Contents.{Content, Reads, Ending, Whole, Broken}
 use Rattle.sum_sources.specs.Phases.{Phase, Unfinished, AtEnd, Failed, Past}
 use Rattle.sum_sources.specs.StandardInput.{told_reads, ToldContent, told_file, phase_by}
-use Rattle.sum_sources.specs.Sources.{Answer, Answers, Opening, IsOpen, closed_at, content_of}
-use Rattle.sum_sources.specs.InMemory.{Pair, ToldFiles, first_answer, told_gave, told_openings, told_source}
+use Rattle.sum_sources.specs.Sources.{Answer, Answers, Opening, Pair, first_answer, IsOpen, closed_at, content_of}
+use Rattle.sum_sources.specs.InMemory.{ToldFiles, told_gave, told_openings, told_source}
 use Rattle.sum_sources.specs.refinement.ToldPairs.{AreTold, ToldSourceInvariant}
 
 -- openings that gave what the answers give are those that the state shows
@@ -28,7 +28,7 @@ told_close answer n k [] later name r at one h = let here : n ≡ k = omega arit
 told_close answer n k (x ∷ xs) later name r at one h =
     (h.0, told_close answer (suc n) k xs later name r (omega arith) one h.1)
 
-closed_at-seam : (before later : List Opening) (o : Opening) (r : Reads)
+pub closed_at-seam : (before later : List Opening) (o : Opening) (r : Reads)
     → closed_at (length before) r (before ++ o ∷ later) ≡ before ++ record o { gave = Some (Ok r) } ∷ later
 closed_at-seam [] later o r = refl
 closed_at-seam (x ∷ xs) later o r = ap (λ os. x ∷ os) (closed_at-seam xs later o r)

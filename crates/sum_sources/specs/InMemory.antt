@@ -1,21 +1,8 @@
 -- Sources in memory.
-use Rattle.std.specs.Prelude.{ℕ, suc, List, [], ◌∷◌, length, ◌&&◌, Option, None, Some, Result, Ok, Err, if◌then◌else◌, bytes_eq, nat_le}
+use Rattle.std.specs.Prelude.{ℕ, suc, List, [], ◌∷◌, length, Option, None, Some, Result, Ok, Err}
 use Rattle.sum_sources.specs.Contents.{Reads, Fault}
-use Rattle.sum_sources.specs.Faults.{NotFound, ByteString}
-use Rattle.sum_sources.specs.Sources.{Answer, Answers, Opening, SourceState}
+use Rattle.sum_sources.specs.Sources.{Answer, Answers, Opening, Pair, first_answer, SourceState}
 use Rattle.sum_sources.specs.StandardInput.{told_reads}
-
--- a name, the answer to it, and from which opening on: so many openings came before the pair was added
-pub record Pair : Type 0 where
-  pub name : ByteString
-  pub answer : Answer
-  pub from : ℕ
-
--- the answer to the opening that has n before it: that of the first pair with the name that was added by then. A name
--- without a pair isn't found
-abbrev pub first_answer : List Pair → Answers
-first_answer [] n name = Err NotFound
-first_answer (p ∷ ps) n name = if nat_le p.from n && bytes_eq p.name name then p.answer else first_answer ps n name
 
 -- a source in memory
 pub record ToldFiles : Type 0 where
@@ -39,7 +26,7 @@ told_openings answer n (o ∷ os) =
 -- its state
 abbrev pub told_source : ToldFiles → SourceState
 told_source s = record {
-  told = Some (first_answer s.pairs);
+  told = Some s.pairs;
   openings = told_openings (first_answer s.pairs) 0 s.openings;
   refusals = s.refusals;
 }

@@ -5,7 +5,7 @@ use Rattle.sum_sources.specs.Contents.{Content, InputState, HasContent, IsOf, Is
 use Rattle.sum_sources.specs.Faults.{Os, ByteString}
 use Rattle.std.specs.Prelude.{pos, []}
 use Rattle.sum_sources.specs.Phases.{Phase, Unfinished, AtEnd, Failed, Past}
-use Rattle.sum_sources.specs.StandardInput.{told_reads, ToldContent, told_state, told_file, phase_by, unless_closed, given_state}
+use Rattle.sum_sources.specs.StandardInput.{told_reads, ToldContent, told_state, told_file, phase_by, unless_closed, empty_reads, given_state}
 use Rattle.sum_sources.specs.declared.inputs.closable.Closable.{Closable}
 use Rattle.sum_sources.specs.declared.inputs.closable.Closable.TheVariants.{Open, Closed}
 use Rattle.sum_sources.specs.declared.inputs.stdin.Reply.{Reply}
@@ -35,10 +35,16 @@ closable_has_content state has (Closed p) =
     told_has_content (record { bytes = []; ending = Broken (Os (pos 9)) }) 0 p
 
 -- of what standard input gives
+pub empty_is_of : (phase : Phase) → IsOf (empty_reads phase) empty_content
+empty_is_of Unfinished = (empty_content, refl)
+empty_is_of AtEnd = refl
+empty_is_of (Failed f) = refl
+empty_is_of Past = tt
+
 pub given_has_content : {I : Type 0} (state : I → InputState) (has : (i : I) → HasContent (state i)) (given : Reply I)
     → HasContent (given_state state given)
 given_has_content state has (First i) = has i
-given_has_content state has (Empty phase) = told_has_content empty_content 0 phase
+given_has_content state has (Empty phase) = (empty_content, refl, empty_is_of phase)
 
 -- ---- inputs that aren't in memory
 

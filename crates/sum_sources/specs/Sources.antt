@@ -1,8 +1,8 @@
 -- Sources of files: what was asked of one, and what it answered.
-use Rattle.std.specs.Prelude.{ℕ, zero, suc, ◌≡◌, ◌+◌, List, [], ◌∷◌, ◌++◌, length, Option, None, Some, Result, Ok, Err, ⊤, IfSome}
+use Rattle.std.specs.Prelude.{ℕ, zero, suc, ◌≡◌, ◌+◌, List, [], ◌∷◌, ◌++◌, length, Option, None, Some, Result, Ok, Err, ⊤, IfSome, ◌&&◌, if◌then◌else◌, bytes_eq, nat_le}
 use Rattle.std.specs.Option.{option_and_then}
 use Rattle.sum_sources.specs.Contents.{Content, InputState, Reads, IsOf, unread}
-use Rattle.sum_sources.specs.Faults.{Fault, ByteString}
+use Rattle.sum_sources.specs.Faults.{Fault, NotFound, ByteString}
 use Rattle.sum_sources.specs.declared.sources.source.OpenFault.{OpenFault}
 use Rattle.sum_sources.specs.declared.sources.source.OpenFault.TheVariants as faults
 
@@ -32,15 +32,28 @@ abbrev pub AnswersAre : Answers → ℕ → List Opening → Type 0
 AnswersAre answer n [] = ⊤
 AnswersAre answer n (o ∷ os) = IsOfAnswer o.gave (answer n o.name) × AnswersAre answer (suc n) os
 
+-- a name in memory, the answer to it, and from which opening on: so many came before the pair was added
+pub record Pair : Type 0 where
+  pub name : ByteString
+  pub answer : Answer
+  pub from : ℕ
+
+-- the answer to the opening that has n before it: that of the first pair with the name that was added by then. A name
+-- without a pair isn't found
+abbrev pub first_answer : List Pair → Answers
+first_answer [] n name = Err NotFound
+first_answer (p ∷ ps) n name = if nat_le p.from n && bytes_eq p.name name then p.answer else first_answer ps n name
+
 -- the state of a source
 pub record SourceState : Type 0 where
-  pub told : Option Answers  -- its answers, if these are in memory
+  pub told : Option (List Pair)  -- its answers, if these are in memory
   pub openings : List Opening  -- in their order
   pub refusals : ℕ  -- how many openings were refused memory
 
 -- its openings have answers: those in memory, if they are there
 abbrev pub HasAnswers : SourceState → Type 0
-HasAnswers s = (answer : Answers) × IfSome s.told (λ told. answer ≡ told) × AnswersAre answer 0 s.openings
+HasAnswers s = (answer : Answers) × IfSome s.told (λ pairs. answer ≡ first_answer pairs)
+    × AnswersAre answer 0 s.openings
 
 -- the content of an answer
 abbrev pub content_of : Answer → Option Content
@@ -49,7 +62,7 @@ content_of (Err f) = None
 
 -- the content that is in memory for a name, by how many openings came before
 abbrev pub content_at : SourceState → ℕ → ByteString → Option Content
-content_at s n name = option_and_then (λ told. content_of (told n name)) s.told
+content_at s n name = option_and_then (λ pairs. content_of (first_answer pairs n name)) s.told
 
 -- a name is opened: this is the file, and nothing was read of it yet
 abbrev pub opened_file : SourceState → ByteString → InputState

@@ -43,35 +43,30 @@ told_file t = record (told_state t.content t.given t.phase) { opening = t.openin
 
 -- ---- standard input
 
--- whether standard input was taken
-abbrev pub stdin_taken : {I : Type 0} → StdinPlace I → Bool
-stdin_taken (Untaken i) = false
-stdin_taken place = true
-
--- the state of its input. There is none while it is taken
-abbrev pub stdin_state : {I : Type 0} → (I → InputState) → StdinPlace I → Option InputState
-stdin_state state (Untaken i) = Some (state i)
-stdin_state state Taken = None
-stdin_state state (Returned i) = Some (state i)
-
 -- as long as it wasn't taken, nothing was read of it
 abbrev pub IsUnreadUntilTaken : {I : Type 0} → (I → InputState) → StdinPlace I → Type 0
 IsUnreadUntilTaken state (Untaken i) = (state i).reads ≡ unread
 IsUnreadUntilTaken state place = ⊤
 
+-- what was read of an empty input, by its phase: it never failed
+abbrev pub empty_reads : Phase → Reads
+empty_reads (Failed f) = record { bytes = []; phase = AtEnd }
+empty_reads phase = record { bytes = []; phase = phase }
+
 -- the state of what taking gives
 abbrev pub given_state : {I : Type 0} → (I → InputState) → Reply I → InputState
 given_state state (First i) = state i
-given_state state (Empty phase) = told_state empty_content 0 phase
+given_state state (Empty phase) =
+    record { opening = 0; name = []; told = Some empty_content; reads = empty_reads phase }
 
 -- taking gives the input the first time, of which nothing was read; and an empty one afterwards
 abbrev pub Gives : {I : Type 0} → (I → InputState) → StdinPlace I → StdinPlace I → Reply I → Type 0
 Gives state (Untaken i) new given = (new ≡ Taken) × (given ≡ First i) × ((state i).reads ≡ unread)
 Gives state old new given = (new ≡ old) × (given ≡ Empty Unfinished)
 
--- the input is put back. An empty one is dropped, and so is one where nothing was taken
+-- what was taken is put back, and kept if nothing was before
 abbrev pub put_back : {I : Type 0} → StdinPlace I → Reply I → StdinPlace I
-put_back Taken (First i) = Returned i
+put_back Taken given = Returned given
 put_back place given = place
 
 -- ---- a closed input

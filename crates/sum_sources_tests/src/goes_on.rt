@@ -1,12 +1,10 @@
-//! A known input and a known source that do what real ones may: bytes follow an end or a fault, and a name that is
-//! opened again is another file.
+//! An input and a source that do what real ones may: bytes follow an end or a fault, and a name that is opened again is
+//! another file.
 ghost use Rattle.std.specs.Prelude.{◌≡◌};
 
 use std::alloc::Allocator;
 use std::collections::VecDeque;
-use sum_sources::{
-    Answer, Ending, Fault, FileCounts, Input, NoRoom, OpenFault, Phase, Source, Told, ToldSource,
-};
+use sum_sources::{Ending, Fault, FileCounts, Input, NoRoom, OpenFault, Phase, Source, Told};
 
 /// An input of two parts. After the end or the fault of the first part it goes on with the second.
 #[derive(Drop)]
@@ -19,15 +17,10 @@ pub struct TwoParts<'a> {
 impl<'a> TwoParts<'a> {
     /// The input of `content` that has this ending after `place` bytes, and goes on with the others. A read gives at
     /// most `piece` (0 counts as 1).
-    pub fn new(content: &'a [u8], place: usize, ending: Ending, piece: usize) -> TwoParts<'a> {
-        let (first, second) = content.split_at(place.min(content.len()));
-        TwoParts::of_parts(first, ending, second, piece)
-    }
-
-    fn of_parts(first: &'a [u8], ending: Ending, second: &'a [u8], piece: usize) -> TwoParts<'a>
-        ensures bytes { result.told.content ≡ record { bytes = first.entry.now; ending = ending } }
-        ensures phase { result.phase ≡ Phase.Unfinished }
+    pub fn new(content: &'a [u8], place: usize, ending: Ending, piece: usize) -> TwoParts<'a>
+        ensures { result.phase ≡ Phase.Unfinished }
     {
+        let (first, second) = content.split_at(place.min(content.len()));
         TwoParts {
             told: Told::new(first, ending, piece),
             second: Some(Told::new(second, Ending::Whole, piece)),
@@ -42,9 +35,9 @@ impl<'a> TwoParts<'a> {
 }
 
 impl<'a> Input for TwoParts<'a> {
-    ghost use Rattle.std.specs.Prelude.{Some};
+    ghost use Rattle.std.specs.Prelude.{None};
 
-    ghost state = { λ s. record { content = Some s.told.content; phase = s.phase } };
+    ghost state = { λ s. record { content = None; phase = s.phase } };
 
     fn read(&mut self, buf: &mut [u8]) -> Result<usize, Fault> {
         let result = self.told.read(buf);
@@ -60,43 +53,30 @@ impl<'a> Input for TwoParts<'a> {
     }
 }
 
-/// A source whose answers follow one another, whatever the names. After the last, no file is found.
+/// A source whose files follow one another, whatever the names. After the last, no file is found.
 #[derive(Drop)]
-pub struct InTurn<'a, A: Allocator + Copy> {
-    // each with the bytes that follow its content
-    answers: VecDeque<(Answer<'a>, &'a [u8]), A>,
-    // has no file, and records the names
-    names: ToldSource<'a, A>,
+pub struct InTurn<'a, A: Allocator> {
+    // each with the place of its ending
+    files: VecDeque<(&'a [u8], usize, Ending), A>,
     piece: usize,
     counts: FileCounts,
     failed: u64,
 }
 
-impl<'a, A: Allocator + Copy> InTurn<'a, A> {
-    /// A source without answers, whose files give at most `piece` bytes a read (0 counts as 1).
+impl<'a, A: Allocator> InTurn<'a, A> {
+    /// A source without files. They give at most `piece` bytes a read (0 counts as 1).
     pub fn new(alloc: A, piece: usize) -> InTurn<'a, A> {
         InTurn {
-            answers: VecDeque::new(alloc),
-            names: ToldSource::new(alloc, piece),
+            files: VecDeque::new(alloc),
             piece,
             counts: FileCounts::NONE,
             failed: 0,
         }
     }
 
-    /// Adds the answer that this is the fault of opening.
-    pub fn add_fault(&mut self, fault: Fault) -> Result<(), NoRoom> {
-        self.add_answer(Answer::Fault(fault), b"")
-    }
-
     /// Adds a file of `content` that has this ending after `place` bytes, and goes on with the others.
     pub fn add(&mut self, content: &'a [u8], place: usize, ending: Ending) -> Result<(), NoRoom> {
-        let (first, second) = content.split_at(place.min(content.len()));
-        self.add_answer(Answer::Content(first, ending), second)
-    }
-
-    fn add_answer(&mut self, answer: Answer<'a>, second: &'a [u8]) -> Result<(), NoRoom> {
-        match self.answers.push_back((answer, second)) {
+        match self.files.push_back((content, place, ending)) {
             Ok(()) => Ok(()),
             Err(_) => Err(NoRoom),
         }
@@ -108,34 +88,19 @@ impl<'a, A: Allocator + Copy> InTurn<'a, A> {
     }
 }
 
-impl<'a, A: Allocator + Copy> Source for InTurn<'a, A> {
+impl<'a, A: Allocator> Source for InTurn<'a, A> {
     type File = TwoParts<'a>;
 
-    ghost use Rattle.std.specs.Prelude.{Some, Err, map, get_or, length};
-    ghost use Rattle.sum_sources.specs.declared.fault.Fault.TheVariants.{NotFound};
-    ghost use Rattle.sum_sources.specs.refinement.ToldPairs.{answer_value};
+    ghost use Rattle.std.specs.Prelude.{None};
 
-    ghost state = { λ s. record {
-      known = Some (record {
-        answer = λ asked name. get_or (map (λ a. answer_value a.0) s.answers.items) (length asked) (Err NotFound);
-        asked = s.names.asked;
-      });
-      counts = s.counts;
-    } };
+    ghost state = { λ s. record { known = None; counts = s.counts } };
 
-    fn open_file(&mut self, name: &[u8]) -> Result<TwoParts<'a>, OpenFault> {
-        if let Err(OpenFault::Memory) = self.names.open_file(name) {
-            self.counts.refused();
-            return Err(OpenFault::Memory);
-        }
-        match self.answers.pop_front() {
-            None => Err(OpenFault::Fault(Fault::NotFound)),
-            Some((Answer::Fault(fault), _)) => Err(OpenFault::Fault(fault)),
-            Some((Answer::Content(first, ending), second)) => {
-                self.counts.opened();
-                Ok(TwoParts::of_parts(first, ending, second, self.piece))
-            }
-        }
+    fn open_file(&mut self, _name: &[u8]) -> Result<TwoParts<'a>, OpenFault> {
+        let Some((content, place, ending)) = self.files.pop_front() else {
+            return Err(OpenFault::Fault(Fault::NotFound));
+        };
+        self.counts.opened();
+        Ok(TwoParts::new(content, place, ending, self.piece))
     }
 
     fn close_file(&mut self, file: TwoParts<'a>) {

@@ -1,6 +1,5 @@
 -- Relates what a run returned to the end of the program.
 use Rattle.std.specs.Prelude.{ℕ, ◌≡◌, [], Option, None, Some, Result, Ok, Err}
-use Rattle.std.specs.Io.KnownBytes.{Keeps}
 use Rattle.sum_engine.specs.Execution.{OutputsState, IsFlushed, HasNoFailure, HasOneFailure}
 use Rattle.sum_engine.specs.refinement.FlushedWrites.{WritesAndReturns}
 use Rattle.sum_words.specs.Items.{ByteString}
@@ -21,7 +20,7 @@ FlushesBoth a b (Err stop) r = (r ≡ Err stop) × (b ≡ a)
 
 -- nothing more was written
 abbrev pub KeepsBoth : OutputsState → OutputsState → Type 0
-KeepsBoth a b = Keeps a.out.written b.out.written × Keeps a.err.written b.err.written
+KeepsBoth a b = (b.out.written ≡ a.out.written) × (b.err.written ≡ a.err.written)
 
 -- the end of a run with this outcome: both outputs are flushed, and then a stop is reported
 abbrev pub FinishesRun : (Stop → ByteString) → Result ℕ Stop → OutputsState → OutputsState → ℕ → Type 0

@@ -4,7 +4,7 @@ use super::{source_of, spell};
 use std::alloc::Global;
 use std::test::Fail;
 use sum_engine::Streams;
-use sum_lines::{Sink, SinkFault};
+use sum_lines::{Sink, SinkFault, Writes};
 use sum_sources::{Ending, Stdin, Told};
 
 // A sink that accepts everything, tells nothing, and counts how often it is flushed. One of these flushes fails.
@@ -12,22 +12,23 @@ use sum_sources::{Ending, Stdin, Told};
 struct CountsFlushes {
     count: u64,
     fails_at: u64,
-    failures: u64,
+    log: Writes,
 }
 
 impl Sink for CountsFlushes {
-    ghost use Rattle.std.specs.Prelude.{None, []};
+    ghost use Rattle.sum_lines.specs.refinement.SinkStates.{log_state};
 
-    ghost state = { λ s. record { written = None; buffered = []; failures = s.failures } };
+    ghost state = { λ s. log_state s.log };
 
     fn write(&mut self, piece: &[u8]) -> Result<usize, SinkFault> {
+        self.log = self.log.and(piece);
         Ok(piece.len())
     }
 
     fn flush(&mut self) -> Result<(), SinkFault> {
         self.count = self.count.saturating_add(1);
         if self.count == self.fails_at {
-            self.failures = self.failures.saturating_add(1);
+            self.log = self.log.and_failure();
             return Err(SinkFault);
         }
         Ok(())
@@ -39,7 +40,7 @@ fn sink(fails_at: u64) -> CountsFlushes {
     CountsFlushes {
         count: 0,
         fails_at,
-        failures: 0,
+        log: Writes::new(),
     }
 }
 

@@ -236,6 +236,7 @@ fn call_not_kept<A: Allocator + Copy>(
         buffered_output(64),
     );
     let status = status_of(heap, arguments, &mut streams);
+    drop(streams.outputs.out);
     Ok((inner_sink(streams.outputs.err), status))
 }
 

@@ -109,8 +109,6 @@ pub record InEachCheck {I : Type 0} (state : I → InputState) (p q : CursorValu
     (P : CheckState → CheckState → Type 0) : Type 0 where
   pub holds : (c : Content) → IsOf (state q.reader.input).reads c → (w : World) → Agrees w b
       → P (state_at p (remaining p.reader c) (world_at w a)) (state_at q (remaining q.reader c) (world_at w b))
-  pub reading : IsReading state q.reader
-  pub before : (c : Content) → IsOf (state q.reader.input).reads c → IsOf (state p.reader.input).reads c
 
 -- it is at the first line of that input
 pub record IsAtStart {I : Type 0} (state : I → InputState) (p : CursorValue I) (input : I) : Type 0 where

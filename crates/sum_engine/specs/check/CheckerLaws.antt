@@ -1,9 +1,8 @@
 -- The laws of a checker's steps over a whole manifest, of the lines that precede a line, and of the end.
 use Rattle.std.specs.Prelude.{ℕ, ◌≡◌, ◌+◌, ◌≤◌, ◌↔◌, Bool, List, [], ◌∷◌, take, length, flat_map, Option, Result, ◌++◌, None, Ok, Err, slice_index_or}
-use Rattle.std.specs.Io.KnownBytes.{Appends}
 use Rattle.sum_sources.specs.declared.line_reader.LineStop.TheVariants.{Fault}
 use Rattle.sum_lines.specs.grammar.Shapes.{IsPlain, KindValue}
-use Rattle.sum_engine.specs.Execution.{Stop, Write, StreamsState, IsFlushed, IsStdinUnread, Agrees, world_at, AsksNames, Happened, PrefixHappened, PerformsSteps}
+use Rattle.sum_engine.specs.Execution.{Stop, Write, StreamsState, IsFlushed, Agrees, world_at, AsksNames, Happened, PrefixHappened, PerformsSteps}
 use Rattle.sum_sources.specs.Contents.{unread}
 use Rattle.sum_engine.specs.Behavior.{ByteString, IsOf, InputState, Behavior, trace, out_text, err_text, asks, Ending, Whole, Broken, World, Content, clip}
 use Rattle.sum_engine.specs.check.Verdicts.{lines_under, Rules, LineVerdictValue, asks_of, all_verdicts, verdicts, past_lines, escape, EntryValue, IsEntry, form}
@@ -17,9 +16,8 @@ use Rattle.sum_engine.specs.check.NextVerdict.{LineStop, LineVerdict, HasNoVerdi
 -- each world, that agrees with what was read, its behavior
 abbrev pub ManifestPerforms : Rules → LabelsValue → InputState → InputState → StreamsState → StreamsState
     → Result Bool Stop → Type 0
-ManifestPerforms r labels s t a b x = IsFlushed a.outputs → s.reads ≡ unread → IsStdinUnread a.inputs → (c : Content)
-    → IsOf t.reads c → (w : World) → Agrees w b.inputs
-    → let all = content_behavior r labels (clip c) (all_verdicts r (world_at w a.inputs) (clip c)) in
+ManifestPerforms r labels s t a b x = IsFlushed a.outputs → s.reads ≡ unread → (c : Content) → IsOf t.reads c
+    → (w : World) → Agrees w b.inputs → let all = content_behavior r labels (clip c) (all_verdicts r (world_at w a.inputs) (clip c)) in
     PerformsSteps all.steps all.good a b x
 
 -- ---- the laws
@@ -28,8 +26,8 @@ ManifestPerforms r labels s t a b x = IsFlushed a.outputs → s.reads ≡ unread
 abbrev pub EventsExtend : Type 0
 EventsExtend = (r : Behavior) (a b : StreamsState) → Happened a b (trace r.steps)
     → AsksNames a.inputs b.inputs (asks r)
-    × Appends a.outputs.err.written b.outputs.err.written (err_text r)
-    × Appends a.outputs.out.written b.outputs.out.written (out_text r)
+    × (b.outputs.err.written ≡ a.outputs.err.written ++ (err_text r))
+    × (b.outputs.out.written ≡ a.outputs.out.written ++ (out_text r))
 
 -- steps that each returned Going, one after another; the line's vector then held these
 abbrev pub StepsGoing : Rules → LabelsValue → CheckState → CheckState → StreamsState → StreamsState → List ByteString
@@ -43,16 +41,16 @@ pub record EndsManifest (r : Rules) (labels : LabelsValue) (c : Content) (js : L
     (a b : StreamsState) (outcome : Bool) : Type 0 where
   pub lines : k ≡ length (lines_under r.profile c)
   pub good : outcome ≡ good r c.ending (counts_of js)
-  pub err : Appends a.outputs.err.written b.outputs.err.written (end_text r labels c.ending (counts_of js))
-  pub out : Appends a.outputs.out.written b.outputs.out.written []
+  pub err : b.outputs.err.written ≡ a.outputs.err.written ++ end_text r labels c.ending (counts_of js)
+  pub out : b.outputs.out.written ≡ a.outputs.out.written
   pub asked : AsksNames a.inputs b.inputs []
 
 -- STEP BY STEP, for a manifest c that has these verdicts, once k steps returned Going
 pub record AfterSteps (r : Rules) (labels : LabelsValue) (c : Content) (js : List LineVerdictValue) (k : ℕ)
     (vectors : List ByteString) (b : CheckState) (s t : StreamsState) : Type 0 where
   -- both outputs grew by exactly the reports of the first k lines, whose names were asked
-  pub err : Appends s.outputs.err.written t.outputs.err.written (flat_map (err_of r labels) (take k js))
-  pub out : Appends s.outputs.out.written t.outputs.out.written (flat_map (out_of r labels) (take k js))
+  pub err : t.outputs.err.written ≡ s.outputs.err.written ++ flat_map (err_of r labels) (take k js)
+  pub out : t.outputs.out.written ≡ s.outputs.out.written ++ flat_map (out_of r labels) (take k js)
   pub asked : AsksNames s.inputs t.inputs (flat_map asks_of (take k js))
   -- what the input gave goes at most 8192 bytes beyond the end of line k
   pub taken : b.taken + length (past_lines k c).bytes ≤ length c.bytes + 8192

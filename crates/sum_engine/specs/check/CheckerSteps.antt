@@ -4,7 +4,7 @@ pub use Rattle.sum_engine.specs.declared.check.progress.Progress.{Progress}
 pub use Rattle.sum_engine.specs.declared.check.progress.Progress.TheVariants.{Going, Ended}
 use Rattle.sum_sources.specs.declared.line_reader.LineStop.TheVariants.{Fault, Memory}
 use Rattle.sum_engine.specs.check.Verdicts.{Rules}
-use Rattle.sum_engine.specs.Execution.{Stop, Write, StreamsState, PerformsSteps, IsFlushed, IsStdinUnread, FailuresMatch}
+use Rattle.sum_engine.specs.Execution.{Stop, Write, StreamsState, PerformsSteps, IsFlushed, FailuresMatch}
 use Rattle.sum_sources.specs.LineReaders.{IsReading}
 use Rattle.sum_engine.specs.check.Reports.{LabelsValue, good}
 use Rattle.sum_engine.specs.Behavior.{ByteString, Whole, Step, Behavior, InputState}
@@ -34,7 +34,7 @@ pub record StepIs (r : Rules) (labels : LabelsValue) (vector : ByteString) (a b 
 -- a step, if both outputs are flushed at the call, of an input that was unread at the start
 abbrev pub TakesStep : {I : Type 0} → (I → InputState) → ByteString → LabelsValue → CursorValue I → CursorValue I
     → StreamsState → StreamsState → Result Progress Stop → Type 0
-TakesStep state vector labels p q a b x = IsFlushed a.outputs → IsReading state p.reader → IsStdinUnread a.inputs
+TakesStep state vector labels p q a b x = IsFlushed a.outputs → IsReading state p.reader
     → InEachCheck state p q a.inputs b.inputs (λ c d. StepIs p.rules labels vector c d a b x)
 
 -- a checker: its place, what its reports show, and its final answer, if there is one

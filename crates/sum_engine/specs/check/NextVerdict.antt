@@ -1,18 +1,17 @@
 -- What the next verdict of a manifest is; no text is written.
-use Rattle.std.specs.Prelude.{◌≡◌, ◌+◌, ◌≤◌, ◌<◌, ◌⊎◌, List, [], ◌∷◌, length, slice_range, Bool, true, false, Option, None, Some, Result, Ok, Err}
-use Rattle.sum_engine.specs.Behavior.{ByteString, Ending, Whole, Broken, after, InputState}
+use Rattle.std.specs.Prelude.{◌≡◌, ◌+◌, ◌≤◌, ◌<◌, ◌⊎◌, List, [], ◌∷◌, length, slice_range, Bool, true, false, Option, None, Some, Result, Ok, Err, ⊤}
+use Rattle.sum_engine.specs.Behavior.{ByteString, Ending, Whole, Broken, after, Content, InputState, IsOf}
 pub use Rattle.sum_sources.specs.declared.line_reader.LineStop.{LineStop}
 use Rattle.sum_sources.specs.declared.line_reader.LineStop.TheVariants.{Fault, Memory}
 use Rattle.sum_sources.specs.declared.line_reader.Next.TheVariants.{NoMore}
-use Rattle.sum_sources.specs.ManifestLines.{HasNoNewline}
-use Rattle.sum_sources.specs.LineReaders.{IsBounded, IsReading}
-use Rattle.sum_sources.specs.Contents.{IsSameInput}
-use Rattle.sum_engine.specs.Execution.{InputsState, IsStdinUnread, KeepsStdin, KeepsKnown, AsksNames}
+use Rattle.sum_sources.specs.declared.line_reader.Next.{Next}
+use Rattle.sum_sources.specs.LineReaders.{AdvancesLines, IsBounded, IsReading}
+use Rattle.sum_engine.specs.Execution.{InputsState, ReadsToEndIf, AsksNames}
 use Rattle.sum_engine.specs.refinement.Names.{MemoryWasRefused}
 use Rattle.sum_engine.specs.check.CheckStates.{CheckState, CursorValue, counts_with, HandlesLine, remaining_verdicts, InEachCheck}
 pub use Rattle.sum_engine.specs.declared.check.judge.LineVerdict.{LineVerdict}
 use Rattle.sum_engine.specs.check.Verdicts.{Rules, LineVerdictValue, asks_of}
-use Rattle.sum_engine.specs.check.Reports.{Counts}
+use Rattle.sum_engine.specs.check.Reports.{Counts, is_unread}
 
 -- what a call for the next verdict returns
 abbrev pub VerdictResult : Type 0
@@ -53,7 +52,7 @@ NextVerdictIs r vector a b (Err Memory) = (b.world ≡ a.world) × (0 < length a
 -- the same between two places and inputs, of an input that was unread at the start
 abbrev pub FindsVerdict : {I : Type 0} → (I → InputState) → ByteString → CursorValue I → CursorValue I → InputsState
     → InputsState → VerdictResult → Type 0
-FindsVerdict state vector p q a b x = IsReading state p.reader → IsStdinUnread a
+FindsVerdict state vector p q a b x = IsReading state p.reader
     → InEachCheck state p q a b (λ c d. NextVerdictIs p.rules vector c d x)
 
 -- after a line there is no final answer yet, and any other answer is final
@@ -76,6 +75,11 @@ abbrev pub counts_after : Counts → VerdictResult → Counts
 counts_after c (Ok (Some v)) = counts_with c v.verdict
 counts_after c x = c
 
+-- it isn't a line whose file could not be opened or read
+abbrev pub IsNotUnread : VerdictResult → Type 0
+IsNotUnread (Ok (Some v)) = is_unread v.verdict ≡ false
+IsNotUnread x = ⊤
+
 -- the names that such a call asks
 abbrev pub names_of_result : ByteString → VerdictResult → List ByteString
 names_of_result vector (Ok (Some v)) = asks_of (line_verdict_value vector v)
@@ -93,16 +97,20 @@ pub record AdvancesCursor {I : Type 0} (state : I → InputState) (a b : CursorV
   pub counts : b.counts ≡ counts_after a.counts x
   pub number : (v : LineVerdict) → x ≡ Ok (Some v) → b.reader.lines ≡ a.reader.lines + 1
   pub end : x ≡ Ok None → b.reader.final_answer ≡ Some (Ok NoMore)
-  -- if a whole line is read ahead, the input isn't read
-  pub ahead : ¬ HasNoNewline a.reader.ahead → b.reader.input ≡ a.reader.input
-  pub same : IsSameInput (state a.reader.input) (state b.reader.input)
+  -- how its reader read the line, or what else that found
+  pub found : Result Next LineStop
+  pub reader : AdvancesLines state a.reader b.reader found
   pub bounds : IsBounded b.reader
+  -- if the input was unread at the start: what was read by now is of no content that what was read before wasn't of
+  pub reading : IsReading state a.reader → IsReading state b.reader
+  pub before : IsReading state a.reader → (c : Content) → IsOf (state b.reader.input).reads c
+      → IsOf (state a.reader.input).reads c
 
 -- what such a call does
 pub record AdvancesVerdicts {I : Type 0} (state : I → InputState) (vector : ByteString) (p q : CursorValue I)
     (a b : InputsState) (x : VerdictResult) : Type 0 where
   pub cursor : AdvancesCursor state p q x
   pub asked : AsksFor vector a b x
-  pub known : KeepsKnown a b
+  pub reads : ReadsToEndIf (IsNotUnread x) a b
   -- the lines of standard input don't name it
-  pub stdin : p.rules.from_stdin ≡ true → KeepsStdin a b
+  pub stdin : p.rules.from_stdin ≡ true → b.stdin ≡ a.stdin

@@ -1,17 +1,31 @@
 -- Relates opening, hashing and closing a name to the world.
-use Rattle.std.specs.Prelude.{◌≡◌, ◌+◌, true, false, length, None, Some, Result, Ok, Err, ⊤}
+use Rattle.std.specs.Prelude.{◌≡◌, ◌⊎◌, ◌+◌, true, false, length, Option, None, Some, Result, Ok, Err, ⊤}
 use Rattle.digest_kinds.specs.Kinds.{KindValue}
 pub use Rattle.sum_sources.specs.declared.fault.NoRoom.{NoRoom}
 pub use Rattle.sum_engine.specs.declared.hash_name.HashOutcome.{HashOutcome}
-use Rattle.sum_engine.specs.Behavior.{Content, InputState, ByteString, Answer, Fault, digest_or_fault}
-use Rattle.sum_engine.specs.Execution.{InputsState}
+use Rattle.sum_sources.specs.Contents.{unread}
+use Rattle.sum_engine.specs.Behavior.{Content, InputState, Reads, empty_content, ByteString, Answer, Fault, digest_or_fault}
+use Rattle.sum_engine.specs.Execution.{StdinState, InputsState}
 use Rattle.sum_engine.specs.declared.hash_name.HashOutcome.TheVariants as outcomes
 
--- standard input, of this state, was taken
+-- standard input while it is taken
+abbrev pub taken_stdin : StdinState
+taken_stdin = record { told = Some empty_content; taken = true; reads = None }
+
+-- this was given when standard input was taken: its own input the first time, and an empty one afterwards
 pub record GivesStdin (s : InputState) (a b : InputsState) : Type 0 where
-  pub before : a.stdin_taken ≡ false
-  pub given : a.stdin ≡ Some s
-  pub after : b ≡ record a { stdin = None; stdin_taken = true }
+  pub reads : s.reads ≡ unread
+  pub given : ((a.stdin ≡ record { told = s.told; taken = false; reads = None }) × (b ≡ record a { stdin = taken_stdin }))
+      ⊎ ((a.stdin.taken ≡ true) × (s.told ≡ Some empty_content) × (a.stdin.reads ≡ None → a.stdin.told ≡ s.told)
+      × (b ≡ a))
+
+-- standard input once this was put back: the first time it is what was put back, and stays so
+abbrev pub stdin_by : Option Reads → StdinState → InputState → StdinState
+stdin_by None a t = record { told = t.told; taken = true; reads = Some t.reads }
+stdin_by (Some r) a t = a
+
+abbrev pub stdin_after : StdinState → InputState → StdinState
+stdin_after a t = stdin_by a.reads a t
 
 -- the source was refused memory, and nothing else happened
 abbrev pub MemoryWasRefused : InputsState → InputsState → Type 0
@@ -33,6 +47,11 @@ IsRead kind c (outcomes.Broken f) = digest_or_fault kind (Ok c) ≡ Err f
 abbrev pub IsHashOutcome : KindValue → Answer → HashOutcome → Type 0
 IsHashOutcome kind (Ok c) outcome = IsRead kind c outcome
 IsHashOutcome kind (Err f) outcome = outcome ≡ outcomes.NotOpened f
+
+-- reading it didn't fail
+abbrev pub IsNotBroken : Result HashOutcome NoRoom → Type 0
+IsNotBroken (Ok (outcomes.Broken f)) = ⊥
+IsNotBroken outcome = ⊤
 
 -- a digest of the outcome has the kind's length
 abbrev pub HasKindLen : KindValue → Result HashOutcome NoRoom → Type 0

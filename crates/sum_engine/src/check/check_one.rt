@@ -1,10 +1,10 @@
 //! Checking one manifest.
 ghost use Rattle.sum_engine.specs.check.Checking.{check_behavior};
 ghost use Rattle.sum_engine.specs.Execution.{IsFlushed, FailuresMatch, IsOneMoreAtMost, RefusalsMatch, StopHasCause};
-ghost use Rattle.sum_engine.specs.Execution.{Performs, KeepsStdin, KeepsKnown};
-ghost use Rattle.sum_sources.specs.Contents.{IsSameInput};
+ghost use Rattle.sum_engine.specs.Execution.{Performs, IsAtEndIf, ReadsToEndIf};
+ghost use Rattle.sum_sources.specs.Contents.{unread, IsSameInput};
 ghost use Rattle.sum_engine.specs.check.CheckStates.{IsAtStart};
-ghost use Rattle.std.specs.Prelude.{◌≡◌, true, None};
+ghost use Rattle.std.specs.Prelude.{◌≡◌, true, None, Ok};
 ghost use Rattle.sum_engine.specs.check.CheckerLaws.{ManifestPerforms};
 
 use crate::check::checker::Checker;
@@ -17,7 +17,7 @@ use crate::stop::Stop;
 use crate::streams::{Outputs, Streams};
 use std::alloc::Allocator;
 use sum_lines::Sink;
-use sum_sources::{Ending, Input, OpenFault, PIECE, Source, Told};
+use sum_sources::{Input, OpenFault, Source};
 
 /// Checks the manifest of this name (`-` is standard input) and returns whether it is good. The reports of its lines
 /// and its summary go to `out` and `err` (coreutils manual, "md5sum invocation", `--check`). A manifest that can't
@@ -33,22 +33,18 @@ pub fn check_one<A: Allocator + Copy, J: Input + Drop, S: Source, O: Sink, E: Si
     name: &[u8],
     streams: &mut Streams<Inputs<J, S>, Outputs<O, E>>,
 ) -> Result<bool, Stop>
-    // If both outputs are flushed: the behavior of checking that name, in each world that agrees with what was read.
+    // If both outputs are flushed: the behavior of checking that name, in every world that agrees with what was read.
     ensures behavior { Performs (λ w. check_behavior settings tool.now w name.now) (λ good. good)
         streams.old streams.new result }
     ensures flushed { IsFlushed streams.old.outputs → IsFlushed streams.new.outputs }
-    ensures known { KeepsKnown streams.old.inputs streams.new.inputs }
+    // True only if the manifest and each file that was opened were read to their ends; and never further.
+    ensures reads { ReadsToEndIf (result ≡ Ok true) streams.old.inputs streams.new.inputs }
     // A stop has its cause: at most one refusal more of the source, or one failure more of one output.
     ensures refusals { RefusalsMatch IsOneMoreAtMost streams.old.inputs streams.new.inputs result }
     ensures failures { FailuresMatch streams.old.outputs streams.new.outputs result }
 {
     if is_dash(name) {
-        let Some(input) = streams.inputs.take_stdin() else {
-            // It is empty from then on.
-            let empty = Told::new(b"", Ending::Whole, PIECE);
-            let checker = Checker::new(settings, tool, b"standard input", true, empty);
-            return run_to_end(alloc, checker, streams).0;
-        };
+        let input = streams.inputs.take_stdin();
         let checker = Checker::new(settings, tool, b"standard input", true, input);
         let (result, input) = run_to_end(alloc, checker, streams);
         streams.inputs.put_back_stdin(input);
@@ -80,9 +76,12 @@ fn run_to_end<'a, A: Allocator, I: Input, J: Input + Drop, S: Source, O: Sink, E
     ensures behavior { ManifestPerforms checker.entry.cursor.rules checker.entry.labels
         (I.state checker.entry.cursor.reader.input) (I.state result.1) streams.old streams.new result.0 }
     ensures cause { StopHasCause IsOneMoreAtMost streams.old streams.new result.0 }
-    ensures known { KeepsKnown streams.old.inputs streams.new.inputs }
-    ensures stdin { checker.entry.cursor.rules.from_stdin ≡ true → KeepsStdin streams.old.inputs streams.new.inputs }
+    ensures reads { ReadsToEndIf (result.0 ≡ Ok true) streams.old.inputs streams.new.inputs }
+    ensures stdin { checker.entry.cursor.rules.from_stdin ≡ true
+        → streams.new.inputs.stdin ≡ streams.old.inputs.stdin }
     ensures same { IsSameInput (I.state checker.entry.cursor.reader.input) (I.state result.1) }
+    ensures manifest { (I.state checker.entry.cursor.reader.input).reads ≡ unread
+        → IsAtEndIf (result.0 ≡ Ok true) (I.state result.1).reads }
 {
     let mut line = Vec::new(alloc);
     let result = check_lines(&mut checker, &mut line, streams);
@@ -101,10 +100,13 @@ fn check_lines<'a, A: Allocator, I: Input, J: Input + Drop, S: Source, O: Sink, 
         (I.state checker.old.cursor.reader.input) (I.state checker.new.cursor.reader.input) streams.old streams.new
         result }
     ensures cause { StopHasCause IsOneMoreAtMost streams.old streams.new result }
-    ensures known { KeepsKnown streams.old.inputs streams.new.inputs }
-    ensures stdin { checker.old.cursor.rules.from_stdin ≡ true → KeepsStdin streams.old.inputs streams.new.inputs }
+    ensures reads { ReadsToEndIf (result ≡ Ok true) streams.old.inputs streams.new.inputs }
+    ensures stdin { checker.old.cursor.rules.from_stdin ≡ true
+        → streams.new.inputs.stdin ≡ streams.old.inputs.stdin }
     ensures same { IsSameInput (I.state checker.old.cursor.reader.input)
         (I.state checker.new.cursor.reader.input) }
+    ensures manifest { (I.state checker.old.cursor.reader.input).reads ≡ unread
+        → IsAtEndIf (result ≡ Ok true) (I.state checker.new.cursor.reader.input).reads }
 {
     'lines: loop {
         match checker.step(line, streams) {

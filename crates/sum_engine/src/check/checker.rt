@@ -102,8 +102,8 @@ impl<'a, I: Input> Checker<'a, I> {
         // A final answer is returned again; checker and streams stay as they are.
         ensures repeats { IfSome self.old.final_answer
             (λ r. (result ≡ r) × (self.new ≡ self.old) × (streams.new ≡ streams.old)) }
-        // If both outputs are flushed: the next step of the behavior, of each content and in each world that agree with
-        // what was read.
+        // If both outputs are flushed: the next step of the behavior, of every content and in every world that agree
+        // with what was read.
         ensures step { self.old.final_answer ≡ None → TakesStep I.state line.new.items self.old.labels
             self.old.cursor self.new.cursor streams.old streams.new result }
         // What was found, and which answers are final.

@@ -46,9 +46,9 @@ impl<I> Model for CheckCursor<I> {
 }
 
 impl<I: Input> CheckCursor<I> {
-    ghost use Rattle.sum_engine.specs.Execution.{KeepsStdin, KeepsKnown, IsStdinUnread, Agrees, world_at, AsksNames};
+    ghost use Rattle.sum_engine.specs.Execution.{Agrees, world_at, AsksNames, ReadsToEndIf};
     ghost use Rattle.sum_engine.specs.check.CheckStates.{IsAtStart};
-    ghost use Rattle.sum_engine.specs.check.NextVerdict.{AsksFor};
+    ghost use Rattle.sum_engine.specs.check.NextVerdict.{AsksFor, IsNotUnread};
     ghost use Rattle.sum_engine.specs.check.NextVerdict.{AdvancesCursor};
     ghost use Rattle.sum_engine.specs.check.CheckerSteps.{step_answer};
     ghost use Rattle.sum_sources.specs.declared.fault.Ending.TheVariants.{Whole};
@@ -163,8 +163,8 @@ impl<I: Input> CheckCursor<I> {
         ensures name_range { IfOk result (λ found. IfSome found (λ v. HasNameRange line.new.items v)) }
         ensures asked { AsksFor line.new.items inputs.old inputs.new result }
         ensures cursor { AdvancesCursor I.state self.old self.new result }
-        ensures stdin_kept { self.old.rules.from_stdin ≡ true → KeepsStdin inputs.old inputs.new }
-        ensures known { KeepsKnown inputs.old inputs.new }
+        ensures stdin { self.old.rules.from_stdin ≡ true → inputs.new.stdin ≡ inputs.old.stdin }
+        ensures reads { ReadsToEndIf (IsNotUnread result) inputs.old inputs.new }
     {
         match self.reader.next_line(line) {
             Err(stop) => Err(stop),
@@ -180,7 +180,7 @@ impl<I: Input> CheckCursor<I> {
         inputs: &mut Inputs<J, S>,
     ) -> Result<LineVerdict, NoRoom>
         requires few { total self.old.counts < self.old.reader.lines }
-        ensures verdict { IsStdinUnread inputs.old → (w : World) → Agrees w inputs.new
+        ensures verdict { (w : World) → Agrees w inputs.new
             → JudgeLineOf self.old line.old.items line.new.items (world_at w inputs.old) result }
         ensures asked { MatchResult result
             (λ v. AsksNames inputs.old inputs.new (asks_of (line_verdict_value line.new.items v)))
@@ -188,8 +188,8 @@ impl<I: Input> CheckCursor<I> {
         ensures name_range { IfOk result (λ v. HasNameRange line.new.items v) }
         ensures cursor { TakesLine self.old self.new line.old.items }
         ensures len { length line.new.items ≤ length line.old.items }
-        ensures stdin_kept { self.old.rules.from_stdin ≡ true → KeepsStdin inputs.old inputs.new }
-        ensures known { KeepsKnown inputs.old inputs.new }
+        ensures stdin { self.old.rules.from_stdin ≡ true → inputs.new.stdin ≡ inputs.old.stdin }
+        ensures reads { ReadsToEndIf (IsNotUnread (found_verdict result)) inputs.old inputs.new }
         ensures counts { self.new.counts ≡ counts_after self.old.counts (found_verdict result) }
     {
         let (reading, form) = read_line(self.rules.algo, self.form, line);

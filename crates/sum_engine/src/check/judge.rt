@@ -1,6 +1,7 @@
 //! The verdict of a line.
-ghost use Rattle.std.specs.Prelude.{◌≡◌, true, MatchResult, slice_range};
+ghost use Rattle.std.specs.Prelude.{◌≡◌, true, false, IfOk, MatchResult, slice_range};
 ghost use Rattle.sum_engine.specs.check.Verdicts.{asks_by};
+ghost use Rattle.sum_engine.specs.check.Reports.{is_unread};
 ghost use Rattle.sum_lines.specs.grammar.ParsedLines.{entry};
 ghost use Rattle.sum_engine.specs.refinement.Names.{MemoryWasRefused};
 ghost use Rattle.sum_engine.specs.check.NextVerdict.{HasNameRange};
@@ -60,7 +61,7 @@ impl LineVerdict {
 ghost use Rattle.sum_engine.specs.refinement.Judging.{JudgeOf};
 ghost use Rattle.sum_engine.specs.refinement.Judging.{verdict_of_outcome, listed_entry};
 ghost use Rattle.sum_engine.specs.Behavior.{World};
-ghost use Rattle.sum_engine.specs.Execution.{Agrees, world_at, AsksNames, IsStdinUnread, KeepsKnown, KeepsStdin};
+ghost use Rattle.sum_engine.specs.Execution.{Agrees, world_at, AsksNames, ReadsToEndIf};
 
 /// An entry of a manifest: the digest of a file, with its kind, and the file's name.
 #[derive(Clone, Copy)]
@@ -77,12 +78,12 @@ pub(crate) fn judge<I: Input + Drop, S: Source>(
     inputs: &mut Inputs<I, S>,
     buffer: &mut [u8; PIECE],
 ) -> Result<Verdict, NoRoom>
-    ensures verdict { IsStdinUnread inputs.old → (w : World) → Agrees w inputs.new
+    ensures verdict { (w : World) → Agrees w inputs.new
         → JudgeOf rules (world_at w inputs.old) (entry (listed_entry listed.now)) result }
     ensures asked { MatchResult result (λ v. AsksNames inputs.old inputs.new (asks_by v listed.now.name.now))
         (λ _. MemoryWasRefused inputs.old inputs.new) }
-    ensures stdin_kept { rules.from_stdin ≡ true → KeepsStdin inputs.old inputs.new }
-    ensures known { KeepsKnown inputs.old inputs.new }
+    ensures stdin { rules.from_stdin ≡ true → inputs.new.stdin ≡ inputs.old.stdin }
+    ensures reads { ReadsToEndIf (IfOk result (λ v. is_unread v ≡ false)) inputs.old inputs.new }
 {
     if rules.from_stdin && is_dash(listed.name) {
         return Ok(Verdict::Bad);

@@ -80,7 +80,7 @@ impl<I: Input> Verdicts<I> {
         // A final answer is returned again; all but `line` stays as it is.
         ensures repeats { IfSome self.old.final_answer
             (λ r. (result ≡ r) × (self.new ≡ self.old) × (inputs.new ≡ inputs.old)) }
-        // Of each content and in each world that agree with what was read: the first of the verdicts that remained.
+        // Of every content and in every world that agree with what was read: the first of the verdicts that remained.
         ensures verdict { self.old.final_answer ≡ None → FindsVerdict I.state line.new.items
             self.old.cursor self.new.cursor inputs.old inputs.new result }
         ensures name_range { IfOk result (λ found. IfSome found (λ v. HasNameRange line.new.items v)) }

@@ -1,16 +1,22 @@
--- Joins the calls of a sink: what its known bytes grow by, how a buffer is flushed, and the state of a ToldSink.
-use Rattle.std.specs.Prelude.{ℕ, ◌-◌, [], take, ⊤, Option, Some, Result, Ok, Err}
-use Rattle.sum_lines.specs.sinks.Sinks.{ByteString, SinkState, IsPrefix, Accepts, FailsToFlush, Appends}
+-- Joins the calls of a sink: how a buffer is flushed, and the states of the sinks.
+use Rattle.std.specs.Prelude.{ℕ, ◌-◌, ◌++◌, [], take, ⊤, Option, None, unwrap_or, Result, Ok, Err}
+use Rattle.sum_lines.specs.sinks.Sinks.{ByteString, SinkState, Accepts, FailsToFlush}
 use Rattle.sum_lines.specs.declared.sinks.told_sink.ToldSink.{ToldSink}
-
--- known bytes grow by a prefix of the text
-abbrev pub AppendsPrefix : Option ByteString → Option ByteString → ByteString → Type 0
-AppendsPrefix old new text = (prefix : ByteString) × IsPrefix prefix text × Appends old new prefix
+use Rattle.sum_lines.specs.declared.sinks.writes.Writes.{Writes}
 
 -- the buffer is written to the sink below, or that fails; no new bytes are accepted
 abbrev pub FlushesBuffer : {E : Type 0} → SinkState → SinkState → Result ⊤ E → Type 0
 FlushesBuffer a b (Ok u) = Accepts a b []
 FlushesBuffer a b (Err e) = FailsToFlush a b
+
+-- the state of a sink that buffers nothing: what its writer held at first, if that is known, and then its log
+abbrev pub over_writer : Option ByteString → Writes → SinkState
+over_writer held log =
+    record { written = unwrap_or held [] ++ log.written; buffered = []; failures = log.failures }
+
+-- the same, without a writer
+abbrev pub log_state : Writes → SinkState
+log_state log = over_writer None log
 
 -- ---- a ToldSink
 
@@ -24,4 +30,4 @@ remaining_capacity s = s.limit - s.len
 
 -- its state as a sink: it buffers nothing
 abbrev pub told_sink_state : {N : ℕ} → ToldSink N → SinkState
-told_sink_state s = record { written = Some (bytes_of s); buffered = []; failures = s.failures }
+told_sink_state s = record (log_state s.log) { written = bytes_of s }

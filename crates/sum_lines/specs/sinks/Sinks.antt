@@ -1,43 +1,40 @@
 -- The state of a sink, and what writing and flushing do to it. What a buffer over a sink buffers, and when it flushes.
 pub use Rattle.digest_kinds.specs.Basics.{ByteString}
-use Rattle.digest_kinds.specs.Limits.{one_more}
-use Rattle.std.specs.Prelude.{ℕ, ◌≡◌, ◌<◌, ◌≤◌, ◌==◌, List, [], ◌∷◌, ◌++◌, length, take, if◌then◌else◌, ⊤, Option, Some, Result, Ok, Err, IfSome}
-use Rattle.std.specs.Io.KnownBytes.{append_known}
-pub use Rattle.std.specs.Io.KnownBytes.{Appends}
+use Rattle.std.specs.Prelude.{ℕ, ◌≡◌, ◌<◌, ◌≤◌, ◌+◌, ◌==◌, List, [], ◌∷◌, ◌++◌, length, take, if◌then◌else◌, ⊤, Option, Some, Result, Ok, Err, IfSome}
 
 -- a prefix of a list, which may be the whole
 abbrev pub IsPrefix : {A : Type 0} → List A → List A → Type 0
 IsPrefix {A} prefix xs = (rest : List A) × (xs ≡ prefix ++ rest)
 
--- known bytes grow by a proper prefix of the text
-abbrev pub AppendsProperPrefix : Option ByteString → Option ByteString → ByteString → Type 0
-AppendsProperPrefix old new text =
-    (prefix : ByteString) × (rest : ByteString) × (text ≡ prefix ++ rest) × (0 < length rest) × Appends old new prefix
+-- a prefix of a list that isn't the whole
+abbrev pub IsProperPrefix : {A : Type 0} → List A → List A → Type 0
+IsProperPrefix {A} prefix xs = (rest : List A) × (0 < length rest) × (xs ≡ prefix ++ rest)
 
--- a sink's state: the bytes written, if they are known; the bytes accepted and still buffered; how many calls failed
+-- a sink's state: the bytes written; the bytes accepted and still buffered; how many calls failed
 pub record SinkState : Type 0 where
-  pub written : Option ByteString
+  pub written : ByteString
   pub buffered : ByteString
   pub failures : ℕ
 
--- the text was accepted: it follows the buffered bytes, and some of both may have been written
+-- the text was accepted: it follows the buffered bytes, of both some first bytes were written, and the rest is buffered
 pub record Accepts (a b : SinkState) (text : ByteString) : Type 0 where
-  pub accepted : Appends (append_known a.written a.buffered) (append_known b.written b.buffered) text
-  pub written : (more : ByteString) × Appends a.written b.written more
+  pub written : (more : ByteString) × (b.written ≡ a.written ++ more) × (a.buffered ++ text ≡ more ++ b.buffered)
   pub failures : b.failures ≡ a.failures
 
--- a call failed: a proper prefix of the buffered bytes and the text, which isn't empty, was written; the rest is lost
+-- a call failed: bytes of which this is true were written, and the rest is lost
+pub record Fails (a b : SinkState) (IsWritten : ByteString → Type 0) : Type 0 where
+  pub written : (more : ByteString) × (b.written ≡ a.written ++ more) × IsWritten more
+  pub buffered : b.buffered ≡ []
+  pub failures : b.failures ≡ a.failures + 1
+
+-- a call failed: a prefix of the buffered bytes was written
+abbrev pub FailsToFlush : SinkState → SinkState → Type 0
+FailsToFlush a b = Fails a b (λ more. IsPrefix more a.buffered)
+
+-- a call failed: a proper prefix of the buffered bytes and the text, which isn't empty, was written
 pub record FailsToWrite (a b : SinkState) (text : ByteString) : Type 0 where
   pub nonempty : 0 < length text
-  pub written : AppendsProperPrefix a.written b.written (a.buffered ++ text)
-  pub buffered : b.buffered ≡ []
-  pub failures : b.failures ≡ one_more a.failures
-
--- a call failed: a prefix of the buffered bytes was written, and the rest is lost
-pub record FailsToFlush (a b : SinkState) : Type 0 where
-  pub written : (prefix : ByteString) × IsPrefix prefix a.buffered × Appends a.written b.written prefix
-  pub buffered : b.buffered ≡ []
-  pub failures : b.failures ≡ one_more a.failures
+  pub fails : Fails a b (λ more. IsProperPrefix more (a.buffered ++ text))
 
 -- a call that accepts all of the text, or fails; with an empty text it doesn't fail
 abbrev pub WritesAll : {E : Type 0} → SinkState → SinkState → ByteString → Result ⊤ E → Type 0
@@ -51,7 +48,7 @@ WritesSome a b piece (Err e) = FailsToFlush a b
 
 -- one flush, which writes all that is buffered, or fails
 abbrev pub Flushes : {E : Type 0} → SinkState → SinkState → Result ⊤ E → Type 0
-Flushes a b (Ok u) = Appends a.written b.written a.buffered × (b.buffered ≡ []) × (b.failures ≡ a.failures)
+Flushes a b (Ok u) = b ≡ record { written = a.written ++ a.buffered; buffered = []; failures = a.failures }
 Flushes a b (Err e) = FailsToFlush a b
 
 -- ---- what is offered
@@ -87,8 +84,7 @@ pub record BufferedValue (S : Type 0) : Type 0 where
 
 -- the state of a buffer: it buffers what the sink below does, and its own after that
 abbrev pub buffer_state : {S : Type 0} → (S → SinkState) → BufferedValue S → SinkState
-buffer_state state b = let a = state b.sink in
-    record { written = a.written; buffered = a.buffered ++ b.buffered; failures = a.failures }
+buffer_state state b = let a = state b.sink in record a { buffered = a.buffered ++ b.buffered }
 
 -- what stays buffered: all, if there is room for more, and nothing, if that is 8,192 bytes
 abbrev pub kept_unless_full : ByteString → ByteString

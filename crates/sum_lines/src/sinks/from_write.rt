@@ -1,50 +1,62 @@
 //! A sink over a writer of the standard library.
-ghost use Rattle.std.specs.Prelude.{◌≡◌, []};
-ghost use Rattle.digest_kinds.specs.Limits.{one_more};
+ghost use Rattle.std.specs.Prelude.{◌≡◌, ◌+◌, ◌++◌, Some, unwrap_or, []};
+ghost use Rattle.std.specs.Option.{ForSome};
 
 use crate::sinks::sink::{Sink, SinkFault};
+use crate::sinks::writes::Writes;
 use digest_kinds::INTERRUPTIONS;
 use std::io::{ErrorKind, Write};
+use std::snapshot::Snapshot;
 
-/// A sink that writes its bytes to a writer, and buffers none. It knows its bytes if its writer does.
-#[derive(Debug, Drop)]
-pub struct FromWrite<W> {
+/// A sink that writes its bytes to a writer, and buffers none.
+#[derive(Drop)]
+pub struct FromWrite<W: Write> {
     writer: W,
-    failures: u64,
+    // the writer as it was at first, and what it took since: only proofs see them
+    first: Snapshot<W>,
+    log: Writes,
+    ghost known: { ForSome (W.contents first.value) (λ bytes. W.contents writer ≡ Some (bytes ++ log.written)) },
 }
 
 impl<W: Write> FromWrite<W> {
-    /// A sink over the writer. It has written what the writer contains.
+    ghost use Rattle.sum_lines.specs.refinement.SinkStates.{over_writer};
+
+    /// A sink over the writer. It has written what the writer is known to hold.
     pub fn new(writer: W) -> Self
-        // Known if the writer's bytes are.
-        ensures written { (⟦<FromWrite<W> as Sink>⟧.state result).written ≡ W.contents writer }
-        ensures failures { (⟦<FromWrite<W> as Sink>⟧.state result).failures ≡ 0 }
+        ensures { ⟦<FromWrite<W> as Sink>⟧.state result
+            ≡ record { written = unwrap_or (W.contents writer) []; buffered = []; failures = 0 } }
     {
         FromWrite {
+            first: Snapshot::of(&writer),
             writer,
-            failures: 0,
+            log: Writes::new(),
         }
     }
 
     /// The writer. Nothing is lost, since this sink buffers no bytes.
     pub fn into_inner(self) -> W
-        ensures { result ≡ self.writer }
+        ensures writer { result ≡ self.writer }
+        ensures known { ForSome (W.contents self.first.value) (λ bytes.
+            W.contents result ≡ Some (over_writer (W.contents self.first.value) self.log).written) }
     {
         self.writer
     }
 
-    // Counts a failure, at most 2^64 - 1.
+    // Notes a failure.
     fn fault(&mut self) -> SinkFault
         ensures writer { self.new.writer ≡ self.old.writer }
-        ensures failures { self.new.failures ≡ one_more self.old.failures }
+        ensures first { self.new.first ≡ self.old.first }
+        ensures log { self.new.log ≡ record self.old.log { failures = self.old.log.failures + 1 } }
     {
-        self.failures = self.failures.saturating_add(1);
+        self.log = self.log.and_failure();
         SinkFault
     }
 }
 
 impl<W: Write> Sink for FromWrite<W> {
-    ghost state = { λ s. record { written = W.contents s.writer; buffered = []; failures = s.failures } };
+    ghost use Rattle.sum_lines.specs.refinement.SinkStates.{over_writer};
+
+    ghost state = { λ s. over_writer (W.contents s.first.value) s.log };
 
     /// Writes a piece that isn't empty to the writer, again after each interruption. `SinkFault` if the writer fails,
     /// accepts nothing of it, or is interrupted for the 1,000th time in a row ([`INTERRUPTIONS`]).
@@ -55,7 +67,10 @@ impl<W: Write> Sink for FromWrite<W> {
         for _ in 0..INTERRUPTIONS {
             match self.writer.write(piece) {
                 Ok(0) => break,
-                Ok(count) => return Ok(count),
+                Ok(count) => {
+                    self.log = self.log.and(&piece[..count]);
+                    return Ok(count);
+                }
                 Err(error) => {
                     if error.kind() != ErrorKind::Interrupted {
                         break;

@@ -16,8 +16,8 @@ pub struct SinkFault;
 /// fails, a prefix of the buffered bytes was written. If a call for a whole text fails, as `put_all`, a proper prefix
 /// of the buffered bytes and the text was written. The rest is lost.
 pub trait Sink {
-    /// The bytes that it has written, if they are known; the bytes that it has accepted and still buffers; and how many
-    /// of its calls have failed, at most 2^64 - 1.
+    /// The bytes that it has written; the bytes that it has accepted and still buffers; and how many of its calls have
+    /// failed.
     ghost state: { Self → SinkState };
 
     /// The pieces that it was offered, one by each write, if they are known.

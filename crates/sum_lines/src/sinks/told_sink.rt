@@ -2,14 +2,15 @@
 ghost use Rattle.std.specs.Prelude.{◌≡◌, ◌≤◌, ◌+◌, ◌<◌, [], length, min, IfOk, IsErr, OnErr, ◌↔◌};
 
 use crate::sinks::sink::{Sink, SinkFault};
+use crate::sinks::writes::Writes;
 
-/// A sink that keeps up to N bytes, which are known, and fails when it is full.
+/// A sink that keeps up to N bytes, and fails when it is full.
 #[derive(Debug, Drop)]
 pub struct ToldSink<const N: usize> {
     bytes: [u8; N],
     len: usize,
     limit: usize,
-    failures: u64,
+    log: Writes,
     ghost in_range: { (len ≤ limit) × (limit ≤ N) },
 }
 
@@ -26,7 +27,7 @@ impl<const N: usize> ToldSink<N> {
             bytes: [0; N],
             len: 0,
             limit: stop.min(N),
-            failures: 0,
+            log: Writes::new(),
         }
     }
 
@@ -61,7 +62,7 @@ impl<const N: usize> Sink for ToldSink<N> {
         }
         let count = piece.len().min(self.limit - self.len);
         if count == 0 {
-            self.failures = self.failures.saturating_add(1);
+            self.log = self.log.and_failure();
             return Err(SinkFault);
         }
         let bytes = &mut self.bytes[..];

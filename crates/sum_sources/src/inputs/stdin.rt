@@ -10,7 +10,7 @@ use std::mem;
 enum StdinPlace<I> {
     Untaken(I),
     Taken,
-    Returned(I),
+    Returned(Reply<I>),
 }
 
 /// Standard input. Its input is given once, and is put back. Until then nothing was read of it.
@@ -82,15 +82,13 @@ impl<I: Input + Drop> Stdin<I> {
         Given { reply }
     }
 
-    /// Puts back what `take` gave. An empty input is dropped, and so is one that is put back where nothing was taken.
+    /// Puts back what `take` gave. It is kept if nothing was put back before, and dropped otherwise.
     pub fn put_back(&mut self, given: Given<I>)
         ensures { self.new ≡ put_back self.old given }
     {
         let Given { reply } = given;
-        if let Reply::First(input) = reply {
-            if let StdinPlace::Taken = self.place {
-                self.place = StdinPlace::Returned(input);
-            }
+        if let StdinPlace::Taken = self.place {
+            self.place = StdinPlace::Returned(reply);
         }
     }
 }

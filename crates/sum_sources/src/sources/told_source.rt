@@ -1,7 +1,8 @@
 //! A source of files in memory.
 ghost use Rattle.std.specs.Prelude.{◌≡◌, ◌++◌, ◌∷◌, [], OnOk, OnErr, length, map, max, slice_get};
 ghost use Rattle.std.specs.Option.{option_map};
-ghost use Rattle.sum_sources.specs.InMemory.{first_answer, told_source};
+ghost use Rattle.sum_sources.specs.InMemory.{told_source};
+ghost use Rattle.sum_sources.specs.Sources.{first_answer};
 ghost use Rattle.sum_sources.specs.refinement.ToldPairs.{pair_of, answer_value, AddsName};
 
 use crate::sources::source_log::{Note, SourceLog};

@@ -1,6 +1,7 @@
 use Rattle.std.proofs.Common.{Some, None, refl, inl, inr}
 use Rattle.std.proofs.lemmas.Option.{IfSome_then}
 use Rattle.sum_words.specs.CommandLines.{invoke, unknown_tool}
+use Rattle.sum_engine.proofs.WorldLemmas.{reads_weaker}
 use Rattle.digests.proofs.ProgramLemmas.{CallPerforms-finished, CallPerforms-refused}
 use Rattle.digests.proofs.command.command.Goals as goal
 
@@ -13,6 +14,10 @@ returns-in-Ok-Invoke-clause-behavior g c = λ hold.
     (Some (invoke c.in-Ok-Invoke.tool c.in-Ok-Invoke.words)) c.args.streams.now c.run-outcome.new.streams
     c.finish_run.new.outputs c.run-outcome.result ran.behavior ran.failures
     (c.finish_run.ensures.finish (ran.flushed hold)))))
+
+pub returns-in-Ok-Invoke-clause-reads : goal.returns-in-Ok-Invoke-clause-reads
+returns-in-Ok-Invoke-clause-reads g c =
+    reads_weaker (λ zero. (c.finish_run.ensures.no_failures zero).0) c.run-outcome.ensures.reads
 
 -- no tool of that name: a line says so
 pub returns-in-Ok-UnknownTool-clause-behavior : goal.returns-in-Ok-UnknownTool-clause-behavior

@@ -1,6 +1,6 @@
-use Rattle.std.proofs.Common.{rules}
-use Rattle.sum_engine.proofs.WorldLemmas.{KeepsKnown-then}
-use Rattle.digests.proofs.OperandLemmas.{left-next, operands_done_start, operands_done_step, operands_done_end, operands_done_stop}
+use Rattle.std.proofs.Common.{rules, ◌≡◌, ap, Ok}
+use Rattle.sum_engine.proofs.WorldLemmas.{reads_weaker, reads_then}
+use Rattle.digests.proofs.OperandLemmas.{left-next, operands_done_start, operands_done_step, operands_done_end, operands_done_stop, good_status}
 use Rattle.digests.proofs.run.run_operands.Goals as goal
 
 -- before the first operand nothing happened
@@ -15,10 +15,11 @@ pub returns-in-Err-clause-behavior : goal.returns-in-Err-clause-behavior
 returns-in-Err-clause-behavior g c =
     let so_far = c.operands.invariant in
     operands_done_stop c.in-Err.stop c.run_operand.new.streams (rw c.in-Some.is at so_far.reached)
-    so_far.so_far.flushed c.in-Err.ensures.known c.in-Err.ensures.behavior
+    so_far.so_far.flushed c.in-Err.ensures.reads c.in-Err.ensures.behavior
 
-pub returns-in-Err-clause-known : goal.returns-in-Err-clause-known
-returns-in-Err-clause-known g c = KeepsKnown-then c.operands.invariant.reached.known c.in-Err.ensures.known
+pub returns-in-Err-clause-reads : goal.returns-in-Err-clause-reads
+returns-in-Err-clause-reads g c =
+    reads_then (λ good. cc) c.operands.invariant.reached.reads c.in-Err.ensures.reads
 
 -- an operand happened
 pub operands-preserved : goal.operands-preserved
@@ -27,7 +28,7 @@ operands-preserved g c =
     record {
       reached = rw (← left-next c.operands.operands _ c.next-next.result c.next-next.ensures.steps)
           (operands_done_step c.in-Ok.this c.run_operand.new.streams (rw c.in-Some.is at so_far.reached)
-          so_far.so_far.flushed c.in-Ok.ensures.known c.in-Ok.ensures.behavior);
+          so_far.so_far.flushed (λ good. ap Ok good) c.in-Ok.ensures.reads c.in-Ok.ensures.behavior);
       so_far = search rules;
     }
 
@@ -35,3 +36,9 @@ operands-preserved g c =
 pub returns-clause-behavior : goal.returns-clause-behavior
 returns-clause-behavior g c =
     rw c.status.ensures (operands_done_end (rw c.in_default.is at c.operands.invariant.reached))
+
+pub returns-clause-reads : goal.returns-clause-reads
+returns-clause-reads g c =
+    reads_weaker (λ zero.
+    let is : c.status.result ≡ 0 = cc in
+    good_status c.operands.good c.status.result c.status.ensures is) c.operands.invariant.reached.reads

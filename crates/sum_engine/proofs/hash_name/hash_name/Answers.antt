@@ -1,47 +1,90 @@
-use Rattle.std.proofs.Common.{rules, ◌≡◌, true, false, [], ◌∷◌}
+use Rattle.std.proofs.Common.{rules, ◌≡◌, ◌∙◌, ap, sym, true, false, [], refl, Ok, Err}
+use Rattle.sum_sources.specs.StandardInput.{given_state}
+use Rattle.sum_sources.specs.InputLaws.{given_has_content}
 use Rattle.sum_engine.specs.Behavior.{is_dash}
-use Rattle.sum_engine.proofs.HashNameLemmas.{closed_source, hashed_file, hashed_fault, hashed_nothing}
-use Rattle.sum_engine.proofs.WorldLemmas.{one_opening}
-use Rattle.sum_engine.specs.Execution.{AsksNames, KeepsKnown}
-use Rattle.sum_engine.proofs.hash_name.hash_name.Given as given
+use Rattle.sum_engine.specs.Execution.{InputsState}
+use Rattle.sum_engine.proofs.HashNameLemmas.{closed_file, hashed_file, hashed_fault, gives_taken, taken_after, stdin_asked, stdin_hashed, given_reads, refused_reads}
+use Rattle.sum_engine.proofs.WorldLemmas.{asks_one, reads_none, reads_one}
 use Rattle.sum_engine.proofs.hash_name.hash_name.Goals as goal
 
--- standard input was taken before
-pub returns-in_default-clause-outcome : goal.returns-in_default-clause-outcome
-returns-in_default-clause-outcome g c =
-    let dash : is_dash c.args.name.now ≡ true = search rules in
-    λ new w agrees.
-    hashed_nothing c.args.kind c.args.name.now c.args.inputs.now agrees _ dash c.in_default.ensures.0 (search rules)
+-- ---- standard input was read, and put back
 
--- a file was read, and closed
+pub returns-then-is_dash-clause-outcome : goal.returns-then-is_dash-clause-outcome
+returns-then-is_dash-clause-outcome g c =
+    let dash : is_dash c.args.name.now ≡ true = search rules in
+    let gives = c.take_stdin-input.ensures in
+    let read = c.read_digest-outcome.ensures in
+    let has = given_has_content g.I.Input.state g.met.I.Input.has_content c.read_digest-outcome.new.file in
+    λ w agrees.
+    stdin_hashed gives read.same w c.put_back_stdin.new.self c.args.kind c.args.name.now _ dash has (c.put_back_stdin.ensures (gives_taken gives))
+    agrees (rw c.new.ensures.kind at read.outcome)
+
+pub returns-then-is_dash-clause-asked : goal.returns-then-is_dash-clause-asked
+returns-then-is_dash-clause-asked g c =
+    let dash : is_dash c.args.name.now ≡ true = search rules in
+    let gives = c.take_stdin-input.ensures in
+    let taken = gives_taken gives in
+    let back = c.put_back_stdin.ensures taken in
+    stdin_asked gives c.args.name.now c.put_back_stdin.new.self dash (rw back refl)
+    (ap (λ (m : InputsState). m.stdin.taken) back ∙ taken_after c.take_stdin-input.new.self.stdin
+    (given_state g.I.Input.state c.read_digest-outcome.new.file) taken ∙ sym taken)
+
+pub returns-then-is_dash-clause-reads : goal.returns-then-is_dash-clause-reads
+returns-then-is_dash-clause-reads g c =
+    let gives = c.take_stdin-input.ensures in
+    let read = c.read_digest-outcome.ensures in
+    given_reads gives read.same c.take_stdin-input.new.self c.put_back_stdin.new.self (read.reads gives.reads)
+    (reads_none c.take_stdin-input.new.self) refl
+    (c.put_back_stdin.ensures (gives_taken gives))
+
+-- ---- a file was read, and closed
+
 pub returns-in-Ok-clause-outcome : goal.returns-in-Ok-clause-outcome
 returns-in-Ok-clause-outcome g c =
     let file : is_dash c.args.name.now ≡ false = search rules in
     let read = c.read_digest-outcome-in-Ok.ensures in
-    λ new w agrees.
-    hashed_file c.args.kind c.args.name.now c.args.inputs.now agrees _ _ _ _ file (search rules) c.in-Ok.ensures.file
-    read.same c.close_file.ensures (rw c.new-in-Ok.ensures.kind at read.outcome)
-
--- one name was opened
-closed : (g : given.Over) (c : goal.After-close_file g)
-    → AsksNames c.args.inputs.now c.close_file.new.self (c.args.name.now ∷ [])
-    × KeepsKnown c.args.inputs.now c.close_file.new.self
-closed g c =
-    let file : is_dash c.args.name.now ≡ false = search rules in
-    one_opening c.args.inputs.now c.close_file.new.self c.args.name.now _ file
-    (closed_source c.args.inputs.now c.open_file.new.self _ c.args.name.now _ _ c.in-Ok.ensures.source
-    c.in-Ok.ensures.file c.read_digest-outcome-in-Ok.ensures.same c.close_file.ensures) (search rules)
+    let closed = closed_file c.args.inputs.now c.open_file.new.self c.close_file.new.self c.args.name.now _ _
+    c.in-Ok.ensures.source c.in-Ok.ensures.file read.same c.close_file.ensures in
+    λ w agrees.
+    hashed_file c.args.inputs.now c.args.kind c.args.name.now agrees file _ _ closed
+    (rw c.new-in-Ok.ensures.kind at (read.outcome (rw c.in-Ok.ensures.file refl)))
 
 pub returns-in-Ok-clause-asked : goal.returns-in-Ok-clause-asked
-returns-in-Ok-clause-asked g c = (closed g c).0
+returns-in-Ok-clause-asked g c =
+    let file : is_dash c.args.name.now ≡ false = search rules in
+    let read = c.read_digest-outcome-in-Ok.ensures in
+    asks_one c.args.inputs.now c.close_file.new.self c.args.name.now _ file
+    (closed_file c.args.inputs.now c.open_file.new.self c.close_file.new.self c.args.name.now _ _ c.in-Ok.ensures.source
+    c.in-Ok.ensures.file read.same c.close_file.ensures)
 
-pub returns-in-Ok-clause-known : goal.returns-in-Ok-clause-known
-returns-in-Ok-clause-known g c = (closed g c).1
+pub returns-in-Ok-clause-reads : goal.returns-in-Ok-clause-reads
+returns-in-Ok-clause-reads g c =
+    let read = c.read_digest-outcome-in-Ok.ensures in
+    reads_one c.args.inputs.now c.close_file.new.self c.args.name.now (Ok _)
+    (read.reads (rw c.in-Ok.ensures.file refl)) (closed_file c.args.inputs.now c.open_file.new.self
+    c.close_file.new.self c.args.name.now _ _ c.in-Ok.ensures.source c.in-Ok.ensures.file read.same c.close_file.ensures)
 
--- it could not be opened
+-- ---- it could not be opened
+
 pub returns-in-Err-Fault-clause-outcome : goal.returns-in-Err-Fault-clause-outcome
 returns-in-Err-Fault-clause-outcome g c =
     let file : is_dash c.args.name.now ≡ false = search rules in
-    λ new w agrees.
-    rw c.in-Err-Fault.fault-is (hashed_fault c.args.kind c.args.name.now c.args.inputs.now agrees _ file
+    λ w agrees.
+    rw c.in-Err-Fault.fault-is (hashed_fault c.args.inputs.now c.args.kind c.args.name.now agrees file _
     (rw c.in-Err-Fault.field-0-is at c.in-Err-Fault.ensures.source))
+
+pub returns-in-Err-Fault-clause-asked : goal.returns-in-Err-Fault-clause-asked
+returns-in-Err-Fault-clause-asked g c =
+    let file : is_dash c.args.name.now ≡ false = search rules in
+    asks_one c.args.inputs.now c.open_file.new.self c.args.name.now _ file
+    (rw c.in-Err-Fault.field-0-is at c.in-Err-Fault.ensures.source)
+
+pub returns-in-Err-Fault-clause-reads : goal.returns-in-Err-Fault-clause-reads
+returns-in-Err-Fault-clause-reads g c =
+    reads_one c.args.inputs.now c.open_file.new.self c.args.name.now (Err _) tt
+    (rw c.in-Err-Fault.field-0-is at c.in-Err-Fault.ensures.source)
+
+pub returns-in-Err-Memory-clause-reads : goal.returns-in-Err-Memory-clause-reads
+returns-in-Err-Memory-clause-reads g c =
+    refused_reads c.args.inputs.now c.open_file.new.self
+    (rw c.in-Err-Memory.field-0-is at c.in-Err-Memory.ensures.source)

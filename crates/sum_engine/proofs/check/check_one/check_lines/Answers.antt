@@ -1,38 +1,60 @@
-use Rattle.std.proofs.Common.{Ok, Err, ap, ◌∙◌, rules, arith}
-use Rattle.sum_engine.proofs.CheckLinesLemmas.{HasComeTo-none, HasComeTo-more, HasComeTo-last, step-goes}
-use Rattle.sum_engine.proofs.WorldLemmas.{KeepsKnown-then, KeepsStdin-then}
+use Rattle.std.proofs.Common.{◌≡◌, Ok, Err, ap, ◌∙◌, rules, arith, refl, true}
+use Rattle.sum_engine.proofs.CheckLinesLemmas.{HasComeTo-none, HasComeTo-more, HasComeTo-last, manifest_read, good_end, none_unread, step-goes}
+use Rattle.sum_engine.proofs.WorldLemmas.{reads_none, reads_then}
 use Rattle.sum_engine.proofs.check.check_one.check_lines.Goals as goal
 
 pub lines-init : goal.lines-init
-lines-init g c = search (rules, HasComeTo-none)
+lines-init g c = search (rules, HasComeTo-none, reads_none)
 
--- a step stopped
+-- ---- a step stopped
+
 pub returns-in-Err-clause-behavior : goal.returns-in-Err-clause-behavior
 returns-in-Err-clause-behavior g c =
     let so_far = c.lines.invariant in
     HasComeTo-last _ _ _ _ c.step.new.self _ c.step.new.streams c.step.new.line.items (Err c.in-Err.stop)
-    c.requires.start so_far.along (c.in-Err.ensures.advances so_far.going).verdict.known
-    (c.in-Err.ensures.step so_far.going)
+    c.requires.start so_far.along (c.in-Err.ensures.advances so_far.going) (c.in-Err.ensures.step so_far.going)
 
-pub returns-in-Err-clause-known : goal.returns-in-Err-clause-known
-returns-in-Err-clause-known g c =
+pub returns-in-Err-clause-reads : goal.returns-in-Err-clause-reads
+returns-in-Err-clause-reads g c =
     let so_far = c.lines.invariant in
-    KeepsKnown-then so_far.along.known (c.in-Err.ensures.advances so_far.going).verdict.known
+    reads_then (λ good. cc) so_far.reads (c.in-Err.ensures.advances so_far.going).verdict.reads
 
--- the end was handled
+pub returns-in-Err-clause-manifest : goal.returns-in-Err-clause-manifest
+returns-in-Err-clause-manifest g c =
+    let so_far = c.lines.invariant in
+    manifest_read _ _ _ _ c.step.new.self _ c.step.new.streams c.step.new.line.items (Err c.in-Err.stop)
+    c.requires.start so_far.along (c.in-Err.ensures.advances so_far.going)
+
+-- ---- the end was handled
+
 pub returns-in-Ok-Ended-clause-behavior : goal.returns-in-Ok-Ended-clause-behavior
 returns-in-Ok-Ended-clause-behavior g c =
     let so_far = c.lines.invariant in
-    let step = rw c.in-Ok-Ended.field-0-is at (c.in-Ok-Ended.ensures.step so_far.going) in
+    let done = c.in-Ok-Ended.ensures in
     HasComeTo-last _ _ _ _ c.step.new.self _ c.step.new.streams c.step.new.line.items (Ok c.in-Ok-Ended.good)
-    c.requires.start so_far.along (c.in-Ok-Ended.ensures.advances so_far.going).verdict.known step
+    c.requires.start so_far.along (rw c.in-Ok-Ended.field-0-is at (done.advances so_far.going))
+    (rw c.in-Ok-Ended.field-0-is at (done.step so_far.going))
 
-pub returns-in-Ok-Ended-clause-known : goal.returns-in-Ok-Ended-clause-known
-returns-in-Ok-Ended-clause-known g c =
+-- a good manifest has no file that could not be read
+pub returns-in-Ok-Ended-clause-reads : goal.returns-in-Ok-Ended-clause-reads
+returns-in-Ok-Ended-clause-reads g c =
     let so_far = c.lines.invariant in
-    KeepsKnown-then so_far.along.known (c.in-Ok-Ended.ensures.advances so_far.going).verdict.known
+    let advances = rw c.in-Ok-Ended.field-0-is at (c.in-Ok-Ended.ensures.advances so_far.going) in
+    reads_then (λ all.
+    let good : c.in-Ok-Ended.good ≡ true = search rules in
+    let none = (good_end c.step.new.self.cursor advances.found advances.failed (rw good at advances.answer)).1 in
+    none_unread c.lines.checker.cursor c.step.new.self.cursor advances.found advances.verdict.cursor.counts none)
+    so_far.reads advances.verdict.reads
 
--- one line more was handled
+pub returns-in-Ok-Ended-clause-manifest : goal.returns-in-Ok-Ended-clause-manifest
+returns-in-Ok-Ended-clause-manifest g c =
+    let so_far = c.lines.invariant in
+    manifest_read _ _ _ _ c.step.new.self _ c.step.new.streams c.step.new.line.items (Ok c.in-Ok-Ended.good)
+    c.requires.start so_far.along
+    (rw c.in-Ok-Ended.field-0-is at (c.in-Ok-Ended.ensures.advances so_far.going))
+
+-- ---- one line more was handled
+
 pub lines-preserved : goal.lines-preserved
 lines-preserved g c =
     let so_far = c.lines.invariant in
@@ -43,11 +65,11 @@ lines-preserved g c =
           advances done.flushed (rw c.in-Ok-Going.field-0-is at (done.step so_far.going));
       going = advances.final_answer;
       so_far = search rules;
+      reads = reads_then (none_unread c.lines.checker.cursor c.step.new.self.cursor advances.found
+          advances.verdict.cursor.counts) so_far.reads advances.verdict.reads;
       same = search rules;
       stdin = λ from.
-          KeepsStdin-then c.args.streams.now.inputs c.lines.streams.inputs c.step.new.streams.inputs
-          (so_far.stdin from)
-          (advances.verdict.stdin (ap (λ r. r.from_stdin) so_far.along.rules ∙ from));
+          advances.verdict.stdin (ap (λ r. r.from_stdin) so_far.along.rules ∙ from) ∙ so_far.stdin from;
     }
 
 -- each line is counted, below the limit

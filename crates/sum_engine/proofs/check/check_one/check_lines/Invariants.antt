@@ -1,6 +1,6 @@
 use Rattle.std.proofs.Common.{◌≡◌, ◌^◌, ◌-◌, Bool, true, Ok, None}
 use Rattle.sum_sources.specs.Contents.{IsSameInput}
-use Rattle.sum_engine.specs.Execution.{KeepsStdin, IsOneMoreAtMost, StopHasCause}
+use Rattle.sum_engine.specs.Execution.{IsOneMoreAtMost, StopHasCause, ReadsToEndIf}
 use Rattle.sum_engine.proofs.CheckLinesLemmas.{HasComeTo}
 use Rattle.sum_engine.proofs.check.check_one.check_lines.Given as goal
 
@@ -12,8 +12,9 @@ invariant-lines g l =
       along : HasComeTo input l.fn.checker streams l.checker l.streams;
       going : l.checker.final_answer ≡ None;
       so_far : StopHasCause {A = Bool} IsOneMoreAtMost streams l.streams (Ok true);
+      reads : ReadsToEndIf (l.checker.cursor.counts.unread ≡ 0) streams.inputs l.streams.inputs;
       same : IsSameInput (input l.fn.checker.cursor.reader.input) (input l.checker.cursor.reader.input);
-      stdin : l.fn.checker.cursor.rules.from_stdin ≡ true → KeepsStdin streams.inputs l.streams.inputs;
+      stdin : l.fn.checker.cursor.rules.from_stdin ≡ true → l.streams.inputs.stdin ≡ streams.inputs.stdin;
     }
 
 abbrev pub decreases-lines : goal.decreases-lines

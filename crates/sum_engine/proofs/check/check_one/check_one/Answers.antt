@@ -1,62 +1,26 @@
-use Rattle.std.proofs.Common.{rules, ◌≡◌, true, false, ap, refl}
-use Rattle.sum_sources.specs.StandardInput.{told_file}
-use Rattle.sum_sources.specs.ToldLaws.{told_file_has_content}
+use Rattle.std.proofs.Common.{rules, ◌≡◌, true, false, ap, refl, Err}
+use Rattle.sum_sources.specs.InputLaws.{given_has_content}
 use Rattle.sum_engine.specs.Behavior.{is_dash}
 use Rattle.sum_engine.specs.check.Verdicts.{Rules}
 use Rattle.sum_engine.proofs.FlushedWriteLemmas.{writes_and_returns}
-use Rattle.sum_engine.proofs.CheckOneLemmas.{closed_known, check_dash, check_empty, check_file, refused, no_room}
+use Rattle.sum_engine.proofs.HashNameLemmas.{gives_taken, given_reads, refused_reads}
+use Rattle.sum_engine.proofs.WorldLemmas.{reads_one}
+use Rattle.sum_engine.proofs.CheckOneLemmas.{file_reads, check_dash, check_file, refused, no_room}
 use Rattle.sum_engine.proofs.check.check_one.check_one.Goals as goal
 
--- there was no memory to open it
+-- ---- there was no memory to open it
+
 pub returns-in-Err-Memory-clause-behavior : goal.returns-in-Err-Memory-clause-behavior
 returns-in-Err-Memory-clause-behavior g c =
     no_room c.args.settings c.args.tool.now c.args.name.now c.args.streams.now c.open_file.new.self (search rules)
 
--- it is a file
-pub returns-in-Ok-clause-behavior : goal.returns-in-Ok-clause-behavior
-returns-in-Ok-clause-behavior g c =
-    let dash : is_dash c.args.name.now ≡ false = search rules in
-    let checked = c.run_to_end-result-in-Ok in
-    let made = c.new-checker-in-Ok.ensures in
-    check_file c.args.settings c.args.tool.now c.args.name.now c.args.streams.now c.open_file.new.self
-    c.close_file.new.self _ _ checked.new.streams _ dash c.in-Ok.ensures.source c.in-Ok.ensures.file
-    (rw made.start.reader at checked.ensures.same) c.close_file.ensures checked.ensures.known
-    (rw (made.rules, made.labels, made.start.reader) at checked.ensures.behavior)
+pub returns-in-Err-Memory-clause-reads : goal.returns-in-Err-Memory-clause-reads
+returns-in-Err-Memory-clause-reads g c =
+    refused_reads c.args.streams.now.inputs c.open_file.new.self
+    (rw c.in-Err-Memory.field-0-is at c.in-Err-Memory.ensures.source)
 
-pub returns-in-Ok-clause-known : goal.returns-in-Ok-clause-known
-returns-in-Ok-clause-known g c =
-    let checked = c.run_to_end-result-in-Ok in
-    closed_known c.args.streams.now.inputs c.open_file.new.self checked.new.streams.inputs c.close_file.new.self
-    c.args.name.now _ _ c.in-Ok.ensures.source c.in-Ok.ensures.file
-    (rw c.new-checker-in-Ok.ensures.start.reader at checked.ensures.same) checked.ensures.known c.close_file.ensures
+-- ---- it could not be opened, and the line of its fault was written, or a prefix of it
 
--- the manifest is standard input
-pub returns-then-is_dash-clause-behavior : goal.returns-then-is_dash-clause-behavior
-returns-then-is_dash-clause-behavior g c =
-    let dash : is_dash c.args.name.now ≡ true = search rules in
-    let checked = c.run_to_end-result in
-    let made = c.new-checker-then-is_dash.ensures in
-    let gives = c.in-Some.ensures in
-    let kept = checked.ensures.stdin (ap (λ (r : Rules). r.from_stdin) made.rules) in
-    rw (c.put_back_stdin.ensures (search rules) (search rules)) (check_dash c.args.settings c.args.tool.now
-    c.args.name.now c.args.streams.now c.take_stdin.new.self _ _ checked.new.streams _ dash gives kept
-    checked.ensures.known (rw (made.rules, made.labels, made.start.reader) at checked.ensures.behavior))
-
--- standard input was taken before
-pub returns-in_default-clause-behavior : goal.returns-in_default-clause-behavior
-returns-in_default-clause-behavior g c =
-    let dash : is_dash c.args.name.now ≡ true = search rules in
-    let e = c.new-empty.result in
-    let u = c.run_to_end.result.1 in
-    let made = c.new-checker.ensures in
-    let run = rw (made.rules, made.labels, made.start.reader) at c.run_to_end.ensures.behavior in
-    check_empty c.args.settings c.args.tool.now c.args.name.now c.args.streams.now
-    (told_file e) (told_file u) c.run_to_end.new.streams _ dash
-    c.in_default.ensures.0 (rw c.new-empty.ensures refl) (rw c.new-empty.ensures refl)
-    (rw made.start.reader at c.run_to_end.ensures.same) (told_file_has_content u)
-    (rw c.in_default.ensures.1 at run)
-
--- it could not be opened, and the line of its fault was written, or a prefix of it
 pub returns-in-Err-Fault-clause-behavior : goal.returns-in-Err-Fault-clause-behavior
 returns-in-Err-Fault-clause-behavior g c =
     let dash : is_dash c.args.name.now ≡ false = search rules in
@@ -64,3 +28,55 @@ returns-in-Err-Fault-clause-behavior g c =
     refused c.args.settings c.args.tool.now c.args.name.now c.args.streams.now c.open_file.new.self
     _ c.put_name_fault_line-written.new.outputs _ dash (rw c.in-Err-Fault.field-0-is at c.in-Err-Fault.ensures.source)
     (writes_and_returns c.put_name_fault_line-written.result c.outcome_after.ensures written)
+
+pub returns-in-Err-Fault-clause-reads : goal.returns-in-Err-Fault-clause-reads
+returns-in-Err-Fault-clause-reads g c =
+    reads_one c.args.streams.now.inputs c.open_file.new.self c.args.name.now (Err _) tt
+    (rw c.in-Err-Fault.field-0-is at c.in-Err-Fault.ensures.source)
+
+-- ---- it is a file
+
+pub returns-in-Ok-clause-behavior : goal.returns-in-Ok-clause-behavior
+returns-in-Ok-clause-behavior g c =
+    let dash : is_dash c.args.name.now ≡ false = search rules in
+    let checked = c.run_to_end-result-in-Ok in
+    let made = c.new-checker-in-Ok.ensures in
+    check_file c.args.settings c.args.tool.now c.args.name.now c.args.streams.now c.open_file.new.self
+    c.close_file.new.self _ _ checked.new.streams _ dash c.in-Ok.ensures.source c.in-Ok.ensures.file
+    (rw made.start.reader at checked.ensures.same) c.close_file.ensures checked.ensures.reads
+    (rw (made.rules, made.labels, made.start.reader) at checked.ensures.behavior)
+
+pub returns-in-Ok-clause-reads : goal.returns-in-Ok-clause-reads
+returns-in-Ok-clause-reads g c =
+    let checked = c.run_to_end-result-in-Ok in
+    let start = c.new-checker-in-Ok.ensures.start.reader in
+    let manifest = rw start at checked.ensures.manifest in
+    file_reads c.args.streams.now.inputs c.open_file.new.self checked.new.streams.inputs c.close_file.new.self
+    c.args.name.now _ _ c.in-Ok.ensures.source c.in-Ok.ensures.file (rw start at checked.ensures.same)
+    (manifest (rw c.in-Ok.ensures.file refl)) checked.ensures.reads c.close_file.ensures
+
+-- ---- it is standard input
+
+pub returns-then-is_dash-clause-behavior : goal.returns-then-is_dash-clause-behavior
+returns-then-is_dash-clause-behavior g c =
+    let dash : is_dash c.args.name.now ≡ true = search rules in
+    let gives = c.take_stdin-input.ensures in
+    let checked = c.run_to_end-result in
+    let made = c.new-checker.ensures in
+    let kept = checked.ensures.stdin (ap (λ (r : Rules). r.from_stdin) made.rules) in
+    let has = given_has_content g.J.Input.state g.met.J.Input.has_content checked.result.1 in
+    check_dash c.args.settings c.args.tool.now c.args.name.now c.args.streams.now c.take_stdin-input.new.self _ _ _
+    checked.new.streams _ dash gives (rw made.start.reader at checked.ensures.same) has kept
+    (c.put_back_stdin.ensures (rw kept (gives_taken gives)))
+    (rw (made.rules, made.labels, made.start.reader) at checked.ensures.behavior)
+
+pub returns-then-is_dash-clause-reads : goal.returns-then-is_dash-clause-reads
+returns-then-is_dash-clause-reads g c =
+    let gives = c.take_stdin-input.ensures in
+    let checked = c.run_to_end-result in
+    let made = c.new-checker.ensures in
+    let kept = checked.ensures.stdin (ap (λ (r : Rules). r.from_stdin) made.rules) in
+    let manifest = rw made.start.reader at checked.ensures.manifest in
+    given_reads gives (rw made.start.reader at checked.ensures.same) checked.new.streams.inputs
+    c.put_back_stdin.new.self (manifest gives.reads) checked.ensures.reads kept
+    (c.put_back_stdin.ensures (rw kept (gives_taken gives)))

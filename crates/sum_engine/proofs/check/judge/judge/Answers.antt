@@ -3,7 +3,8 @@ use Rattle.sum_lines.specs.grammar.Entries.{EntryValue}
 use Rattle.sum_engine.specs.Behavior.{is_dash}
 use Rattle.sum_engine.specs.refinement.Judging.{listed_entry}
 use Rattle.sum_engine.specs.Execution.{world_at}
-use Rattle.sum_engine.proofs.VerdictLemmas.{judged_entry, entry_asks}
+use Rattle.sum_engine.proofs.VerdictLemmas.{judged_entry, entry_asks, verdict_read}
+use Rattle.sum_engine.proofs.WorldLemmas.{reads_weaker}
 use Rattle.sum_engine.proofs.check.judge.judge.Goals.{else-rules-via-then-rules+else-is_dash, else-rules-via-else-rules}
 use Rattle.sum_engine.proofs.check.judge.judge.Goals as goal
 
@@ -17,10 +18,18 @@ returns-clause-verdict g c =
       | else-rules-via-else-rules
           w ↦ search rules
     ] in
-    λ new w agrees.
+    λ w agrees.
     judged_entry r (world_at w c.args.inputs.now) s c.in_ok-outcome.outcome _ dash
-    (c.in_ok-outcome.ensures.outcome new w agrees) (rw (← c.rules.view_is) c.compare.ensures)
+    (c.in_ok-outcome.ensures.outcome w agrees) (rw (← c.rules.view_is) c.compare.ensures)
 
 pub returns-clause-asked : goal.returns-clause-asked
 returns-clause-asked g c = rw (entry_asks c.rules.inside.ignore_missing (listed_entry c.args.listed.now)
     c.in_ok-outcome.outcome _ c.compare.ensures) c.in_ok-outcome.ensures.asked
+
+-- the file was read to its end, unless the verdict says that it could not be read
+pub returns-clause-reads : goal.returns-clause-reads
+returns-clause-reads g c = reads_weaker (verdict_read c.rules.inside.ignore_missing c.args.listed.now.digest.now
+    c.in_ok-outcome.outcome _ c.compare.ensures) c.in_ok-outcome.ensures.reads
+
+pub returns-in_err-outcome-clause-reads : goal.returns-in_err-outcome-clause-reads
+returns-in_err-outcome-clause-reads g c = reads_weaker (λ u. tt) c.in_err-outcome.ensures.reads

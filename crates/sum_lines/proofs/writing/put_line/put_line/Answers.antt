@@ -20,4 +20,8 @@ returns-in_err-put_layout-2 g c =
 
 -- its mark, its layout and its end were written
 pub returns : goal.returns
-returns g c = rw (c.if-style.false, append_assoc) (grind (arith, writes_then))
+returns g c =
+    let marked = rw c.mark_and_name.ensures.mark at c.in_ok-put_all.ensures.text in
+    let layout = rw (c.digits_of-digits.ensures, c.mark_and_name.ensures.name) at c.in_ok-put_layout-2.ensures in
+    rw (c.if-style.false, append_assoc)
+    (writes_then _ _ _ _ marked (writes_then _ _ _ _ layout c.put_all-3.ensures.text))

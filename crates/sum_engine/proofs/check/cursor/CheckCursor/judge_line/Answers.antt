@@ -19,7 +19,7 @@ returns-in_ok-verdict-in-Entry-clause-verdict g c =
     let said : parsed_at old line ≡ entry s = rw (← c.self.view_is, ← c.self-inside.view_is)
     (sym (rw (listed.is, read.form) at read.parsed)) in
     let judged = rw c.deref.ensures.value at c.in_ok-verdict-in-Entry.ensures.verdict in
-    rw c.count_verdict-in-Entry.ensures.is (λ new w agrees.
+    rw c.count_verdict-in-Entry.ensures.is (λ w agrees.
     judged-line old line (entry s) _ vector (world_at w c.args.inputs.now) _ _ _ said
-    (rw (← c.self.view_is, ← c.self-inside.view_is) (judged new w agrees)) refl
+    (rw (← c.self.view_is, ← c.self-inside.view_is) (judged w agrees)) refl
     (rw (← c.self.view_is, ← c.self-inside.view_is) refl))

@@ -5,5 +5,6 @@ use Rattle.sum_lines.proofs.sinks.from_write.FromWriteSink.write.Given as goal
 abbrev pub invariant-loop : goal.invariant-loop
 invariant-loop g l = record {
   bytes : Keeps (g.W.Write.contents l.fn.self.writer) (g.W.Write.contents l.self.writer);
-  same : l.self.failures ≡ l.fn.self.failures;
+  log : l.self.log ≡ l.fn.self.log;
+  first : l.self.first ≡ l.fn.self.first;
 }

@@ -1,6 +1,6 @@
 use Rattle.std.proofs.Common.{rules, refl, ap, ◌≡◌, Ok, Err, Some, map, List, length}
 use Rattle.sum_sources.specs.Sources.{Opening, SourceState}
-use Rattle.sum_sources.specs.InMemory.{first_answer}
+use Rattle.sum_sources.specs.Sources.{first_answer}
 use Rattle.sum_sources.specs.declared.sources.told_source.ToldSource.TheInside.{Inside}
 use Rattle.sum_sources.specs.refinement.ToldPairs.{pair_of}
 use Rattle.sum_sources.proofs.ToldSourceLemmas.{opened_one, opened_state, count_asked, told_same}
@@ -33,7 +33,7 @@ invariant_of-self-in-Content g c =
 -- and so the state shows it
 abbrev with : {A : Type 0} → Inside A → List Opening → SourceState
 with s os = record {
-  told = Some (first_answer (map pair_of s.pairs.items));
+  told = Some (map pair_of s.pairs.items);
   openings = os;
   refusals = s.log.refusals;
 }
