@@ -1,12 +1,12 @@
 -- What was read so far of a line, and what reading on adds to it.
 use Rattle.std.proofs.Common.{◌≡◌, ℕ, ◌+◌, ◌-◌, ◌^◌, ◌<◌, ◌≤◌, true, false, List, [], ◌∷◌, ◌++◌, length, take, None, Some, Result, Ok, Err, refl, ap, sym, ◌∙◌, append_assoc, append-nil, ◌==◌, arith, length-append, inl, inr}
-use Rattle.std.specs.Prelude.{◌⊎◌, OnOk}
+use Rattle.std.specs.Prelude.{◌⊎◌, OnOk, nat_lt, if◌then◌else◌}
 use Rattle.std.proofs.Math.Seq.{take-append-add, drop-append_seam}
 use Rattle.std.proofs.lemmas.List.{drop_all}
 use Rattle.std.proofs.lemmas.List.Elements.{All-append}
 use Rattle.std.specs.Str.Lines.{strip_carriage_return}
 use Rattle.sum_sources.specs.ManifestLines.{Next, Line, NoMore, LineStop, HasNoNewline, IsNextLine}
-use Rattle.sum_sources.specs.Contents.{Ending, Whole, Broken, Content, Reads, InputState, IsOf, clip, clip_to, limit, with_prefix}
+use Rattle.sum_sources.specs.Contents.{Ending, Whole, Broken, Content, Reads, InputState, IsOf, Other, clip, limit, with_prefix}
 use Rattle.sum_sources.specs.LineReaders.{LineReaderValue, consumed_count, past, remaining, IsUnderWay, IsReading, ReadsOn}
 use Rattle.sum_sources.specs.Phases.{Phase, Unfinished, AtEnd, Past}
 use Rattle.sum_sources.specs.refinement.LimitedReads.{FindsEnding, IsReadTo}
@@ -29,7 +29,8 @@ clip-prefix front rest few =
     let k = limit - length front in
     let size : limit - 1 ≡ length front + (k - 1) = rw limit-value (omega (arith, limit-value)) in
     let cut : take (limit - 1) (front ++ rest.bytes) ≡ front ++ take (k - 1) rest.bytes = rw (size, take-append-add) refl in
-    (clip_to k rest, grind (arith, limit-value, length-append {A = ℕ}, cut))
+    let d = if nat_lt (length rest.bytes) k then rest else record { bytes = take (k - 1) rest.bytes; ending = Broken Other } in
+    (d, grind (arith, limit-value, length-append {A = ℕ}, cut))
 
 -- past the first of two parts
 past-front : (a b : List ℕ) (d : Content) → past (length a) (with_prefix (a ++ b) d) ≡ with_prefix b d
@@ -240,7 +241,7 @@ ends {state = state} {old = old} {s = s} m {line = line} e answer h none finds n
     λ k c past of. rw (finds.content c of, all, drop_all k front (omega (arith, size, ap length none))) refl in
     let before : (c : Content) → IsOf (state m.input).reads c → remaining old c ≡ with_prefix line (just e) =
     λ c of. h.remains c (finds.before c of)
-        ∙ ap (with_prefix line) (left (consumed_count s) c (omega (arith, ap length none)) of) in
+    ∙ ap (with_prefix line) (left (consumed_count s) c (omega (arith, ap length none)) of) in
     let after : (c : Content) → IsOf (state m.input).reads c → remaining m c ≡ just e =
     λ c of. left (consumed_count m) c (omega (arith, more, ap length none')) of in
     rw is (record {

@@ -10,8 +10,8 @@ abbrev value : {A : Type 0} → Inside A → ToldFiles
 value s = record {
   pairs = map pair_of s.pairs.items;
   piece = s.piece;
-  openings = s.log.state.openings;
-  refusals = s.log.state.refusals;
+  openings = s.log.openings;
+  refusals = s.log.refusals;
 }
 
 -- what was read of the file is of its content
