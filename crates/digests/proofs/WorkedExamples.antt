@@ -1,7 +1,7 @@
 -- Worked examples: the meaning of some command lines, computed. It has both texts, the names that are asked, and
 -- whether all is good.
 use Prim.Native.String.{String}
-use Rattle.std.proofs.Common.{◌≡◌, ◌++◌, Bool, List, [], ◌∷◌, refl, codes, true, false, flat_map, if◌then◌else◌, bytes_eq, Ok, Err}
+use Rattle.std.proofs.Common.{◌≡◌, ◌∙◌, ap, subst, ℕ, ◌++◌, Bool, List, [], ◌∷◌, refl, codes, true, false, flat_map, if◌then◌else◌, bytes_eq, Result, Ok, Err}
 use Rattle.std.specs.Prelude.{⊤}
 use Rattle.std.specs.Str.{chars, is_utf8}
 use Rattle.std.specs.Path.{rsplit_once}
@@ -17,12 +17,16 @@ use Rattle.sum_lines.specs.grammar.LineParts.{plain_parts, tagged_parts}
 use Rattle.sum_sources.specs.ManifestLines.{raw_lines}
 use Rattle.sum_lines.specs.grammar.ParsedLines.{entry_of}
 use Rattle.sum_sources.specs.Contents.{Content, limit, empty_content}
-use Rattle.sum_sources.specs.Sources.{Answer}
+use Rattle.sum_sources.specs.Sources.{Answer, Pair}
 use Rattle.sum_words.specs.declared.tool.Tool.{Tool}
 use Rattle.sum_words.specs.declared.tool.Tool.TheVariants.{Md5sum, B2sum, Anysum}
 use Rattle.sum_words.specs.Items.{ByteString, name_or_fault, option_of_letter}
 use Rattle.sum_words.proofs.WorkedExamples.{words}
-use Rattle.digests.specs.Meaning.{meaning}
+use Rattle.sum_engine.specs.declared.stop.Stop.{Stop}
+use Rattle.sum_engine.specs.Execution.{StreamsState, IsFlushed, world_at, PerformsSteps, Performs, ReadsToEndIf}
+use Rattle.sum_engine.proofs.BehaviorLemmas.{events_extend}
+use Rattle.digests.specs.Meaning.{meaning, status_of}
+use Rattle.digests.specs.InMemory.{IsInMemory, world_of, MeansInMemory}
 
 -- what a worked example unfolds, so that its texts are computed
 unfoldable meaning_on_literals : ⊤
@@ -223,3 +227,37 @@ mixed_tags : outcome Anysum
     }
 unfolding meaning_on_literals
 mixed_tags = refl
+
+-- ---- files in memory
+
+-- the file `a` holds abc, and `e` is empty
+abbrev two_files : List Pair
+two_files = record { name = codes "a"; answer = Ok (whole_content (codes "abc")); from = 0 }
+    ∷ record { name = codes "e"; answer = Ok empty_content; from = 0 } ∷ []
+
+-- the digest lines of both
+abbrev two_lines : ByteString
+two_lines = lines ("900150983cd24fb0d6963f7d28e17f72  a" ∷ "d41d8cd98f00b204e9800998ecf8427e  e" ∷ [])
+
+two_meant : let run = meaning Md5sum (words "a e") (world_of two_files empty_content) in
+    (run.good ≡ true) × (out_text run ≡ two_lines)
+unfolding meaning_on_literals
+two_meant = (refl, refl)
+
+-- `md5sum a e` ran over these files, of whatever type they are, and didn't stop: the status is 0, and standard output
+-- got both lines
+run_in_memory : (a b : StreamsState) (status : ℕ) (r : Result ℕ Stop) → MeansInMemory b
+    → IsInMemory two_files empty_content a.inputs → a.inputs.source.openings ≡ [] → a.inputs.stdin.taken ≡ false
+    → IsFlushed a.outputs → Performs (meaning Md5sum (words "a e")) status_of a b r
+    → ReadsToEndIf (r ≡ Ok 0) a.inputs b.inputs → r ≡ Ok status
+    → (status ≡ 0) × (b.outputs.out.written ≡ a.outputs.out.written ++ two_lines)
+run_in_memory a b status r law told new untaken flushed did reads is =
+    let run = meaning Md5sum (words "a e") (world_of two_files empty_content) in
+    let same : world_at (world_of two_files empty_content) a.inputs ≡ world_of two_files empty_content =
+    rw (new, untaken) refl in
+    let there = subst (λ (w : World). let run = meaning Md5sum (words "a e") w in
+    PerformsSteps run.steps (status_of run.good) a b r) same
+    (law Md5sum (words "a e") two_files empty_content a r told flushed did reads) in
+    let all = subst (λ (r : Result ℕ Stop). PerformsSteps run.steps (status_of run.good) a b r) is there in
+    let out : b.outputs.out.written ≡ a.outputs.out.written ++ out_text run = (events_extend run a b all.1).2 in
+    (all.0 ∙ ap status_of two_meant.0, out ∙ ap (λ text. a.outputs.out.written ++ text) two_meant.1)

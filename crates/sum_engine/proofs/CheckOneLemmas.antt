@@ -22,7 +22,7 @@ use Rattle.sum_engine.proofs.HashNameLemmas.{gives_taken, taken_after, stdin_bef
 use Rattle.sum_engine.proofs.CheckLinesLemmas.{manifest_behavior}
 use Rattle.sum_engine.proofs.BehaviorLemmas.{Performs-step, Performs-refused, behind_step}
 
--- what an opening is known to have given is what the name is answered
+-- what an opening gave is what the name is answered
 content_answered : (r : Reads) (x : Answer) → IsOfAnswer (Some (Ok r)) x → (c : Content) × (x ≡ Ok c) × IsOf r c
 content_answered r (Ok c) of = (c, refl, of)
 content_answered r (Err f) of = elim of [ ]

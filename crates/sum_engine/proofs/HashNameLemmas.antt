@@ -1,5 +1,5 @@
 -- `hash_name`: the outcome of hashing one name, in each world that agrees with what was read.
-use Rattle.std.proofs.Common.{rules, ap, refl, ◌≡◌, ◌∙◌, sym, [], ◌∷◌, ℕ, true, false, List, Ok, Err, Option, None, Some, IfSome, inl, inr, append-nil}
+use Rattle.std.proofs.Common.{rules, ap, refl, Bool, ◌≡◌, ◌∙◌, sym, [], ◌∷◌, ℕ, true, false, List, Ok, Err, Option, None, Some, IfSome, inl, inr, append-nil}
 use Rattle.std.specs.Prelude.{◌⊎◌, length}
 use Rattle.std.specs.List.{list_any}
 use Rattle.std.proofs.lemmas.List.Elements.{All-nil}
@@ -10,7 +10,7 @@ use Rattle.sum_sources.specs.Sources.{IsOfAnswer, opened_file, and_opening, afte
 use Rattle.sum_sources.proofs.ToldSourceLemmas.{closed_at-seam}
 use Rattle.sum_engine.specs.Behavior.{World, Answer, Content, SourceState, Fault, InputState, empty_content, is_dash, answer_to}
 use Rattle.sum_engine.specs.Execution.{StdinState, InputsState, Agrees, world_at, asked, AsksNames, IsAtEndIf, ReadsFile, ReadsStdin, ReadsToEndIf}
-use Rattle.sum_engine.specs.refinement.Names.{HashOutcome, IsHashOutcome, IsRead, taken_stdin, GivesStdin, stdin_by, stdin_after, MemoryWasRefused}
+use Rattle.sum_engine.specs.refinement.Names.{HashOutcome, IsHashOutcome, IsRead, GivesBy, GivesStdin, stdin_by, stdin_after, MemoryWasRefused}
 use Rattle.sum_engine.specs.declared.hash_name.HashOutcome.TheVariants as outcomes
 use Rattle.sum_engine.proofs.WorldLemmas.{opening_agrees}
 
@@ -97,38 +97,29 @@ module _ {a m : InputsState} {s t : InputState} (gives : GivesStdin s a m) (same
   -- what was read is of its content in the world
   pub stdin_content : (w : World) (b : StdinState) → HasContent t → b ≡ stdin_after m.stdin t
       → IfSome b.reads (λ r. IsOf r w.stdin) → IsOf t.reads (world_at w a).stdin
-  stdin_content w b has back of = by gives.given
+  stdin_content w b has back of = by a.stdin.taken refl gives.given
     where
-      by : ((a.stdin ≡ record { told = s.told; taken = false; reads = None })
-          × (m ≡ record a { stdin = taken_stdin })) ⊎ ((a.stdin.taken ≡ true) × (s.told ≡ Some empty_content)
-          × (a.stdin.reads ≡ None → a.stdin.told ≡ s.told) × (m ≡ a)) → IsOf t.reads (world_at w a).stdin
-      by (inl (new, is)) = rw new (rw (back, is) at of)
-      by (inr (taken, told, away, is)) =
+      by : (taken : Bool) → a.stdin.taken ≡ taken → GivesBy taken s a m → IsOf t.reads (world_at w a).stdin
+      by false at (new, is) = rw at (rw (back, is) at of)
+      by true at (told, away, is) =
           let (c, may, of) = has in
           let empty : c ≡ empty_content = rw (same, told) at may in
-          rw taken (rw empty at of)
+          rw at (rw empty at of)
 
   -- it was read so
   pub stdin_reads : {Whole : Type 0} (b : StdinState) → IsAtEndIf Whole t.reads → b ≡ stdin_after m.stdin t
       → (b ≡ a.stdin) ⊎ ReadsStdin Whole a.stdin b
-  stdin_reads {Whole} b read back = by gives.given m.stdin.reads refl
+  stdin_reads {Whole} b read back = by a.stdin.taken gives.given m.stdin.reads refl
     where
-      by : ((a.stdin ≡ record { told = s.told; taken = false; reads = None })
-          × (m ≡ record a { stdin = taken_stdin })) ⊎ ((a.stdin.taken ≡ true) × (s.told ≡ Some empty_content)
-          × (a.stdin.reads ≡ None → a.stdin.told ≡ s.told) × (m ≡ a)) → (r : Option Reads) → m.stdin.reads ≡ r
+      by : (taken : Bool) → GivesBy taken s a m → (r : Option Reads) → m.stdin.reads ≡ r
           → (b ≡ a.stdin) ⊎ ReadsStdin Whole a.stdin b
-      by (inl (new, is)) r at = inr (t.reads, ap (λ (x : StdinState). x.reads) new, rw (back, is, new, same) refl, read)
-      by (inr (taken, told, away, is)) None none =
+      by false (new, is) r at = inr (t.reads, ap (λ (x : StdinState). x.reads) new, rw (back, is, new, same) refl, read)
+      by true (told, away, is) None none =
           let none_before = sym (ap (λ (m : InputsState). m.stdin.reads) is) ∙ none in
           let told = ap (λ (s : InputState). s.told) same ∙ sym (away none_before) in
-          inr (
-            t.reads,
-            none_before,
-            back ∙ ap (λ r. stdin_by r m.stdin t) none
-                ∙ ap (λ told. record { told = told; taken = true; reads = Some t.reads }) told,
-            read,
-          )
-      by (inr (taken, told, away, is)) (Some r) some =
+          inr (t.reads, none_before, back ∙ ap (λ r. stdin_by r m.stdin t) none
+              ∙ ap (λ told. record { told = told; taken = true; reads = Some t.reads }) told, read)
+      by true (told, away, is) (Some r) some =
           inl (back ∙ ap (λ r. stdin_by r m.stdin t) some ∙ ap (λ (m : InputsState). m.stdin) is)
 
   -- how far all was read over the taking, some calls that left standard input, and the putting back

@@ -92,16 +92,25 @@ asks_one a b name gave file is = record {
   refusals = rw is refl;
 }
 
-pub reads_one : {Whole : Type 0} (a b : InputsState) (name : List ℕ) (gave : Result Reads Fault)
+-- and was read so, or could not be opened
+reads_gave : {Whole : Type 0} (a b : InputsState) (name : List ℕ) (gave : Result Reads Fault)
     → IfOk gave (IsAtEndIf Whole) → b ≡ record a { source = and_opening a.source name (Some gave) }
     → ReadsToEndIf Whole a b
-reads_one {Whole} a b name gave read is =
+reads_gave {Whole} a b name gave read is =
     let o : Opening = record { name = name; gave = Some gave } in
     record {
       told = rw is refl;
       openings = (o ∷ [], rw is refl, All-cons (ReadsFile Whole) o [] (gave, refl, read) (All-nil (ReadsFile Whole)));
       stdin = inl (rw is refl);
     }
+
+pub reads_one : {Whole : Type 0} (a b : InputsState) (name : List ℕ) (r : Reads) → IsAtEndIf Whole r
+    → b ≡ record a { source = and_opening a.source name (Some (Ok r)) } → ReadsToEndIf Whole a b
+reads_one a b name r read is = reads_gave a b name (Ok r) read is
+
+pub reads_fault : {Whole : Type 0} (a b : InputsState) (name : List ℕ) (f : Fault)
+    → b ≡ record a { source = and_opening a.source name (Some (Err f)) } → ReadsToEndIf Whole a b
+reads_fault a b name f is = reads_gave a b name (Err f) tt is
 
 -- ---- worlds
 

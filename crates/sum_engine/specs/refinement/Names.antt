@@ -1,5 +1,5 @@
 -- Relates opening, hashing and closing a name to the world.
-use Rattle.std.specs.Prelude.{◌≡◌, ◌⊎◌, ◌+◌, true, false, length, Option, None, Some, Result, Ok, Err, ⊤}
+use Rattle.std.specs.Prelude.{◌≡◌, ◌+◌, Bool, true, false, length, Option, None, Some, Result, Ok, Err, ⊤}
 use Rattle.digest_kinds.specs.Kinds.{KindValue}
 pub use Rattle.sum_sources.specs.declared.fault.NoRoom.{NoRoom}
 pub use Rattle.sum_engine.specs.declared.hash_name.HashOutcome.{HashOutcome}
@@ -13,11 +13,15 @@ abbrev pub taken_stdin : StdinState
 taken_stdin = record { told = Some empty_content; taken = true; reads = None }
 
 -- this was given when standard input was taken: its own input the first time, and an empty one afterwards
+abbrev pub GivesBy : Bool → InputState → InputsState → InputsState → Type 0
+GivesBy false s a b = (a.stdin ≡ record { told = s.told; taken = false; reads = None })
+    × (b ≡ record a { stdin = taken_stdin })
+GivesBy true s a b = (s.told ≡ Some empty_content) × (a.stdin.reads ≡ None → a.stdin.told ≡ s.told) × (b ≡ a)
+
+-- so it is by whether that was taken before; nothing was read of it
 pub record GivesStdin (s : InputState) (a b : InputsState) : Type 0 where
   pub reads : s.reads ≡ unread
-  pub given : ((a.stdin ≡ record { told = s.told; taken = false; reads = None }) × (b ≡ record a { stdin = taken_stdin }))
-      ⊎ ((a.stdin.taken ≡ true) × (s.told ≡ Some empty_content) × (a.stdin.reads ≡ None → a.stdin.told ≡ s.told)
-      × (b ≡ a))
+  pub given : GivesBy a.stdin.taken s a b
 
 -- standard input once this was put back: the first time it is what was put back, and stays so
 abbrev pub stdin_by : Option Reads → StdinState → InputState → StdinState

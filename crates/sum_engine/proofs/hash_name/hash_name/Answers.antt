@@ -1,10 +1,12 @@
-use Rattle.std.proofs.Common.{rules, ◌≡◌, ◌∙◌, ap, sym, true, false, [], refl, Ok, Err}
+use Rattle.std.proofs.Common.{rules, ◌≡◌, ◌∙◌, ap, sym, true, false, refl, Ok, Some}
 use Rattle.sum_sources.specs.StandardInput.{given_state}
+use Rattle.sum_sources.specs.Sources.{and_opening}
 use Rattle.sum_sources.specs.InputLaws.{given_has_content}
 use Rattle.sum_engine.specs.Behavior.{is_dash}
 use Rattle.sum_engine.specs.Execution.{InputsState}
 use Rattle.sum_engine.proofs.HashNameLemmas.{closed_file, hashed_file, hashed_fault, gives_taken, taken_after, stdin_asked, stdin_hashed, given_reads, refused_reads}
-use Rattle.sum_engine.proofs.WorldLemmas.{asks_one, reads_none, reads_one}
+use Rattle.sum_engine.proofs.WorldLemmas.{asks_one, reads_none, reads_one, reads_fault}
+use Rattle.sum_engine.proofs.hash_name.hash_name.Given as given
 use Rattle.sum_engine.proofs.hash_name.hash_name.Goals as goal
 
 -- ---- standard input was read, and put back
@@ -39,30 +41,29 @@ returns-then-is_dash-clause-reads g c =
 
 -- ---- a file was read, and closed
 
+-- one opening more, by what was read of it
+closed : (g : given.Over) (c : goal.After-close_file g) → c.close_file.new.self ≡ record c.args.inputs.now {
+  source = and_opening c.args.inputs.now.source c.args.name.now
+      (Some (Ok (g.S.File.Input.state c.read_digest-outcome-in-Ok.new.file).reads));
+}
+closed g c = closed_file c.args.inputs.now c.open_file.new.self c.close_file.new.self c.args.name.now _ _
+    c.in-Ok.ensures.source c.in-Ok.ensures.file c.read_digest-outcome-in-Ok.ensures.same c.close_file.ensures
+
 pub returns-in-Ok-clause-outcome : goal.returns-in-Ok-clause-outcome
 returns-in-Ok-clause-outcome g c =
     let file : is_dash c.args.name.now ≡ false = search rules in
     let read = c.read_digest-outcome-in-Ok.ensures in
-    let closed = closed_file c.args.inputs.now c.open_file.new.self c.close_file.new.self c.args.name.now _ _
-    c.in-Ok.ensures.source c.in-Ok.ensures.file read.same c.close_file.ensures in
     λ w agrees.
-    hashed_file c.args.inputs.now c.args.kind c.args.name.now agrees file _ _ closed
+    hashed_file c.args.inputs.now c.args.kind c.args.name.now agrees file _ _ (closed g c)
     (rw c.new-in-Ok.ensures.kind at (read.outcome (rw c.in-Ok.ensures.file refl)))
 
 pub returns-in-Ok-clause-asked : goal.returns-in-Ok-clause-asked
-returns-in-Ok-clause-asked g c =
-    let file : is_dash c.args.name.now ≡ false = search rules in
-    let read = c.read_digest-outcome-in-Ok.ensures in
-    asks_one c.args.inputs.now c.close_file.new.self c.args.name.now _ file
-    (closed_file c.args.inputs.now c.open_file.new.self c.close_file.new.self c.args.name.now _ _ c.in-Ok.ensures.source
-    c.in-Ok.ensures.file read.same c.close_file.ensures)
+returns-in-Ok-clause-asked g c = search (rules, asks_one, closed g c)
 
 pub returns-in-Ok-clause-reads : goal.returns-in-Ok-clause-reads
 returns-in-Ok-clause-reads g c =
-    let read = c.read_digest-outcome-in-Ok.ensures in
-    reads_one c.args.inputs.now c.close_file.new.self c.args.name.now (Ok _)
-    (read.reads (rw c.in-Ok.ensures.file refl)) (closed_file c.args.inputs.now c.open_file.new.self
-    c.close_file.new.self c.args.name.now _ _ c.in-Ok.ensures.source c.in-Ok.ensures.file read.same c.close_file.ensures)
+    reads_one c.args.inputs.now c.close_file.new.self c.args.name.now _
+    (c.read_digest-outcome-in-Ok.ensures.reads (rw c.in-Ok.ensures.file refl)) (closed g c)
 
 -- ---- it could not be opened
 
@@ -74,17 +75,12 @@ returns-in-Err-Fault-clause-outcome g c =
     (rw c.in-Err-Fault.field-0-is at c.in-Err-Fault.ensures.source))
 
 pub returns-in-Err-Fault-clause-asked : goal.returns-in-Err-Fault-clause-asked
-returns-in-Err-Fault-clause-asked g c =
-    let file : is_dash c.args.name.now ≡ false = search rules in
-    asks_one c.args.inputs.now c.open_file.new.self c.args.name.now _ file
-    (rw c.in-Err-Fault.field-0-is at c.in-Err-Fault.ensures.source)
+returns-in-Err-Fault-clause-asked g c = search (rules, asks_one)
 
 pub returns-in-Err-Fault-clause-reads : goal.returns-in-Err-Fault-clause-reads
 returns-in-Err-Fault-clause-reads g c =
-    reads_one c.args.inputs.now c.open_file.new.self c.args.name.now (Err _) tt
+    reads_fault c.args.inputs.now c.open_file.new.self c.args.name.now _
     (rw c.in-Err-Fault.field-0-is at c.in-Err-Fault.ensures.source)
 
 pub returns-in-Err-Memory-clause-reads : goal.returns-in-Err-Memory-clause-reads
-returns-in-Err-Memory-clause-reads g c =
-    refused_reads c.args.inputs.now c.open_file.new.self
-    (rw c.in-Err-Memory.field-0-is at c.in-Err-Memory.ensures.source)
+returns-in-Err-Memory-clause-reads g c = search (rules, refused_reads)

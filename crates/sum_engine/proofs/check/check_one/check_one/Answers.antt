@@ -1,10 +1,10 @@
-use Rattle.std.proofs.Common.{rules, ◌≡◌, true, false, ap, refl, Err}
+use Rattle.std.proofs.Common.{rules, ◌≡◌, true, false, ap, refl}
 use Rattle.sum_sources.specs.InputLaws.{given_has_content}
 use Rattle.sum_engine.specs.Behavior.{is_dash}
 use Rattle.sum_engine.specs.check.Verdicts.{Rules}
 use Rattle.sum_engine.proofs.FlushedWriteLemmas.{writes_and_returns}
 use Rattle.sum_engine.proofs.HashNameLemmas.{gives_taken, given_reads, refused_reads}
-use Rattle.sum_engine.proofs.WorldLemmas.{reads_one}
+use Rattle.sum_engine.proofs.WorldLemmas.{reads_fault}
 use Rattle.sum_engine.proofs.CheckOneLemmas.{file_reads, check_dash, check_file, refused, no_room}
 use Rattle.sum_engine.proofs.check.check_one.check_one.Goals as goal
 
@@ -15,9 +15,7 @@ returns-in-Err-Memory-clause-behavior g c =
     no_room c.args.settings c.args.tool.now c.args.name.now c.args.streams.now c.open_file.new.self (search rules)
 
 pub returns-in-Err-Memory-clause-reads : goal.returns-in-Err-Memory-clause-reads
-returns-in-Err-Memory-clause-reads g c =
-    refused_reads c.args.streams.now.inputs c.open_file.new.self
-    (rw c.in-Err-Memory.field-0-is at c.in-Err-Memory.ensures.source)
+returns-in-Err-Memory-clause-reads g c = search (rules, refused_reads)
 
 -- ---- it could not be opened, and the line of its fault was written, or a prefix of it
 
@@ -31,7 +29,7 @@ returns-in-Err-Fault-clause-behavior g c =
 
 pub returns-in-Err-Fault-clause-reads : goal.returns-in-Err-Fault-clause-reads
 returns-in-Err-Fault-clause-reads g c =
-    reads_one c.args.streams.now.inputs c.open_file.new.self c.args.name.now (Err _) tt
+    reads_fault c.args.streams.now.inputs c.open_file.new.self c.args.name.now _
     (rw c.in-Err-Fault.field-0-is at c.in-Err-Fault.ensures.source)
 
 -- ---- it is a file
