@@ -40,9 +40,9 @@ fn place_of<A: Allocator + Copy>(
     Err(Fail::from("the run stands at none of the places"))
 }
 
-// Runs a line over the files `a`, `e` and a manifest, on a heap of so many bytes, which the files, the words and the run
-// share. At which of the places it stands: at the last it has ended with status 1. `None` if there was no room for the
-// files or for the words.
+// Runs a line over the files `a`, `e` and a manifest, on a heap of so many bytes, which the files, the words and the
+// run share. At which of the places it stands: at the last it has ended with status 1. `None` if there was no room for
+// the files or for the words.
 fn place_within(
     rt: &(impl Abort + AllocGlobal),
     size: usize,

@@ -124,8 +124,8 @@ impl Write for LosesAll {
     }
 }
 
-// Both outputs are flushed at the end, even if nothing was written. No contract shows this, since the flush of an output
-// that holds nothing changes nothing that it tells.
+// Both outputs are flushed at the end, even if nothing was written. No contract shows this, since the flush of an
+// output that holds nothing changes nothing that it tells.
 #[test]
 fn flushed_once_more(rt: HostRuntime) -> Result<(), Fail> {
     let silent: [&[u8]; 4] = [b"md5sum", b"-c", b"--status", b"l"];
