@@ -1,5 +1,5 @@
-//! Tests of `sum_engine`: each call with its answer, one manifest in each setting, memory that is refused, and files that
-//! go on after an end or a fault.
+//! Tests of `sum_engine`: each call with its answer, one manifest in each setting, memory that is refused, and files
+//! that go on after an end or a fault.
 #![tactic(auto)]
 
 #[cfg(test)]

@@ -48,8 +48,8 @@ fn memory_refused(rt: HostRuntime) -> Result<(), Fail> {
     Ok(())
 }
 
-// Steps over all verdicts on a heap of so many bytes, which is all that there is until it stops or ends. After that each
-// step is as the last one. How many steps were done; `None` if there was no room for the files.
+// Steps over all verdicts on a heap of so many bytes, which is all that there is until it stops or ends. After that
+// each step is as the last one. How many steps were done; `None` if there was no room for the files.
 fn steps_within(rt: &(impl Abort + AllocGlobal), size: usize) -> Result<Option<usize>, Fail> {
     let heap = LocalHeap::new(rt.alloc(), size)?;
     let Ok(source) = files(&heap, "", Ending::Whole) else {
@@ -76,8 +76,8 @@ fn steps_within(rt: &(impl Abort + AllocGlobal), size: usize) -> Result<Option<u
     Ok(Some(steps))
 }
 
-// A heap gives multiples of 16 bytes, so each growth is refused on some heap. Memory is wanted for the first line and for
-// each file that is opened: a checker stops before the first line, the fourth and the fifth, and nowhere else.
+// A heap gives multiples of 16 bytes, so each growth is refused on some heap. Memory is wanted for the first line and
+// for each file that is opened: a checker stops before the first line, the fourth and the fifth, and nowhere else.
 #[test]
 fn each_growth_refused(rt: HostRuntime) -> Result<(), Fail> {
     let mut stops = Vec::new(rt.alloc());
