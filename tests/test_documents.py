@@ -40,7 +40,7 @@ class Documents(Case):
         """tools/refusals.py writes nothing if a function that it names has no clause of that name."""
         page, code = text_of("docs", "TESTING.md"), text_of("crates", "sum_lines", "src", "escape.rt")
         place = code[:code.index("fn first_escaped")].count("\n") + 1
-        for goal in ("returns-clause-bytes`", "returns-in-Some-clause-escaped", "returns`"):
+        for goal in ("returns-clause-bytes`", "returns-in-Some-clause-escaped"):
             said = f"refused, as it must be: note: src/escape.rt:{place}:1: it is not proved (`{goal}"
             self.write("said", f"rt: must-fail sum_lines/a.edit: {said}\n")
             ran = self.run_command([os.path.join(TOP, "tools", "refusals.py"), self.path("said")])

@@ -61,12 +61,13 @@ def labels_of(code, crate, function):
 
 def goal_of(name, whole, labels):
     """What a goal shows: a clause, what a callee requires, what a loop keeps, or a part of the function's proof. None
-    for a clause that isn't one of these. The goal of a clause that stands alone doesn't name it. The end of a name that
-    isn't whole may be cut."""
+    for a clause that isn't one of these. The goal of a clause that stands alone, or of the only one that speaks of this
+    return, doesn't name it: then it may be each. The end of a name that isn't whole may be cut."""
     if name.startswith("returns"):
         _, marked, label = name.rpartition("-clause-")
-        found = [it for it in labels if not marked or it == label or not whole and it.startswith(label)]
-        return min(found) if found and (marked or len(found) == 1) else None
+        if not marked:
+            return " or ".join(sorted(labels)) or None
+        return min((it for it in labels if it == label or not whole and it.startswith(label)), default=None)
     for pattern, says in ((r"(\w+)[\w-]*-requires", "what `{}` requires"),
                           (r"loop-(\w+)-(?:init|preserved)", "loop's `{}`")):
         found = re.match(pattern, name)
@@ -84,7 +85,8 @@ def rows(said):
             sys.exit(f"{crate}/{name}.edit isn't refused by a goal that can be read: {how}")
         code = text_of("crates", crate, "src", in_code[1]) if in_code else ""
         function = function_at(code, int(in_code[2])) if in_code else function_of(crate, in_proof[1])
-        goal = goal_of(in_code[3] if in_code else in_proof[2], in_proof or in_code[4], labels_of(items, crate, function))
+        labels = labels_of(items, crate, function)
+        goal = goal_of(in_code[3] if in_code else in_proof[2], in_proof or in_code[4], labels)
         if not goal:
             sys.exit(f"{crate}/{name}.edit: {function} has no clause as in {how}")
         found.setdefault((crate, function), {}).setdefault(goal, []).append(name)

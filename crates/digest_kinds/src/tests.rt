@@ -1,4 +1,3 @@
 //! Tests of published digests, by each hasher, and of one call of each function with a value from outside.
-mod digests;
 mod hashers;
 mod kinds;

@@ -3,17 +3,13 @@
 
 use digest_kinds::{Algo, Algos};
 use sum_engine::{CheckSettings, Inputs, Verdict, Verdicts};
-use sum_sources::{Ending, Fault, Files, FromRead, Stdin, Told};
+use sum_sources::{Fault, Files, FromRead};
 
 fn main(rt: HostRuntime) -> anyhow::Result<()> {
     let mut settings = CheckSettings::new(Algos::One(Algo::Sha256));
     settings.strict = true;
     let mut verdicts = Verdicts::new(settings, true, FromRead::new(rt.stdin()));
-    // A manifest from standard input can't list it: this one is never read.
-    let mut inputs = Inputs {
-        stdin: Stdin::new(Told::new(b"", Ending::Whole, 1)),
-        source: Files::new(rt),
-    };
+    let mut inputs = Inputs::of_files(Files::new(rt));
     let mut line = Vec::new(rt.alloc());
     for _ in 0..u64::MAX {
         let Some(found) = verdicts.next(&mut line, &mut inputs)? else {

@@ -4,8 +4,8 @@ ghost use Rattle.sum_sources.specs.Sources.{IsOpen, opened_file, after_opening, 
 ghost use Rattle.sum_sources.specs.StandardInput.{given_state};
 ghost use Rattle.sum_engine.specs.refinement.Names.{GivesStdin, stdin_after};
 
-use std::marker::Model;
-use sum_sources::{Given, Input, OpenFault, Source, Stdin};
+use std::marker::{Model, PhantomData};
+use sum_sources::{Ending, Given, Input, OpenFault, Source, Stdin, Told};
 
 /// Standard input, and the source of files.
 #[derive(Debug, Drop)]
@@ -14,6 +14,8 @@ pub struct Inputs<I: Input, S: Source> {
     pub stdin: Stdin<I>,
     /// Where files are opened by their names.
     pub source: S,
+    // A struct whose view speaks of a source has to name the type of its files.
+    files: PhantomData<S::File>,
 }
 
 impl<I: Input, S: Source> Model for Inputs<I, S> {
@@ -22,6 +24,36 @@ impl<I: Input, S: Source> Model for Inputs<I, S> {
     ghost Value = { InputsState };
 
     ghost view = { λ inputs. record { source = S.state inputs.source; stdin = stdin_of I.state inputs.stdin } };
+}
+
+impl<I: Input, S: Source> Inputs<I, S> {
+    ghost use Rattle.sum_engine.specs.Execution.{stdin_of};
+
+    /// This standard input, and this source.
+    pub fn new(stdin: Stdin<I>, source: S) -> Self
+        ensures { result ≡ record { source = S.state source; stdin = stdin_of I.state stdin } }
+    {
+        Inputs {
+            stdin,
+            source,
+            files: PhantomData,
+        }
+    }
+}
+
+impl<S: Source> Inputs<Told<'static>, S> {
+    ghost use Rattle.std.specs.Prelude.{Some, None, false};
+    ghost use Rattle.sum_sources.specs.Contents.{empty_content};
+
+    /// This source, and an empty standard input.
+    pub fn of_files(source: S) -> Self
+        ensures { result ≡ record {
+          source = S.state source;
+          stdin = record { told = Some empty_content; taken = false; reads = None };
+        } }
+    {
+        Inputs::new(Stdin::new(Told::new(b"", Ending::Whole, 1)), source)
+    }
 }
 
 impl<I: Input + Drop, S: Source> Inputs<I, S> {

@@ -40,7 +40,7 @@ impl<I: Input, S: Source, O: Sink, E: Sink> Streams<Inputs<I, S>, Outputs<O, E>>
         ensures outputs { result.outputs ≡ record { out = O.state out; err = E.state err } }
     {
         Streams {
-            inputs: Inputs { stdin, source },
+            inputs: Inputs::new(stdin, source),
             outputs: Outputs { out, err },
         }
     }

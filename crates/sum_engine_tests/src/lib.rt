@@ -1,15 +1,14 @@
-//! Tests of `sum_engine`: worked examples of hashing and checking, over known files.
+//! Tests of `sum_engine`: each call with its answer, one manifest in each setting, memory that is refused, and files
+//! that go on after an end or a fault.
 #![tactic(auto)]
 
 #[cfg(test)]
 mod checking;
 #[cfg(test)]
-mod failing;
+mod going_on;
 #[cfg(test)]
-mod finding;
-#[cfg(test)]
-mod hashing;
+mod memory;
 #[cfg(test)]
 mod stepping;
 #[cfg(test)]
-mod variants;
+mod streams;

@@ -1,103 +1,103 @@
-//! `Checker::step`.
-use crate::checking::{ALL, files, known, plain};
-use crate::hashing::Refusing;
-use linked_list_allocator::LocalHeap;
+//! `Checker` and `Verdicts`, line by line.
+use crate::streams::{
+    AFTER, ALL, REPORTS, WARNINGS, assert_wrote, checker_of, files, known, plain, step,
+};
+use std::alloc::Global;
+use std::process::Abort;
 use std::test::Fail;
-use sum_engine::{Checker, Progress, Stop};
-use sum_sources::{Ending, Told};
+use sum_engine::{CheckSettings, Inputs, Progress, Verdict, Verdicts};
+use sum_sources::{Ending, Fault, Told};
 
 #[test]
 fn step_by_step(rt: HostRuntime) -> Result<(), Fail> {
-    let source = files(rt.alloc(), 8192, ALL.as_bytes(), Ending::Whole)?;
-    let mut streams = known(b"", source);
-    let manifest = Told::new(ALL.as_bytes(), Ending::Whole, 8192);
-    let mut checker = Checker::new(plain(), "md5sum", b"l", false, manifest);
+    let source = files(rt.alloc(), "", Ending::Whole)?;
+    let mut streams = known(Told::new(b"", Ending::Whole, 1), source);
+    let mut checker = checker_of(ALL);
     let mut line = Vec::new(rt.alloc());
-    let after = [
-        "a: OK\n",
-        "a: OK\n",
-        "a: OK\n",
-        "a: OK\nx: FAILED open or read\n",
-        "a: OK\nx: FAILED open or read\ne: FAILED\n",
-    ];
-    for text in after {
-        assert!(rt; checker.step(&mut line, &mut streams) == Ok(Progress::Going));
-        assert_eq!(rt; streams.outputs.out.bytes(), text.as_bytes());
+    for (lines, (out, err)) in (1..7).zip(&AFTER[1..]) {
+        let going = Ok(Progress::Going);
+        let want = if lines < 6 {
+            going
+        } else {
+            Ok(Progress::Ended(false))
+        };
+        assert_eq!(rt;
+            step(&mut checker, &mut line, &mut streams),
+            want,
+            "{lines}"
+        );
+        assert_wrote(&rt, &streams, out, err);
     }
-    let texts = "md5sum: x: No such file or directory\n\
-        md5sum: WARNING: 1 line is improperly formatted\n\
-        md5sum: WARNING: 1 listed file could not be read\n\
-        md5sum: WARNING: 1 computed checksum did NOT match\n";
-    for _ in 0..2 {
-        assert!(rt; checker.step(&mut line, &mut streams) == Ok(Progress::Ended(false)));
-        assert_eq!(rt; streams.outputs.err.bytes(), texts.as_bytes());
-    }
+    assert!(rt; step(&mut checker, &mut line, &mut streams) == Ok(Progress::Ended(false)));
+    assert_wrote(&rt, &streams, REPORTS, WARNINGS);
     assert!(rt; checker.taken() == 116);
+    let _input = checker.into_inner();
     Ok(())
+}
+
+// Three lines of 6,000 bytes each. Without a contract, so that no proof computes them.
+fn long_lines(alloc: Global) -> Result<String, Fail> {
+    let long = "x".repeat(alloc, 6000)?;
+    let long = long.as_str();
+    Ok(format!(in alloc; "{long}\n{long}\n{long}\n")?)
 }
 
 #[test]
 fn reads_no_further(rt: HostRuntime) -> Result<(), Fail> {
-    let mut manifest = Vec::new(rt.alloc());
-    for _ in 0..3 {
-        for _ in 0..6000 {
-            manifest.push(b'x')?;
-        }
-        manifest.push(b'\n')?;
-    }
-    let source = files(rt.alloc(), 8192, b"", Ending::Whole)?;
-    let mut streams = known(b"", source);
-    let input = Told::new(&manifest, Ending::Whole, 8192);
-    let mut checker = Checker::new(plain(), "md5sum", b"l", false, input);
+    let manifest = long_lines(rt.alloc())?;
+    let source = files(rt.alloc(), "", Ending::Whole)?;
+    let mut streams = known(Told::new(b"", Ending::Whole, 1), source);
+    let mut checker = checker_of(manifest.as_str());
     let mut line = Vec::new(rt.alloc());
     for number in 1..=3 {
-        assert!(rt; checker.step(&mut line, &mut streams) == Ok(Progress::Going));
+        assert!(rt; step(&mut checker, &mut line, &mut streams) == Ok(Progress::Going));
         assert!(rt; line.len() <= 6000, "line {number}");
-        assert!(rt; number > 1 || checker.taken() <= 14193);
+        assert!(rt; number > 1 || checker.taken() <= 14_193);
     }
     Ok(())
 }
 
-#[test]
-fn stops_for_good(rt: HostRuntime) {
-    let source = Refusing::new();
-    let mut streams = known(b"", source);
-    let mut checker = Checker::new(
-        plain(),
-        "md5sum",
-        b"l",
-        false,
-        Told::new(ALL.as_bytes(), Ending::Whole, 7),
-    );
+// The lines of the manifest have these verdicts and names, and it is good or not.
+fn finds(
+    rt: &(impl Abort + AllocGlobal),
+    settings: CheckSettings,
+    manifest: &str,
+    lines: &[(Verdict, &str)],
+    good: bool,
+) -> Result<(), Fail> {
+    let mut inputs = Inputs::of_files(files(rt.alloc(), "", Ending::Whole)?);
+    let input = Told::new(manifest.as_bytes(), Ending::Whole, 7);
+    let mut verdicts = Verdicts::new(settings, false, input);
     let mut line = Vec::new(rt.alloc());
-    for _ in 0..3 {
-        assert!(rt; checker.step(&mut line, &mut streams) == Err(Stop::Memory));
-        assert!(rt;
-            streams.outputs.out.bytes().is_empty() && streams.outputs.err.bytes().is_empty()
-        );
+    for (i, (verdict, name)) in lines.iter().enumerate() {
+        let found = verdicts.next(&mut line, &mut inputs)?;
+        let found = found.ok_or("no line")?;
+        assert_eq!(rt; (found.number, found.verdict), (i as u64 + 1, *verdict));
+        assert_eq!(rt; found.name(&line), name.as_bytes(), "line {i}");
+        assert!(rt; !verdicts.is_good(), "line {i}");
     }
+    for _ in 0..2 {
+        assert_eq!(rt; verdicts.next(&mut line, &mut inputs), Ok(None));
+        assert_eq!(rt; verdicts.is_good(), good);
+    }
+    assert!(rt; verdicts.taken() == manifest.len() as u64);
+    let _input = verdicts.into_inner();
+    Ok(())
 }
 
-// The heap has room for the first line and none for the second.
 #[test]
-fn memory_refused(rt: HostRuntime) -> Result<(), Fail> {
-    let mut manifest = Vec::from_slice(
-        rt.alloc(),
-        b"900150983cd24fb0d6963f7d28e17f72  a\n900150983cd24fb0d6963f7d28e17f72  ",
-    )?;
-    let name = vec![in rt.alloc(); b'x'; 5000]?;
-    manifest.extend_from_slice(&name)?;
-    let source = files(rt.alloc(), 8192, b"", Ending::Whole)?;
-    let mut streams = known(b"", source);
-    let input = Told::new(&manifest, Ending::Whole, 8192);
-    let mut checker = Checker::new(plain(), "md5sum", b"l3", false, input);
-    let heap = LocalHeap::new(rt.alloc(), 256)?;
-    let mut line = Vec::new(&heap);
-    assert!(rt; checker.step(&mut line, &mut streams) == Ok(Progress::Going));
-    for _ in 0..3 {
-        assert!(rt; checker.step(&mut line, &mut streams) == Err(Stop::Memory));
-        assert_eq!(rt; streams.outputs.out.bytes(), b"a: OK\n".as_slice());
-        assert!(rt; streams.outputs.err.bytes().is_empty());
-    }
-    Ok(())
+fn verdicts(rt: HostRuntime) -> Result<(), Fail> {
+    let lines = [
+        (Verdict::Right, "a"),
+        (Verdict::Ignored, ""),
+        (Verdict::Bad, ""),
+        (Verdict::Unread(Fault::NotFound), "x"),
+        (Verdict::Wrong, "e"),
+    ];
+    finds(&rt, plain(), ALL, &lines, false)?;
+    let mut settings = plain();
+    settings.ignore_missing = true;
+    let manifest = "900150983cd24fb0d6963f7d28e17f72  x\n900150983cd24fb0d6963f7d28e17f72  a\n";
+    let lines = [(Verdict::Missing, "x"), (Verdict::Right, "a")];
+    finds(&rt, settings, manifest, &lines, true)
 }

@@ -1,6 +1,8 @@
 //! Calls of sinks, as the tests make them. They have no contracts, so that a test knows no more of a result than it
 //! sees, which keeps its proof short.
 
+use std::alloc::Global;
+use std::test::Fail;
 use sum_lines::{Sink, SinkFault, ToldSink, put_all};
 
 pub(crate) fn offer(sink: &mut impl Sink, piece: &[u8]) -> Result<usize, SinkFault> {
@@ -16,6 +18,33 @@ pub(crate) fn flush(sink: &mut impl Sink) -> Result<(), SinkFault> {
 }
 
 // A sink in memory that stops after so many bytes.
-pub(crate) fn known_sink<const N: usize>(stop: usize) -> ToldSink<N> {
+pub(crate) fn known_sink(stop: usize) -> ToldSink<256> {
     ToldSink::new(stop)
+}
+
+// A text with the digests that it names: MD5 of `abc` and of nothing, SHA-256 of `abc`, and BLAKE2b of nothing, of 32
+// bytes and of 64.
+pub(crate) fn spell(alloc: Global, text: &str) -> Result<String, Fail> {
+    let digests = [
+        ("$M", "900150983cd24fb0d6963f7d28e17f72"),
+        ("$E", "d41d8cd98f00b204e9800998ecf8427e"),
+        (
+            "$S",
+            "ba7816bf8f01cfea414140de5dae2223b00361a396177a9cb410ff61f20015ad",
+        ),
+        (
+            "$B",
+            "0e5751c026e543b2e8ab2eb06099daa1d1e5df47778f7787faab45cdf12fe3a8",
+        ),
+        (
+            "$L",
+            "786a02f742015903c6c6fd852552d272912f4740e15847618a86e217f71f5419\
+             d25e1031afee585313896444934eb04b903a685b1448b755d56f701afe9be2ce",
+        ),
+    ];
+    let mut all = String::from_str(alloc, text)?;
+    for (name, digest) in digests {
+        all = all.as_str().replace(alloc, name, digest)?;
+    }
+    Ok(all)
 }

@@ -1,10 +1,10 @@
 -- `read_limited`: what an input's end, its fault and the limit say of its contents.
-use Rattle.std.proofs.Common.{◌≡◌, ℕ, zero, suc, ◌+◌, ◌-◌, ◌^◌, ◌<◌, ◌≤◌, [], ◌++◌, List, max, length, take, Ok, Err, refl, arith, length-append, ap, sym, append-nil, append_assoc, ◌∙◌}
+use Rattle.std.proofs.Common.{◌≡◌, ℕ, zero, suc, ◌+◌, ◌-◌, ◌^◌, ◌<◌, ◌≤◌, [], ◌++◌, List, max, length, take, Ok, Err, refl, arith, length-append, ap, append-nil, append_assoc, ◌∙◌}
 use Rattle.std.proofs.Math.Seq.{take-append-add}
 use Rattle.std.proofs.lemmas.List.{length-take-le, take-append-le}
 use Rattle.sum_sources.specs.Contents.{Content, Reads, IsOf, clip, limit, Ending, Whole, Other, Fault, Broken, with_prefix, and_read}
 use Rattle.sum_sources.specs.StandardInput.{phase_by}
-use Rattle.sum_sources.specs.refinement.LimitedReads.{FindsEnding, ReadsLimited}
+use Rattle.sum_sources.specs.refinement.LimitedReads.{FindsEnding, IsReadTo, ReadsLimited}
 use Rattle.sum_sources.specs.Phases.{Unfinished}
 use Rattle.sum_sources.proofs.ContentLemmas.{limit-value, clip-short}
 
@@ -24,8 +24,13 @@ module _ {a b : Reads} where
       record {
         content = λ c of. rw (all c of) (clip-short _ few);
         before = λ c of. rw (all c of, going) (record { bytes = []; ending = e }, rw append-nil refl);
+        phase = rw is (read_to e);
       }
     where
+      read_to : (e : Ending) → IsReadTo e (phase_by e)
+      read_to Whole = refl
+      read_to (Broken f) = λ past. cc
+
       by : {c : Content} (e : Ending) → IsOf (record { bytes = a.bytes; phase = phase_by e }) c
           → c ≡ record { bytes = a.bytes; ending = e }
       by Whole of = of
@@ -39,6 +44,7 @@ module _ {a b : Reads} where
         let (rest, begins) = rw (is, going) at of in
         rw begins (cut rest);
     before = before_more a b more going is;
+    phase = rw (is, going) (λ past. cc);
   }
     where
       cut : (rest : Content)

@@ -7,8 +7,8 @@ use Rattle.std.proofs.lemmas.List.{append-nil}
 use Rattle.std.proofs.lemmas.List.Splits.{slice_split_at, slice_split_none, length-slice_split}
 use Rattle.std.proofs.lemmas.List.Elements.{All-head, All-tail}
 use Rattle.sum_sources.specs.Faults.{Fault}
-use Rattle.sum_sources.specs.Contents.{Ending, Broken, Content, empty_content, with_prefix}
-use Rattle.sum_sources.specs.ManifestLines.{Line, last_line, raw_lines, lines, HasNoNewline, IsNextLine}
+use Rattle.sum_sources.specs.Contents.{Ending, Whole, Broken, Content, empty_content, with_prefix}
+use Rattle.sum_sources.specs.ManifestLines.{Line, NoMore, last_line, raw_lines, lines, HasNoNewline, IsNextLine}
 use Rattle.sum_sources.specs.declared.line_reader.LineStop.TheVariants as stops
 
 -- a newline ends the first piece
@@ -48,6 +48,11 @@ IsNextLine-ended d piece none = grind (arith, append_assoc, after_piece, pieces-
 pub IsNextLine-last : (piece : List ℕ) → HasNoNewline piece → 0 < length piece
     → IsNextLine (with_prefix piece empty_content) empty_content (Ok Line) (strip_carriage_return piece)
 IsNextLine-last piece none some = search (rules, after_piece, pieces-last)
+
+-- no bytes, no line
+pub IsNextLine-none : (piece line : List ℕ) → piece ≡ []
+    → IsNextLine (with_prefix piece empty_content) empty_content (Ok NoMore) line
+IsNextLine-none piece line none = rw none (lines-nil Whole, refl, refl)
 
 -- a fault leaves no line, whatever precedes it
 pub IsNextLine-fault : (f : Fault) (piece : List ℕ) → HasNoNewline piece

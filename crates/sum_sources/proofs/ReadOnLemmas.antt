@@ -1,20 +1,20 @@
 -- What was read so far of a line, and what reading on adds to it.
-use Rattle.std.proofs.Common.{◌≡◌, ℕ, ◌+◌, ◌-◌, ◌^◌, ◌<◌, ◌≤◌, true, false, List, [], ◌∷◌, ◌++◌, length, take, drop, None, Some, Result, Ok, Err, refl, ap, sym, ◌∙◌, append_assoc, append-nil, ◌==◌, arith, length-append, inl, inr}
-use Rattle.std.specs.Prelude.{◌⊎◌, OnOk}
+use Rattle.std.proofs.Common.{◌≡◌, ℕ, ◌+◌, ◌-◌, ◌^◌, ◌<◌, ◌≤◌, true, false, List, [], ◌∷◌, ◌++◌, length, take, None, Some, Result, Ok, Err, refl, ap, sym, ◌∙◌, append_assoc, append-nil, ◌==◌, arith, length-append, inl, inr}
+use Rattle.std.specs.Prelude.{◌⊎◌, OnOk, nat_lt, if◌then◌else◌}
 use Rattle.std.proofs.Math.Seq.{take-append-add, drop-append_seam}
 use Rattle.std.proofs.lemmas.List.{drop_all}
 use Rattle.std.proofs.lemmas.List.Elements.{All-append}
 use Rattle.std.specs.Str.Lines.{strip_carriage_return}
 use Rattle.sum_sources.specs.ManifestLines.{Next, Line, NoMore, LineStop, HasNoNewline, IsNextLine}
-use Rattle.sum_sources.specs.Contents.{Ending, Whole, Broken, Content, Reads, InputState, IsOf, Fault, clip, clip_to, limit, empty_content, with_prefix}
+use Rattle.sum_sources.specs.Contents.{Ending, Whole, Broken, Content, Reads, InputState, IsOf, Other, clip, limit, with_prefix}
 use Rattle.sum_sources.specs.LineReaders.{LineReaderValue, consumed_count, past, remaining, IsUnderWay, IsReading, ReadsOn}
 use Rattle.sum_sources.specs.Phases.{Phase, Unfinished, AtEnd, Past}
-use Rattle.sum_sources.specs.refinement.LimitedReads.{FindsEnding}
+use Rattle.sum_sources.specs.refinement.LimitedReads.{FindsEnding, IsReadTo}
 use Rattle.sum_sources.specs.refinement.LineStates.{TakesPiece}
 use Rattle.sum_sources.specs.declared.line_reader.LineStop.TheVariants as stops
 use Rattle.sum_sources.proofs.ContentLemmas.{limit-value}
 use Rattle.sum_sources.proofs.LimitLemmas.{before_more}
-use Rattle.sum_sources.proofs.LineLemmas.{IsNextLine-ended, IsNextLine-last, IsNextLine-fault, lines-nil}
+use Rattle.sum_sources.proofs.LineLemmas.{IsNextLine-ended, lines-nil}
 
 -- ---- contents
 
@@ -29,7 +29,8 @@ clip-prefix front rest few =
     let k = limit - length front in
     let size : limit - 1 ≡ length front + (k - 1) = rw limit-value (omega (arith, limit-value)) in
     let cut : take (limit - 1) (front ++ rest.bytes) ≡ front ++ take (k - 1) rest.bytes = rw (size, take-append-add) refl in
-    (clip_to k rest, grind (arith, limit-value, length-append {A = ℕ}, cut))
+    let d = if nat_lt (length rest.bytes) k then rest else record { bytes = take (k - 1) rest.bytes; ending = Broken Other } in
+    (d, grind (arith, limit-value, length-append {A = ℕ}, cut))
 
 -- past the first of two parts
 past-front : (a b : List ℕ) (d : Content) → past (length a) (with_prefix (a ++ b) d) ≡ with_prefix b d
@@ -128,9 +129,9 @@ not_ahead a b (inr none) plain = none
 -- ---- a line ends
 
 -- the next line of the same content
-next_of : (c c' d d' : Content) (r : Result Next LineStop) (line : List ℕ) → c ≡ c' → d ≡ d' → IsNextLine c' d' r line
-    → IsNextLine c d r line
-next_of c c' d d' r line p q h = rw (p, q) h
+next_of : {c c' d d' : Content} (r : Result Next LineStop) (line : List ℕ) → c ≡ c' → d ≡ d'
+    → IsNextLine c' d' r line → IsNextLine c d r line
+next_of r line p q h = rw (p, q) h
 
 -- by a newline in the buffer
 pub ends_line : {I : Type 0} {state : I → InputState} {old s s' : LineReaderValue I} {line line' : List ℕ}
@@ -146,8 +147,7 @@ ends_line {state = state} {old = old} {s' = s'} {line = line} {line' = line'} h 
     record {
       line = λ c of.
           let e = remaining s' c in (
-            next_of (remaining old c) (with_prefix (line' ++ 10 ∷ []) e) e e (Ok Line) _ (read.remains c of) refl
-                (IsNextLine-ended e line' plain'),
+            next_of {d = e} {d' = e} (Ok Line) _ (read.remains c of) refl (IsNextLine-ended e line' plain'),
             omega (
               arith,
               read.count,
@@ -164,160 +164,107 @@ ends_line {state = state} {old = old} {s' = s'} {line = line} {line' = line'} h 
       before = read.before;
     }
 
+-- ---- an answer is final
+
+-- a reader whose final answer is right
+settled : {I : Type 0} {state : I → InputState} {n : LineReaderValue I} (answer : Result Next LineStop)
+    → n.final_answer ≡ Some answer
+    → ((bytes : List ℕ) (c : Content) → IsOf (state n.input).reads c
+    → IsNextLine (remaining n c) (remaining n c) answer bytes)
+    → (answer ≡ Ok NoMore → (state n.input).reads.phase ≡ AtEnd) → ¬ ((state n.input).reads.phase ≡ Past)
+    → IsReading state n
+settled answer final right end past = record {
+  under_way = λ going. cc;
+  final = λ other is bytes c of. let same : other ≡ answer = cc in rw same (right bytes c of, by answer _);
+  end = λ is. end cc;
+  past = past;
+}
+  where
+    by : (r : Result Next LineStop) (n : ℕ) → OnOk r (n ≡ n)
+    by (Ok x) n = refl
+    by (Err x) n = tt
+
 -- memory was refused, and something remained
 pub ends_memory : {I : Type 0} {state : I → InputState} {old s n : LineReaderValue I} {line : List ℕ}
     → HasRead state old s line → s.taken < 2 ^ 61 → 0 < length s.ahead
     → n ≡ record s { final_answer = Some (Err stops.Memory) } → (bytes : List ℕ)
     → ReadsOn state old n (Err stops.Memory) bytes
-ends_memory {state = state} {old = old} {s = s} {line = line} h few some is bytes = rw is (record {
-  line = λ c of. (
-    omega (
-      arith,
-      left c of,
-      ap (λ (x : Content). length x.bytes) (h.remains c of),
-      length-append line (remaining s c).bytes,
-    ),
-    tt,
-  );
-  reading = record {
-    under_way = λ going. cc;
-    final = λ answer same bytes c of. let memory : answer ≡ Err stops.Memory = cc in rw memory (left c of, tt);
-    end = λ final. cc;
-    past = let (front, size, reads) = h.under_way in rw reads (λ past. cc);
-  };
-  before = h.before;
-})
-  where
-    left : (c : Content) → IsOf (state s.input).reads c → 0 < length (remaining s c).bytes
-    left c of =
-        let (d, clipped) = clip-front state s h.under_way few c of in
-        let (front, size, reads) = h.under_way in
-        let is = remaining-at s c d front s.ahead (omega (arith, size)) clipped in
-        omega (arith, some, ap (λ (x : Content). length x.bytes) is, length-append s.ahead d.bytes)
+ends_memory {state = state} {s = s} {line = line} h few some is bytes =
+    let (front, size, reads) = h.under_way in
+    let left : (c : Content) → IsOf (state s.input).reads c → 0 < length (remaining s c).bytes =
+    λ c of.
+    let (d, clipped) = clip-front state s h.under_way few c of in
+    let is = remaining-at s c d front s.ahead (omega (arith, size)) clipped in
+    omega (arith, some, ap (λ (x : Content). length x.bytes) is, length-append s.ahead d.bytes) in
+    rw is (record {
+      line = λ c of. (
+        omega (
+          arith,
+          left c of,
+          ap (λ (x : Content). length x.bytes) (h.remains c of),
+          length-append line (remaining s c).bytes,
+        ),
+        tt,
+      );
+      reading = settled (Err stops.Memory) refl (λ bytes c of. left c of) (λ is. cc) (rw reads (λ past. cc));
+      before = h.before;
+    })
 
--- ---- the input has ended
-
--- what every later call returns
+-- what every later call returns after an ending
 abbrev answer_by : Ending → Result Next LineStop
 answer_by Whole = Ok NoMore
 answer_by (Broken f) = Err (stops.Fault f)
 
--- how far it was read
-abbrev IsReadTo : Ending → Phase → Type 0
-IsReadTo Whole phase = phase ≡ AtEnd
-IsReadTo (Broken f) phase = ¬ (phase ≡ Past)
+nothing_left : (e : Ending) (bytes : List ℕ) → IsNextLine (just e) (just e) (answer_by e) bytes
+nothing_left Whole bytes = (lines-nil Whole, refl, refl)
+nothing_left (Broken f) bytes = (lines-nil (Broken f), refl, refl)
 
--- the line so far is all that remained, and nothing remains
-pub record HasEnded {I : Type 0} (state : I → InputState) (old n : LineReaderValue I) (line : List ℕ) (e : Ending)
-    : Type 0 where
-  pub before : (c : Content) → IsOf (state n.input).reads c → remaining old c ≡ with_prefix line (just e)
-  pub after : (c : Content) → IsOf (state n.input).reads c → remaining n c ≡ just e
-  pub count : e ≡ Whole → consumed_count n ≡ consumed_count old + length line
-  pub final : n.final_answer ≡ Some (answer_by e)
-  pub phase : IsReadTo e (state n.input).reads.phase
-  pub extends : (c : Content) → IsOf (state n.input).reads c → IsOf (state old.input).reads c
+at_end : {phase : Phase} (e : Ending) → IsReadTo e phase → answer_by e ≡ Ok NoMore → phase ≡ AtEnd
+at_end Whole read is = read
+at_end (Broken f) read is = cc
 
-module _ {I : Type 0} {state : I → InputState} {old : LineReaderValue I} {line : List ℕ} where
-  pub has_ended : {s : LineReaderValue I} (m n : LineReaderValue I) (e : Ending) → HasRead state old s line
-      → s.ahead ≡ [] → FindsEnding (state s.input).reads (state m.input).reads e
-      → IsReadTo e (state m.input).reads.phase → m.ahead ≡ [] → s.taken ≤ m.taken → (e ≡ Whole → m.taken ≡ s.taken)
-      → n ≡ record m { final_answer = Some (answer_by e) } → HasEnded state old n line e
-  has_ended {s = s} m n e h none ends phase none' more whole is =
-      let (front, size, reads) = h.under_way in
-      let all : (state s.input).reads.bytes ≡ front =
-      ap (λ (r : Reads). r.bytes) reads ∙ rw (none, append-nil) refl in
-      let length-front : length front ≡ s.taken = omega (arith, size, ap length none) in
-      let left : (k : ℕ) (c : Content) → s.taken ≤ k → IsOf (state m.input).reads c → past k (clip c) ≡ just e =
-      λ k c past of. rw (ends.content c of, all, drop_all k front (omega (arith, length-front))) refl in
-      rw is (record {
-        before = λ c of. h.remains c (ends.before c of)
-            ∙ ap (with_prefix line) (left (consumed_count s) c (omega (arith, ap length none)) of);
-        after = λ c of. left (consumed_count m) c (omega (arith, more, ap length none')) of;
-        count = λ w. omega (arith, whole w, h.count, ap length none, ap length none');
-        final = refl;
-        phase = phase;
-        extends = λ c of. h.before c (ends.before c of);
-      })
+not_past : {phase : Phase} (e : Ending) → IsReadTo e phase → ¬ (phase ≡ Past)
+not_past Whole read = rw read (λ past. cc)
+not_past (Broken f) read = read
 
-module _ {I : Type 0} {state : I → InputState} {old n : LineReaderValue I} {line : List ℕ} where
-  -- the final answer is settled
-  settled : (e : Ending) → HasEnded state old n line e → IsReading state n
-  settled e h = record {
-    under_way = λ going. cc;
-    final = λ answer is bytes c of.
-        let same : answer ≡ answer_by e = cc in
-        let left = h.after c of in
-        rw same (next_of _ (just e) _ (just e) _ _ left left (nothing_left e bytes), same_sum _ e);
-    end = λ is. at_end e (sym h.final ∙ is) h.phase;
-    past = not_past e h.phase;
-  }
-    where
-      nothing_left : (e : Ending) (bytes : List ℕ) → IsNextLine (just e) (just e) (answer_by e) bytes
-      nothing_left Whole bytes = (lines-nil Whole, refl, refl)
-      nothing_left (Broken f) bytes = (lines-nil (Broken f), refl, refl)
-
-      same_sum : (n : ℕ) (e : Ending) → OnOk (answer_by e) (n ≡ n)
-      same_sum n Whole = refl
-      same_sum n (Broken f) = tt
-
-      at_end : (e : Ending) → Some (answer_by e) ≡ Some (Ok NoMore) → IsReadTo e (state n.input).reads.phase
-          → (state n.input).reads.phase ≡ AtEnd
-      at_end Whole is phase = phase
-      at_end (Broken f) is phase = cc
-
-      not_past : (e : Ending) → IsReadTo e (state n.input).reads.phase → ¬ ((state n.input).reads.phase ≡ Past)
-      not_past Whole phase = rw phase (λ past. cc)
-      not_past (Broken f) phase = phase
-
-  -- bytes consumed and bytes that remain
-  sum : HasEnded state old n line Whole → (c : Content) → IsOf (state n.input).reads c
-      → consumed_count n + length (remaining n c).bytes ≡ consumed_count old + length (remaining old c).bytes
-  sum h c of = omega (
-    arith,
-    h.count refl,
-    ap (λ (x : Content). length x.bytes) (h.before c of),
-    ap (λ (x : Content). length x.bytes) (h.after c of),
-    length-append line [],
-  )
-
-  -- no line was begun
-  pub ends_empty : HasEnded state old n line Whole → line ≡ [] → (bytes : List ℕ)
-      → ReadsOn state old n (Ok NoMore) bytes
-  ends_empty h none bytes = record {
-    line = λ c of. (
-      next_of _ (just Whole) _ (just Whole) (Ok NoMore) bytes (h.before c of ∙ rw none refl) (h.after c of)
-          (lines-nil Whole, refl, refl),
-      sum h c of,
-    );
-    reading = settled Whole h;
-    before = h.extends;
-  }
-
-  -- a last line
-  pub ends_last : HasEnded state old n line Whole → HasNoNewline line → 0 < length line
-      → ReadsOn state old n (Ok Line) (strip_carriage_return line)
-  ends_last h plain some = record {
-    line = λ c of. (
-      next_of _ (with_prefix line empty_content) _ empty_content (Ok Line) _ (h.before c of) (h.after c of)
-          (IsNextLine-last line plain some),
-      sum h c of,
-    );
-    reading = settled Whole h;
-    before = h.extends;
-  }
-
-  -- a fault
-  pub ends_fault : {f : Fault} → HasEnded state old n line (Broken f) → HasNoNewline line → (bytes : List ℕ)
-      → ReadsOn state old n (Err (stops.Fault f)) bytes
-  ends_fault {f} h plain bytes = record {
-    line = λ c of. (
-      next_of _ (with_prefix line (just (Broken f))) _ (just (Broken f)) (Err (stops.Fault f)) bytes (h.before c of)
-          (h.after c of) (IsNextLine-fault f line plain),
-      tt,
-    );
-    reading = settled (Broken f) h;
-    before = h.extends;
-  }
+-- the input ended so, after these bytes
+pub ends : {I : Type 0} {state : I → InputState} {old s : LineReaderValue I} (m : LineReaderValue I)
+    {n : LineReaderValue I} {line bytes : List ℕ} (e : Ending) (answer : Result Next LineStop) → HasRead state old s line
+    → s.ahead ≡ [] → FindsEnding (state s.input).reads (state m.input).reads e → m.ahead ≡ [] → s.taken ≤ m.taken
+    → n ≡ record m { final_answer = Some (answer_by e) } → IsNextLine (with_prefix line (just e)) (just e) answer bytes
+    → OnOk answer (m.taken ≡ s.taken) → ReadsOn state old n answer bytes
+ends {state = state} {old = old} {s = s} m {line = line} e answer h none finds none' more is next same =
+    let (front, size, reads) = h.under_way in
+    let all : (state s.input).reads.bytes ≡ front =
+    ap (λ (r : Reads). r.bytes) reads ∙ rw (none, append-nil) refl in
+    let left : (k : ℕ) (c : Content) → s.taken ≤ k → IsOf (state m.input).reads c → past k (clip c) ≡ just e =
+    λ k c past of. rw (finds.content c of, all, drop_all k front (omega (arith, size, ap length none))) refl in
+    let before : (c : Content) → IsOf (state m.input).reads c → remaining old c ≡ with_prefix line (just e) =
+    λ c of. h.remains c (finds.before c of)
+    ∙ ap (with_prefix line) (left (consumed_count s) c (omega (arith, ap length none)) of) in
+    let after : (c : Content) → IsOf (state m.input).reads c → remaining m c ≡ just e =
+    λ c of. left (consumed_count m) c (omega (arith, more, ap length none')) of in
+    rw is (record {
+      line = λ c of. (next_of answer _ (before c of) (after c of) next, sum answer (before c of) (after c of) same);
+      reading = settled (answer_by e) refl (λ bytes c of. next_of _ bytes (after c of) (after c of) (nothing_left e bytes))
+          (at_end e finds.phase) (not_past e finds.phase);
+      before = λ c of. h.before c (finds.before c of);
+    })
+  where
+    sum : {x y : Content} (r : Result Next LineStop) → x ≡ with_prefix line (just e) → y ≡ just e
+        → OnOk r (m.taken ≡ s.taken)
+        → OnOk r (consumed_count m + length y.bytes ≡ consumed_count old + length x.bytes)
+    sum {x} {y} (Ok n) p q same = omega (
+      arith,
+      h.count,
+      same,
+      ap length none,
+      ap length none',
+      ap (λ (c : Content). length c.bytes) p,
+      ap (λ (c : Content). length c.bytes) q,
+      length-append line [],
+    )
+    sum (Err f) p q same = tt
 
 -- a final answer is returned again
 pub settled_again : {I : Type 0} {state : I → InputState} {r : LineReaderValue I} (answer : Result Next LineStop)

@@ -1,11 +1,12 @@
 -- `ToldSource`: its openings give what its answers give.
 use Rattle.std.proofs.Common.{◌≡◌, ℕ, zero, suc, ◌+◌, ◌<◌, ◌≤◌, List, [], ◌∷◌, ◌++◌, length, map, Some, None, Ok, Err, refl, ap, sym, ◌∙◌, arith}
+use Rattle.std.specs.Result.{result_ok}
 use Rattle.std.proofs.lemmas.List.{take_min, length-take, length-map, map-append}
 use Rattle.sum_sources.specs.Contents.{Content, Reads, Ending, Whole, Broken}
 use Rattle.sum_sources.specs.Phases.{Phase, Unfinished, AtEnd, Failed, Past}
 use Rattle.sum_sources.specs.StandardInput.{told_reads, ToldContent, told_file, phase_by}
-use Rattle.sum_sources.specs.Sources.{Answer, Answers, Opening, Pair, first_answer, IsOpen, closed_at, content_of}
-use Rattle.sum_sources.specs.InMemory.{ToldFiles, told_gave, told_openings, told_source}
+use Rattle.sum_sources.specs.Sources.{Answer, Opening, Pair, first_answer, IsOpen, closed_at}
+use Rattle.sum_sources.specs.InMemory.{Answers, ToldFiles, told_gave, told_openings, told_source}
 use Rattle.sum_sources.specs.refinement.ToldPairs.{AreTold, ToldSourceInvariant}
 
 -- openings that gave what the answers give are those that the state shows
@@ -62,7 +63,7 @@ told_closed v file here told =
     rw (here.opening, are, closed_at-seam)
     (told_close answer 0 _ here.before here.later file.name (told_file file).reads (omega arith) one (rw are at told))
   where
-    by : (x : Answer) → Some file.content ≡ content_of x → x ≡ Ok file.content
+    by : (x : Answer) → Some file.content ≡ result_ok x → x ≡ Ok file.content
     by (Ok c) is = cc
     by (Err f) is = cc
 

@@ -1,5 +1,6 @@
 -- Contents of inputs: what reads gave, of which content they are, the limit of 2^61 bytes, and digests.
 use Rattle.std.specs.Prelude.{ℕ, ◌≡◌, ◌-◌, ◌^◌, [], ◌++◌, take, length, Option, Result, Ok, Err, ⊤, nat_lt, if◌then◌else◌, IfSome, IfOk}
+use Rattle.std.specs.Result.{result_unwrap_or}
 use Rattle.digest_kinds.specs.Basics.{ByteString}
 use Rattle.digest_kinds.specs.Kinds.{digest, KindValue}
 use Rattle.sum_sources.specs.Phases.{Phase, Unfinished, AtEnd, Failed, Past, phase_after}
@@ -21,15 +22,12 @@ pub record Reads : Type 0 where
 abbrev pub unread : Reads
 unread = record { bytes = []; phase = Unfinished }
 
--- the bytes that a read gave: the first ones of the buffer
-abbrev pub bytes_of : Result ℕ Fault → ByteString → ByteString
-bytes_of (Ok n) buf = take n buf
-bytes_of (Err f) buf = []
-
--- one read more, into a buffer of so many bytes
+-- one read more, into a buffer of so many bytes: it gave the first bytes of the buffer, as many as it returned
 abbrev pub and_read : Reads → ℕ → Result ℕ Fault → ByteString → Reads
-and_read r size result buf =
-    record { bytes = r.bytes ++ bytes_of result buf; phase = phase_after r.phase size result }
+and_read r size result buf = record {
+  bytes = r.bytes ++ take (result_unwrap_or result 0) buf;
+  phase = phase_after r.phase size result;
+}
 
 -- the state of an input: which file it is, and what its reads gave
 pub record InputState : Type 0 where
@@ -42,12 +40,9 @@ pub record InputState : Type 0 where
 unfoldable pub limit : ℕ
 limit = 2 ^ 61
 
--- a content, if it has fewer than n bytes; otherwise its first n - 1 bytes, and then a fault
-abbrev pub clip_to : ℕ → Content → Content
-clip_to n c = if nat_lt (length c.bytes) n then c else record { bytes = take (n - 1) c.bytes; ending = Broken Other }
-
+-- a content, if it has fewer bytes than the limit; otherwise its bytes before the limit, and then a fault
 abbrev pub clip : Content → Content
-clip = clip_to limit
+clip c = if nat_lt (length c.bytes) limit then c else record { bytes = take (limit - 1) c.bytes; ending = Broken Other }
 
 -- no bytes, and a whole ending
 abbrev pub empty_content : Content
@@ -57,8 +52,8 @@ empty_content = record { bytes = []; ending = Whole }
 abbrev pub with_prefix : ByteString → Content → Content
 with_prefix prefix c = record { bytes = prefix ++ c.bytes; ending = c.ending }
 
--- the content that begins with these bytes, or ends with them, by how far it was read. Nothing is known of a content
--- that was read past its end
+-- a content that begins with these bytes, or is all of them, by how far it was read. Bytes that were read past an end are
+-- of any content
 abbrev pub IsReadTo : Phase → ByteString → Content → Type 0
 IsReadTo Unfinished bytes c = (rest : Content) × (c ≡ with_prefix bytes rest)
 IsReadTo AtEnd bytes c = c ≡ record { bytes = bytes; ending = Whole }

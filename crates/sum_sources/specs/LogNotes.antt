@@ -8,5 +8,5 @@ use Rattle.sum_sources.specs.declared.sources.source_log.Note.TheVariants.{Opene
 abbrev pub noted : SourceNotes → Note → SourceNotes
 noted s (Opened name) = record s { openings = s.openings ++ record { name = name.now; gave = None } ∷ [] }
 noted s (Failed name f) = record s { openings = s.openings ++ record { name = name.now; gave = Some (Err f) } ∷ [] }
-noted s (Closed log) = record s { openings = closed_at log.now.state.opening log.now.state.reads s.openings }
+noted s (Closed log) = record s { openings = closed_at log.now.opening log.now.reads s.openings }
 noted s Refused = record s { refusals = s.refusals + 1 }

@@ -21,6 +21,17 @@ pub record SourceNotes : Type 0 where
 abbrev pub no_openings : SourceNotes
 no_openings = record { openings = []; refusals = 0 }
 
+-- what a log keeps: of an input, or of a source
+pub record LogState : Type 0 where
+  pub input : InputState
+  pub source : SourceNotes
+
+abbrev pub input_log : InputState → LogState
+input_log s = record { input = s; source = no_openings }
+
+abbrev pub source_log : SourceNotes → LogState
+source_log s = record { input = no_reads; source = s }
+
 -- the state of a source that has this log, and isn't in memory
 abbrev pub untold : SourceNotes → SourceState
 untold s = record { told = None; openings = s.openings; refusals = s.refusals }

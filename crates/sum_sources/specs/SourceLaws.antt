@@ -3,9 +3,9 @@ use Rattle.std.proofs.Common.{ℕ, zero, suc, [], ◌∷◌, refl, List, Ok, Err
 use Rattle.std.specs.Prelude.{length, Option, Result}
 use Rattle.sum_sources.specs.Contents.{Fault, Reads}
 use Rattle.sum_sources.specs.Faults.{NotFound}
-use Rattle.sum_sources.specs.Sources.{Answer, Answers, Opening, first_answer, IsOfAnswer, AnswersAre, HasAnswers}
+use Rattle.sum_sources.specs.Sources.{Answer, Opening, first_answer, IsOfAnswer, AnswersAre, HasAnswers}
 use Rattle.sum_sources.specs.Logs.{SourceNotes, untold}
-use Rattle.sum_sources.specs.InMemory.{ToldFiles, told_gave, told_openings, told_source}
+use Rattle.sum_sources.specs.InMemory.{Answers, ToldFiles, told_gave, told_openings, told_source}
 use Rattle.sum_sources.specs.InputLaws.{some_content, told_is_of}
 
 -- ---- sources in memory

@@ -1,6 +1,7 @@
 -- Sources of files: what was asked of one, and what it answered.
 use Rattle.std.specs.Prelude.{ℕ, zero, suc, ◌≡◌, ◌+◌, List, [], ◌∷◌, ◌++◌, length, Option, None, Some, Result, Ok, Err, ⊤, IfSome, ◌&&◌, if◌then◌else◌, bytes_eq, nat_le}
 use Rattle.std.specs.Option.{option_and_then}
+use Rattle.std.specs.Result.{result_ok}
 use Rattle.sum_sources.specs.Contents.{Content, InputState, Reads, IsOf, unread}
 use Rattle.sum_sources.specs.Faults.{Fault, NotFound, ByteString}
 use Rattle.sum_sources.specs.declared.sources.source.OpenFault.{OpenFault}
@@ -9,10 +10,6 @@ use Rattle.sum_sources.specs.declared.sources.source.OpenFault.TheVariants as fa
 -- what opening a name gives: a content, or the fault of opening
 abbrev pub Answer : Type 0
 Answer = Result Content Fault
-
--- the answer to each opening, by how many came before it, and by its name: a file may change in between
-abbrev pub Answers : Type 0
-Answers = ℕ → ByteString → Answer
 
 -- an opening: the name; and what it gave: what was read of the file by the time it was closed, or the fault of opening
 -- it. As long as the file is open there is nothing yet
@@ -27,8 +24,9 @@ IsOfAnswer (Some (Ok r)) (Ok c) = IsOf r c
 IsOfAnswer (Some (Err f)) (Err g) = f ≡ g
 IsOfAnswer gave answer = ⊥
 
--- these are the answers to these openings, of which the first has so many before it
-abbrev pub AnswersAre : Answers → ℕ → List Opening → Type 0
+-- these are the answers to these openings, of which the first has so many before it. An answer is to the number of
+-- openings before, and to the name: a file may change in between
+abbrev pub AnswersAre : (ℕ → ByteString → Answer) → ℕ → List Opening → Type 0
 AnswersAre answer n [] = ⊤
 AnswersAre answer n (o ∷ os) = IsOfAnswer o.gave (answer n o.name) × AnswersAre answer (suc n) os
 
@@ -40,7 +38,7 @@ pub record Pair : Type 0 where
 
 -- the answer to the opening that has n before it: that of the first pair with the name that was added by then. A name
 -- without a pair isn't found
-abbrev pub first_answer : List Pair → Answers
+abbrev pub first_answer : List Pair → ℕ → ByteString → Answer
 first_answer [] n name = Err NotFound
 first_answer (p ∷ ps) n name = if nat_le p.from n && bytes_eq p.name name then p.answer else first_answer ps n name
 
@@ -52,17 +50,12 @@ pub record SourceState : Type 0 where
 
 -- its openings have answers: those in memory, if they are there
 abbrev pub HasAnswers : SourceState → Type 0
-HasAnswers s = (answer : Answers) × IfSome s.told (λ pairs. answer ≡ first_answer pairs)
+HasAnswers s = (answer : ℕ → ByteString → Answer) × IfSome s.told (λ pairs. answer ≡ first_answer pairs)
     × AnswersAre answer 0 s.openings
-
--- the content of an answer
-abbrev pub content_of : Answer → Option Content
-content_of (Ok c) = Some c
-content_of (Err f) = None
 
 -- the content that is in memory for a name, by how many openings came before
 abbrev pub content_at : SourceState → ℕ → ByteString → Option Content
-content_at s n name = option_and_then (λ pairs. content_of (first_answer pairs n name)) s.told
+content_at s n name = option_and_then (λ pairs. result_ok (first_answer pairs n name)) s.told
 
 -- a name is opened: this is the file, and nothing was read of it yet
 abbrev pub opened_file : SourceState → ByteString → InputState

@@ -22,7 +22,7 @@ pub enum Fault {
     Os(i32),
 }
 
-// The text of a reason that isn't known, and that of the system's number 5, EIO.
+// The text of any other reason, and that of the system's number 5, EIO.
 const OTHER: &str = "Input/output error";
 
 /// The system's number for a descriptor that isn't open.

@@ -17,6 +17,7 @@ mod fault;
 mod inputs;
 pub mod laws;
 mod line_reader;
+mod log;
 mod sources;
 
 pub use fault::{EBADF, Ending, Fault, NoRoom};

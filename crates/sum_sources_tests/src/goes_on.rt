@@ -1,10 +1,14 @@
 //! An input and a source that do what real ones may: bytes follow an end or a fault, and a name that is opened again is
 //! another file.
 ghost use Rattle.std.specs.Prelude.{◌≡◌};
+ghost use Rattle.sum_sources.specs.Contents.{unread};
+ghost use Rattle.sum_sources.specs.Logs.{no_reads};
 
 use std::alloc::Allocator;
 use std::collections::VecDeque;
-use sum_sources::{Ending, Fault, FileCounts, Input, NoRoom, OpenFault, Phase, Source, Told};
+use sum_sources::{
+    Ending, Fault, Input, NoRoom, Note, OpenFault, Phase, ReadLog, Source, SourceLog, Told,
+};
 
 /// An input of two parts. After the end or the fault of the first part it goes on with the second.
 #[derive(Drop)]
@@ -12,19 +16,33 @@ pub struct TwoParts<'a> {
     told: Told<'a>,
     second: Option<Told<'a>>,
     phase: Phase,
+    log: ReadLog,
 }
 
 impl<'a> TwoParts<'a> {
     /// The input of `content` that has this ending after `place` bytes, and goes on with the others. A read gives at
     /// most `piece` (0 counts as 1).
     pub fn new(content: &'a [u8], place: usize, ending: Ending, piece: usize) -> TwoParts<'a>
-        ensures { result.phase ≡ Phase.Unfinished }
+        ensures { (⟦<TwoParts<'a> as Input>⟧.state result).reads ≡ unread }
+    {
+        TwoParts::opened(content, place, ending, piece, ReadLog::new())
+    }
+
+    fn opened(
+        content: &'a [u8],
+        place: usize,
+        ending: Ending,
+        piece: usize,
+        log: ReadLog,
+    ) -> TwoParts<'a>
+        ensures { result.log.state ≡ log.state }
     {
         let (first, second) = content.split_at(place.min(content.len()));
         TwoParts {
             told: Told::new(first, ending, piece),
             second: Some(Told::new(second, Ending::Whole, piece)),
             phase: Phase::Unfinished,
+            log,
         }
     }
 
@@ -36,11 +54,13 @@ impl<'a> TwoParts<'a> {
 
 impl<'a> Input for TwoParts<'a> {
     ghost use Rattle.std.specs.Prelude.{None};
+    ghost use Rattle.sum_sources.specs.InputLaws.{real_has_content};
 
-    ghost state = { λ s. record { content = None; phase = s.phase } };
+    ghost state = { λ s. record s.log.state { told = None } };
 
     fn read(&mut self, buf: &mut [u8]) -> Result<usize, Fault> {
         let result = self.told.read(buf);
+        self.log = self.log.and(buf, &result);
         self.phase = self.phase.after(buf.len(), &result);
         let goes_on = match result {
             Ok(n) => n == 0 && !buf.is_empty(),
@@ -51,6 +71,8 @@ impl<'a> Input for TwoParts<'a> {
         }
         result
     }
+
+    ghost has_content = { λ s. real_has_content s.log.state };
 }
 
 /// A source whose files follow one another, whatever the names. After the last, no file is found.
@@ -59,7 +81,9 @@ pub struct InTurn<'a, A: Allocator> {
     // each with the place of its ending
     files: VecDeque<(&'a [u8], usize, Ending), A>,
     piece: usize,
-    counts: FileCounts,
+    log: SourceLog,
+    opened: u64,
+    ended: u64,
     failed: u64,
 }
 
@@ -69,7 +93,9 @@ impl<'a, A: Allocator> InTurn<'a, A> {
         InTurn {
             files: VecDeque::new(alloc),
             piece,
-            counts: FileCounts::NONE,
+            log: SourceLog::new(),
+            opened: 0,
+            ended: 0,
             failed: 0,
         }
     }
@@ -84,29 +110,37 @@ impl<'a, A: Allocator> InTurn<'a, A> {
 
     /// How many files were opened, how many of these were closed at their end, and how many at their fault.
     pub fn counts(&self) -> (u64, u64, u64) {
-        (self.counts.opened, self.counts.ended, self.failed)
+        (self.opened, self.ended, self.failed)
     }
 }
 
 impl<'a, A: Allocator> Source for InTurn<'a, A> {
     type File = TwoParts<'a>;
 
-    ghost use Rattle.std.specs.Prelude.{None};
+    ghost use Rattle.sum_sources.specs.Logs.{untold};
+    ghost use Rattle.sum_sources.specs.SourceLaws.{untold_has_answers};
 
-    ghost state = { λ s. record { known = None; counts = s.counts } };
+    ghost state = { λ s. untold s.log.state };
 
-    fn open_file(&mut self, _name: &[u8]) -> Result<TwoParts<'a>, OpenFault> {
+    fn open_file(&mut self, name: &[u8]) -> Result<TwoParts<'a>, OpenFault> {
         let Some((content, place, ending)) = self.files.pop_front() else {
+            self.log = self.log.and(&Note::Failed(name, Fault::NotFound));
             return Err(OpenFault::Fault(Fault::NotFound));
         };
-        self.counts.opened();
-        Ok(TwoParts::new(content, place, ending, self.piece))
+        let log = self.log.file(name);
+        self.log = self.log.and(&Note::Opened(name));
+        self.opened = self.opened.saturating_add(1);
+        Ok(TwoParts::opened(content, place, ending, self.piece, log))
     }
 
     fn close_file(&mut self, file: TwoParts<'a>) {
-        self.counts.closed(file.phase);
-        if file.phase == Phase::Failed {
-            self.failed = self.failed.saturating_add(1);
+        self.log = self.log.and(&Note::Closed(&file.log));
+        match file.phase {
+            Phase::AtEnd => self.ended = self.ended.saturating_add(1),
+            Phase::Failed(_) => self.failed = self.failed.saturating_add(1),
+            Phase::Unfinished | Phase::Past => {}
         }
     }
+
+    ghost has_answers = { λ s. untold_has_answers s.log.state };
 }

@@ -1,4 +1,7 @@
 //! Inputs: over readers that fail, in memory, and such that go on after an end or a fault.
+ghost use Rattle.std.specs.Prelude.{◌≡◌};
+ghost use Rattle.sum_sources.specs.Contents.{unread};
+
 use crate::goes_on::TwoParts;
 use digest_kinds::{Digest, Hasher, Md5Hasher, Sha256Hasher};
 use std::io::{self, ErrorKind, Read};
@@ -31,7 +34,9 @@ impl<'a> Read for Reader<'a> {
 }
 
 // "abc", a byte a read, with this ending after so many.
-fn abc(place: usize, ending: Ending) -> TwoParts<'static> {
+fn abc(place: usize, ending: Ending) -> TwoParts<'static>
+    ensures { (⟦<TwoParts<'static> as Input>⟧.state result).reads ≡ unread }
+{
     TwoParts::new(b"abc", place, ending, 1)
 }
 
@@ -146,7 +151,7 @@ fn assert_hashed(rt: &impl Abort, mut input: TwoParts, ending: Ending, digits: &
             assert!(rt; (ending, input.phase()) == (Ending::Whole, Phase::AtEnd));
         }
         Err(fault) => {
-            assert!(rt; (ending, input.phase()) == (Ending::Broken(fault), Phase::Failed));
+            assert!(rt; (ending, input.phase()) == (Ending::Broken(fault), Phase::Failed(fault)));
         }
     }
 }

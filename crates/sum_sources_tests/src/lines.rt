@@ -20,8 +20,8 @@ const JOINED: &[u8] = b"900150983cd24fb0d6963f7d28e17f72  a\n#c\njunk\n\
 // The same line twice, of which a newline ends only the first.
 const TWICE: &[u8] = b"900150983cd24fb0d6963f7d28e17f72  a\n900150983cd24fb0d6963f7d28e17f72  a";
 
-// The reader of a content that has this ending after so many bytes, and goes on with the others, gives just these lines.
-// Then it answers the ending, twice, and has read no further.
+// The reader of a content that has this ending after so many bytes, and goes on with the others, gives just these
+// lines. Then it answers the ending, twice, and has read no further.
 fn reads(
     rt: &(impl Abort + AllocGlobal),
     content: &[u8],
@@ -30,7 +30,7 @@ fn reads(
 ) {
     let (end, phase) = match ending {
         Ending::Whole => (Ok(Next::NoMore), Phase::AtEnd),
-        Ending::Broken(fault) => (Err(LineStop::Fault(fault)), Phase::Failed),
+        Ending::Broken(fault) => (Err(LineStop::Fault(fault)), Phase::Failed(fault)),
     };
     for piece in [1, 3, 8192] {
         let mut line = Vec::new(rt.alloc());

@@ -1,19 +1,8 @@
-//! Tests of `sum_words`. Its `proofs/WorkedExamples.antt` has what the definitions alone say of some command lines.
+//! Tests of `sum_words`: each call once with its answer, and the texts of faults. Which request or fault some command
+//! lines are, its `proofs/WorkedExamples.antt` has.
 #![tactic(auto)]
 
 #[cfg(test)]
-mod bytes;
-#[cfg(test)]
-mod command_lines;
-#[cfg(test)]
-mod faults;
-#[cfg(test)]
-mod front_page;
-#[cfg(test)]
-mod requests;
-#[cfg(test)]
 mod texts;
-#[cfg(test)]
-mod variants;
 #[cfg(test)]
 mod words;

@@ -1,86 +1,54 @@
 //! Names of tools, and the texts that the program writes of its own.
+use crate::words::words_and;
+use std::alloc::Global;
 use std::test::Fail;
 use sum_engine::Stop;
-use sum_lines::{SinkFault, ToldSink};
-use sum_words::{Tool, UnknownTool, put_help, put_not_read, put_stop, put_unknown, put_version};
+use sum_lines::ToldSink;
+use sum_words::{
+    Tool, UnknownTool, Words, put_fault, put_help, put_not_read, put_stop, put_unknown,
+    put_version, read_words,
+};
 
 #[test]
 fn tools(rt: HostRuntime) -> Result<(), Fail> {
-    for (name, tool) in [
-        ("md5sum", Tool::Md5sum),
-        ("b2sum", Tool::B2sum),
-        ("anysum", Tool::Anysum),
-    ] {
-        assert_eq!(rt; Tool::from_word(name), Some(tool), "the word {name}");
-        assert_eq!(rt; name.parse(), Ok(tool), "{name}, parsed");
-        assert_eq!(rt; tool.name(), name, "the name of {name}");
-        let shown = format!(in rt.alloc(); "{tool}")?;
-        assert_eq!(rt; shown.as_str(), name, "{name}, shown");
-    }
     for tool in Tool::ALL {
-        assert_eq!(rt; Tool::from_word(tool.name()), Some(tool), "of {tool}");
+        let name = tool.name();
+        assert_eq!(rt; Tool::from_word(name), Some(tool), "{name}");
+        assert_eq!(rt; name.parse(), Ok(tool), "{name}");
+        assert_eq!(rt; format!(in rt.alloc(); "{tool}")?.as_str(), name);
     }
+    assert_eq!(rt; Tool::B2sum.name(), "b2sum");
     for word in ["shasum", "", "md5sum "] {
-        assert_eq!(rt; Tool::from_word(word), None, "the word {word}");
-        assert_eq!(rt; word.parse::<Tool>(), Err(UnknownTool), "{word}, parsed");
+        assert_eq!(rt; Tool::from_word(word), None, "{word}");
+        assert_eq!(rt; word.parse::<Tool>(), Err(UnknownTool), "{word}");
     }
-    let padded = format!(in rt.alloc(); "{:>8}", Tool::Md5sum)?;
-    assert_eq!(rt; padded.as_str(), "  md5sum");
+    Ok(())
+}
+
+// The lines of a run that ends early, of the version, and of no tool and no words. Without a contract, so that a test
+// knows no more of them than it sees.
+fn put_lines(sink: &mut ToldSink<256>) -> Result<(), Fail> {
+    put_stop(sink, Tool::Sha256sum, Stop::Write)?;
+    put_stop(sink, Tool::Sha256sum, Stop::Memory)?;
+    put_version(sink, Tool::Sha1sum)?;
+    put_unknown(sink)?;
+    put_not_read(sink)?;
     Ok(())
 }
 
 #[test]
-fn no_tool_and_no_words(rt: HostRuntime) -> Result<(), Fail> {
-    let mut err = ToldSink::<64>::new(64);
-    put_unknown(&mut err)?;
-    assert_eq!(rt; err.bytes(), b"digests: unknown tool\n".as_slice());
-    let mut err = ToldSink::<64>::new(64);
-    put_not_read(&mut err)?;
-    assert_eq!(rt; err.bytes(), b"digests: words not read\n".as_slice());
+fn lines(rt: HostRuntime) -> Result<(), Fail> {
+    let mut sink = ToldSink::new(256);
+    put_lines(&mut sink)?;
+    let lines = b"sha256sum: write error\n\
+        sha256sum: memory exhausted\n\
+        sha1sum (digests), profile 2\n\
+        digests: unknown tool\n\
+        digests: words not read\n"
+        .as_slice();
+    assert_eq!(rt; sink.bytes(), lines);
     Ok(())
 }
-
-// What a sink that stops after so many bytes holds of the line for a stop, and what is answered. Without a contract, so
-// that a test knows no more of it than it sees.
-fn stop_line(count: usize, stop: Stop) -> (ToldSink<64>, Result<(), SinkFault>) {
-    let mut err = ToldSink::new(count);
-    let answer = put_stop(&mut err, Tool::Sha256sum, stop);
-    (err, answer)
-}
-
-#[test]
-fn stops(rt: HostRuntime) {
-    for (stop, line) in [
-        (Stop::Write, b"sha256sum: write error\n".as_slice()),
-        (Stop::Memory, b"sha256sum: memory exhausted\n"),
-    ] {
-        let (err, answer) = stop_line(64, stop);
-        assert_eq!(rt; answer, Ok(()), "at {stop}");
-        assert_eq!(rt; err.bytes(), line, "at {stop}");
-    }
-}
-
-// A sink that stops holds exactly the bytes that it took.
-#[test]
-fn stopped_texts(rt: HostRuntime) {
-    let text = b"sha256sum: write error\n".as_slice();
-    for count in 0..text.len() {
-        let (err, answer) = stop_line(count, Stop::Write);
-        assert_eq!(rt; answer, Err(SinkFault), "after {count} bytes");
-        assert_eq!(rt; Some(err.bytes()), text.get(..count), "after {count} bytes");
-    }
-}
-
-const FIRST_OPTIONS: &str = "  -b, --binary          mark each line as binary
-  -c, --check           read checksums from the FILEs and check them
-";
-
-const LENGTH: &str =
-    "  -l, --length=BITS     digest length in bits, a multiple of 8, at most 512\n";
-
-const LAST_OPTIONS: &str = "      --help            print this text
-      --version         print the version
-";
 
 // The help of a tool. Without a contract, as above.
 fn help_of(tool: Tool) -> Result<ToldSink<1024>, Fail> {
@@ -89,34 +57,78 @@ fn help_of(tool: Tool) -> Result<ToldSink<1024>, Fail> {
     Ok(out)
 }
 
-// How it begins and ends: the tests of the program have all of it.
+// How it begins: the tests of the program have all of it.
 #[test]
 fn help(rt: HostRuntime) -> Result<(), Fail> {
-    for (tool, purpose, length) in [
-        (Tool::Md5sum, "Print or check MD5 checksums.", ""),
-        (Tool::B2sum, "Print or check BLAKE2b checksums.", LENGTH),
-        (Tool::Anysum, "Check checksums of tagged lines.", ""),
-    ] {
-        let name = tool.name();
-        let want = format!(in rt.alloc();
-            "Usage: {name} [OPTION]... [FILE]...\n\
-             {purpose} With no FILE, or when FILE is -, read standard input.\n\
-             {FIRST_OPTIONS}{length}      --tag "
-        )?;
-        let help = help_of(tool)?;
-        assert!(rt; help.bytes().starts_with(want.as_bytes()), "of {name}");
-        assert!(rt;
-            help.bytes().ends_with(LAST_OPTIONS.as_bytes()),
-            "of {name}"
-        );
-    }
+    let text = b"Usage: b2sum [OPTION]... [FILE]...\n\
+        Print or check BLAKE2b checksums. With no FILE, or when FILE is -, read standard input.\n\
+        \x20 -b, --binary          mark each line as binary\n"
+        .as_slice();
+    assert!(rt; help_of(Tool::B2sum)?.bytes().starts_with(text));
     Ok(())
 }
 
+// The lines of the fault that words have. Without a contract, as above.
+fn lines_of_fault(tool: Tool, words: &Words<Global>) -> Result<ToldSink<256>, Fail> {
+    let mut err = ToldSink::new(256);
+    match read_words(tool, words) {
+        Ok(_) => return Err(Fail::from("no fault")),
+        Err(fault) => put_fault(&mut err, tool, &fault)?,
+    }
+    Ok(err)
+}
+
+// Each fault. What was typed is escaped.
 #[test]
-fn version(rt: HostRuntime) -> Result<(), Fail> {
-    let mut out = ToldSink::<64>::new(64);
-    put_version(&mut out, Tool::Sha1sum)?;
-    assert_eq!(rt; out.bytes(), b"sha1sum (digests), profile 2\n".as_slice());
+fn faults(rt: HostRuntime) -> Result<(), Fail> {
+    let tag = "the --tag option is meaningless when verifying checksums";
+    let mode = "the --binary and --text options are meaningless when verifying checksums";
+    let zero = "the --zero option is not supported when verifying checksums";
+    let only = "option is meaningful only when verifying checksums";
+    let ignore = format!(in rt.alloc(); "the --ignore-missing {only}")?;
+    let status = format!(in rt.alloc(); "the --status {only}")?;
+    let warn = format!(in rt.alloc(); "the --warn {only}")?;
+    let quiet = format!(in rt.alloc(); "the --quiet {only}")?;
+    let strict = format!(in rt.alloc(); "the --strict {only}")?;
+    let length = "option '--length' requires an argument";
+    let letter = "option requires an argument -- 'l'";
+    let uneven = "length is not a multiple of 8: '12'";
+    let name = "unrecognized option '--a\\\\b\\nc\\rd'";
+    let value = "option '--tag' doesn't allow an argument";
+    for (line, last, text) in [
+        ("a", "--a\\b\nc\rd=e", name),
+        ("a", "--st", "option '--st' is ambiguous"),
+        ("a", "--ta=1", value),
+        ("a", "--len", length),
+        ("a", "-bl", letter),
+        ("a", "-\n", "invalid option -- '\\n'"),
+        ("a -l", "\\\n", "invalid length: '\\\\\\n'"),
+        ("-l", "12", uneven),
+        ("--tag", "-t", "--tag does not support --text mode"),
+        ("-c --tag", "-z", zero),
+        ("-c", "--tag", tag),
+        ("-c", "-b", mode),
+        ("--strict", "--ignore-missing", ignore.as_str()),
+        ("--quiet -w", "--status", status.as_str()),
+        ("--status", "-w", warn.as_str()),
+        ("--status", "--quiet", quiet.as_str()),
+        ("a", "--str", strict.as_str()),
+    ] {
+        let words = words_and(rt.alloc(), line, last.as_bytes())?;
+        let lines = format!(in rt.alloc();
+            "b2sum: {text}\nTry 'b2sum --help' for more information.\n"
+        )?;
+        let found = lines_of_fault(Tool::B2sum, &words)?;
+        assert_eq!(rt; found.bytes(), lines.as_bytes(), "{line} {last}");
+    }
+    let words = words_and(rt.alloc(), "a", b"-\xff\\")?;
+    let lines = b"anysum: unrecognized option '-\xff\\\\'\n\
+        Try 'anysum --help' for more information.\n"
+        .as_slice();
+    assert_eq!(rt; lines_of_fault(Tool::Anysum, &words)?.bytes(), lines);
+    let words = words_and(rt.alloc(), "a", b"b")?;
+    let lines =
+        b"anysum: --check is required\nTry 'anysum --help' for more information.\n".as_slice();
+    assert_eq!(rt; lines_of_fault(Tool::Anysum, &words)?.bytes(), lines);
     Ok(())
 }

@@ -1,119 +1,92 @@
-//! Tags that begin bytes, the lengths of BLAKE2b digests, and the texts of kinds.
-use crate::{Algo, AnyHasher, Hasher, Kind, LengthFault, UnknownKind, UnknownTag, laws};
+//! Digests and their digits, tags that begin bytes, the lengths of BLAKE2b digests, and the texts of kinds.
+use crate::{Algo, Digest, Kind, LengthFault, NotDigits, UnknownKind, UnknownTag};
+use std::convert::AsSlice;
+use std::hash::{DefaultHasher, Hash, Hasher};
 use std::test::Fail;
 
 #[test]
-fn lengths_in_bits(rt: HostRuntime) {
-    for (bits, len) in [(0, 64), (8, 1), (256, 32), (512, 64)] {
-        assert_eq!(rt;
-            Kind::blake2b_bits(bits).map(|kind| (kind.algo(), kind.len())),
-            Ok((Algo::Blake2b, len)),
-            "{bits} bits"
-        );
+fn kinds(rt: HostRuntime) {
+    for (bits, want) in [
+        (0, Ok(64)),
+        (8, Ok(1)),
+        (256, Ok(32)),
+        (512, Ok(64)),
+        (513, Err(LengthFault::TooLong)),
+        (520, Err(LengthFault::TooLong)),
+        (12, Err(LengthFault::NotBytes)),
+        (511, Err(LengthFault::NotBytes)),
+    ] {
+        let found = Kind::blake2b_bits(bits).map(|kind| kind.len());
+        assert_eq!(rt; found, want, "{bits} bits");
     }
-    for bits in [513, 520] {
-        assert_eq!(rt;
-            Kind::blake2b_bits(bits),
-            Err(LengthFault::TooLong),
-            "{bits} bits"
-        );
-    }
-    for bits in [12, 511] {
-        assert_eq!(rt;
-            Kind::blake2b_bits(bits),
-            Err(LengthFault::NotBytes),
-            "{bits} bits"
-        );
-    }
-}
-
-#[test]
-fn tag_prefixes(rt: HostRuntime) {
+    assert_eq!(rt; Kind::blake2b_bytes(20).map(|kind| kind.bits()), Some(160));
+    assert!(rt; Kind::blake2b_bytes(0).is_none() && Kind::blake2b_bytes(65).is_none());
     assert_eq!(rt; Algo::of_tag_prefix(b"SHA1 (a)"), Some(Algo::Sha1));
     assert_eq!(rt; Algo::of_tag_prefix(b"SHA2"), None);
     assert_eq!(rt; Algo::of_tag_prefix(b""), None);
 }
 
 #[test]
-fn lengths_in_bytes(rt: HostRuntime) {
-    for len in [1, 20, 64] {
-        assert_eq!(rt;
-            Kind::blake2b_bytes(len).map(|kind| (kind.algo(), kind.len())),
-            Some((Algo::Blake2b, len)),
-            "{len} bytes"
-        );
-    }
-    assert_eq!(rt; Kind::blake2b_bytes(0), None);
-    assert_eq!(rt; Kind::blake2b_bytes(65), None);
-}
-
-#[test]
-fn algorithms_by_their_tags(rt: HostRuntime) -> Result<(), Fail> {
-    for algo in [Algo::Md5, Algo::Sha512, Algo::Blake2b] {
-        let tag = format!(in rt.alloc(); "{algo}")?;
-        assert_eq!(rt; tag.as_str(), algo.tag());
-        assert_eq!(rt; tag.parse::<Algo>(), Ok(algo));
-    }
-    for text in ["", "SHA", "SHA1 ", "sha1", "BLAKE2b-256"] {
-        assert_eq!(rt; text.parse::<Algo>(), Err(UnknownTag), "{text}");
-    }
-    let tag = format!(in rt.alloc(); "{:>5}", Algo::Md5)?;
-    assert_eq!(rt; tag.as_str(), "  MD5");
-    Ok(())
-}
-
-#[test]
-fn kinds_by_their_texts(rt: HostRuntime) -> Result<(), Fail> {
-    let short = Kind::blake2b_bytes(32).ok_or("32 bytes")?;
-    let one = Kind::blake2b_bytes(1).ok_or("1 byte")?;
-    for (kind, text) in [
-        (Kind::of(Algo::Sha256), "SHA256"),
-        (Kind::of(Algo::Blake2b), "BLAKE2b"),
-        (short, "BLAKE2b-256"),
-        (one, "BLAKE2b-8"),
+fn texts(rt: HostRuntime) -> Result<(), Fail> {
+    for (text, algo, len) in [
+        ("SHA256", Algo::Sha256, 32),
+        ("BLAKE2b", Algo::Blake2b, 64),
+        ("BLAKE2b-256", Algo::Blake2b, 32),
+        ("BLAKE2b-8", Algo::Blake2b, 1),
     ] {
-        let shown = format!(in rt.alloc(); "{kind}")?;
-        assert_eq!(rt; shown.as_str(), text);
-        assert_eq!(rt; text.parse::<Kind>(), Ok(kind));
+        let kind: Kind = text.parse()?;
+        assert_eq!(rt; (kind.algo(), kind.len()), (algo, len), "{text}");
+        assert_eq!(rt; format!(in rt.alloc(); "{kind}")?.as_str(), text);
+        assert_eq!(rt; format!(in rt.alloc(); "{algo}")?.as_str(), algo.tag());
     }
-    let full = Kind::of(Algo::Blake2b);
-    assert_eq!(rt; "BLAKE2b-512".parse::<Kind>(), Ok(full));
-    let padded = format!(in rt.alloc(); "{short:>13}")?;
-    assert_eq!(rt; padded.as_str(), "  BLAKE2b-256");
-    laws::texts_name_kinds();
-    Ok(())
-}
-
-#[test]
-fn texts_of_no_kind(rt: HostRuntime) {
     for text in [
         "",
-        "SHA",
         "sha256",
         "SHA256 ",
         "SHA256-256",
-        "BLAKE2b-",
-        "BLAKE2b-0",
         "BLAKE2b-08",
         "BLAKE2b-12",
         "BLAKE2b-520",
-        "BLAKE2b-256 ",
-        "BLAKE2b256",
     ] {
         assert_eq!(rt; text.parse::<Kind>(), Err(UnknownKind), "{text}");
     }
+    assert_eq!(rt; "SHA1".parse(), Ok(Algo::Sha1));
+    assert_eq!(rt; "sha1".parse::<Algo>(), Err(UnknownTag));
+    Ok(())
 }
 
-// The use that the crate's front page shows.
+// The bytes that a digest lends by the trait, and its hash.
+fn bytes_of(digest: &impl AsSlice<u8>) -> &[u8] {
+    digest.as_slice()
+}
+
+fn hash_of(digest: &Digest) -> u64 {
+    let mut hasher = DefaultHasher::new();
+    digest.hash(&mut hasher);
+    hasher.finish()
+}
+
 #[test]
-fn front_page(rt: HostRuntime) -> Result<(), Fail> {
-    let kind: Kind = "BLAKE2b-256".parse()?;
-    let mut hasher = AnyHasher::new(kind);
-    hasher.update(b"abc");
-    let text = format!(in rt.alloc(); "{kind} {}", hasher.finish())?;
-    assert_eq!(rt;
-        text.as_str(),
-        "BLAKE2b-256 bddd813c634239723171ef3fee98579b94964e3bb1cb3e427262c8c068d52319"
-    );
+fn digests(rt: HostRuntime) -> Result<(), Fail> {
+    for text in [b"".as_slice(), b"0", b"0g", b"0aF", &[b'0'; 130]] {
+        assert!(rt; Digest::from_hex(text).is_none(), "{}", text.escape_ascii());
+    }
+    assert!(rt; Digest::from_hex(&[b'0'; 128]).is_some());
+    let digest = Digest::from_hex(b"0aFf").ok_or("no digest")?;
+    assert_eq!(rt; digest.as_slice(), [10, 255].as_slice());
+    assert_eq!(rt; bytes_of(&digest), [10, 255].as_slice());
+    assert_eq!(rt; format!(in rt.alloc(); "{digest:>6}")?.as_str(), "  0aff");
+    let same: Digest = "0AFF".parse()?;
+    assert!(rt; digest.same(&same) && digest.clone()? == same);
+    assert_eq!(rt; hash_of(&digest), hash_of(&same));
+    assert_eq!(rt; "0g".parse::<Digest>(), Err(NotDigits));
+    for text in [b"0b".as_slice(), b"0aff00", b"ff00"] {
+        let later = Digest::from_hex(text).ok_or("no digest")?;
+        assert!(rt;
+            digest < later && !digest.same(&later),
+            "{}",
+            text.escape_ascii()
+        );
+    }
     Ok(())
 }

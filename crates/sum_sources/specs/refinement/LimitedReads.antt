@@ -4,10 +4,16 @@ use Rattle.sum_sources.specs.Contents.{Content, Ending, Whole, Broken, Reads, Is
 use Rattle.sum_sources.specs.Faults.{ByteString}
 use Rattle.sum_sources.specs.Phases.{Phase, Unfinished, AtEnd, Past}
 
+-- how far an input was read that was found to end so
+abbrev pub IsReadTo : Ending → Phase → Type 0
+IsReadTo Whole phase = phase ≡ AtEnd
+IsReadTo (Broken f) phase = ¬ (phase ≡ Past)
+
 -- an input was found to end so, as far as the limit allows
 pub record FindsEnding (a b : Reads) (e : Ending) : Type 0 where
   pub content : (c : Content) → IsOf b c → clip c ≡ record { bytes = a.bytes; ending = e }
   pub before : (c : Content) → IsOf b c → IsOf a c
+  pub phase : IsReadTo e b.phase
 
 -- an input that hasn't ended gives bytes; or its end; or a fault, or a byte that reaches the limit
 abbrev pub AddsLimited : Reads → Reads → Result ℕ Fault → ByteString → Type 0

@@ -1,7 +1,6 @@
 -- The view of a reader of lines, its invariant, and what its steps change.
-use Rattle.std.specs.Prelude.{ℕ, ◌≡◌, ◌+◌, ◌-◌, ◌^◌, ◌<◌, ◌≤◌, ◌⊎◌, take, drop, Option, None, Some, Result, Ok, Err, Bool, true, false, [], ◌∷◌, ◌++◌}
+use Rattle.std.specs.Prelude.{◌≡◌, ◌+◌, ◌-◌, ◌^◌, ◌<◌, ◌≤◌, ◌⊎◌, take, drop, Option, None, Some, Result, Ok, Err, Bool, true, false, [], ◌∷◌, ◌++◌}
 use Rattle.sum_sources.specs.Contents.{Reads, Fault, Whole, Broken}
-use Rattle.sum_sources.specs.Phases.{AtEnd, Past}
 use Rattle.sum_sources.specs.refinement.LimitedReads.{FindsEnding}
 use Rattle.digest_kinds.specs.Basics.{ByteString}
 use Rattle.sum_sources.specs.declared.line_reader.LineReader.TheInside.{Inside}
@@ -40,8 +39,8 @@ pub record LineReaderInvariant {I : Type 0} (s : Inside I) : Type 0 where
 -- reaches the limit
 abbrev pub FillsBuffer : Reads → Reads → ByteString → Result Bool Fault → Type 0
 FillsBuffer a b ahead (Ok true) = b ≡ record a { bytes = a.bytes ++ ahead }
-FillsBuffer a b ahead (Ok false) = FindsEnding a b Whole × (b.phase ≡ AtEnd)
-FillsBuffer a b ahead (Err f) = FindsEnding a b (Broken f) × ¬ (b.phase ≡ Past)
+FillsBuffer a b ahead (Ok false) = FindsEnding a b Whole
+FillsBuffer a b ahead (Err f) = FindsEnding a b (Broken f)
 
 -- a piece moves from the front of the buffer to the line's end: up to a newline, which is dropped, or the whole buffer
 abbrev pub TakesPiece : Bool → ByteString → ByteString → ByteString → ByteString → Type 0

@@ -3,8 +3,8 @@ use Rattle.std.specs.Prelude.{ℕ, suc, ◌≡◌, Bool, true, false, Ok, Err, L
 use Rattle.sum_sources.specs.declared.sources.told_source.Answer.{Answer as ToldAnswer}
 use Rattle.sum_sources.specs.declared.sources.told_source.StoredPair.{StoredPair}
 use Rattle.sum_sources.specs.Faults.{ByteString}
-use Rattle.sum_sources.specs.Sources.{Answer, Answers, Opening, Pair, first_answer}
-use Rattle.sum_sources.specs.InMemory.{told_gave}
+use Rattle.sum_sources.specs.Sources.{Answer, Opening, Pair, first_answer}
+use Rattle.sum_sources.specs.InMemory.{Answers, told_gave}
 use Rattle.sum_sources.specs.declared.sources.told_source.Answer.TheVariants as answers
 
 -- the value of an answer

@@ -1,6 +1,7 @@
 -- How far an input in memory was read.
 use Rattle.std.specs.Prelude.{ℕ, ◌≡◌, ◌<◌, ◌≤◌, ◌++◌, take, length, Result, ⊤, MatchResult}
-use Rattle.sum_sources.specs.Contents.{Content, Reads, Whole, Broken, Fault, bytes_of}
+use Rattle.std.specs.Result.{result_unwrap_or}
+use Rattle.sum_sources.specs.Contents.{Content, Reads, Whole, Broken, Fault}
 use Rattle.sum_sources.specs.Faults.{ByteString}
 use Rattle.sum_sources.specs.StandardInput.{told_reads}
 use Rattle.sum_sources.specs.Phases.{Phase, AtEnd, Failed}
@@ -13,7 +14,7 @@ HasEnded phase = ⊥
 
 -- of a content of which m bytes were given, a read gave those up to the first n; or, if none was left, its ending
 pub record GivesFrom (c : Content) (m n size : ℕ) (r : Result ℕ Fault) (buf : ByteString) : Type 0 where
-  pub bytes : take n c.bytes ≡ take m c.bytes ++ bytes_of r buf
+  pub bytes : take n c.bytes ≡ take m c.bytes ++ take (result_unwrap_or r 0) buf
   pub ending : MatchResult r (λ k. k ≡ 0 → 0 < size → (length c.bytes ≤ m) × (c.ending ≡ Whole))
       (λ f. (length c.bytes ≤ m) × (c.ending ≡ Broken f))
 

@@ -21,7 +21,7 @@ impl<R> Model for FromRead<R> {
 
     ghost Value = { OverReader R };
 
-    ghost view = { λ s. record { reader = s.reader; log = s.log.state } };
+    ghost view = { λ s. record { reader = s.reader; log = s.log } };
 }
 
 impl<R: Read> FromRead<R> {
@@ -35,14 +35,14 @@ impl<R: Read> FromRead<R> {
 
     // The file that a source opened.
     pub(crate) fn with_log(reader: R, log: ReadLog) -> Self
-        ensures { result ≡ record { reader = reader; log = log.state } }
+        ensures { result ≡ record { reader = reader; log = log } }
     {
         FromRead { reader, log }
     }
 
     // What its reads gave.
     pub(crate) fn log(&self) -> &ReadLog
-        ensures { result.now.state ≡ self.now.log }
+        ensures { result.now ≡ self.now.log }
     {
         &self.log
     }
@@ -77,8 +77,8 @@ impl<R: Read> FromRead<R> {
         ensures fault { result ≡ Err fault }
         ensures log { self.new ≡ record self.old { log = logged self.old.log buf.now result } }
     {
-        let read = Err(fault);
-        self.log = self.log.and(buf, &read);
-        read
+        let result = Err(fault);
+        self.log = self.log.and(buf, &result);
+        result
     }
 }

@@ -30,12 +30,12 @@ impl<'a> Model for Told<'a> {
       given = s.given;
       piece = s.piece;
       phase = s.phase;
-      opening = s.log.state.opening;
-      name = s.log.state.name;
+      opening = s.log.opening;
+      name = s.log.name;
     } };
 
     ghost invariant = { λ s. ToldInvariant (record { bytes = s.bytes.now; ending = s.ending }) s.given s.piece s.phase
-        s.log.state.reads };
+        s.log.reads };
 }
 
 impl<'a> Told<'a> {
@@ -57,14 +57,14 @@ impl<'a> Told<'a> {
 
     // The same, for a source that opened it.
     pub(crate) fn opened(content: &'a [u8], ending: Ending, piece: usize, log: ReadLog) -> Told<'a>
-        requires { log.state.reads ≡ unread }
+        requires { log.reads ≡ unread }
         ensures { result ≡ record {
           content = record { bytes = content.entry.now; ending = ending };
           given = 0;
           piece = max piece 1;
           phase = Phase.Unfinished;
-          opening = log.state.opening;
-          name = log.state.name;
+          opening = log.opening;
+          name = log.name;
         } }
     {
         Told {
@@ -79,8 +79,8 @@ impl<'a> Told<'a> {
 
     // What its reads gave.
     pub(crate) fn log(&self) -> &ReadLog
-        ensures opening { result.now.state.opening ≡ self.now.opening }
-        ensures reads { result.now.state.reads ≡ (told_file self.now).reads }
+        ensures opening { result.now.opening ≡ self.now.opening }
+        ensures reads { result.now.reads ≡ (told_file self.now).reads }
     {
         &self.log
     }

@@ -22,7 +22,7 @@ impl<R> Model for Files<R> {
 
     ghost Value = { SourceNotes };
 
-    ghost view = { λ s. s.log.state };
+    ghost view = { λ s. s.log };
 }
 
 impl<R: rt::Files + Drop> Files<R> {

@@ -5,8 +5,7 @@ ghost use Rattle.sum_sources.specs.Sources.{SourceState, HasAnswers, IsOpen, ope
 use crate::{Fault, Input};
 use thiserror::Error;
 
-/// Why a file could not be opened: by this `Fault`, or for want of `Memory`. After `Memory` nothing is known of the
-/// file.
+/// Why a file could not be opened: by this `Fault`, or for want of `Memory`, which says nothing of the file.
 #[derive(Clone, Copy, Debug, PartialEq, Eq, Error)]
 pub enum OpenFault {
     #[error(transparent)]

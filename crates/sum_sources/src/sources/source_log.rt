@@ -1,24 +1,23 @@
 //! What a source of files was asked, and what it answered, for proofs alone.
 ghost use Rattle.std.specs.Prelude.{◌≡◌};
-ghost use Rattle.std.specs.Borrow.{ftrue};
-ghost use Rattle.sum_sources.specs.Logs.{SourceNotes, no_openings, next_file};
+ghost use Rattle.sum_sources.specs.Logs.{SourceNotes, no_openings, next_file, input_log, source_log};
 
 use crate::Fault;
 use crate::inputs::read_log::ReadLog;
+use crate::log::{Log, Says};
 use std::marker::Model;
 
 /// The openings of a source. Only proofs see it: it takes no room, and its methods do nothing.
 #[derive(Debug, Drop)]
 pub struct SourceLog {
-    pub ghost state: { SourceNotes },
+    log: Log,
 }
 
 impl Model for SourceLog {
-    ghost also_owns = { λ _. ftrue };
-}
+    ghost Value = { SourceNotes };
 
-// It owns nothing.
-unsafe impl Sync for SourceLog {}
+    ghost view = { λ s. s.log.state.source };
+}
 
 /// What happens to a source.
 #[derive(Clone, Copy)]
@@ -33,27 +32,51 @@ pub enum Note<'a> {
     Refused,
 }
 
+struct NoOpenings;
+
+impl Says<()> for NoOpenings {
+    ghost says = { λ _. source_log no_openings };
+}
+
+struct AndNote;
+
+impl<'a> Says<(&'a SourceLog, &'a Note<'a>)> for AndNote {
+    ghost use Rattle.sum_sources.specs.LogNotes.{noted};
+
+    ghost says = { λ x. source_log (noted x.0.now x.1.now) };
+}
+
+struct NextFile;
+
+impl<'a> Says<(&'a SourceLog, &'a [u8])> for NextFile {
+    ghost says = { λ x. input_log (next_file x.0.now x.1.now) };
+}
+
 impl SourceLog {
     ghost use Rattle.sum_sources.specs.LogNotes.{noted};
 
     /// No openings.
     pub fn new() -> SourceLog
-        ensures { result.state ≡ no_openings }
+        ensures { result ≡ no_openings }
     {
-        SourceLog {}
+        SourceLog {
+            log: Log::of::<(), NoOpenings>(&()),
+        }
     }
 
     /// These openings, and then what is noted.
     pub fn and(&self, note: &Note<'_>) -> SourceLog
-        ensures { result.state ≡ noted self.now.state note.now }
+        ensures { result ≡ noted self.now note.now }
     {
-        SourceLog {}
+        SourceLog {
+            log: Log::of::<_, AndNote>(&(self, note)),
+        }
     }
 
     /// No reads yet of the file that is opened next, by this name.
     pub fn file(&self, name: &[u8]) -> ReadLog
-        ensures { result.state ≡ next_file self.now.state name.now }
+        ensures { result ≡ next_file self.now name.now }
     {
-        ReadLog {}
+        ReadLog::of_log(Log::of::<_, NextFile>(&(self, name)))
     }
 }

@@ -47,12 +47,12 @@ impl<'a, A: Allocator + Copy> Model for ToldSource<'a, A> {
     ghost view = { λ s. record {
       pairs = map pair_of s.pairs.items;
       piece = s.piece;
-      openings = s.log.state.openings;
-      refusals = s.log.state.refusals;
+      openings = s.log.openings;
+      refusals = s.log.refusals;
     } };
 
     ghost invariant = { λ s. ToldSourceInvariant (map pair_of s.pairs.items) (map (λ v. v.items) s.asked.items)
-        s.log.state.openings };
+        s.log.openings };
 }
 
 // The answer of the first pair with the name that was added when so many names had been asked.

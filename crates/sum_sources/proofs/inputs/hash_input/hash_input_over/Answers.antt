@@ -1,4 +1,4 @@
-use Rattle.std.proofs.Common.{rules, arith, refl, ap, ◌≡◌, List, ℕ, length, Ok, Err, ◌∙◌}
+use Rattle.std.proofs.Common.{rules, arith, refl, ap, ◌≡◌, List, ℕ, length, Ok, ◌∙◌}
 use Rattle.std.proofs.lemmas.Result.{err_from_is_err_and}
 use Rattle.digest_kinds.specs.Kinds.{KindValue, digest}
 use Rattle.sum_sources.specs.Contents.{Content, Reads, IsOf, Hashes, clip, Fault, Whole, Broken}

@@ -1,10 +1,12 @@
-use Rattle.std.proofs.Common.{rules, arith, refl, ap, sym, append-nil, inr, ◌∙◌}
+use Rattle.std.proofs.Common.{rules, arith, refl, ap, sym, append-nil, inr, ◌∙◌, [], Ok, Err}
 use Rattle.std.proofs.lemmas.Grind.{common_steps}
 use Rattle.std.proofs.lemmas.List.{nil_from_length}
-use Rattle.sum_sources.specs.ManifestLines.{HasNoNewline}
-use Rattle.sum_sources.specs.Contents.{Whole, Broken, Reads}
+use Rattle.sum_sources.specs.ManifestLines.{HasNoNewline, Line, NoMore}
+use Rattle.sum_sources.specs.Contents.{Whole, Broken}
 use Rattle.sum_sources.specs.LineReaders.{IsReading, LineReaderValue}
-use Rattle.sum_sources.proofs.ReadOnLemmas.{not_ahead, HasRead, HasRead-given, HasRead-more, HasRead-filled, ends_line, ends_memory, has_ended, ends_empty, ends_last, ends_fault}
+use Rattle.sum_sources.proofs.ReadOnLemmas.{not_ahead, HasRead, HasRead-given, HasRead-more, HasRead-filled, ends_line, ends_memory, ends}
+use Rattle.sum_sources.proofs.LineLemmas.{IsNextLine-none, IsNextLine-last, IsNextLine-fault}
+use Rattle.sum_sources.specs.declared.line_reader.LineStop.TheVariants as stops
 use Rattle.sum_sources.proofs.line_reader.LineReader.read_on.Goals.{In-Ok-false}
 use Rattle.sum_sources.proofs.line_reader.LineReader.read_on.Given as given
 use Rattle.sum_sources.proofs.line_reader.LineReader.read_on.Goals as goal
@@ -66,9 +68,8 @@ returns-then-is_empty-clause-line g c =
     λ reading.
     let h = read reading in
     let (going, size) = HasRead-given h in
-    let (ends, phase) = fills going size in
-    ends_empty (has_ended c.fill.new.self _ Whole h piece.1 ends phase (search rules) (search rules) (λ w. search rules)
-    (rw (← c.self-in-loop-self.view_is) refl)) (nil_from_length _ (search rules)) _
+    ends c.fill.new.self Whole (Ok NoMore) h piece.1 (fills going size) (search rules) (search rules)
+    (rw (← c.self-in-loop-self.view_is) refl) (IsNextLine-none _ [] (nil_from_length _ (search rules))) (search rules)
 
 -- the input has ended after a last line
 pub returns-in-Ok-false-fill-clause-line : goal.returns-in-Ok-false-fill-clause-line
@@ -79,9 +80,8 @@ returns-in-Ok-false-fill-clause-line g c =
     λ reading.
     let h = read reading in
     let (going, size) = HasRead-given h in
-    let (ends, phase) = fills going size in
-    ends_last (has_ended c.fill.new.self _ Whole h piece.1 ends phase (search rules) (search rules) (λ w. search rules)
-    (rw (← c.self-in-loop-self.view_is) refl)) plain (search rules)
+    ends c.fill.new.self Whole (Ok Line) h piece.1 (fills going size) (search rules) (search rules)
+    (rw (← c.self-in-loop-self.view_is) refl) (IsNextLine-last _ plain (search rules)) (search rules)
 
 -- the input has a fault
 pub returns-in-Err-fill-clause-line : goal.returns-in-Err-fill-clause-line
@@ -92,6 +92,5 @@ returns-in-Err-fill-clause-line g c =
     λ reading.
     let h = read reading in
     let (going, size) = HasRead-given h in
-    let (ends, phase) = e.reads going size in
-    ends_fault (has_ended c.fill.new.self c.fill.new.self (Broken _) h piece.1 ends phase (e.fault refl).0
-    (e.fault refl).1 (λ w. cc) (ap (λ a. record c.fill.new.self { final_answer = a }) e.final_answer)) plain _
+    ends c.fill.new.self (Broken _) (Err (stops.Fault _)) h piece.1 (e.reads going size) (e.fault refl).0 (e.fault refl).1
+    (ap (λ a. record c.fill.new.self { final_answer = a }) e.final_answer) (IsNextLine-fault _ _ plain) tt

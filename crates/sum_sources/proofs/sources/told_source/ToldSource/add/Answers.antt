@@ -1,6 +1,5 @@
 use Rattle.std.proofs.Common.{rules, arith}
 use Rattle.std.proofs.lemmas.List.{map-append}
-use Rattle.std.proofs.lemmas.Grind.{common_steps}
 use Rattle.sum_sources.proofs.ToldSourceLemmas.{told_add, count_asked}
 use Rattle.sum_sources.proofs.sources.told_source.ToldSource.add.Goals as goal
 use Rattle.sum_sources.proofs.sources.told_source.ToldSource.add.Goals.{in-Ok-push, in-Err}

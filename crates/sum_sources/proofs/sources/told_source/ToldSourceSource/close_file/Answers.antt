@@ -1,6 +1,6 @@
 use Rattle.std.proofs.Common.{ap, map, List}
 use Rattle.sum_sources.specs.InMemory.{ToldFiles, told_source}
-use Rattle.sum_sources.specs.Sources.{Opening, SourceState}
+use Rattle.sum_sources.specs.Sources.{Opening}
 use Rattle.sum_sources.specs.refinement.ToldPairs.{pair_of}
 use Rattle.sum_sources.specs.declared.sources.told_source.ToldSource.TheInside.{Inside}
 use Rattle.sum_sources.proofs.ToldSourceLemmas.{closed_one, closed_state}
@@ -10,8 +10,8 @@ abbrev value : {A : Type 0} → Inside A → ToldFiles
 value s = record {
   pairs = map pair_of s.pairs.items;
   piece = s.piece;
-  openings = s.log.state.openings;
-  refusals = s.log.state.refusals;
+  openings = s.log.openings;
+  refusals = s.log.refusals;
 }
 
 -- what was read of the file is of its content

@@ -10,11 +10,11 @@ use Rattle.sum_sources.proofs.sources.told_source.ToldSourceSource.open_file.Goa
 
 -- the answer to the opening that has so many before it: a fault, or a content
 fault : (g : given.Over) (c : In-Fault g) → first_answer (map pair_of c.self.inside.pairs.items)
-    (length c.self.inside.log.state.openings) c.args.name.now ≡ Err c.in-Fault.fault
+    (length c.self.inside.log.openings) c.args.name.now ≡ Err c.in-Fault.fault
 fault g c = rw (← count_asked _ _ _ c.self.invariant.asked) (search rules)
 
 content : (g : given.Over) (c : In-Content g) → first_answer (map pair_of c.self.inside.pairs.items)
-    (length c.self.inside.log.state.openings) c.args.name.now
+    (length c.self.inside.log.openings) c.args.name.now
     ≡ Ok (record { bytes = c.in-Content.content.now; ending = c.in-Content.ending })
 content g c = rw (← count_asked _ _ _ c.self.invariant.asked) (search rules)
 
@@ -35,7 +35,7 @@ abbrev with : {A : Type 0} → Inside A → List Opening → SourceState
 with s os = record {
   told = Some (map pair_of s.pairs.items);
   openings = os;
-  refusals = s.log.state.refusals;
+  refusals = s.log.refusals;
 }
 
 pub returns-in-Fault-clause-state : goal.returns-in-Fault-clause-state
