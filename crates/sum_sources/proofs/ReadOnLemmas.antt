@@ -6,13 +6,13 @@ use Rattle.std.proofs.lemmas.List.{drop_all}
 use Rattle.std.proofs.lemmas.List.Elements.{All-append}
 use Rattle.std.specs.Str.Lines.{strip_carriage_return}
 use Rattle.sum_sources.specs.ManifestLines.{Next, Line, NoMore, LineStop, HasNoNewline, IsNextLine}
-use Rattle.sum_sources.specs.Contents.{Ending, Whole, Broken, Content, Reads, InputState, IsOf, Other, clip, limit, with_prefix}
+use Rattle.sum_sources.specs.Contents.{Ending, Whole, Broken, Content, Reads, InputState, IsOf, Other, clip, limit}
 use Rattle.sum_sources.specs.LineReaders.{LineReaderValue, consumed_count, past, remaining, IsUnderWay, IsReading, ReadsOn}
 use Rattle.sum_sources.specs.Phases.{Phase, Unfinished, AtEnd, Past}
 use Rattle.sum_sources.specs.refinement.LimitedReads.{FindsEnding, IsReadTo}
 use Rattle.sum_sources.specs.refinement.LineStates.{TakesPiece}
 use Rattle.sum_sources.specs.declared.line_reader.LineStop.TheVariants as stops
-use Rattle.sum_sources.proofs.ContentLemmas.{limit-value}
+use Rattle.sum_sources.proofs.ContentLemmas.{with_prefix, limit-value}
 use Rattle.sum_sources.proofs.LimitLemmas.{before_more}
 use Rattle.sum_sources.proofs.LineLemmas.{IsNextLine-ended, lines-nil}
 
@@ -50,8 +50,9 @@ clip-front : {I : Type 0} (state : I → InputState) (s : LineReaderValue I) (h 
     → (c : Content) → IsOf (state s.input).reads c → (d : Content) × (clip c ≡ with_prefix (h.0 ++ s.ahead) d)
 clip-front state s (front, size, is) few c of =
     let (rest, begins) = rw is at of in
-    let (d, clipped) = clip-prefix (front ++ s.ahead) rest (omega (arith, size, length-append front s.ahead)) in
-    (d, ap clip begins ∙ clipped)
+    let later : Content = record { bytes = rest; ending = c.ending } in
+    let (d, clipped) = clip-prefix (front ++ s.ahead) later (omega (arith, size, length-append front s.ahead)) in
+    (d, ap (λ bs. clip (record { bytes = bs; ending = c.ending })) begins ∙ clipped)
 
 -- past the bytes that were consumed
 remaining-at : {I : Type 0} (r : LineReaderValue I) (c d : Content) (front ahead : List ℕ)
