@@ -1,5 +1,5 @@
--- When a content is its own clip.
-use Rattle.std.proofs.Common.{◌≡◌, ◌^◌, ◌<◌, length, refl, arith}
+-- When a content is its own clip; and a content with more bytes in front.
+use Rattle.std.proofs.Common.{List, ℕ, ◌++◌, ◌≡◌, ◌^◌, ◌<◌, length, refl, arith}
 use Rattle.sum_sources.specs.Contents.{Content, clip, limit}
 
 -- the limit as a number
@@ -10,3 +10,7 @@ limit-value = refl
 -- a short content is its own clip
 pub clip-short : (c : Content) → length c.bytes < 2 ^ 61 → clip c ≡ c
 clip-short c short = grind (arith, limit-value)
+
+-- a content with these bytes in front
+abbrev pub with_prefix : List ℕ → Content → Content
+with_prefix prefix c = record { bytes = prefix ++ c.bytes; ending = c.ending }

@@ -1,8 +1,8 @@
 -- `read_limited`: what an input's end, its fault and the limit say of its contents.
-use Rattle.std.proofs.Common.{◌≡◌, ℕ, zero, suc, ◌+◌, ◌-◌, ◌^◌, ◌<◌, ◌≤◌, [], ◌++◌, List, max, length, take, Ok, Err, refl, arith, length-append, ap, append-nil, append_assoc, ◌∙◌}
+use Rattle.std.proofs.Common.{◌≡◌, ℕ, zero, suc, ◌+◌, ◌-◌, ◌^◌, ◌<◌, ◌≤◌, [], ◌++◌, List, max, length, take, Ok, Err, refl, arith, length-append, ap, append-nil, append_assoc, sym, ◌∙◌}
 use Rattle.std.proofs.Math.Seq.{take-append-add}
 use Rattle.std.proofs.lemmas.List.{length-take-le, take-append-le}
-use Rattle.sum_sources.specs.Contents.{Content, Reads, IsOf, clip, limit, Ending, Whole, Other, Fault, Broken, with_prefix, and_read}
+use Rattle.sum_sources.specs.Contents.{Content, Reads, IsOf, clip, limit, Ending, Whole, Other, Fault, Broken, and_read}
 use Rattle.sum_sources.specs.StandardInput.{phase_by}
 use Rattle.sum_sources.specs.refinement.LimitedReads.{FindsEnding, IsReadTo, ReadsLimited}
 use Rattle.sum_sources.specs.Phases.{Unfinished}
@@ -13,7 +13,7 @@ pub before_more : (a b : Reads) (more : List ℕ) → a.phase ≡ Unfinished →
     → (c : Content) → IsOf b c → IsOf a c
 before_more a b more going is c of =
     let (rest, begins) = rw (is, going) at of in
-    rw going (with_prefix more rest, begins ∙ rw append_assoc refl)
+    rw going (more ++ rest, begins ∙ append_assoc a.bytes more rest)
 
 module _ {a b : Reads} where
   -- its ending was read
@@ -23,7 +23,7 @@ module _ {a b : Reads} where
       let all : (c : Content) → IsOf b c → c ≡ record { bytes = a.bytes; ending = e } = λ c of. by e (rw is at of) in
       record {
         content = λ c of. rw (all c of) (clip-short _ few);
-        before = λ c of. rw (all c of, going) (record { bytes = []; ending = e }, rw append-nil refl);
+        before = λ c of. rw (all c of, going) ([], sym (append-nil a.bytes));
         phase = rw is (read_to e);
       }
     where
@@ -42,20 +42,20 @@ module _ {a b : Reads} where
   finds_limit more going last one is = record {
     content = λ c of.
         let (rest, begins) = rw (is, going) at of in
-        rw begins (cut rest);
+        cut c rest begins;
     before = before_more a b more going is;
     phase = rw (is, going) (λ past. cc);
   }
     where
-      cut : (rest : Content)
-          → clip (with_prefix (a.bytes ++ more) rest) ≡ record { bytes = a.bytes; ending = Broken Other }
-      cut rest =
-          let size = length-append (a.bytes ++ more) rest.bytes in
+      cut : (c : Content) (rest : List ℕ) → c.bytes ≡ (a.bytes ++ more) ++ rest
+          → clip c ≡ record { bytes = a.bytes; ending = Broken Other }
+      cut c rest begins =
+          let size = length-append (a.bytes ++ more) rest in
           let size2 = length-append a.bytes more in
-          let front : take (limit - 1) ((a.bytes ++ more) ++ rest.bytes) ≡ a.bytes =
+          let front : take (limit - 1) c.bytes ≡ a.bytes =
           let all : limit - 1 ≡ length a.bytes + 0 = rw limit-value (omega arith) in
-          rw (append_assoc, all, take-append-add) (append-nil a.bytes) in
-          grind (arith, limit-value, size, size2, front)
+          rw (begins, append_assoc, all, take-append-add) (append-nil a.bytes) in
+          grind (arith, limit-value, size, size2, front, begins)
 
   -- a read failed
   pub read_fails : (t size : ℕ) (f : Fault) (given buf : List ℕ) → 0 < size → t < 2 ^ 61

@@ -16,7 +16,7 @@ pub at_ending : (c : Content) → IsOf (record { bytes = c.bytes; phase = phase_
 at_ending c = Prim.search rules
 
 pub told_is_of : (c : Content) (n : ℕ) (phase : Phase) → IsOf (told_reads c n phase) c
-told_is_of c n Unfinished = (record { bytes = drop n c.bytes; ending = c.ending }, Prim.search (rules, take-append-drop))
+told_is_of c n Unfinished = (drop n c.bytes, Prim.search (rules, take-append-drop))
 told_is_of c n AtEnd = at_ending c
 told_is_of c n (Failed f) = at_ending c
 told_is_of c n Past = tt
@@ -36,7 +36,7 @@ closable_has_content state has (Closed p) =
 
 -- of what standard input gives
 pub empty_is_of : (phase : Phase) → IsOf (empty_reads phase) empty_content
-empty_is_of Unfinished = (empty_content, refl)
+empty_is_of Unfinished = ([], refl)
 empty_is_of AtEnd = refl
 empty_is_of (Failed f) = refl
 empty_is_of Past = tt
@@ -50,7 +50,7 @@ given_has_content state has (Empty phase) = (empty_content, refl, empty_is_of ph
 
 -- a content that these reads are of
 pub some_content : (bytes : ByteString) (phase : Phase) → (c : Content) × IsReadTo phase bytes c
-some_content bytes Unfinished = (record { bytes = bytes; ending = Whole }, (empty_content, Prim.search rules))
+some_content bytes Unfinished = (record { bytes = bytes; ending = Whole }, ([], Prim.search rules))
 some_content bytes AtEnd = (_, refl)
 some_content bytes (Failed f) = (_, refl)
 some_content bytes Past = (empty_content, tt)

@@ -1,5 +1,5 @@
 -- Standard input: before it is taken, when it was taken, and after it was put back.
-use Rattle.std.specs.Prelude.{ℕ, ◌≡◌, pos, [], take, Option, None, Some, Bool, true, false, ⊤}
+use Rattle.std.specs.Prelude.{ℕ, ◌≡◌, pos, [], take, Some, ⊤}
 use Rattle.sum_sources.specs.Contents.{Content, Whole, Broken, InputState, Reads, unread, empty_content}
 use Rattle.sum_sources.specs.Faults.{Os, ByteString}
 use Rattle.sum_sources.specs.Phases.{Phase, Unfinished, AtEnd, Failed, Past}
