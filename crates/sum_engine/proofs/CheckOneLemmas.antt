@@ -1,8 +1,7 @@
 -- `check_one`: a manifest is opened, its checker runs to its end, and it is closed.
-use Rattle.std.proofs.Common.{rules, ◌≡◌, ℕ, Bool, true, false, List, [], ◌∷◌, Result, Ok, Err, Some, None, cond, refl, ap, codes, ◌++◌, ◌∙◌, inl, sym, map, Option, append_assoc, append-nil}
+use Rattle.std.proofs.Common.{rules, ◌≡◌, ℕ, Bool, true, false, List, [], ◌∷◌, Result, Ok, Err, Some, None, cond, refl, ap, codes, ◌++◌, ◌∙◌, sym, map, Option, append_assoc, append-nil}
 use Rattle.std.specs.Prelude.{length}
 use Rattle.std.proofs.lemmas.List.{map-append}
-use Rattle.std.proofs.Math.Bool.{or-false}
 use Rattle.sum_sources.specs.Contents.{Reads, IsOf, IsSameInput, HasContent}
 use Rattle.std.proofs.lemmas.List.Elements.{All-cons}
 use Rattle.sum_sources.specs.Sources.{Opening, IsOfAnswer, opened_file, and_opening, after_closing}

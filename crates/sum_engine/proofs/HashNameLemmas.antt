@@ -8,7 +8,7 @@ use Rattle.digest_kinds.specs.Kinds.{KindValue}
 use Rattle.sum_sources.specs.Contents.{Reads, unread, IsOf, IsSameInput, HasContent}
 use Rattle.sum_sources.specs.Sources.{IsOfAnswer, opened_file, and_opening, after_closing}
 use Rattle.sum_sources.proofs.ToldSourceLemmas.{closed_at-seam}
-use Rattle.sum_engine.specs.Behavior.{World, Answer, Content, SourceState, Fault, InputState, empty_content, is_dash, answer_to}
+use Rattle.sum_engine.specs.Behavior.{World, Answer, Content, Fault, InputState, empty_content, is_dash, answer_to}
 use Rattle.sum_engine.specs.Execution.{StdinState, InputsState, Agrees, world_at, asked, AsksNames, IsAtEndIf, ReadsFile, ReadsStdin, ReadsToEndIf}
 use Rattle.sum_engine.specs.refinement.Names.{HashOutcome, IsHashOutcome, IsRead, GivesBy, GivesStdin, stdin_by, stdin_after, MemoryWasRefused}
 use Rattle.sum_engine.specs.declared.hash_name.HashOutcome.TheVariants as outcomes
@@ -117,8 +117,13 @@ module _ {a m : InputsState} {s t : InputState} (gives : GivesStdin s a m) (same
       by true (told, away, is) None none =
           let none_before = sym (ap (λ (m : InputsState). m.stdin.reads) is) ∙ none in
           let told = ap (λ (s : InputState). s.told) same ∙ sym (away none_before) in
-          inr (t.reads, none_before, back ∙ ap (λ r. stdin_by r m.stdin t) none
-              ∙ ap (λ told. record { told = told; taken = true; reads = Some t.reads }) told, read)
+          inr (
+            t.reads,
+            none_before,
+            back ∙ ap (λ r. stdin_by r m.stdin t) none
+                ∙ ap (λ told. record { told = told; taken = true; reads = Some t.reads }) told,
+            read,
+          )
       by true (told, away, is) (Some r) some =
           inl (back ∙ ap (λ r. stdin_by r m.stdin t) some ∙ ap (λ (m : InputsState). m.stdin) is)
 

@@ -1,12 +1,12 @@
 -- The law that some world agrees with what was read: by the laws of inputs and of sources.
-use Rattle.std.proofs.Common.{◌≡◌, IfSome, None, Some, refl}
+use Rattle.std.proofs.Common.{◌≡◌, IfSome, refl}
 use Rattle.sum_sources.specs.Contents.{HasContent, IsOf}
-use Rattle.sum_sources.specs.Sources.{HasAnswers, SourceState, first_answer}
+use Rattle.sum_sources.specs.Sources.{HasAnswers, SourceState}
 use Rattle.sum_sources.specs.declared.inputs.stdin.StdinPlace.{StdinPlace}
 use Rattle.sum_sources.specs.declared.inputs.stdin.StdinPlace.TheVariants.{Untaken, Taken, Returned}
 use Rattle.sum_sources.specs.InputLaws.{given_has_content}
 use Rattle.sum_engine.specs.Behavior.{Content, InputState, empty_content}
-use Rattle.sum_engine.specs.Execution.{StdinState, stdin_of}
+use Rattle.sum_engine.specs.Execution.{stdin_of}
 use Rattle.sum_engine.specs.WorldLaws.{SomeWorldAgrees}
 
 -- standard input has a content

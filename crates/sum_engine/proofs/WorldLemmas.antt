@@ -1,5 +1,5 @@
 -- Names asked one after another, and the worlds that agree with one call after another.
-use Rattle.std.proofs.Common.{rules, arith, ◌≡◌, ◌∙◌, ◌||◌, ◌+◌, ap, sym, refl, subst, ℕ, suc, Bool, true, false, List, [], ◌∷◌, ◌++◌, Option, None, Some, Result, Ok, Err, IfSome, IfOk, All, append_assoc, append-nil, inl, inr, length-append, if◌then◌else◌}
+use Rattle.std.proofs.Common.{rules, arith, ◌≡◌, ◌∙◌, ◌+◌, ap, sym, refl, subst, ℕ, suc, false, List, [], ◌∷◌, ◌++◌, Option, None, Some, Result, Ok, Err, IfSome, IfOk, append_assoc, append-nil, inl, inr, length-append, if◌then◌else◌}
 use Rattle.std.specs.Prelude.{◌⊎◌, length, filter, not}
 use Rattle.std.specs.List.{list_any}
 use Rattle.std.proofs.Math.Bool.{or_assoc, or-false}

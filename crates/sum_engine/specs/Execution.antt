@@ -10,7 +10,7 @@ use Rattle.sum_lines.specs.sinks.Sinks.{SinkState, IsPrefix}
 pub use Rattle.sum_engine.specs.declared.streams.Streams.{Streams}
 pub use Rattle.sum_engine.specs.declared.stop.Stop.{Stop}
 pub use Rattle.sum_engine.specs.declared.stop.Stop.TheVariants.{Memory, Write}
-use Rattle.sum_engine.specs.Behavior.{ByteString, World, Answer, is_dash, Event, Step, Behavior, trace, opened_name, err_byte, out_byte, Content, Reads, IsOf, empty_content, InputState, SourceState, Fault}
+use Rattle.sum_engine.specs.Behavior.{ByteString, World, is_dash, Event, Step, Behavior, trace, opened_name, err_byte, out_byte, Content, Reads, IsOf, empty_content, InputState, SourceState, Fault}
 
 -- standard input: its content, if that is in memory; whether it was taken; what was read of it, once it was put back
 pub record StdinState : Type 0 where

@@ -1,4 +1,4 @@
-use Rattle.std.proofs.Common.{◌≡◌, Ok, Err, ap, ◌∙◌, rules, arith, refl, true}
+use Rattle.std.proofs.Common.{◌≡◌, Ok, Err, ap, ◌∙◌, rules, arith, true}
 use Rattle.sum_engine.proofs.CheckLinesLemmas.{HasComeTo-none, HasComeTo-more, HasComeTo-last, manifest_read, good_end, none_unread, step-goes}
 use Rattle.sum_engine.proofs.WorldLemmas.{reads_none, reads_then}
 use Rattle.sum_engine.proofs.check.check_one.check_lines.Goals as goal
