@@ -3,7 +3,7 @@
 # Whether a word asks for --check: itself or its beginning, or as a letter among others.
 _digests_is_check() {
     case $1 in
-        --c|--ch|--che|--chec|--check) return 0 ;;
+        @CHECK@) return 0 ;;
         --*) return 1 ;;
         -*) case ${1%%l*} in *c*) return 0 ;; esac ;;
     esac
@@ -13,7 +13,7 @@ _digests_is_check() {
 # Whether the next word is the number of bits that this one asks for.
 _digests_wants_length() {
     case $1 in
-        --l|--le|--len|--leng|--lengt|--length) return 0 ;;
+        @LENGTH@) return 0 ;;
         --*) return 1 ;;
         -*l) case ${1#-} in *l*l) return 1 ;; *) return 0 ;; esac ;;
     esac
@@ -31,7 +31,7 @@ _digests() {
     COMPREPLY=()
     if [[ $tool == digests ]]; then
         if ((COMP_CWORD == 1)); then
-            _digests_among 'md5sum sha1sum sha224sum sha256sum sha384sum sha512sum b2sum anysum' "$word"
+            _digests_among '@TOOLS@' "$word"
             return
         fi
         first=2 tool=${COMP_WORDS[1]}
@@ -52,12 +52,12 @@ _digests() {
         if [[ $word == = ]]; then word=''; fi
         _digests_among "$(seq 8 8 512)" "$word"
     elif [[ $word == -* && -z $ended ]]; then
-        local options='-c --check --help --version'
-        if [[ $tool == b2sum ]]; then options+=' -l --length'; fi
+        local options='@ALWAYS@'
+        if [[ $tool == b2sum ]]; then options+=' @LENGTHS@'; fi
         if [[ -n $checking ]]; then
-            options+=' --ignore-missing --quiet --status --strict -w --warn'
+            options+=' @WITH@'
         elif [[ $tool != anysum ]]; then
-            options+=' -b --binary --tag -t --text -z --zero'
+            options+=' @WITHOUT@'
         fi
         _digests_among "$options" "$word"
     fi
@@ -65,4 +65,4 @@ _digests() {
 
 # Where nothing is left in COMPREPLY, the names of files are.
 complete -o bashdefault -o default -F _digests \
-    digests md5sum sha1sum sha224sum sha256sum sha384sum sha512sum b2sum anysum
+    digests @NAMES@

@@ -1,14 +1,13 @@
-"""The completions in completions/, in real shells: they offer what the program takes at that place."""
+"""The completions, in real shells: they offer what the program takes at that place."""
 
 import os
 import shutil
 
 import harness
-from harness import NAMES, TOP, Case, shortest
+import shells
+from harness import NAMES, Case, shortest
 from options import options_of, takes
 from terminal import Terminal
-
-COMPLETIONS = os.path.join(TOP, "completions")
 
 
 def wanted_options(tool, *before):
@@ -29,6 +28,9 @@ class Shell:
         os.mkdir(self.path("here"))
         for name in ("some", "some more"):
             self.write(f"here/{name}", "")
+        texts = shells.completions(harness.PROGRAM, NAMES)
+        for name, text in zip(("digests.bash", "digests.fish", "_digests"), texts):
+            self.write(name, text)
 
     def test_options(self):
         self.assertLess(wanted_options("anysum"), wanted_options("md5sum"))
@@ -75,7 +77,7 @@ class Shell:
 class Typed(Shell):
     def setUp(self):
         super().setUp()
-        self.terminal = Terminal(self.shell, self.folder, self.load, ["digests", *NAMES])
+        self.terminal = Terminal(self.shell, self.folder, self.load.format(self.folder), ["digests", *NAMES])
         self.addCleanup(self.terminal.close)
 
     def offered(self, line):
@@ -91,11 +93,11 @@ class Typed(Shell):
 class Bash(Typed, Case):
     of_the_repository = True
     shell = "bash"
-    load = f". '{COMPLETIONS}/digests.bash'"
+    load = ". '{}/digests.bash'"
 
     def test_shellcheck(self):
         if shutil.which("shellcheck"):
-            ran = self.run_command(["shellcheck", "-s", "bash", os.path.join(COMPLETIONS, "digests.bash")])
+            ran = self.run_command(["shellcheck", "-s", "bash", self.path("digests.bash")])
             self.assertEqual((ran.status, ran.out), (0, b""))
 
     def test_one_key(self):
@@ -108,7 +110,7 @@ class Bash(Typed, Case):
 class Zsh(Typed, Case):
     of_the_repository = True
     shell = "zsh"
-    load = f"fpath=('{COMPLETIONS}' $fpath)"
+    load = "fpath=('{}' $fpath)"
     test_one_key = Bash.test_one_key
 
 
@@ -119,7 +121,7 @@ class Fish(Shell, Case):
     def offered(self, line):
         command = "source $argv[1]/digests.fish; complete -C $argv[2]"
         env = {**os.environ, "HOME": self.folder, "XDG_CONFIG_HOME": self.folder, "LC_ALL": "C.UTF-8"}
-        words = ["fish", "--no-config", "-c", command, COMPLETIONS, line]
+        words = ["fish", "--no-config", "-c", command, self.folder, line]
         ran = self.run_command(words, cwd=self.path("here"), env=env)
         self.assertEqual((ran.status, ran.err), (0, b""))
         return {text.split("\t")[0] for text in ran.out.decode().splitlines()}
@@ -127,6 +129,6 @@ class Fish(Shell, Case):
     def test_read_for_each_name(self):
         """The file is installed by each tool's name, so a shell may read it several times."""
         line = "source $argv[1]/digests.fish; source $argv[1]/digests.fish; complete -C 'b2sum --l'"
-        ran = self.run_command(["fish", "--no-config", "-c", line, COMPLETIONS], cwd=self.path("here"),
+        ran = self.run_command(["fish", "--no-config", "-c", line, self.folder], cwd=self.path("here"),
                                env={**os.environ, "HOME": self.folder, "LC_ALL": "C.UTF-8"})
         self.assertEqual(ran.out.decode().count("--length"), 1)

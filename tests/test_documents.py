@@ -79,15 +79,23 @@ class Documents(Case):
                     found += 1
         self.assertGreater(found, 50)
 
-    def test_commands_that_find_files(self):
-        """Those of docs/AUDITING.md and docs/CHANGING.md find what they have to."""
-        contracts = ["digests/src/run", "digests/src/command", "digests/src/laws", "sum_lines/src/sinks/sink"]
-        texts = ["sum_sources/specs/Faults", "sum_sources/src/fault"]
-        for page, command, wanted in (("AUDITING", r"    git diff OLD -- 'crates/\*/specs' (.*)", contracts),
-                                      ("CHANGING", r" +grep -rnF 'No such file' (.*)", texts)):
-            words = re.search(rf"(?m)^{command}$", text_of("docs", f"{page}.md"))[1]
-            start = "ls" if page == "AUDITING" else "grep -rlF 'No such file'"
-            ran = self.run_command(["sh", "-c", f"{start} {words}"], cwd=TOP)
-            self.assertEqual((ran.status, ran.err), (0, b""))
-            found = {os.path.splitext(line)[0] for line in ran.out.decode().splitlines()}
-            self.assertEqual({f"crates/{name}" for name in wanted} - found, set())
+    def test_a_second_audit(self):
+        """The command of docs/AUDITING.md shows a definition and a contract that changed since a commit."""
+        command = re.search(r"(?m)^    (git diff OLD .*)$", text_of("docs", "AUDITING.md"))[1]
+        git = ["git", "-c", "user.name=a", "-c", "user.email=a@b", "-c", "init.defaultBranch=a"]
+        self.assertEqual(self.run_command([*git, "clone", "-q", TOP, self.path("clone")]).status, 0)
+        for name in ("digests/specs/Meaning.antt", "digests/src/run.rt", "sum_lines/proofs/Lib.antt"):
+            path = f"clone/crates/{name}"
+            self.write(path, self.read(path) + b"\n" + os.path.basename(name).encode())
+        self.run_command([*git, "commit", "-qam", "a change"], cwd=self.path("clone"))
+        ran = self.run_command(["sh", "-c", command.replace("OLD", "HEAD~1")], cwd=self.path("clone"))
+        self.assertEqual((ran.status, ran.err), (0, b""))
+        self.assertEqual(set(re.findall(rb"(?m)^\+([A-Z]?\w+\.\w+)$", ran.out)), {b"Meaning.antt", b"run.rt"})
+
+    def test_a_text_and_its_places(self):
+        """The command of docs/CHANGING.md finds the files that spell a text."""
+        words = re.search(r"(?m)^ +grep -rnF 'No such file' (.*)$", text_of("docs", "CHANGING.md"))[1]
+        ran = self.run_command(["sh", "-c", f"grep -rlF 'No such file' {words}"], cwd=TOP)
+        self.assertEqual((ran.status, ran.err), (0, b""))
+        found = {os.path.splitext(line)[0] for line in ran.out.decode().splitlines()}
+        self.assertLessEqual({f"crates/sum_sources/{name}" for name in ("specs/Faults", "src/fault")}, found)

@@ -7,6 +7,7 @@ import re
 import shutil
 
 import harness
+import pages
 from harness import NAMES, TOP, Case, Ran
 from options import takes
 from recipes import sections_of
@@ -41,13 +42,15 @@ class Pages(Case):
     def test_as_a_person_sees_them(self):
         if shutil.which("man") is None:
             self.skipTest("man isn't installed")
-        pages = glob.glob(os.path.join(TOP, "man", "**", "*.1"), recursive=True)
-        for page in pages:
+        for name, text in pages.pages(harness.PROGRAM, own=True).items():
+            self.write(f"{name}.1", text)
+        files = glob.glob(os.path.join(TOP, "man", "*.1")) + glob.glob(os.path.join(self.folder, "*.1"))
+        for page in files:
             env = {**os.environ, "MANWIDTH": "80", "LC_ALL": "C.UTF-8", "TERM": "dumb"}
             ran = self.run_command(["man", "--warnings", "-l", page], env=env)
             self.assertEqual((ran.status, ran.err), (0, b""), page)
         if shutil.which("mandoc"):
-            self.assertEqual(self.run_command(["mandoc", "-T", "lint", *pages]), Ran(0, b"", b""))
+            self.assertEqual(self.run_command(["mandoc", "-T", "lint", *files]), Ran(0, b"", b""))
 
 
 class Said(Case):
@@ -91,15 +94,13 @@ class Made(Case):
 
     def test_what_is_not_as_it_is_made(self):
         """It is named, and made anew."""
-        for name in ("tools", "man", "completions"):
+        for name in ("tools", "man"):
             shutil.copytree(os.path.join(TOP, name), self.path(name).decode())
         shutil.copy(os.path.join(TOP, "CHANGELOG.md"), self.folder)
         command, page = [self.path("tools/pages.py"), "--program"], self.read("man/b2sum.1")
         self.write("man/b2sum.1", page + b"more\n")
-        os.remove(self.path("completions/_digests"))
-        self.write("man/own-names/other.1", "")
-        said = b"man/own-names/other.1: not of this script's making\n"
-        said += b"man/b2sum.1: is to be made anew\ncompletions/_digests: is to be made anew\n"
+        self.write("man/other.1", "")
+        said = b"man/other.1: not of this script's making\nman/b2sum.1: is to be made anew\n"
         self.assertEqual(self.run_command([*command, harness.PROGRAM, "--check"]), Ran(1, said, b""))
         self.assertEqual(self.run_command([*command, harness.PROGRAM]).status, 1)
         self.assertEqual(self.read("man/b2sum.1"), page)

@@ -1,26 +1,24 @@
 #!/usr/bin/env python3
-"""Writes the manual pages in man/ and the completions in completions/: `pages.py [--check] [--program FILE]`.
+"""Writes the manual pages in man/: `pages.py [--check] [--program FILE]`.
 
-They are made from the program's own help, from the texts in pages/, and from the shells' parts in shells/. Those in
-man/own-names are for an installation beside GNU's tools. With --check nothing is written, and the status is 1 if a file
-of the tree is another, is missing or is one too many."""
+They are made from the program's own help and the texts in pages/. With --check nothing is written, and the status is 1
+if a page is another, is missing or is one too many. `install` makes the pages for an installation beside GNU's tools,
+and the completions."""
 
 import argparse
 import os
 import re
 import sys
 
-sys.dont_write_bytecode = True
+sys.dont_write_bytecode = True  # nothing is to be left beside these files
 
-import shells  # noqa: E402  (nothing is to be left beside these files)
-from options import ALWAYS, DIGESTS, NEVER, TOOLS, WITH_CHECK, WITHOUT_CHECK, options_of  # noqa: E402
+from options import ALWAYS, DIGESTS, NEVER, TOOLS, WITH_CHECK, WITHOUT_CHECK, options_of  # noqa: E402  (see above)
 from rattle import TOP, text_of  # noqa: E402
 from roff import WIDTH, bullet, escaped, inline, item, page, section, shown  # noqa: E402
 
 PROGRAM = os.path.join(TOP, "digests")  # builds what is stale
 DATE = "2026-11-27"  # of the last change of the texts
 FEWER = ", or fewer with `--length`"
-OWN = "man/own-names"  # the folder of pages for an installation without GNU's names
 
 
 def version():
@@ -44,16 +42,16 @@ def part_of(block):
     return shown(*(line[4:] for line in lines)) if block.startswith("    ") else " ".join(lines)
 
 
-def page_title(name, folder):
+def page_title(name, own):
     """What the page of a tool or of another command is called. Beside GNU's tools, theirs have the tools' names."""
-    return f"digests-{name}" if folder == OWN and name in TOOLS and TOOLS[name].of_gnu else name
+    return f"digests-{name}" if own and name in TOOLS and TOOLS[name].of_gnu else name
 
 
-def page_of(name, folder, source, words, made):
+def page_of(name, own, source, words, made):
     """The page of that name by its text in pages/, with these words in the place of @such@, and with made parts."""
     sections, of_gnu = [], name in TOOLS and TOOLS[name].of_gnu
-    called = {name, "GNU" if of_gnu else "ours", "own" if folder == OWN and name != "anysum" else ""}
-    text = re.sub(r"`(\w+)`\(1\)", lambda it: f"`{page_title(it[1], folder)}`(1)", text_of("tools", "pages", source))
+    called = {name, "GNU" if of_gnu else "ours", "own" if own and name != "anysum" else ""}
+    text = re.sub(r"`(\w+)`\(1\)", lambda it: f"`{page_title(it[1], own)}`(1)", text_of("tools", "pages", source))
     for block in text.rstrip("\n").split("\n\n")[1:]:
         condition = re.match(r"\[(!?)([\w ]+)\]\n", block)
         if condition and called.isdisjoint(condition[2].split()) != bool(condition[1]):
@@ -63,7 +61,7 @@ def page_of(name, folder, source, words, made):
             sections.append([block[2:]])
         else:
             sections[-1] += made[block[1:-1]] if re.fullmatch("@[A-Z ]+@", block) else [part_of(block)]
-    return page(page_title(name, folder), DATE, f"digests {version()}", *(section(*parts) for parts in sections))
+    return page(page_title(name, own), DATE, f"digests {version()}", *(section(*parts) for parts in sections))
 
 
 def taken(known, *where):
@@ -97,13 +95,13 @@ def option_item(option, said):
     return item(short + long, f"{says} {said.get(option.long, '')}".rstrip())
 
 
-def see_also(folder, *names):
-    return [", ".join(f"`{page_title(name, folder)}`(1)" for name in names)]
+def see_also(own, *names):
+    return [", ".join(f"`{page_title(name, own)}`(1)" for name in names)]
 
 
-def page_of_tool(tool, folder, known, said):
+def page_of_tool(tool, own, known, said):
     _, tag, bits, standard = TOOLS[tool]
-    name = page_title(tool, folder)
+    name = page_title(tool, own)
     call = name.replace("-", " ")
     *names, last = (f"`--{option.long}`" for option in taken(known, NEVER) or known)
     words = {"tool": tool, "call": call, "tag": tag, "standard": standard, "bits": str(bits),
@@ -116,68 +114,52 @@ def page_of_tool(tool, folder, known, said):
         group = [option_item(option, said) for option in taken(known, where)]
         items += [title, *group] if group else []
     purpose = f"print or check {tag} checksums" if tag else "check lists of tagged checksums"
-    return page_of(tool, folder, "tool.txt", words, {
+    return page_of(tool, own, "tool.txt", words, {
         "NAME": [[f"{escaped(name)} \\- {purpose}"]], "OPTIONS": items,
-        "SEE ALSO": see_also(folder, *(it for it in TOOLS if it != tool)),
+        "SEE ALSO": see_also(own, *(it for it in TOOLS if it != tool)),
         "SYNOPSIS": [[".nf", *(usage(call, writing) if taken(known, WITHOUT_CHECK) else ()),
                       *usage(call, taken(known, WITH_CHECK), "-c"), ".fi"]]})
 
 
-def page_of_program(folder):
+def page_of_program(own):
     """The page of the program that has all tools in it."""
     tools = [item(f"`{tool}`", f"{it.tag} ({it.standard}), {it.bits} bits{FEWER * (tool == 'b2sum')}" if it.tag else
                   "checks lists of all these", str(max(map(len, TOOLS)) + 3)) for tool, it in TOOLS.items()]
-    uses = ["`digests` {TOOL} [{OPTION}]... [{FILE}]..."] + ["{TOOL} [{OPTION}]... [{FILE}]..."] * (folder != OWN)
-    return page_of("digests", folder, "digests.txt", {}, {
+    uses = ["`digests` {TOOL} [{OPTION}]... [{FILE}]..."] + ["{TOOL} [{OPTION}]... [{FILE}]..."] * (not own)
+    return page_of("digests", own, "digests.txt", {}, {
         "NAME": [["digests \\- print or check checksums"]], "SYNOPSIS": [[".nf", *map(inline, uses), ".fi"]],
         "TOOLS": [tools[0], [".PD 0"], *tools[1:], [".PD"]],
-        "SEE ALSO": see_also(folder, *TOOLS, "comm", "find", "grep", "split", "xargs")})
+        "SEE ALSO": see_also(own, *TOOLS, "comm", "find", "grep", "split", "xargs")})
 
 
-def made(program):
-    """Each file's name in the repository, and its text."""
+def pages(program, own=False):
+    """Each page's name and text, from the program's help; `own` without GNU's names."""
     known = {tool: options_of(program, tool) for tool in TOOLS}
     said = re.sub(r"\n +", " ", text_of("tools", "pages", "options.txt").partition("\n\n")[2])
     said = dict(line.split(": ", 1) for line in said.splitlines())
     unknown = {name.lstrip("!") for name in said} - {option.long for options in known.values() for option in options}
     if unknown:
         sys.exit(f"pages.py: pages/options.txt has a word on no option: {', '.join(sorted(unknown))}")
-    files = {}
-    for folder in ("man", OWN):
-        pages = {"digests": page_of_program(folder), **{it: page_of_tool(it, folder, known[it], said) for it in TOOLS}}
-        files.update({f"{folder}/{page_title(name, folder)}.1": text for name, text in pages.items()})
-    files.update({f"completions/{name}": text for name, text in shells.completions(known).items()})
-    return files
-
-
-def write(path, text, check):
-    """Writes a file, or only looks at it; returns whether it was as it is to be."""
-    try:
-        with open(path, encoding="utf-8") as file:
-            same = file.read() == text
-    except OSError:
-        same = False
-    if not same and not check:
-        with open(path, "w", encoding="utf-8") as file:
-            file.write(text)
-    return same
+    made = {"digests": page_of_program(own), **{it: page_of_tool(it, own, known[it], said) for it in TOOLS}}
+    return {page_title(name, own): text for name, text in made.items()}
 
 
 def main():
-    reader = argparse.ArgumentParser(description="Writes the manual pages and the completions.")
+    reader = argparse.ArgumentParser(description="Writes the manual pages.")
     reader.add_argument("--check", action="store_true", help="write nothing, and say what isn't as it is to be")
     reader.add_argument("--program", default=PROGRAM, help="the built program; without it, this repository's own")
     asked = reader.parse_args()
-    files = made(asked.program)
-    others = [name for name in files if not write(os.path.join(TOP, name), files[name], asked.check)]
-    present = {f"{folder}/{name}" for folder in ("man", OWN, "completions")
-               for name in os.listdir(os.path.join(TOP, folder))}
-    present.discard(OWN)
-    for name in sorted(present - set(files)):
-        print(f"{name}: not of this script's making")
+    files = {f"{name}.1": text for name, text in pages(asked.program).items()}
+    there = {name: text_of("man", name) for name in os.listdir(os.path.join(TOP, "man"))}
+    others = [name for name in files if files[name] != there.get(name)]
+    for name in sorted(set(there) - set(files)):
+        print(f"man/{name}: not of this script's making")
     for name in others:
-        print(f"{name}: {'is to be made anew' if asked.check else 'written'}")
-    return 1 if present - set(files) or asked.check and others else 0
+        print(f"man/{name}: {'is to be made anew' if asked.check else 'written'}")
+        if not asked.check:
+            with open(os.path.join(TOP, "man", name), "w", encoding="utf-8") as file:
+                file.write(files[name])
+    return 1 if set(there) - set(files) or asked.check and others else 0
 
 
 if __name__ == "__main__":

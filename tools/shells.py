@@ -1,7 +1,9 @@
-"""Completions for bash, zsh and fish, of the program and of each tool under its own name. The shells' own text is in
-shells/; what the options and tools are takes the place of @NAME@ there."""
+"""Completions for bash, fish and zsh, of the program and of the tools that are called by their own names. The shells'
+own text is in completions/; what the options and tools are takes the place of @NAME@ there."""
 
-from options import ALWAYS, TOOLS, WITH_CHECK, WITHOUT_CHECK, cuts
+import re
+
+from options import ALWAYS, TOOLS, WITH_CHECK, WITHOUT_CHECK, cuts, options_of
 from rattle import text_of
 
 
@@ -40,23 +42,18 @@ def fish_option(option, tool):
     return f"    complete -c $name -n {condition}{short} -l {option.long}{value} \\\n        -d {quoted(option.help)}"
 
 
-def completions(known):
-    """Each file's name and text."""
-    common = known["md5sum"]
-    lengths = [option for option in known["b2sum"] if option not in common]
+def completions(program, names):
+    """The texts for bash, fish and zsh, if these tools are called by their own names."""
+    common, b2sum = options_of(program, "md5sum"), options_of(program, "b2sum")
+    lengths = [option for option in b2sum if option not in common]
     check = next(option for option in common if option.long == "check")
-    table = {"TOOLS": " ".join(TOOLS), "CHECK": "|".join(cuts(check, known["b2sum"])),
-             "LENGTH": "|".join(word for option in lengths for word in cuts(option, known["b2sum"])),
+    table = {"TOOLS": " ".join(TOOLS), "NAMES": " ".join(names), "CHECK": "|".join(cuts(check, b2sum)),
+             "LENGTH": "|".join(word for option in lengths for word in cuts(option, b2sum)),
              "LENGTHS": words_of(lengths), "ZSH_LENGTHS": zsh_options(lengths),
              "FISH": "\n".join([*(fish_option(one, "any") for one in common),
                                 *(fish_option(one, "b2sum") for one in lengths)])}
     for name, where in (("ALWAYS", ALWAYS), ("WITH", WITH_CHECK), ("WITHOUT", WITHOUT_CHECK)):
         options = [option for option in common if option.where == where]
-        table |= {name: words_of(options), f"ZSH_{name}": zsh_options(options)}
-    files = {}
-    for name in ("digests.bash", "_digests", "digests.fish"):
-        text = text_of("tools", "shells", name)
-        for key, value in table.items():
-            text = text.replace(f"@{key}@", value)
-        files[name] = text
-    return files
+        table.update({name: words_of(options), f"ZSH_{name}": zsh_options(options)})
+    texts = [text_of("completions", name) for name in ("digests.bash", "digests.fish", "_digests")]
+    return [re.sub(r"@(\w+)@", lambda it: table[it[1]], text) for text in texts]

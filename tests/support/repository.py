@@ -27,7 +27,7 @@ class Repository(Case):
         super().setUp()
         self.top = os.path.join(self.folder, "the repository")
         os.mkdir(self.top)
-        for name in ("digests", "install", "test"):
+        for name in ("digests", "install", "test", "CHANGELOG.md"):
             shutil.copy(os.path.join(TOP, name), self.top)
         for name in ("tools", "man", "completions"):
             shutil.copytree(os.path.join(TOP, name), self.in_top(name))

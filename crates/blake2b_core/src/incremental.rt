@@ -1,6 +1,6 @@
 //! The digest of a message that comes in pieces.
 ghost use Rattle.std.specs.Prelude.{◌≡◌, ◌↔◌, ◌⊎◌, ℕ, ◌+◌, ◌-◌, ◌*◌, ◌/◌, ◌^◌, ◌<◌, ◌≤◌, [], ◌++◌, length};
-ghost use Rattle.std.specs.Prelude.{take, IsNone, IfSome};
+ghost use Rattle.std.specs.Prelude.{take, IsNone, IfSome, IsOk, OnOk, OnErr};
 
 use crate::compression::compress;
 use crate::one_shot::{BLOCK, followed_blocks, initial, padded_block, state_after};
@@ -9,6 +9,10 @@ use crate::output::Output;
 /// A message that comes in pieces has fewer bytes than this. FIPS 180-4 defines SHA-1, SHA-224 and SHA-256 for messages
 /// of fewer than 2^64 bits, which is 2^61 bytes. BLAKE2b would allow more, but has the same bound here.
 pub const LIMIT: u64 = 1 << 61;
+
+/// The message would have [`LIMIT`] bytes or more.
+#[derive(Clone, Copy, Debug, PartialEq, Eq)]
+pub struct MessageTooLong;
 
 /// A BLAKE2b digest in the making: the message so far, of which at most one block is buffered.
 #[derive(Debug, Drop)]
@@ -133,6 +137,22 @@ impl Blake2b {
         let rest = &piece[filled..];
         let absorbed = self.absorb(rest);
         self.buffer_bytes(&rest[absorbed..]);
+    }
+
+    /// Appends a piece to the message. `MessageTooLong` if and only if it would have `LIMIT` bytes or more; it is then as
+    /// before.
+    pub fn try_update(&mut self, piece: &[u8]) -> Result<(), MessageTooLong>
+        ensures fits { IsOk result ↔ (taken self.old + length piece.now < 2 ^ 61) }
+        ensures holds { OnOk result ((m : ByteString) → Holds self.old m → Holds self.new (m ++ piece.now)) }
+        ensures taken { OnOk result (taken self.new ≡ taken self.old + length piece.now) }
+        ensures len { digest_len self.new ≡ digest_len self.old }
+        ensures err { OnErr result (self.new ≡ self.old) }
+    {
+        if piece.len() as u64 >= LIMIT.saturating_sub(self.taken) {
+            return Err(MessageTooLong);
+        }
+        self.update(piece);
+        Ok(())
     }
 
     /// The digest of the message (RFC 7693, 3.3).

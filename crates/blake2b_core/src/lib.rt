@@ -21,7 +21,7 @@ mod one_shot;
 mod output;
 
 pub use compression::compress;
-pub use incremental::{Blake2b, LIMIT};
+pub use incremental::{Blake2b, LIMIT, MessageTooLong};
 pub use one_shot::blake2b;
 pub use output::Output;
 

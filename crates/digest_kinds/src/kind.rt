@@ -1,9 +1,12 @@
 //! An algorithm with its digest's length.
 
-ghost use Rattle.std.specs.Prelude.{◌≡◌, ◌↔◌, ◌⊎◌, ◌*◌, ◌<◌, ◌≤◌, IsNone, IfSome};
-ghost use Rattle.digest_kinds.specs.Kinds.{blake2b_kind, full_kind, tag, blake2b_of_bits};
+ghost use Rattle.std.specs.Prelude.{◌≡◌, ◌↔◌, ◌⊎◌, ◌*◌, ◌^◌, ◌<◌, ◌≤◌, length, IsNone, IfSome};
+ghost use Rattle.digest_kinds.specs.Kinds.{blake2b_kind, full_kind, tag, blake2b_of_bits, digest};
 
 use crate::algo::Algo;
+use crate::digest::Digest;
+use crate::hashers::any_hasher::AnyHasher;
+use crate::hashers::hasher::Hasher;
 use std::marker::Model;
 use thiserror::Error;
 
@@ -93,6 +96,16 @@ impl Kind {
         ensures { result ≡ self.algo }
     {
         self.algo
+    }
+
+    /// The digest of a message, which has fewer than [`LIMIT`](crate::LIMIT) bytes.
+    pub fn digest(self, message: &[u8]) -> Digest
+        requires { length message.now < 2 ^ 61 }
+        ensures { result ≡ digest self message.now }
+    {
+        let mut hasher = AnyHasher::new(self);
+        hasher.update(message);
+        hasher.finish()
     }
 
     /// The algorithm's tag, by which a tagged line names it.

@@ -28,7 +28,7 @@ mod tests;
 pub use algo::{Algo, Algos, UnknownTag};
 pub use digest::{Digest, NotDigits};
 pub use hashers::any_hasher::AnyHasher;
-pub use hashers::hasher::{Hasher, LIMIT};
+pub use hashers::hasher::{Hasher, LIMIT, MessageTooLong};
 pub use hashers::kit_hashers::{
     Md5Hasher, Sha1Hasher, Sha224Hasher, Sha256Hasher, Sha384Hasher, Sha512Hasher,
 };

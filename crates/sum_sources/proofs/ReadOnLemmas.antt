@@ -28,8 +28,10 @@ clip-prefix : (front : List ℕ) (rest : Content) → length front < 2 ^ 61
 clip-prefix front rest few =
     let k = limit - length front in
     let size : limit - 1 ≡ length front + (k - 1) = rw limit-value (omega (arith, limit-value)) in
-    let cut : take (limit - 1) (front ++ rest.bytes) ≡ front ++ take (k - 1) rest.bytes = rw (size, take-append-add) refl in
-    let d = if nat_lt (length rest.bytes) k then rest else record { bytes = take (k - 1) rest.bytes; ending = Broken Other } in
+    let cut : take (limit - 1) (front ++ rest.bytes) ≡ front ++ take (k - 1) rest.bytes =
+    rw (size, take-append-add) refl in
+    let short : Content = record { bytes = take (k - 1) rest.bytes; ending = Broken Other } in
+    let d = if nat_lt (length rest.bytes) k then rest else short in
     (d, grind (arith, limit-value, length-append {A = ℕ}, cut))
 
 -- past the first of two parts
@@ -65,7 +67,8 @@ joined bytes more ahead later both is = rw is (simp append_assoc refl)
 
 module _ {I : Type 0} {state : I → InputState} where
   -- none yet
-  pub HasRead-none : {old : LineReaderValue I} → IsReading state old → old.final_answer ≡ None → HasRead state old old []
+  pub HasRead-none : {old : LineReaderValue I} → IsReading state old → old.final_answer ≡ None
+      → HasRead state old old []
   HasRead-none h going = record {
     under_way = h.under_way going;
     count = omega arith;
@@ -230,7 +233,8 @@ not_past (Broken f) read = read
 
 -- the input ended so, after these bytes
 pub ends : {I : Type 0} {state : I → InputState} {old s : LineReaderValue I} (m : LineReaderValue I)
-    {n : LineReaderValue I} {line bytes : List ℕ} (e : Ending) (answer : Result Next LineStop) → HasRead state old s line
+    {n : LineReaderValue I} {line bytes : List ℕ} (e : Ending) (answer : Result Next LineStop)
+    → HasRead state old s line
     → s.ahead ≡ [] → FindsEnding (state s.input).reads (state m.input).reads e → m.ahead ≡ [] → s.taken ≤ m.taken
     → n ≡ record m { final_answer = Some (answer_by e) } → IsNextLine (with_prefix line (just e)) (just e) answer bytes
     → OnOk answer (m.taken ≡ s.taken) → ReadsOn state old n answer bytes
@@ -247,7 +251,8 @@ ends {state = state} {old = old} {s = s} m {line = line} e answer h none finds n
     λ c of. left (consumed_count m) c (omega (arith, more, ap length none')) of in
     rw is (record {
       line = λ c of. (next_of answer _ (before c of) (after c of) next, sum answer (before c of) (after c of) same);
-      reading = settled (answer_by e) refl (λ bytes c of. next_of _ bytes (after c of) (after c of) (nothing_left e bytes))
+      reading = settled (answer_by e) refl
+          (λ bytes c of. next_of _ bytes (after c of) (after c of) (nothing_left e bytes))
           (at_end e finds.phase) (not_past e finds.phase);
       before = λ c of. h.before c (finds.before c of);
     })

@@ -48,8 +48,8 @@ clip c = if nat_lt (length c.bytes) limit then c else record { bytes = take (lim
 abbrev pub empty_content : Content
 empty_content = record { bytes = []; ending = Whole }
 
--- a content that begins with these bytes, or is all of them, by how far it was read. Bytes that were read past an end are
--- of any content
+-- a content that begins with these bytes, or is all of them, by how far it was read. What was read past an end is of
+-- any content
 abbrev pub IsReadTo : Phase → ByteString → Content → Type 0
 IsReadTo Unfinished bytes c = (rest : ByteString) × (c.bytes ≡ bytes ++ rest)
 IsReadTo AtEnd bytes c = c ≡ record { bytes = bytes; ending = Whole }

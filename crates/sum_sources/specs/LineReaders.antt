@@ -34,8 +34,8 @@ past n c = record { bytes = drop n c.bytes; ending = c.ending }
 abbrev pub remaining : {I : Type 0} → LineReaderValue I → Content → Content
 remaining r c = past (consumed_count r) (clip c)
 
--- the next line was read, or an end: of each content that what was read of the input is of. If the result is `Ok`, bytes
--- consumed and bytes that remain add up to the same
+-- the next line was read, or an end, for each content that what was read of the input is of. If the result is `Ok`,
+-- bytes consumed and bytes that remain add up to the same
 abbrev pub ReadsLine : {I : Type 0} → (I → InputState) → LineReaderValue I → LineReaderValue I → Result Next LineStop
     → ByteString → Type 0
 ReadsLine state old new result line = (c : Content) → IsOf (state new.input).reads c

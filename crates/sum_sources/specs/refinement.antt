@@ -3,3 +3,4 @@ pub mod LimitedReads
 pub mod LineStates
 pub mod ToldPairs
 pub mod ToldSteps
+pub mod ToldValues

@@ -35,7 +35,7 @@ impl<'a> TwoParts<'a> {
         piece: usize,
         log: ReadLog,
     ) -> TwoParts<'a>
-        ensures { result.log.state ≡ log.state }
+        ensures { result.log ≡ log }
     {
         let (first, second) = content.split_at(place.min(content.len()));
         TwoParts {
@@ -56,7 +56,7 @@ impl<'a> Input for TwoParts<'a> {
     ghost use Rattle.std.specs.Prelude.{None};
     ghost use Rattle.sum_sources.specs.InputLaws.{real_has_content};
 
-    ghost state = { λ s. record s.log.state { told = None } };
+    ghost state = { λ s. record s.log { told = None } };
 
     fn read(&mut self, buf: &mut [u8]) -> Result<usize, Fault> {
         let result = self.told.read(buf);
@@ -72,7 +72,7 @@ impl<'a> Input for TwoParts<'a> {
         result
     }
 
-    ghost has_content = { λ s. real_has_content s.log.state };
+    ghost has_content = { λ s. real_has_content s.log };
 }
 
 /// A source whose files follow one another, whatever the names. After the last, no file is found.
@@ -120,7 +120,7 @@ impl<'a, A: Allocator> Source for InTurn<'a, A> {
     ghost use Rattle.sum_sources.specs.Logs.{untold};
     ghost use Rattle.sum_sources.specs.SourceLaws.{untold_has_answers};
 
-    ghost state = { λ s. untold s.log.state };
+    ghost state = { λ s. untold s.log };
 
     fn open_file(&mut self, name: &[u8]) -> Result<TwoParts<'a>, OpenFault> {
         let Some((content, place, ending)) = self.files.pop_front() else {
@@ -142,5 +142,5 @@ impl<'a, A: Allocator> Source for InTurn<'a, A> {
         }
     }
 
-    ghost has_answers = { λ s. untold_has_answers s.log.state };
+    ghost has_answers = { λ s. untold_has_answers s.log };
 }

@@ -25,7 +25,7 @@ pub struct NotRead;
 /// What a command line asks for.
 #[derive(Debug, Drop)]
 pub enum CommandLine<A: Allocator> {
-    /// No argument names a tool.
+    /// Neither the name that the program was called by nor the first word names a tool.
     UnknownTool,
     /// A tool on its words.
     Invoke(Tool, Words<A>),

@@ -1,12 +1,12 @@
 //! The trait of a hasher.
 
-ghost use Rattle.std.specs.Prelude.{◌≡◌, ℕ, ◌+◌, ◌^◌, ◌<◌, ◌++◌, length};
+ghost use Rattle.std.specs.Prelude.{◌≡◌, ◌↔◌, ℕ, ◌+◌, ◌^◌, ◌<◌, ◌++◌, length, IsOk, OnOk, OnErr};
 ghost use Rattle.digest_kinds.specs.Basics.{ByteString};
 ghost use Rattle.digest_kinds.specs.Kinds.{KindValue, digest};
 
 use crate::digest::Digest;
 use crate::kind::Kind;
-pub use blake2b_core::LIMIT;
+pub use blake2b_core::{LIMIT, MessageTooLong};
 
 /// Takes a message piece by piece, and returns its digest.
 pub trait Hasher {
@@ -34,6 +34,22 @@ pub trait Hasher {
         ensures holds { (m : ByteString) → holds self.old m → holds self.new (m ++ piece.now) }
         ensures taken { taken_of self.new ≡ taken_of self.old + length piece.now }
         ensures kind { kind_of self.new ≡ kind_of self.old };
+
+    /// Takes the message's next piece. `MessageTooLong` if and only if the message would have [`LIMIT`](crate::LIMIT)
+    /// bytes or more; the hasher is then as before.
+    fn try_update(&mut self, piece: &[u8]) -> Result<(), MessageTooLong>
+        ensures fits { IsOk result ↔ (taken_of self.old + length piece.now < 2 ^ 61) }
+        ensures holds { OnOk result ((m : ByteString) → holds self.old m → holds self.new (m ++ piece.now)) }
+        ensures taken { OnOk result (taken_of self.new ≡ taken_of self.old + length piece.now) }
+        ensures kind { kind_of self.new ≡ kind_of self.old }
+        ensures err { OnErr result (self.new ≡ self.old) }
+    {
+        if piece.len() as u64 >= LIMIT.saturating_sub(self.taken()) {
+            return Err(MessageTooLong);
+        }
+        self.update(piece);
+        Ok(())
+    }
 
     /// The digest of the message that was taken, of the kind's length.
     fn finish(self) -> Digest

@@ -33,8 +33,8 @@ ghost use Rattle.sum_lines.specs.refinement.PartTexts.{part_text};
 ghost use Rattle.sum_lines.specs.Escape.{present, escape, escape_differs};
 ghost use Rattle.sum_lines.specs.grammar.Shapes.{mark};
 
-/// Gives the sink the line of a name and its digest. The digest has the kind's length. The sink isn't flushed, so it
-/// may buffer the line. `SinkFault` as `put_all`.
+/// Gives the sink the line of a name and its digest. The digest has the kind's length. The sink may buffer the line.
+/// `SinkFault` as `put_all`.
 #[tactic(auto, using(crate::proofs::SinkLemmas::writes_then))]
 pub fn put_line<S: Sink>(
     sink: &mut S,

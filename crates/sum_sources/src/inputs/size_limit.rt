@@ -6,8 +6,8 @@ ghost use Rattle.sum_sources.specs.refinement.LimitedReads.{ReadsLimited};
 use crate::{Fault, Input, PIECE};
 use digest_kinds::LIMIT;
 
-/// Reads as `Input::read`, from an input that has given `taken` bytes so far, fewer than `LIMIT`. At most `LIMIT - 1` of
-/// its bytes count. If it has one byte more, that is `Fault::Other`.
+/// Reads as `Input::read`, from an input that has given `taken` bytes so far, fewer than `LIMIT`. At most `LIMIT - 1`
+/// of its bytes count. If it has one byte more, that is `Fault::Other`.
 pub(crate) fn read_limited<I: Input>(
     input: &mut I,
     taken: &mut u64,

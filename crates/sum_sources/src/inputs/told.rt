@@ -1,11 +1,10 @@
 //! An input in memory.
 ghost use Rattle.std.specs.Prelude.{◌≡◌, ◌≤◌, [], length, max, IfOk};
 ghost use Rattle.sum_sources.specs.StandardInput.{told_file};
-ghost use Rattle.sum_sources.specs.refinement.ToldSteps.{GivesFrom};
+ghost use Rattle.sum_sources.specs.refinement.ToldSteps.{GivesFrom, ToldInvariant};
 
 use crate::inputs::read_log::ReadLog;
 use crate::{Ending, Fault, Input, Phase};
-use std::marker::Model;
 
 /// An input of bytes in memory. At its end, or its fault, each read gives that again.
 #[derive(Debug, Drop)]
@@ -17,33 +16,17 @@ pub struct Told<'a> {
     piece: usize,
     phase: Phase,
     log: ReadLog,
-}
-
-impl<'a> Model for Told<'a> {
-    ghost use Rattle.sum_sources.specs.StandardInput.{ToldContent};
-    ghost use Rattle.sum_sources.specs.refinement.ToldSteps.{ToldInvariant};
-
-    ghost Value = { ToldContent };
-
-    ghost view = { λ s. record {
-      content = record { bytes = s.bytes.now; ending = s.ending };
-      given = s.given;
-      piece = s.piece;
-      phase = s.phase;
-      opening = s.log.opening;
-      name = s.log.name;
-    } };
-
-    ghost invariant = { λ s. ToldInvariant (record { bytes = s.bytes.now; ending = s.ending }) s.given s.piece s.phase
-        s.log.reads };
+    // No Model: the borrow checker doesn't cover a source whose files have one and a lifetime.
+    ghost is: { ToldInvariant (record { bytes = bytes.now; ending = ending }) given piece phase log.reads }
 }
 
 impl<'a> Told<'a> {
     ghost use Rattle.sum_sources.specs.Contents.{unread};
+    ghost use Rattle.sum_sources.specs.refinement.ToldValues.{told_value};
 
     /// An input of the bytes `content`, at most `piece` a read (0 counts as 1), and then `ending`.
     pub fn new(content: &'a [u8], ending: Ending, piece: usize) -> Told<'a>
-        ensures { result ≡ record {
+        ensures { told_value result ≡ record {
           content = record { bytes = content.entry.now; ending = ending };
           given = 0;
           piece = max piece 1;
@@ -58,7 +41,7 @@ impl<'a> Told<'a> {
     // The same, for a source that opened it.
     pub(crate) fn opened(content: &'a [u8], ending: Ending, piece: usize, log: ReadLog) -> Told<'a>
         requires { log.reads ≡ unread }
-        ensures { result ≡ record {
+        ensures { told_value result ≡ record {
           content = record { bytes = content.entry.now; ending = ending };
           given = 0;
           piece = max piece 1;
@@ -79,8 +62,8 @@ impl<'a> Told<'a> {
 
     // What its reads gave.
     pub(crate) fn log(&self) -> &ReadLog
-        ensures opening { result.now.opening ≡ self.now.opening }
-        ensures reads { result.now.reads ≡ (told_file self.now).reads }
+        ensures opening { result.now.opening ≡ self.now.log.opening }
+        ensures reads { result.now.reads ≡ (told_file (told_value self.now)).reads }
     {
         &self.log
     }
@@ -116,7 +99,9 @@ fn give(
 }
 
 impl<'a> Input for Told<'a> {
-    ghost state = { λ s. told_file s };
+    ghost use Rattle.sum_sources.specs.refinement.ToldValues.{told_value};
+
+    ghost state = { λ s. told_file (told_value s) };
 
     fn read(&mut self, buf: &mut [u8]) -> Result<usize, Fault> {
         let result = give(self.bytes, self.ending, self.piece, &mut self.given, buf);
@@ -127,5 +112,5 @@ impl<'a> Input for Told<'a> {
 
     ghost use Rattle.sum_sources.specs.InputLaws.{told_file_has_content};
 
-    ghost has_content = { told_file_has_content };
+    ghost has_content = { λ s. told_file_has_content (told_value s) };
 }

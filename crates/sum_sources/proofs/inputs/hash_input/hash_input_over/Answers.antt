@@ -44,7 +44,8 @@ returns-then-n-eq0-clause-hashed g c =
       same = search rules;
       digest = λ new.
           let was = i.read.2 new in
-          rw (← i.kind) (whole _ m _ was (c.finish.ensures.value m i.read.1) (reads.adds (ap (λ (r : Reads). r.phase) was)
+          rw (← i.kind) (whole _ m _ was (c.finish.ensures.value m i.read.1)
+          (reads.adds (ap (λ (r : Reads). r.phase) was)
           (ap (λ (r : Reads). length r.bytes) was ∙ omega (arith, i.taken, counted))));
       end = λ going. reads.phase (i.phase going);
       past = λ going. rw (reads.phase (i.phase going)) (λ past. cc);

@@ -15,7 +15,8 @@ returns-in_err-n-clause-reads g c =
 pub returns-then-taken-eq-LIMIT-clause-reads : goal.returns-then-taken-eq-LIMIT-clause-reads
 returns-then-taken-eq-LIMIT-clause-reads g c =
     read_reaches c.args.taken.now c.max-size.result c.in_ok-n.n c.read.new.buf _ (omega (arith, c.max-size.ensures))
-    (grind (arith, common_steps)) (search rules) c.requires (search rules) (omega (arith, c.max-size.ensures, c.min.ensures))
+    (grind (arith, common_steps)) (search rules) c.requires (search rules)
+    (omega (arith, c.max-size.ensures, c.min.ensures))
     (search rules)
 
 -- it gave bytes, or its end

@@ -92,5 +92,6 @@ returns-in-Err-fill-clause-line g c =
     λ reading.
     let h = read reading in
     let (going, size) = HasRead-given h in
-    ends c.fill.new.self (Broken _) (Err (stops.Fault _)) h piece.1 (e.reads going size) (e.fault refl).0 (e.fault refl).1
-    (ap (λ a. record c.fill.new.self { final_answer = a }) e.final_answer) (IsNextLine-fault _ _ plain) tt
+    ends c.fill.new.self (Broken _) (Err (stops.Fault _)) h piece.1 (e.reads going size) (e.fault refl).0
+    (e.fault refl).1 (ap (λ a. record c.fill.new.self { final_answer = a }) e.final_answer)
+    (IsNextLine-fault _ _ plain) tt

@@ -35,8 +35,11 @@ of_spec 𝓤 𝓛 𝓜 𝓡 wired T Y L LY g d _ =
     (λ κs qs bounds a gh are.
     let made : Row.Denot = record { state = g.says a.0.now } in
     let vss : Valss (types_at En.signature.params κs) = (shr_vals a.0, tt) in
-    qed 𝓛 ((raw (alive 𝓛 En.signature κs qs) ⊛ ‵ (owns (types_at En.signature.params κs) a vss)) ∷ raw ((c κs a).requires gh) ∷ []) ∵
+    qed 𝓛 ((raw (alive 𝓛 En.signature κs qs) ⊛ ‵ (owns (types_at En.signature.params κs) a vss))
+    ∷ raw ((c κs a).requires gh) ∷ []) ∵
     keep ! (0 ∷ []) $ split ! $ enter ! _ _ _ _ _ $ alloc_all ! (λ l. pass_all ! refl ((tt, tt), tt) $
     sets ! (agg ! (no_more !)) refl (tt, tt) $ returns ! (look_at ! 0 refl) $ free_all ! refl $
-    suffices ! _ (ends_at 𝓛 En stayed c ((κs, qs, bounds, a, vss), gh) (vstruct vnil) made (tt, tt) (tt, tt)) $ says ! refl $
-    pure_i ! (Row.own_val made (vstruct vnil ∷ [])) ((λ vss. (tt, tt)), tt) ((tt, (refl, tt)), tt) $ move ! (1 ∷ 2 ∷ 0 ∷ []) $ done !))
+    suffices ! _ (ends_at 𝓛 En stayed c ((κs, qs, bounds, a, vss), gh) (vstruct vnil) made (tt, tt) (tt, tt)) $
+    says ! refl $
+    pure_i ! (Row.own_val made (vstruct vnil ∷ [])) ((λ vss. (tt, tt)), tt) ((tt, (refl, tt)), tt) $
+    move ! (1 ∷ 2 ∷ 0 ∷ []) $ done !))

@@ -2,6 +2,7 @@ use Rattle.std.proofs.Common.{ap, map, List}
 use Rattle.sum_sources.specs.InMemory.{ToldFiles, told_source}
 use Rattle.sum_sources.specs.Sources.{Opening}
 use Rattle.sum_sources.specs.refinement.ToldPairs.{pair_of}
+use Rattle.sum_sources.specs.refinement.ToldValues.{told_value}
 use Rattle.sum_sources.specs.declared.sources.told_source.ToldSource.TheInside.{Inside}
 use Rattle.sum_sources.proofs.ToldSourceLemmas.{closed_one, closed_state}
 use Rattle.sum_sources.proofs.sources.told_source.ToldSourceSource.close_file.Goals as goal
@@ -18,11 +19,11 @@ value s = record {
 pub invariant_of-self : goal.invariant_of-self
 invariant_of-self g c =
     rw (c.and-self-inside.ensures, c.log.ensures.opening, c.log.ensures.reads)
-    (closed_one (value c.self.inside) _ c.args.file (rw (← c.self.view_is) at c.requires) c.self.invariant)
+    (closed_one (value c.self.inside) _ (told_value c.args.file) (rw (← c.self.view_is) at c.requires) c.self.invariant)
 
 -- and so the state shows it
 pub returns : goal.returns
 returns g c =
     rw (← c.self.view_is, c.and-self-inside.ensures, c.log.ensures.opening, c.log.ensures.reads)
     (ap (λ (os : List Opening). record (told_source (value c.self.inside)) { openings = os })
-    (closed_state (value c.self.inside) _ c.args.file (rw (← c.self.view_is) at c.requires) c.self.invariant))
+    (closed_state (value c.self.inside) _ (told_value c.args.file) (rw (← c.self.view_is) at c.requires) c.self.invariant))

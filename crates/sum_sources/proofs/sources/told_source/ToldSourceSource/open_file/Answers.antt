@@ -1,6 +1,7 @@
-use Rattle.std.proofs.Common.{rules, refl, ap, ◌≡◌, Ok, Err, Some, map, List, length}
+use Rattle.std.proofs.Common.{rules, refl, ap, ◌∙◌, ◌≡◌, Ok, Err, Some, map, List, length}
 use Rattle.sum_sources.specs.Sources.{Opening, SourceState}
 use Rattle.sum_sources.specs.Sources.{first_answer}
+use Rattle.sum_sources.specs.StandardInput.{told_file}
 use Rattle.sum_sources.specs.declared.sources.told_source.ToldSource.TheInside.{Inside}
 use Rattle.sum_sources.specs.refinement.ToldPairs.{pair_of}
 use Rattle.sum_sources.proofs.ToldSourceLemmas.{opened_one, opened_state, count_asked, told_same}
@@ -54,4 +55,5 @@ returns-in-Content-clause-state g c =
 pub returns-in-Content-clause-file : goal.returns-in-Content-clause-file
 returns-in-Content-clause-file g c =
     let is = content g (goal.at.returns-in-Content-clause-file g c).In-Content in
-    rw (c.opened-file.ensures, c.file.ensures, ← c.self.view_is, told_same _ 0 _ c.self.invariant.told, is) refl
+    ap told_file c.opened-file.ensures
+    ∙ rw (c.file.ensures, ← c.self.view_is, told_same _ 0 _ c.self.invariant.told, is) refl
