@@ -1,5 +1,5 @@
 -- The law of files in memory: their world is the one that agrees.
-use Rattle.std.proofs.Common.{◌≡◌, ◌∙◌, ap, sym, refl, IfSome, inl, inr}
+use Rattle.std.proofs.Common.{◌≡◌, ◌∙◌, ap, inl, inr}
 use Rattle.std.specs.Prelude.{◌⊎◌}
 use Rattle.sum_engine.specs.Execution.{StdinState, StreamsState, ReadsStdin}
 use Rattle.sum_engine.specs.WorldLaws.{SomeWorldAgrees}
