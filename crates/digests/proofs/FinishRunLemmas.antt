@@ -14,4 +14,5 @@ flushed-none a b held h none = rw (none, append-nil) at h
 -- also if it fails
 pub flush_failed-none : (a b : SinkState) → FailsToFlush a b → a.buffered ≡ [] → b.written ≡ a.written
 flush_failed-none a b h none =
-    let (more, wrote, (rest, is)) = h.written in flushed-none a.written b.written more wrote (no_prefix more rest (rw none at is))
+    let (more, wrote, (rest, is)) = h.written in
+    flushed-none a.written b.written more wrote (no_prefix more rest (rw none at is))

@@ -84,8 +84,8 @@ module _ {o : OperandsOfRun} where
   }
 
   -- one operand more happened
-  pub operands_done_step : {Whole : Type 0} {good : Bool} {name : ByteString} {rest : List ByteString} {x y : StreamsState}
-      (this : Bool) (z : StreamsState) → HasReached o (name ∷ rest) x y good
+  pub operands_done_step : {Whole : Type 0} {good : Bool} {name : ByteString} {rest : List ByteString}
+      {x y : StreamsState} (this : Bool) (z : StreamsState) → HasReached o (name ∷ rest) x y good
       → (IsFlushed x.outputs → IsFlushed y.outputs) → (this ≡ true → Whole) → ReadsToEndIf Whole y.inputs z.inputs
       → Performs (λ w. o.one w name) (λ g. g) y z (Ok this) → HasReached o rest x z (good && this)
   operands_done_step {good = good} {name = name} {rest = rest} {x = x} {y = y} this z h kept whole reads k = record {
@@ -117,8 +117,8 @@ module _ {o : OperandsOfRun} where
       )
 
   -- the next operand stopped the run
-  pub operands_done_stop : {Whole : Type 0} {good : Bool} {name : ByteString} {rest : List ByteString} {x y : StreamsState}
-      (stop : Stop) (z : StreamsState) → HasReached o (name ∷ rest) x y good
+  pub operands_done_stop : {Whole : Type 0} {good : Bool} {name : ByteString} {rest : List ByteString}
+      {x y : StreamsState} (stop : Stop) (z : StreamsState) → HasReached o (name ∷ rest) x y good
       → (IsFlushed x.outputs → IsFlushed y.outputs) → ReadsToEndIf Whole y.inputs z.inputs
       → Performs (λ w. o.one w name) (λ g. g) y z (Err stop)
       → Performs (λ w. operands_behavior o.one w o.names) status_of x z (Err stop)

@@ -36,7 +36,7 @@ CallPerforms line a b status = (answer : Result ℕ Stop) × (between : StreamsS
     × FailuresMatch a.outputs between.outputs answer × (b.inputs ≡ between.inputs)
     × ReportsStop (call_stop_line line) answer between.outputs b.outputs status
 
--- arguments in memory, flushed outputs: their call is performed, or, if it needs memory, that of words that were not read
+-- arguments in memory, flushed outputs: their call is performed, or, if it needs memory, that of words not read
 abbrev pub ProgramPerforms : Option (List ByteString) → StreamsState → StreamsState → ℕ → Type 0
 ProgramPerforms told a b status = IsFlushed a.outputs → IfSome told (λ arguments.
     CallPerforms (Some (command_line arguments)) a b status

@@ -25,8 +25,8 @@ pub remaining-initial : (r : Rules) (labels : LabelsValue) (c : Content) (w : Wo
 remaining-initial r labels c w = rw counts_then-none refl
 
 -- so it is at the first line
-behavior-initial : {I : Type 0} {state : I → InputState} {p : CursorValue I} {input : I} (r : Rules) (labels : LabelsValue)
-    → IsAtStart state p input → (c : Content) (w : World)
+behavior-initial : {I : Type 0} {state : I → InputState} {p : CursorValue I} {input : I} (r : Rules)
+    (labels : LabelsValue) → IsAtStart state p input → (c : Content) (w : World)
     → remaining_behavior r labels (state_at p (remaining p.reader c) w)
     ≡ content_behavior r labels (clip c) (all_verdicts r w (clip c))
 behavior-initial {p = p} r labels start c w =
@@ -97,8 +97,8 @@ module _ {I : Type 0} (state : I → InputState) (first : CheckerValue I) (m : S
   abbrev left : CheckState → Behavior
   left a = remaining_behavior first.cursor.rules first.labels a
 
-  -- P holds between the state there and that at another place and streams, if both outputs were flushed, of an input that
-  -- was unread
+  -- P holds between the state there and that at another place and streams, if both outputs were flushed, of an input
+  -- that was unread
   abbrev HoldsUpTo : CursorValue I → StreamsState → (CheckState → CheckState → Type 0) → Type 0
   HoldsUpTo q n P = IsFlushed m.outputs → IsReading state first.cursor.reader
       → InEachCheck state first.cursor q m.inputs n.inputs P

@@ -40,7 +40,8 @@ closed_openings m b n name before s t opens is same reads closes =
     let now : b.source.openings ≡ before ++ record { name = name; gave = None } ∷ reads.openings.0 =
     reads.openings.1 ∙ rw (opens, append_assoc) refl in
     let place : t.opening ≡ length before = search rules in
-    (now, rw (closes, now, place) (closed_at-seam before reads.openings.0 (record { name = name; gave = None }) t.reads))
+    let o : Opening = record { name = name; gave = None } in
+    (now, rw (closes, now, place) (closed_at-seam before reads.openings.0 o t.reads))
 
 -- how far all was read over the opening, the run and the closing
 pub file_reads : {Whole : Type 0} (a m b n : InputsState) (name : List ℕ) (s t : InputState)
@@ -146,7 +147,12 @@ module _ (settings : CheckSettings) (tool name : List ℕ) (a : StreamsState) wh
       let all = check_behavior settings tool (world_at w a.inputs) name in
       let taken : b.inputs.stdin.taken ≡ true = rw stays (gives_taken gives) in
       kept_performs all.steps all.good a b (record b { inputs = n }) x
-      (record { outputs = refl; asked = rw back refl; taken = ap (λ (m : InputsState). m.stdin.taken) back ∙ taken_after b.inputs.stdin t taken ∙ sym taken; refusals = rw back refl })
+      (record {
+        outputs = refl;
+        asked = rw back refl;
+        taken = ap (λ (m : InputsState). m.stdin.taken) back ∙ taken_after b.inputs.stdin t taken ∙ sym taken;
+        refusals = rw back refl;
+      })
       (opened true c m b x w dash (stdin_asked gives name m dash refl refl) (rw dash refl) ran)
 
   -- it could not be opened, and the line of its fault was written, or a prefix of it
@@ -159,7 +165,8 @@ module _ (settings : CheckSettings) (tool name : List ℕ) (a : StreamsState) wh
       (record a { inputs = m; outputs = outputs })
       (asks_one a.inputs m name (Some (Err f)) file opens)
       (λ w agrees.
-      let answer = fault_answered f _ (opening_agrees agrees a.inputs.source.openings [] name (Err f) (rw opens refl)) in
+      let before = a.inputs.source.openings in
+      let answer = fault_answered f _ (opening_agrees agrees before [] name (Err f) (rw opens refl)) in
       rw (file, answer) refl) said
 
   -- there was no memory to open it

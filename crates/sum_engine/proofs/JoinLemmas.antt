@@ -125,7 +125,8 @@ module _ (r : Rules) (labels : LabelsValue) (c : Content) (w : World) (s : Strea
 
   -- the step that ends
   ends : {b : CheckState} {t : StreamsState} {k : ℕ} → After b t k → (outcome : Bool) (vector : List ℕ) (d : CheckState)
-      (z : StreamsState) → StepIs r labels vector b d t z (Ok (Ended outcome)) → EndsManifest r labels c js k t z outcome
+      (z : StreamsState) → StepIs r labels vector b d t z (Ok (Ended outcome))
+      → EndsManifest r labels c js k t z outcome
   ends {b} {t} {k} h outcome vector d z e =
       let none = none_left e.later.steps e.later.good outcome e.performs.0 in
       let last = sym h.steps ∙ ap (λ (q : Behavior). q.steps) e.is ∙ ap (λ steps. e.step ∷ steps) none.0 in

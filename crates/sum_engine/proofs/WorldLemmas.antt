@@ -73,7 +73,8 @@ reads_both {Whole} {a} {b} {c} h k = record {
   told = k.told ∙ h.told;
   openings = (
     h.openings.0 ++ k.openings.0,
-    k.openings.1 ∙ ap (λ os. os ++ k.openings.0) h.openings.1 ∙ append_assoc a.source.openings h.openings.0 k.openings.0,
+    k.openings.1 ∙ ap (λ os. os ++ k.openings.0) h.openings.1
+        ∙ append_assoc a.source.openings h.openings.0 k.openings.0,
     All-append (ReadsFile Whole) h.openings.0 k.openings.0 h.openings.2 k.openings.2,
   );
   stdin = stdin_then a.stdin b.stdin c.stdin h.stdin k.stdin;
@@ -174,7 +175,8 @@ world_after w a b names asks =
     let size : length b.source.openings
     ≡ length a.source.openings + length (filter (λ name. not (is_dash name)) names) =
     sym (length-map b.source.openings (λ (o : Opening). o.name)) ∙ ap length asks.asked ∙ length-append (asked a) _
-    ∙ ap (λ n. n + length (filter (λ name. not (is_dash name)) names)) (length-map a.source.openings (λ (o : Opening). o.name)) in
+    ∙ ap (λ n. n + length (filter (λ name. not (is_dash name)) names))
+    (length-map a.source.openings (λ (o : Opening). o.name)) in
     search (rules, steady, place, given, size)
 
 -- ---- what an opening gave

@@ -97,7 +97,7 @@ abbrev pub ReadsStdin : Type 0 → StdinState → StdinState → Type 0
 ReadsStdin Whole a b = (r : Reads) × (a.reads ≡ None)
     × (b ≡ record { told = a.told; taken = true; reads = Some r }) × IsAtEndIf Whole r
 
--- READ TO THE END, if Whole holds; and never past it: so a call read each file that it opened, and standard input, if it
+-- READ TO THE END, if Whole holds, and never past it: so a call read each file that it opened, and standard input if it
 -- took that. What was opened before stays as it was
 pub record ReadsToEndIf (Whole : Type 0) (a b : InputsState) : Type 0 where
   pub told : b.source.told ≡ a.source.told

@@ -17,7 +17,8 @@ use Rattle.sum_engine.specs.check.NextVerdict.{LineStop, LineVerdict, HasNoVerdi
 abbrev pub ManifestPerforms : Rules → LabelsValue → InputState → InputState → StreamsState → StreamsState
     → Result Bool Stop → Type 0
 ManifestPerforms r labels s t a b x = IsFlushed a.outputs → s.reads ≡ unread → (c : Content) → IsOf t.reads c
-    → (w : World) → Agrees w b.inputs → let all = content_behavior r labels (clip c) (all_verdicts r (world_at w a.inputs) (clip c)) in
+    → (w : World) → Agrees w b.inputs
+    → let all = content_behavior r labels (clip c) (all_verdicts r (world_at w a.inputs) (clip c)) in
     PerformsSteps all.steps all.good a b x
 
 -- ---- the laws

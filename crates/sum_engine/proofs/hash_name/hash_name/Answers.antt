@@ -18,8 +18,8 @@ returns-then-is_dash-clause-outcome g c =
     let read = c.read_digest-outcome.ensures in
     let has = given_has_content g.I.Input.state g.met.I.Input.has_content c.read_digest-outcome.new.file in
     λ w agrees.
-    stdin_hashed gives read.same w c.put_back_stdin.new.self c.args.kind c.args.name.now _ dash has (c.put_back_stdin.ensures (gives_taken gives))
-    agrees (rw c.new.ensures.kind at read.outcome)
+    stdin_hashed gives read.same w c.put_back_stdin.new.self c.args.kind c.args.name.now _ dash has
+    (c.put_back_stdin.ensures (gives_taken gives)) agrees (rw c.new.ensures.kind at read.outcome)
 
 pub returns-then-is_dash-clause-asked : goal.returns-then-is_dash-clause-asked
 returns-then-is_dash-clause-asked g c =
