@@ -99,11 +99,12 @@ class Documents(Case):
         self.assertEqual(self.run_command([*git, "clone", "-q", TOP, self.path("clone")]).status, 0)
         for name in ("digests/specs/Meaning.antt", "digests/src/run.rt", "sum_lines/proofs/Lib.antt"):
             path = f"clone/crates/{name}"
-            self.write(path, self.read(path) + b"\n" + os.path.basename(name).encode())
+            sign = "--" if name.endswith(".antt") else "//"
+            self.write(path, self.read(path) + f"\n{sign} {os.path.basename(name)}\n".encode())
         self.run_command([*git, "commit", "-qam", "a change"], cwd=self.path("clone"))
         ran = self.run_command(["sh", "-c", command.replace("OLD", "HEAD~1")], cwd=self.path("clone"))
         self.assertEqual((ran.status, ran.err), (0, b""))
-        self.assertEqual(set(re.findall(rb"(?m)^\+([A-Z]?\w+\.\w+)$", ran.out)), {b"Meaning.antt", b"run.rt"})
+        self.assertEqual(set(re.findall(rb"(?m)^\+(?:--|//) (\w+\.\w+)$", ran.out)), {b"Meaning.antt", b"run.rt"})
 
     def test_a_text_and_its_places(self):
         """The command of docs/CHANGING.md finds the files that spell a text."""
