@@ -79,6 +79,19 @@ class Documents(Case):
                     found += 1
         self.assertGreater(found, 50)
 
+    def test_names_that_are_quoted(self):
+        """Each name of code that a page quotes stands in a file of the repository, or belongs to others."""
+        others = set("ANTT.md CONTRACTS.md MODELS.md TERMS.md BufWriter clap libc MANPATH liblibc_c.a libos_c.a start_io "
+                     "sha512t256sum untested".split())
+        files = self.run_command(["git", "ls-files", "-co", "--exclude-standard"], cwd=TOP).out.decode().split("\n")
+        code = "\n".join([*files, *(text_of(file) for file in files if re.match(r"(crates|tools|tests|bench)/|(digests|install|test)$", file)
+                                    and not file.endswith((".md", ".txt")) and os.path.isfile(os.path.join(TOP, file)))])
+        words = set(re.findall(r"\w+", code)) | set(re.findall(r"[\w-]+", code))
+        for name in [os.path.join(TOP, "README.md"), *glob.glob(os.path.join(TOP, "docs", "*.md"))]:
+            for quoted in re.findall(r"`([A-Za-z_]\w*(?:(?:::|\.)\w+)*)(?:\(\))?`", text_of(name)):
+                missing = set(re.findall(r"\w+", quoted)) - words
+                self.assertTrue(not missing or quoted in others, f"{name} names {quoted}")
+
     def test_a_second_audit(self):
         """The command of docs/AUDITING.md shows a definition and a contract that changed since a commit."""
         command = re.search(r"(?m)^    (git diff OLD .*)$", text_of("docs", "AUDITING.md"))[1]
@@ -86,11 +99,12 @@ class Documents(Case):
         self.assertEqual(self.run_command([*git, "clone", "-q", TOP, self.path("clone")]).status, 0)
         for name in ("digests/specs/Meaning.antt", "digests/src/run.rt", "sum_lines/proofs/Lib.antt"):
             path = f"clone/crates/{name}"
-            self.write(path, self.read(path) + b"\n" + os.path.basename(name).encode())
+            sign = "--" if name.endswith(".antt") else "//"
+            self.write(path, self.read(path) + f"\n{sign} {os.path.basename(name)}\n".encode())
         self.run_command([*git, "commit", "-qam", "a change"], cwd=self.path("clone"))
         ran = self.run_command(["sh", "-c", command.replace("OLD", "HEAD~1")], cwd=self.path("clone"))
         self.assertEqual((ran.status, ran.err), (0, b""))
-        self.assertEqual(set(re.findall(rb"(?m)^\+([A-Z]?\w+\.\w+)$", ran.out)), {b"Meaning.antt", b"run.rt"})
+        self.assertEqual(set(re.findall(rb"(?m)^\+(?:--|//) (\w+\.\w+)$", ran.out)), {b"Meaning.antt", b"run.rt"})
 
     def test_a_text_and_its_places(self):
         """The command of docs/CHANGING.md finds the files that spell a text."""

@@ -17,7 +17,7 @@ pub struct Told<'a> {
     phase: Phase,
     log: ReadLog,
     // No Model: the borrow checker doesn't cover a source whose files have one and a lifetime.
-    ghost is: { ToldInvariant (record { bytes = bytes.now; ending = ending }) given piece phase log.reads }
+    ghost is: { ToldInvariant (record { bytes = bytes.now; ending = ending }) given piece phase log.reads },
 }
 
 impl<'a> Told<'a> {
