@@ -139,8 +139,8 @@ impl Blake2b {
         self.buffer_bytes(&rest[absorbed..]);
     }
 
-    /// Appends a piece to the message. `MessageTooLong` if and only if it would have `LIMIT` bytes or more; it is then as
-    /// before.
+    /// Appends a piece to the message. `MessageTooLong` if and only if it would have `LIMIT` bytes or more. It is then
+    /// as before.
     pub fn try_update(&mut self, piece: &[u8]) -> Result<(), MessageTooLong>
         ensures fits { IsOk result ↔ (taken self.old + length piece.now < 2 ^ 61) }
         ensures holds { OnOk result ((m : ByteString) → Holds self.old m → Holds self.new (m ++ piece.now)) }

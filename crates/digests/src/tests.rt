@@ -1,4 +1,7 @@
 //! Tests of the run and of the program, over known input and known files, into known sinks.
+ghost use Rattle.std.specs.Prelude.{◌≡◌};
+ghost use Rattle.sum_sources.specs.Contents.{unread};
+
 mod growths;
 mod hostile;
 mod program;
@@ -10,7 +13,7 @@ use std::process::Abort;
 use std::test::Fail;
 use sum_engine::{Inputs, Outputs, Stop, Streams};
 use sum_lines::ToldSink;
-use sum_sources::{Answer, Ending, Fault, NoRoom, Stdin, Told, ToldSource};
+use sum_sources::{Answer, Ending, Fault, Input, NoRoom, Stdin, Told, ToldSource};
 use sum_words::{Tool, Words};
 
 // A manifest with a line of each verdict: right, a comment, bad, missing, wrong.
@@ -110,7 +113,9 @@ type Stage<'a, A, const N: usize> = Streams<
 fn stage<'a, A: Allocator + Copy, const N: usize>(
     input: Told<'a>,
     source: ToldSource<'a, A>,
-) -> Stage<'a, A, N> {
+) -> Stage<'a, A, N>
+    requires { (⟦<Told<'a> as Input>⟧.state input).reads ≡ unread }
+{
     Streams::new(
         Stdin::new(input),
         source,
