@@ -1,7 +1,7 @@
 //! Prints the BLAKE2b digest of standard input, of 64 bytes, in hexadecimal digits.
 #![tactic(auto)]
 
-use blake2b_core::{Blake2b, LIMIT};
+use blake2b_core::Blake2b;
 use std::io::{self, ErrorKind, Read};
 
 fn main(rt: HostRuntime) -> io::Result<()> {
@@ -15,10 +15,9 @@ fn main(rt: HostRuntime) -> io::Result<()> {
         if count == 0 {
             break;
         }
-        if hasher.taken().saturating_add(count as u64) >= LIMIT {
+        if hasher.try_update(&buffer[..count]).is_err() {
             return Err(ErrorKind::FileTooLarge.into());
         }
-        hasher.update(&buffer[..count]);
     }
     println!(rt; "{}", hex::encode(rt.alloc(), hasher.finish().as_slice())?)
 }

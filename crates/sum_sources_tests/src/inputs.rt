@@ -3,7 +3,7 @@ ghost use Rattle.std.specs.Prelude.{◌≡◌};
 ghost use Rattle.sum_sources.specs.Contents.{unread};
 
 use crate::goes_on::TwoParts;
-use digest_kinds::{Digest, Hasher, Md5Hasher, Sha256Hasher};
+use digest_kinds::{Algo, Digest, Hasher, Kind, Md5Hasher, Sha256Hasher};
 use std::io::{self, ErrorKind, Read};
 use std::process::Abort;
 use std::test::Fail;
@@ -180,10 +180,11 @@ fn hashing(rt: HostRuntime) -> Result<(), Fail> {
         for len in [16384, 8193, 8192, 8191, 0] {
             let content = content.get(..len).ok_or("short")?;
             let mut whole = Sha256Hasher::new();
-            assert!(rt; content.len() < 100_000);
-            whole.update(content);
+            assert!(rt; whole.try_update(content).is_ok());
             let digest = hashed(&rt, content, Ending::Whole, piece, &mut buffer)?;
             assert!(rt; digest.same(&whole.finish()), "{len} in pieces of {piece}");
+            assert!(rt; content.len() < 100_000);
+            assert!(rt; digest.same(&Kind::of(Algo::Sha256).digest(content)));
         }
         for len in (0..=300).chain([9000]) {
             let content = content.get(..len).ok_or("short")?;
