@@ -9,7 +9,7 @@ from harness import TOP, Case, Ran
 from rattle import text_of
 from repository import DEFAULT, FAST, RT, Repository
 
-SCRIPTS = ["digests", "install", "test", "tools/build", ".ci/run"]
+SCRIPTS = ["digests", "test", "tools/build", ".ci/run"]
 
 
 class Documented(Case):
