@@ -60,16 +60,17 @@ def labels_of(code, crate, function):
 
 
 def goal_of(name, whole, labels):
-    """What a goal shows: a clause, what a callee requires, what a loop keeps, or a part of the function's proof. None
-    for a clause that isn't one of these. The goal of a clause that stands alone, or of the only one that speaks of this
-    return, doesn't name it: then it may be each. The end of a name that isn't whole may be cut."""
+    """What a goal shows: a clause, what a callee requires, what a loop or a type keeps, or a part of the function's
+    proof. None for a clause that isn't one of these. The goal of a clause that stands alone, or of the only one that
+    speaks of this return, doesn't name it: then it may be each. The end of a name that isn't whole may be cut."""
     if name.startswith("returns"):
         _, marked, label = name.rpartition("-clause-")
         if not marked:
             return " or ".join(sorted(labels)) or None
         return min((it for it in labels if it == label or not whole and it.startswith(label)), default=None)
     for pattern, says in ((r"(\w+)[\w-]*-requires", "what `{}` requires"),
-                          (r"loop-(\w+)-(?:init|preserved)", "loop's `{}`")):
+                          (r"loop-(\w+)-(?:init|preserved)", "loop's `{}`"),
+                          (r"invariant_of-(\w+)", "the invariant of `{}`")):
         found = re.match(pattern, name)
         if found:
             return says.format(found[1])
