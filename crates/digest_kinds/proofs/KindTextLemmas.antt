@@ -10,7 +10,7 @@ use Rattle.std.proofs.lemmas.Str.{IsAscii-append, IsUtf8-from_ascii}
 use Rattle.std.proofs.lemmas.List.{drop_at}
 use Rattle.digest_kinds.proofs.TagLemmas.{find-begins}
 use Rattle.digest_kinds.proofs.KindLemmas.{has_len-full, has_len-range}
-use Rattle.digest_kinds.specs.Basics.{after_while}
+use Rattle.digest_kinds.specs.Bytes.{after_while}
 use Rattle.digest_kinds.specs.Kinds.{Algo, Blake2b, KindValue, BeginsWithTag, full_kind, full_len, has_len, tag}
 use Rattle.digest_kinds.specs.KindTexts.{IsWidth, NamesKind, kind_and_rest, kind_of_digits, kind_text}
 use Rattle.digest_kinds.proofs.BitsLemmas.{kind_of_digits-bits, kind_of_digits-some, decimal-digits}

@@ -5,7 +5,7 @@ use Rattle.std.specs.Result.{result_ok}
 use Rattle.std.proofs.lemmas.List.{take-append-drop, take_at, drop_at}
 use Rattle.std.proofs.lemmas.List.Sums.{take_while-cons}
 use Rattle.std.proofs.lemmas.List.Elements.{All-head, All-tail, All-nil}
-use Rattle.digest_kinds.specs.Basics.{◌>>=◌, after_while}
+use Rattle.digest_kinds.specs.Bytes.{◌>>=◌, after_while}
 
 -- a step that gives something had something to go on with
 pub bind_some : {A B : Type 0} {y : B} (o : Option A) (f : A → Option B) → (o >>= f) ≡ Some y

@@ -3,7 +3,7 @@ use Rattle.std.specs.Prelude.{◌≡◌, ℕ, ◌*◌, ◌⊎◌, ◌==◌, ◌&
 use Rattle.std.specs.Char.{is_ascii_digit}
 use Rattle.std.specs.Result.{result_ok}
 use Rattle.std.specs.Str.Parse.{digits_value}
-use Rattle.digest_kinds.specs.Basics.{ByteString, ◌>>=◌, after_while}
+use Rattle.digest_kinds.specs.Bytes.{ByteString, ◌>>=◌, after_while}
 use Rattle.digest_kinds.specs.Kinds.{Algo, Blake2b, KindValue, blake2b_of_bits, full_kind, full_len, has_len, tag}
 
 -- the text that names a kind: the tag and, for a BLAKE2b digest that isn't full, its bits, as `BLAKE2b-256`

@@ -7,7 +7,7 @@ use Rattle.sha2.specs.Sha256.{sha224, sha256}
 use Rattle.sha2.specs.Sha512.{sha384, sha512}
 use Rattle.hex.specs.Hex.{is_hex_digit}
 use Rattle.blake2b_core.specs.Digest.{blake2b}
-use Rattle.digest_kinds.specs.Basics.{ByteString}
+use Rattle.digest_kinds.specs.Bytes.{ByteString}
 pub use Rattle.digest_kinds.specs.declared.algo.Algo.{Algo}
 pub use Rattle.digest_kinds.specs.declared.algo.Algo.TheVariants.{Md5, Sha1, Sha224, Sha256, Sha384, Sha512, Blake2b}
 pub use Rattle.digest_kinds.specs.declared.kind.LengthFault.{LengthFault}

@@ -1,5 +1,4 @@
-pub mod Basics
+pub mod Bytes
 pub mod Kinds
 pub mod KindTexts
-pub mod Limits
 pub mod refinement

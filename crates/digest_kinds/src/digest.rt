@@ -21,7 +21,7 @@ pub struct Digest {
 
 impl Model for Digest {
     ghost use Rattle.std.specs.Prelude.{◌≤◌, take};
-    ghost use Rattle.digest_kinds.specs.Basics.{ByteString};
+    ghost use Rattle.digest_kinds.specs.Bytes.{ByteString};
 
     ghost Value = { ByteString };
 

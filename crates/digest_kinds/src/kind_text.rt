@@ -5,7 +5,7 @@ ghost use Rattle.std.specs.Char.{is_ascii_digit};
 ghost use Rattle.std.specs.Fmt.{styled_text};
 ghost use Rattle.std.specs.List.{AllPass, prefix_len};
 ghost use Rattle.std.specs.Option.{option_map};
-ghost use Rattle.digest_kinds.specs.Basics.{after_while};
+ghost use Rattle.digest_kinds.specs.Bytes.{after_while};
 ghost use Rattle.digest_kinds.specs.Kinds.{BeginsWithTag, KindValue, tag};
 ghost use Rattle.digest_kinds.specs.KindTexts.{NamesKind, kind_and_rest, kind_of_digits, kind_text, short_number};
 

@@ -1,7 +1,7 @@
 -- What a call can ask, the source's files and standard input; and what it does: a list of steps, between which memory
 -- may run out.
 use Rattle.std.specs.Prelude.{ℕ, ◌+◌, ◌&&◌, Bool, List, [], ◌∷◌, ◌++◌, map, flat_map, Option, None, Some, codes, Result, Ok, Err, if◌then◌else◌, bytes_eq}
-pub use Rattle.digest_kinds.specs.Basics.{ByteString}
+pub use Rattle.digest_kinds.specs.Bytes.{ByteString}
 use Rattle.digest_kinds.specs.Kinds.{KindValue, digest}
 pub use Rattle.sum_sources.specs.declared.fault.Fault.{Fault}
 pub use Rattle.sum_sources.specs.declared.fault.Ending.{Ending}

@@ -2,7 +2,7 @@
 use Rattle.std.proofs.Common.{◌≡◌, ℕ, Bool, false, List, Option, None, Some, refl, ap, sym, ◌∙◌, inl, inr, arith}
 use Rattle.std.specs.Option.{option_or}
 use Rattle.std.proofs.lemmas.Option.{same_Some}
-use Rattle.digest_kinds.specs.Basics.{◌>>=◌}
+use Rattle.digest_kinds.specs.Bytes.{◌>>=◌}
 use Rattle.digest_kinds.specs.Kinds.{KindValue}
 use Rattle.sum_lines.specs.grammar.Shapes.{Algos, IsPlain}
 use Rattle.sum_lines.specs.grammar.Entries.{Form, EntryValue, IsEntry, IsRawName, is_ignored_by}

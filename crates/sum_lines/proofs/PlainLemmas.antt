@@ -11,7 +11,7 @@ use Rattle.digest_kinds.specs.Kinds.{KindValue, tag}
 use Rattle.digest_kinds.proofs.KindLemmas.{no_digits}
 use Rattle.sum_lines.specs.grammar.Shapes.{Algo, Algos, One, Any, is_blank, IsPlain, IsTagged}
 use Rattle.sum_lines.specs.grammar.LineParts.{LinePartsValue, plain_parts}
-use Rattle.digest_kinds.specs.Basics.{after_while}
+use Rattle.digest_kinds.specs.Bytes.{after_while}
 use Rattle.sum_lines.specs.refinement.Beginnings.{BeginsWithDigits}
 use Rattle.sum_lines.proofs.PrefixLemmas.{text, rest-seam, mark_and_rest-is}
 use Rattle.digest_kinds.proofs.PrefixLemmas.{prefix_passes, prefix-and-rest, prefix_len-stop}

@@ -10,7 +10,7 @@ use Rattle.std.proofs.lemmas.List.{take_at, drop_at, get_or-append_right}
 use Rattle.std.proofs.lemmas.List.Elements.{All-get_or}
 use Rattle.std.proofs.lemmas.Option.{same_Some}
 use Rattle.std.proofs.lemmas.Slice.Eq.{starts_is}
-use Rattle.digest_kinds.specs.Basics.{after_while}
+use Rattle.digest_kinds.specs.Bytes.{after_while}
 use Rattle.sum_lines.specs.grammar.LineParts.{strip_prefix, mark_and_rest}
 use Rattle.sum_lines.specs.grammar.Shapes.{is_blank, mark, optional}
 use Rattle.std.proofs.lemmas.Grind.{common_steps}

@@ -5,7 +5,7 @@ use Rattle.std.specs.Path.{rsplit_once}
 use Rattle.memchr.specs.Find.{Nowhere, Passes, IsLastByte, is_byte}
 use Rattle.hex.specs.Hex.{decode_of}
 use Rattle.hex.proofs.HexLemmas.{decode_of-ok}
-use Rattle.digest_kinds.specs.Basics.{after_while}
+use Rattle.digest_kinds.specs.Bytes.{after_while}
 use Rattle.digest_kinds.specs.Kinds.{KindValue, tag, IsDigits}
 use Rattle.sum_lines.specs.grammar.Shapes.{Algo, One, is_blank, optional}
 use Rattle.sum_lines.specs.grammar.LineParts.{strip_prefix, tag_in, tagged_parts}

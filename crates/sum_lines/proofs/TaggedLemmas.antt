@@ -18,7 +18,7 @@ use Rattle.digest_kinds.proofs.TagLemmas.{IfSome-find-begins, find-begins}
 use Rattle.sum_lines.specs.grammar.Shapes.{Algo, Algos, One, Any, is_blank, Allows, IsTagged, mark, optional}
 use Rattle.digest_kinds.specs.KindTexts.{IsWidth, kind_and_rest}
 use Rattle.sum_lines.specs.grammar.LineParts.{LinePartsValue, strip_prefix, mark_and_rest, tag_in, tagged_parts}
-use Rattle.digest_kinds.specs.Basics.{after_while}
+use Rattle.digest_kinds.specs.Bytes.{after_while}
 use Rattle.sum_lines.proofs.PrefixLemmas.{text, mark_and_rest-is, strip_prefix-some, opened-some, rsplit-some, opened-at, rsplit-at, starts-append}
 use Rattle.digest_kinds.proofs.PrefixLemmas.{bind_some, ok_some, prefix_passes, prefix-and-rest, parts-at, prefix_len-all}
 use Rattle.digest_kinds.proofs.BitsLemmas.{kind_of_digits-bits, decimal-digits}

@@ -1,6 +1,6 @@
 -- How names are escaped, byte by byte. A profile says in what the versions of the tools differ.
 use Rattle.std.specs.Prelude.{ℕ, ◌==◌, ◌&&◌, Bool, true, not, [], ◌∷◌, flat_map, bytes_eq, codes, if◌then◌else◌}
-pub use Rattle.digest_kinds.specs.Basics.{ByteString}
+pub use Rattle.digest_kinds.specs.Bytes.{ByteString}
 
 -- whether a name's carriage return is escaped, whether a line's end drops one, and whether an empty line is ignored
 pub record Profile : Type 0 where

@@ -1,7 +1,7 @@
 -- Contents of inputs: what reads gave, of which content they are, the limit of 2^61 bytes, and digests.
 use Rattle.std.specs.Prelude.{ℕ, ◌≡◌, ◌-◌, ◌^◌, [], ◌++◌, take, length, Option, Result, Ok, Err, ⊤, nat_lt, if◌then◌else◌, IfSome, IfOk}
 use Rattle.std.specs.Result.{result_unwrap_or}
-use Rattle.digest_kinds.specs.Basics.{ByteString}
+use Rattle.digest_kinds.specs.Bytes.{ByteString}
 use Rattle.digest_kinds.specs.Kinds.{digest, KindValue}
 use Rattle.sum_sources.specs.Phases.{Phase, Unfinished, AtEnd, Failed, Past, phase_after}
 pub use Rattle.sum_sources.specs.Faults.{Fault, Other}

@@ -4,7 +4,7 @@ use Rattle.std.specs.Option.{option_or}
 use Rattle.std.specs.Ordering.{int_eq}
 use Rattle.std.specs.declared.io.ErrorKind.{ErrorKind}
 use Rattle.std.specs.declared.io.ErrorKind.TheVariants as kinds
-pub use Rattle.digest_kinds.specs.Basics.{ByteString}
+pub use Rattle.digest_kinds.specs.Bytes.{ByteString}
 pub use Rattle.sum_sources.specs.declared.fault.Fault.{Fault}
 pub use Rattle.sum_sources.specs.declared.fault.Fault.TheVariants.{NotFound, Denied, Other, Os}
 

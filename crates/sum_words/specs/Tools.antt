@@ -1,6 +1,6 @@
 -- The tools: the name and the algorithms of each.
 use Rattle.std.specs.Prelude.{[], ◌∷◌, Option, codes, find, bytes_eq}
-pub use Rattle.digest_kinds.specs.Basics.{ByteString}
+pub use Rattle.digest_kinds.specs.Bytes.{ByteString}
 use Rattle.digest_kinds.specs.declared.algo.Algo.TheVariants.{Md5, Sha1, Sha224, Sha256, Sha384, Sha512, Blake2b}
 pub use Rattle.digest_kinds.specs.declared.algo.Algos.{Algos}
 pub use Rattle.digest_kinds.specs.declared.algo.Algos.TheVariants.{One, Any}

@@ -1,6 +1,6 @@
 -- How `Words` keeps a list of words: as bytes, cut at the places where the words end.
 use Rattle.std.specs.Prelude.{ℕ, ◌≡◌, ◌≤◌, ◌-◌, List, [], ◌∷◌, take, drop, length}
-pub use Rattle.digest_kinds.specs.Basics.{ByteString}
+pub use Rattle.digest_kinds.specs.Bytes.{ByteString}
 
 -- the pieces of bytes from a place on, which end at these places
 abbrev pub pieces_cut : ByteString → ℕ → List ℕ → List ByteString

@@ -1,6 +1,6 @@
 //! The arguments of the process.
 ghost use Rattle.std.specs.Prelude.{◌≡◌, ◌≤◌, List, Option, None, IfOk, length, map};
-ghost use Rattle.digest_kinds.specs.Basics.{ByteString};
+ghost use Rattle.digest_kinds.specs.Bytes.{ByteString};
 ghost use Rattle.sum_words.specs.CommandLines.{Fills};
 
 use std::env::FillError;
@@ -47,7 +47,7 @@ pub struct ToldArguments<'a> {
 
 impl<'a> Model for ToldArguments<'a> {
     ghost use Rattle.std.specs.Prelude.{List, map};
-    ghost use Rattle.digest_kinds.specs.Basics.{ByteString};
+    ghost use Rattle.digest_kinds.specs.Bytes.{ByteString};
 
     ghost Value = { List ByteString };
 

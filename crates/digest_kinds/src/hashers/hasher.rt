@@ -1,7 +1,7 @@
 //! The trait of a hasher.
 
 ghost use Rattle.std.specs.Prelude.{◌≡◌, ◌↔◌, ℕ, ◌+◌, ◌^◌, ◌<◌, ◌++◌, length, IsOk, OnOk, OnErr};
-ghost use Rattle.digest_kinds.specs.Basics.{ByteString};
+ghost use Rattle.digest_kinds.specs.Bytes.{ByteString};
 ghost use Rattle.digest_kinds.specs.Kinds.{KindValue, digest};
 
 use crate::digest::Digest;

@@ -5,7 +5,7 @@ use Rattle.std.specs.Option.{option_or}
 use Rattle.std.specs.Result.{result_ok}
 use Rattle.std.specs.List.{starts_with, before_first, after_first}
 use Rattle.std.specs.Path.{rsplit_once}
-pub use Rattle.digest_kinds.specs.Basics.{ByteString, ◌>>=◌, after_while}
+pub use Rattle.digest_kinds.specs.Bytes.{ByteString, ◌>>=◌, after_while}
 use Rattle.digest_kinds.specs.Kinds.{KindValue, all_algos, has_len, tag}
 use Rattle.digest_kinds.specs.KindTexts.{kind_and_rest}
 use Rattle.sum_lines.specs.grammar.Shapes.{Algo, Algos, One, Any, is_blank, decode_of}

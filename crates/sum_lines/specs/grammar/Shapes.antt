@@ -3,7 +3,7 @@
 use Rattle.std.specs.Prelude.{ℕ, ◌≡◌, ◌<◌, ◌==◌, ◌||◌, ⊤, Bool, true, [], ◌∷◌, ◌++◌, length, codes, IsTrue, Ok, if◌then◌else◌}
 use Rattle.std.specs.List.{AllPass}
 pub use Rattle.hex.specs.Hex.{decode_of}
-pub use Rattle.digest_kinds.specs.Basics.{ByteString}
+pub use Rattle.digest_kinds.specs.Bytes.{ByteString}
 pub use Rattle.digest_kinds.specs.Kinds.{KindValue, has_len, tag}
 use Rattle.digest_kinds.specs.KindTexts.{IsWidth}
 pub use Rattle.digest_kinds.specs.declared.algo.Algo.{Algo}

@@ -1,5 +1,5 @@
 -- The state of a sink, and what writing and flushing do to it. What a buffer over a sink buffers, and when it flushes.
-pub use Rattle.digest_kinds.specs.Basics.{ByteString}
+pub use Rattle.digest_kinds.specs.Bytes.{ByteString}
 use Rattle.std.specs.Prelude.{ℕ, ◌≡◌, ◌<◌, ◌≤◌, ◌+◌, ◌==◌, List, [], ◌∷◌, ◌++◌, length, take, if◌then◌else◌, ⊤, Option, Some, Result, Ok, Err, IfSome}
 
 -- a prefix of a list, which may be the whole

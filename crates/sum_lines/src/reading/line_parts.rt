@@ -5,7 +5,7 @@ ghost use Rattle.std.specs.List.{prefix_len, take_while};
 ghost use Rattle.std.specs.Option.{option_copied, option_map};
 ghost use Rattle.std.specs.Path.{rsplit_once};
 ghost use Rattle.sum_lines.specs.grammar.LineParts.{strip_prefix, mark_and_rest};
-ghost use Rattle.digest_kinds.specs.Basics.{after_while};
+ghost use Rattle.digest_kinds.specs.Bytes.{after_while};
 ghost use Rattle.sum_lines.specs.grammar.Shapes.{is_blank};
 ghost use Rattle.sum_lines.specs.refinement.Beginnings.{IsFront};
 

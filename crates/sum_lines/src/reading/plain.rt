@@ -5,7 +5,7 @@ ghost use Rattle.std.specs.Option.{option_map};
 ghost use Rattle.digest_kinds.specs.Kinds.{has_len};
 ghost use Rattle.sum_lines.specs.grammar.Shapes.{is_blank};
 ghost use Rattle.sum_lines.specs.grammar.LineParts.{mark_and_rest, plain_parts};
-ghost use Rattle.digest_kinds.specs.Basics.{after_while};
+ghost use Rattle.digest_kinds.specs.Bytes.{after_while};
 ghost use Rattle.sum_lines.specs.refinement.Beginnings.{EndsDigits, IsFront, line_parts};
 
 use crate::reading::line_parts::{Front, LineParts, text_after};

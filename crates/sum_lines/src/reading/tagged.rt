@@ -2,7 +2,7 @@
 
 ghost use Rattle.std.specs.Prelude.{◌≡◌, ◌≤◌, codes, length, IfSome, Some};
 ghost use Rattle.std.specs.Option.{option_copied, option_map, option_or};
-ghost use Rattle.digest_kinds.specs.Basics.{after_while};
+ghost use Rattle.digest_kinds.specs.Bytes.{after_while};
 ghost use Rattle.sum_lines.specs.grammar.Shapes.{is_blank};
 ghost use Rattle.sum_lines.specs.grammar.LineParts.{mark_and_rest, strip_prefix, tag_in, tagged_parts};
 ghost use Rattle.sum_lines.specs.refinement.Beginnings.{IsFront, line_parts};

@@ -2,7 +2,7 @@
 use Rattle.std.specs.Prelude.{◌≡◌, ◌+◌, ◌-◌, ◌^◌, ◌<◌, ◌≤◌, ◌⊎◌, take, drop, Option, None, Some, Result, Ok, Err, Bool, true, false, [], ◌∷◌, ◌++◌}
 use Rattle.sum_sources.specs.Contents.{Reads, Fault, Whole, Broken}
 use Rattle.sum_sources.specs.refinement.LimitedReads.{FindsEnding}
-use Rattle.digest_kinds.specs.Basics.{ByteString}
+use Rattle.digest_kinds.specs.Bytes.{ByteString}
 use Rattle.sum_sources.specs.declared.line_reader.LineReader.TheInside.{Inside}
 use Rattle.sum_sources.specs.declared.line_reader.ReaderState.{ReaderState}
 use Rattle.sum_sources.specs.declared.line_reader.ReaderState.TheVariants.{Active, Done, Stopped}

@@ -1,4 +1,4 @@
--- General words, for the definitions of all crates.
+-- Words on bytes that several crates use. Nothing here names a digest, a line, a file or an option.
 use Rattle.std.specs.Prelude.{ℕ, Bool, Option, option_and_then, drop}
 use Rattle.std.specs.List.{prefix_len}
 pub use Rattle.blake2b_core.specs.Bytes.{ByteString}
