@@ -3,12 +3,9 @@
 import os
 import re
 import shutil
-import signal
-import subprocess
 
-import harness
-from harness import M, NAMES, TOOLS, TOP, Case, Ran
-from repository import ASKED, BOTH, DEFAULT, FAST, OF_A, Repository
+from harness import TOP, Case, Ran
+from repository import BOTH, DEFAULT, FAST, OF_A, Repository
 
 
 class Build(Repository):
@@ -40,17 +37,6 @@ class Build(Repository):
         self.put("crates.txt", "low:\ndigests: low\n")
         self.expect_built("crates.txt")
 
-    def test_what_has_not_changed(self):
-        """Where only times are others, or a program is missing, rt is asked, and no more is compiled than that."""
-        self.build()
-        before = self.programs()
-        os.utime(self.sources[0])
-        self.expect_built("another time", ASKED)
-        for level, calls in ((DEFAULT, ASKED), (FAST, BOTH)):
-            shutil.rmtree(self.in_top(f"out/{level}"))
-            self.expect_built(level, calls)
-            self.assertEqual(self.programs(), before)
-
     def test_a_failed_build(self):
         """It says why, with the status 1, however often; the old program is neither run nor installed."""
         log = self.in_top("out/build.log")
@@ -79,65 +65,6 @@ class Build(Repository):
             self.assertEqual(self.script(*words, PATH=os.pathsep.join(folders)), Ran(1, b"", said))
         self.assertIn("\n## Set-up\n", self.read(os.path.join(TOP, "README.md")).decode())
         self.assertFalse(os.path.exists(self.in_top("out")) or os.path.exists(self.path("prefix")))
-
-    def test_a_build_that_is_killed(self):
-        """What is left is taken for no program, and the next call builds."""
-        for number in (signal.SIGINT, signal.SIGKILL):
-            hangs = os.fsdecode(self.path(f"hangs{number}"))
-            started = subprocess.Popen([self.in_top("digests"), "md5sum", "a"], env={**self.env, "RT_HANGS": hangs},
-                                       stderr=subprocess.DEVNULL, start_new_session=True)
-            self.until(lambda: os.path.exists(hangs), "rt is called")
-            os.killpg(started.pid, number)
-            self.assertNotEqual(started.wait(timeout=harness.RUN_SECONDS), 0)
-            self.assertEqual(self.programs(), {})
-        self.expect_built("again")
-
-    def test_two_at_once(self):
-        """The second waits, and then finds it built."""
-        self.write(self.notes, "")
-        builds = [subprocess.Popen([self.in_top("digests"), "md5sum", "a"], env=self.env, cwd=self.folder,
-                                   stdout=subprocess.PIPE, stderr=subprocess.PIPE) for _ in range(2)]
-        for build in builds:
-            out, err = build.communicate(timeout=harness.RUN_SECONDS)
-            self.assertEqual((build.returncode, out), (0, OF_A.out), err)
-        self.assertEqual(self.read(self.notes).decode().splitlines(), BOTH)
-
-
-class Launcher(Repository):
-    def setUp(self):
-        super().setUp()
-        self.build()
-
-    def test_words_streams_status_and_signals(self):
-        self.write("two  words *", "abc")
-        ran = self.script("digests", "md5sum", "two  words *", "", "new\nline", "-", stdin=b"abc")
-        said = b"md5sum: : No such file or directory\nmd5sum: new\\nline: No such file or directory\n"
-        self.assertEqual(ran, Ran(1, f"{M}  two  words *\n{M}  -\n".encode(), said))
-        self.assertEqual(self.script("digests"), Ran(1, b"", b"digests: unknown tool\n"))
-        for closed, wanted in (("<&-", Ran(1, b"", b"md5sum: -: Bad file descriptor\n")),
-                               (">&-", Ran(1, b"", b"md5sum: write error\n"))):
-            ran = self.run_command(["sh", "-c", f'"$0" md5sum {closed}', self.in_top("digests")], env=self.env)
-            self.assertEqual(ran, wanted)
-        os.mkfifo(self.path("p"))
-        started = subprocess.Popen([self.in_top("digests"), "md5sum", "p"], cwd=self.folder, env=self.env)
-        with open(self.path("p"), "wb"):  # opens once the program reads
-            started.terminate()
-            self.assertEqual(started.wait(timeout=harness.RUN_SECONDS), -signal.SIGTERM)
-
-    def test_links(self):
-        """By a link to a link, too, with spaces and newlines in folders: the tools' names, and no other."""
-        os.rename(self.top, self.top + "\n2\n")
-        os.mkdir(self.path("a\nfolder "))
-        os.symlink(f"../{os.path.basename(self.top)}\n2\n/digests", self.path("a\nfolder /foosum"))
-        for name in NAMES:
-            os.symlink("foosum", self.path(f"a\nfolder /{name}"))
-        for tool, (_, of_nothing, of_abc) in TOOLS.items():
-            ran = self.run_command([self.path(f"a\nfolder /{tool}"), "a", "e"], env=self.env)
-            self.assertEqual(ran, Ran(0, f"{of_abc}  a\n{of_nothing}  e\n".encode(), b""))
-        ran = self.run_command(["./anysum"], cwd=self.path("a\nfolder "), env=self.env)
-        self.assertEqual(ran.err, b"anysum: --check is required\nTry 'anysum --help' for more information.\n")
-        self.assertEqual(self.run_command([self.path("a\nfolder /foosum"), "md5sum", "a"], env=self.env), OF_A)
-
 
 class SameBytes(Case):
     of_the_repository = True

@@ -1,7 +1,7 @@
 """Checking: the verdicts, reports, summaries and statuses, the forms of manifests, and hostile ones."""
 
 import harness
-from harness import E, M, S, TOOLS, VERDICTS, VERDICTS_ERR, VERDICTS_OUT, X_MISSING
+from harness import M, TOOLS, VERDICTS, VERDICTS_ERR, VERDICTS_OUT, X_MISSING
 from harness import Case, Ran, bad, unread, wrong
 
 NONE_FOUND = "no properly formatted checksum lines found"
@@ -22,33 +22,6 @@ class Verdicts(Case):
         self.expect("md5sum -c --status -w --quiet l", out=VERDICTS_OUT.splitlines()[1:], err=VERDICTS_ERR, status=1)
         self.expect("md5sum -cw --status --quiet --status l", err=[X_MISSING], status=1)
 
-    def test_ignore_missing(self):
-        self.write("l2", [f"{M}  x"])
-        self.expect("md5sum -c --ignore-missing --status l2", status=1)
-        self.write("l3", [f"{M}  x", f"{M}  a"])
-        self.expect("md5sum -c --ignore-missing l3", out=["a: OK"])
-        self.write("l4", [f"{M}  x", f"{M}  e"])
-        self.expect("md5sum -c --ignore-missing l4", out=["e: FAILED"],
-                    err=[wrong(1), "md5sum: l4: no file was verified"], status=1)
-        err = ["md5sum: l2: no file was verified"]
-        self.expect("md5sum -c --ignore-missing l3 l2", out=["a: OK"], err=err, status=1)
-
-    def test_strict(self):
-        self.write("l", [f"{M}  a", "junk"])
-        self.expect("md5sum -c l", out=["a: OK"], err=[bad(1)])
-        self.expect("md5sum -c --strict l", out=["a: OK"], err=[bad(1)], status=1)
-        self.expect("md5sum -c --strict --status l", status=1)
-        self.expect("md5sum -c --status l")
-        self.expect("md5sum -c --quiet l", err=[bad(1)])
-
-    def test_nothing_to_check(self):
-        self.expect("md5sum -c", stdin=[f"{M}  -"], err=[f"md5sum: standard input: {NONE_FOUND}"], status=1)
-        for words in ("md5sum -c -w e", "md5sum -c --ignore-missing e"):
-            self.expect(words, err=[f"md5sum: e: {NONE_FOUND}"], status=1)
-        self.write("l", ["junk", "", "#"])
-        self.expect("md5sum -c -w l", err=["md5sum: l: 1: improperly formatted MD5 checksum line",
-                                           f"md5sum: l: {NONE_FOUND}"], status=1)
-
     def test_every_tool_checks_its_own(self):
         for tool, (tag, of_nothing, of_abc) in TOOLS.items():
             self.write("l", [f"{of_abc}  a", f"{tag} (e) = {of_nothing}", f"{of_nothing} *a", f"{of_nothing}0  e"])
@@ -62,14 +35,6 @@ class Manifests(Case):
         self.expect("md5sum -c --status x", err=[X_MISSING], status=1)
         self.expect("md5sum -c --ignore-missing x", err=[X_MISSING], status=1)
         self.expect(["md5sum", "-c", SPECIAL], err=["md5sum: q\\\\\\nz: No such file or directory"], status=1)
-
-    def test_counts_and_forms_of_their_own(self):
-        self.write("l9", ["junk", f"{M}  a"])
-        self.expect("md5sum -cw l9 l9", out=["a: OK"] * 2,
-                    err=["md5sum: l9: 1: improperly formatted MD5 checksum line", bad(1)] * 2)
-        self.write("standard", [f"{M}  a"])
-        self.write("reversed", [f"{M} a"])
-        self.expect("md5sum -c standard reversed standard", out=["a: OK"] * 3)
 
     def test_open_files_are_closed_again(self):
         """With few descriptors allowed, many manifests and many listed files are read one after the other."""
@@ -85,16 +50,6 @@ class Manifests(Case):
         self.expect("md5sum -cw - a", stdin=["junk", f"{M}  a"], out=["a: OK"], status=1,
                     err=["md5sum: standard input: 1: improperly formatted MD5 checksum line", bad(1),
                          "md5sum: a: 1: improperly formatted MD5 checksum line", f"md5sum: a: {NONE_FOUND}"])
-
-    def test_lists_in_lists(self):
-        self.write(SPECIAL, ["junk"])
-        shown = "md5sum: q\\\\\\nz:"
-        self.expect(["md5sum", "-cw", SPECIAL], status=1,
-                    err=[f"{shown} 1: improperly formatted MD5 checksum line", f"{shown} {NONE_FOUND}"])
-        self.write("l", [f"{E}  l", f"{M}  a"])
-        self.expect("md5sum -c l", out=["l: FAILED", "a: OK"], err=[wrong(1)], status=1)
-        self.write("m", [f"{tag} (a) = {of_abc}" for tag, _, of_abc in TOOLS.values()])
-        self.expect("anysum -c m", out=["a: OK"] * len(TOOLS))
 
 
 class Lines(Case):
@@ -112,23 +67,6 @@ class Lines(Case):
                 if style == "--tag":
                     self.expect("anysum -c --strict", stdin=ran.out, out=shown)
 
-    def test_entries(self):
-        for line in (f"  {M}  a", f"{M}\t a", f"\\{M}  a", f" \t\\{M} *a",
-                     f"MD5 (a) = {M}", f"MD5(a)\t=\t{M}", f" MD5 (a)={M}"):
-            self.expect("md5sum -c --strict", stdin=[line], out=["a: OK"])
-        self.write("a)", "abc")
-        self.expect("md5sum -c", stdin=[f"MD5 (a)) = {M}"], out=["a): OK"])
-        self.write("a\nb", "abc")
-        self.expect("md5sum -c", stdin=[f"\\MD5 (a\\nb) = {M}"], out=["\\a\\nb: OK"])
-        self.write(" ", "abc")
-        self.expect("md5sum -c", stdin=[f"{M}  "], out=[" : OK"])
-        self.write("*", "abc")
-        self.expect("md5sum -c", stdin=[f"{M} *"], out=["*: OK"])
-        for line in (f"{M} ", f"{M}", f"\\{M}  q\\x", f"{M}  a\0", f"\\{M}  a\rb", f"\\\\{M}  a",
-                     f"MD5 () = {M}", f"MD5  (a) = {M}", f"md5 (a) = {M}", f"MD5 (a) = {M} ", f"MD5 (a) {M}",
-                     f"SHA1 (a) = {M}", f"{M[:-1]}  a", f"{M}0  a", f"{M[:-1]}g  a"):
-            self.expect("md5sum -c", stdin=[line], err=[f"md5sum: standard input: {NONE_FOUND}"], status=1)
-
     def test_lines_of_zero(self):
         """None can be read; but what stands before a newline in a name is a line."""
         for words in ("-z a e", "-z a", "-bz a", "-z --tag a"):
@@ -137,12 +75,6 @@ class Lines(Case):
         self.write("a\nb", "abc")
         written = self.run_words(["md5sum", "-z", "a\nb"]).out
         self.expect("md5sum -c", stdin=written, out=["a: OK"], err=[bad(1)])
-
-    def test_another_tools_lines_and_no_last_newline(self):
-        manifest = [f"SHA512 (a) = {S}", f"SHA256 (a) = {S}"]
-        self.expect("sha256sum -c", stdin=manifest, out=["a: OK"], err=[bad(1, "sha256sum")])
-        self.expect("md5sum -c", stdin=f"{M}  a\r", out=["a: OK"])
-        self.expect("md5sum -c --strict", stdin=f"{M}  a\n\r", out=["a: OK"])
 
 
 class Hostile(Case):

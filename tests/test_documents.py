@@ -5,8 +5,9 @@ import os
 import re
 
 import believed
-from harness import TOP, Case
-from rattle import Code, Module, text_of
+import harness
+from harness import TOP, Case, Ran
+from rattle import Code, text_of
 
 
 class Documents(Case):
@@ -35,37 +36,6 @@ class Documents(Case):
         there = [path.split(os.sep)[-3::2] for path in glob.glob(os.path.join(TOP, "crates", "*", "must-fail", "*"))]
         self.assertEqual(sorted(named), sorted((crate, file[:-len(".edit")]) for crate, file in there),
                          "tools/refusals.py makes the table anew")
-
-    def test_refusals(self):
-        """tools/refusals.py writes nothing if a function that it names has no clause of that name."""
-        page, code = text_of("docs", "TESTING.md"), text_of("crates", "sum_lines", "src", "escape.rt")
-        place = code[:code.index("fn first_escaped")].count("\n") + 1
-        for goal in ("returns-clause-bytes`", "returns-in-Some-clause-escaped"):
-            said = f"refused, as it must be: note: src/escape.rt:{place}:1: it is not proved (`{goal}"
-            self.write("said", f"rt: must-fail sum_lines/a.edit: {said}\n")
-            ran = self.run_command([os.path.join(TOP, "tools", "refusals.py"), self.path("said")])
-            self.assertEqual((ran.status, ran.err.decode()),
-                             (1, f"sum_lines/a.edit: first_escaped has no clause as in {said}\n"))
-        self.assertEqual(text_of("docs", "TESTING.md"), page)
-
-    def test_text(self):
-        """`--text` begins with the headline, counted as on the page, and goes down to BLAKE2b."""
-        ran = self.run_command([os.path.join(TOP, "tools", "believed.py"), "--text"])
-        counted = re.search(r"\*\*The headline\*\* \(`run` of `digests`\): (.*);", believed.page()[1])[1]
-        said = ran.out.decode()
-        self.assertEqual((ran.status, ran.err, said.split("\n")[0]),
-                         (0, b"", f"-- The headline (run of digests): {counted}"))
-        parts = ["pub fn run<", " pub meaning :", " pub check_behavior :", "pub trait Source ", " pub compress :",
-                 "pub fn command<", "pub fn parse_is_grammar()"]
-        self.assertEqual(sorted(parts, key=said.index), parts)
-
-    def test_what_cannot_be_read(self):
-        """It is refused, so that no line of a definition is left out unseen."""
-        for text in ("abbrev pub f : A → B\nf a = b\n-- why\nf c = d", "mutual\nabbrev pub f : A\nf = a",
-                     "use Rattle.std.specs.Prelude.{ℕ,\n  List}"):
-            self.write("File.antt", text)
-            with self.assertRaises(ValueError, msg=text):
-                Module("crate", "File", os.fsdecode(self.path("File.antt")))
 
     def test_paths_that_are_named(self):
         """Each path of the repository that a document names is there, from the top or from a crate's folder."""
@@ -113,3 +83,13 @@ class Documents(Case):
         self.assertEqual((ran.status, ran.err), (0, b""))
         found = {os.path.splitext(line)[0] for line in ran.out.decode().splitlines()}
         self.assertLessEqual({f"crates/sum_sources/{name}" for name in ("specs/Faults", "src/fault")}, found)
+
+    def test_sums(self):
+        """Those of the newest version in CHANGELOG are those of what is built, as docs/PACKAGING.md checks them."""
+        newest = re.split(r"(?m)^## ", text_of("CHANGELOG.md"))[1]
+        if "  out/" not in newest or not os.path.exists(os.path.join(TOP, "out", "x86-64-v3", "digests")):
+            self.skipTest("the newest version has no sums yet, or nothing is built")
+        command = re.search(r"(?m)^    (grep .* CHANGELOG\.md .*)$", text_of("docs", "PACKAGING.md"))[1]
+        ran = self.run_command(["sh", "-c", command.replace("./digests", f"'{harness.PROGRAM}'")], cwd=TOP)
+        self.assertEqual(ran, Ran(0, b"out/default/digests: OK\nout/x86-64-v3/digests: OK\n", b""),
+                         "what is built is older than its sources, or by another kit (`rt version`) than CHANGELOG's")

@@ -47,38 +47,6 @@ class Digests(Case):
             self.expect(["b2sum", f"-l{8 * size}", "--tag", "a"], out=[f"BLAKE2b-{8 * size} (a) = {digits}"])
 
 
-class Styles(Case):
-    """Text, binary and tagged lines, with a newline or a NUL at the end."""
-
-    def test_each_style(self):
-        self.expect("md5sum -t a", out=[f"{M}  a"])
-        self.expect("md5sum -b -t a", out=[f"{M}  a"])
-        self.expect("md5sum -b", stdin="abc", out=[f"{M} *-"])
-        for tool, (tag, of_nothing, of_abc) in TOOLS.items():
-            self.expect([tool, "--tag", "a", "e"], out=[f"{tag} (a) = {of_abc}", f"{tag} (e) = {of_nothing}"])
-        self.expect("md5sum -z a e", out=f"{M}  a\0{E}  e\0")
-        self.expect("md5sum -bz a", out=f"{M} *a\0")
-        self.expect("md5sum --tag -z a", out=f"MD5 (a) = {M}\0")
-
-    def test_names(self):
-        self.write(SPECIAL, "abc")
-        self.expect(["md5sum", SPECIAL], out=[f"\\{M}  {SPECIAL_SHOWN}"])
-        self.expect(["md5sum", "-b", SPECIAL], out=[f"\\{M} *{SPECIAL_SHOWN}"])
-        self.expect(["md5sum", "--tag", SPECIAL], out=[f"\\MD5 ({SPECIAL_SHOWN}) = {M}"])
-        self.expect(["md5sum", "-z", SPECIAL], out=f"{M}  {SPECIAL}\0")
-        self.expect(["md5sum", "-z", "--tag", SPECIAL], out=f"MD5 ({SPECIAL}) = {M}\0")
-        self.write("a\rb", "abc")
-        self.expect(["md5sum", "a\rb"], out=[f"\\{M}  a\\rb"])
-        self.expect(["md5sum", "-z", "a\rb"], out=f"{M}  a\rb\0")
-        for name, shown in (("\\", "\\\\"), ("\\\\", "\\\\\\\\"), ("\n", "\\n"), ("\r", "\\r"), ("\\n", "\\\\n")):
-            self.write(name, "abc")
-            self.expect(["md5sum", name], out=[f"\\{M}  {shown}"])
-        for name in (" ", " a", "a ", "*a", "a)", "(", "#", "tab\there", "\x01\x7f", "été", "日本", "'\"$`", "= x"):
-            self.write(name, "abc")
-            self.expect(["md5sum", name], out=[f"{M}  {name}"])
-            self.expect(["md5sum", "--tag", name], out=[f"MD5 ({name}) = {M}"])
-
-
 class Operands(Case):
     """Which names are read, in which order, and what a name that can't be read gives."""
 

@@ -11,7 +11,8 @@ import tempfile
 
 import harness
 from harness import GNU_TOOLS, NAMES, RUN_SECONDS, TOOLS, Ran
-from repository import DEFAULT, FAST, OF_A, Repository
+from recipes import made_by
+from repository import DEFAULT, FAST, Repository
 
 OWN_NAMES = [name for name in NAMES if name not in GNU_TOOLS]
 LIST = "share/digests/installed"
@@ -78,7 +79,7 @@ class Install(Repository):
                 names |= {f"{BASH}/{name}", f"{FISH}/{name}.fish"}
                 wanted.update({} if name == "digests" else {f"bin/{name}": "digests"})
         if not own_names:
-            wanted.update({page: self.read(self.in_top(f"man/{page[15:]}")) for page in names if page.endswith(".1")})
+            wanted.update({f"share/man/man1/{name}.1": text.encode() for name, text in made_by(harness.PROGRAM).items()})
         self.assertEqual(set(found), names | set(wanted) | set(more))
         self.assertEqual({name: found[name] for name in wanted}, wanted)
         for name in names - {LIST} | {"bin/digests"}:

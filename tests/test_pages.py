@@ -1,5 +1,5 @@
-"""The manual pages in man/: they are what tools/pages.py makes, and what they say of options and of faults is what the
-program does. test_recipes.py types what they show."""
+"""The manual pages: what they say of options and of faults is what the program does. test_recipes.py types what they
+show."""
 
 import glob
 import os
@@ -8,18 +8,14 @@ import shutil
 
 import harness
 import pages
-from harness import NAMES, TOP, Case, Ran
+from harness import NAMES, Case, Ran
 from options import takes
-from recipes import sections_of
+from recipes import made_by, sections_of
 from reference import REASONS
 
 
 class Pages(Case):
     of_the_repository = True
-
-    def test_made_pages_are_in_the_tree(self):
-        ran = self.run_command([os.path.join(TOP, "tools", "pages.py"), "--check", "--program", harness.PROGRAM])
-        self.assertEqual(ran, Ran(0, b"", b""))
 
     def test_options(self):
         """Each of the help is there, but for those that anysum never takes; and each group is of the options that the
@@ -42,9 +38,9 @@ class Pages(Case):
     def test_as_a_person_sees_them(self):
         if shutil.which("man") is None:
             self.skipTest("man isn't installed")
-        for name, text in pages.pages(harness.PROGRAM, own=True).items():
+        for name, text in {**made_by(harness.PROGRAM), **pages.pages(harness.PROGRAM, own=True)}.items():
             self.write(f"{name}.1", text)
-        files = glob.glob(os.path.join(TOP, "man", "*.1")) + glob.glob(os.path.join(self.folder, "*.1"))
+        files = glob.glob(os.path.join(os.fsdecode(self.folder), "*.1"))
         for page in files:
             env = {**os.environ, "MANWIDTH": "80", "LC_ALL": "C.UTF-8", "TERM": "dumb"}
             ran = self.run_command(["man", "--warnings", "-l", page], env=env)
@@ -85,22 +81,3 @@ class Said(Case):
             missing = [mark for mark in self.marks() if mark not in found]
             self.assertEqual([re.sub(r"\W", "", mark) for mark in missing],
                              ["memoryexhausted", "digestswordsnotread", "thismachinelacksafeatureofx8664v3"])
-
-
-class Made(Case):
-    """The script that makes them, in a copy."""
-
-    of_the_repository = True
-
-    def test_what_is_not_as_it_is_made(self):
-        """It is named, and made anew."""
-        for name in ("tools", "man"):
-            shutil.copytree(os.path.join(TOP, name), self.path(name).decode())
-        shutil.copy(os.path.join(TOP, "CHANGELOG.md"), self.folder)
-        command, page = [self.path("tools/pages.py"), "--program"], self.read("man/b2sum.1")
-        self.write("man/b2sum.1", page + b"more\n")
-        self.write("man/other.1", "")
-        said = b"man/other.1: not of this script's making\nman/b2sum.1: is to be made anew\n"
-        self.assertEqual(self.run_command([*command, harness.PROGRAM, "--check"]), Ran(1, said, b""))
-        self.assertEqual(self.run_command([*command, harness.PROGRAM]).status, 1)
-        self.assertEqual(self.read("man/b2sum.1"), page)

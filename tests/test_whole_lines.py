@@ -9,7 +9,7 @@ import subprocess
 import unittest
 
 import harness
-from harness import E, M, NAMES, S, TOOLS, VERDICTS, VERDICTS_ERR, VERDICTS_OUT, X_MISSING
+from harness import M, NAMES, S, TOOLS, VERDICTS, VERDICTS_ERR, VERDICTS_OUT, X_MISSING
 from harness import WRITE_ERROR, Case, Ran, as_bytes, as_words
 from reference_words import help_text
 
@@ -90,17 +90,6 @@ class OneWriteALine(Packets):
             self.expect_packets([tool, "-z", "--tag", "a", SPECIAL], out=[
                 f"{tag} (a) = {of_abc}\0", f"{tag} ({SPECIAL}) = {of_abc}\0"])
 
-    def test_diagnostics(self):
-        """Every line about a file that can't be read comes whole on standard error."""
-        os.mkdir(self.path("d"))
-        missing = f"md5sum: {SPECIAL_SHOWN}: No such file or directory\n"
-        directory = "md5sum: d: Is a directory\n"
-        for style in ("-t", "-z"):
-            end = "\0" if style == "-z" else "\n"
-            words = ["md5sum", style, "a", "x", SPECIAL, "d", "e"]
-            self.expect_packets(words, out=[f"{M}  a{end}", f"{E}  e{end}"],
-                                err=[X_MISSING + "\n", missing, directory], status=1)
-
     def test_help_and_faults_of_the_words(self):
         for tool in NAMES:
             self.expect_packets([tool, "--help"], out=[help_text(tool)])
@@ -154,30 +143,6 @@ class OneWriteAReport(Packets):
         self.expect_packets("md5sum -c --ignore-missing l", out=[out[0], out[2]], err=err, status=1)
         with open(self.path("l"), "rb") as manifest:
             self.expect_packets("md5sum -c", out=out, err=[missing, *warnings], status=1, stdin=manifest)
-
-    def test_escaped_names(self):
-        """A report with an escaped name is one write, on either output."""
-        self.write(SPECIAL, "abc")
-        self.write("l", [f"\\{M}  {SPECIAL_SHOWN}", f"\\{M}  x{SPECIAL_SHOWN}"])
-        self.expect_packets("md5sum -c l", status=1,
-                            out=[f"\\{SPECIAL_SHOWN}: OK\n", f"\\x{SPECIAL_SHOWN}: FAILED open or read\n"],
-                            err=[f"md5sum: x{SPECIAL_SHOWN}: No such file or directory\n",
-                                 "md5sum: WARNING: 1 listed file could not be read\n"])
-
-    def test_whole_manifests(self):
-        os.mkdir(self.path("d"))
-        self.write(SPECIAL, "junk\n")
-        self.write("missing", [f"{M}  x"])
-        self.expect_packets(["md5sum", "-c", "x", "d", SPECIAL, "e"], status=1, err=[
-            X_MISSING + "\n", "md5sum: d: Is a directory\n",
-            f"md5sum: {SPECIAL_SHOWN}: no properly formatted checksum lines found\n",
-            "md5sum: e: no properly formatted checksum lines found\n"])
-        self.expect_packets("md5sum -c --ignore-missing missing", status=1,
-                            err=["md5sum: missing: no file was verified\n"])
-        self.write("l", [f"{tag} (a) = {of_abc}" for tag, _, of_abc in TOOLS.values()] + ["junk"])
-        self.expect_packets("anysum -cw l", out=["a: OK\n"] * len(TOOLS), err=[
-            f"anysum: l: {len(TOOLS) + 1}: improperly formatted tagged checksum line\n",
-            "anysum: WARNING: 1 line is improperly formatted\n"])
 
     def test_a_report_of_20000_bytes(self):
         """A report that is longer than any buffer takes several writes, and the next one begins with a new one."""

@@ -4,7 +4,7 @@ import os
 
 import harness
 import options
-from harness import B, E, M, NAMES, S, TOOLS, Case, as_bytes, bad, gnu
+from harness import B, M, NAMES, S, TOOLS, Case, as_bytes, gnu
 from library import parts_of
 from rattle import Code
 from reference_words import help_text, meaning
@@ -83,55 +83,6 @@ class LongOptions(Case):
         self.expect_fault("b2sum e --length", "option '--length' requires an argument")
         self.expect_fault("b2sum e -bl", "option requires an argument -- 'l'")
 
-    def test_each_form(self):
-        """Each option by its letter, by its name, and by the shortest cut that is left of that."""
-        for forms, out in ((("-b", "--binary", "--b"), [f"{M} *a"]), (("-bt", "-b --text", "-b --te"), [f"{M}  a"]),
-                           (("--tag", "--ta"), [f"MD5 (a) = {M}"]), (("-z", "--zero", "--z"), f"{M}  a\0")):
-            for form in forms:
-                self.expect(f"md5sum {form} a", out=out)
-        for form in ("-l 256", "-l256", "--length 256", "--length=256", "--l 256", "--l=256"):
-            self.expect(f"b2sum {form} e", out=[f"{B}  e"])
-
-    def test_each_form_of_checking(self):
-        self.write("l", [f"{M}  a", "junk"])
-        self.write("some", [f"{M}  a", f"{M}  x"])
-        for form in ("-c", "--check", "--c"):
-            self.expect(f"md5sum {form} l", out=["a: OK"], err=[bad(1)])
-            self.expect(f"md5sum {form} --strict l", out=["a: OK"], err=[bad(1)], status=1)
-            self.expect(f"md5sum {form} --str l", out=["a: OK"], err=[bad(1)], status=1)
-            for named in ("-w", "--warn", "--w"):
-                line = "md5sum: l: 2: improperly formatted MD5 checksum line"
-                self.expect(f"md5sum {form} {named} l", out=["a: OK"], err=[line, bad(1)])
-            for quiet in ("--quiet", "--q"):
-                self.expect(f"md5sum {form} {quiet} l", err=[bad(1)])
-            for silent in ("--status", "--sta"):
-                self.expect(f"md5sum {form} {silent} l")
-            for passed in ("--ignore-missing", "--i"):
-                self.expect(f"md5sum {form} {passed} some", out=["a: OK"])
-
-
-class ShortOptions(Case):
-    """Fault 5, clusters, and where options end."""
-
-    def test_faults_and_clusters(self):
-        self.expect_fault("md5sum -l 8 a", "invalid option -- 'l'")
-        self.expect_fault("md5sum -b- a", "invalid option -- '-'")
-        self.expect_fault(["md5sum", "-é"], "invalid option -- 'é'")
-        self.expect_fault(["md5sum", "-\n"], "invalid option -- '\\n'")
-        self.expect_fault(["md5sum", "-\\"], "invalid option -- '\\\\'")
-        self.expect_fault(["md5sum", "- a"], "invalid option -- ' '")
-        self.expect("md5sum -bz a", out=f"{M} *a\0")
-        self.expect("b2sum -bl 256 e", out=[f"{B} *e"])
-        self.expect_fault("b2sum -l256b e", "invalid length: '256b'")
-        self.expect("md5sum a -b e", out=[f"{M} *a", f"{E} *e"])
-        self.expect("md5sum a --tag e", out=[f"MD5 (a) = {M}", f"MD5 (e) = {E}"])
-        self.expect("md5sum a - e", stdin="abc", out=[f"{M}  a", f"{M}  -", f"{E}  e"])
-        self.write("-b", "abc")
-        self.expect("md5sum -b -- -b", out=[f"{M} *-b"])
-        self.expect_fault("md5sum a --foo x", "unrecognized option '--foo'")
-        self.expect("md5sum --", stdin="abc", out=[f"{M}  -"])
-        self.expect_fault("b2sum -l -- e", "invalid length: '--'")
-
 
 class Lengths(Case):
     """Faults 6 and 7."""
@@ -148,18 +99,6 @@ class Lengths(Case):
         self.expect("b2sum -l 12 -l 256 e", out=[f"{B}  e"])
         self.expect("b2sum -l x --length=256 e", out=[f"{B}  e"])
         self.expect_fault("b2sum -l 256 -l 12 e", "length is not a multiple of 8: '12'")
-
-
-class Combinations(Case):
-    """Faults 8 to 17; the order in which they are tried is proved, and unit tests have examples."""
-
-    def test_tag_and_length(self):
-        self.expect_fault("md5sum --tag -b -t a", "--tag does not support --text mode")
-        self.expect("md5sum --tag -t -b a", out=[f"MD5 (a) = {M}"])
-        self.expect_fault("b2sum -c -z -t --tag -l 12 l", "length is not a multiple of 8: '12'")
-        self.expect_fault("anysum --strict --warn", "the --warn option is meaningful only when verifying checksums")
-        self.write("l", [f"{B}  e"])
-        self.expect("b2sum -c -l 8 l", out=["e: OK"])
 
 
 class EachByte(Case):

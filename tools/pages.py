@@ -1,9 +1,7 @@
 #!/usr/bin/env python3
-"""Writes the manual pages in man/: `pages.py [--check] [--program FILE]`.
+"""Writes the manual pages into a folder: `pages.py [--program FILE] FOLDER`.
 
-They are made from the program's own help and the texts in pages/. With --check nothing is written, and the status is 1
-if a page is another, is missing or is one too many. `install` makes the pages for an installation beside GNU's tools,
-and the completions."""
+They are made from the program's own help and the texts in pages/. `install` makes those of an installation."""
 
 import argparse
 import os
@@ -146,21 +144,14 @@ def pages(program, own=False):
 
 def main():
     reader = argparse.ArgumentParser(description="Writes the manual pages.")
-    reader.add_argument("--check", action="store_true", help="write nothing, and say what isn't as it is to be")
     reader.add_argument("--program", default=PROGRAM, help="the built program; without it, this repository's own")
+    reader.add_argument("folder", metavar="FOLDER")
     asked = reader.parse_args()
-    files = {f"{name}.1": text for name, text in pages(asked.program).items()}
-    there = {name: text_of("man", name) for name in os.listdir(os.path.join(TOP, "man"))}
-    others = [name for name in files if files[name] != there.get(name)]
-    for name in sorted(set(there) - set(files)):
-        print(f"man/{name}: not of this script's making")
-    for name in others:
-        print(f"man/{name}: {'is to be made anew' if asked.check else 'written'}")
-        if not asked.check:
-            with open(os.path.join(TOP, "man", name), "w", encoding="utf-8") as file:
-                file.write(files[name])
-    return 1 if set(there) - set(files) or asked.check and others else 0
+    os.makedirs(asked.folder, exist_ok=True)
+    for name, text in pages(asked.program).items():
+        with open(os.path.join(asked.folder, f"{name}.1"), "w", encoding="utf-8") as file:
+            file.write(text)
 
 
 if __name__ == "__main__":
-    sys.exit(main())
+    main()

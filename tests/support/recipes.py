@@ -1,17 +1,23 @@
 """What the manual pages and README show to be typed, for the tests of it."""
 
+import functools
 import re
 import subprocess
 
+import harness
+import pages
 from harness import NAMES
 from rattle import text_of
 
 PAGES = [*NAMES, "digests"]
 
 
+made_by = functools.cache(pages.pages)  # each page's name and text, by the program
+
+
 def sections_of(page):
     """The sections of a page's source, with fonts and spelled signs as plain text."""
-    text = re.sub(r"\\f[BIR]|\\%|\\&", "", text_of("man", f"{page}.1"))
+    text = re.sub(r"\\f[BIR]|\\%|\\&", "", made_by(harness.PROGRAM)[page])
     for spelled, sign in (("\\-", "-"), ("\\(aq", "'"), ("\\(ha", "^"), ("\\(ti", "~"), ("\\ ", " "), ("\\e", "\\")):
         text = text.replace(spelled, sign)
     _, *parts = re.split(r"(?m)^\.SH (.*)\n", text)

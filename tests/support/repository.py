@@ -29,7 +29,7 @@ class Repository(Case):
         os.mkdir(self.top)
         for name in ("digests", "install", "test", "CHANGELOG.md"):
             shutil.copy(os.path.join(TOP, name), self.top)
-        for name in ("tools", "man", "completions"):
+        for name in ("tools", "completions"):
             shutil.copytree(os.path.join(TOP, name), self.in_top(name))
         self.put("crates.txt", "low: memchr\ndigests: low\nexample_some: low\n")
         self.sources = [self.put(f"crates/{crate}/{part}/Some.antt", f"{crate} {part}\n")
