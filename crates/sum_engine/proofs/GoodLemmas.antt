@@ -44,7 +44,7 @@ judged : (r : Rules) (files : List ℕ → Answer) (w : World) (n : ℕ) (f : Fo
     → judge r w n (parse_line present r.algo f (prefix i)) ≡ right n i
 judged r files w n f i steady h e =
     let is = parse_is_grammar present r.algo f (prefix i) in
-    rw ((is.when_entry (spelled_for i)).1 (e.0, e), verdict-right r files w i steady h) refl
+    rw ((is.when_entry (spelled_for i)).1 e, verdict-right r files w i steady h) refl
 
 -- and all of them, each in the world that those before it leave
 right-verdicts : (r : Rules) (files : List ℕ → Answer) (before : List (List ℕ)) (is : List Item) (w : World) (n : ℕ)

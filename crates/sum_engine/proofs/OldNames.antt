@@ -8,9 +8,9 @@ use Rattle.sum_lines.specs.grammar.Shapes.{Algos, mark, optional}
 use Rattle.sum_lines.specs.declared.reading.read_line.Form.{Form}
 use Rattle.sum_lines.specs.declared.reading.read_line.Form.TheVariants.{Undecided, Standard, Reversed}
 use Rattle.sum_lines.specs.Escape.{present, escape, escape_of, escape_by}
-use Rattle.sum_lines.specs.grammar.Entries.{EntryValue, is_ignored_by, IsRawName, SpellsByTag, SpellsByTail, IsEntry}
+use Rattle.sum_lines.specs.grammar.Entries.{EntryValue, is_ignored, IsRawName, SpellsByTag, SpellsByTail, IsEntry}
 use Rattle.sum_lines.specs.grammar.ParsedLines.{ParsedLine, ignored, bad, entry, parse_line}
-use Rattle.sum_lines.proofs.ParsedLineLemmas.{parse_is_grammar}
+use Rattle.sum_lines.proofs.ParsedLineLemmas.{parse_is_grammar, bad_exactly}
 use Rattle.sum_engine.specs.check.OldVerdicts.{older, HasNoCarriageReturn, NamesNoCarriageReturn}
 use Rattle.sum_engine.proofs.CarriageReturnLemmas.{IsNoCarriageReturn}
 use Rattle.sum_lines.specs.grammar.Entries as entries
@@ -98,8 +98,8 @@ entry_by E F algos f line s same h = search rules
 -- an older entry of a line without one has a name without one
 older_entry : (algos : Algos) (f : Form) (line : List ℕ) (s : EntryValue) → HasNoCarriageReturn line
     → IsEntry (escape_by older) algos f line s → HasNoCarriageReturn s.name
-older_entry algos f line s free (i, inl t) = search (rules, older_name, tag_clean)
-older_entry algos f line s free (i, inr t) = search (rules, older_name, tail_clean)
+older_entry algos f line s free (inl t) = search (rules, older_name, tag_clean)
+older_entry algos f line s free (inr t) = search (rules, older_name, tail_clean)
 
 -- ---- what a line says
 
@@ -110,8 +110,7 @@ CleanParsedLine bad = Unit {0}
 CleanParsedLine (entry s) = HasNoCarriageReturn s.name
 
 -- a line that isn't empty is ignored under both profiles or under neither
-ignored_same : (line : List ℕ) (q : Bool) → 0 < length line → is_ignored_by present line ≡ q → is_ignored_by older line
-    ≡ q
+ignored_same : (line : List ℕ) (q : Bool) → 0 < length line → is_ignored present line ≡ q → is_ignored older line ≡ q
 ignored_same line q some h = search rules
 
 -- a line without one, in which no name has one, says the same under both profiles
@@ -125,8 +124,8 @@ parse_line_same algos f line free names some = go (parse_line present algos f li
         × CleanParsedLine x
     go ignored h = search (rules, parse_is_grammar, ignored_same)
     go bad h =
-        let is = (parse_is_grammar present algos f line).when_bad.0 h in (
-          (parse_is_grammar older algos f line).when_bad.1 (
+        let is = (bad_exactly present algos f line).0 h in (
+          (bad_exactly older algos f line).1 (
             ignored_same line false some is.0,
             λ s e. is.1 s (entry_by (escape_by older) escape algos f line s
                 (same_escape s.name (older_entry algos f line s free e)) e),
@@ -136,4 +135,4 @@ parse_line_same algos f line free names some = go (parse_line present algos f li
     go (entry s) h =
         let is = ((parse_is_grammar present algos f line).when_entry s).0 h in
         let older_is = (parse_is_grammar older algos f line).when_entry s in
-        search (rules, is.0, is.1, names s is.1, older_is.1, ignored_same, entry_by, same_escape)
+        search (rules, is, names s is, older_is.1, entry_by, same_escape)

@@ -9,7 +9,8 @@ use Rattle.sum_engine.specs.check.Verdicts.{Algos, Form, Verdict, lines_under, R
 use Rattle.sum_engine.specs.check.CheckerSteps.{step_then}
 use Rattle.sum_engine.specs.check.Checking.{line_steps, content_behavior}
 use Rattle.sum_engine.specs.check.OldVerdicts.{older, rules_under, HasNoCarriageReturn, NamesNoCarriageReturn, IsOldManifest, OldVerdicts, OldOutcomes, OlderDiffers}
-use Rattle.sum_lines.proofs.ParsedLineLemmas.{parse_is_grammar}
+use Rattle.sum_lines.proofs.EntryLemmas.{entry-not_ignored}
+use Rattle.sum_lines.proofs.ParsedLineLemmas.{bad_exactly}
 use Rattle.sum_engine.proofs.OldNames.{front_clean, rest_clean, same_escape, CleanParsedLine, parse_line_same}
 use Rattle.sum_engine.proofs.CarriageReturnLemmas.{strips-kept}
 use Rattle.sum_engine.proofs.CheckOneLemmas.{opening}
@@ -157,8 +158,7 @@ old_outcomes r labels name w (Ok c) own h =
 
 -- an empty line is improper to older versions
 empty_line : (algos : Algos) (f : Form) → parse_line older algos f [] ≡ bad
-empty_line algos f =
-    let is = parse_is_grammar older algos f [] in is.when_bad.1 (refl, λ s e. let wrong = e.0 in cc)
+empty_line algos f = (bad_exactly older algos f []).1 (refl, λ s e. let wrong = entry-not_ignored present e in cc)
 
 -- the profiles do differ: a name with a carriage return, and an empty line
 pub older_differs : OlderDiffers

@@ -32,8 +32,8 @@ entry_same : (algos : Algos) (f g : Form) (line : List ℕ) (s : EntryValue)
     → parse_line present algos f line ≡ parse_line present algos g line
     → IsEntry escape algos f line s → IsEntry escape algos g line s
 entry_same algos f g line s same e =
-    (((parse_is_grammar present algos g line).when_entry s).0
-    (sym same ∙ ((parse_is_grammar present algos f line).when_entry s).1 (e.0, e))).1
+    ((parse_is_grammar present algos g line).when_entry s).0
+    (sym same ∙ ((parse_is_grammar present algos f line).when_entry s).1 e)
 
 -- so later lines have no part in an entry, a verdict or a plain line's form
 pub same_front : SameFront

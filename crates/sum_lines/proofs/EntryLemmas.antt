@@ -4,7 +4,8 @@ use Rattle.std.proofs.Common.{ℕ, ◌≡◌, Bool, true, false, List, [], ◌�
 use Rattle.std.specs.List.{AllPass}
 use Rattle.digest_kinds.specs.Kinds.{KindValue}
 use Rattle.sum_lines.specs.grammar.Shapes.{Algos, is_blank, mark, IsPlain, IsTagged}
-use Rattle.sum_lines.specs.grammar.Entries.{Form, Undecided, is_ignored, DecidesForm, IsForm, form_then, line_form, form}
+use Rattle.sum_lines.specs.grammar.Entries.{Form, Undecided, EntryValue, is_ignored, DecidesForm, IsForm, IsEntry, form_then, line_form, form}
+use Rattle.sum_lines.specs.Escape.{Profile, present}
 use Rattle.sum_lines.specs.grammar.LineParts.{LinePartsValue, plain_parts}
 use Rattle.sum_lines.specs.grammar.LineLaws.{HasOneForm}
 use Rattle.digest_kinds.proofs.PrefixLemmas.{none_of}
@@ -16,20 +17,26 @@ pub decides-form : {algos : Algos} {line : List ℕ} {f : Form} → DecidesForm 
     → (line_form algos line ≡ f) × ((g : Form) → form_then f g ≡ f)
 decides-form d = (rw (plain_is_read _ d.plain) (sym d.is), λ g. rw d.is (grind arith))
 
--- a line of either shape isn't ignored
-not_ignored : (blanks : List ℕ) (e : Bool) (xs rest : List ℕ) → AllPass is_blank blanks → BeginsText xs
-    → is_ignored (blanks ++ (mark e ++ (xs ++ rest))) ≡ false
-not_ignored blanks e xs rest all b = grind (arith, common_steps)
+-- a line of either shape isn't ignored, whichever the profile
+not_ignored : (p : Profile) (blanks : List ℕ) (e : Bool) (xs rest : List ℕ) → AllPass is_blank blanks → BeginsText xs
+    → is_ignored p (blanks ++ (mark e ++ (xs ++ rest))) ≡ false
+not_ignored p blanks e xs rest all b = grind (arith, common_steps)
 
 -- so a plain line isn't
-pub plain-not_ignored : {algos : Algos} {line : List ℕ} {e : Bool} {kind : KindValue} {d tail : List ℕ}
-    → IsPlain algos line e kind d tail → is_ignored line ≡ false
-plain-not_ignored p = let digits = plain-digits p in grind (arith, not_ignored)
+pub plain-not_ignored : {algos : Algos} {line : List ℕ} {e : Bool} {kind : KindValue} {d tail : List ℕ} (p : Profile)
+    → IsPlain algos line e kind d tail → is_ignored p line ≡ false
+plain-not_ignored p plain = let digits = plain-digits plain in grind (arith, not_ignored)
 
 -- and a tagged one
-pub tagged-not_ignored : {algos : Algos} {line : List ℕ} {e : Bool} {kind : KindValue} {d raw : List ℕ}
-    → IsTagged algos line e kind d raw → is_ignored line ≡ false
-tagged-not_ignored t = grind (arith, not_ignored)
+tagged-not_ignored : {algos : Algos} {line : List ℕ} {e : Bool} {kind : KindValue} {d raw : List ℕ} (p : Profile)
+    → IsTagged algos line e kind d raw → is_ignored p line ≡ false
+tagged-not_ignored p tagged = grind (arith, not_ignored)
+
+-- so no line that spells an entry is
+pub entry-not_ignored : {escape : List ℕ → List ℕ} {algos : Algos} {f : Form} {line : List ℕ} {s : EntryValue}
+    (p : Profile) → IsEntry escape algos f line s → is_ignored p line ≡ false
+entry-not_ignored p (inl t) = tagged-not_ignored p t.tagged
+entry-not_ignored p (inr t) = plain-not_ignored p t.plain
 
 -- a line that is found to be plain decides its own form; any other decides nothing
 decides-or : (algos : Algos) (line : List ℕ) → DecidesForm algos line (line_form algos line)
@@ -45,15 +52,14 @@ decides-or algos line = go (plain_parts algos line) refl
       kind = p.kind;
       digest = p.digest;
       tail = p.text;
-      not_ignored = plain-not_ignored plain;
       plain = plain;
       is = rw h refl;
     })
 
 -- an ignored line is not plain, and has no form
-pub ignored_undecided : (algos : Algos) (line : List ℕ) → is_ignored line ≡ true → line_form algos line ≡ Undecided
+pub ignored_undecided : (algos : Algos) (line : List ℕ) → is_ignored present line ≡ true → line_form algos line ≡ Undecided
 ignored_undecided algos line ignored = rw (← none_of (plain_parts algos line) (λ p h.
-    let wrong = sym ignored ∙ plain-not_ignored (read_is_plain h) in cc)) refl
+    let wrong = sym ignored ∙ plain-not_ignored present (read_is_plain h) in cc)) refl
 
 -- the form of a list is its first line's, and after it that of the others
 form-cons : (algos : Algos) (line : List ℕ) (later : List (List ℕ))

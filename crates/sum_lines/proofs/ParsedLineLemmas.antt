@@ -1,19 +1,19 @@
 -- How a line parses, as it is computed, is what the line grammar says of it.
-use Rattle.std.proofs.Common.{◌≡◌, ℕ, Bool, false, List, Option, None, Some, refl, ap, sym, ◌∙◌, inl, inr, arith}
+use Rattle.std.proofs.Common.{◌≡◌, ◌↔◌, ℕ, Bool, false, List, Option, None, Some, refl, ap, sym, ◌∙◌, inl, inr, arith}
 use Rattle.std.specs.Option.{option_or}
 use Rattle.std.proofs.lemmas.Option.{same_Some}
 use Rattle.digest_kinds.specs.Bytes.{◌>>=◌}
 use Rattle.digest_kinds.specs.Kinds.{KindValue}
 use Rattle.sum_lines.specs.grammar.Shapes.{Algos, IsPlain}
-use Rattle.sum_lines.specs.grammar.Entries.{Form, EntryValue, IsEntry, IsRawName, is_ignored_by}
+use Rattle.sum_lines.specs.grammar.Entries.{Form, EntryValue, IsEntry, IsRawName, is_ignored}
 use Rattle.sum_lines.specs.Escape.{Profile, present, escape_by}
 use Rattle.sum_lines.specs.grammar.LineParts.{LinePartsValue, tagged_parts, plain_parts}
-use Rattle.sum_lines.specs.grammar.ParsedLines.{with_raw, entry_of_parts, entry_of, ParsedLine, parse_line}
+use Rattle.sum_lines.specs.grammar.ParsedLines.{with_raw, entry_of_parts, entry_of, ParsedLine, bad, parse_line}
 use Rattle.sum_lines.specs.grammar.LineLaws.{HasOneEntry, FitsGrammar, ParsesByGrammar}
 use Rattle.digest_kinds.proofs.PrefixLemmas.{bind_some, none_of}
 use Rattle.sum_lines.proofs.PlainLemmas.{apart, plain_is_read, read_is_plain}
 use Rattle.sum_lines.proofs.TaggedLemmas.{tagged_is_read, read_is_tagged}
-use Rattle.sum_lines.proofs.EntryLemmas.{plain-not_ignored, tagged-not_ignored}
+use Rattle.sum_lines.proofs.EntryLemmas.{entry-not_ignored}
 use Rattle.sum_lines.proofs.UnescapeLemmas.{spelled-is, is-spelled}
 
 -- ---- the raw name
@@ -39,10 +39,10 @@ module _ (p : Profile) (algos : Algos) (f : Form) (line : List ℕ) where
   -- an entry by its tag or by its tail
   pub entry_value : (s : EntryValue) → IsEntry (escape_by p) algos f line s → entry_of p algos f line ≡ Some s
   unfolding entry_of
-  entry_value s (_, inl t) =
+  entry_value s (inl t) =
       let q : LinePartsValue = record { escaped = t.escaped; kind = s.kind; digest = s.digest; text = t.raw } in
       rw (tagged_is_read q t.tagged) (spelled-is p q s.name t.spells)
-  entry_value s (_, inr t) =
+  entry_value s (inr t) =
       let q : LinePartsValue = record { escaped = t.escaped; kind = s.kind; digest = s.digest; text = t.tail } in
       rw (← not-tagged t.plain, plain_is_read q t.plain, raw-is f q t.raw t.is_raw)
       (spelled-is p (record q { text = t.raw }) s.name t.spells)
@@ -56,7 +56,7 @@ module _ (p : Profile) (algos : Algos) (f : Form) (line : List ℕ) where
       let name = is-spelled p t s h in
       let tagged = read_is_tagged found in
       rw (← name.2)
-      (tagged-not_ignored tagged, inl (record { escaped = t.escaped; raw = t.text; tagged = tagged; spells = name.1 }))
+      (inl (record { escaped = t.escaped; raw = t.text; tagged = tagged; spells = name.1 }))
 
   -- what a plain line's spell, with the raw name of its tail
   by-tail : (s : EntryValue) (t : LinePartsValue) (raw : List ℕ) → plain_parts algos line ≡ Some t
@@ -65,10 +65,8 @@ module _ (p : Profile) (algos : Algos) (f : Form) (line : List ℕ) where
   by-tail s t raw found is h =
       let name = is-spelled p (record t { text = raw }) s h in
       let plain = read_is_plain found in
-      rw (← name.2) (
-        plain-not_ignored plain,
-        inr (record { escaped = t.escaped; tail = t.text; raw = raw; plain = plain; is_raw = is; spells = name.1 }),
-      )
+      rw (← name.2)
+      (inr (record { escaped = t.escaped; tail = t.text; raw = raw; plain = plain; is_raw = is; spells = name.1 }))
 
   -- either of them, as a line is found to be tagged or only plain
   by-parts : (s : EntryValue) (t q : Option LinePartsValue) → tagged_parts algos line ≡ t → plain_parts algos line ≡ q
@@ -95,19 +93,12 @@ one_entry algos f line s t p q =
 -- what is computed is what the grammar says, whichever the profile
 pub parse_is_grammar : ParsesByGrammar
 parse_is_grammar p algos f line =
-    let skipped = is_ignored_by p line in
     let found = entry_of p algos f line in
     record {
       when_ignored = (λ h. grind arith, λ h. rw h refl);
       when_entry = λ s. (
-        λ h. let said : (skipped ≡ false) × (found ≡ Some s) = grind arith in
-            (said.0, value_entry p algos f line s said.1),
-        λ h. rw (h.0, entry_value p algos f line s h.1) refl,
-      );
-      when_bad = (
-        λ h. let said : (skipped ≡ false) × (found ≡ None) = grind arith in
-            (said.0, λ s e. let wrong = sym said.1 ∙ entry_value p algos f line s e in cc),
-        λ h. rw (h.0, ← none_of found (λ s e. h.1 s (value_entry p algos f line s e))) refl,
+        λ h. let said : found ≡ Some s = grind arith in value_entry p algos f line s said,
+        λ h. rw (entry-not_ignored p h, entry_value p algos f line s h) refl,
       );
     }
 
@@ -115,3 +106,13 @@ parse_is_grammar p algos f line =
 pub matches : {p : Profile} {algos : Algos} {f : Form} {line : List ℕ} {said : ParsedLine}
     → said ≡ parse_line p algos f line → FitsGrammar p algos f line said
 matches {p} {algos} {f} {line} h = rw h (parse_is_grammar p algos f line)
+
+-- a line is bad if and only if it is neither ignored nor an entry
+pub bad_exactly : (p : Profile) (algos : Algos) (f : Form) (line : List ℕ) → (parse_line p algos f line ≡ bad)
+    ↔ ((is_ignored p line ≡ false) × ((s : EntryValue) → ¬ IsEntry (escape_by p) algos f line s))
+bad_exactly p algos f line =
+    let found = entry_of p algos f line in (
+      λ h. let said : (is_ignored p line ≡ false) × (found ≡ None) = grind arith in
+          (said.0, λ s e. let wrong = sym said.1 ∙ entry_value p algos f line s e in cc),
+      λ h. rw (h.0, ← none_of found (λ s e. h.1 s (value_entry p algos f line s e))) refl,
+    )

@@ -20,7 +20,6 @@ use Rattle.hex.proofs.HexLemmas.{decode_of-encode_lower}
 use Rattle.sum_lines.specs.grammar.Entries.{Form, Standard, begins_standard, line_form, Spells, EntryValue, IsEntry}
 use Rattle.sum_lines.specs.grammar.LineLaws.{IsWritable}
 use Rattle.sum_lines.proofs.PlainLemmas.{AreDigits, digits-of, plain_is_read}
-use Rattle.sum_lines.proofs.EntryLemmas.{plain-not_ignored}
 use Rattle.sum_lines.proofs.EscapeLemmas.{length-escape}
 
 -- a byte that may be within a line
@@ -112,17 +111,14 @@ module _ {kind : KindValue} {name digest : List ℕ} (w : IsWritable kind name d
   -- in a Standard list it spells what it was written for
   pub plain-entry : (x : ℕ) (f : Form) → is_space_or_star x ≡ true → f ≡ Standard
       → IsEntry escape (One kind.algo) f (plain_line x name digest) (written_for kind name digest)
-  plain-entry x f star is = rw is (
-    plain-not_ignored (plain-written x),
-    inr (record {
-      escaped = escape_differs present name;
-      tail = x ∷ escape name;
-      raw = escape name;
-      plain = plain-written x;
-      is_raw = (standard x name w.some star, x, refl);
-      spells = name-spelled;
-    }),
-  )
+  plain-entry x f star is = rw is (inr (record {
+    escaped = escape_differs present name;
+    tail = x ∷ escape name;
+    raw = escape name;
+    plain = plain-written x;
+    is_raw = (standard x name w.some star, x, refl);
+    spells = name-spelled;
+  }))
 
   -- a tagged line has that shape
   pub tagged-written : (algos : Algos) (width : List ℕ) → Allows algos kind.algo → IsWidth kind width

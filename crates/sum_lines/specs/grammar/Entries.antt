@@ -2,32 +2,27 @@
 use Rattle.std.specs.Prelude.{ℕ, ◌≡◌, ◌<◌, ◌⊎◌, ◌==◌, ◌||◌, Bool, false, List, [], ◌∷◌, IsTrue, if◌then◌else◌, All}
 use Rattle.std.specs.Option.{option_map_or}
 use Rattle.sum_lines.specs.grammar.Shapes.{ByteString, Algos, IsPlain, IsTagged, KindValue}
-use Rattle.sum_lines.specs.Escape.{Profile, present}
+use Rattle.sum_lines.specs.Escape.{Profile}
 use Rattle.sum_lines.specs.grammar.LineParts.{plain_parts}
 pub use Rattle.sum_lines.specs.declared.reading.read_line.Form.{Form}
 pub use Rattle.sum_lines.specs.declared.reading.read_line.Form.TheVariants.{Undecided, Standard, Reversed}
 
 -- whether a line is ignored: it begins with `#` (35), or it is empty and the profile ignores empty lines
-abbrev pub is_ignored_by : Profile → ByteString → Bool
-is_ignored_by p [] = p.ignores_empty
-is_ignored_by p (b ∷ bs) = b == 35
-
--- the same by the tools here
-abbrev pub is_ignored : ByteString → Bool
-is_ignored line = is_ignored_by present line
+abbrev pub is_ignored : Profile → ByteString → Bool
+is_ignored p [] = p.ignores_empty
+is_ignored p (b ∷ bs) = b == 35
 
 -- whether a plain line's tail is that of a Standard list: it begins with a space (32) or a star (42), and goes on
 abbrev pub begins_standard : ByteString → Bool
 begins_standard (b ∷ c ∷ bs) = b == 32 || b == 42
 begins_standard tail = false
 
--- A line decides the form of a list if it isn't ignored and is plain. Its tail says which form.
+-- A plain line decides the form of a list. Its tail says which form.
 pub record DecidesForm (algos : Algos) (line : ByteString) (form : Form) : Type 0 where
   pub escaped : Bool
   pub kind : KindValue
   pub digest : ByteString
   pub tail : ByteString
-  pub not_ignored : is_ignored line ≡ false
   pub plain : IsPlain algos line escaped kind digest tail
   pub is : form ≡ (if begins_standard tail then Standard else Reversed)
 
@@ -73,10 +68,9 @@ pub record SpellsByTail (escape : ByteString → ByteString) (algos : Algos) (fo
   pub is_raw : IsRawName form tail raw
   pub spells : Spells escape escaped raw s.name
 
--- The entry that a line spells in a list of that form, if it isn't ignored. Names are escaped by `escape`.
+-- The entry that a line spells in a list of that form. Names are escaped by `escape`.
 abbrev pub IsEntry : (ByteString → ByteString) → Algos → Form → ByteString → EntryValue → Type 0
-IsEntry escape algos form line s = (is_ignored line ≡ false)
-    × (SpellsByTag escape algos line s ⊎ SpellsByTail escape algos form line s)
+IsEntry escape algos form line s = SpellsByTag escape algos line s ⊎ SpellsByTail escape algos form line s
 
 -- The form of a list of lines, computed: its first plain line's. By the law `one_form` it need not be believed.
 abbrev pub form : Algos → List ByteString → Form

@@ -2,11 +2,11 @@
 use Rattle.std.specs.Prelude.{◌≡◌, ◌≢◌, ◌<◌, ◌↔◌, ◌⊎◌, Bool, true, false, List, [], ◌∷◌, ◌++◌, length, codes, IsTrue, All}
 use Rattle.hex.specs.Hex.{IsBytes}
 use Rattle.sum_lines.specs.grammar.Shapes.{ByteString, Algo, Algos, One, Any, IsPlain, IsTagged, KindValue, has_len}
-use Rattle.sum_lines.specs.grammar.Entries.{Form, Undecided, Standard, EntryValue, IsEntry, IsForm, is_ignored_by, form}
+use Rattle.sum_lines.specs.grammar.Entries.{Form, Undecided, Standard, EntryValue, IsEntry, IsForm, is_ignored, form}
 use Rattle.sum_lines.specs.Lines.{Mode, line}
 use Rattle.sum_lines.specs.declared.writing.put_line.Mode.TheVariants.{Tag}
 use Rattle.sum_lines.specs.Escape.{Profile, escape, escape_by}
-use Rattle.sum_lines.specs.grammar.ParsedLines.{ParsedLine, ignored, bad, entry, parse_line}
+use Rattle.sum_lines.specs.grammar.ParsedLines.{ParsedLine, ignored, entry, parse_line}
 
 -- for given algorithms and a given form a line spells at most one entry
 abbrev pub HasOneEntry : Type 0
@@ -22,13 +22,11 @@ AreApart = (algos others : Algos) (line : ByteString) (e f : Bool) (kind other :
 abbrev pub HasOneForm : Type 0
 HasOneForm = (algos : Algos) (lines : List ByteString) (f : Form) → IsForm algos lines f ↔ (f ≡ form algos lines)
 
--- What is said of a line matches the grammar: it is ignored, an entry, or bad, each if and only if the grammar says so.
+-- What is said of a line matches the grammar: it is ignored, or an entry, each if and only if the grammar says so. So
+-- it is bad if and only if the grammar says neither.
 pub record FitsGrammar (p : Profile) (algos : Algos) (f : Form) (line : ByteString) (said : ParsedLine) : Type 0 where
-  pub when_ignored : (said ≡ ignored) ↔ (is_ignored_by p line ≡ true)
-  pub when_entry : (s : EntryValue) → (said ≡ entry s)
-      ↔ ((is_ignored_by p line ≡ false) × IsEntry (escape_by p) algos f line s)
-  pub when_bad : (said ≡ bad)
-      ↔ ((is_ignored_by p line ≡ false) × ((s : EntryValue) → ¬ IsEntry (escape_by p) algos f line s))
+  pub when_ignored : (said ≡ ignored) ↔ (is_ignored p line ≡ true)
+  pub when_entry : (s : EntryValue) → (said ≡ entry s) ↔ IsEntry (escape_by p) algos f line s
 
 -- what is computed of a line is what the grammar says of it, whichever the profile
 abbrev pub ParsesByGrammar : Type 0

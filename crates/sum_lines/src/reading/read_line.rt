@@ -121,7 +121,7 @@ fn read_begun<A: Allocator>(
 
 // Whether the line is empty or begins with `#`.
 fn is_ignored(line: &[u8]) -> bool
-    ensures { result ≡ is_ignored line.now }
+    ensures { result ≡ is_ignored present line.now }
 {
     match line {
         [] => true,

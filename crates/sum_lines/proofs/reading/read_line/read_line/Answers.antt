@@ -14,3 +14,6 @@ returns-in-None-clause-grammar g c = matches (returns-in-None-clause-parsed g c)
 
 pub returns-in-Some-clause-grammar : goal.returns-in-Some-clause-grammar
 returns-in-Some-clause-grammar g c = matches (grind arith)
+
+pub returns-then-is_ignored-clause-grammar : goal.returns-then-is_ignored-clause-grammar
+returns-then-is_ignored-clause-grammar g c = matches (grind arith)
