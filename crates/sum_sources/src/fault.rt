@@ -103,6 +103,7 @@ fn reason(number: i32) -> &'static str
     }
 }
 
+// The table below.
 #[tactic(auto, unfolding(crate::specs::Faults::reasons))]
 fn reasons() -> &'static [&'static str]
     ensures { map (λ text. text.now) result.now ≡ reasons }
