@@ -1,6 +1,6 @@
 -- What a read up to the limit adds to what was read.
-use Rattle.std.specs.Prelude.{ℕ, zero, suc, ◌≡◌, ◌++◌, length, take, Result, Ok, Err}
-use Rattle.sum_sources.specs.Contents.{Content, Ending, Whole, Broken, Reads, IsOf, clip, Fault}
+use Rattle.std.specs.Prelude.{ℕ, zero, suc, ◌≡◌, ◌+◌, ◌^◌, ◌<◌, ◌≤◌, ◌++◌, length, take, Result, Ok, Err, IfOk}
+use Rattle.sum_sources.specs.Contents.{Content, Ending, Whole, Broken, Reads, InputState, IsOf, IsSameInput, clip, Fault}
 use Rattle.sum_sources.specs.Faults.{ByteString}
 use Rattle.sum_sources.specs.Phases.{Phase, Unfinished, AtEnd, Past}
 
@@ -31,3 +31,14 @@ IsPhaseOf phase (Err f) = ¬ (phase ≡ Past)
 pub record ReadsLimited (taken : ℕ) (a b : Reads) (result : Result ℕ Fault) (buf : ByteString) : Type 0 where
   pub adds : a.phase ≡ Unfinished → length a.bytes ≡ taken → AddsLimited a b result buf
   pub phase : a.phase ≡ Unfinished → IsPhaseOf b.phase result
+
+-- the counts of bytes before and after such a read
+pub record CountsLimited (old new : ℕ) (result : Result ℕ Fault) : Type 0 where
+  pub ok : IfOk result (λ n. (n ≤ 8192) × (new ≡ old + n) × (new < 2 ^ 61))
+  pub most : new ≤ 2 ^ 61
+  pub more : old ≤ new
+
+-- more was read of the same input, and each byte that it gave is counted
+pub record CountsBytes (old new : ℕ) (a b : InputState) : Type 0 where
+  pub same : IsSameInput a b
+  pub bytes : new + length a.reads.bytes ≡ old + length b.reads.bytes

@@ -49,7 +49,7 @@ loop-self-preserved g c =
     let fills = rw c.in-Ok-true-fill.field-0-test at c.in-Ok-true-fill.ensures.reads in
     record {
       read = λ reading. let h = read reading in let (going, size) = HasRead-given h in
-          HasRead-filled h piece.1 (fills going size) c.in-Ok-true-fill.ensures.taken.0;
+          HasRead-filled h piece.1 (fills going size) c.in-Ok-true-fill.ensures.reader.0;
       going = search rules;
       sum = search rules;
       plain = plain;
@@ -92,6 +92,6 @@ returns-in-Err-fill-clause-line g c =
     λ reading.
     let h = read reading in
     let (going, size) = HasRead-given h in
-    ends c.fill.new.self (Broken _) (Err (stops.Fault _)) h piece.1 (e.reads going size) (e.fault refl).0
-    (e.fault refl).1 (ap (λ a. record c.fill.new.self { final_answer = a }) e.final_answer)
+    ends c.fill.new.self (Broken _) (Err (stops.Fault _)) h piece.1 (e.reads going size) e.reader.0 e.reader.1
+    (ap (λ a. record c.fill.new.self { final_answer = a }) e.reader.2)
     (IsNextLine-fault _ _ plain) tt
