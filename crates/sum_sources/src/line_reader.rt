@@ -134,9 +134,8 @@ impl<I: Input> LineReader<I> {
     fn fill(&mut self) -> Result<bool, Fault>
         requires empty { self.old.ahead ≡ [] }
         requires going { self.old.final_answer ≡ None }
-        ensures reads { (I.state self.old.input).reads.phase ≡ Unfinished
-            → length (I.state self.old.input).reads.bytes ≡ self.old.taken
-            → FillsBuffer (I.state self.old.input).reads (I.state self.new.input).reads self.new.ahead result }
+        ensures reads { (I.state self.old.input).reads.phase ≡ Unfinished → FillsBuffer self.old.taken
+            (I.state self.old.input).reads (I.state self.new.input).reads self.new.ahead result }
         ensures counts { CountsBytes self.old.taken self.new.taken (I.state self.old.input) (I.state self.new.input) }
         ensures reader { FillsReader self.old self.new result }
         ensures lines { self.new.lines ≡ self.old.lines }

@@ -1,6 +1,7 @@
 //! Reading up to the limit of 2^61 bytes.
 ghost use Rattle.std.specs.Prelude.{◌≡◌, ◌<◌, ◌^◌, length};
-ghost use Rattle.sum_sources.specs.refinement.LimitedReads.{CountsLimited, CountsBytes, ReadsLimited};
+ghost use Rattle.sum_sources.specs.refinement.LimitedReads.{CountsLimited, CountsBytes, AddsLimited};
+ghost use Rattle.sum_sources.specs.Phases.{Unfinished};
 
 use crate::{Fault, Input, PIECE};
 use digest_kinds::LIMIT;
@@ -16,7 +17,8 @@ pub(crate) fn read_limited<I: Input>(
     ensures count { CountsLimited taken.old taken.new result }
     ensures size { length buffer.new ≡ 8192 }
     ensures input { CountsBytes taken.old taken.new (I.state input.old) (I.state input.new) }
-    ensures reads { ReadsLimited taken.old (I.state input.old).reads (I.state input.new).reads result buffer.new }
+    ensures reads { (I.state input.old).reads.phase ≡ Unfinished
+        → AddsLimited taken.old (I.state input.old).reads (I.state input.new).reads result buffer.new }
 {
     // If no byte more counts, one byte shows whether the input ends there.
     let size = (LIMIT - 1 - *taken).min(PIECE as u64).max(1) as usize;
