@@ -18,9 +18,9 @@ from tracing import needs_strace, strace
 NAMES = {"d": errno.EISDIR, "d/": errno.EISDIR, "a/": errno.ENOTDIR, "a/.": errno.ENOTDIR, "a/x": errno.ENOTDIR,
          "loop": errno.ELOOP, "loop/x": errno.ELOOP, "n" * 300: errno.ENAMETOOLONG, "d/" * 3000: errno.ENAMETOOLONG,
          "s": errno.ENXIO, "shut": errno.EACCES, "closed/x": errno.EACCES, "x": errno.ENOENT, "d/x": errno.ENOENT}
-# What an opening or a read may fail by besides: a number of each kind, and two that have no text of their own.
+# What an opening or a read may fail by besides: some numbers, EIO, and one that has no text.
 FAILURES = (errno.EPERM, errno.ENOENT, errno.ENOMEM, errno.EMFILE, errno.EAGAIN, errno.EUCLEAN, errno.ENOKEY,
-            errno.ENOTCONN, errno.ETIMEDOUT, errno.EHOSTDOWN, errno.ESTALE, errno.EREMOTEIO, errno.EIO, errno.EXDEV)
+            errno.ENOTCONN, errno.ETIMEDOUT, errno.EHOSTDOWN, errno.ESTALE, errno.EREMOTEIO, errno.EIO, 41)
 
 
 class Reasons(Case):
@@ -87,10 +87,31 @@ class Reasons(Case):
                          stdin=subprocess.DEVNULL, preexec_fn=lambda: os.close(0))
 
     def test_table(self):
-        """The definitions have just the C library's texts, and the code is proved to have the definitions'."""
-        rows = re.findall(r"\((\d+), codes \"(.*)\"\)", text_of("crates", "sum_sources", "specs", "Faults.antt"))
-        found = {int(number): text.encode() for number, text in rows}
-        self.assertEqual(found | {errno.ENOENT: NOT_FOUND, errno.EACCES: REASONS[errno.EACCES]}, REASONS)
+        """The definitions have just the C library's texts, and the code is proved to have the definitions'. A line of
+        the table that ends with a number begins with the text of that number."""
+        definitions = text_of("crates", "sum_sources", "specs", "Faults.antt")
+        found = []
+        for line in re.search(r"(?s)\nreasons = .*?\n(.*?)\n\n", definitions)[1].splitlines():
+            self.assertIn(line.partition("  -- ")[2], ("", str(len(found))))
+            found += re.findall(r'"(.*?)" ∷', line)
+        self.assertEqual({number: text.encode() for number, text in enumerate(found) if text}
+                         | {errno.ENOENT: NOT_FOUND, errno.EACCES: REASONS[errno.EACCES]}, REASONS)
+
+    def fails_by(self, number, call, path):
+        """What stands in front of a tool so that this call for this file fails by this number."""
+        return [strace(), "-qq", "-o", os.devnull, "-P", path, "-e", f"trace={call}", "-e",
+                f"inject={call}:error={number}"]
+
+    @needs_strace
+    def test_numbers(self):
+        """Each number of the system, of an opening and of a read. A read that is interrupted is tried again."""
+        path = os.fsdecode(self.path("f"))
+        self.write("f", "abc")
+        for number in range(1, 141):
+            for call in ("openat", "read"):
+                reason = OTHER if (number, call) == (errno.EINTR, "read") else REASONS.get(number, OTHER)
+                ran = self.run_tool(self.folder, path, self.fails_by(number, call, path))
+                self.assertEqual(ran, Ran(1, b"", b"md5sum: %s: %s\n" % (os.fsencode(path), reason)), (number, call))
 
     @needs_strace
     def test_calls_that_fail(self):
@@ -100,8 +121,7 @@ class Reasons(Case):
         self.write("f", "abc")
         for number in FAILURES:
             for call in ("openat", "read"):
-                front = [strace(), "-qq", "-o", os.devnull, "-P", path, "-e", f"trace={call}", "-e",
-                         f"inject={call}:error={errno.errorcode[number]}"]
+                front = self.fails_by(number, call, path)
                 reason, opened = REASONS.get(number, OTHER), call == "read"
                 self.expect_each(path, reason, missing=number == errno.ENOENT and not opened, opened=opened,
                                  alike=reason.decode() == os.strerror(number), front=front)

@@ -18,13 +18,9 @@ SIZES = {tag: size for tag, size in ALGORITHMS.values() if tag}
 NOT_FOUND = b"No such file or directory"
 OTHER = b"Input/output error"
 
-# The numbers of Linux whose reasons have the C library's text. EIO, and any number that isn't here, has that of EIO.
-NUMBERS = (
-    1, 2, 3, 4, 6, 9, 11, 12, 13, 16, 19, 20, 21, 22, 23, 24, 26, 27,  # files, devices, processes
-    36, 38, 40, 61, 62, 74, 75, 84, 95, 117, 123, 124, 126, 127, 128, 129,  # names, file systems, media, keys
-    67, 71, 103, 104, 107, 108, 110, 111, 112, 113, 116, 121, 125,  # networks
-)
-REASONS = {number: os.strerror(number).encode() for number in NUMBERS}
+# The reasons of Linux's numbers that have a text in the C library. EIO, and any number that isn't here, has that of EIO.
+REASONS = {number: os.strerror(number).encode() for number in range(1, 141)
+           if number != errno.EIO and os.strerror(number) != f"Unknown error {number}"}
 
 
 def digest(tag, size, content):

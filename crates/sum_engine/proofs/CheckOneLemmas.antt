@@ -5,7 +5,7 @@ use Rattle.std.proofs.lemmas.List.{map-append}
 use Rattle.sum_sources.specs.Contents.{Reads, IsOf, IsSameInput, HasContent}
 use Rattle.std.proofs.lemmas.List.Elements.{All-cons}
 use Rattle.sum_sources.specs.Sources.{Opening, IsOfAnswer, opened_file, and_opening, after_closing}
-use Rattle.sum_sources.proofs.ToldSourceLemmas.{closed_at-seam}
+use Rattle.std.proofs.Math.Seq.{set-append_seam}
 use Rattle.sum_engine.specs.Behavior.{Fault, World, is_dash, answer_to, after, Step, events_of, Answer, Content, InputState, clip}
 use Rattle.sum_engine.specs.check.CheckerLaws.{ManifestPerforms}
 use Rattle.sum_engine.specs.check.Verdicts.{present}
@@ -33,15 +33,16 @@ fault_answered f (Err g) same = search rules
 -- the openings before and after a manifest is closed that was opened after `before`
 closed_openings : {Whole : Type 0} (m b n : InputsState) (name : List ℕ) (before : List Opening) (s t : InputState)
     → m.source.openings ≡ before ++ record { name = name; gave = None } ∷ [] → s.opening ≡ length before
-    → IsSameInput s t → (reads : ReadsToEndIf Whole m b) → n ≡ record b { source = after_closing b.source t }
+    → s.name ≡ name → IsSameInput s t → (reads : ReadsToEndIf Whole m b)
+    → n ≡ record b { source = after_closing b.source t }
     → (b.source.openings ≡ before ++ record { name = name; gave = None } ∷ reads.openings.0)
     × (n.source.openings ≡ before ++ record { name = name; gave = Some (Ok t.reads) } ∷ reads.openings.0)
-closed_openings m b n name before s t opens is same reads closes =
+closed_openings m b n name before s t opens is called same reads closes =
     let now : b.source.openings ≡ before ++ record { name = name; gave = None } ∷ reads.openings.0 =
     reads.openings.1 ∙ rw (opens, append_assoc) refl in
     let place : t.opening ≡ length before = search rules in
-    let o : Opening = record { name = name; gave = None } in
-    (now, rw (closes, now, place) (closed_at-seam before reads.openings.0 o t.reads))
+    let named : t.name ≡ name = search rules in
+    (now, rw (closes, now, place, named) (set-append_seam before _ reads.openings.0 _))
 
 -- how far all was read over the opening, the run and the closing
 pub file_reads : {Whole : Type 0} (a m b n : InputsState) (name : List ℕ) (s t : InputState)
@@ -49,7 +50,8 @@ pub file_reads : {Whole : Type 0} (a m b n : InputsState) (name : List ℕ) (s t
     → IsAtEndIf Whole t.reads → ReadsToEndIf Whole m b → n ≡ record b { source = after_closing b.source t }
     → ReadsToEndIf Whole a n
 file_reads {Whole} a m b n name s t opens is same read reads closes =
-    let now = closed_openings m b n name a.source.openings s t (rw opens refl) (rw is refl) same reads closes in
+    let now =
+    closed_openings m b n name a.source.openings s t (rw opens refl) (rw is refl) (rw is refl) same reads closes in
     let o : Opening = record { name = name; gave = Some (Ok t.reads) } in
     record {
       told = rw closes (rw opens at reads.told);
@@ -112,7 +114,8 @@ module _ (settings : CheckSettings) (tool name : List ℕ) (a : StreamsState) wh
   check_file m n s t b x file opens is same closes reads run = λ flushed w agrees.
       let before = a.inputs.source.openings in
       let later = reads.openings.0 in
-      let now = closed_openings m b.inputs n name before s t (rw opens refl) (rw is refl) same reads closes in
+      let now =
+      closed_openings m b.inputs n name before s t (rw opens refl) (rw is refl) (rw is refl) same reads closes in
       let (c, answer, of) = content_answered t.reads _ (opening_agrees agrees before later name (Ok t.reads) now.1) in
       let still : Agrees w b.inputs = record {
         answers = rw now.0 (AnswersAre-open w.answer 0 before later _ (rw now.1 at agrees.answers));

@@ -7,7 +7,7 @@ use Rattle.std.proofs.Math.Bool.{or-true}
 use Rattle.digest_kinds.specs.Kinds.{KindValue}
 use Rattle.sum_sources.specs.Contents.{Reads, unread, IsOf, IsSameInput, HasContent}
 use Rattle.sum_sources.specs.Sources.{IsOfAnswer, opened_file, and_opening, after_closing}
-use Rattle.sum_sources.proofs.ToldSourceLemmas.{closed_at-seam}
+use Rattle.std.proofs.Math.Seq.{set-append_seam}
 use Rattle.sum_engine.specs.Behavior.{World, Answer, Content, Fault, InputState, empty_content, is_dash, answer_to}
 use Rattle.sum_engine.specs.Execution.{StdinState, InputsState, Agrees, world_at, asked, AsksNames, IsAtEndIf, ReadsFile, ReadsStdin, ReadsToEndIf}
 use Rattle.sum_engine.specs.refinement.Names.{HashOutcome, IsHashOutcome, IsRead, GivesBy, GivesStdin, stdin_by, stdin_after, MemoryWasRefused}
@@ -35,8 +35,9 @@ pub closed_file : (a m b : InputsState) (name : List ℕ) (s t : InputState)
     → b ≡ record a { source = and_opening a.source name (Some (Ok t.reads)) }
 closed_file a m b name s t opens is same closes =
     let place : t.opening ≡ length a.source.openings = search rules in
-    rw (closes, opens, place) (ap (λ os. record a { source = record a.source { openings = os } })
-    (closed_at-seam a.source.openings [] (record { name = name; gave = None }) t.reads))
+    let named : t.name ≡ name = search rules in
+    rw (closes, opens, place, named) (ap (λ os. record a { source = record a.source { openings = os } })
+    (set-append_seam a.source.openings _ [] _))
 
 module _ {w : World} {b : InputsState} (a : InputsState) (kind : KindValue) (name : List ℕ) (agrees : Agrees w b)
     (file : is_dash name ≡ false)

@@ -1,6 +1,5 @@
 -- The faults of opening and reading: which fault an error of the system is, and its text.
-use Rattle.std.specs.Prelude.{ℕ, ℤ, pos, List, [], ◌∷◌, Option, None, Some, codes, if◌then◌else◌, is_some, unwrap_or}
-use Rattle.std.specs.Option.{option_or}
+use Rattle.std.specs.Prelude.{ℤ, pos, List, [], ◌∷◌, Option, None, Some, map, codes, length, slice_index_or, ◌==◌, if◌then◌else◌}
 use Rattle.std.specs.Ordering.{int_eq}
 use Rattle.std.specs.declared.io.ErrorKind.{ErrorKind}
 use Rattle.std.specs.declared.io.ErrorKind.TheVariants as kinds
@@ -8,87 +7,68 @@ pub use Rattle.digest_kinds.specs.Bytes.{ByteString}
 pub use Rattle.sum_sources.specs.declared.fault.Fault.{Fault}
 pub use Rattle.sum_sources.specs.declared.fault.Fault.TheVariants.{NotFound, Denied, Other, Os}
 
--- numbers of the system, and the text of each
-abbrev pub Reasons : Type 0
-Reasons = List (ℕ × ByteString)
+-- the texts of the numbers of Linux from 0 on, as the C library has them. A line that ends with a number begins with the
+-- text of that number. A text is empty if there is none, and for 2, 5 and 13, which are NotFound, Other and Denied
+unfoldable pub reasons : List ByteString
+reasons = map codes (
+    "" ∷ "Operation not permitted" ∷ "" ∷ "No such process" ∷ "Interrupted system call" ∷ "" ∷  -- 0
+    "No such device or address" ∷ "Argument list too long" ∷ "Exec format error" ∷ "Bad file descriptor" ∷
+    "No child processes" ∷ "Resource temporarily unavailable" ∷ "Cannot allocate memory" ∷ "" ∷ "Bad address" ∷  -- 10
+    "Block device required" ∷ "Device or resource busy" ∷ "File exists" ∷ "Invalid cross-device link" ∷
+    "No such device" ∷
+    "Not a directory" ∷ "Is a directory" ∷ "Invalid argument" ∷ "Too many open files in system" ∷  -- 20
+    "Too many open files" ∷ "Inappropriate ioctl for device" ∷ "Text file busy" ∷ "File too large" ∷
+    "No space left on device" ∷ "Illegal seek" ∷
+    "Read-only file system" ∷ "Too many links" ∷ "Broken pipe" ∷ "Numerical argument out of domain" ∷  -- 30
+    "Numerical result out of range" ∷ "Resource deadlock avoided" ∷ "File name too long" ∷ "No locks available" ∷
+    "Function not implemented" ∷ "Directory not empty" ∷
+    "Too many levels of symbolic links" ∷ "" ∷ "No message of desired type" ∷ "Identifier removed" ∷  -- 40
+    "Channel number out of range" ∷ "Level 2 not synchronized" ∷ "Level 3 halted" ∷ "Level 3 reset" ∷
+    "Link number out of range" ∷ "Protocol driver not attached" ∷
+    "No CSI structure available" ∷ "Level 2 halted" ∷ "Invalid exchange" ∷ "Invalid request descriptor" ∷  -- 50
+    "Exchange full" ∷ "No anode" ∷ "Invalid request code" ∷ "Invalid slot" ∷ "" ∷ "Bad font file format" ∷
+    "Device not a stream" ∷ "No data available" ∷ "Timer expired" ∷ "Out of streams resources" ∷  -- 60
+    "Machine is not on the network" ∷ "Package not installed" ∷ "Object is remote" ∷ "Link has been severed" ∷
+    "Advertise error" ∷ "Srmount error" ∷
+    "Communication error on send" ∷ "Protocol error" ∷ "Multihop attempted" ∷ "RFS specific error" ∷  -- 70
+    "Bad message" ∷ "Value too large for defined data type" ∷ "Name not unique on network" ∷
+    "File descriptor in bad state" ∷ "Remote address changed" ∷ "Can not access a needed shared library" ∷
+    "Accessing a corrupted shared library" ∷ ".lib section in a.out corrupted" ∷  -- 80
+    "Attempting to link in too many shared libraries" ∷ "Cannot exec a shared library directly" ∷
+    "Invalid or incomplete multibyte or wide character" ∷ "Interrupted system call should be restarted" ∷
+    "Streams pipe error" ∷ "Too many users" ∷ "Socket operation on non-socket" ∷ "Destination address required" ∷
+    "Message too long" ∷ "Protocol wrong type for socket" ∷ "Protocol not available" ∷ "Protocol not supported" ∷  -- 90
+    "Socket type not supported" ∷ "Operation not supported" ∷ "Protocol family not supported" ∷
+    "Address family not supported by protocol" ∷ "Address already in use" ∷ "Cannot assign requested address" ∷
+    "Network is down" ∷ "Network is unreachable" ∷ "Network dropped connection on reset" ∷  -- 100
+    "Software caused connection abort" ∷ "Connection reset by peer" ∷ "No buffer space available" ∷
+    "Transport endpoint is already connected" ∷ "Transport endpoint is not connected" ∷
+    "Cannot send after transport endpoint shutdown" ∷ "Too many references: cannot splice" ∷
+    "Connection timed out" ∷ "Connection refused" ∷ "Host is down" ∷ "No route to host" ∷  -- 110
+    "Operation already in progress" ∷ "Operation now in progress" ∷ "Stale file handle" ∷ "Structure needs cleaning" ∷
+    "Not a XENIX named type file" ∷ "No XENIX semaphores available" ∷
+    "Is a named type file" ∷ "Remote I/O error" ∷ "Disk quota exceeded" ∷ "No medium found" ∷  -- 120
+    "Wrong medium type" ∷ "Operation canceled" ∷ "Required key not available" ∷ "Key has expired" ∷
+    "Key has been revoked" ∷ "Key was rejected by service" ∷
+    "Owner died" ∷ "State not recoverable" ∷ "Operation not possible due to RF-kill" ∷  -- 130
+    "Memory page has hardware error" ∷ [])
 
--- of files, devices and processes
-unfoldable pub file_reasons : Reasons
-file_reasons =
-    (1, codes "Operation not permitted") ∷
-    (3, codes "No such process") ∷
-    (4, codes "Interrupted system call") ∷
-    (6, codes "No such device or address") ∷
-    (9, codes "Bad file descriptor") ∷
-    (11, codes "Resource temporarily unavailable") ∷
-    (12, codes "Cannot allocate memory") ∷
-    (16, codes "Device or resource busy") ∷
-    (19, codes "No such device") ∷
-    (20, codes "Not a directory") ∷
-    (21, codes "Is a directory") ∷
-    (22, codes "Invalid argument") ∷
-    (23, codes "Too many open files in system") ∷
-    (24, codes "Too many open files") ∷
-    (26, codes "Text file busy") ∷
-    (27, codes "File too large") ∷ []
-
--- of names, file systems, media and keys
-unfoldable pub store_reasons : Reasons
-store_reasons =
-    (36, codes "File name too long") ∷
-    (38, codes "Function not implemented") ∷
-    (40, codes "Too many levels of symbolic links") ∷
-    (61, codes "No data available") ∷
-    (62, codes "Timer expired") ∷
-    (74, codes "Bad message") ∷
-    (75, codes "Value too large for defined data type") ∷
-    (84, codes "Invalid or incomplete multibyte or wide character") ∷
-    (95, codes "Operation not supported") ∷
-    (117, codes "Structure needs cleaning") ∷
-    (123, codes "No medium found") ∷
-    (124, codes "Wrong medium type") ∷
-    (126, codes "Required key not available") ∷
-    (127, codes "Key has expired") ∷
-    (128, codes "Key has been revoked") ∷
-    (129, codes "Key was rejected by service") ∷ []
-
--- of what lies behind a network
-unfoldable pub network_reasons : Reasons
-network_reasons =
-    (67, codes "Link has been severed") ∷
-    (71, codes "Protocol error") ∷
-    (103, codes "Software caused connection abort") ∷
-    (104, codes "Connection reset by peer") ∷
-    (107, codes "Transport endpoint is not connected") ∷
-    (108, codes "Cannot send after transport endpoint shutdown") ∷
-    (110, codes "Connection timed out") ∷
-    (111, codes "Connection refused") ∷
-    (112, codes "Host is down") ∷
-    (113, codes "No route to host") ∷
-    (116, codes "Stale file handle") ∷
-    (121, codes "Remote I/O error") ∷
-    (125, codes "Operation canceled") ∷ []
-
--- the text of a number in such a table
-abbrev pub reason_in : Reasons → ℤ → Option ByteString
-reason_in [] n = None
-reason_in (row ∷ rows) n = if int_eq n (pos row.0) then Some row.1 else reason_in rows n
-
--- the text of a number of the system, if opening or reading can give that number
-abbrev pub reason : ℤ → Option ByteString
-reason n = option_or (reason_in file_reasons n) (option_or (reason_in store_reasons n) (reason_in network_reasons n))
+-- the text of a number
+abbrev pub reason : ℤ → ByteString
+reason (pos n) = slice_index_or reasons n []
+reason n = []
 
 -- the texts of the faults
 abbrev pub fault_text : Fault → ByteString
 fault_text NotFound = codes "No such file or directory"
 fault_text Denied = codes "Permission denied"
 fault_text Other = codes "Input/output error"
-fault_text (Os n) = unwrap_or (reason n) (codes "Input/output error")
+fault_text (Os n) = if length (reason n) == 0 then codes "Input/output error" else reason n
 
 -- the fault of a number of the system: 2 is ENOENT, 13 is EACCES
 abbrev pub fault_of_number : ℤ → Fault
 fault_of_number n = if int_eq n (pos 2) then NotFound else if int_eq n (pos 13) then Denied
-    else if is_some (reason n) then Os n else Other
+    else if length (reason n) == 0 then Other else Os n
 
 -- the fault of an error that has no number
 abbrev pub fault_of_kind : ErrorKind → Fault

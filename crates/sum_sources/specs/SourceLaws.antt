@@ -3,8 +3,8 @@ use Rattle.std.proofs.Common.{ℕ, zero, suc, [], ◌∷◌, refl, List, Ok, Err
 use Rattle.std.specs.Prelude.{length, Option, Result}
 use Rattle.sum_sources.specs.Contents.{Fault, Reads}
 use Rattle.sum_sources.specs.Faults.{NotFound}
-use Rattle.sum_sources.specs.Sources.{Answer, Opening, first_answer, IsOfAnswer, AnswersAre, HasAnswers}
-use Rattle.sum_sources.specs.Logs.{SourceNotes, untold}
+use Rattle.sum_sources.specs.Sources.{Answer, Opening, first_answer, SourceState, IsOfAnswer, AnswersAre, HasAnswers}
+use Rattle.sum_sources.specs.Logs.{untold}
 use Rattle.sum_sources.specs.InMemory.{Answers, ToldFiles, told_gave, told_openings, told_source}
 use Rattle.sum_sources.specs.InputLaws.{some_content, told_is_of}
 
@@ -45,5 +45,5 @@ pub some_are : (os : List Opening) → AnswersAre (some_answers os) 0 os
 some_are [] = tt
 some_are (o ∷ os) = ((some_answer o.gave).1, shifted (some_answers (o ∷ os)) 0 os (some_are os))
 
-pub untold_has_answers : (s : SourceNotes) → HasAnswers (untold s)
+pub untold_has_answers : (s : SourceState) → HasAnswers (untold s)
 untold_has_answers s = (some_answers s.openings, tt, some_are s.openings)

@@ -1,5 +1,5 @@
 -- Sources of files: what was asked of one, and what it answered.
-use Rattle.std.specs.Prelude.{ℕ, zero, suc, ◌≡◌, ◌+◌, List, [], ◌∷◌, ◌++◌, length, Option, None, Some, Result, Ok, Err, ⊤, IfSome, ◌&&◌, if◌then◌else◌, bytes_eq, nat_le}
+use Rattle.std.specs.Prelude.{ℕ, suc, slice_get, slice_set, ◌≡◌, ◌+◌, List, [], ◌∷◌, ◌++◌, length, Option, None, Some, Result, Ok, Err, ⊤, IfSome, ◌&&◌, if◌then◌else◌, bytes_eq, nat_le}
 use Rattle.std.specs.Option.{option_and_then}
 use Rattle.std.specs.Result.{result_ok}
 use Rattle.sum_sources.specs.Contents.{Content, InputState, Reads, IsOf, unread}
@@ -78,18 +78,13 @@ after_opening s name (Err faults.Memory) = record s { refusals = s.refusals + 1 
 
 -- a file that this source opened is open
 pub record IsOpen (s : SourceState) (file : InputState) : Type 0 where
-  pub before : List Opening
-  pub later : List Opening
-  pub are : s.openings ≡ before ++ record { name = file.name; gave = None } ∷ later
-  pub opening : file.opening ≡ length before
+  pub opening : slice_get s.openings file.opening ≡ Some (record { name = file.name; gave = None })
   pub told : file.told ≡ content_at s file.opening file.name
 
--- at the opening with so many before it this was read
-abbrev pub closed_at : ℕ → Reads → List Opening → List Opening
-closed_at n reads [] = []
-closed_at zero reads (o ∷ os) = record o { gave = Some (Ok reads) } ∷ os
-closed_at (suc n) reads (o ∷ os) = o ∷ closed_at n reads os
+-- the opening of a file, once that is closed
+abbrev pub closed : InputState → Opening
+closed file = record { name = file.name; gave = Some (Ok file.reads) }
 
 -- the source after this file was closed
 abbrev pub after_closing : SourceState → InputState → SourceState
-after_closing s file = record s { openings = closed_at file.opening file.reads s.openings }
+after_closing s file = record s { openings = slice_set s.openings file.opening (closed file) }

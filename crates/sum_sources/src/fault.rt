@@ -1,9 +1,7 @@
 //! Faults of opening and reading, and how an input ends.
-ghost use Rattle.std.specs.Prelude.{◌≡◌};
+ghost use Rattle.std.specs.Prelude.{◌≡◌, map};
 ghost use Rattle.std.specs.IoError.{error_kind, raw_os_error};
-ghost use Rattle.std.specs.Option.{option_map};
-ghost use Rattle.sum_sources.specs.Faults.{fault_text, fault_of_error, fault_of_number, fault_of_kind, reason};
-ghost use Rattle.sum_sources.specs.Faults.{reason_in, file_reasons, store_reasons, network_reasons};
+ghost use Rattle.sum_sources.specs.Faults.{fault_text, fault_of_error, fault_of_number, fault_of_kind, reason, reasons};
 
 use std::io::{self, ErrorKind};
 use std::{error, fmt};
@@ -43,7 +41,8 @@ impl Fault {
             Fault::NotFound => "No such file or directory",
             Fault::Denied => "Permission denied",
             Fault::Other => OTHER,
-            Fault::Os(number) => reason(number).unwrap_or(OTHER),
+            Fault::Os(number) if reason(number).is_empty() => OTHER,
+            Fault::Os(number) => reason(number),
         }
     }
 }
@@ -77,8 +76,8 @@ fn fault_of_number(number: i32) -> Fault
     match number {
         ENOENT => Fault::NotFound,
         EACCES => Fault::Denied,
-        _ if reason(number).is_some() => Fault::Os(number),
-        _ => Fault::Other,
+        _ if reason(number).is_empty() => Fault::Other,
+        _ => Fault::Os(number),
     }
 }
 
@@ -93,94 +92,69 @@ fn fault_of_kind(kind: ErrorKind) -> Fault
     }
 }
 
-// The system's text for one of its numbers, as the C library has it. `None` if opening and reading don't give that
-// number. There are three tables, since the prover takes no `match` of all numbers.
-fn reason(number: i32) -> Option<&'static str>
-    ensures { option_map (λ text. text.now) result ≡ reason number }
+// The C library's text for one of the system's numbers. It is empty if the table has none.
+fn reason(number: i32) -> &'static str
+    ensures { result.now ≡ reason number }
 {
-    if let Some(text) = file_reason(number) {
-        return Some(text);
-    }
-    if let Some(text) = store_reason(number) {
-        return Some(text);
-    }
-    network_reason(number)
-}
-
-// The texts of files, devices and processes.
-#[tactic(auto, unfolding(crate::specs::Faults::file_reasons))]
-fn file_reason(number: i32) -> Option<&'static str>
-    ensures { option_map (λ text. text.now) result ≡ reason_in file_reasons number }
-{
-    match number {
-        1 => Some("Operation not permitted"),
-        3 => Some("No such process"),
-        4 => Some("Interrupted system call"),
-        6 => Some("No such device or address"),
-        EBADF => Some("Bad file descriptor"),
-        11 => Some("Resource temporarily unavailable"),
-        12 => Some("Cannot allocate memory"),
-        16 => Some("Device or resource busy"),
-        19 => Some("No such device"),
-        20 => Some("Not a directory"),
-        21 => Some("Is a directory"),
-        22 => Some("Invalid argument"),
-        23 => Some("Too many open files in system"),
-        24 => Some("Too many open files"),
-        26 => Some("Text file busy"),
-        27 => Some("File too large"),
-        _ => None,
+    let reasons = reasons();
+    match usize::try_from(number) {
+        Ok(place) if place < reasons.len() => reasons[place],
+        _ => "",
     }
 }
 
-// The texts of names, file systems, media and keys.
-#[tactic(auto, unfolding(crate::specs::Faults::store_reasons))]
-fn store_reason(number: i32) -> Option<&'static str>
-    ensures { option_map (λ text. text.now) result ≡ reason_in store_reasons number }
+// The table below.
+#[tactic(auto, unfolding(crate::specs::Faults::reasons))]
+fn reasons() -> &'static [&'static str]
+    ensures { map (λ text. text.now) result.now ≡ reasons }
 {
-    match number {
-        36 => Some("File name too long"),
-        38 => Some("Function not implemented"),
-        40 => Some("Too many levels of symbolic links"),
-        61 => Some("No data available"),
-        62 => Some("Timer expired"),
-        74 => Some("Bad message"),
-        75 => Some("Value too large for defined data type"),
-        84 => Some("Invalid or incomplete multibyte or wide character"),
-        95 => Some("Operation not supported"),
-        117 => Some("Structure needs cleaning"),
-        123 => Some("No medium found"),
-        124 => Some("Wrong medium type"),
-        126 => Some("Required key not available"),
-        127 => Some("Key has expired"),
-        128 => Some("Key has been revoked"),
-        129 => Some("Key was rejected by service"),
-        _ => None,
-    }
+    &REASONS
 }
 
-// The texts of what lies behind a network.
-#[tactic(auto, unfolding(crate::specs::Faults::network_reasons))]
-fn network_reason(number: i32) -> Option<&'static str>
-    ensures { option_map (λ text. text.now) result ≡ reason_in network_reasons number }
-{
-    match number {
-        67 => Some("Link has been severed"),
-        71 => Some("Protocol error"),
-        103 => Some("Software caused connection abort"),
-        104 => Some("Connection reset by peer"),
-        107 => Some("Transport endpoint is not connected"),
-        108 => Some("Cannot send after transport endpoint shutdown"),
-        110 => Some("Connection timed out"),
-        111 => Some("Connection refused"),
-        112 => Some("Host is down"),
-        113 => Some("No route to host"),
-        116 => Some("Stale file handle"),
-        121 => Some("Remote I/O error"),
-        125 => Some("Operation canceled"),
-        _ => None,
-    }
-}
+// The texts of the system's numbers from 0 on. A line that ends with a number begins with the text of that number.
+#[rattlefmt::skip]
+static REASONS: [&str; 134] = [
+    "", "Operation not permitted", "", "No such process", "Interrupted system call", "",  // 0
+    "No such device or address", "Argument list too long", "Exec format error", "Bad file descriptor",
+    "No child processes", "Resource temporarily unavailable", "Cannot allocate memory", "", "Bad address",  // 10
+    "Block device required", "Device or resource busy", "File exists", "Invalid cross-device link", "No such device",
+    "Not a directory", "Is a directory", "Invalid argument", "Too many open files in system",  // 20
+    "Too many open files", "Inappropriate ioctl for device", "Text file busy", "File too large",
+    "No space left on device", "Illegal seek",
+    "Read-only file system", "Too many links", "Broken pipe", "Numerical argument out of domain",  // 30
+    "Numerical result out of range", "Resource deadlock avoided", "File name too long", "No locks available",
+    "Function not implemented", "Directory not empty",
+    "Too many levels of symbolic links", "", "No message of desired type", "Identifier removed",  // 40
+    "Channel number out of range", "Level 2 not synchronized", "Level 3 halted", "Level 3 reset",
+    "Link number out of range", "Protocol driver not attached",
+    "No CSI structure available", "Level 2 halted", "Invalid exchange", "Invalid request descriptor",  // 50
+    "Exchange full", "No anode", "Invalid request code", "Invalid slot", "", "Bad font file format",
+    "Device not a stream", "No data available", "Timer expired", "Out of streams resources",  // 60
+    "Machine is not on the network", "Package not installed", "Object is remote", "Link has been severed",
+    "Advertise error", "Srmount error",
+    "Communication error on send", "Protocol error", "Multihop attempted", "RFS specific error", "Bad message",  // 70
+    "Value too large for defined data type", "Name not unique on network", "File descriptor in bad state",
+    "Remote address changed", "Can not access a needed shared library",
+    "Accessing a corrupted shared library", ".lib section in a.out corrupted",  // 80
+    "Attempting to link in too many shared libraries", "Cannot exec a shared library directly",
+    "Invalid or incomplete multibyte or wide character", "Interrupted system call should be restarted",
+    "Streams pipe error", "Too many users", "Socket operation on non-socket", "Destination address required",
+    "Message too long", "Protocol wrong type for socket", "Protocol not available", "Protocol not supported",  // 90
+    "Socket type not supported", "Operation not supported", "Protocol family not supported",
+    "Address family not supported by protocol", "Address already in use", "Cannot assign requested address",
+    "Network is down", "Network is unreachable", "Network dropped connection on reset",  // 100
+    "Software caused connection abort", "Connection reset by peer", "No buffer space available",
+    "Transport endpoint is already connected", "Transport endpoint is not connected",
+    "Cannot send after transport endpoint shutdown", "Too many references: cannot splice",
+    "Connection timed out", "Connection refused", "Host is down", "No route to host",  // 110
+    "Operation already in progress", "Operation now in progress", "Stale file handle", "Structure needs cleaning",
+    "Not a XENIX named type file", "No XENIX semaphores available",
+    "Is a named type file", "Remote I/O error", "Disk quota exceeded", "No medium found", "Wrong medium type",  // 120
+    "Operation canceled", "Required key not available", "Key has expired", "Key has been revoked",
+    "Key was rejected by service",
+    "Owner died", "State not recoverable", "Operation not possible due to RF-kill",  // 130
+    "Memory page has hardware error",
+];
 
 /// Memory was refused.
 #[derive(Clone, Copy, Debug, PartialEq, Eq, Error)]

@@ -86,10 +86,10 @@ fn drop_return<A: Allocator>(line: &mut Vec<u8, A>)
 impl<I: Input> LineReader<I> {
     ghost use Rattle.sum_sources.specs.Contents.{unread};
     ghost use Rattle.sum_sources.specs.Phases.{Unfinished};
-    ghost use Rattle.sum_sources.specs.ManifestLines.{HasNoNewline};
-    ghost use Rattle.sum_sources.specs.LineReaders.{consumed_count, IsBounded, IsFinalAnswerAfter};
-    ghost use Rattle.sum_sources.specs.LineReaders.{AdvancesLines, IsReading, ReadsOn};
-    ghost use Rattle.sum_sources.specs.refinement.LineStates.{FillsBuffer, TakesPiece};
+    ghost use Rattle.sum_sources.specs.ManifestLines.{lines_after};
+    ghost use Rattle.sum_sources.specs.LineReaders.{consumed_count, IsBounded, AdvancesLines, IsReading, ReadsOn};
+    ghost use Rattle.sum_sources.specs.refinement.LimitedReads.{CountsBytes};
+    ghost use Rattle.sum_sources.specs.refinement.LineStates.{FillsBuffer, FillsReader, TakesPiece};
 
     /// A reader of the lines of `input`. If the input has `LIMIT` bytes or more, its first `LIMIT - 1` bytes count, and
     /// then `Fault::Other`.
@@ -134,20 +134,11 @@ impl<I: Input> LineReader<I> {
     fn fill(&mut self) -> Result<bool, Fault>
         requires empty { self.old.ahead ≡ [] }
         requires going { self.old.final_answer ≡ None }
-        ensures reads { (I.state self.old.input).reads.phase ≡ Unfinished
-            → length (I.state self.old.input).reads.bytes ≡ self.old.taken
-            → FillsBuffer (I.state self.old.input).reads (I.state self.new.input).reads self.new.ahead result }
-        ensures bytes { self.new.taken + length (I.state self.old.input).reads.bytes
-            ≡ self.old.taken + length (I.state self.new.input).reads.bytes }
-        ensures taken { IfOk result (λ _. (self.new.taken ≡ self.old.taken + length self.new.ahead)
-            × (self.new.taken < 2 ^ 61)) }
-        ensures more { result ≡ Ok true → self.old.taken < self.new.taken }
-        ensures end { IfOk result (λ more. more ≡ false → self.new.ahead ≡ []) }
-        ensures fault { IsErr result → (self.new.ahead ≡ []) × (self.old.taken ≤ self.new.taken) }
-        ensures same { IsSameInput (I.state self.old.input) (I.state self.new.input) }
+        ensures reads { (I.state self.old.input).reads.phase ≡ Unfinished → FillsBuffer self.old.taken
+            (I.state self.old.input).reads (I.state self.new.input).reads self.new.ahead result }
+        ensures counts { CountsBytes self.old.taken self.new.taken (I.state self.old.input) (I.state self.new.input) }
+        ensures reader { FillsReader self.old self.new result }
         ensures lines { self.new.lines ≡ self.old.lines }
-        ensures final_answer { MatchResult result (λ _. self.new.final_answer ≡ None)
-            (λ fault. self.new.final_answer ≡ Some (Err (LineStop.Fault fault))) }
     {
         self.start = 0;
         self.end = 0;
@@ -197,13 +188,11 @@ impl<I: Input> LineReader<I> {
         requires going { self.old.final_answer ≡ None }
         ensures line { IsReading I.state self.old
             → ReadsOn I.state self.old self.new result (strip_carriage_return line.new.items) }
-        ensures same { IsSameInput (I.state self.old.input) (I.state self.new.input) }
-        ensures bytes { self.new.taken + length (I.state self.old.input).reads.bytes
-            ≡ self.old.taken + length (I.state self.new.input).reads.bytes }
-        ensures some { result ≡ Ok Next.Line → consumed_count self.old < consumed_count self.new }
+        // The line is counted later.
+        ensures reader { AdvancesLines I.state self.old
+            (record self.new { lines = lines_after self.old.lines result }) result }
         ensures lines { self.new.lines ≡ self.old.lines }
-        ensures final_answer { IsFinalAnswerAfter result self.new.final_answer }
-        ensures ahead { ¬ HasNoNewline self.old.ahead → self.new.input ≡ self.old.input }
+        ensures some { result ≡ Ok Next.Line → consumed_count self.old < consumed_count self.new }
     {
         loop {
             match self.take_piece(line) {

@@ -87,6 +87,9 @@ fn errors(rt: HostRuntime) {
         (1, 13, Fault::Denied),
         (1, 11, Fault::Os(11)),
         (1, 5, Fault::Other),
+        (1, 18, Fault::Os(18)),
+        (1, 41, Fault::Other),
+        (1, 134, Fault::Other),
     ] {
         assert_first(&rt, left, io::Error::from_raw_os_error(number), Err(fault));
     }
@@ -203,7 +206,11 @@ fn texts(rt: HostRuntime) -> Result<(), Fail> {
     for (fault, text) in [
         (Fault::NotFound, "No such file or directory"),
         (Fault::Denied, "Permission denied"),
+        (Fault::Os(1), "Operation not permitted"),
         (Fault::Os(116), "Stale file handle"),
+        (Fault::Os(133), "Memory page has hardware error"),
+        (Fault::Os(134), "Input/output error"),
+        (Fault::Os(-1), "Input/output error"),
         (Fault::Other, "Input/output error"),
     ] {
         assert_eq!(rt; fault.text(), text);

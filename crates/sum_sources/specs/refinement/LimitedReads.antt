@@ -1,33 +1,33 @@
 -- What a read up to the limit adds to what was read.
-use Rattle.std.specs.Prelude.{ℕ, zero, suc, ◌≡◌, ◌++◌, length, take, Result, Ok, Err}
-use Rattle.sum_sources.specs.Contents.{Content, Ending, Whole, Broken, Reads, IsOf, clip, Fault}
+use Rattle.std.specs.Prelude.{ℕ, zero, suc, ◌≡◌, ◌+◌, ◌^◌, ◌<◌, ◌≤◌, ◌++◌, length, take, Result, Ok, Err, IfOk}
+use Rattle.sum_sources.specs.Contents.{Content, Ending, Whole, Broken, Reads, InputState, IsOf, IsSameInput, clip, Fault}
 use Rattle.sum_sources.specs.Faults.{ByteString}
-use Rattle.sum_sources.specs.Phases.{Phase, Unfinished, AtEnd, Past}
+use Rattle.sum_sources.specs.Phases.{Phase, AtEnd, Past}
 
 -- how far an input was read that was found to end so
 abbrev pub IsReadTo : Ending → Phase → Type 0
 IsReadTo Whole phase = phase ≡ AtEnd
 IsReadTo (Broken f) phase = ¬ (phase ≡ Past)
 
--- an input was found to end so, as far as the limit allows
-pub record FindsEnding (a b : Reads) (e : Ending) : Type 0 where
-  pub content : (c : Content) → IsOf b c → clip c ≡ record { bytes = a.bytes; ending = e }
+-- an input was found to end so, as far as the limit allows, if it had given so many bytes
+pub record FindsEnding (taken : ℕ) (a b : Reads) (e : Ending) : Type 0 where
+  pub content : length a.bytes ≡ taken → (c : Content) → IsOf b c → clip c ≡ record { bytes = a.bytes; ending = e }
   pub before : (c : Content) → IsOf b c → IsOf a c
   pub phase : IsReadTo e b.phase
 
 -- an input that hasn't ended gives bytes; or its end; or a fault, or a byte that reaches the limit
-abbrev pub AddsLimited : Reads → Reads → Result ℕ Fault → ByteString → Type 0
-AddsLimited a b (Ok zero) buf = FindsEnding a b Whole
-AddsLimited a b (Ok (suc n)) buf = b ≡ record a { bytes = a.bytes ++ take (suc n) buf }
-AddsLimited a b (Err f) buf = FindsEnding a b (Broken f)
+abbrev pub AddsLimited : ℕ → Reads → Reads → Result ℕ Fault → ByteString → Type 0
+AddsLimited taken a b (Ok zero) buf = FindsEnding taken a b Whole
+AddsLimited taken a b (Ok (suc n)) buf = b ≡ record a { bytes = a.bytes ++ take (suc n) buf }
+AddsLimited taken a b (Err f) buf = FindsEnding taken a b (Broken f)
 
--- and its phase
-abbrev pub IsPhaseOf : Phase → Result ℕ Fault → Type 0
-IsPhaseOf phase (Ok zero) = phase ≡ AtEnd
-IsPhaseOf phase (Ok (suc n)) = phase ≡ Unfinished
-IsPhaseOf phase (Err f) = ¬ (phase ≡ Past)
+-- the counts of bytes before and after such a read
+pub record CountsLimited (old new : ℕ) (result : Result ℕ Fault) : Type 0 where
+  pub ok : IfOk result (λ n. (n ≤ 8192) × (new ≡ old + n) × (new < 2 ^ 61))
+  pub most : new ≤ 2 ^ 61
+  pub more : old ≤ new
 
--- so it is if the input hasn't ended, and has given so many bytes
-pub record ReadsLimited (taken : ℕ) (a b : Reads) (result : Result ℕ Fault) (buf : ByteString) : Type 0 where
-  pub adds : a.phase ≡ Unfinished → length a.bytes ≡ taken → AddsLimited a b result buf
-  pub phase : a.phase ≡ Unfinished → IsPhaseOf b.phase result
+-- more was read of the same input, and each byte that it gave is counted
+pub record CountsBytes (old new : ℕ) (a b : InputState) : Type 0 where
+  pub same : IsSameInput a b
+  pub bytes : new + length a.reads.bytes ≡ old + length b.reads.bytes

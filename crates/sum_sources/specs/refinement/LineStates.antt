@@ -1,5 +1,5 @@
 -- The view of a reader of lines, its invariant, and what its steps change.
-use Rattle.std.specs.Prelude.{◌≡◌, ◌+◌, ◌-◌, ◌^◌, ◌<◌, ◌≤◌, ◌⊎◌, take, drop, Option, None, Some, Result, Ok, Err, Bool, true, false, [], ◌∷◌, ◌++◌}
+use Rattle.std.specs.Prelude.{ℕ, ◌≡◌, ◌+◌, ◌-◌, ◌^◌, ◌<◌, ◌≤◌, ◌⊎◌, length, take, drop, Option, None, Some, Result, Ok, Err, Bool, true, false, [], ◌∷◌, ◌++◌}
 use Rattle.sum_sources.specs.Contents.{Reads, Fault, Whole, Broken}
 use Rattle.sum_sources.specs.refinement.LimitedReads.{FindsEnding}
 use Rattle.digest_kinds.specs.Bytes.{ByteString}
@@ -37,10 +37,17 @@ pub record LineReaderInvariant {I : Type 0} (s : Inside I) : Type 0 where
 
 -- the empty buffer was filled with bytes of an input that hasn't ended; or its end was read; or a fault, or a byte that
 -- reaches the limit
-abbrev pub FillsBuffer : Reads → Reads → ByteString → Result Bool Fault → Type 0
-FillsBuffer a b ahead (Ok true) = b ≡ record a { bytes = a.bytes ++ ahead }
-FillsBuffer a b ahead (Ok false) = FindsEnding a b Whole
-FillsBuffer a b ahead (Err f) = FindsEnding a b (Broken f)
+abbrev pub FillsBuffer : ℕ → Reads → Reads → ByteString → Result Bool Fault → Type 0
+FillsBuffer taken a b ahead (Ok true) = b ≡ record a { bytes = a.bytes ++ ahead }
+FillsBuffer taken a b ahead (Ok false) = FindsEnding taken a b Whole
+FillsBuffer taken a b ahead (Err f) = FindsEnding taken a b (Broken f)
+
+-- and what changes in the reader: the bytes that it got are ahead, and counted; a fault is its final answer
+abbrev pub FillsReader : {I : Type 0} → LineReaderValue I → LineReaderValue I → Result Bool Fault → Type 0
+FillsReader old new (Ok more) = (new.taken ≡ old.taken + length new.ahead) × (new.taken < 2 ^ 61)
+    × (more ≡ true → old.taken < new.taken) × (more ≡ false → new.ahead ≡ []) × (new.final_answer ≡ None)
+FillsReader old new (Err f) = (new.ahead ≡ []) × (old.taken ≤ new.taken)
+    × (new.final_answer ≡ Some (Err (stops.Fault f)))
 
 -- a piece moves from the front of the buffer to the line's end: up to a newline, which is dropped, or the whole buffer
 abbrev pub TakesPiece : Bool → ByteString → ByteString → ByteString → ByteString → Type 0

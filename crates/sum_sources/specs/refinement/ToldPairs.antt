@@ -1,10 +1,10 @@
 -- Views of the answers and pairs of a source in memory, and what its fields keep.
-use Rattle.std.specs.Prelude.{ℕ, suc, ◌≡◌, Bool, true, false, Ok, Err, List, [], ◌∷◌, ◌++◌, map, ⊤}
+use Rattle.std.specs.Prelude.{◌≡◌, Bool, true, false, Ok, Err, List, [], ◌∷◌, ◌++◌, map}
 use Rattle.sum_sources.specs.declared.sources.told_source.Answer.{Answer as ToldAnswer}
 use Rattle.sum_sources.specs.declared.sources.told_source.StoredPair.{StoredPair}
 use Rattle.sum_sources.specs.Faults.{ByteString}
 use Rattle.sum_sources.specs.Sources.{Answer, Opening, Pair, first_answer}
-use Rattle.sum_sources.specs.InMemory.{Answers, told_gave}
+use Rattle.sum_sources.specs.InMemory.{told_openings}
 use Rattle.sum_sources.specs.declared.sources.told_source.Answer.TheVariants as answers
 
 -- the value of an answer
@@ -16,15 +16,10 @@ answer_value (answers.Content content ending) = Ok (record { bytes = content.now
 abbrev pub pair_of : {A : Type 0} → StoredPair A → Pair
 pair_of p = record { name = p.name.items; answer = answer_value p.answer; from = p.from }
 
--- these openings gave what these answers give, of which the first has so many before it
-abbrev pub AreTold : Answers → ℕ → List Opening → Type 0
-AreTold answer n [] = ⊤
-AreTold answer n (o ∷ os) = (told_gave (answer n o.name) o.gave ≡ o.gave) × AreTold answer (suc n) os
-
 -- what the fields keep
 pub record ToldSourceInvariant (pairs : List Pair) (names : List ByteString) (openings : List Opening) : Type 0 where
   pub asked : names ≡ map (λ o. o.name) openings
-  pub told : AreTold (first_answer pairs) 0 openings
+  pub told : told_openings (first_answer pairs) 0 openings ≡ openings
 
 -- a name was added to those asked; or memory was refused
 abbrev pub AddsName : ByteString → List ByteString → List ByteString → Bool → Type 0

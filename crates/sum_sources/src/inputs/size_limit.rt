@@ -1,7 +1,7 @@
 //! Reading up to the limit of 2^61 bytes.
-ghost use Rattle.std.specs.Prelude.{◌≡◌, ◌≤◌, ◌<◌, ◌+◌, ◌^◌, length, IfOk};
-ghost use Rattle.sum_sources.specs.Contents.{IsSameInput};
-ghost use Rattle.sum_sources.specs.refinement.LimitedReads.{ReadsLimited};
+ghost use Rattle.std.specs.Prelude.{◌≡◌, ◌<◌, ◌^◌, length};
+ghost use Rattle.sum_sources.specs.refinement.LimitedReads.{CountsLimited, CountsBytes, AddsLimited};
+ghost use Rattle.sum_sources.specs.Phases.{Unfinished};
 
 use crate::{Fault, Input, PIECE};
 use digest_kinds::LIMIT;
@@ -14,16 +14,11 @@ pub(crate) fn read_limited<I: Input>(
     buffer: &mut [u8; PIECE],
 ) -> Result<usize, Fault>
     requires { taken.old < 2 ^ 61 }
-    ensures most { taken.new ≤ 2 ^ 61 }
+    ensures count { CountsLimited taken.old taken.new result }
     ensures size { length buffer.new ≡ 8192 }
-    ensures count { IfOk result (λ n. n ≤ 8192) }
-    ensures taken { IfOk result (λ n. taken.new ≡ taken.old + n) }
-    ensures more { taken.old ≤ taken.new }
-    ensures few { IfOk result (λ _. taken.new < 2 ^ 61) }
-    ensures bytes { taken.new + length (I.state input.old).reads.bytes
-        ≡ taken.old + length (I.state input.new).reads.bytes }
-    ensures same { IsSameInput (I.state input.old) (I.state input.new) }
-    ensures reads { ReadsLimited taken.old (I.state input.old).reads (I.state input.new).reads result buffer.new }
+    ensures input { CountsBytes taken.old taken.new (I.state input.old) (I.state input.new) }
+    ensures reads { (I.state input.old).reads.phase ≡ Unfinished
+        → AddsLimited taken.old (I.state input.old).reads (I.state input.new).reads result buffer.new }
 {
     // If no byte more counts, one byte shows whether the input ends there.
     let size = (LIMIT - 1 - *taken).min(PIECE as u64).max(1) as usize;

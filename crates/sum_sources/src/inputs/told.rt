@@ -1,5 +1,6 @@
 //! An input in memory.
 ghost use Rattle.std.specs.Prelude.{◌≡◌, ◌≤◌, [], length, max, IfOk};
+ghost use Rattle.sum_sources.specs.Sources.{closed};
 ghost use Rattle.sum_sources.specs.StandardInput.{told_file};
 ghost use Rattle.sum_sources.specs.refinement.ToldSteps.{GivesFrom, ToldInvariant};
 
@@ -63,7 +64,7 @@ impl<'a> Told<'a> {
     // What its reads gave.
     pub(crate) fn log(&self) -> &ReadLog
         ensures opening { result.now.opening ≡ self.now.log.opening }
-        ensures reads { result.now.reads ≡ (told_file (told_value self.now)).reads }
+        ensures closed { closed result.now ≡ closed (told_file (told_value self.now)) }
     {
         &self.log
     }

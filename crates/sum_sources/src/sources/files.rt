@@ -18,9 +18,9 @@ pub struct Files<R> {
 }
 
 impl<R> Model for Files<R> {
-    ghost use Rattle.sum_sources.specs.Logs.{SourceNotes};
+    ghost use Rattle.sum_sources.specs.Sources.{SourceState};
 
-    ghost Value = { SourceNotes };
+    ghost Value = { SourceState };
 
     ghost view = { λ s. s.log };
 }

@@ -1,6 +1,7 @@
 //! What a source of files was asked, and what it answered, for proofs alone.
 ghost use Rattle.std.specs.Prelude.{◌≡◌};
-ghost use Rattle.sum_sources.specs.Logs.{SourceNotes, no_openings, next_file, input_log, source_log};
+ghost use Rattle.sum_sources.specs.Logs.{no_openings, input_log, source_log};
+ghost use Rattle.sum_sources.specs.Sources.{SourceState, opened_file};
 
 use crate::Fault;
 use crate::inputs::read_log::ReadLog;
@@ -14,7 +15,7 @@ pub struct SourceLog {
 }
 
 impl Model for SourceLog {
-    ghost Value = { SourceNotes };
+    ghost Value = { SourceState };
 
     ghost view = { λ s. s.log.state.source };
 }
@@ -49,7 +50,7 @@ impl<'a> Says<(&'a SourceLog, &'a Note<'a>)> for AndNote {
 struct NextFile;
 
 impl<'a> Says<(&'a SourceLog, &'a [u8])> for NextFile {
-    ghost says = { λ x. input_log (next_file x.0.now x.1.now) };
+    ghost says = { λ x. input_log (opened_file x.0.now x.1.now) };
 }
 
 impl SourceLog {
@@ -75,7 +76,7 @@ impl SourceLog {
 
     /// No reads yet of the file that is opened next, by this name.
     pub fn file(&self, name: &[u8]) -> ReadLog
-        ensures { result ≡ next_file self.now name.now }
+        ensures { result ≡ opened_file self.now name.now }
     {
         ReadLog::of_log(Log::of::<_, NextFile>(&(self, name)))
     }

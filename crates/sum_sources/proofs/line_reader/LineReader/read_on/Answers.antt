@@ -4,7 +4,7 @@ use Rattle.std.proofs.lemmas.List.{nil_from_length}
 use Rattle.sum_sources.specs.ManifestLines.{HasNoNewline, Line, NoMore}
 use Rattle.sum_sources.specs.Contents.{Whole, Broken}
 use Rattle.sum_sources.specs.LineReaders.{IsReading, LineReaderValue}
-use Rattle.sum_sources.proofs.ReadOnLemmas.{not_ahead, HasRead, HasRead-given, HasRead-more, HasRead-filled, ends_line, ends_memory, ends}
+use Rattle.sum_sources.proofs.ReadOnLemmas.{not_ahead, HasRead, HasRead-going, HasRead-more, HasRead-filled, ends_line, ends_memory, ends}
 use Rattle.sum_sources.proofs.LineLemmas.{IsNextLine-none, IsNextLine-last, IsNextLine-fault}
 use Rattle.sum_sources.specs.declared.line_reader.LineStop.TheVariants as stops
 use Rattle.sum_sources.proofs.line_reader.LineReader.read_on.Goals.{In-Ok-false}
@@ -35,8 +35,7 @@ moved : (g : given.Over) (c : In-Ok-false g)
 moved g c =
     let piece = rw c.in-Ok-false.field-0-test at c.in-Ok-false.ensures.piece in
     let same = c.in-Ok-false.ensures.same in (
-      λ reading. rw piece.2 (HasRead-more _ c.take_piece.new.self.ahead same (c.loop-self.invariant.read reading)
-          (omega (arith, c.take_piece.ensures.few.0, ap (λ (r : LineReaderValue _). r.taken) same))
+      λ reading. rw piece.2 (HasRead-more (c.loop-self.invariant.read reading) _ c.take_piece.new.self.ahead same
           (rw piece.1 (sym (append-nil c.loop-self.self.ahead)))),
       grind (arith, common_steps, c.loop-self.invariant.plain, piece.0),
     )
@@ -48,8 +47,8 @@ loop-self-preserved g c =
     let piece = rw c.in-Ok-false.field-0-test at c.in-Ok-false.ensures.piece in
     let fills = rw c.in-Ok-true-fill.field-0-test at c.in-Ok-true-fill.ensures.reads in
     record {
-      read = λ reading. let h = read reading in let (going, size) = HasRead-given h in
-          HasRead-filled h piece.1 (fills going size) c.in-Ok-true-fill.ensures.taken.0;
+      read = λ reading. let h = read reading in
+          HasRead-filled h piece.1 (fills (HasRead-going h)) c.in-Ok-true-fill.ensures.reader.0;
       going = search rules;
       sum = search rules;
       plain = plain;
@@ -67,8 +66,7 @@ returns-then-is_empty-clause-line g c =
     let fills = rw c.in-Ok-false-fill.field-0-test at c.in-Ok-false-fill.ensures.reads in
     λ reading.
     let h = read reading in
-    let (going, size) = HasRead-given h in
-    ends c.fill.new.self Whole (Ok NoMore) h piece.1 (fills going size) (search rules) (search rules)
+    ends c.fill.new.self Whole (Ok NoMore) h piece.1 (fills (HasRead-going h)) (search rules) (search rules)
     (rw (← c.self-in-loop-self.view_is) refl) (IsNextLine-none _ [] (nil_from_length _ (search rules))) (search rules)
 
 -- the input has ended after a last line
@@ -79,8 +77,7 @@ returns-in-Ok-false-fill-clause-line g c =
     let fills = rw c.in-Ok-false-fill.field-0-test at c.in-Ok-false-fill.ensures.reads in
     λ reading.
     let h = read reading in
-    let (going, size) = HasRead-given h in
-    ends c.fill.new.self Whole (Ok Line) h piece.1 (fills going size) (search rules) (search rules)
+    ends c.fill.new.self Whole (Ok Line) h piece.1 (fills (HasRead-going h)) (search rules) (search rules)
     (rw (← c.self-in-loop-self.view_is) refl) (IsNextLine-last _ plain (search rules)) (search rules)
 
 -- the input has a fault
@@ -91,7 +88,6 @@ returns-in-Err-fill-clause-line g c =
     let e = c.in-Err-fill.ensures in
     λ reading.
     let h = read reading in
-    let (going, size) = HasRead-given h in
-    ends c.fill.new.self (Broken _) (Err (stops.Fault _)) h piece.1 (e.reads going size) (e.fault refl).0
-    (e.fault refl).1 (ap (λ a. record c.fill.new.self { final_answer = a }) e.final_answer)
+    ends c.fill.new.self (Broken _) (Err (stops.Fault _)) h piece.1 (e.reads (HasRead-going h)) e.reader.0 e.reader.1
+    (ap (λ a. record c.fill.new.self { final_answer = a }) e.reader.2)
     (IsNextLine-fault _ _ plain) tt

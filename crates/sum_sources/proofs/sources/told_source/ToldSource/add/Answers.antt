@@ -1,4 +1,4 @@
-use Rattle.std.proofs.Common.{rules, arith}
+use Rattle.std.proofs.Common.{rules, arith, ◌∙◌}
 use Rattle.std.proofs.lemmas.List.{map-append}
 use Rattle.sum_sources.proofs.ToldSourceLemmas.{told_add, count_asked}
 use Rattle.sum_sources.proofs.sources.told_source.ToldSource.add.Goals as goal
@@ -11,7 +11,7 @@ invariant_of-self g c = elim c.match-push.branch [
       let count = count_asked _ _ _ c.self.invariant.asked in
       rw (w.in-Ok-push.ensures.items, map-append) (record {
         asked = c.self.invariant.asked;
-        told = told_add _ _ 0 _ (omega (arith, count, c.len-from.ensures)) c.self.invariant.told;
+        told = told_add _ _ 0 _ (omega (arith, count, c.len-from.ensures)) ∙ c.self.invariant.told;
       })
   | in-Err w ↦ search rules
 ]

@@ -4,7 +4,7 @@ use Rattle.sum_sources.specs.Sources.{first_answer}
 use Rattle.sum_sources.specs.StandardInput.{told_file}
 use Rattle.sum_sources.specs.declared.sources.told_source.ToldSource.TheInside.{Inside}
 use Rattle.sum_sources.specs.refinement.ToldPairs.{pair_of}
-use Rattle.sum_sources.proofs.ToldSourceLemmas.{opened_one, opened_state, count_asked, told_same}
+use Rattle.sum_sources.proofs.ToldSourceLemmas.{opened_one, opened_state, count_asked}
 use Rattle.sum_sources.proofs.sources.told_source.ToldSourceSource.open_file.Goals.{In-Fault, In-Content}
 use Rattle.sum_sources.proofs.sources.told_source.ToldSourceSource.open_file.Given as given
 use Rattle.sum_sources.proofs.sources.told_source.ToldSourceSource.open_file.Goals as goal
@@ -43,17 +43,17 @@ pub returns-in-Fault-clause-state : goal.returns-in-Fault-clause-state
 returns-in-Fault-clause-state g c =
     let is = fault g (goal.at.returns-in-Fault-clause-state g c).In-Fault in
     rw (← c.self.view_is, c.and-self-inside-in-Fault.ensures)
-    (ap (with c.self.inside) (opened_state _ _ _ _ c.self.invariant (rw is refl)))
+    (ap (with c.self.inside) (opened_state _ _ _ (rw is refl)))
 
 pub returns-in-Content-clause-state : goal.returns-in-Content-clause-state
 returns-in-Content-clause-state g c =
     let is = content g (goal.at.returns-in-Content-clause-state g c).In-Content in
     rw (← c.self.view_is, c.and-self-inside-in-Content.ensures)
-    (ap (with c.self.inside) (opened_state _ _ _ _ c.self.invariant (rw is refl)))
+    (ap (with c.self.inside) (opened_state _ _ _ (rw is refl)))
 
 -- the file has the content of the answer
 pub returns-in-Content-clause-file : goal.returns-in-Content-clause-file
 returns-in-Content-clause-file g c =
     let is = content g (goal.at.returns-in-Content-clause-file g c).In-Content in
     ap told_file c.opened-file.ensures
-    ∙ rw (c.file.ensures, ← c.self.view_is, told_same _ 0 _ c.self.invariant.told, is) refl
+    ∙ rw (c.file.ensures, ← c.self.view_is, c.self.invariant.told, is) refl
