@@ -65,9 +65,9 @@ has_option t flag = not (takes_value flag)
 abbrev pub flags_of : Tool → List Flag
 flags_of t = filter (has_option t) all_flags
 
--- how the next word is read: as it is, as the value of an option written so, or not at all
+-- how the next word is read: by itself, or as the value of an option that is spelled so
 pub data NextWord : Type 0 where
-  a_word no_word : NextWord
+  a_word : NextWord
   a_value : Spelling → NextWord
 
 -- a long option's name: up to the first '='
@@ -89,48 +89,47 @@ unfoldable pub name_or_fault : Tool → ByteString → Result Flag WordFaultValu
 name_or_fault t name = option_map_or (λ flag. Ok flag) (find (λ flag. bytes_eq name (full_name flag)) (flags_of t))
     (only_or_fault name (filter (λ flag. starts_with ◌==◌ (full_name flag) name) (flags_of t)))
 
--- the items of a long option, and how the next word is read
-abbrev pub long_option : Result Flag WordFaultValue → Option ByteString → List ItemValue × NextWord
-long_option (Err f) value = (fault f ∷ [], no_word)
-long_option (Ok flag) None = if takes_value flag then ([], a_value Long) else (option flag ∷ [], a_word)
-long_option (Ok flag) (Some value) = if takes_value flag then (length_value value ∷ [], a_word)
-    else (fault (value_not_allowed (full_name flag)) ∷ [], no_word)
+-- the items of a long option and of the rest of the words, by how the next word is read
+abbrev pub long_option : Result Flag WordFaultValue → Option ByteString → (NextWord → List ItemValue) → List ItemValue
+long_option (Ok flag) None rest = if takes_value flag then rest (a_value Long) else option flag ∷ rest a_word
+long_option (Ok flag) (Some value) rest = if takes_value flag then length_value value ∷ rest a_word
+    else fault (value_not_allowed (full_name flag)) ∷ []
+long_option (Err f) value rest = fault f ∷ []
 
 -- a tool's option of this letter
 unfoldable pub option_of_letter : Tool → ℕ → Option Flag
 option_of_letter t c = find (λ flag. bytes_eq (row_of flag).letter (c ∷ [])) (flags_of t)
 
--- an option in a cluster that takes a value: the rest of the cluster, or the next word if nothing is left
-abbrev pub attached_value : List ℕ → List ItemValue × NextWord
-attached_value [] = ([], a_value Short)
-attached_value cs = (length_value (encode_utf8_all cs) ∷ [], a_word)
+-- the items of the value of an option in a cluster: the rest of the cluster, or the next word if nothing is left
+abbrev pub attached_value : List ℕ → (NextWord → List ItemValue) → List ItemValue
+attached_value [] rest = rest (a_value Short)
+attached_value cs rest = length_value (encode_utf8_all cs) ∷ rest a_word
 
--- the items of a cluster, letter by letter, and how the next word is read
-abbrev pub cluster : Tool → List ℕ → List ItemValue × NextWord
-cluster t [] = ([], a_word)
-cluster t (c ∷ cs) = let rest = cluster t cs in option_map_or (λ flag.
-    if takes_value flag then attached_value cs else (option flag ∷ rest.0, rest.1))
-    (option_of_letter t c) (fault (unknown_short c) ∷ [], no_word)
+-- the items of a cluster of letters and of the rest; what follows a letter whose option takes a value is that value
+abbrev pub cluster : Tool → List ℕ → (NextWord → List ItemValue) → List ItemValue
+cluster t [] rest = rest a_word
+cluster t (c ∷ cs) rest = option_map_or (λ flag.
+    if not (takes_value flag) then option flag ∷ cluster t cs rest else attached_value cs rest)
+    (option_of_letter t c) (fault (unknown_short c) ∷ [])
 
 -- whether a word begins with a dash and isn't a dash alone
 abbrev pub is_option_word : ByteString → Bool
 is_option_word word = starts_with ◌==◌ word (codes "-") && not (bytes_eq word (codes "-"))
 
--- a word by itself: an operand, or options, which have to be UTF-8: after "-" a cluster, after "--" a long option
-abbrev pub read_word : Tool → ByteString → List ItemValue × NextWord
-read_word t word = if not (is_option_word word) then (operand word ∷ [], a_word)
-    else if not (is_utf8 word) then (fault (not_text word) ∷ [], no_word)
-    else if not (starts_with ◌==◌ word (codes "--")) then cluster t (chars (drop 1 word))
-    else long_option (name_or_fault t (name_part (drop 2 word))) (value_part (drop 2 word))
+-- the items of a word and of the rest: a word is an operand, or it is UTF-8 and after "-" a cluster, after "--" an option
+abbrev pub word_items : Tool → ByteString → (NextWord → List ItemValue) → List ItemValue
+word_items t word rest = if not (is_option_word word) then operand word ∷ rest a_word
+    else if not (is_utf8 word) then fault (not_text word) ∷ []
+    else if not (starts_with ◌==◌ word (codes "--")) then cluster t (chars (drop 1 word)) rest
+    else long_option (name_or_fault t (name_part (drop 2 word))) (value_part (drop 2 word)) rest
 
--- the items of all words; the words after a "--" that is no option's value are operands
-abbrev pub items_from : Tool → NextWord → List ByteString → List ItemValue
-items_from t no_word words = []
-items_from t a_word [] = []
-items_from t a_word (w ∷ ws) =
-    if bytes_eq w (codes "--") then map operand ws else (read_word t w).0 ++ items_from t (read_word t w).1 ws
-items_from t (a_value spelling) [] = fault (value_missing spelling) ∷ []
-items_from t (a_value spelling) (w ∷ ws) = length_value w ∷ items_from t a_word ws
+-- the items of words, of which the first is read so; the words after a "--" that is no option's value are operands
+abbrev pub items_from : Tool → List ByteString → NextWord → List ItemValue
+items_from t [] a_word = []
+items_from t (w ∷ ws) a_word =
+    if bytes_eq w (codes "--") then map operand ws else word_items t w (items_from t ws)
+items_from t [] (a_value spelling) = fault (value_missing spelling) ∷ []
+items_from t (w ∷ ws) (a_value spelling) = length_value w ∷ items_from t ws a_word
 
 -- the option of an item, if it is one
 abbrev pub option_in : ItemValue → Option Flag
