@@ -6,25 +6,20 @@ use Rattle.std.specs.List.{after_last}
 use Rattle.std.specs.Option.{option_map_or}
 use Rattle.sum_words.specs.Tools.{ByteString, Tool, tool_called}
 
--- one `fill`: the buffer starts with the argument at the place; there is none; or it is longer than the buffer
-abbrev pub Fills : Option (List ByteString) → ℕ → ByteString → Result ℕ FillError → Type 0
-Fills None place buffer r = ⊤
-Fills (Some all) place buffer (Ok n) = slice_get all place ≡ Some (take n buffer)
-Fills (Some all) place buffer (Err NotPresent) = slice_get all place ≡ None
-Fills (Some all) place buffer (Err TooLong) = IsSomeAnd (slice_get all place) (λ a. length buffer < length a)
-
--- the last part of a path: what follows its last slash (47)
-abbrev pub last_part : ByteString → ByteString
-last_part path = after_last (λ b. b == 47) path
+-- What a fill returns: the buffer starts with the argument at the place, or that is longer than the buffer, or absent.
+abbrev pub Fills : List ByteString → ℕ → ByteString → Result ℕ FillError → Type 0
+Fills all place buffer (Ok n) = slice_get all place ≡ Some (take n buffer)
+Fills all place buffer (Err TooLong) = IsSomeAnd (slice_get all place) (λ argument. length buffer < length argument)
+Fills all place buffer (Err NotPresent) = slice_get all place ≡ None
 
 -- what a command line asks for: an unknown tool, or this one on these words
 pub data CommandLineValue : Type 0 where
   unknown_tool : CommandLineValue
   invoke : Tool → List ByteString → CommandLineValue
 
--- the tool and its words: the last part of the program's name is a tool's name, or else the next argument names it
+-- The tool and its words. The program's name, after its last slash (47), names the tool, or else the next argument does.
 abbrev pub tool_and_words : List ByteString → Option Tool × List ByteString
-tool_and_words all = let called = option_and_then (λ name. tool_called (last_part name)) (slice_get all 0) in
+tool_and_words all = let called = option_and_then (λ path. tool_called (after_last (λ b. b == 47) path)) (slice_get all 0) in
     if is_some called then (called, drop 1 all) else (option_and_then tool_called (slice_get all 1), drop 2 all)
 
 -- what a command line asks for

@@ -1,6 +1,6 @@
 -- The items of a tool's words: options, values of --length, operands and a fault. No item follows a fault.
 use Prim.Native.String.{String}
-use Rattle.std.specs.Prelude.{ℕ, ◌+◌, ◌==◌, ◌&&◌, not, Bool, true, false, List, [], ◌∷◌, ◌++◌, map, drop, Option, None, Some, Result, Ok, Err, codes, if◌then◌else◌, option_map, filter, find, position, bytes_eq, chars, encode_utf8_all}
+use Rattle.std.specs.Prelude.{ℕ, ◌+◌, ◌==◌, ◌&&◌, not, Bool, true, false, List, [], ◌∷◌, map, drop, length, Option, None, Some, Result, Ok, Err, codes, if◌then◌else◌, option_map, filter, find, position, bytes_eq, chars, encode_utf8_all}
 use Rattle.std.specs.List.{starts_with, before_first}
 use Rattle.std.specs.Option.{option_map_or}
 use Rattle.std.specs.Str.{byte, is_utf8}
@@ -100,16 +100,11 @@ long_option (Err f) value rest = fault f ∷ []
 unfoldable pub option_of_letter : Tool → ℕ → Option Flag
 option_of_letter t c = find (λ flag. bytes_eq (row_of flag).letter (c ∷ [])) (flags_of t)
 
--- the items of the value of an option in a cluster: the rest of the cluster, or the next word if nothing is left
-abbrev pub attached_value : List ℕ → (NextWord → List ItemValue) → List ItemValue
-attached_value [] rest = rest (a_value Short)
-attached_value cs rest = length_value (encode_utf8_all cs) ∷ rest a_word
-
 -- the items of a cluster of letters and of the rest; what follows a letter whose option takes a value is that value
 abbrev pub cluster : Tool → List ℕ → (NextWord → List ItemValue) → List ItemValue
 cluster t [] rest = rest a_word
-cluster t (c ∷ cs) rest = option_map_or (λ flag.
-    if not (takes_value flag) then option flag ∷ cluster t cs rest else attached_value cs rest)
+cluster t (c ∷ cs) rest = option_map_or (λ flag. if not (takes_value flag) then option flag ∷ cluster t cs rest
+    else if length cs == 0 then rest (a_value Short) else length_value (encode_utf8_all cs) ∷ rest a_word)
     (option_of_letter t c) (fault (unknown_short c) ∷ [])
 
 -- whether a word begins with a dash and isn't a dash alone

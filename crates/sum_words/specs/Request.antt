@@ -1,14 +1,12 @@
 -- What a tool's words ask for: the request of their items, or the first fault that counts.
 use denote.Enum.Bare.{sameb}
-use Rattle.std.specs.Prelude.{◌&&◌, ◌||◌, not, Bool, true, false, List, [], ◌∷◌, Option, None, Some, Result, Ok, Err, if◌then◌else◌, unwrap_or, option_map, filter, find, bytes_eq, filter_map}
+use Rattle.std.specs.Prelude.{◌&&◌, ◌||◌, not, nat_lt, Bool, true, false, List, [], ◌∷◌, Option, None, Some, Result, Ok, Err, if◌then◌else◌, unwrap_or, option_map, filter, find, bytes_eq, filter_map}
 use Rattle.std.specs.List.{last_or, list_any}
-use Rattle.std.specs.Option.{option_map_or, option_or, option_and_then}
-use Rattle.std.specs.Result.{result_map_both, result_ok, result_err}
+use Rattle.std.specs.Option.{ok_or, option_map_or, option_or, option_and_then}
+use Rattle.std.specs.Result.{result_ok, result_err}
 use Rattle.std.specs.Str.{all_ascii_digits}
 use Rattle.std.specs.Str.Parse.{digits_value}
 use Rattle.sum_words.specs.Tools.{Algos, Tool, algos_of, One, Any}
-use Rattle.digest_kinds.specs.declared.kind.LengthFault.{LengthFault}
-use Rattle.digest_kinds.specs.declared.kind.LengthFault.TheVariants.{TooLong, NotBytes}
 use Rattle.digest_kinds.specs.Kinds.{KindValue, full_kind, blake2b_of_bits}
 pub use Rattle.sum_lines.specs.declared.writing.put_line.Mode.{Mode}
 pub use Rattle.sum_engine.specs.declared.settings.Report.{Report}
@@ -44,19 +42,11 @@ report_flag reports.Quiet = Some flags.Quiet
 report_flag reports.Warn = Some flags.Warn
 report_flag reports.Status = Some flags.Status
 
--- the fault of a length value, by what is wrong with the number
-abbrev length_fault : ByteString → LengthFault → WordFaultValue
-length_fault value TooLong = length_invalid value
-length_fault value NotBytes = length_not_bytes value
-
--- whether a value is one or more digits
-abbrev pub is_number : ByteString → Bool
-is_number value = not (bytes_eq value []) && all_ascii_digits value
-
--- the kind that a length value asks for, which is the number of bits
+-- The kind that a value of --length asks for. The value is a number of bits, in digits: at most 512, and whole bytes.
 abbrev pub length_kind : ByteString → Result KindValue WordFaultValue
-length_kind value = if not (is_number value) then Err (length_invalid value)
-    else result_map_both (λ kind. kind) (length_fault value) (blake2b_of_bits (digits_value 10 value))
+length_kind value = let bits = digits_value 10 value in
+    if bytes_eq value [] || not (all_ascii_digits value) || nat_lt 512 bits then Err (length_invalid value)
+    else ok_or (result_ok (blake2b_of_bits bits)) (length_not_bytes value)
 
 -- the first fault of the options together, if there is one
 abbrev pub fault_of_options : List Flag → Option WordFaultValue

@@ -7,9 +7,9 @@ pub use Rattle.sum_words.specs.declared.parsing.options.Spelling.TheVariants.{Lo
 -- a fault, with what its text shows: an option's name (typed or full), how it was written, a character, a value, a word
 pub data WordFaultValue : Type 0 where
   unknown_long ambiguous_long value_not_allowed without_check : ByteString → WordFaultValue
+  length_invalid length_not_bytes not_text : ByteString → WordFaultValue
   value_missing : Spelling → WordFaultValue
   unknown_short : ℕ → WordFaultValue
-  length_invalid length_not_bytes not_text : ByteString → WordFaultValue
   tag_with_text zero_with_check tag_with_check mode_with_check check_needed : WordFaultValue
 
 -- the text of a fault, in which what was typed is escaped as names are

@@ -1,8 +1,9 @@
 -- Relates the iterator over the words to the list of items: the values of its types, and the items that remain.
-use Rattle.std.specs.Prelude.{◌≡◌, map, List, [], ◌∷◌, Option, None, Some, chars}
+use Rattle.std.specs.Prelude.{ℕ, ◌≡◌, map, List, [], ◌∷◌, Option, None, Some, chars, encode_utf8_all}
 use Rattle.sum_words.specs.declared.tool.Tool.{Tool}
 use Rattle.sum_words.specs.declared.messages.word_faults.WordFault.{WordFault}
 use Rattle.sum_words.specs.WordFaults as faults
+use Rattle.sum_words.specs.WordFaults.{Short}
 use Rattle.sum_words.specs.declared.parsing.items.Item.{Item as WordItem}
 use Rattle.sum_words.specs.declared.parsing.items.ParserState.{ParserState}
 use Rattle.sum_words.specs.declared.parsing.items.ParserStep.{ParserStep}
@@ -40,6 +41,11 @@ item_value (items.Flag flag) = option flag
 item_value (items.Length value) = length_value value.now
 item_value (items.Operand word) = operand word.now
 item_value (items.Fault f) = fault (word_fault_value f)
+
+-- the items of the value of an option in a cluster, which these letters follow, and of the words after it
+abbrev pub attached_value : Tool → List ℕ → List ByteString → List ItemValue
+attached_value t [] words = items_from t words (a_value Short)
+attached_value t cs words = length_value (encode_utf8_all cs) ∷ items_from t words a_word
 
 -- the items that remain in a state, before these words
 abbrev pub remaining_items : Tool → ParserState → List ByteString → List ItemValue

@@ -5,8 +5,8 @@ ghost use Rattle.std.specs.Option.{option_copied};
 ghost use Rattle.std.specs.List.{starts_with};
 ghost use Rattle.std.specs.Str.{chars};
 ghost use Rattle.sum_words.specs.Items.{ByteString, a_word, name_part, value_part, long_option, name_or_fault};
-ghost use Rattle.sum_words.specs.Items.{attached_value, cluster, is_option_word, items_from, operand_in};
-ghost use Rattle.sum_words.specs.refinement.ItemIterator.{remaining_items, step_items};
+ghost use Rattle.sum_words.specs.Items.{cluster, is_option_word, items_from, operand_in};
+ghost use Rattle.sum_words.specs.refinement.ItemIterator.{attached_value, remaining_items, step_items};
 ghost use Rattle.sum_words.specs.refinement.ItemIterator.{item_value, TakesFirst};
 ghost use Rattle.sum_words.specs.declared.tool.Tool.{Tool};
 
@@ -203,7 +203,7 @@ fn letter_step<'a>(tool: Tool, letter: char, rest: &'a str) -> ParserStep<'a>
 #[tactic(auto, using(crate::proofs::WordLemmas::values))]
 fn attached_value(rest: &str) -> ParserStep<'_>
     ensures { (t : Tool) (ws : List ByteString) →
-        step_items t result ws ≡ attached_value (chars rest.now) (items_from t ws) }
+        step_items t result ws ≡ attached_value t (chars rest.now) ws }
 {
     if rest.is_empty() {
         ParserStep::Value(Spelling::Short)
