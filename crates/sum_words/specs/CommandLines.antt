@@ -6,26 +6,27 @@ use Rattle.std.specs.List.{after_last}
 use Rattle.std.specs.Option.{option_map_or}
 use Rattle.sum_words.specs.Tools.{ByteString, Tool, tool_called}
 
--- What a fill returns: the buffer starts with the argument at the place, or that is longer than the buffer, or absent.
+-- what a `fill` returns: the buffer starts with the argument at the place, or that is longer, or there is none
 abbrev pub Fills : List ByteString → ℕ → ByteString → Result ℕ FillError → Type 0
 Fills all place buffer (Ok n) = slice_get all place ≡ Some (take n buffer)
 Fills all place buffer (Err TooLong) = IsSomeAnd (slice_get all place) (λ argument. length buffer < length argument)
 Fills all place buffer (Err NotPresent) = slice_get all place ≡ None
 
--- what a command line asks for: an unknown tool, or this one on these words
+-- what a command line asks for: no tool that is known, or a tool on its words
 pub data CommandLineValue : Type 0 where
   unknown_tool : CommandLineValue
   invoke : Tool → List ByteString → CommandLineValue
 
--- The tool and its words. The program's name, after its last slash (47), names the tool, or else the next argument does.
+-- the tool and its words; the program's name after its last slash (47) names the tool, or else the next argument does
 abbrev pub tool_and_words : List ByteString → Option Tool × List ByteString
-tool_and_words all = let called = option_and_then (λ path. tool_called (after_last (λ b. b == 47) path)) (slice_get all 0) in
+tool_and_words all =
+    let called = option_and_then (λ path. tool_called (after_last (λ b. b == 47) path)) (slice_get all 0) in
     if is_some called then (called, drop 1 all) else (option_and_then tool_called (slice_get all 1), drop 2 all)
 
--- what a command line asks for
+-- what the arguments ask for
 abbrev pub command_line : List ByteString → CommandLineValue
 command_line all = option_map_or (λ tool. invoke tool (tool_and_words all).1) (tool_and_words all).0 unknown_tool
 
--- memory is needed: for an argument after the tool's place, or for one that is longer than a page
+-- the arguments need memory: one follows the tool's place, or one is longer than 4,096 bytes
 abbrev pub NeedsMemory : List ByteString → Type 0
 NeedsMemory all = (0 < length (tool_and_words all).1) ⊎ Any (λ argument. 4096 < length argument) all

@@ -1,4 +1,4 @@
--- What a tool's words ask for: the request of their items, or the first fault that counts.
+-- What a tool's words ask for: a request, or the first fault that counts.
 use denote.Enum.Bare.{sameb}
 use Rattle.std.specs.Prelude.{◌&&◌, ◌||◌, not, nat_lt, Bool, true, false, List, [], ◌∷◌, Option, None, Some, Result, Ok, Err, if◌then◌else◌, unwrap_or, option_map, filter, find, bytes_eq, filter_map}
 use Rattle.std.specs.List.{last_or, list_any}
@@ -19,36 +19,36 @@ use Rattle.sum_lines.specs.declared.writing.put_line.Mode.TheVariants as modes
 use Rattle.sum_engine.specs.declared.settings.Report.TheVariants as reports
 use Rattle.sum_words.specs.declared.parsing.options.Flag.TheVariants as flags
 
--- whether an option is among these (`sameb` is `==`)
+-- whether an option is in a list (`sameb` is `==`)
 abbrev pub has : Flag → List Flag → Bool
 has flag given = list_any (sameb the_type flag) given
 
--- whether an option is the last of those of a kind
+-- whether an option is the last given option of a kind
 abbrev pub is_last : Flag → List Flag → List Flag → Bool
 is_last flag kind given = option_map_or (sameb the_type flag) (last_or None (filter (λ f. has f kind) given)) false
 
--- the options that set a mode
+-- the options that set the mode of lines
 abbrev pub mode_flags : List Flag
 mode_flags = flags.Binary ∷ flags.Text ∷ flags.Tag ∷ []
 
--- the options that set a report
+-- the options that set the report of a check
 abbrev pub report_flags : List Flag
 report_flags = flags.Status ∷ flags.Warn ∷ flags.Quiet ∷ []
 
--- the option that sets a report; `All` needs none
+-- the option that sets this report, if an option is needed
 abbrev pub report_flag : Report → Option Flag
 report_flag reports.All = None
 report_flag reports.Quiet = Some flags.Quiet
 report_flag reports.Warn = Some flags.Warn
 report_flag reports.Status = Some flags.Status
 
--- The kind that a value of --length asks for. The value is a number of bits, in digits: at most 512, and whole bytes.
+-- the kind that a value of --length asks for: the number of bits, in digits, at most 512 and whole bytes
 abbrev pub length_kind : ByteString → Result KindValue WordFaultValue
 length_kind value = let bits = digits_value 10 value in
     if bytes_eq value [] || not (all_ascii_digits value) || nat_lt 512 bits then Err (length_invalid value)
     else ok_or (result_ok (blake2b_of_bits bits)) (length_not_bytes value)
 
--- the first fault of the options together, if there is one
+-- the first fault of the given options together, if they have one
 abbrev pub fault_of_options : List Flag → Option WordFaultValue
 fault_of_options given = let check = has flags.Check given in
     if has flags.Tag given && is_last flags.Text mode_flags given then Some tag_with_text
@@ -62,18 +62,18 @@ fault_of_options given = let check = has flags.Check given in
     else if is_last flags.Quiet report_flags given then Some (without_check (full_name flags.Quiet))
     else if has flags.Strict given then Some (without_check (full_name flags.Strict)) else None
 
--- the mode of the lines that are written
+-- the mode of lines that the given options set
 abbrev pub mode_of : List Flag → Mode
 mode_of given = if has flags.Tag given then modes.Tag
     else if is_last flags.Binary mode_flags given then modes.Binary else modes.Text
 
--- the report of a check
+-- the report of a check that the given options set
 abbrev pub report_of : List Flag → Report
 report_of given = if is_last flags.Status report_flags given then reports.Status
     else if is_last flags.Warn report_flags given then reports.Warn
     else if is_last flags.Quiet report_flags given then reports.Quiet else reports.All
 
--- what options without a fault ask for: with --check (true) a check, else lines, for which anysum has no algorithm
+-- the request of options without a fault: with --check (true) a check, else lines, for which anysum has no algorithm
 abbrev pub request_of_options :
     Bool → Algos → Option KindValue → List Flag → List ByteString → Result Request WordFaultValue
 request_of_options true algos kind given operands = Ok (Check (record {
@@ -88,7 +88,7 @@ request_of_options false (One algo) kind given operands = Ok (Generate (record {
 }) operands)
 request_of_options false Any kind given operands = Err check_needed
 
--- the first fault among the items, --help or --version decides if there is one
+-- the first item that decides alone, if there is one: a fault, --help or --version
 abbrev pub early_request : List ItemValue → Option (Result Request WordFaultValue)
 early_request [] = None
 early_request (fault f ∷ xs) = Some (Err f)
@@ -96,8 +96,8 @@ early_request (option flags.Help ∷ xs) = Some (Ok Help)
 early_request (option flags.Version ∷ xs) = Some (Ok Version)
 early_request (x ∷ xs) = early_request xs
 
--- what a tool's items ask for: that of the options, unless one of these decides, the first one first: an item alone, the
--- fault of the last value of --length, and a fault of the options together
+-- the request of a tool's items; these precede it, in this order: an item that decides alone, a fault of the last value
+-- of --length, and a fault of the options together
 abbrev pub request_of_items : Tool → List ItemValue → Result Request WordFaultValue
 request_of_items t xs = let given = filter_map option_in xs in
     let kind = option_map length_kind (last_or None (filter_map value_in xs)) in
@@ -106,6 +106,6 @@ request_of_items t xs = let given = filter_map option_in xs in
     let wrong = option_or (option_and_then result_err kind) (fault_of_options given) in
     unwrap_or (option_or (early_request xs) (option_map Err wrong)) asked
 
--- what a tool's words ask for
+-- the request of a tool's words, or a fault
 abbrev pub request : Tool → List ByteString → Result Request WordFaultValue
 request t words = request_of_items t (items_from t words a_word)

@@ -1,14 +1,14 @@
 //! The items of a tool's words, and those that are operands.
 ghost use Rattle.std.specs.Prelude.{◌≡◌, ◌==◌, List, [], ◌∷◌, MatchOption, drop, length, true, false, filter_map};
 ghost use Rattle.std.specs.Iterator.{item_count};
-ghost use Rattle.std.specs.Option.{option_copied};
 ghost use Rattle.std.specs.List.{starts_with};
+ghost use Rattle.std.specs.Option.{option_copied};
 ghost use Rattle.std.specs.Str.{chars};
+ghost use Rattle.sum_words.specs.declared.tool.Tool.{Tool};
 ghost use Rattle.sum_words.specs.Items.{ByteString, a_word, name_part, value_part, long_option, name_or_fault};
 ghost use Rattle.sum_words.specs.Items.{cluster, is_option_word, items_from, operand_in};
 ghost use Rattle.sum_words.specs.refinement.ItemIterator.{attached_value, remaining_items, step_items};
 ghost use Rattle.sum_words.specs.refinement.ItemIterator.{item_value, TakesFirst};
-ghost use Rattle.sum_words.specs.declared.tool.Tool.{Tool};
 
 use crate::messages::word_faults::WordFault;
 use crate::parsing::options::{Flag, Spelling};
@@ -128,7 +128,8 @@ fn apply_step<'a>(
 // The step of a whole word.
 #[tactic(auto, using(crate::proofs::WordLemmas::no_text))]
 fn word_step<'a>(tool: Tool, word: &'a [u8]) -> ParserStep<'a>
-    ensures { (ws : List ByteString) → step_items tool result ws ≡ items_from tool (word.now ∷ ws) a_word }
+    ensures { (ws : List ByteString) →
+        step_items tool result ws ≡ items_from tool (word.now ∷ ws) a_word }
 {
     if !is_option_word(word) {
         return ParserStep::Item(Item::Operand(word), ParserState::Word);
@@ -150,7 +151,8 @@ fn is_option_word(word: &[u8]) -> bool
 #[tactic(auto, using(crate::proofs::WordLemmas::utf8))]
 fn option_step<'a>(tool: Tool, word: &'a str) -> ParserStep<'a>
     requires { is_option_word word.now ≡ true }
-    ensures { (ws : List ByteString) → step_items tool result ws ≡ items_from tool (word.now ∷ ws) a_word }
+    ensures { (ws : List ByteString) →
+        step_items tool result ws ≡ items_from tool (word.now ∷ ws) a_word }
 {
     if word == "--" {
         return ParserStep::OnlyOperands;
@@ -253,7 +255,8 @@ fn first_letter(text: &str) -> Option<(char, &str)>
 #[tactic(auto, using(crate::proofs::WordLemmas::prefix_stripped))]
 fn after_prefix<'a>(prefix: &str, word: &'a str) -> Option<&'a str>
     ensures { MatchOption result (starts_with ◌==◌ word.now prefix.now ≡ false)
-        (λ rest. (starts_with ◌==◌ word.now prefix.now ≡ true) × (rest.now ≡ drop (length prefix.now) word.now)) }
+        (λ rest. (starts_with ◌==◌ word.now prefix.now ≡ true)
+        × (rest.now ≡ drop (length prefix.now) word.now)) }
 {
     word.strip_prefix(prefix)
 }

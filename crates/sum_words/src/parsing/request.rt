@@ -4,8 +4,8 @@ ghost use Rattle.std.specs.Option.{option_copied, option_map, option_transpose};
 ghost use Rattle.std.specs.Str.{all_ascii_digits};
 ghost use Rattle.sum_words.specs.Items.{ItemValue, a_word, items_from, option, option_in};
 ghost use Rattle.sum_words.specs.refinement.ItemIterator.{word_fault_value};
-ghost use Rattle.sum_words.specs.Request.{length_kind, mode_of, fault_of_options, request_of_options, request};
 ghost use Rattle.sum_words.specs.refinement.OptionScan.{IsChosenBy, IsScanOf, result_value, IsNumberOf};
+ghost use Rattle.sum_words.specs.Request.{length_kind, mode_of, fault_of_options, request_of_options, request};
 
 use crate::messages::word_faults::WordFault;
 use crate::parsing::items::{Item, Items, Operands};
@@ -142,7 +142,8 @@ fn with_flag(chosen: Chosen<'_>, flag: Flag) -> Chosen<'_>
 
 // The kind that the last length value asks for, if there is one.
 fn asked_kind(length: Option<&[u8]>) -> Result<Option<Kind>, WordFault<'_>>
-    ensures { result_value result ≡ option_transpose (option_map length_kind (option_copied length.entry)) }
+    ensures { result_value result
+        ≡ option_transpose (option_map length_kind (option_copied length.entry)) }
 {
     match length {
         None => Ok(None),
@@ -234,7 +235,8 @@ fn request_of_options<'a>(
     operands: Operands<'a>,
 ) -> Result<Request<'a>, WordFault<'a>>
     ensures { (xs : List ItemValue) → IsChosenBy chosen.now [] xs →
-        result_value result ≡ request_of_options chosen.now.check algos kind (filter_map option_in xs) operands.entry }
+        result_value result
+        ≡ request_of_options chosen.now.check algos kind (filter_map option_in xs) operands.entry }
 {
     if chosen.check {
         let settings = CheckSettings {
@@ -260,7 +262,8 @@ fn request_of_options<'a>(
 
 // The mode of the lines that are written.
 fn mode(chosen: &Chosen<'_>) -> Mode
-    ensures { (xs : List ItemValue) → IsChosenBy chosen.now [] xs → result ≡ mode_of (filter_map option_in xs) }
+    ensures { (xs : List ItemValue) → IsChosenBy chosen.now [] xs →
+        result ≡ mode_of (filter_map option_in xs) }
 {
     if chosen.tag {
         return Mode::Tag;
