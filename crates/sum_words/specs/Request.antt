@@ -96,8 +96,7 @@ early_request (option flags.Help ∷ xs) = Some (Ok Help)
 early_request (option flags.Version ∷ xs) = Some (Ok Version)
 early_request (x ∷ xs) = early_request xs
 
--- the request of a tool's items; these precede it, in this order: an item that decides alone, a fault of the last value
--- of --length, and a fault of the options together
+-- the request of a tool's items, or what precedes it: an item alone, a fault of the last length, a fault of the options
 abbrev pub request_of_items : Tool → List ItemValue → Result Request WordFaultValue
 request_of_items t xs = let given = filter_map option_in xs in
     let kind = option_map length_kind (last_or None (filter_map value_in xs)) in
