@@ -1,6 +1,6 @@
 -- What a tool's words ask for: a request, or the first fault that counts.
 use denote.Enum.Bare.{sameb}
-use Rattle.std.specs.Prelude.{◌&&◌, ◌||◌, not, nat_lt, Bool, true, false, List, [], ◌∷◌, Option, None, Some, Result, Ok, Err, if◌then◌else◌, unwrap_or, option_map, filter, find, bytes_eq, filter_map}
+use Rattle.std.specs.Prelude.{◌&&◌, ◌||◌, not, nat_lt, Bool, true, false, List, [], ◌∷◌, Option, None, Some, Result, Ok, Err, if◌then◌else◌, unwrap_or, option_map, filter, bytes_eq, filter_map}
 use Rattle.std.specs.List.{last_or, list_any}
 use Rattle.std.specs.Option.{ok_or, option_map_or, option_or, option_and_then}
 use Rattle.std.specs.Result.{result_ok, result_err}
