@@ -8,7 +8,7 @@ use Rattle.std.specs.Simd.{first_chunks}
 use Rattle.std.specs.Simd.Lanes.{all_below, pick_l}
 use lib.Dec.{T}
 use Rattle.byteorder.specs.Endian.{little_number}
-use Rattle.blake2b_core.specs.Compression.{◌!◌, ◌⊻◌, sigma, iv, start}
+use Rattle.blake2b_core.specs.Compression.{◌!◌, ◌⊻◌, sigma, iv, work_vector}
 use Rattle.blake2b_core.specs.refinement.Columns.{block_words, schedule}
 
 -- row k of SIGMA
@@ -23,9 +23,9 @@ picked-row m r k size below row = pick_l_left 0 m m 16 (sigma_row k) size below 
 
 -- the working vector before the first round, written out
 pub start_is : (h : List ℕ) (t : ℕ) (last : Bool) → length h ≡ 8
-    → start h t last ≡ h ! 0 ∷ h ! 1 ∷ h ! 2 ∷ h ! 3 ∷ h ! 4 ∷ h ! 5 ∷ h ! 6 ∷ h ! 7 ∷ iv ! 0 ∷ iv ! 1 ∷ iv ! 2 ∷ iv ! 3
+    → work_vector h t last ≡ h ! 0 ∷ h ! 1 ∷ h ! 2 ∷ h ! 3 ∷ h ! 4 ∷ h ! 5 ∷ h ! 6 ∷ h ! 7 ∷ iv ! 0 ∷ iv ! 1 ∷ iv ! 2 ∷ iv ! 3
     ∷ (iv ! 4 ⊻ t % 2 ^ 64) ∷ (iv ! 5 ⊻ t / 2 ^ 64) ∷ (if last then bit_not w64 (iv ! 6) else iv ! 6) ∷ iv ! 7 ∷ []
-unfolding start
+unfolding work_vector
 start_is (a ∷ b ∷ c ∷ d ∷ e ∷ f ∷ g ∷ h ∷ []) t true size = refl
 start_is (a ∷ b ∷ c ∷ d ∷ e ∷ f ∷ g ∷ h ∷ []) t false size = refl
 start_is _ t last size = absurd (omega arith)

@@ -27,22 +27,22 @@ sigma =
     (6 ∷ 15 ∷ 14 ∷ 9 ∷ 11 ∷ 3 ∷ 0 ∷ 8 ∷ 12 ∷ 2 ∷ 13 ∷ 7 ∷ 1 ∷ 4 ∷ 10 ∷ 5 ∷ []) ∷
     (10 ∷ 2 ∷ 8 ∷ 4 ∷ 7 ∷ 6 ∷ 1 ∷ 5 ∷ 15 ∷ 11 ∷ 9 ∷ 14 ∷ 3 ∷ 12 ∷ 13 ∷ 0 ∷ []) ∷ []
 
--- v ! i: the word at place i
+-- v ! i: the word of v at place i
 infixl 90 ◌!◌
 abbrev pub ◌!◌ : List ℕ → ℕ → ℕ
 v ! i = slice_index v i
 
--- x ⊞ y: the sum modulo 2 ^ 64
+-- x ⊞ y: the sum of x and y modulo 2 ^ 64
 infixl 65 ◌⊞◌
 abbrev pub ◌⊞◌ : ℕ → ℕ → ℕ
 x ⊞ y = (x + y) % 2 ^ 64
 
--- x ⊻ y: exclusive or
+-- x ⊻ y: the exclusive or of x and y
 infixl 60 ◌⊻◌
 abbrev pub ◌⊻◌ : ℕ → ℕ → ℕ
 x ⊻ y = bit_xor x y
 
--- x ⋙ k: rotation to the right by k bits
+-- x ⋙ k: x rotated to the right by k bits
 infixl 55 ◌⋙◌
 abbrev pub ◌⋙◌ : ℕ → ℕ → ℕ
 x ⋙ k = rotate_right w64 x k
@@ -59,7 +59,7 @@ mix v a b c d x y =
     let v = slice_set v c (v ! c ⊞ v ! d) in
     slice_set v b ((v ! b ⊻ v ! c) ⋙ 63)
 
--- round r (3.2): G on the four columns and then on the four diagonals of v, with the words of m in the order of SIGMA
+-- round r (3.2): G on the four columns and then the four diagonals of v, with the words of m in the order of SIGMA
 unfoldable pub round : List ℕ → List ℕ → ℕ → List ℕ
 round m v r = let s = slice_index_or sigma (r % 10) [] in
     let v = mix v 0 4 8 12 (m ! (s ! 0)) (m ! (s ! 1)) in
@@ -71,15 +71,15 @@ round m v r = let s = slice_index_or sigma (r % 10) [] in
     let v = mix v 2 7 8 13 (m ! (s ! 12)) (m ! (s ! 13)) in
     mix v 3 4 9 14 (m ! (s ! 14)) (m ! (s ! 15))
 
--- v before the first round: h and IV, with the counter t and, at the last block, a flag
-unfoldable pub start : List ℕ → ℕ → Bool → List ℕ
-start h t last = let v = h ++ iv in
+-- the work vector v before the first round (3.2): h and IV, changed by the counter t and, at the last block, by a flag
+unfoldable pub work_vector : List ℕ → ℕ → Bool → List ℕ
+work_vector h t last = let v = h ++ iv in
     let v = slice_set v 12 (v ! 12 ⊻ (t % 2 ^ 64)) in
     let v = slice_set v 13 (v ! 13 ⊻ (t / 2 ^ 64)) in
     if last then slice_set v 14 (bit_not w64 (v ! 14)) else v
 
--- the compression function F (3.2); m has the sixteen words of the block, each of eight bytes, the lowest first
+-- the compression function F (3.2): m has the sixteen words of the block, each of eight bytes, the lowest byte first
 unfoldable pub compress : List ℕ → ByteString → ℕ → Bool → List ℕ
 compress h block t last = let m = map (little_number 8) (first_chunks 8 16 block) in
-    let v = fold (round m) (start h t last) (range_with_len 0 12) in
+    let v = fold (round m) (work_vector h t last) (range_with_len 0 12) in
     map (λ i. h ! i ⊻ v ! i ⊻ v ! (i + 8)) (range_with_len 0 8)

@@ -6,12 +6,12 @@ use Rattle.byteorder.specs.Endian.{little_bytes}
 use Rattle.blake2b_core.specs.Bytes.{ByteString}
 pub use Rattle.blake2b_core.specs.Compression.{◌!◌, ◌⊻◌, iv, compress}
 
--- the blocks of the message m, each of 128 bytes: zeros fill up the last one, and the empty message has one block
+-- the blocks of the message m, each of 128 bytes: zeros fill up the last block, and the empty message has one block
 unfoldable pub blocks : ByteString → List ByteString
 blocks m = let count = max 1 ((length m + 127) / 128) in
     first_chunks 128 count (m ++ replicate (128 * count - length m) 0)
 
--- the digest of n bytes, at most 64: F takes each block with the number of the message's bytes up to the block's end
+-- the digest of the message m, of n bytes, 1 to 64: F takes each block with the number of bytes of m up to its end
 unfoldable pub blake2b : ℕ → ByteString → ByteString
 blake2b n m = let d = blocks m in
     let last = length d - 1 in

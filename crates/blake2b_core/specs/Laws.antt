@@ -5,7 +5,7 @@ use Rattle.byteorder.specs.Endian.{big_bytes}
 use Rattle.blake2b_core.specs.Bytes.{ByteString}
 use Rattle.blake2b_core.specs.Digest.{blake2b}
 
--- known digests: the example of RFC 7693, and two that other programs compute
+-- digests that are known: that of "abc" is the example of RFC 7693, and other programs compute the two of nothing
 pub record HasVectors : Type 0 where
   pub empty : blake2b 64 [] ≡ big_bytes 32 0x786a02f742015903c6c6fd852552d272912f4740e15847618a86e217f71f5419
       ++ big_bytes 32 0xd25e1031afee585313896444934eb04b903a685b1448b755d56f701afe9be2ce
@@ -13,7 +13,7 @@ pub record HasVectors : Type 0 where
       ++ big_bytes 32 0x7d87c5392aab792dc252d5de4533cc9518d38aa8dbf1925ab92386edd4009923
   pub empty_short : blake2b 32 [] ≡ big_bytes 32 0x0e5751c026e543b2e8ab2eb06099daa1d1e5df47778f7787faab45cdf12fe3a8
 
--- each of bs has 128 bytes, and together they are m and then zeros: fewer than 128, or 128 if m is empty
+-- bs are the blocks of m: each block has 128 bytes, and all are m and then zeros, fewer than 128, or 128 if m is empty
 pub record IsBlocksOf (bs : List ByteString) (m : ByteString) : Type 0 where
   pub sizes : All (λ b. length b ≡ 128) bs
   pub zeros : ℕ

@@ -1,6 +1,6 @@
 //! The compression function F of RFC 7693, sections 3.1 and 3.2, with the constants of 2.6 and 2.7.
 ghost use Rattle.std.specs.Prelude.{◌≡◌};
-ghost use Rattle.blake2b_core.specs.Compression.{compress, round, start};
+ghost use Rattle.blake2b_core.specs.Compression.{compress, round, work_vector};
 ghost use Rattle.blake2b_core.specs.refinement.Columns.{block_words, next_state, schedule, words};
 
 use crate::columns::{mixed_columns, mixed_diagonals};
@@ -52,8 +52,8 @@ fn round(m: Simd<u64, 16>, v: [u64x4; 4], r: usize) -> [u64x4; 4]
 // The working vector before the first round.
 #[inline(always)]
 #[tactic(auto, using(crate::proofs::CompressionLemmas::start_is))]
-fn start(h: &[u64; 8], t: u128, last: bool) -> [u64x4; 4]
-    ensures { words result ≡ start h.now t last }
+fn work_vector(h: &[u64; 8], t: u128, last: bool) -> [u64x4; 4]
+    ensures { words result ≡ work_vector h.now t last }
 {
     let low = (t % (1 << 64)) as u64;
     let high = (t >> 64) as u64;
@@ -94,7 +94,7 @@ pub(crate) fn advance(h: &mut [u64; 8], block: &[u8; 128], t: u128, last: bool)
     ensures { h.new ≡ compress h.old block.now t last }
 {
     let m = Simd::<u64, 16>::from_array(block_words(block));
-    let v = start(h, t, last);
+    let v = work_vector(h, t, last);
     // The rounds are written out, so that the compiler picks each row of SIGMA.
     let v = round(m, v, 0);
     let v = round(m, v, 1);

@@ -3,11 +3,11 @@ use Rattle.std.specs.Prelude.{ℕ, Bool, Option, option_and_then, drop}
 use Rattle.std.specs.List.{prefix_len}
 pub use Rattle.blake2b_core.specs.Bytes.{ByteString}
 
--- o >>= f: the next step f on what o has, if it has something
+-- o >>= f: what f gives of the value in o, if o has one
 infixl 10 ◌>>=◌
 abbrev pub ◌>>=◌ : {A B : Type 0} → Option A → (A → Option B) → Option B
 o >>= f = option_and_then f o
 
--- what follows the longest prefix that passes
+-- what follows the longest prefix of bytes that pass a test
 abbrev pub after_while : (ℕ → Bool) → ByteString → ByteString
 after_while p xs = drop (prefix_len p xs) xs

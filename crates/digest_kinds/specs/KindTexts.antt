@@ -10,31 +10,31 @@ use Rattle.digest_kinds.specs.Kinds.{Algo, Blake2b, KindValue, blake2b_of_bits, 
 abbrev pub kind_text : KindValue → ByteString
 kind_text kind = tag kind.algo ++ (if kind.len == full_len kind.algo then [] else codes "-" ++ decimal (8 * kind.len))
 
--- what may follow the tag: nothing for the full length; for BLAKE2b a `-` and the number of bits, 8 to 512, in decimal
+-- the width that may follow the tag of a kind: nothing for the full length; for BLAKE2b `-` and its bits, 8 to 512
 abbrev pub IsWidth : KindValue → ByteString → Type 0
 IsWidth kind width = ((width ≡ []) × (kind.len ≡ full_len kind.algo))
     ⊎ ((width ≡ codes "-" ++ decimal (8 * kind.len)) × (kind.algo ≡ Blake2b) × IsTrue (has_len Blake2b kind.len))
 
--- the text names the kind: as `kind_text` does, or by `BLAKE2b-512`
+-- a text names a kind: it is the tag and a width; so `BLAKE2b` and `BLAKE2b-512` name one kind
 abbrev pub NamesKind : ByteString → KindValue → Type 0
 NamesKind text kind = (width : ByteString) × (text ≡ tag kind.algo ++ width) × IsWidth kind width
 
--- the text of each kind names it
+-- each kind that has digests is named by its `kind_text`
 abbrev pub TextsNameKinds : Type 0
 TextsNameKinds = (kind : KindValue) → IsTrue (has_len kind.algo kind.len) → NamesKind (kind_text kind) kind
 
 -- ---- computed: these need not be believed
 
--- the number that one to three digits without a leading zero write
+-- the number in a text of one to three digits without a leading zero (48)
 abbrev pub short_number : ByteString → Option ℕ
 short_number [] = None
 short_number (d ∷ ds) = if not (d == 48) && nat_lt (length ds) 3 then Some (digits_value 10 (d ∷ ds)) else None
 
--- BLAKE2b with as many bits as these digits write
+-- the kind of BLAKE2b digests whose number of bits is in these digits
 abbrev pub kind_of_digits : ByteString → Option KindValue
 kind_of_digits ds = short_number ds >>= (λ bits. result_ok (blake2b_of_bits bits))
 
--- the kind that follows a tag, and what follows that: for BLAKE2b a `-` (45) may precede its bits
+-- the kind that an algorithm and the text after its tag name, and the rest; for BLAKE2b a `-` (45) may precede its bits
 abbrev pub kind_and_rest : Algo → ByteString → Option (KindValue × ByteString)
 kind_and_rest Blake2b (b ∷ bs) =
     if b == 45 then option_map (λ k. (k, after_while is_ascii_digit bs)) (kind_of_digits (take_while is_ascii_digit bs))

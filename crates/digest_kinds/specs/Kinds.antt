@@ -35,15 +35,15 @@ about Sha384 = record { full_len = 48; tag = codes "SHA384"; digest = λ n m. sh
 about Sha512 = record { full_len = 64; tag = codes "SHA512"; digest = λ n m. sha512 m }
 about Blake2b = record { full_len = 64; tag = codes "BLAKE2b"; digest = blake2b }
 
--- the number of bytes of the full digest
+-- the length of the full digest of an algorithm, in bytes
 abbrev pub full_len : Algo → ℕ
 full_len a = (about a).full_len
 
--- the tag
+-- the tag of an algorithm in lines
 abbrev pub tag : Algo → ByteString
 tag a = (about a).tag
 
--- whether the algorithm has digests of n bytes: BLAKE2b has those of 1 to 64 (RFC 7693, 2.1), any other its full one
+-- whether an algorithm has digests of n bytes: for BLAKE2b 1 to 64 bytes (RFC 7693, 2.1), for others the full length
 abbrev pub has_len : Algo → ℕ → Bool
 has_len Blake2b n = nat_le 1 n && nat_le n 64
 has_len a n = n == full_len a
@@ -53,34 +53,34 @@ pub record KindValue : Type 0 where
   pub algo : Algo
   pub len : ℕ
 
--- the algorithm with its full digest
+-- the kind of full digests of an algorithm
 abbrev pub full_kind : Algo → KindValue
 full_kind a = record { algo = a; len = full_len a }
 
--- BLAKE2b with a digest of n bytes
+-- the kind of BLAKE2b digests of n bytes
 abbrev pub blake2b_kind : ℕ → KindValue
 blake2b_kind n = record { algo = Blake2b; len = n }
 
--- the digest of a message by a kind
+-- the digest, of this kind, of a message
 abbrev pub digest : KindValue → ByteString → ByteString
 digest k m = (about k.algo).digest k.len m
 
--- the kind of so many bits, 0 for the full 512; more than 512 are TooLong, any others that aren't whole bytes NotBytes
+-- the kind of BLAKE2b digests of so many bits, 0 for 512; TooLong above 512, NotBytes if the bits are no whole bytes
 abbrev pub blake2b_of_bits : ℕ → Result KindValue LengthFault
 blake2b_of_bits bits = if nat_lt 512 bits then Err TooLong
     else if bits == 0 then Ok (full_kind Blake2b)
     else if bits % 8 == 0 then Ok (blake2b_kind (bits / 8))
     else Err NotBytes
 
--- the algorithm's tag is a prefix of the bytes
+-- bytes begin with the tag of an algorithm
 abbrev pub BeginsWithTag : ByteString → Algo → Type 0
 BeginsWithTag bytes a = (rest : ByteString) × (bytes ≡ tag a ++ rest)
 
--- no tag is a prefix of another
+-- no tag begins with the tag of another algorithm
 abbrev pub TagsAreApart : Type 0
 TagsAreApart = (a b : Algo) → BeginsWithTag (tag b) a → a ≡ b
 
--- the text is 2 to 128 hexadecimal digits of an even count, each of either case
+-- a text is a digest in hexadecimal: 2 to 128 digits, an even number of them, each in either case
 pub record IsDigits (text : ByteString) : Type 0 where
   pub some : 2 ≤ length text
   pub few : length text ≤ 128

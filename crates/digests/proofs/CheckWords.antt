@@ -21,13 +21,13 @@ takes_none flag = not (takes_value flag)
 
 -- the word of one is that option
 long_word : (t : Tool) (flag : Flag) (more : List ByteString) → takes_none flag ≡ true
-    → items_from t a_word ((codes "--" ++ full_name flag) ∷ more) ≡ option flag ∷ items_from t a_word more
+    → items_from t ((codes "--" ++ full_name flag) ∷ more) a_word ≡ option flag ∷ items_from t more a_word
 unfolding chars encode is_utf8 name_or_fault
 long_word = grind (arith, common_steps)
 
 -- and several words are those options
 long_words : (t : Tool) (fs : List Flag) (more : List ByteString) → list_all takes_none fs ≡ true
-    → items_from t a_word (map (λ f. codes "--" ++ full_name f) fs ++ more) ≡ map option fs ++ items_from t a_word more
+    → items_from t (map (λ f. codes "--" ++ full_name f) fs ++ more) a_word ≡ map option fs ++ items_from t more a_word
 long_words t [] more all = refl
 long_words t (flag ∷ fs) more all =
     let parts = and_parts _ _ all in

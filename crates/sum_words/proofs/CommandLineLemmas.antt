@@ -1,17 +1,17 @@
 -- The reading of the arguments, one after another, gives the command line.
 use Rattle.std.proofs.Common.{ℕ, ◌≡◌, ◌+◌, ◌-◌, ◌<◌, ◌≤◌, not, ◌==◌, List, [], ◌∷◌, ◌++◌, length, drop, Option, Some, None, IfSome, arith, append-nil, append_assoc, ◌∙◌, refl}
+use Rattle.std.specs.List.{after_last}
 use Rattle.std.proofs.lemmas.List.Sums.{suffix_len_is}
 use Rattle.std.proofs.lemmas.Bool.{not_from_false, not_from_true, false_from_ne_true}
 use Rattle.std.proofs.lemmas.Option.{slice_get_within, slice_get_cases}
 use Rattle.memchr.specs.Find.{Passes, Nowhere, is_byte}
-use Rattle.sum_words.specs.CommandLines.{last_part}
 use Rattle.sum_words.proofs.WordBytesLemmas.{drop_at_none, drop_at_some}
 use Rattle.sum_words.specs.Items.{ByteString}
 use Rattle.sum_words.specs.refinement.CommandLine.{ArgumentIs}
 
 -- the part after a slash that no other follows, or all of a path without one
 pub last_part-from : (path : List ℕ) (n : ℕ) → n ≤ length path → Nowhere (Passes (is_byte 47) path) n (length path)
-    → (0 < n → Passes (is_byte 47) path (n - 1)) → last_part path ≡ drop n path
+    → (0 < n → Passes (is_byte 47) path (n - 1)) → after_last (λ b. b == 47) path ≡ drop n path
 last_part-from path n fits none slash =
     rw (suffix_len_is (λ x. not (x == 47)) path n 0 fits
     (λ k low high. not_from_false _ (false_from_ne_true _ (none k low high))) (λ some. not_from_true _ (slash some)))

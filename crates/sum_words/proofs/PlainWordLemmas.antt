@@ -15,7 +15,7 @@ no_dashes = search rules
 
 -- plain words are operands, whatever follows them
 pub plain_words : (t : Tool) (words more : List ByteString) → AllPass is_plain words
-    → items_from t a_word (words ++ more) ≡ map operand words ++ items_from t a_word more
+    → items_from t (words ++ more) a_word ≡ map operand words ++ items_from t more a_word
 plain_words t [] more h = refl
 plain_words t (word ∷ words) more h =
     let plain = All-head (λ w. is_plain w ≡ true) word words h in

@@ -10,8 +10,9 @@ use Rattle.std.proofs.lemmas.Slice.Eq.{bytes_eq-Decides}
 use Rattle.std.proofs.lemmas.Bool.{false_from_ne_true}
 use lib.Utf8.{encode}
 use Rattle.sum_words.specs.declared.tool.Tool.{Tool}
-use Rattle.sum_words.specs.Items.{attached_value, a_word, length_value, fault, is_option_word, items_from}
+use Rattle.sum_words.specs.Items.{a_word, length_value, fault, is_option_word, items_from}
 use Rattle.sum_words.specs.WordFaults.{not_text}
+use Rattle.sum_words.specs.refinement.ItemIterator.{attached_value}
 
 -- the rest of a text after a prefix, as `strip_prefix` returns it
 pub prefix_stripped : (prefix text : List ℕ) (r : Option (Bor (List ℕ)))
@@ -38,15 +39,16 @@ no_dashes word none =
 
 -- such a word is a fault, and the last item
 pub no_text : (t : Tool) (word : List ℕ) (words : List (List ℕ)) → is_option_word word ≡ true → (IsUtf8 word → ⊥)
-    → fault (not_text word) ∷ [] ≡ items_from t a_word (word ∷ words)
+    → fault (not_text word) ∷ [] ≡ items_from t (word ∷ words) a_word
 no_text t word words dash none = grind (arith, no_dashes, IsUtf8-from_is_utf8)
 
 -- a text is UTF-8
 pub ruleset utf8 = (is_utf8-from_IsUtf8)
 
 -- what is left of the word is the value
-pub own_value : (bs : List ℕ) → IsUtf8 bs → length bs ≢ 0 → attached_value (chars bs) ≡ (length_value bs ∷ [], a_word)
-own_value bs valid some = grind (arith, encodes-chars bs valid)
+pub own_value : (t : Tool) (bs : List ℕ) (words : List (List ℕ)) → IsUtf8 bs → length bs ≢ 0
+    → attached_value t (chars bs) words ≡ length_value bs ∷ items_from t words a_word
+own_value t bs words valid some = grind (arith, encodes-chars bs valid)
 
 -- the lemmas of the value in a word
 pub ruleset values = (own_value, nil_from_length, chars-nil)

@@ -1,6 +1,6 @@
 -- The items of a tool's words: options, values of --length, operands and a fault. No item follows a fault.
 use Prim.Native.String.{String}
-use Rattle.std.specs.Prelude.{ℕ, ◌+◌, ◌==◌, ◌&&◌, not, Bool, true, false, List, [], ◌∷◌, ◌++◌, map, drop, Option, None, Some, Result, Ok, Err, codes, if◌then◌else◌, option_map, filter, find, position, bytes_eq, chars, encode_utf8_all}
+use Rattle.std.specs.Prelude.{ℕ, ◌+◌, ◌==◌, ◌&&◌, not, Bool, true, false, List, [], ◌∷◌, map, drop, length, Option, None, Some, Result, Ok, Err, codes, if◌then◌else◌, option_map, filter, find, position, bytes_eq, chars, encode_utf8_all}
 use Rattle.std.specs.List.{starts_with, before_first}
 use Rattle.std.specs.Option.{option_map_or}
 use Rattle.std.specs.Str.{byte, is_utf8}
@@ -11,13 +11,13 @@ use Rattle.sum_words.specs.WordFaults.{WordFaultValue, unknown_long, ambiguous_l
 use Rattle.sum_words.specs.declared.tool.Tool.TheVariants as tools
 use Rattle.sum_words.specs.declared.parsing.options.Flag.TheVariants as flags
 
--- an item; the value of an option that takes one is an item of its own
+-- an item of words: an option, the value of an option, an operand, or a fault, which is the last item
 pub data ItemValue : Type 0 where
   option : Flag → ItemValue
   length_value operand : ByteString → ItemValue
   fault : WordFaultValue → ItemValue
 
--- an option's letter (empty if it has none), its full name, and its text in the help
+-- an option's row in the help: its letter (empty if it has none), its full name and its text
 pub record FlagRow : Type 0 where
   pub letter : ByteString
   pub name : ByteString
@@ -26,7 +26,7 @@ pub record FlagRow : Type 0 where
 abbrev row : String → String → String → FlagRow
 row letter name help = record { letter = codes letter; name = codes name; help = codes help }
 
--- each option's row
+-- an option's row
 abbrev pub row_of : Flag → FlagRow
 row_of flags.Binary = row "b" "binary" "mark each line as binary"
 row_of flags.Check = row "c" "check" "read checksums from the FILEs and check them"
@@ -51,12 +51,12 @@ abbrev pub takes_value : Flag → Bool
 takes_value flags.Length = true
 takes_value flag = false
 
--- all options, in the order of help
+-- all options, in the order of the help
 abbrev pub all_flags : List Flag
 all_flags = flags.Binary ∷ flags.Check ∷ flags.Length ∷ flags.Tag ∷ flags.Text ∷ flags.Zero ∷ flags.IgnoreMissing ∷
     flags.Quiet ∷ flags.Status ∷ flags.Strict ∷ flags.Warn ∷ flags.Help ∷ flags.Version ∷ []
 
--- whether a tool has an option: b2sum alone has the one that takes a value
+-- whether a tool has an option; only b2sum has the option that takes a value
 abbrev pub has_option : Tool → Flag → Bool
 has_option tools.B2sum flag = true
 has_option t flag = not (takes_value flag)
@@ -65,84 +65,78 @@ has_option t flag = not (takes_value flag)
 abbrev pub flags_of : Tool → List Flag
 flags_of t = filter (has_option t) all_flags
 
--- how the next word is read: as it is, as the value of an option written so, or not at all
+-- how the next word is read: by itself, or as the value of an option that is spelled so
 pub data NextWord : Type 0 where
-  a_word no_word : NextWord
+  a_word : NextWord
   a_value : Spelling → NextWord
 
--- a long option's name: up to the first '='
+-- the name in a long option: what precedes the first '='
 abbrev pub name_part : ByteString → ByteString
 name_part text = before_first (λ b. b == byte "=") text
 
--- a long option's value: what follows its first '=', if there is one
+-- the value in a long option: what follows the first '=', if there is one
 abbrev pub value_part : ByteString → Option ByteString
 value_part text = option_map (λ i. drop (i + 1) text) (position (λ b. b == byte "=") text)
 
--- the only one of these options, or the fault of a name that begins none or several
+-- the only option in a list, or the fault of a name that begins no option or several
 abbrev pub only_or_fault : ByteString → List Flag → Result Flag WordFaultValue
 only_or_fault name [] = Err (unknown_long name)
 only_or_fault name (flag ∷ []) = Ok flag
 only_or_fault name several = Err (ambiguous_long name)
 
--- the option that a name means: the one of this full name, else the only one whose full name begins with it
+-- a tool's option that a name means: it has this full name, or else it is the only one whose full name begins so
 unfoldable pub name_or_fault : Tool → ByteString → Result Flag WordFaultValue
 name_or_fault t name = option_map_or (λ flag. Ok flag) (find (λ flag. bytes_eq name (full_name flag)) (flags_of t))
     (only_or_fault name (filter (λ flag. starts_with ◌==◌ (full_name flag) name) (flags_of t)))
 
--- the items of a long option, and how the next word is read
-abbrev pub long_option : Result Flag WordFaultValue → Option ByteString → List ItemValue × NextWord
-long_option (Err f) value = (fault f ∷ [], no_word)
-long_option (Ok flag) None = if takes_value flag then ([], a_value Long) else (option flag ∷ [], a_word)
-long_option (Ok flag) (Some value) = if takes_value flag then (length_value value ∷ [], a_word)
-    else (fault (value_not_allowed (full_name flag)) ∷ [], no_word)
+-- the items of a long option and of the rest of the words, which depends on how the next word is read
+abbrev pub long_option : Result Flag WordFaultValue → Option ByteString → (NextWord → List ItemValue) → List ItemValue
+long_option (Ok flag) None rest = if takes_value flag then rest (a_value Long) else option flag ∷ rest a_word
+long_option (Ok flag) (Some value) rest = if takes_value flag then length_value value ∷ rest a_word
+    else fault (value_not_allowed (full_name flag)) ∷ []
+long_option (Err f) value rest = fault f ∷ []
 
--- a tool's option of this letter
+-- a tool's option with this letter
 unfoldable pub option_of_letter : Tool → ℕ → Option Flag
 option_of_letter t c = find (λ flag. bytes_eq (row_of flag).letter (c ∷ [])) (flags_of t)
 
--- an option in a cluster that takes a value: the rest of the cluster, or the next word if nothing is left
-abbrev pub attached_value : List ℕ → List ItemValue × NextWord
-attached_value [] = ([], a_value Short)
-attached_value cs = (length_value (encode_utf8_all cs) ∷ [], a_word)
+-- the items of a cluster of letters and of the rest; what follows the letter of an option with a value is the value
+abbrev pub cluster : Tool → List ℕ → (NextWord → List ItemValue) → List ItemValue
+cluster t [] rest = rest a_word
+cluster t (c ∷ cs) rest = option_map_or (λ flag. if not (takes_value flag) then option flag ∷ cluster t cs rest
+    else if length cs == 0 then rest (a_value Short) else length_value (encode_utf8_all cs) ∷ rest a_word)
+    (option_of_letter t c) (fault (unknown_short c) ∷ [])
 
--- the items of a cluster, letter by letter, and how the next word is read
-abbrev pub cluster : Tool → List ℕ → List ItemValue × NextWord
-cluster t [] = ([], a_word)
-cluster t (c ∷ cs) = let rest = cluster t cs in option_map_or (λ flag.
-    if takes_value flag then attached_value cs else (option flag ∷ rest.0, rest.1))
-    (option_of_letter t c) (fault (unknown_short c) ∷ [], no_word)
-
--- whether a word begins with a dash and isn't a dash alone
+-- whether a word is read as options: it begins with a dash and isn't a dash alone
 abbrev pub is_option_word : ByteString → Bool
 is_option_word word = starts_with ◌==◌ word (codes "-") && not (bytes_eq word (codes "-"))
 
--- a word by itself: an operand, or options, which have to be UTF-8: after "-" a cluster, after "--" a long option
-abbrev pub read_word : Tool → ByteString → List ItemValue × NextWord
-read_word t word = if not (is_option_word word) then (operand word ∷ [], a_word)
-    else if not (is_utf8 word) then (fault (not_text word) ∷ [], no_word)
-    else if not (starts_with ◌==◌ word (codes "--")) then cluster t (chars (drop 1 word))
-    else long_option (name_or_fault t (name_part (drop 2 word))) (value_part (drop 2 word))
+-- the items of a word and of the rest; options are UTF-8: a cluster after "-", a long option after "--"
+abbrev pub word_items : Tool → ByteString → (NextWord → List ItemValue) → List ItemValue
+word_items t word rest = if not (is_option_word word) then operand word ∷ rest a_word
+    else if not (is_utf8 word) then fault (not_text word) ∷ []
+    else if not (starts_with ◌==◌ word (codes "--")) then cluster t (chars (drop 1 word)) rest
+    else long_option (name_or_fault t (name_part (drop 2 word))) (value_part (drop 2 word)) rest
 
--- the items of all words; the words after a "--" that is no option's value are operands
-abbrev pub items_from : Tool → NextWord → List ByteString → List ItemValue
-items_from t no_word words = []
-items_from t a_word [] = []
-items_from t a_word (w ∷ ws) =
-    if bytes_eq w (codes "--") then map operand ws else (read_word t w).0 ++ items_from t (read_word t w).1 ws
-items_from t (a_value spelling) [] = fault (value_missing spelling) ∷ []
-items_from t (a_value spelling) (w ∷ ws) = length_value w ∷ items_from t a_word ws
+-- the items of words, if the first is read so; all words after a "--" that is no option's value are operands
+abbrev pub items_from : Tool → List ByteString → NextWord → List ItemValue
+items_from t [] a_word = []
+items_from t (w ∷ ws) a_word =
+    if bytes_eq w (codes "--") then map operand ws else word_items t w (items_from t ws)
+items_from t [] (a_value spelling) = fault (value_missing spelling) ∷ []
+items_from t (w ∷ ws) (a_value spelling) = length_value w ∷ items_from t ws a_word
 
--- the option of an item, if it is one
+-- the option in an item, if the item is one
 abbrev pub option_in : ItemValue → Option Flag
 option_in (option flag) = Some flag
 option_in other = None
 
--- the value of an item, if it is one
+-- the value in an item, if the item is one
 abbrev pub value_in : ItemValue → Option ByteString
 value_in (length_value value) = Some value
 value_in other = None
 
--- the operand of an item, if it is one
+-- the operand in an item, if the item is one
 abbrev pub operand_in : ItemValue → Option ByteString
 operand_in (operand word) = Some word
 operand_in other = None

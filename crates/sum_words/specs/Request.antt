@@ -1,17 +1,14 @@
--- What a tool's words ask for: the request of their items, or the first fault that counts.
+-- What a tool's words ask for: a request, or the first fault that counts.
 use denote.Enum.Bare.{sameb}
-use Rattle.std.specs.Prelude.{◌&&◌, ◌||◌, not, Bool, List, [], ◌∷◌, false, Option, None, Some, Result, Ok, Err, if◌then◌else◌, unwrap_or, option_map, filter, find, bytes_eq, filter_map}
+use Rattle.std.specs.Prelude.{◌&&◌, ◌||◌, not, nat_lt, Bool, true, false, List, [], ◌∷◌, Option, None, Some, Result, Ok, Err, if◌then◌else◌, unwrap_or, option_map, filter, bytes_eq, filter_map}
 use Rattle.std.specs.List.{last_or, list_any}
-use Rattle.std.specs.Option.{option_transpose, option_map_or}
-use Rattle.std.specs.Result.{result_map_both}
+use Rattle.std.specs.Option.{ok_or, option_map_or, option_or, option_and_then}
+use Rattle.std.specs.Result.{result_ok, result_err}
 use Rattle.std.specs.Str.{all_ascii_digits}
 use Rattle.std.specs.Str.Parse.{digits_value}
 use Rattle.sum_words.specs.Tools.{Algos, Tool, algos_of, One, Any}
-use Rattle.digest_kinds.specs.declared.kind.LengthFault.{LengthFault}
-use Rattle.digest_kinds.specs.declared.kind.LengthFault.TheVariants.{TooLong, NotBytes}
 use Rattle.digest_kinds.specs.Kinds.{KindValue, full_kind, blake2b_of_bits}
 pub use Rattle.sum_lines.specs.declared.writing.put_line.Mode.{Mode}
-use Rattle.sum_lines.specs.declared.writing.put_line.Style.{Style}
 pub use Rattle.sum_engine.specs.declared.settings.Report.{Report}
 use Rattle.sum_words.specs.Items.{Flag, ByteString, ItemValue, option, fault, a_word, items_from, option_in, value_in, operand_in, full_name}
 use Rattle.sum_words.specs.contracts.parsing.options.Flag.{the_type}
@@ -22,89 +19,76 @@ use Rattle.sum_lines.specs.declared.writing.put_line.Mode.TheVariants as modes
 use Rattle.sum_engine.specs.declared.settings.Report.TheVariants as reports
 use Rattle.sum_words.specs.declared.parsing.options.Flag.TheVariants as flags
 
--- whether an option is among these (`sameb` is `==`)
+-- whether an option is in a list (`sameb` is `==`)
 abbrev pub has : Flag → List Flag → Bool
 has flag given = list_any (sameb the_type flag) given
 
--- whether an option is the last of those of a kind
+-- whether an option is the last given option of a kind
 abbrev pub is_last : Flag → List Flag → List Flag → Bool
 is_last flag kind given = option_map_or (sameb the_type flag) (last_or None (filter (λ f. has f kind) given)) false
 
--- the options that set a mode
+-- the options that set the mode of lines
 abbrev pub mode_flags : List Flag
 mode_flags = flags.Binary ∷ flags.Text ∷ flags.Tag ∷ []
 
--- the options that set a report
+-- the options that set the report of a check
 abbrev pub report_flags : List Flag
 report_flags = flags.Status ∷ flags.Warn ∷ flags.Quiet ∷ []
 
--- the option that sets a report; `All` needs none
+-- the option that sets this report, if an option is needed
 abbrev pub report_flag : Report → Option Flag
 report_flag reports.All = None
 report_flag reports.Quiet = Some flags.Quiet
 report_flag reports.Warn = Some flags.Warn
 report_flag reports.Status = Some flags.Status
 
--- the fault of a length value, by what is wrong with the number
-abbrev length_fault : ByteString → LengthFault → WordFaultValue
-length_fault value TooLong = length_invalid value
-length_fault value NotBytes = length_not_bytes value
-
--- whether a value is one or more digits
-abbrev pub is_number : ByteString → Bool
-is_number value = not (bytes_eq value []) && all_ascii_digits value
-
--- the kind that a length value asks for, which is the number of bits
+-- the kind that a value of --length asks for: the number of bits, in digits, at most 512 and whole bytes
 abbrev pub length_kind : ByteString → Result KindValue WordFaultValue
-length_kind value = if not (is_number value) then Err (length_invalid value)
-    else result_map_both (λ kind. kind) (length_fault value) (blake2b_of_bits (digits_value 10 value))
+length_kind value = let bits = digits_value 10 value in
+    if bytes_eq value [] || not (all_ascii_digits value) || nat_lt 512 bits then Err (length_invalid value)
+    else ok_or (result_ok (blake2b_of_bits bits)) (length_not_bytes value)
 
--- the faults of several options, each after its condition: the first whose condition holds counts
-abbrev pub faults : List Flag → List (Bool × WordFaultValue)
-faults given = let check = has flags.Check given in
-    (has flags.Tag given && is_last flags.Text mode_flags given, tag_with_text)
-    ∷ (has flags.Zero given && check, zero_with_check)
-    ∷ (has flags.Tag given && check, tag_with_check)
-    ∷ ((has flags.Binary given || has flags.Text given) && check, mode_with_check)
-    ∷ (has flags.IgnoreMissing given && not check, without_check (full_name flags.IgnoreMissing))
-    ∷ (is_last flags.Status report_flags given && not check, without_check (full_name flags.Status))
-    ∷ (is_last flags.Warn report_flags given && not check, without_check (full_name flags.Warn))
-    ∷ (is_last flags.Quiet report_flags given && not check, without_check (full_name flags.Quiet))
-    ∷ (has flags.Strict given && not check, without_check (full_name flags.Strict)) ∷ []
+-- the first fault of the given options together, if they have one
+abbrev pub fault_of_options : List Flag → Option WordFaultValue
+fault_of_options given = let check = has flags.Check given in
+    if has flags.Tag given && is_last flags.Text mode_flags given then Some tag_with_text
+    else if has flags.Zero given && check then Some zero_with_check
+    else if has flags.Tag given && check then Some tag_with_check
+    else if (has flags.Binary given || has flags.Text given) && check then Some mode_with_check
+    else if check then None
+    else if has flags.IgnoreMissing given then Some (without_check (full_name flags.IgnoreMissing))
+    else if is_last flags.Status report_flags given then Some (without_check (full_name flags.Status))
+    else if is_last flags.Warn report_flags given then Some (without_check (full_name flags.Warn))
+    else if is_last flags.Quiet report_flags given then Some (without_check (full_name flags.Quiet))
+    else if has flags.Strict given then Some (without_check (full_name flags.Strict)) else None
 
--- the mode of the lines that are written
+-- the mode of lines that the given options set
 abbrev pub mode_of : List Flag → Mode
 mode_of given = if has flags.Tag given then modes.Tag
     else if is_last flags.Binary mode_flags given then modes.Binary else modes.Text
 
--- the report of a check
+-- the report of a check that the given options set
 abbrev pub report_of : List Flag → Report
 report_of given = if is_last flags.Status report_flags given then reports.Status
     else if is_last flags.Warn report_flags given then reports.Warn
     else if is_last flags.Quiet report_flags given then reports.Quiet else reports.All
 
--- what the options ask for without --check, about these operands; a tool without an algorithm of its own needs --check
-abbrev pub generation : Algos → Option KindValue → List Flag → List ByteString → Result Request WordFaultValue
-generation Any kind given operands = Err check_needed
-generation (One algo) kind given operands =
-    let style : Style = record { mode = mode_of given; zero = has flags.Zero given } in
-    Ok (Generate (record { kind = unwrap_or kind (full_kind algo); style = style }) operands)
+-- the request of options without a fault: with --check (true) a check, else lines, for which anysum has no algorithm
+abbrev pub request_of_options :
+    Bool → Algos → Option KindValue → List Flag → List ByteString → Result Request WordFaultValue
+request_of_options true algos kind given operands = Ok (Check (record {
+  algo = algos;
+  report = report_of given;
+  strict = has flags.Strict given;
+  ignore_missing = has flags.IgnoreMissing given;
+}) operands)
+request_of_options false (One algo) kind given operands = Ok (Generate (record {
+  kind = unwrap_or kind (full_kind algo);
+  style = record { mode = mode_of given; zero = has flags.Zero given };
+}) operands)
+request_of_options false Any kind given operands = Err check_needed
 
--- the fault of the length, or the first of those faults, or what the options ask for
-abbrev pub request_or_fault :
-    Algos → Result (Option KindValue) WordFaultValue → List Flag → List ByteString → Result Request WordFaultValue
-request_or_fault algos (Err f) given operands = Err f
-request_or_fault algos (Ok kind) given operands =
-    option_map_or Err (option_map (λ row. row.1) (find (λ row. row.0) (faults given)))
-    (if not (has flags.Check given) then generation algos kind given operands
-    else Ok (Check (record {
-      algo = algos;
-      report = report_of given;
-      strict = has flags.Strict given;
-      ignore_missing = has flags.IgnoreMissing given;
-    }) operands))
-
--- the first fault among the items, --help or --version decides if there is one
+-- the first item that decides alone, if there is one: a fault, --help or --version
 abbrev pub early_request : List ItemValue → Option (Result Request WordFaultValue)
 early_request [] = None
 early_request (fault f ∷ xs) = Some (Err f)
@@ -112,12 +96,15 @@ early_request (option flags.Help ∷ xs) = Some (Ok Help)
 early_request (option flags.Version ∷ xs) = Some (Ok Version)
 early_request (x ∷ xs) = early_request xs
 
--- what a tool's items ask for: the last value of --length counts, and its fault precedes those of the options
+-- the request of a tool's items, or what precedes it: an item alone, a fault of the last length, a fault of the options
 abbrev pub request_of_items : Tool → List ItemValue → Result Request WordFaultValue
-request_of_items t xs = let kind = option_transpose (option_map length_kind (last_or None (filter_map value_in xs))) in
-    unwrap_or (early_request xs)
-    (request_or_fault (algos_of t) kind (filter_map option_in xs) (filter_map operand_in xs))
+request_of_items t xs = let given = filter_map option_in xs in
+    let kind = option_map length_kind (last_or None (filter_map value_in xs)) in
+    let asked = request_of_options (has flags.Check given) (algos_of t) (option_and_then result_ok kind) given
+    (filter_map operand_in xs) in
+    let wrong = option_or (option_and_then result_err kind) (fault_of_options given) in
+    unwrap_or (option_or (early_request xs) (option_map Err wrong)) asked
 
--- what a tool's words ask for
+-- the request of a tool's words, or a fault
 abbrev pub request : Tool → List ByteString → Result Request WordFaultValue
-request t words = request_of_items t (items_from t a_word words)
+request t words = request_of_items t (items_from t words a_word)

@@ -13,17 +13,17 @@ abbrev pub fault_lines : Tool → WordFaultValue → ByteString
 fault_lines t f =
     name_of t ++ codes ": " ++ wording f ++ codes "\nTry '" ++ name_of t ++ codes " --help' for more information.\n"
 
--- what a tool is for, by its algorithms
+-- the purpose of a tool with these algorithms, as the help says it
 abbrev pub purpose : Algos → ByteString
 purpose (One algo) = codes "Print or check " ++ tag algo ++ codes " checksums."
 purpose Any = codes "Check checksums of tagged lines."
 
--- an option's letter in the help, or as many spaces if it has none
+-- the letter of an option in the help, or as many spaces if it has none
 abbrev pub letter_column : Flag → ByteString
 letter_column flag =
     if bytes_eq (row_of flag).letter [] then codes "      " else codes "  -" ++ (row_of flag).letter ++ codes ", "
 
--- an option's line of help: its letter, its full name in 18 columns, and its text
+-- the line of an option in the help: its letter, its full name in 18 columns, and its text
 abbrev pub help_line : Flag → ByteString
 help_line flag = let name = codes "--" ++ full_name flag ++ (if takes_value flag then codes "=BITS" else []) in
     letter_column flag ++ name ++ replicate (18 - length name) (byte " ") ++ (row_of flag).help ++ codes "\n"

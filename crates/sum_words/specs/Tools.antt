@@ -7,7 +7,7 @@ pub use Rattle.digest_kinds.specs.declared.algo.Algos.TheVariants.{One, Any}
 pub use Rattle.sum_words.specs.declared.tool.Tool.{Tool}
 use Rattle.sum_words.specs.declared.tool.Tool.TheVariants as tools
 
--- a tool's name, and the algorithms of the digests that it writes and checks
+-- the name of a tool, and the algorithms of the digests that it writes and checks
 abbrev pub tool_row : Tool → ByteString × Algos
 tool_row tools.Md5sum = (codes "md5sum", One Md5)
 tool_row tools.Sha1sum = (codes "sha1sum", One Sha1)
@@ -18,15 +18,15 @@ tool_row tools.Sha512sum = (codes "sha512sum", One Sha512)
 tool_row tools.B2sum = (codes "b2sum", One Blake2b)
 tool_row tools.Anysum = (codes "anysum", Any)
 
--- a tool's name
+-- the name of a tool
 abbrev pub name_of : Tool → ByteString
 name_of t = (tool_row t).0
 
--- a tool's algorithms
+-- the algorithms of a tool
 abbrev pub algos_of : Tool → Algos
 algos_of t = (tool_row t).1
 
--- the one of all tools that has this name
+-- the tool that has this name, if there is one
 unfoldable pub tool_called : ByteString → Option Tool
 tool_called word = find (λ tool. bytes_eq (name_of tool) word) (tools.Md5sum ∷ tools.Sha1sum ∷ tools.Sha224sum ∷
     tools.Sha256sum ∷ tools.Sha384sum ∷ tools.Sha512sum ∷ tools.B2sum ∷ tools.Anysum ∷ [])

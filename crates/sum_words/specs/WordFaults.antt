@@ -4,15 +4,15 @@ use Rattle.sum_lines.specs.Escape.{escape, ByteString}
 pub use Rattle.sum_words.specs.declared.parsing.options.Spelling.{Spelling}
 pub use Rattle.sum_words.specs.declared.parsing.options.Spelling.TheVariants.{Long, Short}
 
--- a fault, with what its text shows: an option's name (typed or full), how it was written, a character, a value, a word
+-- a fault of the words, with what its text shows: a name of an option, a value, a word, a spelling, or a letter
 pub data WordFaultValue : Type 0 where
   unknown_long ambiguous_long value_not_allowed without_check : ByteString → WordFaultValue
+  length_invalid length_not_bytes not_text : ByteString → WordFaultValue
   value_missing : Spelling → WordFaultValue
   unknown_short : ℕ → WordFaultValue
-  length_invalid length_not_bytes not_text : ByteString → WordFaultValue
   tag_with_text zero_with_check tag_with_check mode_with_check check_needed : WordFaultValue
 
--- the text of a fault, in which what was typed is escaped as names are
+-- the text of a fault; what was typed is escaped in it as names of files are
 abbrev pub wording : WordFaultValue → ByteString
 wording (unknown_long name) = codes "unrecognized option '--" ++ escape name ++ codes "'"
 wording (ambiguous_long name) = codes "option '--" ++ escape name ++ codes "' is ambiguous"

@@ -1,5 +1,5 @@
 //! The arguments of the process.
-ghost use Rattle.std.specs.Prelude.{◌≡◌, ◌≤◌, List, Option, None, IfOk, length, map};
+ghost use Rattle.std.specs.Prelude.{◌≡◌, ◌≤◌, List, Option, None, IfOk, IfSome, length, map};
 ghost use Rattle.digest_kinds.specs.Bytes.{ByteString};
 ghost use Rattle.sum_words.specs.CommandLines.{Fills};
 
@@ -17,7 +17,7 @@ pub trait Arguments {
     fn fill(&self, place: usize, buffer: &mut [u8]) -> Result<usize, FillError>
         ensures count { IfOk result (λ n. n ≤ length buffer.new) }
         // If the arguments are known: the buffer starts with this one, or the error says why it doesn't.
-        ensures bytes { Fills (known self.now) place buffer.new result };
+        ensures bytes { IfSome (known self.now) (λ all. Fills all place buffer.new result) };
 }
 
 /// The arguments that the system gives. Contracts don't know them.

@@ -1,10 +1,11 @@
 //! The command line: which tool is asked for, and on which words.
-ghost use Rattle.std.specs.Prelude.{◌≡◌, ◌≤◌, ◌<◌, ◌*◌, vec_len, take, drop, length, slice_get};
+ghost use Rattle.std.specs.Prelude.{◌≡◌, ◌==◌, ◌≤◌, ◌<◌, ◌*◌, vec_len, take, drop, length, slice_get};
 ghost use Rattle.std.specs.Prelude.{IfOk, IfSome, OnOk, OnErr};
+ghost use Rattle.std.specs.List.{after_last};
 ghost use Rattle.std.specs.Option.{option_map, option_and_then};
-ghost use Rattle.sum_words.specs.Tools.{tool_called};
+ghost use Rattle.sum_words.specs.CommandLines.{command_line, NeedsMemory};
 ghost use Rattle.sum_words.specs.refinement.CommandLine.{ArgumentIs, IsLonger, command_line_value};
-ghost use Rattle.sum_words.specs.CommandLines.{last_part, command_line, NeedsMemory};
+ghost use Rattle.sum_words.specs.Tools.{tool_called};
 
 use crate::arguments::Arguments;
 use crate::tool::Tool;
@@ -77,7 +78,8 @@ impl<A: Allocator> Room<A> {
         arguments: &G,
         place: usize,
     ) -> Result<Option<&[u8]>, NotRead>
-        ensures bytes { IfOk result (λ o. ArgumentIs (G.known arguments.now) place (option_map (λ s. s.now) o)) }
+        ensures bytes { IfOk result (λ o.
+            ArgumentIs (G.known arguments.now) place (option_map (λ s. s.now) o)) }
         ensures not_read { OnErr result (IsLonger (G.known arguments.now) place 4096) }
     {
         match arguments.fill(place, &mut self.page) {
@@ -136,7 +138,8 @@ fn tool_called_by_name<A: Allocator, G: Arguments>(
     room: &mut Room<A>,
 ) -> Result<Option<Tool>, NotRead>
     ensures tool { IfOk result (λ tool. IfSome (G.known arguments.now) (λ all.
-        tool ≡ option_and_then (λ name. tool_called (last_part name)) (slice_get all 0))) }
+        tool ≡ option_and_then (λ path. tool_called (after_last (λ b. b == 47) path))
+        (slice_get all 0))) }
     ensures not_read { OnErr result (IfSome (G.known arguments.now) NeedsMemory) }
 {
     let path = room.argument(arguments, 0)?;
@@ -145,7 +148,7 @@ fn tool_called_by_name<A: Allocator, G: Arguments>(
 
 // What follows the last slash of a path. All of the path if there is no slash.
 fn last_part(path: &[u8]) -> &[u8]
-    ensures { result.now ≡ last_part path.now }
+    ensures { result.now ≡ after_last (λ b. b == 47) path.now }
 {
     match memrchr(b'/', path) {
         Some(slash) => &path[slash..][1..],
@@ -176,7 +179,8 @@ fn words_from<A: Allocator + Copy, G: Arguments>(
     room: &mut Room<A>,
 ) -> Result<Words<A>, NotRead>
     requires { first < usize.MAX }
-    ensures words { IfOk result (λ words. IfSome (G.known arguments.now) (λ all. words ≡ drop first all)) }
+    ensures words { IfOk result (λ words. IfSome (G.known arguments.now) (λ all.
+        words ≡ drop first all)) }
     ensures not_read { OnErr result (IfSome (G.known arguments.now) (λ all. first < length all)) }
 {
     let mut words = Words::new(alloc);

@@ -8,8 +8,9 @@ ghost use Rattle.sum_words.specs.Items.{ByteString, operand, a_word, is_option_w
 /// whatever follows them. After `--` every word is an operand.
 #[tactic(auto, using(crate::proofs::PlainWordLemmas::plain_words))]
 pub fn plain_words_are_operands()
-    ensures plain { (t : Tool) (words more : List ByteString) → AllPass (λ word. not (is_option_word word)) words →
-        items_from t a_word (words ++ more) ≡ map operand words ++ items_from t a_word more }
+    ensures plain { (t : Tool) (words more : List ByteString) →
+        AllPass (λ word. not (is_option_word word)) words →
+        items_from t (words ++ more) a_word ≡ map operand words ++ items_from t more a_word }
     ensures after_dashes { (t : Tool) (words : List ByteString) →
-        items_from t a_word (codes "--" ∷ words) ≡ map operand words }
+        items_from t (codes "--" ∷ words) a_word ≡ map operand words }
 {}

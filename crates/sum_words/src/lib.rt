@@ -3,6 +3,9 @@
 //! What the arguments alone decide belongs here, and the texts that need no file, such as help and faults of words. The
 //! crate may call those below it (`digest_kinds`, `sum_lines`, `sum_sources`, `sum_engine`), and opens no file.
 //!
+//! It stands on `sum_engine` for the settings that a request asks for and for the stop that a message names, and on
+//! `sum_sources` for `NoRoom`. Types of its own would have the same fields again, and need a conversion that is proved.
+//!
 //! ```rust
 //! let mut words = Words::new(alloc);
 //! words.add("--tag")?;

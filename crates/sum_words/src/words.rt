@@ -3,8 +3,8 @@ ghost use Rattle.std.specs.Prelude.{◌≡◌, ◌==◌, ◌<◌, [], ◌∷◌,
 ghost use Rattle.std.specs.Prelude.{slice_get, slice_index};
 ghost use Rattle.std.specs.Iterator.{item_count};
 ghost use Rattle.std.specs.Option.{option_copied};
-ghost use Rattle.sum_words.specs.Words.{pieces_cut, CutsAt};
 ghost use Rattle.sum_words.specs.refinement.ItemIterator.{TakesFirst};
+ghost use Rattle.sum_words.specs.Words.{pieces_cut, CutsAt};
 
 use std::alloc::Allocator;
 use std::marker::Model;

@@ -1,12 +1,13 @@
 -- Relates the iterator over the words to the list of items: the values of its types, and the items that remain.
-use Rattle.std.specs.Prelude.{◌≡◌, map, List, [], ◌∷◌, ◌++◌, Option, None, Some, chars}
+use Rattle.std.specs.Prelude.{ℕ, ◌≡◌, map, List, [], ◌∷◌, Option, None, Some, chars, encode_utf8_all}
 use Rattle.sum_words.specs.declared.tool.Tool.{Tool}
 use Rattle.sum_words.specs.declared.messages.word_faults.WordFault.{WordFault}
 use Rattle.sum_words.specs.WordFaults as faults
+use Rattle.sum_words.specs.WordFaults.{Short}
 use Rattle.sum_words.specs.declared.parsing.items.Item.{Item as WordItem}
 use Rattle.sum_words.specs.declared.parsing.items.ParserState.{ParserState}
 use Rattle.sum_words.specs.declared.parsing.items.ParserStep.{ParserStep}
-use Rattle.sum_words.specs.Items.{ByteString, ItemValue, option, length_value, operand, fault, NextWord, a_word, a_value, no_word, cluster, items_from, full_name}
+use Rattle.sum_words.specs.Items.{ByteString, ItemValue, option, length_value, operand, fault, a_word, a_value, cluster, items_from, full_name}
 use Rattle.sum_words.specs.declared.messages.word_faults.WordFault.TheVariants as words
 use Rattle.sum_words.specs.declared.parsing.items.Item.TheVariants as items
 use Rattle.sum_words.specs.declared.parsing.options.Flag.TheVariants as flags
@@ -41,21 +42,22 @@ item_value (items.Length value) = length_value value.now
 item_value (items.Operand word) = operand word.now
 item_value (items.Fault f) = fault (word_fault_value f)
 
--- the items of a word that was read, and of the words after it
-abbrev pub read_then : Tool → List ItemValue × NextWord → List ByteString → List ItemValue
-read_then t r words = r.0 ++ items_from t r.1 words
+-- the items of the value of an option in a cluster, which these letters follow, and of the words after it
+abbrev pub attached_value : Tool → List ℕ → List ByteString → List ItemValue
+attached_value t [] words = items_from t words (a_value Short)
+attached_value t cs words = length_value (encode_utf8_all cs) ∷ items_from t words a_word
 
 -- the items that remain in a state, before these words
 abbrev pub remaining_items : Tool → ParserState → List ByteString → List ItemValue
-remaining_items t states.Word words = items_from t a_word words
-remaining_items t (states.Cluster c rest) words = read_then t (cluster t (c ∷ chars rest.now)) words
+remaining_items t states.Word words = items_from t words a_word
+remaining_items t (states.Cluster c rest) words = cluster t (c ∷ chars rest.now) (items_from t words)
 remaining_items t states.OnlyOperands words = map operand words
-remaining_items t states.Done words = items_from t no_word words
+remaining_items t states.Done words = []
 
 -- the items that remain from a step on, before these words
 abbrev pub step_items : Tool → ParserStep → List ByteString → List ItemValue
 step_items t (steps.Item x state) words = item_value x ∷ remaining_items t state words
-step_items t (steps.Value spelling) words = items_from t (a_value spelling) words
+step_items t (steps.Value spelling) words = items_from t words (a_value spelling)
 step_items t steps.OnlyOperands words = map operand words
 
 -- the first member was taken, or there is none

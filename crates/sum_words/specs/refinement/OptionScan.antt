@@ -1,8 +1,9 @@
 -- Relates the scan of the options to the request: the values so far, and what they make of it.
-use Rattle.std.specs.Prelude.{ℕ, ◌≡◌, ◌<◌, ◌^◌, ◌||◌, true, Bool, List, [], Option, None, Some, SomeIff, Result, Ok, Err, filter, option_copied, filter_map}
+use Rattle.std.specs.Prelude.{ℕ, ◌≡◌, ◌<◌, ◌^◌, ◌&&◌, ◌||◌, not, bytes_eq, true, Bool, List, [], Option, None, Some, SomeIff, Result, Ok, Err, filter, option_copied, filter_map}
 use Rattle.std.specs.List.{last_or}
+use Rattle.std.specs.Str.{all_ascii_digits}
 use Rattle.std.specs.Str.Parse.{digits_value}
-use Rattle.sum_words.specs.Request.{report_flag, early_request, has, mode_flags, report_flags, is_number}
+use Rattle.sum_words.specs.Request.{report_flag, early_request, has, mode_flags, report_flags}
 use Rattle.sum_words.specs.Items.{Flag, ByteString, ItemValue, option_in, value_in}
 use Rattle.sum_words.specs.declared.messages.word_faults.WordFault.{WordFault}
 use Rattle.sum_words.specs.declared.parsing.request.Chosen.{Chosen}
@@ -44,6 +45,10 @@ result_value (Err f) = Err (word_fault_value f)
 abbrev pub IsScanOf : ScannedOptions → List ItemValue → Type 0
 IsScanOf (Options c) xs = IsChosenBy c [] xs × (early_request xs ≡ None)
 IsScanOf (Early r) xs = early_request xs ≡ Some (result_value r)
+
+-- whether a value is one or more digits
+abbrev pub is_number : ByteString → Bool
+is_number value = not (bytes_eq value []) && all_ascii_digits value
 
 -- a value's number, or `None` if it isn't one below 2^64
 abbrev pub IsNumberOf : ByteString → Option ℕ → Type 0

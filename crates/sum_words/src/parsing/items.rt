@@ -1,14 +1,14 @@
 //! The items of a tool's words, and those that are operands.
 ghost use Rattle.std.specs.Prelude.{◌≡◌, ◌==◌, List, [], ◌∷◌, MatchOption, drop, length, true, false, filter_map};
 ghost use Rattle.std.specs.Iterator.{item_count};
-ghost use Rattle.std.specs.Option.{option_copied};
 ghost use Rattle.std.specs.List.{starts_with};
+ghost use Rattle.std.specs.Option.{option_copied};
 ghost use Rattle.std.specs.Str.{chars};
-ghost use Rattle.sum_words.specs.Items.{ByteString, a_word, name_part, value_part, long_option, name_or_fault};
-ghost use Rattle.sum_words.specs.Items.{attached_value, cluster, is_option_word, items_from, operand_in};
-ghost use Rattle.sum_words.specs.refinement.ItemIterator.{remaining_items, read_then, step_items};
-ghost use Rattle.sum_words.specs.refinement.ItemIterator.{item_value, TakesFirst};
 ghost use Rattle.sum_words.specs.declared.tool.Tool.{Tool};
+ghost use Rattle.sum_words.specs.Items.{ByteString, a_word, name_part, value_part, long_option, name_or_fault};
+ghost use Rattle.sum_words.specs.Items.{cluster, is_option_word, items_from, operand_in};
+ghost use Rattle.sum_words.specs.refinement.ItemIterator.{attached_value, remaining_items, step_items};
+ghost use Rattle.sum_words.specs.refinement.ItemIterator.{item_value, TakesFirst};
 
 use crate::messages::word_faults::WordFault;
 use crate::parsing::options::{Flag, Spelling};
@@ -65,7 +65,7 @@ impl<'a> Model for Items<'a> {
 impl<'a> Items<'a> {
     /// All items of a tool's words.
     pub fn new<A: Allocator>(tool: Tool, words: &'a Words<A>) -> Items<'a>
-        ensures { result ≡ items_from tool a_word words.now }
+        ensures { result ≡ items_from tool words.now a_word }
     {
         Items {
             tool,
@@ -128,7 +128,8 @@ fn apply_step<'a>(
 // The step of a whole word.
 #[tactic(auto, using(crate::proofs::WordLemmas::no_text))]
 fn word_step<'a>(tool: Tool, word: &'a [u8]) -> ParserStep<'a>
-    ensures { (ws : List ByteString) → step_items tool result ws ≡ items_from tool a_word (word.now ∷ ws) }
+    ensures { (ws : List ByteString) →
+        step_items tool result ws ≡ items_from tool (word.now ∷ ws) a_word }
 {
     if !is_option_word(word) {
         return ParserStep::Item(Item::Operand(word), ParserState::Word);
@@ -150,7 +151,8 @@ fn is_option_word(word: &[u8]) -> bool
 #[tactic(auto, using(crate::proofs::WordLemmas::utf8))]
 fn option_step<'a>(tool: Tool, word: &'a str) -> ParserStep<'a>
     requires { is_option_word word.now ≡ true }
-    ensures { (ws : List ByteString) → step_items tool result ws ≡ items_from tool a_word (word.now ∷ ws) }
+    ensures { (ws : List ByteString) →
+        step_items tool result ws ≡ items_from tool (word.now ∷ ws) a_word }
 {
     if word == "--" {
         return ParserStep::OnlyOperands;
@@ -165,7 +167,8 @@ fn option_step<'a>(tool: Tool, word: &'a str) -> ParserStep<'a>
 // The step of a long option, without its two dashes.
 fn long_step<'a>(tool: Tool, text: &'a str) -> ParserStep<'a>
     ensures { (ws : List ByteString) → step_items tool result ws
-        ≡ read_then tool (long_option (name_or_fault tool (name_part text.now)) (value_part text.now)) ws }
+        ≡ long_option (name_or_fault tool (name_part text.now)) (value_part text.now)
+        (items_from tool ws) }
 {
     let (name, value) = name_and_value(text);
     let flag = match Flag::of_name(tool, name) {
@@ -186,7 +189,7 @@ fn long_step<'a>(tool: Tool, text: &'a str) -> ParserStep<'a>
 // The step of a letter of a cluster, which the rest of the word follows.
 fn letter_step<'a>(tool: Tool, letter: char, rest: &'a str) -> ParserStep<'a>
     ensures { (ws : List ByteString) → step_items tool result ws
-        ≡ read_then tool (cluster tool (letter ∷ chars rest.now)) ws }
+        ≡ cluster tool (letter ∷ chars rest.now) (items_from tool ws) }
 {
     match Flag::of_letter(tool, letter) {
         None => ParserStep::Item(
@@ -202,7 +205,7 @@ fn letter_step<'a>(tool: Tool, letter: char, rest: &'a str) -> ParserStep<'a>
 #[tactic(auto, using(crate::proofs::WordLemmas::values))]
 fn attached_value(rest: &str) -> ParserStep<'_>
     ensures { (t : Tool) (ws : List ByteString) →
-        step_items t result ws ≡ read_then t (attached_value (chars rest.now)) ws }
+        step_items t result ws ≡ attached_value t (chars rest.now) ws }
 {
     if rest.is_empty() {
         ParserStep::Value(Spelling::Short)
@@ -214,7 +217,7 @@ fn attached_value(rest: &str) -> ParserStep<'_>
 // What is read next of a cluster.
 fn rest_of_cluster(letters: &str) -> ParserState<'_>
     ensures { (t : Tool) (ws : List ByteString) → remaining_items t result ws
-        ≡ read_then t (cluster t (chars letters.now)) ws }
+        ≡ cluster t (chars letters.now) (items_from t ws) }
 {
     match first_letter(letters) {
         Some((letter, rest)) => ParserState::Cluster(letter, rest),
@@ -252,7 +255,8 @@ fn first_letter(text: &str) -> Option<(char, &str)>
 #[tactic(auto, using(crate::proofs::WordLemmas::prefix_stripped))]
 fn after_prefix<'a>(prefix: &str, word: &'a str) -> Option<&'a str>
     ensures { MatchOption result (starts_with ◌==◌ word.now prefix.now ≡ false)
-        (λ rest. (starts_with ◌==◌ word.now prefix.now ≡ true) × (rest.now ≡ drop (length prefix.now) word.now)) }
+        (λ rest. (starts_with ◌==◌ word.now prefix.now ≡ true)
+        × (rest.now ≡ drop (length prefix.now) word.now)) }
 {
     word.strip_prefix(prefix)
 }
@@ -286,7 +290,7 @@ impl<'a> Model for Operands<'a> {
 impl<'a> Operands<'a> {
     /// All operands of a tool's words.
     pub fn new<A: Allocator>(tool: Tool, words: &'a Words<A>) -> Operands<'a>
-        ensures { result ≡ filter_map operand_in (items_from tool a_word words.now) }
+        ensures { result ≡ filter_map operand_in (items_from tool words.now a_word) }
     {
         Operands {
             items: Items::new(tool, words),

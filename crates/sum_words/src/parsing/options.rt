@@ -170,7 +170,8 @@ fn begins(tool: Tool, flag: Flag, name: &str) -> bool
 // The tool's only option among these whose full name begins with this text.
 fn only_begun<'a>(tool: Tool, flags: &[Flag], name: &'a str) -> Result<Flag, WordFault<'a>>
     ensures { result_value result ≡ only_or_fault name.now
-        (filter (λ flag. has_option tool flag && starts_with ◌==◌ (full_name flag) name.now) flags.now) }
+        (filter (λ flag. has_option tool flag && starts_with ◌==◌ (full_name flag) name.now)
+        flags.now) }
 {
     let mut found = None;
     for flag in flags {

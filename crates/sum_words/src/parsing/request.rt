@@ -1,11 +1,11 @@
 //! What the words ask for: settings and operands, help, version, or a fault.
-ghost use Rattle.std.specs.Prelude.{◌≡◌, ◌∷◌, List, [], Ok, filter_map, find};
+ghost use Rattle.std.specs.Prelude.{◌≡◌, ◌∷◌, List, [], filter_map};
 ghost use Rattle.std.specs.Option.{option_copied, option_map, option_transpose};
 ghost use Rattle.std.specs.Str.{all_ascii_digits};
 ghost use Rattle.sum_words.specs.Items.{ItemValue, a_word, items_from, option, option_in};
 ghost use Rattle.sum_words.specs.refinement.ItemIterator.{word_fault_value};
-ghost use Rattle.sum_words.specs.Request.{length_kind, mode_of, faults, request_or_fault, request};
 ghost use Rattle.sum_words.specs.refinement.OptionScan.{IsChosenBy, IsScanOf, result_value, IsNumberOf};
+ghost use Rattle.sum_words.specs.Request.{length_kind, mode_of, fault_of_options, request_of_options, request};
 
 use crate::messages::word_faults::WordFault;
 use crate::parsing::items::{Item, Items, Operands};
@@ -48,7 +48,10 @@ pub fn read_words<'a, A: Allocator>(
         Ok(kind) => kind,
         Err(fault) => return Err(fault),
     };
-    asked_request(tool.algos(), kind, &chosen, Operands::new(tool, words))
+    if let Some(fault) = fault_of_options(&chosen) {
+        return Err(fault);
+    }
+    request_of_options(tool.algos(), kind, &chosen, Operands::new(tool, words))
 }
 
 // The options read so far. `mode` is the last option that sets a mode. The last report setting and the last length
@@ -76,7 +79,7 @@ enum ScannedOptions<'a> {
 
 // The options among the items; or the request or the fault, if a single item decides.
 fn read_options<'a, A: Allocator>(tool: Tool, words: &'a Words<A>) -> ScannedOptions<'a>
-    ensures { IsScanOf result (items_from tool a_word words.now) }
+    ensures { IsScanOf result (items_from tool words.now a_word) }
 {
     let mut items = Items::new(tool, words);
     let mut chosen = Chosen {
@@ -139,7 +142,8 @@ fn with_flag(chosen: Chosen<'_>, flag: Flag) -> Chosen<'_>
 
 // The kind that the last length value asks for, if there is one.
 fn asked_kind(length: Option<&[u8]>) -> Result<Option<Kind>, WordFault<'_>>
-    ensures { result_value result ≡ option_transpose (option_map length_kind (option_copied length.entry)) }
+    ensures { result_value result
+        ≡ option_transpose (option_map length_kind (option_copied length.entry)) }
 {
     match length {
         None => Ok(None),
@@ -194,8 +198,7 @@ fn all_digits(bytes: &[u8]) -> bool
 // The first fault of the options together.
 fn fault_of_options(chosen: &Chosen<'_>) -> Option<WordFault<'static>>
     ensures { (xs : List ItemValue) → IsChosenBy chosen.now [] xs →
-        option_map word_fault_value result
-        ≡ option_map (λ row. row.1) (find (λ row. row.0) (faults (filter_map option_in xs))) }
+        option_map word_fault_value result ≡ fault_of_options (filter_map option_in xs) }
 {
     if chosen.tag && matches!(chosen.mode, Some(Flag::Text)) {
         return Some(WordFault::TagWithText);
@@ -224,19 +227,17 @@ fn fault_of_options(chosen: &Chosen<'_>) -> Option<WordFault<'static>>
     }
 }
 
-// What the options ask for, or the first of their faults.
-fn asked_request<'a>(
+// What options without a fault ask for.
+fn request_of_options<'a>(
     algos: Algos,
     kind: Option<Kind>,
     chosen: &Chosen<'_>,
     operands: Operands<'a>,
 ) -> Result<Request<'a>, WordFault<'a>>
     ensures { (xs : List ItemValue) → IsChosenBy chosen.now [] xs →
-        result_value result ≡ request_or_fault algos (Ok kind) (filter_map option_in xs) operands.entry }
+        result_value result
+        ≡ request_of_options chosen.now.check algos kind (filter_map option_in xs) operands.entry }
 {
-    if let Some(fault) = fault_of_options(chosen) {
-        return Err(fault);
-    }
     if chosen.check {
         let settings = CheckSettings {
             algo: algos,
@@ -261,7 +262,8 @@ fn asked_request<'a>(
 
 // The mode of the lines that are written.
 fn mode(chosen: &Chosen<'_>) -> Mode
-    ensures { (xs : List ItemValue) → IsChosenBy chosen.now [] xs → result ≡ mode_of (filter_map option_in xs) }
+    ensures { (xs : List ItemValue) → IsChosenBy chosen.now [] xs →
+        result ≡ mode_of (filter_map option_in xs) }
 {
     if chosen.tag {
         return Mode::Tag;

@@ -1,6 +1,6 @@
 use Rattle.std.proofs.Common.{◌≡◌, ap, fold, refl, ◌∙◌}
 use Rattle.std.specs.List.{range_with_len}
-use Rattle.blake2b_core.specs.Compression.{compress, round, start}
+use Rattle.blake2b_core.specs.Compression.{compress, round, work_vector}
 use Rattle.blake2b_core.specs.refinement.Columns.{block_words, next_state, words}
 use Rattle.blake2b_core.proofs.compression.advance.Goals as goal
 
@@ -9,7 +9,7 @@ pub returns : goal.returns
 unfolding compress
 returns c =
     let v : words c.round-v-12.result ≡ fold (round (block_words c.args.block.now))
-    (start c.args.h.now c.args.t c.args.last) (range_with_len 0 12) =
+    (work_vector c.args.h.now c.args.t c.args.last) (range_with_len 0 12) =
     rw (
       c.round-v-12.ensures,
       c.round-v-11.ensures,
@@ -23,7 +23,7 @@ returns c =
       c.round-v-3.ensures,
       c.round-v-2.ensures,
       c.round-v.ensures,
-      c.start-v.ensures,
+      c.work_vector-v.ensures,
       c.block_words-m.ensures,
     ) refl in
     c.feed_forward.ensures ∙ ap (next_state c.args.h.now) v
