@@ -23,7 +23,6 @@ first_chunks-append n (suc k) j xs ys size =
     rw (next, front, back, more) refl
 
 pieces-append : (xs ys : List ℕ) → length xs % 8192 ≡ 0 → pieces (xs ++ ys) ≡ pieces xs ++ pieces ys
-unfolding pieces
 pieces-append xs ys full =
     let k = length xs / 8192 in
     let size : length xs ≡ k * 8192 = omega arith in
@@ -36,7 +35,6 @@ chunks-one : (n : ℕ) (xs : List ℕ) → length xs ≤ n → first_chunks n 1 
 chunks-one n xs fits = ap (λ l. l ∷ []) (take_all n xs fits)
 
 pieces-one : (xs : List ℕ) → 0 < length xs → length xs ≤ 8192 → pieces xs ≡ xs ∷ []
-unfolding pieces
 pieces-one xs some fits =
     let one : (length xs + 8191) / 8192 ≡ 1 = omega arith in
     rw (one, chunks-one 8192 xs fits) refl
@@ -49,7 +47,6 @@ concat-chunks n (suc k) xs fits =
     rw (concat-chunks n k (drop n xs) (omega (arith, length-drop n xs))) (grind (arith, common_steps))
 
 concat-pieces : (xs : List ℕ) → concat (pieces xs) ≡ xs
-unfolding pieces
 concat-pieces xs = concat-chunks 8192 ((length xs + 8191) / 8192) xs (omega arith)
 
 -- ---- the events of pieces
@@ -86,7 +83,6 @@ output_events-one xs some fits = rw (pieces-one xs some fits) (append-nil (piece
 
 -- no text
 pub output_events-none : output_events [] ≡ []
-unfolding pieces
 output_events-none = refl
 
 -- ---- what happened
@@ -99,6 +95,10 @@ OffersEach-then a b c (p ∷ ps) qs h k = (h.0, h.1, OffersEach-then _ b c ps qs
 -- nothing
 pub Gets-none : {a : SinkState} → Gets a a []
 Gets-none {a} = record { offered = refl; written = sym (append-nil a.written) }
+
+-- no text
+pub Gets-no_text : (a b : SinkState) → b ≡ a → Gets a b (output_events [])
+Gets-no_text a b same = rw (same, output_events-none) Gets-none
 
 -- a piece was offered, and its first bytes were written
 pub Gets-piece : (a b : SinkState) (piece prefix : List ℕ) (offers : List (List ℕ)) → OffersPiece piece offers

@@ -2,8 +2,8 @@
 use Rattle.std.proofs.lemmas.Grind.{common_steps}
 use Rattle.std.proofs.Common.{ℕ, ◌≡◌, ◌<◌, ◌≤◌, ◌-◌, ◌+◌, ◌%◌, List, [], ◌++◌, length, take, drop, Result, Ok, Err, inl, inr, min, refl, ap, ◌∙◌, append_assoc, append-nil, length-append, length-take, lit<, arith}
 use Rattle.std.specs.Result.{IsErr}
-use Rattle.sum_lines.specs.Sinks.{output_events, Gets}
-use Rattle.sum_lines.specs.Buffers.{BufferState, Accepts, FailsToWrite, WritesAll, WritesAndFlushes}
+use Rattle.sum_lines.specs.Sinks.{SinkState, GivesAll, output_events, Gets}
+use Rattle.sum_lines.specs.Buffers.{BufferState, Accepts, FailsToWrite, WritesAll}
 use Rattle.sum_lines.specs.refinement.SinkStates.{MakesRoom}
 use Rattle.sum_lines.proofs.EventLemmas.{output_events-append, output_events-none, Gets-none, Gets-then, GetsPrefix-more, GetsPrefix-then}
 
@@ -182,33 +182,16 @@ writes_then c xs ys (Err e) first rest = FailsToWrite-then first rest
 
 -- ---- a text, and a flush
 
--- a text was accepted, and then flushed, or that failed
-pub written_flushed : {E : Type 0} {a b c : BufferState} (text : List ℕ) (r : Result (Unit {0}) E) → Accepts a b text
-    → WritesAndFlushes b c [] r → WritesAndFlushes a c text r
-written_flushed {b = b} text (Ok u) first flushed = let rest = rw append-nil at flushed.gives in record {
-  gives = (
-    rw (first.cut, output_events-append first.given b.buffered first.full) (Gets-then first.gets rest.0),
-    rest.1 ∙ first.failures,
-  );
-  flushed = flushed.flushed;
-}
-written_flushed {b = b} text (Err e) first flushed = let rest = rw append-nil at flushed.gives in record {
-  gives = (
-    rw (first.cut, output_events-append first.given b.buffered first.full) (GetsPrefix-then first.gets rest.0),
-    rest.1 ∙ ap (λ n. n + 1) first.failures,
-  );
-  flushed = flushed.flushed;
-}
+-- a text was accepted, and then what was buffered was given to the sink, or that failed
+pub given_after : {E : Type 0} {a b : BufferState} (c : SinkState) (text : List ℕ) (r : Result (Unit {0}) E)
+    → Accepts a b text → GivesAll b.sink c b.buffered r → GivesAll a.sink c (a.buffered ++ text) r
+given_after {b = b} c text (Ok u) h given = rw (h.cut, output_events-append h.given b.buffered h.full)
+    (Gets-then h.gets given.0, given.1 ∙ h.failures)
+given_after {b = b} c text (Err e) h given = rw (h.cut, output_events-append h.given b.buffered h.full)
+    (GetsPrefix-then h.gets given.0, given.1 ∙ ap (λ n. n + 1) h.failures)
 
--- a write of a text failed, so there was nothing to flush
-pub not_written : {E : Type 0} {a b : BufferState} (text : List ℕ) (r : Result (Unit {0}) E) → FailsToWrite a b text
-    → IsErr r → WritesAndFlushes a b text r
-not_written text (Ok u) failed err = cc
-not_written text (Err e) failed err = record {
-  gives = (
-    rw (failed.cut, output_events-append failed.given failed.rest failed.full)
-        (GetsPrefix-more (output_events failed.rest) failed.gets),
-    failed.failures,
-  );
-  flushed = failed.buffered;
-}
+-- a write of a text failed, so not all was given
+pub not_given : {a b : BufferState} {text : List ℕ} → FailsToWrite a b text
+    → GivesAll {E = Unit {0}} a.sink b.sink (a.buffered ++ text) (Err tt)
+not_given h = rw (h.cut, output_events-append h.given h.rest h.full)
+    (GetsPrefix-more (output_events h.rest) h.gets, h.failures)

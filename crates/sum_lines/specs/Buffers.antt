@@ -35,8 +35,3 @@ pub record FailsToWrite (a b : BufferState) (text : ByteString) : Type 0 where
 abbrev pub WritesAll : {E : Type 0} → BufferState → BufferState → ByteString → Result ⊤ E → Type 0
 WritesAll a b text (Ok u) = Accepts a b text
 WritesAll a b text (Err e) = FailsToWrite a b text
-
--- a call that writes a text and flushes: the sink is given the buffered bytes and the text, and nothing is buffered
-pub record WritesAndFlushes {E : Type 0} (a b : BufferState) (text : ByteString) (r : Result ⊤ E) : Type 0 where
-  pub gives : GivesAll a.sink b.sink (a.buffered ++ text) r
-  pub flushed : b.buffered ≡ []

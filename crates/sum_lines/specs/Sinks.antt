@@ -45,7 +45,7 @@ written_byte (write_byte b) = Some b
 written_byte event = None
 
 -- the pieces of a text: 8,192 bytes each, and what is left; so a text of at most 8,192 bytes is one piece
-unfoldable pub pieces : ByteString → List ByteString
+abbrev pub pieces : ByteString → List ByteString
 pieces text = first_chunks 8192 ((length text + 8191) / 8192) text
 
 -- the events of a text: each piece is offered, and then its bytes are written

@@ -1,7 +1,7 @@
 //! A buffer over a sink.
 ghost use Rattle.std.specs.Prelude.{◌≡◌, ◌<◌, ◌≤◌, ◌-◌, ◌+◌, ◌++◌, [], length, min, take};
 ghost use Rattle.sum_lines.specs.Sinks.{GivesAll};
-ghost use Rattle.sum_lines.specs.Buffers.{WritesAll, WritesAndFlushes};
+ghost use Rattle.sum_lines.specs.Buffers.{WritesAll};
 ghost use Rattle.sum_lines.specs.refinement.SinkStates.{MakesRoom, AcceptsSome};
 
 use crate::sinks::sink::{Sink, SinkFault, give_all};
@@ -63,7 +63,8 @@ impl<S: Sink> Buffered<S> {
 
     /// Offers the sink all that is buffered, in one piece, and flushes the sink. `SinkFault` if that fails.
     pub fn flush(&mut self) -> Result<(), SinkFault>
-        ensures { WritesAndFlushes self.old self.new [] result }
+        ensures gives { GivesAll self.old.sink self.new.sink self.old.buffered result }
+        ensures flushed { self.new.buffered ≡ [] }
     {
         self.give_buffered()?;
         self.sink.flush()
