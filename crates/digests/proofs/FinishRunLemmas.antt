@@ -1,18 +1,25 @@
 -- The end of a program: a run that answered, both outputs flushed once more, and the line for a stop.
-use Rattle.std.proofs.Common.{◌≡◌, [], ◌∷◌, ◌++◌, append-nil, refl}
-use Rattle.sum_lines.specs.sinks.Sinks.{SinkState, FailsToFlush, ByteString}
+use Rattle.std.proofs.Common.{◌≡◌, List, [], ◌∷◌, ◌++◌, Result, Ok, Err, refl}
+use Rattle.sum_lines.specs.Sinks.{ByteString, SinkState, Gets, GivesAll}
+use Rattle.sum_lines.specs.Buffers.{BufferState}
+use Rattle.sum_engine.specs.refinement.FlushedWrites.{WritesAndFlushes}
+use Rattle.digests.specs.Program.{WritesLine}
 
 -- nothing has no prefix but nothing
-no_prefix : (prefix rest : ByteString) → [] ≡ prefix ++ rest → prefix ≡ []
+no_prefix : {A : Type 0} (prefix rest : List A) → [] ≡ prefix ++ rest → prefix ≡ []
 no_prefix [] rest h = refl
 no_prefix (b ∷ bs) rest h = cc
 
--- a flush of a sink that buffers nothing writes nothing
-pub flushed-none : (a b held : ByteString) → b ≡ a ++ held → held ≡ [] → b ≡ a
-flushed-none a b held h none = rw (none, append-nil) at h
+-- a flush of a buffer that buffers nothing gives the sink nothing, also if it fails
+pub flushed_none : {E : Type 0} {a : BufferState} (b : SinkState) (r : Result (Unit {0}) E) → GivesAll a.sink b a.buffered r
+    → a.buffered ≡ [] → Gets a.sink b []
+flushed_none b (Ok u) given none = let all = rw none at given in all.0
+flushed_none b (Err e) given none =
+    let (prefix, (rest, is), gets) = rw none at given.0 in
+    rw (no_prefix prefix rest is) at gets
 
--- also if it fails
-pub flush_failed-none : (a b : SinkState) → FailsToFlush a b → a.buffered ≡ [] → b.written ≡ a.written
-flush_failed-none a b h none =
-    let (more, wrote, (rest, is)) = h.written in
-    flushed-none a.written b.written more wrote (no_prefix more rest (rw none at is))
+-- a line was written and flushed, or that failed
+pub writes_line : {E : Type 0} (a b : BufferState) (line : ByteString) (r : Result (Unit {0}) E) → WritesAndFlushes a b line r
+    → a.buffered ≡ [] → WritesLine line a b
+writes_line a b line (Ok u) wrote none = (Ok tt, wrote.gives none)
+writes_line a b line (Err e) wrote none = (Err tt, wrote.gives none)

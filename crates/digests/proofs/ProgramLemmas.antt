@@ -1,6 +1,7 @@
 -- A run and its end, joined: what the whole program does.
 use Rattle.std.proofs.Common.{rules, arith, ◌≡◌, ℕ, List, [], Option, None, Result, Ok, Err, false, sym, refl, ◌∙◌, append-nil}
 use Rattle.sum_words.specs.Texts.{Stop}
+use Rattle.sum_lines.proofs.EventLemmas.{Gets-then}
 use Rattle.sum_engine.specs.Behavior.{World, Event, Behavior, trace, single_step, ByteString}
 use Rattle.sum_engine.specs.Execution.{OutputsState, StreamsState, world_at, IsFlushed, FailuresMatch, Happened, Performs}
 use Rattle.sum_words.specs.CommandLines.{CommandLineValue}
@@ -14,7 +15,11 @@ use Rattle.digests.proofs.MessageLemmas.{Performs-texts, FailuresMatch-texts}
 -- nothing more was done
 Happened-kept : {a b : StreamsState} (es : List Event) (outputs : OutputsState) → Happened a b es
     → KeepsBoth b.outputs outputs → Happened a (record b { outputs = outputs }) es
-Happened-kept {a} {b} es outputs h kept = search rules
+Happened-kept {a} {b} es outputs h kept = record {
+  inputs = h.inputs;
+  err = rw append-nil at (Gets-then h.err kept.1);
+  out = rw append-nil at (Gets-then h.out kept.0);
+}
 
 -- so a run that didn't stop is still done, once both outputs were flushed; or it failed after all events
 Performs-flushed : (run : World → Behavior) (a b : StreamsState) (outputs : OutputsState) (x : ℕ)

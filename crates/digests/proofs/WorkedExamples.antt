@@ -250,7 +250,7 @@ run_in_memory : (a b : StreamsState) (status : ℕ) (r : Result ℕ Stop) → Me
     → IsInMemory two_files empty_content a.inputs → a.inputs.source.openings ≡ [] → a.inputs.stdin.taken ≡ false
     → IsFlushed a.outputs → Performs (meaning Md5sum (words "a e")) status_of a b r
     → ReadsToEndIf (r ≡ Ok 0) a.inputs b.inputs → r ≡ Ok status
-    → (status ≡ 0) × (b.outputs.out.written ≡ a.outputs.out.written ++ two_lines)
+    → (status ≡ 0) × (b.outputs.out.sink.written ≡ a.outputs.out.sink.written ++ two_lines)
 run_in_memory a b status r law told new untaken flushed did reads is =
     let run = meaning Md5sum (words "a e") (world_of two_files empty_content) in
     let same : world_at (world_of two_files empty_content) a.inputs ≡ world_of two_files empty_content =
@@ -259,5 +259,5 @@ run_in_memory a b status r law told new untaken flushed did reads is =
     PerformsSteps run.steps (status_of run.good) a b r) same
     (law Md5sum (words "a e") two_files empty_content a r told flushed did reads) in
     let all = subst (λ (r : Result ℕ Stop). PerformsSteps run.steps (status_of run.good) a b r) is there in
-    let out : b.outputs.out.written ≡ a.outputs.out.written ++ out_text run = (events_extend run a b all.1).2 in
-    (all.0 ∙ ap status_of two_meant.0, out ∙ ap (λ text. a.outputs.out.written ++ text) two_meant.1)
+    let out : b.outputs.out.sink.written ≡ a.outputs.out.sink.written ++ out_text run = (events_extend run a b all.1).2 in
+    (all.0 ∙ ap status_of two_meant.0, out ∙ ap (λ text. a.outputs.out.sink.written ++ text) two_meant.1)

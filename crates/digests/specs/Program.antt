@@ -1,6 +1,7 @@
 -- What the program does, from the list of its arguments to its status.
-use Rattle.std.specs.Prelude.{ℕ, ◌≡◌, ◌+◌, ◌++◌, ◌⊎◌, false, List, [], Option, None, Some, Result, Ok, Err, IfSome}
-use Rattle.sum_lines.specs.sinks.Sinks.{SinkState, IsPrefix}
+use Rattle.std.specs.Prelude.{ℕ, ◌≡◌, ◌⊎◌, false, List, [], ⊤, Option, None, Some, Result, Ok, Err, IfSome}
+use Rattle.sum_lines.specs.Sinks.{GivesAll}
+use Rattle.sum_lines.specs.Buffers.{BufferState}
 use Rattle.sum_engine.specs.Behavior.{World, Behavior, single_step, ByteString}
 use Rattle.sum_engine.specs.Execution.{OutputsState, StreamsState, IsFlushed, FailuresMatch, Performs}
 use Rattle.sum_words.specs.CommandLines.{CommandLineValue, unknown_tool, invoke, command_line, NeedsMemory}
@@ -18,10 +19,9 @@ abbrev pub call_stop_line : Option CommandLineValue → Stop → ByteString
 call_stop_line (Some (invoke tool words)) stop = stop_line tool stop
 call_stop_line line stop = []
 
--- an output wrote a line: all of it, or a prefix if the output failed
-abbrev pub WritesLine : ByteString → SinkState → SinkState → Type 0
-WritesLine line a b = (said : ByteString) × (b.written ≡ a.written ++ said)
-    × (((said ≡ line) × (b.failures ≡ a.failures)) ⊎ (IsPrefix said line × (b.failures ≡ a.failures + 1)))
+-- an output was given a line; or it failed, after a prefix of the line's events
+abbrev pub WritesLine : ByteString → BufferState → BufferState → Type 0
+WritesLine line a b = (r : Result ⊤ ⊤) × GivesAll a.sink b.sink line r
 
 -- a run's status is returned; after a stop, standard error gets its line, and the status is 1
 abbrev pub ReportsStop : (Stop → ByteString) → Result ℕ Stop → OutputsState → OutputsState → ℕ → Type 0

@@ -6,7 +6,7 @@ ghost use Rattle.digests.specs.refinement.FinishRun.{FinishesRun, FlushesBoth, K
 
 use crate::messages::{Message, put_message};
 use sum_engine::{Outputs, Stop};
-use sum_lines::{Sink, SinkFault};
+use sum_lines::{Buffered, Sink, SinkFault};
 use sum_words::Tool;
 
 /// Ends a run with this outcome. It flushes both outputs once more, unless the run stopped. After a stop or a flush
@@ -48,8 +48,12 @@ fn flush_both<O: Sink, E: Sink>(
 }
 
 // If there is a tool, writes the line for a stop, which begins with the tool's name, and flushes it.
-fn put_stop_message<E: Sink>(tool: Option<Tool>, stop: Stop, err: &mut E) -> Result<(), SinkFault>
-    ensures { WritesAndFlushes (E.state err.old) (E.state err.new) (tool_stop_line tool stop) result }
+fn put_stop_message<E: Sink>(
+    tool: Option<Tool>,
+    stop: Stop,
+    err: &mut Buffered<E>,
+) -> Result<(), SinkFault>
+    ensures { WritesAndFlushes err.old err.new (tool_stop_line tool stop) result }
 {
     match tool {
         None => Ok(()),

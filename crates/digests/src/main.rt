@@ -17,7 +17,7 @@ use command::command;
 use standard_input::standard_input;
 use std::process::ExitCode;
 use sum_engine::Streams;
-use sum_lines::{Buffered, FromWrite};
+use sum_lines::FromWrite;
 use sum_sources::{Files, Stdin};
 use sum_words::SystemArguments;
 
@@ -25,8 +25,8 @@ fn main(rt: HostRuntime) -> ExitCode {
     let mut streams = Streams::new(
         Stdin::new(standard_input(rt.stdin())),
         Files::new(rt),
-        Buffered::new(FromWrite::new(rt.stdout())),
-        Buffered::new(FromWrite::new(rt.stderr())),
+        FromWrite::new(rt.stdout()),
+        FromWrite::new(rt.stderr()),
     );
     let status = command(rt.alloc(), &SystemArguments::new(rt), &mut streams);
     ExitCode::from(status)

@@ -1,10 +1,10 @@
 //! Messages: each text that the program writes beside lines and reports, written to an output and flushed.
 ghost use Rattle.std.specs.Prelude.{[]};
-ghost use Rattle.sum_lines.specs.sinks.Sinks.{WritesAll};
+ghost use Rattle.sum_lines.specs.Buffers.{WritesAll};
 ghost use Rattle.sum_engine.specs.refinement.FlushedWrites.{WritesAndFlushes, WritesAndFlushesBoth};
 
 use sum_engine::{Outputs, Stop};
-use sum_lines::{Sink, SinkFault};
+use sum_lines::{Buffered, Sink, SinkFault};
 use sum_words::{
     Tool, WordFault, put_fault, put_help, put_not_read, put_stop, put_unknown, put_version,
 };
@@ -47,17 +47,17 @@ pub(crate) fn put_out_message<O: Sink, E: Sink>(
     put_message(&mut outputs.out, text)
 }
 
-/// Writes a message to a sink and flushes it.
-pub(crate) fn put_message<S: Sink>(sink: &mut S, text: Message) -> Result<(), SinkFault>
-    ensures { WritesAndFlushes (S.state sink.old) (S.state sink.new) (message_text text.entry) result }
+/// Writes a message to a buffer and flushes it.
+pub(crate) fn put_message<S: Sink>(sink: &mut Buffered<S>, text: Message) -> Result<(), SinkFault>
+    ensures { WritesAndFlushes sink.old sink.new (message_text text.entry) result }
 {
     buffer_message(sink, text)?;
     sink.flush()
 }
 
-// Gives the sink a message. The sink may buffer it.
-fn buffer_message<S: Sink>(sink: &mut S, text: Message) -> Result<(), SinkFault>
-    ensures { WritesAll (S.state sink.old) (S.state sink.new) (message_text text.entry) result }
+// Writes a message to a buffer.
+fn buffer_message<S: Sink>(sink: &mut Buffered<S>, text: Message) -> Result<(), SinkFault>
+    ensures { WritesAll sink.old sink.new (message_text text.entry) result }
 {
     match text {
         Message::Fault(tool, fault) => put_fault(sink, tool, fault),

@@ -148,8 +148,16 @@ fn assert_wrote<A: Allocator + Copy, const N: usize>(
     (out, err): (&str, &str),
 ) -> Result<(), Fail> {
     let (out, err) = (spell(rt.alloc(), out)?, spell(rt.alloc(), err)?);
-    assert_eq!(rt; streams.outputs.out.bytes(), out.as_bytes(), "{line}");
-    assert_eq!(rt; streams.outputs.err.bytes(), err.as_bytes(), "{line}");
+    assert_eq!(rt;
+        streams.outputs.out.get_ref().bytes(),
+        out.as_bytes(),
+        "{line}"
+    );
+    assert_eq!(rt;
+        streams.outputs.err.get_ref().bytes(),
+        err.as_bytes(),
+        "{line}"
+    );
     Ok(())
 }
 

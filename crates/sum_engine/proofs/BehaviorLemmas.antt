@@ -2,8 +2,10 @@
 use Rattle.std.proofs.Common.{rules, ◌≡◌, ℕ, Bool, List, [], ◌∷◌, ◌++◌, Option, Result, Ok, Err, refl, ap, sym, ◌∙◌, subst, append_assoc, append-nil, flat_map, filter_map}
 use Rattle.std.proofs.lemmas.Grind.{flat_map-append}
 use Rattle.std.proofs.lemmas.List.Elements.{filter_map-append}
+use Rattle.sum_lines.specs.Sinks.{written_byte}
+use Rattle.sum_lines.proofs.EventLemmas.{output_events-bytes}
 use Rattle.sum_engine.specs.Execution.{Stop, Memory, Write, StreamsState, AsksNames, Agrees, world_at, Happened, PerformsSteps, Performs}
-use Rattle.sum_engine.specs.Behavior.{World, Event, Step, Behavior, trace, events_of, single_step}
+use Rattle.sum_engine.specs.Behavior.{World, Event, OutputEvent, Step, Behavior, trace, events_of, output_events, opened_name, err_event, out_event, single_step}
 use Rattle.sum_engine.specs.check.CheckerSteps.{step_then}
 use Rattle.sum_engine.specs.check.CheckerLaws.{EventsExtend}
 use Rattle.sum_engine.specs.refinement.FlushedWrites.{WritesAndReturns}
@@ -94,7 +96,8 @@ pub Performs-step : {A : Type 0} (run : World → Behavior) (outcome : Bool → 
     → WritesAndReturns a.outputs b.outputs err out (outcome good) x → Performs run outcome a b x
 Performs-step run outcome good a b {names} {err} {out} asked is said = λ flushed w agrees.
     let came = HappenedOrPrefix-by a b names err out said.written asked (said.writes.1 flushed).1 in
-    rw (is w agrees, said.returns) (step_performed (outcome good) a b _ said.written came)
+    let step : Step = record { names = names; err = err; out = out; remaining = 0 } in
+    rw (is w agrees, said.returns) (step_performed (outcome good) a b step said.written came)
 
 -- the source had no memory to open the first step's name
 pub Performs-refused : {A : Type 0} (run : World → Behavior) (outcome : Bool → A) (a b : StreamsState)
@@ -113,6 +116,26 @@ kind_of_events : {X : Type 0} (h : Event → Option X) (part : Step → List X)
 kind_of_events h part one [] = refl
 kind_of_events h part one (s ∷ steps) = search (rules, filter_map-append, kind_of_events h part one steps)
 
+-- the bytes of texts, one after another
+bytes_of_texts : (part : Step → List ℕ) (steps : List Step)
+    → filter_map written_byte (flat_map (λ s. output_events (part s)) steps) ≡ flat_map part steps
+bytes_of_texts part [] = refl
+bytes_of_texts part (s ∷ steps) =
+    let all : List OutputEvent = flat_map (λ s. output_events (part s)) steps in
+    filter_map-append written_byte (output_events (part s)) all
+    ∙ ap (λ l. l ++ filter_map written_byte all) (output_events-bytes (part s))
+    ∙ ap (λ l. part s ++ l) (bytes_of_texts part steps)
+
 -- so what happened of a run extends each output by the run's text there, and asks its names
 pub events_extend : EventsExtend
-events_extend r a b did = search (rules, kind_of_events, names-by, err-by, out-by)
+events_extend r a b did =
+    let names = kind_of_events opened_name (λ s. s.names)
+    (λ s. names-by s.names (output_events s.err) (output_events s.out)) r.steps in
+    let err = kind_of_events err_event (λ s. output_events s.err)
+    (λ s. err-by s.names (output_events s.err) (output_events s.out)) r.steps in
+    let out = kind_of_events out_event (λ s. output_events s.out)
+    (λ s. out-by s.names (output_events s.err) (output_events s.out)) r.steps in (
+      rw names at did.inputs,
+      rw (err, bytes_of_texts (λ s. s.err) r.steps) at did.err.written,
+      rw (out, bytes_of_texts (λ s. s.out) r.steps) at did.out.written,
+    )

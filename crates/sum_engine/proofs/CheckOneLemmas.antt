@@ -6,6 +6,7 @@ use Rattle.sum_sources.specs.Contents.{Reads, IsOf, IsSameInput, HasContent}
 use Rattle.std.proofs.lemmas.List.Elements.{All-cons}
 use Rattle.sum_sources.specs.Sources.{Opening, IsOfAnswer, opened_file, and_opening, after_closing}
 use Rattle.std.proofs.Math.Seq.{set-append_seam}
+use Rattle.sum_lines.proofs.EventLemmas.{Gets-none}
 use Rattle.sum_engine.specs.Behavior.{Fault, World, is_dash, answer_to, after, Step, events_of, Answer, Content, InputState, clip}
 use Rattle.sum_engine.specs.check.CheckerLaws.{ManifestPerforms}
 use Rattle.sum_engine.specs.check.Verdicts.{present}
@@ -98,7 +99,7 @@ module _ (settings : CheckSettings) (tool name : List ℕ) (a : StreamsState) wh
       → (let all = check_behavior settings tool (world_at w a.inputs) name in PerformsSteps all.steps all.good a b x)
   opened dash c m b x w is asked answer ran =
       let did : Happened a (from_inputs m) (events_of (opening name)) =
-      Happened-by (name ∷ []) [] [] asked (sym (append-nil _)) (sym (append-nil _)) in
+      Happened-by (name ∷ []) [] [] asked Gets-none Gets-none in
       let later = world_after w a.inputs m (name ∷ []) asked in
       let of = manifest_behavior (rules_of settings (is_dash name)) (labels_of settings tool name) (clip c)
       (world_at w m) in

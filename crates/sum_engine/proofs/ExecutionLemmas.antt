@@ -2,17 +2,19 @@
 use Rattle.std.proofs.Common.{rules, ◌≡◌, ℕ, List, [], ◌∷◌, ◌++◌, map, Option, None, Some, Result, Ok, Err, refl, sym, ◌∙◌, inl, inr, arith, append_assoc, append-nil, filter_map}
 use Rattle.std.proofs.lemmas.List.{map-append}
 use Rattle.std.proofs.lemmas.List.Elements.{filter_map-append}
-use Rattle.sum_engine.specs.Behavior.{Event, Step, events_of, open_name, write_err, write_out, opened_name, err_byte, out_byte}
-use Rattle.sum_engine.specs.refinement.FlushedWrites.{AppendsPrefix, WritesBoth, outcome_after}
+use Rattle.sum_lines.specs.Sinks.{Gets, GetsPrefix}
+use Rattle.sum_lines.proofs.EventLemmas.{Gets-none, Gets-then}
+use Rattle.sum_engine.specs.Behavior.{Event, Step, events_of, OutputEvent, output_events, open_name, to_err, to_out, opened_name, err_event, out_event}
+use Rattle.sum_engine.specs.refinement.FlushedWrites.{WritesBoth, outcome_after}
 use Rattle.sum_engine.specs.refinement.Names.{MemoryWasRefused}
 use Rattle.sum_engine.specs.Execution.{StreamsState, asked, AsksNames, Stop, Memory, Write, Happened, PrefixHappened, RefusedAt, RunsOutOfMemory, PerformsSteps}
 use Rattle.sum_engine.proofs.WorldLemmas.{asks_none, asks_then}
 
 -- ---- what of a step's events is of each kind
 
--- these names are opened, and then these texts are written, in this order
-abbrev pub events_by : List (List ℕ) → List ℕ → List ℕ → List Event
-events_by names err out = map open_name names ++ (map write_err err ++ map write_out out)
+-- these names are opened, and then these events of the outputs happen, in this order
+abbrev pub events_by : List (List ℕ) → List OutputEvent → List OutputEvent → List Event
+events_by names err out = map open_name names ++ (map to_err err ++ map to_out out)
 
 -- events of the kind that is looked for
 kind-all : {A : Type 0} (f : A → Event) (h : Event → Option A) → ((x : A) → h (f x) ≡ Some x) → (xs : List A)
@@ -27,15 +29,15 @@ kind-none f h none [] = refl
 kind-none f h none (x ∷ xs) = search (rules, kind-none f h none xs)
 
 -- the names
-pub names-by : (names : List (List ℕ)) (err out : List ℕ) → filter_map opened_name (events_by names err out) ≡ names
+pub names-by : (names : List (List ℕ)) (err out : List OutputEvent) → filter_map opened_name (events_by names err out) ≡ names
 names-by names err out = search (rules, filter_map-append, kind-all, kind-none)
 
--- the text on standard error
-pub err-by : (names : List (List ℕ)) (err out : List ℕ) → filter_map err_byte (events_by names err out) ≡ err
+-- what standard error gets
+pub err-by : (names : List (List ℕ)) (err out : List OutputEvent) → filter_map err_event (events_by names err out) ≡ err
 err-by names err out = search (rules, filter_map-append, kind-all, kind-none)
 
--- that on standard output
-pub out-by : (names : List (List ℕ)) (err out : List ℕ) → filter_map out_byte (events_by names err out) ≡ out
+-- what standard output gets
+pub out-by : (names : List (List ℕ)) (err out : List OutputEvent) → filter_map out_event (events_by names err out) ≡ out
 out-by names err out = search (rules, filter_map-append, kind-all, kind-none)
 
 -- ---- what happened
@@ -45,42 +47,41 @@ pub asks_by : {a b : StreamsState} (names : List (List ℕ)) → Happened a b (m
     → AsksNames a.inputs b.inputs names
 asks_by names h = search (rules, kind-all)
 
--- these names were asked and these texts written
-pub Happened-by : {a b : StreamsState} (names : List (List ℕ)) (err out : List ℕ) → AsksNames a.inputs b.inputs names
-    → b.outputs.err.written ≡ a.outputs.err.written ++ err → b.outputs.out.written ≡ a.outputs.out.written ++ out
+-- these names were asked, and the outputs got these events
+pub Happened-by : {a b : StreamsState} (names : List (List ℕ)) (err out : List OutputEvent) → AsksNames a.inputs b.inputs names
+    → Gets a.outputs.err.sink b.outputs.err.sink err → Gets a.outputs.out.sink b.outputs.out.sink out
     → Happened a b (events_by names err out)
 Happened-by names err out h p q = search (rules, names-by, err-by, out-by)
 
 -- nothing
 pub Happened-none : (a : StreamsState) → Happened a a []
-Happened-none a = search (rules, asks_none)
+Happened-none a = search (rules, asks_none, Gets-none)
 
 -- one thing after another
 pub Happened-then : {a b c : StreamsState} (p q : List Event) → Happened a b p → Happened b c q → Happened a c (p ++ q)
 Happened-then {a} {b} {c} p q h k = record {
   inputs = search (rules, asks_then, filter_map-append, h.inputs, k.inputs);
-  err = let first = h.err in let then = k.err in grind (arith, append_assoc, filter_map-append);
-  out = let first = h.out in let then = k.out in grind (arith, append_assoc, filter_map-append);
+  err = rw (filter_map-append err_event p q) (Gets-then h.err k.err);
+  out = rw (filter_map-append out_event p q) (Gets-then h.out k.out);
 }
 
 -- ---- a prefix of it
 
--- the names were asked, and of the text on standard error a prefix was written
-pub prefix_err : {a b : StreamsState} (names : List (List ℕ)) (err out : List ℕ) → AsksNames a.inputs b.inputs names
-    → AppendsPrefix a.outputs.err.written b.outputs.err.written err → b.outputs.out.written ≡ a.outputs.out.written
+-- the names were asked, and standard error got a prefix of its events
+pub prefix_err : {a b : StreamsState} (names : List (List ℕ)) (err out : List OutputEvent) → AsksNames a.inputs b.inputs names
+    → GetsPrefix a.outputs.err.sink b.outputs.err.sink err → b.outputs.out.sink ≡ a.outputs.out.sink
     → PrefixHappened a b (events_by names err out)
 prefix_err {a} names err out asked h same =
-    let rest : List Event = map write_err h.1.0 ++ map write_out out in
-    let did = Happened-by names h.0 [] asked h.2 (same ∙ sym (append-nil a.outputs.out.written)) in
+    let rest : List Event = map to_err h.1.0 ++ map to_out out in
+    let did = Happened-by names h.0 [] asked h.2 (rw same Gets-none) in
     (events_by names h.0 [], (rest, search (rules, map-append, append_assoc)), did)
 
--- all of it was, and a prefix of the text on standard output
-pub prefix_out : {a b : StreamsState} (names : List (List ℕ)) (err out : List ℕ) → AsksNames a.inputs b.inputs names
-    → b.outputs.err.written ≡ a.outputs.err.written ++ err
-    → AppendsPrefix a.outputs.out.written b.outputs.out.written out
+-- it got all of them, and standard output a prefix of its own
+pub prefix_out : {a b : StreamsState} (names : List (List ℕ)) (err out : List OutputEvent) → AsksNames a.inputs b.inputs names
+    → Gets a.outputs.err.sink b.outputs.err.sink err → GetsPrefix a.outputs.out.sink b.outputs.out.sink out
     → PrefixHappened a b (events_by names err out)
 prefix_out names err out asked all h =
-    let rest : List Event = map write_out h.1.0 in
+    let rest : List Event = map to_out h.1.0 in
     (events_by names err h.0, (rest, search (rules, map-append, append_assoc)), Happened-by names err h.0 asked all h.2)
 
 -- what it wrote happened, or a prefix of it if it failed
@@ -91,10 +92,10 @@ HappenedOrPrefix (Err e) a b es = PrefixHappened a b es
 -- the names were asked, and the two texts or a prefix of them were written
 pub HappenedOrPrefix-by : {E : Type 0} (a b : StreamsState) (names : List (List ℕ)) (err out : List ℕ)
     (x : Result (Unit {0}) E) → AsksNames a.inputs b.inputs names → WritesBoth a.outputs b.outputs err out x
-    → HappenedOrPrefix x a b (events_by names err out)
-HappenedOrPrefix-by a b names err out (Ok u) asked h = Happened-by names err out asked h.0 h.1
-HappenedOrPrefix-by a b names err out (Err e) asked (inl h) = prefix_err names err out asked h.0 h.1
-HappenedOrPrefix-by a b names err out (Err e) asked (inr h) = prefix_out names err out asked h.0 h.1
+    → HappenedOrPrefix x a b (events_by names (output_events err) (output_events out))
+HappenedOrPrefix-by a b names err out (Ok u) asked h = Happened-by names _ _ asked h.0 h.1
+HappenedOrPrefix-by a b names err out (Err e) asked (inl h) = prefix_err names _ _ asked h.0 h.1
+HappenedOrPrefix-by a b names err out (Err e) asked (inr h) = prefix_out names _ _ asked h.0 h.1
 
 -- one step was performed, by what came of its events
 pub step_performed : {E A : Type 0} (outcome : A) (a b : StreamsState) (step : Step) (x : Result (Unit {0}) E)

@@ -135,9 +135,10 @@ module _ (r : Rules) (labels : LabelsValue) (c : Content) (w : World) (s : Strea
       let step = last_step r labels end c js in
       let is : e.step ≡ record { names = []; err = end; out = []; remaining = step.0 } =
       search (rules, last, number, step.1) in
-      let did = rw (append-nil (events_of e.step), is) at e.performs.1 in
+      let one_step : Behavior = record { steps = e.step ∷ []; good = true } in
+      let wrote = rw is at (events_extend one_step t z e.performs.1) in
       let all = done_last z e.step e.later (Ok outcome) (along h) e.is e.performs in
-      search (rules, number, length_verdicts, all.0, did, err-by, out-by, names-by)
+      search (rules, number, length_verdicts, all.0, wrote)
 
 -- no vector is longer than its line
 vectors_fit : (r : Rules) (labels : LabelsValue) (a b : CheckState) (s t : StreamsState) (vectors : List (List ℕ))

@@ -2,6 +2,7 @@
 -- may run out.
 use Rattle.std.specs.Prelude.{ℕ, ◌+◌, ◌&&◌, Bool, List, [], ◌∷◌, ◌++◌, map, flat_map, Option, None, Some, codes, Result, Ok, Err, if◌then◌else◌, bytes_eq}
 pub use Rattle.digest_kinds.specs.Bytes.{ByteString}
+pub use Rattle.sum_lines.specs.Sinks.{OutputEvent, output_events}
 use Rattle.digest_kinds.specs.Kinds.{KindValue, digest}
 pub use Rattle.sum_sources.specs.declared.fault.Fault.{Fault}
 pub use Rattle.sum_sources.specs.declared.fault.Ending.{Ending}
@@ -43,10 +44,10 @@ abbrev pub digest_or_fault : KindValue → Answer → Result (ByteString) Fault
 digest_or_fault kind (Err f) = Err f
 digest_or_fault kind (Ok c) = digest_by kind (clip c).bytes (clip c).ending
 
--- a name is opened (`-` is standard input); or a byte is written to standard error, or to standard output
+-- a name is opened (`-` is standard input); or standard error, or standard output, is offered a piece or writes a byte
 pub data Event : Type 0 where
   open_name : ByteString → Event
-  write_err write_out : ℕ → Event
+  to_err to_out : OutputEvent → Event
 
 -- between two points at which memory may run out: at most one name is opened, then `err` is written, then `out`
 pub record Step : Type 0 where
@@ -60,26 +61,26 @@ pub record Behavior : Type 0 where
   pub steps : List Step
   pub good : Bool
 
--- the events of a step, in their order
+-- the events of a step, in their order; each text is offered in one piece, or in pieces of 8,192 bytes
 abbrev pub events_of : Step → List Event
-events_of s = map open_name s.names ++ (map write_err s.err ++ map write_out s.out)
+events_of s = map open_name s.names ++ (map to_err (output_events s.err) ++ map to_out (output_events s.out))
 
 -- the events of steps, one step after another
 abbrev pub trace : List Step → List Event
 trace steps = flat_map events_of steps
 
--- an event as an opened name, as a byte of standard error, or as one of standard output
+-- an event as an opened name, as one of standard error, or as one of standard output
 abbrev pub opened_name : Event → Option (ByteString)
 opened_name (open_name name) = Some name
 opened_name event = None
 
-abbrev pub err_byte : Event → Option ℕ
-err_byte (write_err b) = Some b
-err_byte event = None
+abbrev pub err_event : Event → Option OutputEvent
+err_event (to_err e) = Some e
+err_event event = None
 
-abbrev pub out_byte : Event → Option ℕ
-out_byte (write_out b) = Some b
-out_byte event = None
+abbrev pub out_event : Event → Option OutputEvent
+out_event (to_out e) = Some e
+out_event event = None
 
 -- one behavior after another
 abbrev pub behavior_then : Behavior → Behavior → Behavior

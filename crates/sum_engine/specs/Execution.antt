@@ -6,11 +6,12 @@ pub use Rattle.sum_sources.specs.Sources.{Opening, AnswersAre}
 use Rattle.sum_sources.specs.StandardInput.{given_state}
 use Rattle.sum_sources.specs.declared.inputs.stdin.StdinPlace.{StdinPlace}
 use Rattle.sum_sources.specs.declared.inputs.stdin.StdinPlace.TheVariants.{Untaken, Taken, Returned}
-use Rattle.sum_lines.specs.sinks.Sinks.{SinkState, IsPrefix}
+use Rattle.sum_lines.specs.Sinks.{IsPrefix, Gets}
+use Rattle.sum_lines.specs.Buffers.{BufferState}
 pub use Rattle.sum_engine.specs.declared.streams.Streams.{Streams}
 pub use Rattle.sum_engine.specs.declared.stop.Stop.{Stop}
 pub use Rattle.sum_engine.specs.declared.stop.Stop.TheVariants.{Memory, Write}
-use Rattle.sum_engine.specs.Behavior.{ByteString, World, is_dash, Event, Step, Behavior, trace, opened_name, err_byte, out_byte, Content, Reads, IsOf, empty_content, InputState, SourceState, Fault}
+use Rattle.sum_engine.specs.Behavior.{ByteString, World, is_dash, Event, Step, Behavior, trace, opened_name, err_event, out_event, Content, Reads, IsOf, empty_content, InputState, SourceState, Fault}
 
 -- standard input: its content, if that is in memory; whether it was taken; what was read of it, once it was put back
 pub record StdinState : Type 0 where
@@ -31,8 +32,8 @@ pub record InputsState : Type 0 where
   pub stdin : StdinState
 
 pub record OutputsState : Type 0 where
-  pub out : SinkState
-  pub err : SinkState
+  pub out : BufferState
+  pub err : BufferState
 
 abbrev pub StreamsState : Type 0
 StreamsState = Streams InputsState OutputsState
@@ -43,11 +44,11 @@ IsFlushed m = (m.out.buffered ≡ []) × (m.err.buffered ≡ [])
 
 -- no call of an output failed; or one call of one of them did
 abbrev pub HasNoFailure : OutputsState → OutputsState → Type 0
-HasNoFailure a b = (b.out.failures ≡ a.out.failures) × (b.err.failures ≡ a.err.failures)
+HasNoFailure a b = (b.out.sink.failures ≡ a.out.sink.failures) × (b.err.sink.failures ≡ a.err.sink.failures)
 
 abbrev pub HasOneFailure : OutputsState → OutputsState → Type 0
-HasOneFailure a b = ((b.out.failures ≡ a.out.failures + 1) × (b.err.failures ≡ a.err.failures))
-    ⊎ ((b.out.failures ≡ a.out.failures) × (b.err.failures ≡ a.err.failures + 1))
+HasOneFailure a b = ((b.out.sink.failures ≡ a.out.sink.failures + 1) × (b.err.sink.failures ≡ a.err.sink.failures))
+    ⊎ ((b.out.sink.failures ≡ a.out.sink.failures) × (b.err.sink.failures ≡ a.err.sink.failures + 1))
 
 -- a write fault has one failure more, of one output, and any other result none
 abbrev pub FailuresMatch : {A : Type 0} → OutputsState → OutputsState → Result A Stop → Type 0
@@ -116,11 +117,11 @@ pub record AsksNames (a b : InputsState) (names : List ByteString) : Type 0 wher
   pub taken : b.stdin.taken ≡ a.stdin.taken || list_any is_dash names
   pub refusals : b.source.refusals ≡ a.source.refusals
 
--- these events happened: the names were asked, and the bytes written
+-- these events happened: the names were asked, and each output was offered its pieces and wrote its bytes
 pub record Happened (a b : StreamsState) (es : List Event) : Type 0 where
   pub inputs : AsksNames a.inputs b.inputs (filter_map opened_name es)
-  pub err : b.outputs.err.written ≡ a.outputs.err.written ++ filter_map err_byte es
-  pub out : b.outputs.out.written ≡ a.outputs.out.written ++ filter_map out_byte es
+  pub err : Gets a.outputs.err.sink b.outputs.err.sink (filter_map err_event es)
+  pub out : Gets a.outputs.out.sink b.outputs.out.sink (filter_map out_event es)
 
 -- a prefix of these events happened
 abbrev pub PrefixHappened : StreamsState → StreamsState → List Event → Type 0

@@ -1,5 +1,6 @@
 //! Lines that are written and flushed at once.
 ghost use Rattle.std.specs.Prelude.{◌≡◌, []};
+ghost use Rattle.sum_lines.specs.Buffers.{WritesAll};
 ghost use Rattle.sum_lines.specs.Escape.{present};
 ghost use Rattle.sum_lines.specs.refinement.PartTexts.{parts_text};
 ghost use Rattle.sum_engine.specs.Generation.{tool_line, name_fault_line};
@@ -7,29 +8,44 @@ ghost use Rattle.sum_engine.specs.refinement.FlushedWrites.{WritesAndFlushes, Wr
 
 use crate::stop::Stop;
 use crate::streams::Outputs;
-use sum_lines::{Part, Sink, SinkFault, put_parts};
+use sum_lines::{Buffered, Part, Sink, SinkFault, put_parts};
 use sum_sources::Fault;
 
 /// Writes the parts of a line, one after another, and flushes the sink. If that fails, a prefix of the line was
 /// written.
-pub(crate) fn put_parts_flushed<S: Sink>(sink: &mut S, parts: &[Part]) -> Result<(), SinkFault>
-    ensures { WritesAndFlushes (S.state sink.old) (S.state sink.new) (parts_text parts.now) result }
+pub(crate) fn put_parts_flushed<S: Sink>(
+    sink: &mut Buffered<S>,
+    parts: &[Part],
+) -> Result<(), SinkFault>
+    ensures { WritesAndFlushes sink.old sink.new (parts_text parts.now) result }
 {
     put_parts(sink, parts)?;
     sink.flush()
 }
 
-/// Writes `TOOL: NAME: TEXT`.
+/// Writes `TOOL: NAME: TEXT` and flushes it, as [`put_parts_flushed`].
+pub(crate) fn put_tool_line_flushed<E: Sink>(
+    err: &mut Buffered<E>,
+    tool: &str,
+    name: &[u8],
+    text: &[u8],
+) -> Result<(), SinkFault>
+    ensures { WritesAndFlushes err.old err.new (tool_line present tool.now name.now text.now) result }
+{
+    put_tool_line(err, tool, name, text)?;
+    err.flush()
+}
+
+/// Writes `TOOL: NAME: TEXT`, and doesn't flush it.
 pub(crate) fn put_tool_line<'a, E: Sink>(
-    err: &mut E,
+    err: &mut Buffered<E>,
     tool: &'a str,
     name: &'a [u8],
     text: &'a [u8],
 ) -> Result<(), SinkFault>
-    ensures { WritesAndFlushes (E.state err.old) (E.state err.new)
-        (tool_line present tool.now name.now text.now) result }
+    ensures { WritesAll err.old err.new (tool_line present tool.now name.now text.now) result }
 {
-    put_parts_flushed(
+    put_parts(
         err,
         &[
             Part::Bytes(tool.as_bytes()),
@@ -56,15 +72,14 @@ pub(crate) fn put_name_fault_line<O: Sink, E: Sink>(
 
 /// Writes the line of such a name to this sink.
 pub(crate) fn put_name_fault<E: Sink>(
-    err: &mut E,
+    err: &mut Buffered<E>,
     tool: &str,
     name: &[u8],
     fault: Fault,
 ) -> Result<(), SinkFault>
-    ensures { WritesAndFlushes (E.state err.old) (E.state err.new)
-        (name_fault_line present tool.now name.now fault) result }
+    ensures { WritesAndFlushes err.old err.new (name_fault_line present tool.now name.now fault) result }
 {
-    put_tool_line(err, tool, name, fault.text().as_bytes())
+    put_tool_line_flushed(err, tool, name, fault.text().as_bytes())
 }
 
 /// What a call returns after its text: the outcome if the text was written, and otherwise `Stop::Write`.

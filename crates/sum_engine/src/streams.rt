@@ -1,19 +1,19 @@
 //! The streams of a call.
-ghost use Rattle.std.specs.Prelude.{◌≡◌};
+ghost use Rattle.std.specs.Prelude.{◌≡◌, []};
 ghost use Rattle.sum_engine.specs.Execution.{stdin_of};
 
 use crate::inputs::Inputs;
 use std::marker::Model;
-use sum_lines::Sink;
+use sum_lines::{Buffered, Sink};
 use sum_sources::{Input, Source, Stdin};
 
 /// Both outputs.
 #[derive(Debug, Drop)]
 pub struct Outputs<O: Sink, E: Sink> {
     /// Standard output.
-    pub out: O,
+    pub out: Buffered<O>,
     /// Standard error.
-    pub err: E,
+    pub err: Buffered<E>,
 }
 
 impl<O: Sink, E: Sink> Model for Outputs<O, E> {
@@ -21,7 +21,7 @@ impl<O: Sink, E: Sink> Model for Outputs<O, E> {
 
     ghost Value = { OutputsState };
 
-    ghost view = { λ outputs. record { out = O.state outputs.out; err = E.state outputs.err } };
+    ghost view = { λ outputs. record { out = outputs.out; err = outputs.err } };
 }
 
 /// What a call reads from and writes to. What contracts say of bytes assumes outputs that are flushed at the call.
@@ -34,14 +34,20 @@ pub struct Streams<In, Out> {
 }
 
 impl<I: Input, S: Source, O: Sink, E: Sink> Streams<Inputs<I, S>, Outputs<O, E>> {
-    /// Streams of these parts.
+    /// Streams of these parts, with an empty buffer over each output.
     pub fn new(stdin: Stdin<I>, source: S, out: O, err: E) -> Self
         ensures inputs { result.inputs ≡ record { source = S.state source; stdin = stdin_of I.state stdin } }
-        ensures outputs { result.outputs ≡ record { out = O.state out; err = E.state err } }
+        ensures outputs { result.outputs ≡ record {
+          out = record { sink = O.state out; buffered = [] };
+          err = record { sink = E.state err; buffered = [] };
+        } }
     {
         Streams {
             inputs: Inputs::new(stdin, source),
-            outputs: Outputs { out, err },
+            outputs: Outputs {
+                out: Buffered::new(out),
+                err: Buffered::new(err),
+            },
         }
     }
 }

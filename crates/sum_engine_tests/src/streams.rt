@@ -115,6 +115,6 @@ pub(crate) fn assert_wrote<I: Input, S: Source>(
     out: &str,
     err: &str,
 ) {
-    assert_eq!(rt; streams.outputs.out.bytes(), out.as_bytes());
-    assert_eq!(rt; streams.outputs.err.bytes(), err.as_bytes());
+    assert_eq!(rt; streams.outputs.out.get_ref().bytes(), out.as_bytes());
+    assert_eq!(rt; streams.outputs.err.get_ref().bytes(), err.as_bytes());
 }

@@ -1,5 +1,6 @@
 pub mod Escape
 pub mod grammar
-pub mod sinks
+pub mod Sinks
+pub mod Buffers
 pub mod Lines
 pub mod refinement

@@ -1,10 +1,11 @@
 //! The escape of names in lines and diagnostics.
 ghost use Rattle.std.specs.Prelude.{◌≡◌, ◌≢◌, ◌↔◌, ◌+◌, ◌<◌, ◌≤◌, ◌++◌, ℕ, length, vec_len, take, drop};
 ghost use Rattle.std.specs.Prelude.{slice_index, is_some, true, IfSome, IfNone, MatchOption};
-ghost use Rattle.sum_lines.specs.sinks.Sinks.{ByteString, WritesAll};
-ghost use Rattle.sum_lines.specs.Escape.{present, escape, escape_of, escape_differs};
+ghost use Rattle.sum_lines.specs.Buffers.{WritesAll};
+ghost use Rattle.sum_lines.specs.Escape.{ByteString, present, escape, escape_of, escape_differs};
 
-use crate::sinks::sink::{Sink, SinkFault, put_all};
+use crate::sinks::buffered::{Buffered, put_all};
+use crate::sinks::sink::{Sink, SinkFault};
 use memchr::memchr3;
 use std::alloc::Allocator;
 
@@ -17,8 +18,8 @@ pub fn needs_escape(name: &[u8]) -> bool
 
 /// Writes the escaped name: `\\` for a backslash, `\n` for a newline, `\r` for a carriage return, each other byte as
 /// it is. `SinkFault` as `put_all`.
-pub fn put_escaped<S: Sink>(sink: &mut S, name: &[u8]) -> Result<(), SinkFault>
-    ensures { WritesAll (S.state sink.old) (S.state sink.new) (escape name.now) result }
+pub fn put_escaped<S: Sink>(sink: &mut Buffered<S>, name: &[u8]) -> Result<(), SinkFault>
+    ensures { WritesAll sink.old sink.new (escape name.now) result }
 {
     let mut rest = name;
     while let Some(at) = next_special(rest) {
@@ -42,8 +43,8 @@ fn next_special(name: &[u8]) -> Option<usize>
 }
 
 // Writes the escape of one byte.
-fn put_escape<S: Sink>(sink: &mut S, byte: u8) -> Result<(), SinkFault>
-    ensures { WritesAll (S.state sink.old) (S.state sink.new) (escape_of present byte) result }
+fn put_escape<S: Sink>(sink: &mut Buffered<S>, byte: u8) -> Result<(), SinkFault>
+    ensures { WritesAll sink.old sink.new (escape_of present byte) result }
 {
     match byte {
         b'\\' => put_all(sink, b"\\\\"),

@@ -20,9 +20,9 @@ mod writing;
 
 pub use escape::{needs_escape, put_escaped, unescape_in};
 pub use reading::read_line::{Form, Reading, read_line};
-pub use sinks::buffered::{Buffered, CAPACITY};
+pub use sinks::buffered::{Buffered, CAPACITY, put_all};
 pub use sinks::from_write::FromWrite;
-pub use sinks::sink::{Sink, SinkFault, put_all};
+pub use sinks::sink::{Sink, SinkFault};
 pub use sinks::told_sink::ToldSink;
 pub use sinks::writes::Writes;
 pub use writing::parts::{Part, put_number, put_parts};

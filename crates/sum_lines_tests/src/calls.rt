@@ -3,23 +3,23 @@
 
 use std::alloc::Global;
 use std::test::Fail;
-use sum_lines::{Sink, SinkFault, ToldSink, put_all};
+use sum_lines::{Buffered, Sink, SinkFault, ToldSink, put_all};
 
 pub(crate) fn offer(sink: &mut impl Sink, piece: &[u8]) -> Result<usize, SinkFault> {
     sink.write(piece)
 }
 
-pub(crate) fn put(sink: &mut impl Sink, bytes: &[u8]) -> Result<(), SinkFault> {
+pub(crate) fn put(sink: &mut Buffered<impl Sink>, bytes: &[u8]) -> Result<(), SinkFault> {
     put_all(sink, bytes)
 }
 
-pub(crate) fn flush(sink: &mut impl Sink) -> Result<(), SinkFault> {
+pub(crate) fn flush(sink: &mut Buffered<impl Sink>) -> Result<(), SinkFault> {
     sink.flush()
 }
 
-// A sink in memory that stops after so many bytes.
-pub(crate) fn known_sink(stop: usize) -> ToldSink<256> {
-    ToldSink::new(stop)
+// A buffer over a sink in memory that stops after so many bytes.
+pub(crate) fn known_sink(stop: usize) -> Buffered<ToldSink<256>> {
+    Buffered::new(ToldSink::new(stop))
 }
 
 // A text with the digests that it names: MD5 of `abc` and of nothing, SHA-256 of `abc`, and BLAKE2b of nothing, of 32

@@ -110,10 +110,10 @@ fn a_flush_is_asked_once(rt: HostRuntime) {
         (ErrorKind::Interrupted, Ok(())),
         (ErrorKind::StorageFull, Err(SinkFault)),
     ] {
-        let mut sink = FromWrite::new(writer_of(&rt, 2, 0..0, kind));
+        let mut sink = Buffered::new(FromWrite::new(writer_of(&rt, 2, 0..0, kind)));
         assert_eq!(rt; put(&mut sink, b"abc"), Ok(()));
         assert_eq!(rt; flush(&mut sink), answer);
-        let writer = sink.into_inner();
+        let writer = sink.into_inner().into_inner();
         assert_eq!(rt; (writer.writes, writer.offered, writer.flushes), (2, 4, 1));
         assert_eq!(rt; writer.bytes.as_slice(), b"abc".as_slice());
         // of a buffer that holds nothing, too
@@ -135,7 +135,7 @@ fn what_is_buffered_is_one_piece(rt: HostRuntime) {
         assert_eq!(rt; put(&mut buffer, b"abc"), Ok(()));
         assert_eq!(rt; put(&mut buffer, b"de\n"), Ok(()));
         assert_eq!(rt; flush(&mut buffer), answer);
-        assert_eq!(rt; offer(&mut buffer, b"f"), Ok(1));
+        assert_eq!(rt; put(&mut buffer, b"f"), Ok(()));
         assert_eq!(rt; flush(&mut buffer), Ok(()));
         let _ = buffer.into_inner();
         assert_eq!(rt; (writer.bytes.as_slice(), writer.writes), (bytes, writes));

@@ -1,13 +1,13 @@
 //! Worked examples of lines that are written, and of names that are read back.
 
-use crate::calls::{known_sink, put, spell};
+use crate::calls::{flush, known_sink, put, spell};
 use digest_kinds::{Algo, Digest, Kind};
 use std::alloc::Global;
 use std::process::Abort;
 use std::test::Fail;
 use sum_lines::{
-    Mode, Part, SinkFault, Style, ToldSink, mark_and_name, needs_escape, put_escaped, put_line,
-    put_number, put_parts, unescape_in,
+    Buffered, Mode, Part, SinkFault, Style, ToldSink, mark_and_name, needs_escape, put_escaped,
+    put_line, put_number, put_parts, unescape_in,
 };
 
 const TEXT: Style = Style {
@@ -30,10 +30,10 @@ const ZERO: Style = Style {
     zero: true,
 };
 
-// Writes the line of a digest and a name.
+// Writes the line of a digest and a name, and flushes it.
 fn put_example(
     rt: &(impl Abort + AllocGlobal),
-    sink: &mut ToldSink<256>,
+    sink: &mut Buffered<ToldSink<256>>,
     style: Style,
     kind: Kind,
     (digits, name): (&str, &[u8]),
@@ -41,7 +41,8 @@ fn put_example(
     let digits = spell(rt.alloc(), digits)?;
     let digest = Digest::from_hex(digits.as_bytes()).ok_or("digits")?;
     assert_eq!(rt; digest.as_slice().len(), kind.len());
-    Ok(put_line(sink, style, kind, name, &digest))
+    let written = put_line(sink, style, kind, name, &digest);
+    Ok(written.and_then(|()| flush(sink)))
 }
 
 // That is this line; and a sink that stops after each count of bytes up to the line's length has so much of it.
@@ -60,7 +61,7 @@ fn check_example(
         let whole = stop == want.len();
         let wanted = if whole { Ok(()) } else { Err(SinkFault) };
         assert_eq!(rt; answer, wanted, "{line}, up to {stop}");
-        assert_eq!(rt; sink.bytes(), &want[..stop], "{line}");
+        assert_eq!(rt; sink.get_ref().bytes(), &want[..stop], "{line}");
     }
     Ok(())
 }
@@ -130,7 +131,7 @@ fn escaped_names_are_read_back(rt: HostRuntime) -> Result<(), Fail> {
 }
 
 // Puts the parts in their order, and what else is written for a name.
-fn put_all_parts(sink: &mut ToldSink<256>) -> Result<(), SinkFault> {
+fn put_all_parts(sink: &mut Buffered<ToldSink<256>>) -> Result<(), SinkFault> {
     let (mark, name) = mark_and_name(b"\n");
     put_parts(
         sink,
@@ -146,7 +147,7 @@ fn put_all_parts(sink: &mut ToldSink<256>) -> Result<(), SinkFault> {
         put_number(sink, number)?;
         put(sink, b" ")?;
     }
-    Ok(())
+    flush(sink)
 }
 
 #[test]
@@ -154,6 +155,6 @@ fn parts_of_texts(rt: HostRuntime) {
     let mut sink = known_sink(256);
     assert_eq!(rt; put_all_parts(&mut sink), Ok(()));
     let text = b"\\\\na\n7\\\\a\\n\\rb0 10 18446744073709551615 ".as_slice();
-    assert_eq!(rt; sink.bytes(), text);
+    assert_eq!(rt; sink.get_ref().bytes(), text);
     assert!(rt; needs_escape(b"a\r") && !needs_escape(b"a b\tn\0\x7f"));
 }

@@ -3,7 +3,7 @@ use crate::words::words_and;
 use std::alloc::Global;
 use std::test::Fail;
 use sum_engine::Stop;
-use sum_lines::ToldSink;
+use sum_lines::{Buffered, ToldSink};
 use sum_words::{
     Tool, UnknownTool, Words, put_fault, put_help, put_not_read, put_stop, put_unknown,
     put_version, read_words,
@@ -27,34 +27,35 @@ fn tools(rt: HostRuntime) -> Result<(), Fail> {
 
 // The lines of a run that ends early, of the version, and of no tool and no words. Without a contract, so that a test
 // knows no more of them than it sees.
-fn put_lines(sink: &mut ToldSink<256>) -> Result<(), Fail> {
-    put_stop(sink, Tool::Sha256sum, Stop::Write)?;
-    put_stop(sink, Tool::Sha256sum, Stop::Memory)?;
-    put_version(sink, Tool::Sha1sum)?;
-    put_unknown(sink)?;
-    put_not_read(sink)?;
-    Ok(())
+fn put_lines() -> Result<ToldSink<256>, Fail> {
+    let mut sink = Buffered::new(ToldSink::new(256));
+    put_stop(&mut sink, Tool::Sha256sum, Stop::Write)?;
+    put_stop(&mut sink, Tool::Sha256sum, Stop::Memory)?;
+    put_version(&mut sink, Tool::Sha1sum)?;
+    put_unknown(&mut sink)?;
+    put_not_read(&mut sink)?;
+    sink.flush()?;
+    Ok(sink.into_inner())
 }
 
 #[test]
 fn lines(rt: HostRuntime) -> Result<(), Fail> {
-    let mut sink = ToldSink::new(256);
-    put_lines(&mut sink)?;
     let lines = b"sha256sum: write error\n\
         sha256sum: memory exhausted\n\
         sha1sum (digests), profile 2\n\
         digests: unknown tool\n\
         digests: words not read\n"
         .as_slice();
-    assert_eq!(rt; sink.bytes(), lines);
+    assert_eq!(rt; put_lines()?.bytes(), lines);
     Ok(())
 }
 
 // The help of a tool. Without a contract, as above.
 fn help_of(tool: Tool) -> Result<ToldSink<1024>, Fail> {
-    let mut out = ToldSink::new(1024);
+    let mut out = Buffered::new(ToldSink::new(1024));
     put_help(&mut out, tool)?;
-    Ok(out)
+    out.flush()?;
+    Ok(out.into_inner())
 }
 
 // How it begins: the tests of the program have all of it.
@@ -70,12 +71,13 @@ fn help(rt: HostRuntime) -> Result<(), Fail> {
 
 // The lines of the fault that words have. Without a contract, as above.
 fn lines_of_fault(tool: Tool, words: &Words<Global>) -> Result<ToldSink<256>, Fail> {
-    let mut err = ToldSink::new(256);
+    let mut err = Buffered::new(ToldSink::new(256));
     match read_words(tool, words) {
         Ok(_) => return Err(Fail::from("no fault")),
         Err(fault) => put_fault(&mut err, tool, &fault)?,
     }
-    Ok(err)
+    err.flush()?;
+    Ok(err.into_inner())
 }
 
 // Each fault. What was typed is escaped.

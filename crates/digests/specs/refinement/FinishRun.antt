@@ -1,5 +1,6 @@
 -- Relates what a run returned to the end of the program.
 use Rattle.std.specs.Prelude.{ℕ, ◌≡◌, [], Option, None, Some, Result, Ok, Err}
+use Rattle.sum_lines.specs.Sinks.{Gets}
 use Rattle.sum_engine.specs.Execution.{OutputsState, IsFlushed, HasNoFailure, HasOneFailure}
 use Rattle.sum_engine.specs.refinement.FlushedWrites.{WritesAndReturns}
 use Rattle.sum_words.specs.Items.{ByteString}
@@ -18,9 +19,9 @@ FlushesBoth a b (Ok status) (Ok other) = (other ≡ status) × HasNoFailure a b
 FlushesBoth a b (Ok status) (Err stop) = (stop ≡ Write) × HasOneFailure a b
 FlushesBoth a b (Err stop) r = (r ≡ Err stop) × (b ≡ a)
 
--- nothing more was written
+-- neither output got anything more
 abbrev pub KeepsBoth : OutputsState → OutputsState → Type 0
-KeepsBoth a b = (b.out.written ≡ a.out.written) × (b.err.written ≡ a.err.written)
+KeepsBoth a b = Gets a.out.sink b.out.sink [] × Gets a.err.sink b.err.sink []
 
 -- the end of a run with this outcome: both outputs are flushed, and then a stop is reported
 abbrev pub FinishesRun : (Stop → ByteString) → Result ℕ Stop → OutputsState → OutputsState → ℕ → Type 0

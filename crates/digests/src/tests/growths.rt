@@ -30,8 +30,8 @@ fn place_of<A: Allocator + Copy>(
 ) -> Result<usize, Fail> {
     let outputs = &streams.outputs;
     for (i, (out, err, count)) in places.iter().enumerate() {
-        if outputs.out.bytes() == spell(alloc, out)?.as_bytes()
-            && outputs.err.bytes() == spell(alloc, err)?.as_bytes()
+        if outputs.out.get_ref().bytes() == spell(alloc, out)?.as_bytes()
+            && outputs.err.get_ref().bytes() == spell(alloc, err)?.as_bytes()
             && asked(streams, names.get(..*count).ok_or("names")?)
         {
             return Ok(i);

@@ -7,7 +7,7 @@ use std::io::{self, ErrorKind, Write};
 use std::process::Abort;
 use std::test::Fail;
 use sum_engine::{Inputs, Outputs, Streams};
-use sum_lines::{Buffered, FromWrite, Sink, ToldSink};
+use sum_lines::{FromWrite, Sink, ToldSink};
 use sum_sources::{Answer, Ending, Stdin, Told, ToldSource};
 use sum_words::ToldArguments;
 
@@ -40,12 +40,12 @@ fn call<A: Allocator + Copy, O: Sink + Drop, E: Sink + Drop>(
     );
     let status = status_of(heap, arguments, &mut streams);
     let Outputs { out, err } = streams.outputs;
-    Ok((out, err, status))
+    Ok((out.into_inner(), err.into_inner(), status))
 }
 
-// An output like the program's own.
-fn output() -> Buffered<ToldSink<256>> {
-    Buffered::new(ToldSink::new(256))
+// An output in memory.
+fn output() -> ToldSink<256> {
+    ToldSink::new(256)
 }
 
 // What the program writes on each output, and its status, if the words have the memory of this heap.
@@ -54,8 +54,7 @@ fn ends<A: Allocator + Copy>(
     heap: A,
     arguments: &[&[u8]],
 ) -> Result<(ToldSink<256>, ToldSink<256>, u8), Fail> {
-    let (out, err, status) = call(alloc, heap, arguments, (output(), output()))?;
-    Ok((out.into_inner(), err.into_inner(), status))
+    call(alloc, heap, arguments, (output(), output()))
 }
 
 #[test]
@@ -129,15 +128,12 @@ impl Write for LosesAll {
 #[test]
 fn flushed_once_more(rt: HostRuntime) -> Result<(), Fail> {
     let silent: [&[u8]; 4] = [b"md5sum", b"-c", b"--status", b"l"];
-    let lost = || Buffered::new(FromWrite::new(LosesAll));
+    let lost = || FromWrite::new(LosesAll);
     let (_, err, status) = call(rt.alloc(), rt.alloc(), &silent, (lost(), output()))?;
     assert_eq!(rt; status, 1);
-    assert_eq!(rt;
-        err.into_inner().bytes(),
-        b"md5sum: write error\n".as_slice()
-    );
+    assert_eq!(rt; err.bytes(), b"md5sum: write error\n".as_slice());
     let (out, _, status) = call(rt.alloc(), rt.alloc(), &silent, (output(), lost()))?;
     assert_eq!(rt; status, 1);
-    assert!(rt; out.into_inner().bytes().is_empty());
+    assert!(rt; out.bytes().is_empty());
     Ok(())
 }

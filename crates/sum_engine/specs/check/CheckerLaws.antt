@@ -27,8 +27,8 @@ ManifestPerforms r labels s t a b x = IsFlushed a.outputs → s.reads ≡ unread
 abbrev pub EventsExtend : Type 0
 EventsExtend = (r : Behavior) (a b : StreamsState) → Happened a b (trace r.steps)
     → AsksNames a.inputs b.inputs (asks r)
-    × (b.outputs.err.written ≡ a.outputs.err.written ++ (err_text r))
-    × (b.outputs.out.written ≡ a.outputs.out.written ++ (out_text r))
+    × (b.outputs.err.sink.written ≡ a.outputs.err.sink.written ++ (err_text r))
+    × (b.outputs.out.sink.written ≡ a.outputs.out.sink.written ++ (out_text r))
 
 -- steps that each returned Going, one after another; the line's vector then held these
 abbrev pub StepsGoing : Rules → LabelsValue → CheckState → CheckState → StreamsState → StreamsState → List ByteString
@@ -42,16 +42,16 @@ pub record EndsManifest (r : Rules) (labels : LabelsValue) (c : Content) (js : L
     (a b : StreamsState) (outcome : Bool) : Type 0 where
   pub lines : k ≡ length (lines_under r.profile c)
   pub good : outcome ≡ good r c.ending (counts_of js)
-  pub err : b.outputs.err.written ≡ a.outputs.err.written ++ end_text r labels c.ending (counts_of js)
-  pub out : b.outputs.out.written ≡ a.outputs.out.written
+  pub err : b.outputs.err.sink.written ≡ a.outputs.err.sink.written ++ end_text r labels c.ending (counts_of js)
+  pub out : b.outputs.out.sink.written ≡ a.outputs.out.sink.written
   pub asked : AsksNames a.inputs b.inputs []
 
 -- STEP BY STEP, for a manifest c that has these verdicts, once k steps returned Going
 pub record AfterSteps (r : Rules) (labels : LabelsValue) (c : Content) (js : List LineVerdictValue) (k : ℕ)
     (vectors : List ByteString) (b : CheckState) (s t : StreamsState) : Type 0 where
   -- both outputs grew by exactly the reports of the first k lines, whose names were asked
-  pub err : t.outputs.err.written ≡ s.outputs.err.written ++ flat_map (err_of r labels) (take k js)
-  pub out : t.outputs.out.written ≡ s.outputs.out.written ++ flat_map (out_of r labels) (take k js)
+  pub err : t.outputs.err.sink.written ≡ s.outputs.err.sink.written ++ flat_map (err_of r labels) (take k js)
+  pub out : t.outputs.out.sink.written ≡ s.outputs.out.sink.written ++ flat_map (out_of r labels) (take k js)
   pub asked : AsksNames s.inputs t.inputs (flat_map asks_of (take k js))
   -- what the input gave goes at most 8192 bytes beyond the end of line k
   pub taken : b.taken + length (past_lines k c).bytes ≤ length c.bytes + 8192

@@ -12,7 +12,7 @@ use crate::put_flushed::{put_name_fault, put_parts_flushed};
 use crate::settings::Report;
 use crate::streams::Outputs;
 use digest_kinds::Algos;
-use sum_lines::{Part, Sink, SinkFault, mark_and_name};
+use sum_lines::{Buffered, Part, Sink, SinkFault, mark_and_name};
 
 /// Writes what is reported of a line with this number, verdict and name: first to `err`, and then to `out`.
 pub(crate) fn put_report<O: Sink, E: Sink>(
@@ -32,12 +32,12 @@ pub(crate) fn put_report<O: Sink, E: Sink>(
 }
 
 fn put_out<O: Sink>(
-    out: &mut O,
+    out: &mut Buffered<O>,
     report: Report,
     verdict: Verdict,
     name: &[u8],
 ) -> Result<(), SinkFault>
-    ensures { WritesAndFlushes (O.state out.old) (O.state out.new) (out_by present report verdict name.now) result }
+    ensures { WritesAndFlushes out.old out.new (out_by present report verdict name.now) result }
 {
     match (report, verdict) {
         (Report::Status, _) | (Report::Quiet, Verdict::Right) => Ok(()),
@@ -45,8 +45,12 @@ fn put_out<O: Sink>(
     }
 }
 
-fn put_verdict<O: Sink>(out: &mut O, verdict: Verdict, name: &[u8]) -> Result<(), SinkFault>
-    ensures { WritesAndFlushes (O.state out.old) (O.state out.new) (verdict_line present verdict name.now) result }
+fn put_verdict<O: Sink>(
+    out: &mut Buffered<O>,
+    verdict: Verdict,
+    name: &[u8],
+) -> Result<(), SinkFault>
+    ensures { WritesAndFlushes out.old out.new (verdict_line present verdict name.now) result }
 {
     match verdict {
         Verdict::Ignored | Verdict::Bad | Verdict::Missing => Ok(()),
@@ -57,8 +61,12 @@ fn put_verdict<O: Sink>(out: &mut O, verdict: Verdict, name: &[u8]) -> Result<()
 }
 
 // Writes the name, as a line begins with it, and what follows it.
-fn put_name_line<'a, O: Sink>(out: &mut O, name: &'a [u8], text: &'a [u8]) -> Result<(), SinkFault>
-    ensures { WritesAndFlushes (O.state out.old) (O.state out.new)
+fn put_name_line<'a, O: Sink>(
+    out: &mut Buffered<O>,
+    name: &'a [u8],
+    text: &'a [u8],
+) -> Result<(), SinkFault>
+    ensures { WritesAndFlushes out.old out.new
         (concat (mark (escape_differs present name.now) ∷ escape name.now ∷ text.now ∷ [])) result }
 {
     let (mark, name) = mark_and_name(name);
@@ -66,14 +74,14 @@ fn put_name_line<'a, O: Sink>(out: &mut O, name: &'a [u8], text: &'a [u8]) -> Re
 }
 
 fn put_err<E: Sink>(
-    err: &mut E,
+    err: &mut Buffered<E>,
     rules: CheckRules,
     labels: &Labels,
     number: u64,
     verdict: Verdict,
     name: &[u8],
 ) -> Result<(), SinkFault>
-    ensures { WritesAndFlushes (E.state err.old) (E.state err.new)
+    ensures { WritesAndFlushes err.old err.new
         (err_by rules labels.now number verdict name.now) result }
 {
     // Read, so that the proof sees the profile of these rules.
@@ -89,12 +97,12 @@ fn put_err<E: Sink>(
 }
 
 fn put_bad_line<E: Sink>(
-    err: &mut E,
+    err: &mut Buffered<E>,
     rules: CheckRules,
     labels: &Labels,
     number: u64,
 ) -> Result<(), SinkFault>
-    ensures { WritesAndFlushes (E.state err.old) (E.state err.new)
+    ensures { WritesAndFlushes err.old err.new
         (bad_line rules labels.now number) result }
 {
     let word = tag_word(rules.algo);

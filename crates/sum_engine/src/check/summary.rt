@@ -3,10 +3,10 @@ ghost use Rattle.std.specs.Prelude.{◌≡◌, ◌<◌, ◌^◌, []};
 
 use crate::check::judge::Verdict;
 use crate::check::rules::{CheckRules, Labels};
-use crate::put_flushed::{put_parts_flushed, put_tool_line};
+use crate::put_flushed::{put_tool_line, put_tool_line_flushed};
 use crate::settings::Report;
 use crate::streams::Outputs;
-use sum_lines::{Part, Sink, SinkFault};
+use sum_lines::{Buffered, Part, Sink, SinkFault, put_parts};
 
 /// How many lines of a manifest have each verdict but `Ignored`.
 #[derive(Clone, Copy, Debug, PartialEq, Eq)]
@@ -18,6 +18,7 @@ pub(crate) struct Counts {
     pub bad: u64,
 }
 
+ghost use Rattle.sum_lines.specs.Buffers.{WritesAll};
 ghost use Rattle.sum_engine.specs.check.Reports.{warning, warnings, unverified_line, end_text, good, entries};
 ghost use Rattle.sum_engine.specs.check.CheckStates.{counts_with};
 ghost use Rattle.sum_engine.specs.check.CheckStates.{total};
@@ -84,35 +85,46 @@ pub(crate) fn put_summary<O: Sink, E: Sink>(
 }
 
 fn put_end<E: Sink>(
-    err: &mut E,
+    err: &mut Buffered<E>,
     rules: CheckRules,
     labels: &Labels,
     counts: Counts,
 ) -> Result<(), SinkFault>
     requires { total counts < 2 ^ 63 }
-    ensures { WritesAndFlushes (E.state err.old) (E.state err.new)
+    ensures { WritesAndFlushes err.old err.new
         (end_text rules labels.now Whole counts) result }
 {
     // Read, so that the proof sees the profile of these rules.
     let _algos = rules.algo;
     if counts.entries() == 0 {
         let text = b"no properly formatted checksum lines found";
-        return put_tool_line(err, labels.tool, labels.manifest, text);
+        return put_tool_line_flushed(err, labels.tool, labels.manifest, text);
     }
     match labels.report {
         Report::Status => Ok(()),
-        _ => put_warnings(err, rules, labels, counts),
+        _ => put_warnings_flushed(err, rules, labels, counts),
     }
 }
 
-fn put_warnings<E: Sink>(
-    err: &mut E,
+fn put_warnings_flushed<E: Sink>(
+    err: &mut Buffered<E>,
     rules: CheckRules,
     labels: &Labels,
     counts: Counts,
 ) -> Result<(), SinkFault>
-    ensures { WritesAndFlushes (E.state err.old) (E.state err.new)
-        (warnings rules labels.now counts) result }
+    ensures { WritesAndFlushes err.old err.new (warnings rules labels.now counts) result }
+{
+    put_warnings(err, rules, labels, counts)?;
+    err.flush()
+}
+
+fn put_warnings<E: Sink>(
+    err: &mut Buffered<E>,
+    rules: CheckRules,
+    labels: &Labels,
+    counts: Counts,
+) -> Result<(), SinkFault>
+    ensures { WritesAll err.old err.new (warnings rules labels.now counts) result }
 {
     put_warning(
         err,
@@ -139,20 +151,19 @@ fn put_warnings<E: Sink>(
 }
 
 fn put_warning<'a, E: Sink>(
-    err: &mut E,
+    err: &mut Buffered<E>,
     labels: &'a Labels<'a>,
     count: u64,
     one: &'a [u8],
     many: &'a [u8],
 ) -> Result<(), SinkFault>
-    ensures { WritesAndFlushes (E.state err.old) (E.state err.new)
-        (warning labels.now.tool count one.now many.now) result }
+    ensures { WritesAll err.old err.new (warning labels.now.tool count one.now many.now) result }
 {
     if count == 0 {
         return Ok(());
     }
     let text = if count == 1 { one } else { many };
-    put_parts_flushed(
+    put_parts(
         err,
         &[
             Part::Bytes(labels.tool.as_bytes()),
@@ -165,13 +176,12 @@ fn put_warning<'a, E: Sink>(
 }
 
 fn put_unverified<E: Sink>(
-    err: &mut E,
+    err: &mut Buffered<E>,
     rules: CheckRules,
     labels: &Labels,
     counts: Counts,
 ) -> Result<(), SinkFault>
-    ensures { WritesAndFlushes (E.state err.old) (E.state err.new)
-        (unverified_line rules labels.now counts) result }
+    ensures { WritesAll err.old err.new (unverified_line rules labels.now counts) result }
 {
     if rules.ignore_missing && counts.right == 0 {
         return put_tool_line(err, labels.tool, labels.manifest, b"no file was verified");

@@ -1,22 +1,22 @@
--- Joins the calls of a sink: how a buffer is flushed, and the states of the sinks.
-use Rattle.std.specs.Prelude.{ℕ, ◌-◌, ◌++◌, [], take, ⊤, Option, None, unwrap_or, Result, Ok, Err}
-use Rattle.sum_lines.specs.sinks.Sinks.{ByteString, SinkState, Accepts, FailsToFlush}
+-- Joins the calls of a buffer, and the states of the sinks to their logs.
+use Rattle.std.specs.Prelude.{ℕ, ◌≡◌, ◌<◌, ◌≤◌, ◌-◌, [], ◌++◌, length, take, ⊤, Option, unwrap_or, Result, Ok, Err, ◌⊎◌, IsOk}
+use Rattle.sum_lines.specs.Sinks.{ByteString, SinkState, GivesAll}
+use Rattle.sum_lines.specs.Buffers.{BufferState, Accepts, FailsToWrite}
 use Rattle.sum_lines.specs.declared.sinks.told_sink.ToldSink.{ToldSink}
-use Rattle.sum_lines.specs.declared.sinks.writes.Writes.{Writes}
 
--- the buffer is written to the sink below, or that fails; no new bytes are accepted
-abbrev pub FlushesBuffer : {E : Type 0} → SinkState → SinkState → Result ⊤ E → Type 0
-FlushesBuffer a b (Ok u) = Accepts a b []
-FlushesBuffer a b (Err e) = FailsToFlush a b
+-- a full buffer is given to the sink; any other one has room, and stays
+abbrev pub MakesRoom : {E : Type 0} → BufferState → BufferState → Result ⊤ E → Type 0
+MakesRoom a b r = ((length a.buffered ≡ 8192) × (b.buffered ≡ []) × GivesAll a.sink b.sink a.buffered r)
+    ⊎ ((length a.buffered < 8192) × (b ≡ a) × IsOk r)
 
--- the state of a sink that buffers nothing: what its writer held at first, if that is known, and then its log
-abbrev pub over_writer : Option ByteString → Writes → SinkState
-over_writer held log =
-    record { written = unwrap_or held [] ++ log.written; buffered = []; failures = log.failures }
+-- a call that accepts the first bytes of a piece, or fails
+abbrev pub AcceptsSome : {E : Type 0} → BufferState → BufferState → ByteString → Result ℕ E → Type 0
+AcceptsSome a b piece (Ok n) = (n ≤ length piece) × (0 < n) × Accepts a b (take n piece)
+AcceptsSome a b piece (Err e) = FailsToWrite a b piece
 
--- the same, without a writer
-abbrev pub log_state : Writes → SinkState
-log_state log = over_writer None log
+-- the state of a sink over a writer: what the writer held at first, if that is known, and then the log
+abbrev pub over_writer : Option ByteString → SinkState → SinkState
+over_writer held log = record log { written = unwrap_or held [] ++ log.written }
 
 -- ---- a ToldSink
 
@@ -28,6 +28,6 @@ bytes_of s = take s.len s.bytes
 abbrev pub remaining_capacity : {N : ℕ} → ToldSink N → ℕ
 remaining_capacity s = s.limit - s.len
 
--- its state as a sink: it buffers nothing
+-- its state as a sink
 abbrev pub told_sink_state : {N : ℕ} → ToldSink N → SinkState
-told_sink_state s = record (log_state s.log) { written = bytes_of s }
+told_sink_state s = record s.log.state { written = bytes_of s }

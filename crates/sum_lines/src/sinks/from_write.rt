@@ -8,14 +8,14 @@ use digest_kinds::INTERRUPTIONS;
 use std::io::{ErrorKind, Write};
 use std::snapshot::Snapshot;
 
-/// A sink that writes its bytes to a writer, and buffers none.
+/// A sink that writes its bytes to a writer.
 #[derive(Drop)]
 pub struct FromWrite<W: Write> {
     writer: W,
     // the writer as it was at first, and what it took since: only proofs see them
     first: Snapshot<W>,
     log: Writes,
-    ghost known: { ForSome (W.contents first.value) (λ bytes. W.contents writer ≡ Some (bytes ++ log.written)) },
+    ghost known: { ForSome (W.contents first.value) (λ bytes. W.contents writer ≡ Some (bytes ++ log.state.written)) },
 }
 
 impl<W: Write> FromWrite<W> {
@@ -24,7 +24,7 @@ impl<W: Write> FromWrite<W> {
     /// A sink over the writer. It has written what the writer is known to hold.
     pub fn new(writer: W) -> Self
         ensures { ⟦<FromWrite<W> as Sink>⟧.state result
-            ≡ record { written = unwrap_or (W.contents writer) []; buffered = []; failures = 0 } }
+            ≡ record { offered = []; written = unwrap_or (W.contents writer) []; failures = 0 } }
     {
         FromWrite {
             first: Snapshot::of(&writer),
@@ -33,11 +33,11 @@ impl<W: Write> FromWrite<W> {
         }
     }
 
-    /// The writer. Nothing is lost, since this sink buffers no bytes.
+    /// The writer.
     pub fn into_inner(self) -> W
         ensures writer { result ≡ self.writer }
         ensures known { ForSome (W.contents self.first.value) (λ bytes.
-            W.contents result ≡ Some (over_writer (W.contents self.first.value) self.log).written) }
+            W.contents result ≡ Some (over_writer (W.contents self.first.value) self.log.state).written) }
     {
         self.writer
     }
@@ -46,7 +46,7 @@ impl<W: Write> FromWrite<W> {
     fn fault(&mut self) -> SinkFault
         ensures writer { self.new.writer ≡ self.old.writer }
         ensures first { self.new.first ≡ self.old.first }
-        ensures log { self.new.log ≡ record self.old.log { failures = self.old.log.failures + 1 } }
+        ensures log { self.new.log.state ≡ record self.old.log.state { failures = self.old.log.state.failures + 1 } }
     {
         self.log = self.log.and_failure();
         SinkFault
@@ -56,19 +56,20 @@ impl<W: Write> FromWrite<W> {
 impl<W: Write> Sink for FromWrite<W> {
     ghost use Rattle.sum_lines.specs.refinement.SinkStates.{over_writer};
 
-    ghost state = { λ s. over_writer (W.contents s.first.value) s.log };
+    ghost state = { λ s. over_writer (W.contents s.first.value) s.log.state };
 
     /// Writes a piece that isn't empty to the writer, again after each interruption. `SinkFault` if the writer fails,
     /// accepts nothing of it, or is interrupted for the 1,000th time in a row ([`INTERRUPTIONS`]).
     fn write(&mut self, piece: &[u8]) -> Result<usize, SinkFault> {
         if piece.is_empty() {
+            self.log = self.log.and(piece, &[]);
             return Ok(0);
         }
         for _ in 0..INTERRUPTIONS {
             match self.writer.write(piece) {
                 Ok(0) => break,
                 Ok(count) => {
-                    self.log = self.log.and(&piece[..count]);
+                    self.log = self.log.and(piece, &piece[..count]);
                     return Ok(count);
                 }
                 Err(error) => {
@@ -78,6 +79,7 @@ impl<W: Write> Sink for FromWrite<W> {
                 }
             }
         }
+        self.log = self.log.and(piece, &[]);
         Err(self.fault())
     }
 

@@ -41,7 +41,7 @@ impl<const N: usize> ToldSink<N> {
 
 impl<const N: usize> Sink for ToldSink<N> {
     ghost use Rattle.std.specs.Prelude.{Ok};
-    ghost use Rattle.sum_lines.specs.sinks.Sinks.{WritesSome, Flushes};
+    ghost use Rattle.sum_lines.specs.Sinks.{WritesSome, Flushes};
     ghost use Rattle.sum_lines.specs.refinement.SinkStates.{remaining_capacity, told_sink_state};
 
     ghost state = { told_sink_state };
@@ -58,20 +58,22 @@ impl<const N: usize> Sink for ToldSink<N> {
         ensures room_on_err { OnErr result (remaining_capacity self.new ≡ remaining_capacity self.old) }
     {
         if piece.is_empty() {
+            self.log = self.log.and(piece, &[]);
             return Ok(0);
         }
         let count = piece.len().min(self.limit - self.len);
         if count == 0 {
-            self.log = self.log.and_failure();
+            self.log = self.log.and(piece, &[]).and_failure();
             return Err(SinkFault);
         }
         let bytes = &mut self.bytes[..];
         bytes[self.len..self.len + count].copy_from_slice(&piece[..count]);
         self.len += count;
+        self.log = self.log.and(piece, &piece[..count]);
         Ok(count)
     }
 
-    /// Nothing is ever buffered: it succeeds and changes nothing.
+    /// It succeeds and changes nothing.
     fn flush(&mut self) -> Result<(), SinkFault>
         ensures ok { result ≡ Ok tt }
         ensures same { self.new ≡ self.old }

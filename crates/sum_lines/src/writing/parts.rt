@@ -1,12 +1,14 @@
 //! Texts written in parts.
 ghost use Rattle.std.specs.Prelude.{decimal};
-ghost use Rattle.sum_lines.specs.sinks.Sinks.{WritesAll};
+ghost use Rattle.sum_lines.specs.Buffers.{WritesAll};
 
 use crate::escape::put_escaped;
-use crate::sinks::sink::{Sink, SinkFault, put_all};
+use crate::sinks::buffered::{Buffered, put_all};
+use crate::sinks::sink::{Sink, SinkFault};
 use itoa::Buffer;
 
 /// A part of a text.
+#[doc(hidden)]
 #[derive(Clone, Copy, Debug)]
 pub enum Part<'a> {
     /// These bytes, as they are.
@@ -20,8 +22,9 @@ pub enum Part<'a> {
 ghost use Rattle.sum_lines.specs.refinement.PartTexts.{part_text, parts_text};
 
 /// Writes the parts, one after another. `SinkFault` as `put_all`.
-pub fn put_parts<S: Sink>(sink: &mut S, parts: &[Part]) -> Result<(), SinkFault>
-    ensures { WritesAll (S.state sink.old) (S.state sink.new) (parts_text parts.now) result }
+#[doc(hidden)]
+pub fn put_parts<S: Sink>(sink: &mut Buffered<S>, parts: &[Part]) -> Result<(), SinkFault>
+    ensures { WritesAll sink.old sink.new (parts_text parts.now) result }
 {
     for part in parts {
         put_part(sink, *part)?;
@@ -30,8 +33,8 @@ pub fn put_parts<S: Sink>(sink: &mut S, parts: &[Part]) -> Result<(), SinkFault>
 }
 
 // Writes one part.
-fn put_part<S: Sink>(sink: &mut S, part: Part) -> Result<(), SinkFault>
-    ensures { WritesAll (S.state sink.old) (S.state sink.new) (part_text part.entry) result }
+fn put_part<S: Sink>(sink: &mut Buffered<S>, part: Part) -> Result<(), SinkFault>
+    ensures { WritesAll sink.old sink.new (part_text part.entry) result }
 {
     match part {
         Part::Bytes(bytes) => put_all(sink, bytes),
@@ -41,8 +44,8 @@ fn put_part<S: Sink>(sink: &mut S, part: Part) -> Result<(), SinkFault>
 }
 
 /// Writes the number's decimal digits, without a leading zero. `SinkFault` as `put_all`.
-pub fn put_number<S: Sink>(sink: &mut S, number: u64) -> Result<(), SinkFault>
-    ensures { WritesAll (S.state sink.old) (S.state sink.new) (decimal number) result }
+pub fn put_number<S: Sink>(sink: &mut Buffered<S>, number: u64) -> Result<(), SinkFault>
+    ensures { WritesAll sink.old sink.new (decimal number) result }
 {
     let mut buffer = Buffer::new();
     put_all(sink, buffer.format(number).as_bytes())

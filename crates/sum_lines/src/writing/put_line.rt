@@ -1,9 +1,10 @@
 //! The line that is written for a name and its digest.
 ghost use Rattle.std.specs.Prelude.{◌≡◌, length};
-ghost use Rattle.sum_lines.specs.sinks.Sinks.{WritesAll};
+ghost use Rattle.sum_lines.specs.Buffers.{WritesAll};
 
 use crate::escape::needs_escape;
-use crate::sinks::sink::{Sink, SinkFault, put_all};
+use crate::sinks::buffered::{Buffered, put_all};
+use crate::sinks::sink::{Sink, SinkFault};
 use crate::writing::parts::{Part, put_parts};
 use digest_kinds::{Digest, Kind};
 
@@ -33,18 +34,18 @@ ghost use Rattle.sum_lines.specs.refinement.PartTexts.{part_text};
 ghost use Rattle.sum_lines.specs.Escape.{present, escape, escape_differs};
 ghost use Rattle.sum_lines.specs.grammar.Shapes.{mark};
 
-/// Gives the sink the line of a name and its digest. The digest has the kind's length. The sink may buffer the line.
+/// Writes the line of a name and its digest to the buffer. The digest has the kind's length.
 /// `SinkFault` as `put_all`.
 #[tactic(auto, using(crate::proofs::SinkLemmas::writes_then))]
 pub fn put_line<S: Sink>(
-    sink: &mut S,
+    sink: &mut Buffered<S>,
     style: Style,
     kind: Kind,
     name: &[u8],
     digest: &Digest,
 ) -> Result<(), SinkFault>
     requires { length digest.now ≡ kind.len }
-    ensures { WritesAll (S.state sink.old) (S.state sink.new) (line style kind name.now digest.now) result }
+    ensures { WritesAll sink.old sink.new (line style kind name.now digest.now) result }
 {
     let mut buffer = [0; 128];
     let digits = digits_of(digest, &mut buffer);
@@ -68,6 +69,7 @@ fn digits_of<'a>(digest: &Digest, buffer: &'a mut [u8; 128]) -> &'a [u8]
 
 /// What begins a line, a backslash or nothing; and the name, escaped. A name that is its own escape is searched only
 /// once.
+#[doc(hidden)]
 pub fn mark_and_name(name: &[u8]) -> (&'static [u8], Part<'_>)
     ensures mark { result.0.now ≡ mark (escape_differs present name.now) }
     ensures name { part_text result.1 ≡ escape name.now }
@@ -82,13 +84,13 @@ pub fn mark_and_name(name: &[u8]) -> (&'static [u8], Part<'_>)
 // Writes a line without its end and without the backslash that may begin it.
 #[tactic(auto, using(crate::proofs::SinkLemmas::writes_then))]
 fn put_layout<'a, S: Sink>(
-    sink: &mut S,
+    sink: &mut Buffered<S>,
     mode: Mode,
     kind: Kind,
     name: Part<'a>,
     digits: &'a [u8],
 ) -> Result<(), SinkFault>
-    ensures { WritesAll (S.state sink.old) (S.state sink.new) (layout mode kind (part_text name.entry) digits.now)
+    ensures { WritesAll sink.old sink.new (layout mode kind (part_text name.entry) digits.now)
         result }
 {
     let digits = Part::Bytes(digits);

@@ -1,6 +1,6 @@
 //! The help and the version text.
 ghost use Rattle.std.specs.Prelude.{◌≡◌, ◌-◌, ◌∷◌, ◌++◌, [], codes, filter, flat_map, if◌then◌else◌, replicate};
-ghost use Rattle.sum_lines.specs.sinks.Sinks.{WritesAll};
+ghost use Rattle.sum_lines.specs.Buffers.{WritesAll};
 ghost use Rattle.sum_lines.specs.refinement.PartTexts.{part_text};
 ghost use Rattle.sum_words.specs.Items.{has_option, takes_value};
 ghost use Rattle.sum_words.specs.Texts.{help, help_line, letter_column, purpose, version};
@@ -9,11 +9,11 @@ ghost use Rattle.sum_words.specs.Tools.{algos_of};
 use crate::parsing::options::{Flag, all_flags, has_option};
 use crate::tool::Tool;
 use digest_kinds::Algos;
-use sum_lines::{Part, Sink, SinkFault, put_all, put_parts};
+use sum_lines::{Buffered, Part, Sink, SinkFault, put_all, put_parts};
 
-/// Gives the sink the help text. The sink may buffer it. `SinkFault` as [`sum_lines::put_all`].
-pub fn put_help<O: Sink>(out: &mut O, tool: Tool) -> Result<(), SinkFault>
-    ensures { WritesAll (O.state out.old) (O.state out.new) (help tool) result }
+/// Writes the help text to the buffer. `SinkFault` as [`sum_lines::put_all`].
+pub fn put_help<O: Sink>(out: &mut Buffered<O>, tool: Tool) -> Result<(), SinkFault>
+    ensures { WritesAll out.old out.new (help tool) result }
 {
     let usage = Part::Bytes(b"Usage: ");
     let name = Part::Bytes(tool.name().as_bytes());
@@ -39,10 +39,9 @@ fn purpose(tool: Tool) -> (Part<'static>, Part<'static>, Part<'static>)
     )
 }
 
-// Gives the sink the lines of those of these options that the tool has.
-fn put_options<O: Sink>(out: &mut O, tool: Tool, flags: &[Flag]) -> Result<(), SinkFault>
-    ensures { WritesAll (O.state out.old) (O.state out.new)
-        (flat_map help_line (filter (has_option tool) flags.now)) result }
+// Writes the lines of those of these options that the tool has.
+fn put_options<O: Sink>(out: &mut Buffered<O>, tool: Tool, flags: &[Flag]) -> Result<(), SinkFault>
+    ensures { WritesAll out.old out.new (flat_map help_line (filter (has_option tool) flags.now)) result }
 {
     for flag in flags {
         put_option(out, tool, *flag)?;
@@ -50,10 +49,9 @@ fn put_options<O: Sink>(out: &mut O, tool: Tool, flags: &[Flag]) -> Result<(), S
     Ok(())
 }
 
-// Gives the sink the line of an option, if the tool has it.
-fn put_option<O: Sink>(out: &mut O, tool: Tool, flag: Flag) -> Result<(), SinkFault>
-    ensures { WritesAll (O.state out.old) (O.state out.new)
-        (flat_map help_line (filter (has_option tool) (flag ∷ []))) result }
+// Writes the line of an option, if the tool has it.
+fn put_option<O: Sink>(out: &mut Buffered<O>, tool: Tool, flag: Flag) -> Result<(), SinkFault>
+    ensures { WritesAll out.old out.new (flat_map help_line (filter (has_option tool) (flag ∷ []))) result }
 {
     if !has_option(tool, flag) {
         return put_all(out, b"");
@@ -64,16 +62,16 @@ fn put_option<O: Sink>(out: &mut O, tool: Tool, flag: Flag) -> Result<(), SinkFa
     }
 }
 
-// Gives the sink the line of an option: its letter between these bytes, its name in 18 columns, and its text.
+// Writes the line of an option: its letter between these bytes, its name in 18 columns, and its text.
 fn put_row<'a, O: Sink>(
-    out: &mut O,
+    out: &mut Buffered<O>,
     flag: Flag,
     prefix: &'a [u8],
     letter: &'a [u8],
     suffix: &'a [u8],
 ) -> Result<(), SinkFault>
     requires { prefix.now ++ letter.now ++ suffix.now ≡ letter_column flag }
-    ensures { WritesAll (O.state out.old) (O.state out.new) (help_line flag) result }
+    ensures { WritesAll out.old out.new (help_line flag) result }
 {
     let row = flag.row();
     let value = value_column(flag);
@@ -110,9 +108,9 @@ fn padding(columns: usize) -> &'static [u8]
 
 static SPACES: [u8; 18] = [b' '; 18];
 
-/// Gives the sink the version text. The sink may buffer it. `SinkFault` as [`sum_lines::put_all`].
-pub fn put_version<O: Sink>(out: &mut O, tool: Tool) -> Result<(), SinkFault>
-    ensures { WritesAll (O.state out.old) (O.state out.new) (version tool) result }
+/// Writes the version text to the buffer. `SinkFault` as [`sum_lines::put_all`].
+pub fn put_version<O: Sink>(out: &mut Buffered<O>, tool: Tool) -> Result<(), SinkFault>
+    ensures { WritesAll out.old out.new (version tool) result }
 {
     let name = Part::Bytes(tool.name().as_bytes());
     put_parts(out, &[name, Part::Bytes(b" (digests), profile 2\n")])

@@ -1,6 +1,6 @@
 //! The lines for an unknown tool, for words that could not be read, and for a stop.
 ghost use Rattle.std.specs.Prelude.{◌≡◌, ◌++◌};
-ghost use Rattle.sum_lines.specs.sinks.Sinks.{WritesAll};
+ghost use Rattle.sum_lines.specs.Buffers.{WritesAll};
 ghost use Rattle.sum_lines.specs.refinement.PartTexts.{part_text};
 ghost use Rattle.sum_words.specs.declared.tool.Tool.{Tool};
 ghost use Rattle.sum_words.specs.Tools.{name_of};
@@ -8,27 +8,25 @@ ghost use Rattle.sum_words.specs.Texts.{stop_line, unknown_tool_line, not_read_l
 
 use crate::tool::Tool;
 use sum_engine::Stop;
-use sum_lines::{Part, Sink, SinkFault, put_all, put_parts};
+use sum_lines::{Buffered, Part, Sink, SinkFault, put_all, put_parts};
 
-/// Gives the sink the line for an unknown or missing tool. The sink may buffer it. `SinkFault` as
-/// [`sum_lines::put_all`].
-pub fn put_unknown<E: Sink>(err: &mut E) -> Result<(), SinkFault>
-    ensures { WritesAll (E.state err.old) (E.state err.new) unknown_tool_line result }
+/// Writes the line for an unknown or missing tool to the buffer. `SinkFault` as [`sum_lines::put_all`].
+pub fn put_unknown<E: Sink>(err: &mut Buffered<E>) -> Result<(), SinkFault>
+    ensures { WritesAll err.old err.new unknown_tool_line result }
 {
     put_all(err, b"digests: unknown tool\n")
 }
 
-/// Gives the sink the line for words that could not be read. The sink may buffer it. `SinkFault` as
-/// [`sum_lines::put_all`].
-pub fn put_not_read<E: Sink>(err: &mut E) -> Result<(), SinkFault>
-    ensures { WritesAll (E.state err.old) (E.state err.new) not_read_line result }
+/// Writes the line for words that could not be read to the buffer. `SinkFault` as [`sum_lines::put_all`].
+pub fn put_not_read<E: Sink>(err: &mut Buffered<E>) -> Result<(), SinkFault>
+    ensures { WritesAll err.old err.new not_read_line result }
 {
     put_all(err, b"digests: words not read\n")
 }
 
-/// Gives the sink the line for a stop of a tool's run. The sink may buffer it. `SinkFault` as [`sum_lines::put_all`].
-pub fn put_stop<E: Sink>(err: &mut E, tool: Tool, stop: Stop) -> Result<(), SinkFault>
-    ensures { WritesAll (E.state err.old) (E.state err.new) (stop_line tool stop) result }
+/// Writes the line for a stop of a tool's run to the buffer. `SinkFault` as [`sum_lines::put_all`].
+pub fn put_stop<E: Sink>(err: &mut Buffered<E>, tool: Tool, stop: Stop) -> Result<(), SinkFault>
+    ensures { WritesAll err.old err.new (stop_line tool stop) result }
 {
     let name = Part::Bytes(tool.name().as_bytes());
     put_parts(err, &[name, after_name(stop)])

@@ -1,6 +1,6 @@
 //! The faults of words, and the two lines that report one.
 ghost use Rattle.std.specs.Prelude.{◌≡◌, ◌++◌};
-ghost use Rattle.sum_lines.specs.sinks.Sinks.{WritesAll};
+ghost use Rattle.sum_lines.specs.Buffers.{WritesAll};
 ghost use Rattle.sum_lines.specs.refinement.PartTexts.{part_text};
 ghost use Rattle.sum_words.specs.WordFaults.{WordFaultValue, wording};
 ghost use Rattle.sum_words.specs.refinement.ItemIterator.{word_fault_value};
@@ -8,7 +8,7 @@ ghost use Rattle.sum_words.specs.Texts.{fault_lines};
 
 use crate::parsing::options::Spelling;
 use crate::tool::Tool;
-use sum_lines::{Part, Sink, SinkFault, put_parts};
+use sum_lines::{Buffered, Part, Sink, SinkFault, put_parts};
 
 /// A fault in the words, with what its text shows. The first five variants and the last concern a single word: the
 /// earliest in the command line counts. The others are tried after them, in the order of the variants.
@@ -52,25 +52,29 @@ pub enum WordFault<'a> {
     NotText(&'a [u8]),
 }
 
-/// Gives the sink the two lines of a fault. The sink may buffer them. `SinkFault` as [`sum_lines::put_all`].
-pub fn put_fault<E: Sink>(err: &mut E, tool: Tool, fault: &WordFault<'_>) -> Result<(), SinkFault>
-    ensures { WritesAll (E.state err.old) (E.state err.new) (fault_lines tool (word_fault_value fault.now)) result }
+/// Writes the two lines of a fault to the buffer. `SinkFault` as [`sum_lines::put_all`].
+pub fn put_fault<E: Sink>(
+    err: &mut Buffered<E>,
+    tool: Tool,
+    fault: &WordFault<'_>,
+) -> Result<(), SinkFault>
+    ensures { WritesAll err.old err.new (fault_lines tool (word_fault_value fault.now)) result }
 {
     let mut buffer = [0; 4];
     let (prefix, shown, suffix) = wording(*fault, &mut buffer);
     put_lines(err, tool, prefix, shown, suffix)
 }
 
-// Gives the sink the two lines of the fault whose text has these parts.
+// Writes the two lines of the fault whose text has these parts.
 fn put_lines<'a, E: Sink>(
-    err: &mut E,
+    err: &mut Buffered<E>,
     tool: Tool,
     prefix: &'a str,
     shown: Part<'a>,
     suffix: &'a str,
 ) -> Result<(), SinkFault>
     ensures { (f : WordFaultValue) → prefix.now ++ part_text shown.entry ++ suffix.now ≡ wording f →
-        WritesAll (E.state err.old) (E.state err.new) (fault_lines tool f) result }
+        WritesAll err.old err.new (fault_lines tool f) result }
 {
     let name = Part::Bytes(tool.name().as_bytes());
     let colon = Part::Bytes(b": ");

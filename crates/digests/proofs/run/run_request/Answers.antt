@@ -1,4 +1,5 @@
 use Rattle.std.proofs.Common.{true, false, []}
+use Rattle.sum_words.specs.Texts.{help, version}
 use Rattle.sum_engine.proofs.FlushedWriteLemmas.{writes_and_returns}
 use Rattle.digests.proofs.MessageLemmas.{Performs-texts}
 use Rattle.digests.proofs.run.run_request.Goals as goal
@@ -14,12 +15,12 @@ returns-in-Err-clause-behavior g c =
 pub returns-in-Ok-Help-clause-behavior : goal.returns-in-Ok-Help-clause-behavior
 returns-in-Ok-Help-clause-behavior g c =
     let wrote = c.put_out_message in
-    rw (c.in-Ok-Help.is, c.in-Ok-Help.field-0-is) (Performs-texts c.args.streams.now _ [] _ true _
+    rw (c.in-Ok-Help.is, c.in-Ok-Help.field-0-is) (Performs-texts c.args.streams.now _ [] (help c.args.tool) true _
     (writes_and_returns wrote.result c.status_after_write-in-Ok-Help.ensures wrote.ensures))
 
 -- the version likewise
 pub returns-in-Ok-Version-clause-behavior : goal.returns-in-Ok-Version-clause-behavior
 returns-in-Ok-Version-clause-behavior g c =
     let wrote = c.put_out_message-in-Ok-Version in
-    rw (c.in-Ok-Version.is, c.in-Ok-Version.field-0-is) (Performs-texts c.args.streams.now _ [] _ true
+    rw (c.in-Ok-Version.is, c.in-Ok-Version.field-0-is) (Performs-texts c.args.streams.now _ [] (version c.args.tool) true
     _ (writes_and_returns wrote.result c.status_after_write-in-Ok-Version.ensures wrote.ensures))

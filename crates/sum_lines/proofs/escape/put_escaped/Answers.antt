@@ -1,15 +1,19 @@
 use Rattle.std.proofs.Common.{refl}
 use Rattle.std.proofs.lemmas.Result.{err_from_is_err_and}
-use Rattle.sum_lines.proofs.SinkLemmas.{HasLeft-step, HasLeft-stop, HasLeft-last}
+use Rattle.sum_lines.proofs.SinkLemmas.{HasLeft-all, HasLeft-step, HasLeft-stop, HasLeft-last}
 use Rattle.sum_lines.proofs.EscapeLemmas.{escape-parts}
 use Rattle.sum_lines.proofs.escape.put_escaped.Goals as goal
+
+-- nothing is written yet
+pub loop-at-init : goal.loop-at-init
+loop-at-init g c = HasLeft-all
 
 -- the bytes up to the first special one failed
 pub returns-in_err-put_all : goal.returns-in_err-put_all
 returns-in_err-put_all g c =
     let failed = err_from_is_err_and c.from_residual.result c.from_residual.ensures.1 in
     let cut = escape-parts _ _ c.split_at.ensures.front c.split_at.ensures.back c.in-Some.ensures.cut in
-    rw failed.1 (HasLeft-stop _ c.loop-at.invariant cut c.in_err-put_all.ensures.text)
+    rw failed.1 (HasLeft-stop _ c.loop-at.invariant cut c.in_err-put_all.ensures)
 
 -- they were written, and the escape of the special byte failed
 pub returns-in_err-put_escape : goal.returns-in_err-put_escape
@@ -17,18 +21,18 @@ returns-in_err-put_escape g c =
     let result = c.from_residual-in_err-put_escape in
     let failed = err_from_is_err_and result.result result.ensures.1 in
     let cut = escape-parts _ _ c.split_at.ensures.front c.split_at.ensures.back c.in-Some.ensures.cut in
-    let plain = HasLeft-step _ c.loop-at.invariant cut c.in_ok-put_all.ensures.text in
+    let plain = HasLeft-step _ c.loop-at.invariant cut c.in_ok-put_all.ensures in
     rw failed.1 (HasLeft-stop _ plain refl c.in_err-put_escape.ensures)
 
 -- both were written
 pub loop-at-preserved : goal.loop-at-preserved
 loop-at-preserved g c =
     let cut = escape-parts _ _ c.split_at.ensures.front c.split_at.ensures.back c.in-Some.ensures.cut in
-    let plain = HasLeft-step _ c.loop-at.invariant cut c.in_ok-put_all.ensures.text in
+    let plain = HasLeft-step _ c.loop-at.invariant cut c.in_ok-put_all.ensures in
     HasLeft-step _ plain refl c.in_ok-put_escape.ensures
 
 -- no special byte is left: the rest is written as it is
 pub returns : goal.returns
 returns g c =
     let left = rw c.in_default.ensures.cut at c.loop-at.invariant in
-    HasLeft-last _ c.put_all-2.result left c.put_all-2.ensures.text
+    HasLeft-last _ c.put_all-2.result left c.put_all-2.ensures

@@ -5,7 +5,7 @@ use Rattle.sum_lines.proofs.escape.put_escaped.Given as goal
 
 abbrev pub invariant-loop-at : goal.invariant-loop-at
 invariant-loop-at g l =
-    HasLeft (g.S.Sink.state l.fn.sink) (g.S.Sink.state l.sink) (escape l.name) (escape l.rest)
+    HasLeft l.fn.sink l.sink (escape l.name) (escape l.rest)
 
 abbrev pub decreases-loop-at : goal.decreases-loop-at
 decreases-loop-at g l = length l.rest

@@ -21,9 +21,9 @@ pub returns-in_default : goal.returns-in_default
 returns-in_default g c =
     let shown = end_text-shown c.args.rules c.args.labels.now c.args.counts
     (λ e. c.if-entries-eq0.false (c.entries.ensures ∙ e)) (rw (← c.labels.view_is) c.in_default.not-Status) in
-    rw shown c.put_warnings.ensures
+    rw shown c.put_warnings_flushed.ensures
 
 -- there are none
 pub returns-then-entries-eq0 : goal.returns-then-entries-eq0
 returns-then-entries-eq0 g c =
-    rw (← c.rules.view_is, ← c.labels.view_is, ← c.entries.ensures, c.if-entries-eq0.true) c.put_tool_line.ensures
+    rw (← c.rules.view_is, ← c.labels.view_is, ← c.entries.ensures, c.if-entries-eq0.true) c.put_tool_line_flushed.ensures

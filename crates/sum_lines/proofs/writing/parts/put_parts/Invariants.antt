@@ -5,5 +5,5 @@ use Rattle.sum_lines.proofs.writing.parts.put_parts.Given as goal
 
 abbrev pub invariant-loop-part : goal.invariant-loop-part
 invariant-loop-part g l =
-    HasLeft (g.S.Sink.state l.fn.sink) (g.S.Sink.state l.sink) (parts_text l.parts)
+    HasLeft l.fn.sink l.sink (parts_text l.parts)
     (parts_text (drop l.part-index l.parts))

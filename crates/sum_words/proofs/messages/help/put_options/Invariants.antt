@@ -6,5 +6,4 @@ use Rattle.sum_words.proofs.messages.help.put_options.Given as goal
 -- the lines of the remaining options are left
 abbrev pub invariant-loop-flag : goal.invariant-loop-flag
 invariant-loop-flag g l =
-    HasLeft (g.O.Sink.state l.fn.out) (g.O.Sink.state l.out) (option_lines l.tool l.flags)
-    (option_lines l.tool (drop l.flag-index l.flags))
+    HasLeft l.fn.out l.out (option_lines l.tool l.flags) (option_lines l.tool (drop l.flag-index l.flags))

@@ -1,11 +1,10 @@
 use Rattle.std.proofs.Common.{arith, subst}
 use Rattle.std.proofs.lemmas.Grind.{common_steps}
-use Rattle.sum_lines.specs.sinks.Sinks.{WritesAll}
+use Rattle.sum_lines.specs.Buffers.{WritesAll}
 use Rattle.sum_words.proofs.messages.help.put_row.Goals as goal
 
 -- the parts make the line
 pub returns : goal.returns
 returns g c =
-    let state = g.O.Sink.state in
-    subst (λ line. WritesAll (state c.args.out.now) (state c.put_parts.new.sink) line c.put_parts.result)
+    subst (λ line. WritesAll c.args.out.now c.put_parts.new.sink line c.put_parts.result)
     (grind (arith, common_steps)) c.put_parts.ensures

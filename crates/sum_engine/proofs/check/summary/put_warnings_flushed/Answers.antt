@@ -1,0 +1,10 @@
+use Rattle.sum_engine.proofs.FlushedWriteLemmas.{written_flushed, not_flushed}
+use Rattle.sum_engine.proofs.check.summary.put_warnings_flushed.Goals as goal
+
+pub returns-in_err-put_warnings : goal.returns-in_err-put_warnings
+returns-in_err-put_warnings g c = not_flushed _ _ c.in_err-put_warnings.ensures c.from_residual.ensures.0
+
+-- the warnings were written, and then the sink was flushed
+pub returns : goal.returns
+returns g c =
+    written_flushed _ _ c.flush.result c.in_ok-put_warnings.ensures c.flush.ensures.gives c.flush.ensures.flushed
