@@ -1,10 +1,9 @@
 -- The state of a reader of lines, and what a call changes in it.
-use Rattle.std.specs.Prelude.{ℕ, ◌≡◌, ◌+◌, ◌-◌, ◌^◌, ◌<◌, ◌≤◌, ◌⊎◌, ◌++◌, length, drop, Option, None, Some, Result, Ok, Err, OnOk}
+use Rattle.std.specs.Prelude.{ℕ, ◌≡◌, ◌+◌, ◌-◌, ◌^◌, ◌≤◌, ◌⊎◌, ◌++◌, length, drop, Option, None, Some, Result, Ok, OnOk}
 use Rattle.sum_sources.specs.Contents.{Content, InputState, IsOf, IsSameInput, clip}
-use Rattle.sum_sources.specs.Faults.{Fault, ByteString}
+use Rattle.sum_sources.specs.Faults.{ByteString}
 use Rattle.sum_sources.specs.ManifestLines.{Next, Line, NoMore, LineStop, HasNoNewline, IsNextLine, lines_after}
 use Rattle.sum_sources.specs.Phases.{Unfinished, AtEnd, Past}
-use Rattle.sum_sources.specs.declared.line_reader.LineStop.TheVariants as stops
 
 -- a reader of lines
 pub record LineReaderValue (I : Type 0) : Type 0 where
@@ -23,8 +22,6 @@ pub record IsBounded {I : Type 0} (r : LineReaderValue I) : Type 0 where
   pub lines : r.lines + length r.ahead ≤ r.taken
   pub ahead : length r.ahead ≤ 8192
   pub taken : r.taken ≤ 2 ^ 61
-  -- only a fault may come at the limit
-  pub under : (r.taken < 2 ^ 61) ⊎ ((f : Fault) × (r.final_answer ≡ Some (Err (stops.Fault f))))
 
 -- a content past its first n bytes
 abbrev pub past : ℕ → Content → Content

@@ -3,4 +3,3 @@ pub mod LimitedReads
 pub mod LineStates
 pub mod ToldPairs
 pub mod ToldSteps
-pub mod ToldValues

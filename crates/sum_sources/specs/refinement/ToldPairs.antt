@@ -1,9 +1,11 @@
--- Views of the answers and pairs of a source in memory, and what its fields keep.
+-- Views of inputs in memory, and of the answers and pairs of a source in memory; and what its fields keep.
 use Rattle.std.specs.Prelude.{◌≡◌, Bool, true, false, Ok, Err, List, [], ◌∷◌, ◌++◌, map}
+use Rattle.sum_sources.specs.declared.inputs.told.Told.{Told}
 use Rattle.sum_sources.specs.declared.sources.told_source.Answer.{Answer as ToldAnswer}
 use Rattle.sum_sources.specs.declared.sources.told_source.StoredPair.{StoredPair}
 use Rattle.sum_sources.specs.Faults.{ByteString}
 use Rattle.sum_sources.specs.Sources.{Answer, Opening, Pair, first_answer}
+use Rattle.sum_sources.specs.StandardInput.{ToldContent}
 use Rattle.sum_sources.specs.InMemory.{told_openings}
 use Rattle.sum_sources.specs.declared.sources.told_source.Answer.TheVariants as answers
 
@@ -20,6 +22,17 @@ pair_of p = record { name = p.name.items; answer = answer_value p.answer; from =
 pub record ToldSourceInvariant (pairs : List Pair) (names : List ByteString) (openings : List Opening) : Type 0 where
   pub asked : names ≡ map (λ o. o.name) openings
   pub told : told_openings (first_answer pairs) 0 openings ≡ openings
+
+-- an input in memory, by its fields
+abbrev pub told_value : Told → ToldContent
+told_value t = record {
+  content = record { bytes = t.bytes.now; ending = t.ending };
+  given = t.given;
+  piece = t.piece;
+  phase = t.phase;
+  opening = t.log.opening;
+  name = t.log.name;
+}
 
 -- a name was added to those asked; or memory was refused
 abbrev pub AddsName : ByteString → List ByteString → List ByteString → Bool → Type 0

@@ -23,7 +23,7 @@ pub struct Told<'a> {
 
 impl<'a> Told<'a> {
     ghost use Rattle.sum_sources.specs.Contents.{unread};
-    ghost use Rattle.sum_sources.specs.refinement.ToldValues.{told_value};
+    ghost use Rattle.sum_sources.specs.refinement.ToldPairs.{told_value};
 
     /// An input of the bytes `content`, at most `piece` a read (0 counts as 1), and then `ending`.
     pub fn new(content: &'a [u8], ending: Ending, piece: usize) -> Told<'a>
@@ -100,7 +100,7 @@ fn give(
 }
 
 impl<'a> Input for Told<'a> {
-    ghost use Rattle.sum_sources.specs.refinement.ToldValues.{told_value};
+    ghost use Rattle.sum_sources.specs.refinement.ToldPairs.{told_value};
 
     ghost state = { λ s. told_file (told_value s) };
 

@@ -20,7 +20,7 @@ returns-in-Stopped-clause-line g c =
 
 -- what the fields keep
 bounded : {I : Type 0} (s : Inside I) → length s.buf ≡ 8192 → LineReaderInvariant s → IsBounded (line_reader_view s)
-bounded s size i = grind (arith, common_steps, i.each, i.most, i.under)
+bounded s size i = grind (arith, common_steps, i.each, i.most)
 
 pub returns-in-Active-2-clause-bounds : goal.returns-in-Active-2-clause-bounds
 returns-in-Active-2-clause-bounds g c =

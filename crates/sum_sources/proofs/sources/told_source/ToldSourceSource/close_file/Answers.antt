@@ -1,8 +1,7 @@
 use Rattle.std.proofs.Common.{ap, map, List}
 use Rattle.sum_sources.specs.InMemory.{ToldFiles, told_source}
 use Rattle.sum_sources.specs.Sources.{Opening}
-use Rattle.sum_sources.specs.refinement.ToldPairs.{pair_of}
-use Rattle.sum_sources.specs.refinement.ToldValues.{told_value}
+use Rattle.sum_sources.specs.refinement.ToldPairs.{pair_of, told_value}
 use Rattle.sum_sources.specs.declared.sources.told_source.ToldSource.TheInside.{Inside}
 use Rattle.sum_sources.proofs.ToldSourceLemmas.{closed_one, closed_state}
 use Rattle.sum_sources.proofs.sources.told_source.ToldSourceSource.close_file.Goals as goal
