@@ -6,7 +6,7 @@ use Rattle.sum_lines.specs.Sinks.{written_byte}
 use Rattle.sum_lines.proofs.EventLemmas.{output_events-bytes}
 use Rattle.sum_engine.specs.Execution.{Stop, Memory, Write, StreamsState, AsksNames, Agrees, world_at, Happened, PerformsSteps, Performs}
 use Rattle.sum_engine.specs.Behavior.{World, Event, OutputEvent, Step, Behavior, trace, events_of, output_events, opened_name, err_event, out_event, single_step}
-use Rattle.sum_engine.specs.check.CheckerSteps.{step_then}
+use Rattle.sum_engine.specs.check.Checker.{step_then}
 use Rattle.sum_engine.specs.check.CheckerLaws.{EventsExtend}
 use Rattle.sum_engine.specs.refinement.FlushedWrites.{WritesAndReturns}
 use Rattle.sum_engine.specs.refinement.Names.{MemoryWasRefused}

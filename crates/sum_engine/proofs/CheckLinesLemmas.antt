@@ -1,18 +1,19 @@
 -- `check_lines`: a new checker runs to its end. What happened so far and what remains is the whole behavior
 -- (`HasComeTo`). A step that goes on keeps this. The step that ends or stops proves the contract by it.
-use Rattle.std.proofs.Common.{rules, ◌≡◌, ℕ, Bool, List, [], ◌∷◌, Result, Ok, Err, Some, None, true, false, refl, ap, ◌∙◌, subst, arith}
+use Rattle.std.proofs.Common.{rules, ◌^◌, ◌-◌, ◌<◌, ◌≡◌, ℕ, Bool, List, [], ◌∷◌, Result, Ok, Err, Some, None, true, refl, ap, ◌∙◌, subst, arith}
 use Rattle.sum_sources.specs.Contents.{unread}
 use Rattle.sum_engine.specs.Behavior.{World, Step, Behavior, Content, InputState, clip}
-use Rattle.sum_engine.specs.check.CheckStates.{CheckState, initial_state, IsAtStart, remaining_behavior, CursorValue, state_at, InEachCheck}
-use Rattle.sum_engine.specs.check.CheckerSteps.{Progress, Going, Ended, StepIs, TakesStep, step_then, progress_before, step_answer, CheckerValue, AdvancesChecker}
-use Rattle.sum_engine.specs.check.NextVerdict.{VerdictResult, LineVerdict, counts_after, IsNotUnread}
+use Rattle.sum_engine.specs.check.Rules.{Rules, LabelsValue}
+use Rattle.sum_engine.specs.check.Judge.{all_verdicts}
+use Rattle.sum_engine.specs.check.Checking.{content_behavior}
+use Rattle.sum_engine.specs.check.CheckStates.{CheckState, initial_state, remaining_behavior}
+use Rattle.sum_engine.specs.check.Verdicts.{IsAtStart, VerdictsValue, state_at, InEachCheck, VerdictResult, LineVerdict, counts_after, IsNotUnread}
+use Rattle.sum_engine.specs.check.Checker.{ReportsFound, Progress, Going, Ended, IsStep, TakesStep, step_then, progress_before, CheckerValue, AdvancesChecker}
 use Rattle.sum_sources.specs.declared.line_reader.LineStop.TheVariants.{Fault, Memory}
 use Rattle.sum_sources.specs.LineReaders.{remaining, IsReading}
 use Rattle.sum_engine.specs.check.CheckerLaws.{ManifestPerforms}
-use Rattle.sum_engine.specs.check.Verdicts.{Rules, all_verdicts}
-use Rattle.sum_engine.specs.Execution.{Stop, StreamsState, IsFlushed, IsAtEndIf, world_at, PerformsSteps}
-use Rattle.sum_engine.specs.check.Reports.{LabelsValue}
-use Rattle.sum_engine.specs.check.Checking.{content_behavior}
+use Rattle.sum_engine.specs.Execution.{Stop, OutputsState, StreamsState, IsFlushed, IsAtEndIf, world_at, PerformsSteps}
+use Rattle.sum_engine.specs.refinement.FlushedWrites.{outcome_after}
 use Rattle.sum_engine.proofs.CountLemmas.{counts_then-none}
 use Rattle.sum_engine.proofs.WorldLemmas.{agrees_before}
 use Rattle.sum_engine.proofs.BehaviorLemmas.{HasDoneUpTo, done_none, done_more, done_end, done_stops}
@@ -25,7 +26,7 @@ pub remaining-initial : (r : Rules) (labels : LabelsValue) (c : Content) (w : Wo
 remaining-initial r labels c w = rw counts_then-none refl
 
 -- so it is at the first line
-behavior-initial : {I : Type 0} {state : I → InputState} {p : CursorValue I} {input : I} (r : Rules)
+behavior-initial : {I : Type 0} {state : I → InputState} {p : VerdictsValue I} {input : I} (r : Rules)
     (labels : LabelsValue) → IsAtStart state p input → (c : Content) (w : World)
     → remaining_behavior r labels (state_at p (remaining p.reader c) w)
     ≡ content_behavior r labels (clip c) (all_verdicts r w (clip c))
@@ -59,31 +60,45 @@ done_last c step later (Ok good) h is k =
 done_last {whole} c step later (Err stop) h is k =
     done_stops c whole.good (progress_before later.steps later.good) step later stop h is k
 
--- it returns that all is good only at the end, and only if each listed file could be read
-pub good_end : {I : Type 0} (q : CursorValue I) (found : VerdictResult) (failed : Bool)
-    → Ok (Ended true) ≡ step_answer q found failed → (found ≡ Ok None) × (q.counts.unread ≡ 0)
-good_end q (Ok (Some v)) true is = cc
-good_end q (Ok (Some v)) false is = cc
-good_end q (Ok None) true is = cc
-good_end q (Ok None) false is = search rules
-good_end q (Err Memory) failed is = cc
-good_end q (Err (Fault f)) true is = cc
-good_end q (Err (Fault f)) false is = cc
+-- what a call returns that was to return x, unless a write failed
+pub returned : {E A : Type 0} {x y : A} (w : Result (Unit {0}) E) → Ok y ≡ outcome_after w x → y ≡ x
+returned (Ok u) is = search rules
+returned (Err e) is = cc
+
+-- a step returns that all is good only at the end, and only if each listed file could be read
+good_found : {I : Type 0} (q : VerdictsValue I) (labels : LabelsValue) (vector : List ℕ) (found : VerdictResult)
+    (a b : OutputsState) → ReportsFound q labels vector found a b (Ok (Ended true))
+    → (found ≡ Ok None) × (q.counts.unread ≡ 0)
+good_found q labels vector (Ok (Some v)) a b h = let p = returned h.written h.returns in cc
+good_found q labels vector (Ok None) a b h = let p = returned h.written h.returns in search rules
+good_found q labels vector (Err Memory) a b h = let p = h.0 in cc
+good_found q labels vector (Err (Fault f)) a b h = let p = returned h.written h.returns in cc
+
+-- it goes on only after a line
+going_found : {I : Type 0} (q : VerdictsValue I) (labels : LabelsValue) (vector : List ℕ) (found : VerdictResult)
+    (a b : OutputsState) → ReportsFound q labels vector found a b (Ok Going)
+    → (v : LineVerdict) × (found ≡ Ok (Some v))
+going_found q labels vector (Ok (Some v)) a b h = (v, refl)
+going_found q labels vector (Ok None) a b h = let p = returned h.written h.returns in cc
+going_found q labels vector (Err Memory) a b h = let p = h.0 in cc
+going_found q labels vector (Err (Fault f)) a b h = let p = returned h.written h.returns in cc
+
+module _ {I : Type 0} {state : I → InputState} {vector : List ℕ} {p q : CheckerValue I} {a b : StreamsState} where
+  pub good_end : AdvancesChecker state vector p q a b (Ok (Ended true)) → q.verdicts.counts.unread ≡ 0
+  good_end h = (good_found q.verdicts p.labels vector h.found a.outputs b.outputs h.reports).1
+
+  -- each line is counted, below the limit
+  pub fewer_lines : AdvancesChecker state vector p q a b (Ok Going)
+      → 2 ^ 61 - q.verdicts.reader.lines < 2 ^ 61 - p.verdicts.reader.lines
+  fewer_lines h =
+      let (v, found) = going_found q.verdicts p.labels vector h.found a.outputs b.outputs h.reports in
+      let one = h.verdict.moves.number v found in
+      omega (arith, one, h.verdict.moves.bounds)
 
 -- none was counted that could not be read only if none was before, and this one isn't such a line
-pub none_unread : {I : Type 0} (p q : CursorValue I) (found : VerdictResult) → q.counts ≡ counts_after p.counts found
+pub none_unread : {I : Type 0} (p q : VerdictsValue I) (found : VerdictResult) → q.counts ≡ counts_after p.counts found
     → q.counts.unread ≡ 0 → (p.counts.unread ≡ 0) × IsNotUnread found
 none_unread p q found counted none = search (rules, arith)
-
--- a step goes on only after a line
-pub step-goes : {I : Type 0} (q : CursorValue I) (found : VerdictResult) (failed : Bool)
-    → Ok Going ≡ step_answer q found failed → (v : LineVerdict) × (found ≡ Ok (Some v))
-step-goes q (Ok (Some v)) failed is = (v, refl)
-step-goes q (Ok None) true is = cc
-step-goes q (Ok None) false is = cc
-step-goes q (Err Memory) failed is = cc
-step-goes q (Err (Fault f)) true is = cc
-step-goes q (Err (Fault f)) false is = cc
 
 -- ---- from the first step on
 
@@ -95,21 +110,21 @@ manifest_behavior r labels c w = content_behavior r labels c (all_verdicts r w c
 module _ {I : Type 0} (state : I → InputState) (first : CheckerValue I) (m : StreamsState) where
   -- what remains at a state, by the rules and labels of the first
   abbrev left : CheckState → Behavior
-  left a = remaining_behavior first.cursor.rules first.labels a
+  left a = remaining_behavior first.verdicts.rules first.labels a
 
   -- P holds between the state there and that at another place and streams, if both outputs were flushed, of an input
   -- that was unread
-  abbrev HoldsUpTo : CursorValue I → StreamsState → (CheckState → CheckState → Type 0) → Type 0
-  HoldsUpTo q n P = IsFlushed m.outputs → IsReading state first.cursor.reader
-      → InEachCheck state first.cursor q m.inputs n.inputs P
+  abbrev HoldsUpTo : VerdictsValue I → StreamsState → (CheckState → CheckState → Type 0) → Type 0
+  HoldsUpTo q n P = IsFlushed m.outputs → IsReading state first.verdicts.reader
+      → InEachCheck state first.verdicts q m.inputs n.inputs P
 
   -- the check came so far, to this checker and these streams, by the same rules and labels
   pub record HasComeTo (q : CheckerValue I) (n : StreamsState) : Type 0 where
-    pub rules : q.cursor.rules ≡ first.cursor.rules
+    pub rules : q.verdicts.rules ≡ first.verdicts.rules
     pub labels : q.labels ≡ first.labels
     pub flushed : IsFlushed m.outputs → IsFlushed n.outputs
-    pub reading : IsReading state first.cursor.reader → IsReading state q.cursor.reader
-    pub happened : HoldsUpTo q.cursor n (λ a b. HasDoneUpTo (left a) (left b) m n)
+    pub reading : IsReading state first.verdicts.reader → IsReading state q.verdicts.reader
+    pub happened : HoldsUpTo q.verdicts n (λ a b. HasDoneUpTo (left a) (left b) m n)
 
   -- it begins so
   pub HasComeTo-none : HasComeTo first m
@@ -120,36 +135,36 @@ module _ {I : Type 0} (state : I → InputState) (first : CheckerValue I) (m : S
     reading = λ reading. reading;
     happened = λ flushed reading. record {
       holds = λ c of w agrees.
-          done_none (left (state_at first.cursor (remaining first.cursor.reader c) (world_at w m.inputs))) m;
+          done_none (left (state_at first.verdicts (remaining first.verdicts.reader c) (world_at w m.inputs))) m;
     };
   }
 
   -- after a step more, which returned x, P holds if it follows of what happened before and of the step
   one_more_step : {q : CheckerValue I} {n : StreamsState} (next : CheckerValue I) (o : StreamsState) (vector : List ℕ)
       (x : Result Progress Stop) {P : CheckState → CheckState → Type 0} → HasComeTo q n
-      → AdvancesChecker state vector q next n o x → TakesStep state vector q.labels q.cursor next.cursor n o x
+      → AdvancesChecker state vector q next n o x → TakesStep state vector q.labels q.verdicts next.verdicts n o x
       → ((a b d : CheckState) → HasDoneUpTo (left a) (left b) m n
-      → StepIs first.cursor.rules first.labels vector b d n o x → P a d)
-      → HoldsUpTo next.cursor o P
+      → IsStep first.verdicts.rules first.labels vector b d n o x → P a d)
+      → HoldsUpTo next.verdicts o P
   one_more_step {q = q} {n = n} next o vector x h advances step follows = λ flushed reading.
       let here = h.reading reading in
       let before = h.happened flushed reading in
       let stepped = step (h.flushed flushed) here in
       record {
         holds = λ c of w agrees.
-            follows _ _ _ (before.holds c (advances.verdict.cursor.before here c of) w
+            follows _ _ _ (before.holds c (advances.verdict.moves.before here c of) w
             (agrees_before agrees advances.verdict.reads)) (rw (h.rules, h.labels) at (stepped.holds c of w agrees));
       }
 
   -- a step that goes on comes one line further
   pub HasComeTo-more : (q next : CheckerValue I) (n o : StreamsState) (vector : List ℕ) → HasComeTo q n
       → AdvancesChecker state vector q next n o (Ok Going) → (IsFlushed n.outputs → IsFlushed o.outputs)
-      → TakesStep state vector q.labels q.cursor next.cursor n o (Ok Going) → HasComeTo next o
+      → TakesStep state vector q.labels q.verdicts next.verdicts n o (Ok Going) → HasComeTo next o
   HasComeTo-more q next n o vector h advances flushed step = record {
-    rules = advances.verdict.cursor.rules ∙ h.rules;
+    rules = advances.verdict.moves.rules ∙ h.rules;
     labels = advances.labels ∙ h.labels;
     flushed = λ all. flushed (h.flushed all);
-    reading = λ reading. advances.verdict.cursor.reading (h.reading reading);
+    reading = λ reading. advances.verdict.moves.reading (h.reading reading);
     happened = one_more_step next o vector (Ok Going) h advances step (λ a b d along step.
         subst (λ later. HasDoneUpTo (left a) later m o)
         (step.going refl).0 (done_more step.step step.later along step.is step.performs.1));
@@ -158,18 +173,18 @@ module _ {I : Type 0} (state : I → InputState) (first : CheckerValue I) (m : S
   -- the step that ends completes the manifest's behavior. One that stops leaves a prefix of it after a write fault,
   -- and whole steps if memory ran out
   pub HasComeTo-last : (q last : CheckerValue I) (n o : StreamsState) (vector : List ℕ) (x : Result Bool Stop)
-      → IsAtStart state first.cursor first.cursor.reader.input → HasComeTo q n
+      → IsAtStart state first.verdicts first.verdicts.reader.input → HasComeTo q n
       → AdvancesChecker state vector q last n o (ends x)
-      → TakesStep state vector q.labels q.cursor last.cursor n o (ends x)
-      → ManifestPerforms first.cursor.rules first.labels (state first.cursor.reader.input)
-      (state last.cursor.reader.input) m o x
+      → TakesStep state vector q.labels q.verdicts last.verdicts n o (ends x)
+      → ManifestPerforms first.verdicts.rules first.labels (state first.verdicts.reader.input)
+      (state last.verdicts.reader.input) m o x
   HasComeTo-last q last n o vector x start h advances step = λ flushed unread c of w agrees.
-      let ended : HoldsUpTo last.cursor o (λ a d. PerformsSteps (left a).steps (left a).good m o x) =
+      let ended : HoldsUpTo last.verdicts o (λ a d. PerformsSteps (left a).steps (left a).good m o x) =
       one_more_step last o vector (ends x) h advances step (λ a b d along step.
       done_last o step.step step.later x along step.is step.performs) in
-      let all : left (state_at first.cursor (remaining first.cursor.reader c) (world_at w m.inputs))
-      ≡ manifest_behavior first.cursor.rules first.labels (clip c) (world_at w m.inputs) =
-      behavior-initial first.cursor.rules first.labels start c (world_at w m.inputs) in
+      let all : left (state_at first.verdicts (remaining first.verdicts.reader c) (world_at w m.inputs))
+      ≡ manifest_behavior first.verdicts.rules first.labels (clip c) (world_at w m.inputs) =
+      behavior-initial first.verdicts.rules first.labels start c (world_at w m.inputs) in
       subst (λ (b : Behavior). PerformsSteps b.steps b.good m o x) all
       ((ended flushed (start.reading unread)).holds c of w agrees)
 
@@ -177,12 +192,12 @@ module _ {I : Type 0} (state : I → InputState) (first : CheckerValue I) (m : S
 
   -- never past its end or a fault; and to its end, if it is good
   pub manifest_read : (q last : CheckerValue I) (n o : StreamsState) (vector : List ℕ) (x : Result Bool Stop)
-      → IsAtStart state first.cursor first.cursor.reader.input → HasComeTo q n
-      → AdvancesChecker state vector q last n o (ends x) → (state first.cursor.reader.input).reads ≡ unread
-      → IsAtEndIf (x ≡ Ok true) (state last.cursor.reader.input).reads
+      → IsAtStart state first.verdicts first.verdicts.reader.input → HasComeTo q n
+      → AdvancesChecker state vector q last n o (ends x) → (state first.verdicts.reader.input).reads ≡ unread
+      → IsAtEndIf (x ≡ Ok true) (state last.verdicts.reader.input).reads
   manifest_read q last n o vector x start h advances unread =
-      let reading = advances.verdict.cursor.reading (h.reading (start.reading unread)) in (
+      let reading = advances.verdict.moves.reading (h.reading (start.reading unread)) in (
         reading.past,
-        λ good. reading.end (advances.verdict.cursor.end (good_end last.cursor advances.found advances.failed
-            (rw good at advances.answer)).0),
+        λ good. reading.end (advances.verdict.moves.end (good_found last.verdicts q.labels vector advances.found
+            n.outputs o.outputs (rw good at advances.reports)).0),
       )

@@ -9,9 +9,9 @@ use Rattle.sum_sources.proofs.ToldSourceLemmas.{closed_at-seam}
 use Rattle.sum_lines.proofs.EventLemmas.{Gets-none}
 use Rattle.sum_engine.specs.Behavior.{Fault, World, is_dash, answer_to, after, Step, events_of, Answer, Content, InputState, clip}
 use Rattle.sum_engine.specs.check.CheckerLaws.{ManifestPerforms}
-use Rattle.sum_engine.specs.check.Verdicts.{present}
-use Rattle.sum_engine.specs.check.Reports.{LabelsValue}
-use Rattle.sum_engine.specs.check.Checking.{CheckSettings, rules_of, labels_of, check_behavior_by, check_behavior}
+use Rattle.sum_engine.specs.check.Rules.{LabelsValue, rules_of, labels_of}
+use Rattle.sum_engine.specs.check.Judge.{present}
+use Rattle.sum_engine.specs.check.Checking.{CheckSettings, check_behavior_by, check_behavior}
 use Rattle.sum_engine.specs.Execution.{Stop, Memory, InputsState, OutputsState, StreamsState, AsksNames, Agrees, world_at, IsAtEndIf, ReadsFile, ReadsToEndIf, Happened, PerformsSteps, Performs}
 use Rattle.sum_engine.specs.Generation.{name_fault_line}
 use Rattle.sum_engine.specs.refinement.FlushedWrites.{WritesAndReturns}

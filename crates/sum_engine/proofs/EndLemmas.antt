@@ -1,11 +1,12 @@
 -- What is returned after the end of a manifest's verdicts.
 use Rattle.std.proofs.Common.{rules, ◌≡◌, ℕ, Bool, List, [], length, Option, Some, Result, Ok, ap, sym, arith, if◌then◌else◌}
 use Rattle.sum_sources.specs.declared.fault.Ending.{Ending}
-use Rattle.sum_engine.specs.check.NextVerdict.{LineStop, LineVerdict, HasNoVerdictLeft, NextVerdictIs}
-use Rattle.sum_sources.proofs.LineLemmas.{pieces-nil, lines-nil}
-use Rattle.sum_engine.specs.check.Verdicts.{Rules, lines, raw_lines}
+use Rattle.sum_engine.specs.check.Rules.{Rules}
+use Rattle.sum_engine.specs.check.Judge.{lines, raw_lines}
 use Rattle.sum_engine.specs.check.CheckStates.{CheckState, remaining_verdicts}
-use Rattle.sum_engine.specs.check.CheckerLaws.{ending_answer}
+use Rattle.sum_engine.specs.check.Verdicts.{LineStop, LineVerdict, HasNoVerdictLeft, IsNextVerdict}
+use Rattle.sum_sources.proofs.LineLemmas.{pieces-nil, lines-nil}
+use Rattle.sum_engine.specs.check.CheckerLaws.{ending_result}
 
 -- without bytes there is no line under any profile
 no_lines : (drops : Bool) (e : Ending)
@@ -19,7 +20,7 @@ none_left r e b remaining = search (rules, no_lines)
 
 pub end_stays : (r : Rules) (e : Ending) (vector : List ℕ) (a b c : CheckState)
     (x : Result (Option LineVerdict) LineStop)
-    → HasNoVerdictLeft r e a b → NextVerdictIs r vector b c x → x ≡ ending_answer e
+    → HasNoVerdictLeft r e a b → IsNextVerdict r vector b c x → x ≡ ending_result e
 end_stays r e vector a b c (Ok (Some v)) ended found =
     let size : 0 ≡ length (remaining_verdicts r b) = ap length (sym (none_left r e b ended.remaining)) in
     absurd (omega (arith, size, ap length found.0.first))

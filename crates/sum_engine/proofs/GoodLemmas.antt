@@ -4,13 +4,14 @@ use Rattle.std.proofs.lemmas.Bool.{ne_eqb}
 use Rattle.std.proofs.Math.Bool.{and-false, or-true}
 use Rattle.std.proofs.lemmas.List.Elements.{All-head, All-tail}
 use Rattle.std.proofs.lemmas.Slice.Eq.{bytes_eq-Decides}
-use Rattle.sum_engine.specs.check.Reports.{Report, LabelsValue, Counts, out_by, out_of, err_of, counts_of, end_text, good}
-use Rattle.sum_engine.specs.check.Verdicts.{Algos, Form, Right, Rules, LineVerdictValue, verdict_of, judge, verdicts, all_verdicts, parse_line, past_line, present, escape, IsEntry, form}
+use Rattle.sum_engine.specs.check.Rules.{LabelsValue, Rules, rules_of, labels_of}
+use Rattle.sum_engine.specs.check.Judge.{Algos, Form, Right, LineVerdictValue, judge, line_verdict, verdicts, all_verdicts, parse_line, past_line, present, escape, IsEntry, form}
+use Rattle.sum_engine.specs.check.Reports.{Report, Counts, out_by, out_of, err_of, counts_of, end_text, good}
+use Rattle.sum_engine.specs.check.Checking.{CheckSettings, line_steps, content_behavior, check_behavior_by, check_behavior}
+use Rattle.sum_engine.specs.check.Checker.{step_then}
 use Rattle.sum_engine.specs.Behavior.{Whole, World, answer_to, after, Behavior, out_text, err_text, is_dash, Answer}
 use Rattle.sum_sources.specs.Contents.{Content, limit}
 use Rattle.sum_sources.proofs.ContentLemmas.{limit-value, clip-short}
-use Rattle.sum_engine.specs.check.CheckerSteps.{step_then}
-use Rattle.sum_engine.specs.check.Checking.{CheckSettings, line_steps, rules_of, labels_of, content_behavior, check_behavior_by, check_behavior}
 use Rattle.sum_lines.proofs.ParsedLineLemmas.{parse_is_grammar}
 use Rattle.sum_engine.proofs.ListedEntryLemmas.{Item, written_text, Listed, prefix, spelled_for, ReadableSoFar, back, whole, lines-are}
 use Rattle.sum_engine.proofs.WorldLemmas.{after-steady}
@@ -24,7 +25,7 @@ now r = record r { profile = present }
 
 -- an item's file, read by the kind that its line spells, has the digest that its line spells
 verdict-right : (r : Rules) (files : List ℕ → Answer) (w : World) (i : Item) → w.answer ≡ (λ asked. files)
-    → Listed r.algo files i → verdict_of r w (spelled_for i) ≡ Right
+    → Listed r.algo files i → judge r w (spelled_for i) ≡ Right
 verdict-right r files w i steady h =
     rw steady (search (rules, clip-short, limit-value, and-false, bytes_eq-Decides))
 
@@ -41,7 +42,7 @@ rights n (i ∷ is) = right (n + 1) i ∷ rights (n + 1) is
 judged : (r : Rules) (files : List ℕ → Answer) (w : World) (n : ℕ) (f : Form) (i : Item)
     → w.answer ≡ (λ asked. files) → Listed r.algo files i
     → IsEntry escape r.algo f (prefix i) (spelled_for i)
-    → judge r w n (parse_line present r.algo f (prefix i)) ≡ right n i
+    → line_verdict r w n (parse_line present r.algo f (prefix i)) ≡ right n i
 judged r files w n f i steady h e =
     let is = parse_is_grammar present r.algo f (prefix i) in
     rw ((is.when_entry (spelled_for i)).1 (e.0, e), verdict-right r files w i steady h) refl

@@ -1,13 +1,14 @@
 -- `steps_join`: the steps of a new checker, one after another, by induction on the list of their vectors.
 use Rattle.std.proofs.Common.{rules, ◌≡◌, ℕ, zero, suc, ◌+◌, ◌-◌, ◌≤◌, Bool, true, List, [], ◌∷◌, ◌++◌, Ok, append-nil, length, take, drop, refl, ap, sym, ◌∙◌, arith, length-drop, flat_map, slice_index_or}
 use Rattle.std.proofs.lemmas.List.{take-append-drop}
-use Rattle.sum_engine.specs.check.Verdicts.{Form, lines_under, Rules, LineVerdictValue, asks_of, verdicts, all_verdicts, judge, parse_line, past_line, past_lines}
-use Rattle.sum_engine.specs.Behavior.{World, after, Behavior, trace, events_of, out_text, err_text, asks, Content}
-use Rattle.sum_engine.specs.check.Reports.{LabelsValue, out_of, err_of, counts_of, end_text}
+use Rattle.sum_engine.specs.check.Rules.{Rules, LabelsValue}
+use Rattle.sum_engine.specs.check.Judge.{Form, lines_under, LineVerdictValue, asks_of, verdicts, all_verdicts, line_verdict, parse_line, past_line, past_lines}
+use Rattle.sum_engine.specs.check.Reports.{out_of, err_of, counts_of, end_text}
 use Rattle.sum_engine.specs.check.Checking.{line_steps, content_behavior}
-use Rattle.sum_engine.specs.Execution.{Write, StreamsState, Happened}
 use Rattle.sum_engine.specs.check.CheckStates.{CheckState, counts_then, remaining_verdicts, remaining_behavior, initial_state}
-use Rattle.sum_engine.specs.check.CheckerSteps.{Going, Ended, StepIs, step_then, progress_before}
+use Rattle.sum_engine.specs.check.Checker.{Going, Ended, IsStep, step_then, progress_before}
+use Rattle.sum_engine.specs.Behavior.{World, after, Behavior, trace, events_of, out_text, err_text, asks, Content}
+use Rattle.sum_engine.specs.Execution.{Write, StreamsState, Happened}
 use Rattle.sum_engine.specs.check.CheckerLaws.{StepsGoing, StepsJoin, EndsManifest}
 use Rattle.sum_engine.proofs.RemainingLemmas.{past_next}
 use Rattle.sum_engine.proofs.ExecutionLemmas.{Happened-none, err-by, out-by, names-by}
@@ -31,7 +32,7 @@ length_verdicts : (r : Rules) (f : Form) (w : World) (n : ℕ) (ls : List (List 
     → length (verdicts r f w n ls) ≡ length ls
 length_verdicts r f w n [] = refl
 length_verdicts r f w n (l ∷ ls) =
-    ap suc (length_verdicts r f (after w (asks_of (judge r w (n + 1) (parse_line r.profile r.algo f l)))) (n + 1) ls)
+    ap suc (length_verdicts r f (after w (asks_of (line_verdict r w (n + 1) (parse_line r.profile r.algo f l)))) (n + 1) ls)
 
 -- and one step more
 length_steps : (r : Rules) (labels : LabelsValue) (end : List ℕ) (c : Content) (js : List LineVerdictValue)
@@ -83,7 +84,7 @@ module _ (r : Rules) (labels : LabelsValue) (c : Content) (w : World) (s : Strea
 
   -- one more
   after_more : {b d : CheckState} {t z : StreamsState} {v : List ℕ} {k : ℕ} → After b t k
-      → StepIs r labels v b d t z (Ok Going) → After d z (suc k)
+      → IsStep r labels v b d t z (Ok Going) → After d z (suc k)
   after_more {b} {d} {t} {z} {v} {k} h step =
       let moves = (step.going refl).1 in
       let is = step.is ∙ ap (step_then step.step) (step.going refl).0 in
@@ -125,7 +126,7 @@ module _ (r : Rules) (labels : LabelsValue) (c : Content) (w : World) (s : Strea
 
   -- the step that ends
   ends : {b : CheckState} {t : StreamsState} {k : ℕ} → After b t k → (outcome : Bool) (vector : List ℕ) (d : CheckState)
-      (z : StreamsState) → StepIs r labels vector b d t z (Ok (Ended outcome))
+      (z : StreamsState) → IsStep r labels vector b d t z (Ok (Ended outcome))
       → EndsManifest r labels c js k t z outcome
   ends {b} {t} {k} h outcome vector d z e =
       let none = none_left e.later.steps e.later.good outcome e.performs.0 in

@@ -1,13 +1,14 @@
 -- `old_verdicts`: a manifest of the time of older versions is checked alike under both profiles.
 use Rattle.std.proofs.Common.{rules, ◌≡◌, ℕ, ◌+◌, ◌<◌, List, [], ◌∷◌, length, map, refl, ap, sym, subst, append_assoc, ◌++◌, All, flat_map, Ok, Err}
 use Rattle.std.proofs.lemmas.List.Elements.{All-nil, All-cons, All-head, All-tail}
-use Rattle.sum_engine.specs.check.Reports.{Report, LabelsValue, Counts, out_by, err_by, end_text}
+use Rattle.sum_engine.specs.check.Rules.{LabelsValue, Rules}
+use Rattle.sum_engine.specs.check.Judge.{Algos, Form, Verdict, lines_under, LineVerdictValue, line_verdict, asks_of, verdicts, all_verdicts, form, present, ParsedLine, bad, parse_line}
+use Rattle.sum_engine.specs.check.Reports.{Report, Counts, out_by, err_by, end_text}
+use Rattle.sum_engine.specs.check.Checking.{line_steps, content_behavior}
+use Rattle.sum_engine.specs.check.Checker.{step_then}
 use Rattle.sum_engine.specs.Behavior.{Ending, Whole, Broken, World, after, Content, clip}
 use Rattle.sum_sources.specs.ManifestLines.{raw_lines, last_line, past_line, bytes_of_lines}
 use Rattle.sum_sources.proofs.CutLemmas.{cut, raw_lines-joined}
-use Rattle.sum_engine.specs.check.Verdicts.{Algos, Form, Verdict, lines_under, Rules, LineVerdictValue, judge, asks_of, verdicts, all_verdicts, form, present, ParsedLine, bad, parse_line}
-use Rattle.sum_engine.specs.check.CheckerSteps.{step_then}
-use Rattle.sum_engine.specs.check.Checking.{line_steps, content_behavior}
 use Rattle.sum_engine.specs.check.OldVerdicts.{older, rules_under, HasNoCarriageReturn, NamesNoCarriageReturn, IsOldManifest, OldVerdicts, OldOutcomes, OlderDiffers}
 use Rattle.sum_lines.proofs.ParsedLineLemmas.{parse_is_grammar}
 use Rattle.sum_engine.proofs.OldNames.{front_clean, rest_clean, same_escape, CleanParsedLine, parse_line_same}
@@ -51,7 +52,7 @@ abbrev CleanName : LineVerdictValue → Type 0
 CleanName j = HasNoCarriageReturn j.name
 
 -- and what is judged names none
-judged_clean : (r : Rules) (w : World) (n : ℕ) (x : ParsedLine) → CleanParsedLine x → CleanName (judge r w n x)
+judged_clean : (r : Rules) (w : World) (n : ℕ) (x : ParsedLine) → CleanParsedLine x → CleanName (line_verdict r w n x)
 judged_clean r w n x h = search rules
 
 -- a line that says the same under both profiles
@@ -69,8 +70,8 @@ verdicts_same r f w n (l ∷ ls) all =
     let here = All-head (Alike r.algo f) l ls all in
     let s = parse_line_same r.algo f l here.no_byte here.no_escape here.some in
     let new = rules_under present r in
-    let j = judge new w (n + 1) (parse_line present r.algo f l) in
-    let one : judge (rules_under older r) w (n + 1) (parse_line older r.algo f l) ≡ j = search (rules, s.0) in
+    let j = line_verdict new w (n + 1) (parse_line present r.algo f l) in
+    let one : line_verdict (rules_under older r) w (n + 1) (parse_line older r.algo f l) ≡ j = search (rules, s.0) in
     let more = verdicts_same r f (after w (asks_of j)) (n + 1) ls (All-tail (Alike r.algo f) l ls all) in
     let clean = judged_clean new w (n + 1) (parse_line present r.algo f l) s.1 in
     (rw (one, more.0) refl, All-cons CleanName j (verdicts new f (after w (asks_of j)) (n + 1) ls) clean more.1)

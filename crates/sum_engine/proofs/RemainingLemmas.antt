@@ -2,11 +2,12 @@
 use Rattle.std.proofs.Common.{rules, ◌≡◌, ℕ, zero, suc, ◌+◌, Bool, List, [], ◌∷◌, length, refl}
 use Rattle.sum_lines.proofs.FormLemmas.{form_next, parse_stays}
 use Rattle.sum_engine.specs.Behavior.{after, Ending, Step, Behavior, Content}
-use Rattle.sum_engine.specs.check.Verdicts.{lines_under, Rules, LineVerdictValue, asks_of, verdicts, parse_line, past_line, past_lines, form, form_then, line_form}
-use Rattle.sum_engine.specs.check.Reports.{LabelsValue, Counts, counts_of, out_of, err_of, end_text, good}
+use Rattle.sum_engine.specs.check.Rules.{Rules, LabelsValue}
+use Rattle.sum_engine.specs.check.Judge.{lines_under, LineVerdictValue, asks_of, verdicts, parse_line, past_line, past_lines, form, form_then, line_form}
+use Rattle.sum_engine.specs.check.Reports.{Counts, counts_of, out_of, err_of, end_text, good}
 use Rattle.sum_engine.specs.check.Checking.{line_steps}
 use Rattle.sum_engine.specs.check.CheckStates.{counts_with, counts_then, CheckState, HandlesLine, next_judged, remaining_verdicts, remaining_behavior}
-use Rattle.sum_engine.specs.check.CheckerSteps.{Going, step_then, progress_before}
+use Rattle.sum_engine.specs.check.Checker.{Going, step_then, progress_before}
 
 -- what a line says by the form of all lines is what it says by the form so far and its own
 parse_line_now : (r : Rules) (a : CheckState) (l : List ℕ) (ls : List (List ℕ)) →

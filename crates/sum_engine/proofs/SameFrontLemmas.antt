@@ -1,6 +1,7 @@
 -- `same_front`: later lines have no part in what a line says, by induction on the lines before it.
 use Rattle.std.proofs.Common.{rules, ◌≡◌, ℕ, ◌+◌, List, [], ◌∷◌, ◌++◌, length, take, refl, sym, ◌∙◌, append_assoc, length-append}
-use Rattle.sum_engine.specs.check.Verdicts.{Algos, Form, Rules, LineVerdictValue, judge, asks_of, verdicts, parse_line, present, escape, EntryValue, IsEntry, form, form_then, line_form}
+use Rattle.sum_engine.specs.check.Rules.{Rules}
+use Rattle.sum_engine.specs.check.Judge.{Algos, Form, LineVerdictValue, line_verdict, asks_of, verdicts, parse_line, present, escape, EntryValue, IsEntry, form, form_then, line_form}
 use Rattle.sum_lines.specs.declared.reading.read_line.Form.TheVariants.{Undecided}
 use Rattle.sum_engine.specs.Behavior.{World, after}
 use Rattle.sum_engine.specs.check.CheckerLaws.{SameFront}
@@ -12,7 +13,7 @@ abbrev running : Rules → World → ℕ → Form → List (List ℕ) → List L
 running r w n f [] = []
 running r w n f (l ∷ ls) =
     let here = form_then f (line_form r.algo l) in
-    let j = judge r w (n + 1) (parse_line r.profile r.algo here l) in
+    let j = line_verdict r w (n + 1) (parse_line r.profile r.algo here l) in
     j ∷ running r (after w (asks_of j)) (n + 1) here ls
 
 -- the verdicts of the first lines are these, whatever follows
@@ -23,7 +24,7 @@ prefix_verdicts r w n f [] later = refl
 prefix_verdicts r w n f (l ∷ ls) later =
     let here = form_then f (line_form r.algo l) in
     let rest = form r.algo (ls ++ later) in
-    let j = judge r w (n + 1) (parse_line r.profile r.algo here l) in
+    let j = line_verdict r w (n + 1) (parse_line r.profile r.algo here l) in
     let later_on = prefix_verdicts r (after w (asks_of j)) (n + 1) here ls later in
     search (rules, form_next, parse_stays r.profile r.algo f rest l, later_on)
 

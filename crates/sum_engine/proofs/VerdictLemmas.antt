@@ -2,18 +2,19 @@
 use Rattle.std.proofs.Common.{rules, ◌≡◌, ◌&&◌, ℕ, List, Bool, false, [], ◌∷◌, Ok, Err, refl, ap}
 use Rattle.sum_engine.specs.refinement.Names.{HashOutcome, IsHashOutcome, IsNotBroken}
 use Rattle.sum_engine.specs.declared.hash_name.HashOutcome.TheVariants.{Read, NotOpened, Broken}
+use Rattle.sum_engine.specs.check.Rules.{Rules}
+use Rattle.sum_engine.specs.check.Judge.{Verdict, asks_by, EntryValue, entry}
 use Rattle.sum_engine.specs.check.Reports.{is_unread}
-use Rattle.sum_engine.specs.check.Verdicts.{Verdict, Rules, asks_by, EntryValue, entry}
 use Rattle.sum_engine.specs.Behavior.{World, Answer, answer_to, is_dash}
-use Rattle.sum_engine.specs.refinement.Judging.{JudgeOf, verdict_of_outcome}
+use Rattle.sum_engine.specs.refinement.Judging.{Judges, verdict_of_outcome}
 
 -- an entry's verdict, by the outcome of hashing its name
 pub judged_entry : (r : Rules) (w : World) (s : EntryValue) (a : HashOutcome) (verdict : Verdict)
     → r.from_stdin && is_dash s.name ≡ false → IsHashOutcome s.kind (answer_to w s.name) a
-    → verdict ≡ verdict_of_outcome r.ignore_missing s.digest a → JudgeOf r w (entry s) (Ok verdict)
+    → verdict ≡ verdict_of_outcome r.ignore_missing s.digest a → Judges r w (entry s) (Ok verdict)
 judged_entry r w s a verdict dash h is = by (answer_to w s.name) refl h
   where
-    by : (x : Answer) → answer_to w s.name ≡ x → IsHashOutcome s.kind x a → JudgeOf r w (entry s) (Ok verdict)
+    by : (x : Answer) → answer_to w s.name ≡ x → IsHashOutcome s.kind x a → Judges r w (entry s) (Ok verdict)
     by (Ok c) same h = search rules
     by (Err f) same h = search rules
 

@@ -2,7 +2,6 @@
 
 pub(crate) mod check_one;
 pub(crate) mod checker;
-pub(crate) mod cursor;
 pub(crate) mod judge;
 pub(crate) mod progress;
 pub(crate) mod report;

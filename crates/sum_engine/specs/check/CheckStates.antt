@@ -1,13 +1,10 @@
 -- The states of a manifest's check: what remains of it, and what was found so far.
-use Rattle.std.specs.Prelude.{ℕ, ◌≡◌, ◌+◌, ◌≤◌, List, [], ◌∷◌, length, None}
-use Rattle.sum_sources.specs.declared.line_reader.LineReader.{LineReader}
-use Rattle.sum_sources.specs.Contents.{unread}
-use Rattle.sum_sources.specs.LineReaders.{remaining, consumed_count, IsReading}
+use Rattle.std.specs.Prelude.{ℕ, ◌≡◌, ◌+◌, ◌≤◌, List, ◌∷◌, length}
 use Rattle.sum_lines.specs.declared.reading.read_line.Form.TheVariants.{Undecided}
-use Rattle.sum_engine.specs.check.Verdicts.{Form, Verdict, Ignored, Bad, Right, Wrong, Missing, Unread, lines_under, Rules, LineVerdictValue, judge, verdicts, past_line, parse_line, form_then, line_form, form}
-use Rattle.sum_engine.specs.Execution.{InputsState, Agrees, world_at}
-use Rattle.sum_engine.specs.check.Reports.{LabelsValue, Counts, counts_of, entries, end_text, good}
-use Rattle.sum_engine.specs.Behavior.{ByteString, World, Behavior, Content, InputState, IsOf}
+use Rattle.sum_engine.specs.Behavior.{ByteString, World, Behavior, Content}
+use Rattle.sum_engine.specs.check.Rules.{Rules, LabelsValue}
+use Rattle.sum_engine.specs.check.Judge.{Form, Verdict, Ignored, Bad, Right, Wrong, Missing, Unread, lines_under, LineVerdictValue, line_verdict, verdicts, past_line, parse_line, form_then, line_form, form}
+use Rattle.sum_engine.specs.check.Reports.{Counts, counts_of, entries, end_text, good}
 use Rattle.sum_engine.specs.check.Checking.{line_steps}
 
 -- the counts of no line, those with one line more, and those of lines and then of others
@@ -54,7 +51,7 @@ initial_state c w =
 -- the next line's verdict
 abbrev pub next_judged : Rules → CheckState → ByteString → LineVerdictValue
 next_judged r a l =
-    judge r a.world (a.number + 1) (parse_line r.profile r.algo (form_then a.form (line_form r.algo l)) l)
+    line_verdict r a.world (a.number + 1) (parse_line r.profile r.algo (form_then a.form (line_form r.algo l)) l)
 
 -- the verdicts of the lines that remain
 abbrev pub remaining_verdicts : Rules → CheckState → List LineVerdictValue
@@ -83,36 +80,3 @@ pub record HandlesLine (r : Rules) (a b : CheckState) (vector : ByteString) : Ty
   pub form : b.form ≡ form_then a.form (line_form r.algo line)
   pub counts : b.counts ≡ counts_with a.counts (next_judged r a line).verdict
   pub vector_len : length vector ≤ length line
-
--- a place in a manifest: its rules, its reader, and the form and the counts of its lines so far
-pub record CursorValue (I : Type 0) : Type 0 where
-  pub rules : Rules
-  pub reader : LineReader I
-  pub form : Form
-  pub counts : Counts
-
--- the state of the check at a place, with this content in this world
-abbrev pub state_at : {I : Type 0} → CursorValue I → Content → World → CheckState
-state_at p c w = record {
-  remaining = c;
-  number = p.reader.lines;
-  consumed = consumed_count p.reader;
-  taken = p.reader.taken;
-  form = p.form;
-  counts = p.counts;
-  world = w;
-}
-
--- P holds between the check's states at two places and inputs: of each content of the manifest, and in each world, that
--- agrees with what was read by then
-pub record InEachCheck {I : Type 0} (state : I → InputState) (p q : CursorValue I) (a b : InputsState)
-    (P : CheckState → CheckState → Type 0) : Type 0 where
-  pub holds : (c : Content) → IsOf (state q.reader.input).reads c → (w : World) → Agrees w b
-      → P (state_at p (remaining p.reader c) (world_at w a)) (state_at q (remaining q.reader c) (world_at w b))
-
--- it is at the first line of that input
-pub record IsAtStart {I : Type 0} (state : I → InputState) (p : CursorValue I) (input : I) : Type 0 where
-  pub reader : p.reader ≡ record { input = input; ahead = []; taken = 0; lines = 0; final_answer = None }
-  pub reading : (state input).reads ≡ unread → IsReading state p.reader
-  pub form : p.form ≡ Undecided
-  pub counts : p.counts ≡ no_counts

@@ -5,12 +5,13 @@ use Rattle.sum_lines.specs.grammar.Shapes.{IsPlain, KindValue}
 use Rattle.sum_engine.specs.Execution.{Stop, Write, StreamsState, IsFlushed, Agrees, world_at, AsksNames, Happened, PrefixHappened, PerformsSteps}
 use Rattle.sum_sources.specs.Contents.{unread}
 use Rattle.sum_engine.specs.Behavior.{ByteString, IsOf, InputState, Behavior, trace, out_text, err_text, asks, Ending, Whole, Broken, World, Content, clip}
-use Rattle.sum_engine.specs.check.Verdicts.{lines_under, Rules, LineVerdictValue, asks_of, all_verdicts, verdicts, past_lines, escape, EntryValue, IsEntry, form}
-use Rattle.sum_engine.specs.check.Reports.{LabelsValue, out_of, err_of, counts_of, end_text, good}
+use Rattle.sum_engine.specs.check.Rules.{Rules, LabelsValue}
+use Rattle.sum_engine.specs.check.Judge.{lines_under, LineVerdictValue, asks_of, all_verdicts, verdicts, past_lines, escape, EntryValue, IsEntry, form}
+use Rattle.sum_engine.specs.check.Reports.{out_of, err_of, counts_of, end_text, good}
 use Rattle.sum_engine.specs.check.Checking.{content_behavior}
 use Rattle.sum_engine.specs.check.CheckStates.{CheckState, initial_state}
-use Rattle.sum_engine.specs.check.CheckerSteps.{Going, Ended, StepIs}
-use Rattle.sum_engine.specs.check.NextVerdict.{LineStop, LineVerdict, HasNoVerdictLeft, NextVerdictIs}
+use Rattle.sum_engine.specs.check.Verdicts.{LineStop, LineVerdict, HasNoVerdictLeft, IsNextVerdict}
+use Rattle.sum_engine.specs.check.Checker.{Going, Ended, IsStep}
 
 -- a new checker of an unread input ran to its end, which leaves the input so: of each content of the manifest, and in
 -- each world, that agrees with what was read, its behavior
@@ -35,7 +36,7 @@ abbrev pub StepsGoing : Rules → LabelsValue → CheckState → CheckState → 
     → Type 0
 StepsGoing r labels a b s t [] = (b ≡ a) × (t ≡ s)
 StepsGoing r labels a b s t (vector ∷ vectors) = (m : CheckState) × (between : StreamsState)
-    × StepIs r labels vector a m s between (Ok Going) × StepsGoing r labels m b between t vectors
+    × IsStep r labels vector a m s between (Ok Going) × StepsGoing r labels m b between t vectors
 
 -- the step that ends a manifest comes after all k lines, and writes exactly the summary or the fault line
 pub record EndsManifest (r : Rules) (labels : LabelsValue) (c : Content) (js : List LineVerdictValue) (k : ℕ)
@@ -59,9 +60,9 @@ pub record AfterSteps (r : Rules) (labels : LabelsValue) (c : Content) (js : Lis
   pub vector_lens : (i : ℕ)
       → length (slice_index_or vectors i []) ≤ length (slice_index_or (lines_under r.profile c) i [])
   pub end : (outcome : Bool) (vector : ByteString) (d : CheckState) (z : StreamsState)
-      → StepIs r labels vector b d t z (Ok (Ended outcome)) → EndsManifest r labels c js k t z outcome
+      → IsStep r labels vector b d t z (Ok (Ended outcome)) → EndsManifest r labels c js k t z outcome
   -- if the next step fails to write, a prefix of the manifest's whole trace happened
-  pub cut : (vector : ByteString) (d : CheckState) (z : StreamsState) → StepIs r labels vector b d t z (Err Write)
+  pub cut : (vector : ByteString) (d : CheckState) (z : StreamsState) → IsStep r labels vector b d t z (Err Write)
       → PrefixHappened s z (trace (content_behavior r labels c js).steps)
 
 abbrev pub StepsJoin : Type 0
@@ -87,12 +88,12 @@ SameFront = (r : Rules) (w : World) (before : List ByteString) (line : ByteStrin
     → FrontIsSame r w before line later others
 
 -- what is returned if no verdict is left and the manifest ends so
-abbrev pub ending_answer : Ending → Result (Option LineVerdict) LineStop
-ending_answer Whole = Ok None
-ending_answer (Broken f) = Err (Fault f)
+abbrev pub ending_result : Ending → Result (Option LineVerdict) LineStop
+ending_result Whole = Ok None
+ending_result (Broken f) = Err (Fault f)
 
 -- once that was returned, it is returned again
 abbrev pub EndStays : Type 0
 EndStays = (r : Rules) (e : Ending) (vector : ByteString) (a b c : CheckState)
-    (x : Result (Option LineVerdict) LineStop) → HasNoVerdictLeft r e a b → NextVerdictIs r vector b c x
-    → x ≡ ending_answer e
+    (x : Result (Option LineVerdict) LineStop) → HasNoVerdictLeft r e a b → IsNextVerdict r vector b c x
+    → x ≡ ending_result e

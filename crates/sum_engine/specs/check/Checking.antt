@@ -1,20 +1,11 @@
 -- The behavior of checking one manifest.
-use Rattle.std.specs.Prelude.{true, false, List, [], ◌∷◌, length, codes, Bool, if◌then◌else◌, Ok, Err}
-use Rattle.sum_engine.specs.check.Verdicts.{Rules, LineVerdictValue, asks_of, all_verdicts, past_line, present}
+use Rattle.std.specs.Prelude.{true, false, List, [], ◌∷◌, length, Ok, Err}
+use Rattle.sum_engine.specs.check.Rules.{Rules, LabelsValue, rules_of, labels_of}
+use Rattle.sum_engine.specs.check.Judge.{LineVerdictValue, asks_of, all_verdicts, past_line}
 use Rattle.sum_engine.specs.Behavior.{ByteString, World, is_dash, answer_to, after, behavior_then, Step, Behavior, single_step, Content, clip, Answer}
 use Rattle.sum_engine.specs.Generation.{name_fault_line}
 pub use Rattle.sum_engine.specs.declared.settings.CheckSettings.{CheckSettings}
-use Rattle.sum_engine.specs.check.Reports.{LabelsValue, out_of, err_of, counts_of, end_text, good}
-
--- the rules of these settings, by whether the manifest came from standard input
-abbrev pub rules_of : CheckSettings → Bool → Rules
-rules_of s dash =
-    record { profile = present; algo = s.algo; ignore_missing = s.ignore_missing; strict = s.strict; from_stdin = dash }
-
--- what the tool's reports of a manifest of that name show
-abbrev pub labels_of : CheckSettings → ByteString → ByteString → LabelsValue
-labels_of settings tool name =
-    record { tool = tool; manifest = if is_dash name then codes "standard input" else name; report = settings.report }
+use Rattle.sum_engine.specs.check.Reports.{out_of, err_of, counts_of, end_text, good}
 
 -- a step for each line of the content, by these verdicts, and one for the end, which has that text
 abbrev pub line_steps : Rules → LabelsValue → ByteString → Content → List LineVerdictValue → List Step

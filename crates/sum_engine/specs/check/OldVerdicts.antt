@@ -1,9 +1,10 @@
 -- The law of old verdicts: a manifest of the time of older versions is checked alike under both profiles.
 use Rattle.std.specs.Prelude.{◌≡◌, ◌≢◌, ◌<◌, false, [], ◌∷◌, length, map, codes, All, Ok}
-use Rattle.sum_engine.specs.check.Reports.{LabelsValue, out_of, err_of, counts_of, end_text, good}
-use Rattle.sum_engine.specs.Behavior.{ByteString, Whole, World, Content, clip, Answer}
-use Rattle.sum_engine.specs.check.Verdicts.{Algos, Form, lines_under, Rules, all_verdicts, raw_lines, bad, parse_line, EntryValue, IsEntry, form, Profile, present, escape, escape_by}
+use Rattle.sum_engine.specs.check.Rules.{LabelsValue, Rules}
+use Rattle.sum_engine.specs.check.Judge.{Algos, Form, lines_under, all_verdicts, raw_lines, bad, parse_line, EntryValue, IsEntry, form, Profile, present, escape, escape_by}
+use Rattle.sum_engine.specs.check.Reports.{out_of, err_of, counts_of, end_text, good}
 use Rattle.sum_engine.specs.check.Checking.{check_behavior_by}
+use Rattle.sum_engine.specs.Behavior.{ByteString, Whole, World, Content, clip, Answer}
 
 -- the profile of older versions
 abbrev pub older : Profile

@@ -8,15 +8,10 @@ pub use Rattle.sum_engine.specs.declared.settings.Report.{Report}
 pub use Rattle.sum_engine.specs.declared.check.summary.Counts.{Counts}
 use Rattle.sum_engine.specs.declared.settings.Report.TheVariants.{Quiet, Warn, Status}
 use Rattle.sum_engine.specs.contracts.check.judge.Verdict.{the_type}
-use Rattle.sum_engine.specs.check.Verdicts.{Algos, Verdict, Bad, Right, Wrong, Missing, Unread, Rules, LineVerdictValue}
+use Rattle.sum_engine.specs.check.Rules.{Rules, LabelsValue}
+use Rattle.sum_engine.specs.check.Judge.{Algos, Verdict, Bad, Right, Wrong, Missing, Unread, LineVerdictValue}
 use Rattle.sum_lines.specs.Escape.{Profile, escape_by, escape_differs}
 use Rattle.sum_engine.specs.Generation.{tool_line, name_fault_line}
-
--- what the reports of a manifest show: the tool's name, the manifest's, and which lines
-pub record LabelsValue : Type 0 where
-  pub tool : ByteString
-  pub manifest : ByteString
-  pub report : Report
 
 -- NAME: TEXT, after a backslash if the name's escape differs from it
 abbrev pub name_line : Profile → ByteString → ByteString → ByteString

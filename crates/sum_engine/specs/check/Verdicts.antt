@@ -1,72 +1,164 @@
--- The verdicts of a manifest's lines.
-use Rattle.std.specs.Prelude.{ℕ, ◌+◌, ◌&&◌, Bool, true, false, List, [], ◌∷◌, Result, Ok, Err, if◌then◌else◌, bytes_eq}
-pub use Rattle.digest_kinds.specs.declared.algo.Algos.{Algos}
-use Rattle.sum_engine.specs.Behavior.{ByteString, Fault, World, is_dash, answer_to, after, digest_or_fault, Content, Answer}
-use Rattle.sum_sources.specs.declared.fault.Fault.TheVariants.{NotFound}
-pub use Rattle.sum_sources.specs.ManifestLines.{lines, raw_lines, past_line, past_lines}
-pub use Rattle.sum_lines.specs.declared.reading.read_line.Form.{Form}
-pub use Rattle.sum_lines.specs.grammar.Entries.{EntryValue, IsEntry, form, form_then, line_form}
-pub use Rattle.sum_engine.specs.declared.check.judge.Verdict.{Verdict}
-pub use Rattle.sum_engine.specs.declared.check.judge.Verdict.TheVariants.{Ignored, Bad, Right, Wrong, Missing, Unread}
-pub use Rattle.sum_lines.specs.Escape.{Profile, present, escape, escape_by}
-pub use Rattle.sum_lines.specs.grammar.ParsedLines.{ParsedLine, ignored, bad, entry, parse_line}
+-- The verdicts of a manifest, one call after another; no text is written.
+use Rattle.std.specs.Prelude.{◌≡◌, ◌+◌, ◌≤◌, ◌<◌, ◌⊎◌, List, [], ◌∷◌, length, slice_range, Bool, true, false, Option, None, Some, IfSome, Result, Ok, Err, ⊤}
+use Rattle.sum_lines.specs.declared.reading.read_line.Form.TheVariants.{Undecided}
+use Rattle.sum_sources.specs.Contents.{unread}
+use Rattle.sum_sources.specs.LineReaders.{AdvancesLines, IsBounded, IsReading, consumed_count, remaining}
+use Rattle.sum_sources.specs.declared.line_reader.LineReader.{LineReader}
+pub use Rattle.sum_sources.specs.declared.line_reader.LineStop.{LineStop}
+use Rattle.sum_sources.specs.declared.line_reader.LineStop.TheVariants.{Fault, Memory}
+use Rattle.sum_sources.specs.declared.line_reader.Next.TheVariants.{NoMore}
+use Rattle.sum_sources.specs.declared.line_reader.Next.{Next}
+use Rattle.sum_engine.specs.Behavior.{ByteString, Ending, Whole, Broken, World, after, Content, InputState, IsOf}
+use Rattle.sum_engine.specs.Execution.{InputsState, Agrees, world_at, ReadsToEndIf, AsksNames}
+use Rattle.sum_engine.specs.refinement.Names.{MemoryWasRefused}
+pub use Rattle.sum_engine.specs.declared.check.judge.LineVerdict.{LineVerdict}
+use Rattle.sum_engine.specs.check.Rules.{Rules}
+use Rattle.sum_engine.specs.check.Judge.{Form, LineVerdictValue, asks_of}
+use Rattle.sum_engine.specs.check.Reports.{Counts, is_unread}
+use Rattle.sum_engine.specs.check.CheckStates.{CheckState, no_counts, counts_with, HandlesLine, remaining_verdicts}
 
--- by what a manifest's lines are judged
-pub record Rules : Type 0 where
-  pub profile : Profile
-  pub algo : Algos  -- the algorithms that they may name
-  pub ignore_missing : Bool  -- an option that changes verdicts
-  pub strict : Bool  -- one that changes whether the manifest is good
-  pub from_stdin : Bool  -- whether the manifest came from standard input
+-- the verdicts of a manifest: its rules, its reader, the form and the counts of its lines so far, and the outcome: that
+-- no line is left, or why the verdicts stopped
+pub record VerdictsValue (I : Type 0) : Type 0 where
+  pub rules : Rules
+  pub reader : LineReader I
+  pub form : Form
+  pub counts : Counts
+  pub outcome : Option (Result ⊤ LineStop)
 
--- a line's number (the first is 1), its verdict, and the name of its entry
-pub record LineVerdictValue : Type 0 where
-  pub number : ℕ
-  pub verdict : Verdict
-  pub name : ByteString
+-- it is at the first line of that input
+pub record IsAtStart {I : Type 0} (state : I → InputState) (p : VerdictsValue I) (input : I) : Type 0 where
+  pub reader : p.reader ≡ record { input = input; ahead = []; taken = 0; lines = 0; final_answer = None }
+  pub reading : (state input).reads ≡ unread → IsReading state p.reader
+  pub form : p.form ≡ Undecided
+  pub counts : p.counts ≡ no_counts
+  pub outcome : p.outcome ≡ None
 
--- there is no such file
-abbrev pub not_found : Answer → Bool
-not_found (Err NotFound) = true
-not_found r = false
+-- the state of the check there, if this content remains in this world
+abbrev pub state_at : {I : Type 0} → VerdictsValue I → Content → World → CheckState
+state_at p c w = record {
+  remaining = c;
+  number = p.reader.lines;
+  consumed = consumed_count p.reader;
+  taken = p.reader.taken;
+  form = p.form;
+  counts = p.counts;
+  world = w;
+}
 
--- the verdict of an entry with this digest, by what reading the file gives
-abbrev pub verdict_by : ByteString → Result (ByteString) Fault → Verdict
-verdict_by digest (Ok d) = if bytes_eq d digest then Right else Wrong
-verdict_by digest (Err f) = Unread f
+-- P holds between the check's states at two values and inputs: of each content of the manifest, and in each world, that
+-- agrees with what was read by then
+pub record InEachCheck {I : Type 0} (state : I → InputState) (p q : VerdictsValue I) (a b : InputsState)
+    (P : CheckState → CheckState → Type 0) : Type 0 where
+  pub holds : (c : Content) → IsOf (state q.reader.input).reads c → (w : World) → Agrees w b
+      → P (state_at p (remaining p.reader c) (world_at w a)) (state_at q (remaining q.reader c) (world_at w b))
 
--- the verdict of an entry
-abbrev pub verdict_of : Rules → World → EntryValue → Verdict
-verdict_of r w s = let c = answer_to w s.name in
-    if r.from_stdin && is_dash s.name then Bad
-    else if r.ignore_missing && not_found c then Missing
-    else verdict_by s.digest (digest_or_fault s.kind c)
+-- ---- what a call returns
 
--- the verdict of line n, which says this
-abbrev pub judge : Rules → World → ℕ → ParsedLine → LineVerdictValue
-judge r w n ignored = record { number = n; verdict = Ignored; name = [] }
-judge r w n bad = record { number = n; verdict = Bad; name = [] }
-judge r w n (entry s) = record { number = n; verdict = verdict_of r w s; name = s.name }
+-- what a call for the next verdict returns
+abbrev pub VerdictResult : Type 0
+VerdictResult = Result (Option LineVerdict) LineStop
 
--- a verdict other than these two asks the name of its entry
-abbrev pub asks_by : Verdict → ByteString → List ByteString
-asks_by Ignored name = []
-asks_by Bad name = []
-asks_by v name = name ∷ []
+-- the line's verdict, with its name in place of the name's range in the vector
+abbrev pub line_verdict_value : ByteString → LineVerdict → LineVerdictValue
+line_verdict_value vector v =
+    record { number = v.number; verdict = v.verdict; name = slice_range vector v.start v.stop }
 
-abbrev pub asks_of : LineVerdictValue → List ByteString
-asks_of j = asks_by j.verdict j.name
+-- the range is within the vector
+pub record HasNameRange (vector : ByteString) (v : LineVerdict) : Type 0 where
+  pub start : v.start ≤ v.stop
+  pub stop : v.stop ≤ length vector
 
--- the lines of a content, each without one carriage return at its end, unless the profile drops none
-abbrev pub lines_under : Profile → Content → List ByteString
-lines_under p c = if p.drops_carriage_return then lines c else raw_lines c
+-- a line was judged, which is the first of those that remained; its name was opened, if its verdict asks it
+pub record FindsFirstVerdict (r : Rules) (a b : CheckState) (j : LineVerdictValue) : Type 0 where
+  pub first : remaining_verdicts r a ≡ j ∷ remaining_verdicts r b
+  pub world : b.world ≡ after a.world (asks_of j)
+  pub counts : b.counts ≡ counts_with a.counts j.verdict
 
--- the verdicts of the lines after line n in a manifest of that form, each after the asks of those before it
-abbrev pub verdicts : Rules → Form → World → ℕ → List ByteString → List LineVerdictValue
-verdicts r f w n [] = []
-verdicts r f w n (l ∷ ls) =
-    let j = judge r w (n + 1) (parse_line r.profile r.algo f l) in j ∷ verdicts r f (after w (asks_of j)) (n + 1) ls
+-- no line remained, and the manifest ends so; nothing was opened, and only that ending remains
+pub record HasNoVerdictLeft (r : Rules) (e : Ending) (a b : CheckState) : Type 0 where
+  pub verdicts : remaining_verdicts r a ≡ []
+  pub ending : a.remaining.ending ≡ e
+  pub world : b.world ≡ a.world
+  pub counts : b.counts ≡ a.counts
+  pub remaining : b.remaining ≡ record { bytes = []; ending = e }
 
--- those of a whole manifest, whose form is that of all its lines
-abbrev pub all_verdicts : Rules → World → Content → List LineVerdictValue
-all_verdicts r w c = verdicts r (form r.algo (lines_under r.profile c)) w 0 (lines_under r.profile c)
+-- the next verdict, by what the call returns
+abbrev pub IsNextVerdict : Rules → ByteString → CheckState → CheckState → VerdictResult → Type 0
+IsNextVerdict r vector a b (Ok (Some v)) =
+    FindsFirstVerdict r a b (line_verdict_value vector v) × HandlesLine r a b vector
+IsNextVerdict r vector a b (Ok None) = HasNoVerdictLeft r Whole a b
+IsNextVerdict r vector a b (Err (Fault f)) = HasNoVerdictLeft r (Broken f) a b
+IsNextVerdict r vector a b (Err Memory) = (b.world ≡ a.world) × (0 < length a.remaining.bytes)
+
+-- the same between two values and inputs, of an input that was unread at the start
+abbrev pub FindsVerdict : {I : Type 0} → (I → InputState) → ByteString → VerdictsValue I → VerdictsValue I → InputsState
+    → InputsState → VerdictResult → Type 0
+FindsVerdict state vector p q a b x = IsReading state p.reader
+    → InEachCheck state p q a b (λ c d. IsNextVerdict p.rules vector c d x)
+
+-- ---- the outcome
+
+-- An outcome stays. A call keeps the outcome in its result, if there is one. From then on each call returns the same
+-- outcome again, and nothing else changes
+pub record KeepsOutcome {X F : Type 0} (outcome_in : X → Option F) (old new : Option F) (Unchanged : Type 0) (x : X)
+    : Type 0 where
+  pub kept : new ≡ outcome_in x
+  pub again : IfSome old (λ outcome. (outcome_in x ≡ Some outcome) × Unchanged)
+
+-- a line is no outcome; that no line is left is one, and so is a stop
+abbrev pub outcome_in_next : VerdictResult → Option (Result ⊤ LineStop)
+outcome_in_next (Ok (Some v)) = None
+outcome_in_next (Ok None) = Some (Ok tt)
+outcome_in_next (Err stop) = Some (Err stop)
+
+-- whether the outcome is that no line is left, and no fault broke the manifest
+abbrev pub is_whole : Option (Result ⊤ LineStop) → Bool
+is_whole (Some (Ok u)) = true
+is_whole outcome = false
+
+-- ---- what a call does
+
+-- the counts after such a call
+abbrev pub counts_after : Counts → VerdictResult → Counts
+counts_after c (Ok (Some v)) = counts_with c v.verdict
+counts_after c x = c
+
+-- it isn't a line whose file could not be opened or read
+abbrev pub IsNotUnread : VerdictResult → Type 0
+IsNotUnread (Ok (Some v)) = is_unread v.verdict ≡ false
+IsNotUnread x = ⊤
+
+-- the names that such a call asks
+abbrev pub names_of_result : ByteString → VerdictResult → List ByteString
+names_of_result vector (Ok (Some v)) = asks_of (line_verdict_value vector v)
+names_of_result vector x = []
+
+-- what such a call asks: the name of the line's verdict, or none; or the source was refused memory
+abbrev pub AsksFor : ByteString → InputsState → InputsState → VerdictResult → Type 0
+AsksFor vector a b (Err Memory) = MemoryWasRefused a b ⊎ (b ≡ a)
+AsksFor vector a b x = AsksNames a b (names_of_result vector x)
+
+-- how such a call moves on
+pub record MovesOn {I : Type 0} (state : I → InputState) (a b : VerdictsValue I) (x : VerdictResult) : Type 0 where
+  pub rules : b.rules ≡ a.rules
+  pub counts : b.counts ≡ counts_after a.counts x
+  pub number : (v : LineVerdict) → x ≡ Ok (Some v) → b.reader.lines ≡ a.reader.lines + 1
+  pub end : x ≡ Ok None → b.reader.final_answer ≡ Some (Ok NoMore)
+  -- how its reader read the line, or what else that found
+  pub found : Result Next LineStop
+  pub reader : AdvancesLines state a.reader b.reader found
+  pub bounds : IsBounded b.reader
+  -- if the input was unread at the start: what was read by now is of no content that what was read before wasn't of
+  pub reading : IsReading state a.reader → IsReading state b.reader
+  pub before : IsReading state a.reader → (c : Content) → IsOf (state b.reader.input).reads c
+      → IsOf (state a.reader.input).reads c
+
+-- what such a call does
+pub record AdvancesVerdicts {I : Type 0} (state : I → InputState) (vector : ByteString) (p q : VerdictsValue I)
+    (a b : InputsState) (x : VerdictResult) : Type 0 where
+  pub moves : MovesOn state p q x
+  pub asked : AsksFor vector a b x
+  pub reads : ReadsToEndIf (IsNotUnread x) a b
+  -- the lines of standard input don't name it
+  pub stdin : p.rules.from_stdin ≡ true → b.stdin ≡ a.stdin

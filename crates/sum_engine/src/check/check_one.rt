@@ -3,7 +3,7 @@ ghost use Rattle.sum_engine.specs.check.Checking.{check_behavior};
 ghost use Rattle.sum_engine.specs.Execution.{IsFlushed, FailuresMatch, IsOneMoreAtMost, RefusalsMatch, StopHasCause};
 ghost use Rattle.sum_engine.specs.Execution.{Performs, IsAtEndIf, ReadsToEndIf};
 ghost use Rattle.sum_sources.specs.Contents.{unread, IsSameInput};
-ghost use Rattle.sum_engine.specs.check.CheckStates.{IsAtStart};
+ghost use Rattle.sum_engine.specs.check.Verdicts.{IsAtStart};
 ghost use Rattle.std.specs.Prelude.{◌≡◌, true, None, Ok};
 ghost use Rattle.sum_engine.specs.check.CheckerLaws.{ManifestPerforms};
 
@@ -71,16 +71,16 @@ fn run_to_end<'a, A: Allocator, I: Input, J: Input + Drop, S: Source, O: Sink, E
     mut checker: Checker<'a, I>,
     streams: &mut Streams<Inputs<J, S>, Outputs<O, E>>,
 ) -> (Result<bool, Stop>, I)
-    requires start { IsAtStart I.state checker.cursor checker.cursor.reader.input }
-    requires final_answer { checker.final_answer ≡ None }
-    ensures behavior { ManifestPerforms checker.entry.cursor.rules checker.entry.labels
-        (I.state checker.entry.cursor.reader.input) (I.state result.1) streams.old streams.new result.0 }
+    requires start { IsAtStart I.state checker.verdicts checker.verdicts.reader.input }
+    requires outcome { checker.outcome ≡ None }
+    ensures behavior { ManifestPerforms checker.entry.verdicts.rules checker.entry.labels
+        (I.state checker.entry.verdicts.reader.input) (I.state result.1) streams.old streams.new result.0 }
     ensures cause { StopHasCause IsOneMoreAtMost streams.old streams.new result.0 }
     ensures reads { ReadsToEndIf (result.0 ≡ Ok true) streams.old.inputs streams.new.inputs }
-    ensures stdin { checker.entry.cursor.rules.from_stdin ≡ true
+    ensures stdin { checker.entry.verdicts.rules.from_stdin ≡ true
         → streams.new.inputs.stdin ≡ streams.old.inputs.stdin }
-    ensures same { IsSameInput (I.state checker.entry.cursor.reader.input) (I.state result.1) }
-    ensures manifest { (I.state checker.entry.cursor.reader.input).reads ≡ unread
+    ensures same { IsSameInput (I.state checker.entry.verdicts.reader.input) (I.state result.1) }
+    ensures manifest { (I.state checker.entry.verdicts.reader.input).reads ≡ unread
         → IsAtEndIf (result.0 ≡ Ok true) (I.state result.1).reads }
 {
     let mut line = Vec::new(alloc);
@@ -94,19 +94,19 @@ fn check_lines<'a, A: Allocator, I: Input, J: Input + Drop, S: Source, O: Sink, 
     line: &mut Vec<u8, A>,
     streams: &mut Streams<Inputs<J, S>, Outputs<O, E>>,
 ) -> Result<bool, Stop>
-    requires start { IsAtStart I.state checker.old.cursor checker.old.cursor.reader.input }
-    requires final_answer { checker.old.final_answer ≡ None }
-    ensures behavior { ManifestPerforms checker.old.cursor.rules checker.old.labels
-        (I.state checker.old.cursor.reader.input) (I.state checker.new.cursor.reader.input) streams.old streams.new
+    requires start { IsAtStart I.state checker.old.verdicts checker.old.verdicts.reader.input }
+    requires outcome { checker.old.outcome ≡ None }
+    ensures behavior { ManifestPerforms checker.old.verdicts.rules checker.old.labels
+        (I.state checker.old.verdicts.reader.input) (I.state checker.new.verdicts.reader.input) streams.old streams.new
         result }
     ensures cause { StopHasCause IsOneMoreAtMost streams.old streams.new result }
     ensures reads { ReadsToEndIf (result ≡ Ok true) streams.old.inputs streams.new.inputs }
-    ensures stdin { checker.old.cursor.rules.from_stdin ≡ true
+    ensures stdin { checker.old.verdicts.rules.from_stdin ≡ true
         → streams.new.inputs.stdin ≡ streams.old.inputs.stdin }
-    ensures same { IsSameInput (I.state checker.old.cursor.reader.input)
-        (I.state checker.new.cursor.reader.input) }
-    ensures manifest { (I.state checker.old.cursor.reader.input).reads ≡ unread
-        → IsAtEndIf (result ≡ Ok true) (I.state checker.new.cursor.reader.input).reads }
+    ensures same { IsSameInput (I.state checker.old.verdicts.reader.input)
+        (I.state checker.new.verdicts.reader.input) }
+    ensures manifest { (I.state checker.old.verdicts.reader.input).reads ≡ unread
+        → IsAtEndIf (result ≡ Ok true) (I.state checker.new.verdicts.reader.input).reads }
 {
     'lines: loop {
         match checker.step(line, streams) {

@@ -1,49 +1,50 @@
 //! Checking a manifest, a line at a time.
-ghost use Rattle.std.specs.Prelude.{◌≡◌, ◌≤◌, ◌^◌, None, IfSome};
-ghost use Rattle.sum_engine.specs.check.Checking.{rules_of};
+ghost use Rattle.std.specs.Prelude.{◌≡◌, ◌≤◌, ◌^◌, None, true, Ok, IfOk, IfSome};
+ghost use Rattle.sum_engine.specs.check.Checker.{ReportsFound};
+ghost use Rattle.sum_engine.specs.check.Rules.{rules_of};
+ghost use Rattle.sum_engine.specs.check.Verdicts.{HasNameRange, is_whole};
 
+use crate::check::judge::LineVerdict;
 use crate::check::progress::Progress;
+use crate::check::report::put_report;
 use crate::check::rules::Labels;
+use crate::check::summary::put_summary;
 use crate::check::verdicts::Verdicts;
 use crate::inputs::Inputs;
+use crate::put_flushed::{outcome_after, put_name_fault_line};
 use crate::settings::CheckSettings;
 use crate::stop::Stop;
 use crate::streams::{Outputs, Streams};
 use std::alloc::Allocator;
 use std::marker::Model;
 use sum_lines::Sink;
-use sum_sources::{Input, Source};
+use sum_sources::{Input, LineStop, Source};
 
 /// A manifest that is being checked. A checker takes a line and handles it, and only then takes the next.
 #[derive(Debug, Drop)]
 pub struct Checker<'a, I> {
     verdicts: Verdicts<I>,
     labels: Labels<'a>,
-    // whether writing the text of a step failed; every later step then returns that again
-    write_failed: bool,
+    // Whether the manifest is good, or why the check stopped: every later step returns it again.
+    outcome: Option<Result<bool, Stop>>,
 }
 
 impl<'a, I> Model for Checker<'a, I> {
-    ghost use Rattle.sum_engine.specs.check.CheckerSteps.{CheckerValue};
+    ghost use Rattle.sum_engine.specs.check.Checker.{CheckerValue};
 
     ghost Value = { CheckerValue I };
 
-    ghost use Rattle.std.specs.Prelude.{Some, Err, false, if◌then◌else◌, option_map};
-    ghost use Rattle.sum_engine.specs.Execution.{Write};
-    ghost use Rattle.sum_engine.specs.check.CheckerSteps.{step_answer};
+    ghost view = { λ c. record { verdicts = c.verdicts; labels = c.labels; outcome = c.outcome } };
 
-    ghost view = { λ c. record {
-      cursor = c.verdicts.cursor;
-      labels = c.labels;
-      final_answer = if c.write_failed then Some (Err Write)
-          else option_map (λ found. step_answer c.verdicts.cursor found false) c.verdicts.final_answer;
-    } };
+    ghost use Rattle.std.specs.Prelude.{◌≡◌, None};
+
+    ghost invariant = { λ c. c.outcome ≡ None → c.verdicts.outcome ≡ None };
 }
 
 impl<'a, I: Input> Checker<'a, I> {
     ghost use Rattle.sum_engine.specs.Execution.{IsFlushed};
-    ghost use Rattle.sum_engine.specs.check.CheckStates.{IsAtStart};
-    ghost use Rattle.sum_engine.specs.check.CheckerSteps.{TakesStep, AdvancesChecker};
+    ghost use Rattle.sum_engine.specs.check.Checker.{AdvancesChecker, TakesStep, outcome_in_step};
+    ghost use Rattle.sum_engine.specs.check.Verdicts.{IsAtStart, KeepsOutcome};
 
     /// A checker of the manifest that `input` gives. Its diagnostics begin with `tool`, for example `md5sum`, and show
     /// the name `manifest`. `from_stdin` says whether the manifest came from standard input: a line that names `-` is
@@ -55,11 +56,11 @@ impl<'a, I: Input> Checker<'a, I> {
         from_stdin: bool,
         input: I,
     ) -> Self
-        ensures rules { result.cursor.rules ≡ rules_of settings from_stdin }
+        ensures rules { result.verdicts.rules ≡ rules_of settings from_stdin }
         ensures labels { result.labels
             ≡ record { tool = tool.entry.now; manifest = manifest.entry.now; report = settings.report } }
-        ensures start { IsAtStart I.state result.cursor input }
-        ensures final_answer { result.final_answer ≡ None }
+        ensures start { IsAtStart I.state result.verdicts input }
+        ensures outcome { result.outcome ≡ None }
     {
         Checker {
             verdicts: Verdicts::new(settings, from_stdin, input),
@@ -68,21 +69,21 @@ impl<'a, I: Input> Checker<'a, I> {
                 manifest,
                 report: settings.report,
             },
-            write_failed: false,
+            outcome: None,
         }
     }
 
     /// How many bytes the manifest's input has given.
     pub fn taken(&self) -> u64
-        ensures value { result ≡ self.now.cursor.reader.taken }
+        ensures value { result ≡ self.now.verdicts.reader.taken }
         ensures at_most { result ≤ 2 ^ 61 }
     {
-        self.verdicts.cursor().taken()
+        self.verdicts.taken()
     }
 
     /// The manifest's input, past the bytes that it has given. Bytes that were read ahead of the last line are lost.
     pub fn into_inner(self) -> I
-        ensures { result ≡ self.entry.cursor.reader.input }
+        ensures { result ≡ self.entry.verdicts.reader.input }
     {
         self.verdicts.into_inner()
     }
@@ -99,36 +100,69 @@ impl<'a, I: Input> Checker<'a, I> {
         line: &mut Vec<u8, A>,
         streams: &mut Streams<Inputs<J, S>, Outputs<O, E>>,
     ) -> Result<Progress, Stop>
-        // A final answer is returned again; checker and streams stay as they are.
-        ensures repeats { IfSome self.old.final_answer
-            (λ r. (result ≡ r) × (self.new ≡ self.old) × (streams.new ≡ streams.old)) }
+        // An outcome is returned again; checker and streams stay as they are.
+        ensures outcome { KeepsOutcome outcome_in_step self.old.outcome self.new.outcome
+            ((self.new ≡ self.old) × (streams.new ≡ streams.old)) result }
         // If both outputs are flushed: the next step of the behavior, of every content and in every world that agree
         // with what was read.
-        ensures step { self.old.final_answer ≡ None → TakesStep I.state line.new.items self.old.labels
-            self.old.cursor self.new.cursor streams.old streams.new result }
-        // What was found, and which answers are final.
-        ensures advances { self.old.final_answer ≡ None
+        ensures step { self.old.outcome ≡ None → TakesStep I.state line.new.items self.old.labels
+            self.old.verdicts self.new.verdicts streams.old streams.new result }
+        // What was found, and what was written of it.
+        ensures advances { self.old.outcome ≡ None
             → AdvancesChecker I.state line.new.items self.old self.new streams.old streams.new result }
         ensures flushed { IsFlushed streams.old.outputs → IsFlushed streams.new.outputs }
     {
-        if let Some(answer) = self.final_answer() {
-            return answer;
+        match self.outcome {
+            None => {}
+            Some(Ok(good)) => return Ok(Progress::Ended(good)),
+            Some(Err(stop)) => return Err(stop),
         }
         let found = self.verdicts.next(line, &mut streams.inputs);
-        let cursor = self.verdicts.cursor();
-        let written = cursor.put_found(&self.labels, line, found, &mut streams.outputs);
-        self.write_failed = written.is_err();
-        self.verdicts.cursor().answer(found, self.write_failed)
-    }
-
-    // What every later step returns, if that is settled.
-    fn final_answer(&self) -> Option<Result<Progress, Stop>>
-        ensures { result ≡ self.now.final_answer }
-    {
-        if self.write_failed {
-            return Some(Err(Stop::Write));
+        let result = report_found(
+            &self.verdicts,
+            &self.labels,
+            line,
+            found,
+            &mut streams.outputs,
+        );
+        // After a line nothing is stored, which ignored lines would feel.
+        match result {
+            Ok(Progress::Going) => {}
+            Ok(Progress::Ended(good)) => self.outcome = Some(Ok(good)),
+            Err(stop) => self.outcome = Some(Err(stop)),
         }
-        let found = self.verdicts.final_answer()?;
-        Some(self.verdicts.cursor().answer(found, false))
+        result
+    }
+}
+
+// Writes the report of the line in `line`, or the end of the manifest, by what `next` has returned; and returns what
+// the step returns.
+fn report_found<I: Input, O: Sink, E: Sink>(
+    verdicts: &Verdicts<I>,
+    labels: &Labels,
+    line: &[u8],
+    found: Result<Option<LineVerdict>, LineStop>,
+    outputs: &mut Outputs<O, E>,
+) -> Result<Progress, Stop>
+    requires name_range { IfOk found (λ found. IfSome found (λ v. HasNameRange line.now v)) }
+    requires whole { found ≡ Ok None → is_whole verdicts.now.outcome ≡ true }
+    ensures { ReportsFound verdicts.now labels.now line.now found outputs.old outputs.new result }
+{
+    let rules = verdicts.rules();
+    match found {
+        Err(LineStop::Memory) => Err(Stop::Memory),
+        Err(LineStop::Fault(fault)) => {
+            let written = put_name_fault_line(outputs, labels.tool, labels.manifest, fault);
+            outcome_after(written, Progress::Ended(false))
+        }
+        Ok(None) => {
+            let written = put_summary(outputs, rules, labels, verdicts.counts());
+            outcome_after(written, Progress::Ended(verdicts.is_good()))
+        }
+        Ok(Some(found)) => {
+            let (number, verdict, name) = (found.number, found.verdict, found.name(line));
+            let written = put_report(outputs, rules, labels, number, verdict, name);
+            outcome_after(written, Progress::Going)
+        }
     }
 }

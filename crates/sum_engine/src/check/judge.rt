@@ -1,10 +1,10 @@
 //! The verdict of a line.
 ghost use Rattle.std.specs.Prelude.{◌≡◌, true, false, IfOk, MatchResult, slice_range};
-ghost use Rattle.sum_engine.specs.check.Verdicts.{asks_by};
+ghost use Rattle.sum_engine.specs.check.Judge.{asks_by};
 ghost use Rattle.sum_engine.specs.check.Reports.{is_unread};
 ghost use Rattle.sum_lines.specs.grammar.ParsedLines.{entry};
 ghost use Rattle.sum_engine.specs.refinement.Names.{MemoryWasRefused};
-ghost use Rattle.sum_engine.specs.check.NextVerdict.{HasNameRange};
+ghost use Rattle.sum_engine.specs.check.Verdicts.{HasNameRange};
 
 use crate::check::rules::CheckRules;
 use crate::hash_name::{HashOutcome, hash_name, is_dash};
@@ -58,7 +58,7 @@ impl LineVerdict {
     }
 }
 
-ghost use Rattle.sum_engine.specs.refinement.Judging.{JudgeOf};
+ghost use Rattle.sum_engine.specs.refinement.Judging.{Judges};
 ghost use Rattle.sum_engine.specs.refinement.Judging.{verdict_of_outcome, listed_entry};
 ghost use Rattle.sum_engine.specs.Behavior.{World};
 ghost use Rattle.sum_engine.specs.Execution.{Agrees, world_at, AsksNames, ReadsToEndIf};
@@ -79,7 +79,7 @@ pub(crate) fn judge<I: Input + Drop, S: Source>(
     buffer: &mut [u8; PIECE],
 ) -> Result<Verdict, NoRoom>
     ensures verdict { (w : World) → Agrees w inputs.new
-        → JudgeOf rules (world_at w inputs.old) (entry (listed_entry listed.now)) result }
+        → Judges rules (world_at w inputs.old) (entry (listed_entry listed.now)) result }
     ensures asked { MatchResult result (λ v. AsksNames inputs.old inputs.new (asks_by v listed.now.name.now))
         (λ _. MemoryWasRefused inputs.old inputs.new) }
     ensures stdin { rules.from_stdin ≡ true → inputs.new.stdin ≡ inputs.old.stdin }

@@ -1,6 +1,6 @@
 //! The rules by which a manifest's lines are judged, and what its reports show.
 ghost use Rattle.std.specs.Prelude.{◌≡◌};
-ghost use Rattle.sum_engine.specs.check.Checking.{rules_of};
+ghost use Rattle.sum_engine.specs.check.Rules.{rules_of};
 
 use crate::settings::{CheckSettings, Report};
 use digest_kinds::Algos;
@@ -17,7 +17,7 @@ pub(crate) struct CheckRules {
 }
 
 impl Model for CheckRules {
-    ghost use Rattle.sum_engine.specs.check.Verdicts.{Rules};
+    ghost use Rattle.sum_engine.specs.check.Rules.{Rules};
     ghost use Rattle.sum_lines.specs.Escape.{present};
 
     ghost Value = { Rules };
@@ -61,7 +61,7 @@ pub(crate) struct Labels<'a> {
 }
 
 impl<'a> Model for Labels<'a> {
-    ghost use Rattle.sum_engine.specs.check.Reports.{LabelsValue};
+    ghost use Rattle.sum_engine.specs.check.Rules.{LabelsValue};
 
     ghost Value = { LabelsValue };
 

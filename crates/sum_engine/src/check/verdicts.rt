@@ -1,67 +1,119 @@
 //! The verdicts of a manifest, without any text.
-ghost use Rattle.std.specs.Prelude.{◌≡◌, ◌&&◌, None, IfOk, IfSome};
-ghost use Rattle.std.specs.Option.{option_and_then};
-ghost use Rattle.sum_engine.specs.check.Checking.{rules_of};
-ghost use Rattle.sum_engine.specs.check.NextVerdict.{final_answer_of_next};
+ghost use Rattle.std.specs.Prelude.{◌≡◌, ◌≤◌, ◌<◌, ◌^◌, ◌&&◌, None, true, IfOk, IfSome, MatchResult};
+ghost use Rattle.sum_engine.specs.check.CheckStates.{counts_with, total};
+ghost use Rattle.sum_engine.specs.check.Rules.{rules_of};
 
-use crate::check::cursor::CheckCursor;
-use crate::check::judge::LineVerdict;
+use crate::check::judge::{LineVerdict, ListedEntry, Verdict, judge};
+use crate::check::rules::CheckRules;
+use crate::check::summary::{Counts, is_good};
 use crate::inputs::Inputs;
 use crate::settings::CheckSettings;
 use std::alloc::Allocator;
 use std::marker::Model;
-use sum_sources::{Input, LineStop, Source};
+use sum_lines::{Form, Reading, read_line};
+use sum_sources::{Input, LineReader, LineStop, Next, NoRoom, PIECE, Source};
 
 /// The verdicts of a manifest's lines, one at a time, for a program that shows them in its own way. Nothing is written.
 #[derive(Debug, Drop)]
 pub struct Verdicts<I> {
-    cursor: CheckCursor<I>,
-    // what every later call returns, if anything is final
-    final_answer: Option<Result<Option<LineVerdict>, LineStop>>,
-    ghost again: { option_and_then final_answer_of_next final_answer ≡ final_answer },
+    rules: CheckRules,
+    reader: LineReader<I>,
+    form: Form,
+    counts: Counts,
+    // Listed files are read into this, one after another.
+    buffer: [u8; PIECE],
+    // That no line is left, or why the verdicts stopped: every later call returns it again.
+    outcome: Option<Result<(), LineStop>>,
 }
 
 impl<I> Model for Verdicts<I> {
-    ghost use Rattle.sum_engine.specs.check.NextVerdict.{VerdictsValue};
+    ghost use Rattle.std.specs.Prelude.{◌≡◌, ◌≤◌, ◌^◌};
+    ghost use Rattle.sum_lines.specs.Escape.{present};
+    ghost use Rattle.sum_engine.specs.check.CheckStates.{total};
+    ghost use Rattle.sum_engine.specs.check.Verdicts.{VerdictsValue};
 
     ghost Value = { VerdictsValue I };
 
-    ghost view = { λ v. record { cursor = v.cursor; final_answer = v.final_answer } };
+    ghost view = { λ v. record {
+      rules = v.rules;
+      reader = v.reader;
+      form = v.form;
+      counts = v.counts;
+      outcome = v.outcome;
+    } };
+
+    ghost invariant = { λ v. (total v.counts ≤ v.reader.lines) × (v.reader.lines ≤ 2 ^ 61)
+        × (v.rules.profile ≡ present) };
 }
 
 impl<I: Input> Verdicts<I> {
     ghost use Rattle.sum_sources.specs.declared.fault.Ending.TheVariants.{Whole};
+    ghost use Rattle.sum_engine.specs.Behavior.{World};
+    ghost use Rattle.sum_engine.specs.Execution.{Agrees, world_at, AsksNames, ReadsToEndIf};
+    ghost use Rattle.sum_engine.specs.check.Judge.{asks_of, present};
     ghost use Rattle.sum_engine.specs.check.Reports.{good};
-    ghost use Rattle.sum_engine.specs.check.CheckStates.{IsAtStart};
-    ghost use Rattle.sum_engine.specs.check.NextVerdict.{HasNameRange, FindsVerdict};
-    ghost use Rattle.sum_engine.specs.check.NextVerdict.{AdvancesVerdicts, is_whole};
+    ghost use Rattle.sum_engine.specs.check.Verdicts.{AdvancesVerdicts, FindsVerdict, HasNameRange, IsAtStart};
+    ghost use Rattle.sum_engine.specs.check.Verdicts.{IsNotUnread, KeepsOutcome, is_whole, line_verdict_value};
+    ghost use Rattle.sum_engine.specs.check.Verdicts.{outcome_in_next};
+    ghost use Rattle.sum_engine.specs.refinement.Judging.{JudgesLine, TakesLine, found_verdict};
+    ghost use Rattle.sum_engine.specs.refinement.Names.{MemoryWasRefused};
 
     /// The verdicts of the manifest that `input` gives, before its first line. `from_stdin` says whether the manifest
     /// came from standard input: a line that names `-` is then improperly formatted. The report setting has no part in
     /// this.
     pub fn new(settings: CheckSettings, from_stdin: bool, input: I) -> Self
-        ensures rules { result.cursor.rules ≡ rules_of settings from_stdin }
-        ensures start { IsAtStart I.state result.cursor input }
-        ensures final_answer { result.final_answer ≡ None }
+        ensures rules { result.rules ≡ rules_of settings from_stdin }
+        ensures start { IsAtStart I.state result input }
     {
         Verdicts {
-            cursor: CheckCursor::new(settings, from_stdin, input),
-            final_answer: None,
+            rules: CheckRules::new(settings, from_stdin),
+            reader: LineReader::new(input),
+            form: Form::Undecided,
+            counts: Counts::NONE,
+            buffer: [0; PIECE],
+            outcome: None,
         }
     }
 
     /// How many bytes the manifest's input has given.
     pub fn taken(&self) -> u64
-        ensures { result ≡ self.now.cursor.reader.taken }
+        ensures value { result ≡ self.now.reader.taken }
+        ensures at_most { result ≤ 2 ^ 61 }
     {
-        self.cursor.taken()
+        self.reader.taken()
     }
 
     /// The manifest's input, past the bytes that it has given. Bytes that were read ahead of the last line are lost.
     pub fn into_inner(self) -> I
-        ensures { result ≡ self.cursor.reader.input }
+        ensures { result ≡ self.reader.input }
     {
-        self.cursor.into_inner()
+        self.reader.into_inner()
+    }
+
+    /// Whether the manifest is good; false before `next` has returned that no line is left.
+    pub fn is_good(&self) -> bool
+        ensures { result ≡ is_whole self.now.outcome && good self.now.rules Whole self.now.counts }
+    {
+        match self.outcome {
+            Some(Ok(())) => is_good(self.rules, self.counts),
+            _ => false,
+        }
+    }
+
+    /// By what its lines are judged.
+    pub(crate) fn rules(&self) -> CheckRules
+        ensures value { result ≡ self.now.rules }
+        ensures profile { result.profile ≡ present }
+    {
+        self.rules
+    }
+
+    /// How many of its lines so far have each verdict.
+    pub(crate) fn counts(&self) -> Counts
+        ensures value { result ≡ self.now.counts }
+        ensures few { total result < 2 ^ 63 }
+    {
+        self.counts
     }
 
     /// Reads the next line, and finds its verdict; `None` if no line is left and the manifest ended whole. `line` is
@@ -77,52 +129,94 @@ impl<I: Input> Verdicts<I> {
         line: &mut Vec<u8, A>,
         inputs: &mut Inputs<J, S>,
     ) -> Result<Option<LineVerdict>, LineStop>
-        // A final answer is returned again; all but `line` stays as it is.
-        ensures repeats { IfSome self.old.final_answer
-            (λ r. (result ≡ r) × (self.new ≡ self.old) × (inputs.new ≡ inputs.old)) }
+        // An outcome is returned again; all but `line` stays as it is.
+        ensures outcome { KeepsOutcome outcome_in_next self.old.outcome self.new.outcome
+            ((self.new ≡ self.old) × (inputs.new ≡ inputs.old)) result }
         // Of every content and in every world that agree with what was read: the first of the verdicts that remained.
-        ensures verdict { self.old.final_answer ≡ None → FindsVerdict I.state line.new.items
-            self.old.cursor self.new.cursor inputs.old inputs.new result }
+        ensures verdict { self.old.outcome ≡ None → FindsVerdict I.state line.new.items self.old self.new
+            inputs.old inputs.new result }
         ensures name_range { IfOk result (λ found. IfSome found (λ v. HasNameRange line.new.items v)) }
-        // After a line nothing is final; any other answer is.
-        ensures final_answer { self.old.final_answer ≡ None → self.new.final_answer ≡ final_answer_of_next result }
         // What was asked, the lines counted, and the cause of a stop.
-        ensures advances { self.old.final_answer ≡ None → AdvancesVerdicts I.state line.new.items
-            self.old.cursor self.new.cursor inputs.old inputs.new result }
+        ensures advances { self.old.outcome ≡ None → AdvancesVerdicts I.state line.new.items self.old self.new
+            inputs.old inputs.new result }
     {
-        if let Some(answer) = self.final_answer {
-            return answer;
+        match self.outcome {
+            None => {}
+            Some(Ok(())) => return Ok(None),
+            Some(Err(stop)) => return Err(stop),
         }
-        let found = self.cursor.next_verdict(line, inputs);
         // After a line nothing is stored, which ignored lines would feel.
-        match found {
-            Ok(Some(_)) => {}
-            _ => self.final_answer = Some(found),
+        match self.reader.next_line(line) {
+            Ok(Next::Line) => {}
+            Ok(Next::NoMore) => {
+                self.outcome = Some(Ok(()));
+                return Ok(None);
+            }
+            Err(stop) => {
+                self.outcome = Some(Err(stop));
+                return Err(stop);
+            }
         }
-        found
+        match self.judge_line(line, inputs) {
+            Ok(found) => Ok(Some(found)),
+            Err(_) => {
+                self.outcome = Some(Err(LineStop::Memory));
+                Err(LineStop::Memory)
+            }
+        }
     }
 
-    /// The place in the manifest.
-    pub(crate) fn cursor(&self) -> &CheckCursor<I>
-        ensures { result.now ≡ self.now.cursor }
+    // The verdict of the line that was read last, which is counted. `NoRoom` if the source is out of memory.
+    fn judge_line<A: Allocator, J: Input + Drop, S: Source>(
+        &mut self,
+        line: &mut Vec<u8, A>,
+        inputs: &mut Inputs<J, S>,
+    ) -> Result<LineVerdict, NoRoom>
+        requires few { total self.old.counts < self.old.reader.lines }
+        ensures verdict { (w : World) → Agrees w inputs.new
+            → JudgesLine self.old line.old.items line.new.items (world_at w inputs.old) result }
+        ensures asked { MatchResult result
+            (λ v. AsksNames inputs.old inputs.new (asks_of (line_verdict_value line.new.items v)))
+            (λ _. MemoryWasRefused inputs.old inputs.new) }
+        ensures takes { TakesLine self.old self.new line.old.items line.new.items result }
+        ensures stdin { self.old.rules.from_stdin ≡ true → inputs.new.stdin ≡ inputs.old.stdin }
+        ensures reads { ReadsToEndIf (IsNotUnread (found_verdict result)) inputs.old inputs.new }
     {
-        &self.cursor
+        let (reading, form) = read_line(self.rules.algo, self.form, line);
+        self.form = form;
+        match reading {
+            Reading::Ignored => Ok(self.count_verdict(Verdict::Ignored, 0, 0)),
+            Reading::Bad => Ok(self.count_verdict(Verdict::Bad, 0, 0)),
+            Reading::Entry {
+                kind,
+                digest,
+                start,
+                stop,
+            } => {
+                let listed = ListedEntry {
+                    kind,
+                    digest: &digest,
+                    name: &line[start..stop],
+                };
+                let verdict = judge(self.rules, &listed, inputs, &mut self.buffer)?;
+                Ok(self.count_verdict(verdict, start, stop))
+            }
+        }
     }
 
-    /// What every later call of `next` returns, if that is settled.
-    pub(crate) fn final_answer(&self) -> Option<Result<Option<LineVerdict>, LineStop>>
-        ensures { result ≡ self.now.final_answer }
+    // Counts the verdict of the line that was read last, whose name is at this range.
+    fn count_verdict(&mut self, verdict: Verdict, start: usize, stop: usize) -> LineVerdict
+        requires few { total self.old.counts < self.old.reader.lines }
+        ensures is { result
+            ≡ record { number = self.old.reader.lines; verdict = verdict; start = start; stop = stop } }
+        ensures counts { self.new ≡ record self.old { counts = counts_with self.old.counts verdict } }
     {
-        self.final_answer
-    }
-
-    /// Whether the manifest is good; false before `next` has returned that no line is left.
-    pub fn is_good(&self) -> bool
-        ensures { result ≡ is_whole self.now.final_answer && good self.now.cursor.rules Whole self.now.cursor.counts }
-    {
-        match self.final_answer {
-            Some(Ok(None)) => self.cursor.is_good(),
-            _ => false,
+        self.counts = self.counts.counted(verdict);
+        LineVerdict {
+            number: self.reader.lines(),
+            verdict,
+            start,
+            stop,
         }
     }
 }

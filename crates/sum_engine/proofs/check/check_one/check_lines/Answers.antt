@@ -1,5 +1,5 @@
-use Rattle.std.proofs.Common.{◌≡◌, Ok, Err, ap, ◌∙◌, rules, arith, true}
-use Rattle.sum_engine.proofs.CheckLinesLemmas.{HasComeTo-none, HasComeTo-more, HasComeTo-last, manifest_read, good_end, none_unread, step-goes}
+use Rattle.std.proofs.Common.{◌≡◌, Ok, Err, ap, ◌∙◌, rules, true}
+use Rattle.sum_engine.proofs.CheckLinesLemmas.{HasComeTo-none, HasComeTo-more, HasComeTo-last, manifest_read, good_end, none_unread, fewer_lines}
 use Rattle.sum_engine.proofs.WorldLemmas.{reads_none, reads_then}
 use Rattle.sum_engine.proofs.check.check_one.check_lines.Goals as goal
 
@@ -42,8 +42,8 @@ returns-in-Ok-Ended-clause-reads g c =
     let advances = rw c.in-Ok-Ended.field-0-is at (c.in-Ok-Ended.ensures.advances so_far.going) in
     reads_then (λ all.
     let good : c.in-Ok-Ended.good ≡ true = search rules in
-    let none = (good_end c.step.new.self.cursor advances.found advances.failed (rw good at advances.answer)).1 in
-    none_unread c.lines.checker.cursor c.step.new.self.cursor advances.found advances.verdict.cursor.counts none)
+    let none = good_end (rw good at advances) in
+    none_unread c.lines.checker.verdicts c.step.new.self.verdicts advances.found advances.verdict.moves.counts none)
     so_far.reads advances.verdict.reads
 
 pub returns-in-Ok-Ended-clause-manifest : goal.returns-in-Ok-Ended-clause-manifest
@@ -63,10 +63,10 @@ lines-preserved g c =
     record {
       along = HasComeTo-more _ _ _ _ c.step.new.self _ c.step.new.streams c.step.new.line.items so_far.along
           advances done.flushed (rw c.in-Ok-Going.field-0-is at (done.step so_far.going));
-      going = advances.final_answer;
+      going = rw c.in-Ok-Going.field-0-is at done.outcome.kept;
       so_far = search rules;
-      reads = reads_then (none_unread c.lines.checker.cursor c.step.new.self.cursor advances.found
-          advances.verdict.cursor.counts) so_far.reads advances.verdict.reads;
+      reads = reads_then (none_unread c.lines.checker.verdicts c.step.new.self.verdicts advances.found
+          advances.verdict.moves.counts) so_far.reads advances.verdict.reads;
       same = search rules;
       stdin = λ from.
           advances.verdict.stdin (ap (λ r. r.from_stdin) so_far.along.rules ∙ from) ∙ so_far.stdin from;
@@ -75,7 +75,4 @@ lines-preserved g c =
 -- each line is counted, below the limit
 pub lines-smaller : goal.lines-smaller
 lines-smaller g c =
-    let advances = rw c.in-Ok-Going.field-0-is at (c.in-Ok-Going.ensures.advances c.lines.invariant.going) in
-    let (v, found) = step-goes c.step.new.self.cursor advances.found advances.failed advances.answer in
-    let one = advances.verdict.cursor.number v found in
-    omega (arith, one, advances.verdict.cursor.bounds)
+    fewer_lines (rw c.in-Ok-Going.field-0-is at (c.in-Ok-Going.ensures.advances c.lines.invariant.going))

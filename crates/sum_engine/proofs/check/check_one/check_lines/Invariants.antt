@@ -10,12 +10,12 @@ invariant-lines g l =
     let streams = l.fn.streams in
     record {
       along : HasComeTo input l.fn.checker streams l.checker l.streams;
-      going : l.checker.final_answer ≡ None;
+      going : l.checker.outcome ≡ None;
       so_far : StopHasCause {A = Bool} IsOneMoreAtMost streams l.streams (Ok true);
-      reads : ReadsToEndIf (l.checker.cursor.counts.unread ≡ 0) streams.inputs l.streams.inputs;
-      same : IsSameInput (input l.fn.checker.cursor.reader.input) (input l.checker.cursor.reader.input);
-      stdin : l.fn.checker.cursor.rules.from_stdin ≡ true → l.streams.inputs.stdin ≡ streams.inputs.stdin;
+      reads : ReadsToEndIf (l.checker.verdicts.counts.unread ≡ 0) streams.inputs l.streams.inputs;
+      same : IsSameInput (input l.fn.checker.verdicts.reader.input) (input l.checker.verdicts.reader.input);
+      stdin : l.fn.checker.verdicts.rules.from_stdin ≡ true → l.streams.inputs.stdin ≡ streams.inputs.stdin;
     }
 
 abbrev pub decreases-lines : goal.decreases-lines
-decreases-lines g l = 2 ^ 61 - l.checker.cursor.reader.lines
+decreases-lines g l = 2 ^ 61 - l.checker.verdicts.reader.lines

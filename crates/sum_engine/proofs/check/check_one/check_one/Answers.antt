@@ -1,7 +1,7 @@
 use Rattle.std.proofs.Common.{rules, ◌≡◌, true, false, ap, refl}
 use Rattle.sum_sources.specs.InputLaws.{given_has_content}
 use Rattle.sum_engine.specs.Behavior.{is_dash}
-use Rattle.sum_engine.specs.check.Verdicts.{Rules}
+use Rattle.sum_engine.specs.check.Rules.{Rules}
 use Rattle.sum_engine.proofs.FlushedWriteLemmas.{writes_and_returns}
 use Rattle.sum_engine.proofs.HashNameLemmas.{gives_taken, given_reads, refused_reads}
 use Rattle.sum_engine.proofs.WorldLemmas.{reads_fault}

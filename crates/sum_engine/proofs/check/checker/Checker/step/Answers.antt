@@ -1,15 +1,26 @@
-use Rattle.sum_engine.proofs.StepLemmas.{not_final, step_taken}
+use Rattle.sum_engine.proofs.StepLemmas.{step_taken}
 use Rattle.sum_engine.proofs.check.checker.Checker.step.Goals as goal
 
--- the text of what was found was written, or that failed
-pub returns-clause-step : goal.returns-clause-step
-returns-clause-step g c = rw (← c.self.view_is) (λ none.
-    let verdicts = c.self.inside.verdicts in
-    let going = not_final verdicts.cursor c.self.inside.write_failed verdicts.final_answer none in
+-- what was found was reported: the line
+pub returns-in-Ok-Going-clause-step : goal.returns-in-Ok-Going-clause-step
+returns-in-Ok-Going-clause-step g c = rw (← c.self.view_is) (λ none.
     let found = c.next-found.ensures in
-    let wrote = c.put_found-written.ensures in
-    step_taken c.args.streams.now (record { inputs = c.next-found.new.inputs; outputs = _ }) _
-    c.next-found.new.line.items c.next-found.result c.put_found-written.result (found.verdict going)
-    (found.advances going)
-    (rw (c.deref.ensures.value, c.cursor-cursor.ensures) at wrote.texts) wrote.memory
-    (rw (c.cursor.ensures, c.is_err-self-inside.ensures.value) at c.answer.ensures))
+    step_taken c.args.streams.now _ _ c.next-found.new.line.items c.next-found.result
+    (found.verdict (c.self.invariant none)) (found.advances (c.self.invariant none))
+    (rw c.deref.ensures.value at c.report_found-result.ensures))
+
+-- the end
+pub returns-in-Ok-Ended-clause-step : goal.returns-in-Ok-Ended-clause-step
+returns-in-Ok-Ended-clause-step g c = rw (← c.self.view_is) (λ none.
+    let found = c.next-found.ensures in
+    step_taken c.args.streams.now _ _ c.next-found.new.line.items c.next-found.result
+    (found.verdict (c.self.invariant none)) (found.advances (c.self.invariant none))
+    (rw c.deref.ensures.value at c.report_found-result.ensures))
+
+-- a stop
+pub returns-in-Err-clause-step : goal.returns-in-Err-clause-step
+returns-in-Err-clause-step g c = rw (← c.self.view_is) (λ none.
+    let found = c.next-found.ensures in
+    step_taken c.args.streams.now _ _ c.next-found.new.line.items c.next-found.result
+    (found.verdict (c.self.invariant none)) (found.advances (c.self.invariant none))
+    (rw c.deref.ensures.value at c.report_found-result.ensures))

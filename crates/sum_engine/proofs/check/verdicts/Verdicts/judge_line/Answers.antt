@@ -4,7 +4,7 @@ use Rattle.sum_lines.specs.grammar.ParsedLines.{entry}
 use Rattle.sum_engine.specs.refinement.Judging.{parsed_at}
 use Rattle.sum_engine.specs.Execution.{world_at}
 use Rattle.sum_engine.proofs.NextVerdictLemmas.{judged-line}
-use Rattle.sum_engine.proofs.check.cursor.CheckCursor.judge_line.Goals as goal
+use Rattle.sum_engine.proofs.check.verdicts.Verdicts.judge_line.Goals as goal
 
 -- an entry was judged
 pub returns-in_ok-verdict-in-Entry-clause-verdict : goal.returns-in_ok-verdict-in-Entry-clause-verdict

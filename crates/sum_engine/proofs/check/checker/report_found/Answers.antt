@@ -1,0 +1,29 @@
+use Rattle.std.proofs.Common.{rules, ◌≡◌, None, Some, Ok, Err}
+use Rattle.sum_engine.proofs.FlushedWriteLemmas.{writes_and_returns}
+use Rattle.sum_sources.specs.declared.line_reader.LineStop.TheVariants.{Fault}
+use Rattle.sum_engine.proofs.check.checker.report_found.Goals as goal
+
+-- a fault broke the manifest
+pub returns-in-Err-Fault : goal.returns-in-Err-Fault
+returns-in-Err-Fault g c =
+    let is : c.args.found ≡ Err (Fault c.in-Err-Fault.fault) = search rules in
+    rw (is, ← c.rules-rules.ensures.value, c.rules-rules.ensures.profile, ← c.labels.view_is)
+    (writes_and_returns c.put_name_fault_line-written.result c.outcome_after.ensures
+    c.put_name_fault_line-written.ensures)
+
+-- no line was left
+pub returns-in-Ok-None : goal.returns-in-Ok-None
+returns-in-Ok-None g c =
+    let is : c.args.found ≡ Ok None = search rules in
+    let whole = c.requires.whole is in
+    let wrote = rw (c.rules-rules.ensures.value, c.counts.ensures.value) at c.put_summary-written.ensures in
+    let returned = rw (c.is_good.ensures, whole) at c.outcome_after-in-Ok-None.ensures in
+    rw is (writes_and_returns c.put_summary-written.result returned wrote)
+
+-- a line was judged
+pub returns-in-Ok-Some : goal.returns-in-Ok-Some
+returns-in-Ok-Some g c =
+    let is : c.args.found ≡ Ok (Some c.in-Ok-Some.found) = search rules in
+    let profile = rw c.rules-rules.ensures.value at c.rules-rules.ensures.profile in
+    rw is (writes_and_returns c.put_report-written.result c.outcome_after-in-Ok-Some.ensures
+    (rw (c.rules-rules.ensures.value, c.name-name.ensures, ← profile) at c.put_report-written.ensures))

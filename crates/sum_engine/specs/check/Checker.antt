@@ -1,0 +1,71 @@
+-- A checker, and what its next step does.
+use Rattle.std.specs.Prelude.{Bool, false, ◌≡◌, List, [], ◌∷◌, Option, None, Some, Result, Ok, Err}
+pub use Rattle.sum_engine.specs.declared.check.progress.Progress.{Progress}
+pub use Rattle.sum_engine.specs.declared.check.progress.Progress.TheVariants.{Going, Ended}
+use Rattle.sum_sources.specs.declared.line_reader.LineStop.TheVariants.{Fault, Memory}
+use Rattle.sum_sources.specs.LineReaders.{IsReading}
+use Rattle.sum_engine.specs.Behavior.{ByteString, Whole, Broken, Step, Behavior, InputState}
+use Rattle.sum_engine.specs.Execution.{Stop, OutputsState, StreamsState, PerformsSteps, IsFlushed, StopHasCause, IsOneMoreAtMost}
+use Rattle.sum_engine.specs.refinement.FlushedWrites.{WritesAndReturns}
+use Rattle.sum_engine.specs.check.Rules.{Rules, LabelsValue}
+use Rattle.sum_engine.specs.check.Reports.{out_of, err_of, end_text, good}
+use Rattle.sum_engine.specs.check.CheckStates.{CheckState, HandlesLine, remaining_behavior}
+use Rattle.sum_engine.specs.check.Verdicts.{VerdictsValue, InEachCheck, VerdictResult, line_verdict_value, AdvancesVerdicts}
+use Rattle.sum_engine.specs.declared.stop.Stop.TheVariants as stops
+
+-- a checker: the verdicts, what its reports show, and the outcome: whether the manifest is good, or why the check stopped
+pub record CheckerValue (I : Type 0) : Type 0 where
+  pub verdicts : VerdictsValue I
+  pub labels : LabelsValue
+  pub outcome : Option (Result Bool Stop)
+
+-- a behavior after one step more
+abbrev pub step_then : Step → Behavior → Behavior
+step_then s r = record { steps = s ∷ r.steps; good = r.good }
+
+-- what a step returns before these steps: Going, if there are any, and otherwise whether all is good
+abbrev pub progress_before : List Step → Bool → Progress
+progress_before [] good = Ended good
+progress_before steps good = Going
+
+-- what a step does from a to b, and of the streams from s to t: it performs the first step of the behavior that
+-- remained; if it returns Going, a line was handled, and the others remain
+pub record IsStep (r : Rules) (labels : LabelsValue) (vector : ByteString) (a b : CheckState) (s t : StreamsState)
+    (x : Result Progress Stop) : Type 0 where
+  pub step : Step
+  pub later : Behavior
+  pub is : remaining_behavior r labels a ≡ step_then step later
+  pub performs : PerformsSteps (step ∷ []) (progress_before later.steps later.good) s t x
+  pub going : x ≡ Ok Going → (later ≡ remaining_behavior r labels b) × HandlesLine r a b vector
+
+-- a step, if both outputs are flushed at the call, of an input that was unread at the start
+abbrev pub TakesStep : {I : Type 0} → (I → InputState) → ByteString → LabelsValue → VerdictsValue I → VerdictsValue I
+    → StreamsState → StreamsState → Result Progress Stop → Type 0
+TakesStep state vector labels p q a b x = IsFlushed a.outputs → IsReading state p.reader
+    → InEachCheck state p q a.inputs b.inputs (λ c d. IsStep p.rules labels vector c d a b x)
+
+-- a line is no outcome, and all else is one
+abbrev pub outcome_in_step : Result Progress Stop → Option (Result Bool Stop)
+outcome_in_step (Ok Going) = None
+outcome_in_step (Ok (Ended good)) = Some (Ok good)
+outcome_in_step (Err stop) = Some (Err stop)
+
+-- what was found is written: a line's report, or the end; and the step returns whether lines may follow
+abbrev pub ReportsFound : {I : Type 0} → VerdictsValue I → LabelsValue → ByteString → VerdictResult → OutputsState
+    → OutputsState → Result Progress Stop → Type 0
+ReportsFound p labels vector (Ok (Some v)) a b x = let j = line_verdict_value vector v in
+    WritesAndReturns a b (err_of p.rules labels j) (out_of p.rules labels j) Going x
+ReportsFound p labels vector (Ok None) a b x =
+    WritesAndReturns a b (end_text p.rules labels Whole p.counts) [] (Ended (good p.rules Whole p.counts)) x
+ReportsFound p labels vector (Err (Fault f)) a b x =
+    WritesAndReturns a b (end_text p.rules labels (Broken f) p.counts) [] (Ended false) x
+ReportsFound p labels vector (Err Memory) a b x = (x ≡ Err stops.Memory) × (b ≡ a)
+
+-- what a step does to the checker, the files and the outputs: the next verdict was found, and then it was reported
+pub record AdvancesChecker {I : Type 0} (state : I → InputState) (vector : ByteString)
+    (p q : CheckerValue I) (a b : StreamsState) (x : Result Progress Stop) : Type 0 where
+  pub labels : q.labels ≡ p.labels
+  pub found : VerdictResult
+  pub verdict : AdvancesVerdicts state vector p.verdicts q.verdicts a.inputs b.inputs found
+  pub reports : ReportsFound q.verdicts p.labels vector found a.outputs b.outputs x
+  pub cause : StopHasCause IsOneMoreAtMost a b x
