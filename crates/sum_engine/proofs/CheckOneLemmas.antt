@@ -1,5 +1,5 @@
 -- `check_one`: a manifest is opened, its checker runs to its end, and it is closed.
-use Rattle.std.proofs.Common.{rules, ◌≡◌, ℕ, Bool, true, false, List, [], ◌∷◌, Result, Ok, Err, Some, None, cond, refl, ap, codes, ◌++◌, ◌∙◌, sym, map, Option, append_assoc, append-nil}
+use Rattle.std.proofs.Common.{rules, ◌≡◌, ℕ, Bool, true, false, List, [], ◌∷◌, Result, Ok, Err, Some, None, cond, refl, ap, codes, ◌++◌, ◌∙◌, sym, map, Option, append_assoc}
 use Rattle.std.specs.Prelude.{length}
 use Rattle.std.proofs.lemmas.List.{map-append}
 use Rattle.sum_sources.specs.Contents.{Reads, IsOf, IsSameInput, HasContent}

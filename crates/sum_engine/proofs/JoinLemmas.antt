@@ -1,5 +1,5 @@
 -- `steps_join`: the steps of a new checker, one after another, by induction on the list of their vectors.
-use Rattle.std.proofs.Common.{rules, ◌≡◌, ℕ, zero, suc, ◌+◌, ◌-◌, ◌≤◌, Bool, true, List, [], ◌∷◌, ◌++◌, Ok, append-nil, length, take, drop, refl, ap, sym, ◌∙◌, arith, length-drop, flat_map, slice_index_or}
+use Rattle.std.proofs.Common.{rules, ◌≡◌, ℕ, zero, suc, ◌+◌, ◌-◌, ◌≤◌, Bool, true, List, [], ◌∷◌, ◌++◌, Ok, length, take, drop, refl, ap, sym, ◌∙◌, arith, length-drop, flat_map, slice_index_or}
 use Rattle.std.proofs.lemmas.List.{take-append-drop}
 use Rattle.sum_engine.specs.check.Rules.{Rules, LabelsValue}
 use Rattle.sum_engine.specs.check.Judge.{Form, lines_under, LineVerdictValue, asks_of, verdicts, all_verdicts, line_verdict, parse_line, past_line, past_lines}
@@ -7,11 +7,11 @@ use Rattle.sum_engine.specs.check.Reports.{out_of, err_of, counts_of, end_text}
 use Rattle.sum_engine.specs.check.Checking.{line_steps, content_behavior}
 use Rattle.sum_engine.specs.check.CheckStates.{CheckState, counts_then, remaining_verdicts, remaining_behavior, initial_state}
 use Rattle.sum_engine.specs.check.Checker.{Going, Ended, IsStep, step_then, progress_before}
-use Rattle.sum_engine.specs.Behavior.{World, after, Behavior, trace, events_of, out_text, err_text, asks, Content}
+use Rattle.sum_engine.specs.Behavior.{World, after, Behavior, trace, out_text, err_text, asks, Content}
 use Rattle.sum_engine.specs.Execution.{Write, StreamsState, Happened}
 use Rattle.sum_engine.specs.check.CheckerLaws.{StepsGoing, StepsJoin, EndsManifest}
 use Rattle.sum_engine.proofs.RemainingLemmas.{past_next}
-use Rattle.sum_engine.proofs.ExecutionLemmas.{Happened-none, err-by, out-by, names-by}
+use Rattle.sum_engine.proofs.ExecutionLemmas.{Happened-none}
 use Rattle.sum_engine.proofs.BehaviorLemmas.{HasDoneUpTo, done_stops, behavior_then-happened, events_extend}
 use Rattle.sum_engine.proofs.CheckLinesLemmas.{remaining-initial, none_left, done_last}
 

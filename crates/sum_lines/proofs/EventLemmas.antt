@@ -34,8 +34,8 @@ pieces-append xs ys full =
 chunks-one : (n : ℕ) (xs : List ℕ) → length xs ≤ n → first_chunks n 1 xs ≡ xs ∷ []
 chunks-one n xs fits = ap (λ l. l ∷ []) (take_all n xs fits)
 
-pieces-one : (xs : List ℕ) → 0 < length xs → length xs ≤ 8192 → pieces xs ≡ xs ∷ []
-pieces-one xs some fits =
+pub one_piece : (xs : List ℕ) → 0 < length xs → length xs ≤ 8192 → pieces xs ≡ xs ∷ []
+one_piece xs some fits =
     let one : (length xs + 8191) / 8192 ≡ 1 = omega arith in
     rw (one, chunks-one 8192 xs fits) refl
 
@@ -79,11 +79,7 @@ output_events-append xs ys full =
 
 -- a text of one piece
 pub output_events-one : (xs : List ℕ) → 0 < length xs → length xs ≤ 8192 → output_events xs ≡ piece_events xs
-output_events-one xs some fits = rw (pieces-one xs some fits) (append-nil (piece_events xs))
-
--- no text
-pub output_events-none : output_events [] ≡ []
-output_events-none = refl
+output_events-one xs some fits = rw (one_piece xs some fits) (append-nil (piece_events xs))
 
 -- ---- what happened
 
@@ -95,10 +91,6 @@ OffersEach-then a b c (p ∷ ps) qs h k = (h.0, h.1, OffersEach-then _ b c ps qs
 -- nothing
 pub Gets-none : {a : SinkState} → Gets a a []
 Gets-none {a} = record { offered = refl; written = sym (append-nil a.written) }
-
--- no text
-pub Gets-no_text : (a b : SinkState) → b ≡ a → Gets a b (output_events [])
-Gets-no_text a b same = rw (same, output_events-none) Gets-none
 
 -- a piece was offered, and its first bytes were written
 pub Gets-piece : (a b : SinkState) (piece prefix : List ℕ) (offers : List (List ℕ)) → OffersPiece piece offers

@@ -2,7 +2,7 @@
 use Rattle.std.proofs.Common.{ℕ, ◌≡◌, ◌<◌, ◌≤◌, List, [], ◌∷◌, ◌++◌, length, take, drop, map, Ok, Err, refl, sym, ap, ◌∙◌, append_assoc, append-nil, take-append-drop, length-take, length-append, arith}
 use Rattle.std.proofs.lemmas.List.{map-append}
 use Rattle.sum_lines.specs.Sinks.{SinkState, IsRest, OffersPiece, WritesSome, Gets, GivesAll, offer_piece, write_byte, output_events}
-use Rattle.sum_lines.proofs.EventLemmas.{Gets-piece, output_events-one, output_events-none}
+use Rattle.sum_lines.proofs.EventLemmas.{Gets-piece, output_events-one}
 
 -- the offers of a piece that is given, if it isn't empty
 abbrev IsOffered : List ℕ → List (List ℕ) → Type 0
@@ -63,7 +63,7 @@ offers_of text (first ∷ again) some are = are.1
 -- all of it was accepted
 given_all : (a b : SinkState) (text : List ℕ) (offers : List (List ℕ)) → IsOffered text offers → length text ≤ 8192
     → b.offered ≡ a.offered ++ offers → b.written ≡ a.written ++ text → Gets a b (output_events text)
-given_all a b text [] none fits offered written = rw (none, output_events-none) (record {
+given_all a b text [] none fits offered written = rw none (record {
   offered = offered ∙ append-nil a.offered;
   written = written ∙ ap (λ l. a.written ++ l) none;
 })

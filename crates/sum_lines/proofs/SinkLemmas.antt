@@ -5,7 +5,7 @@ use Rattle.std.specs.Result.{IsErr}
 use Rattle.sum_lines.specs.Sinks.{SinkState, GivesAll, output_events, Gets}
 use Rattle.sum_lines.specs.Buffers.{BufferState, Accepts, FailsToWrite, WritesAll}
 use Rattle.sum_lines.specs.refinement.SinkStates.{MakesRoom}
-use Rattle.sum_lines.proofs.EventLemmas.{output_events-append, output_events-none, Gets-none, Gets-then, GetsPrefix-more, GetsPrefix-then}
+use Rattle.sum_lines.proofs.EventLemmas.{output_events-append, Gets-none, Gets-then, GetsPrefix-more, GetsPrefix-then}
 
 -- ---- two texts, one after the other
 
@@ -17,7 +17,7 @@ Accepts-nil {a} = record {
   cut = append-nil a.buffered;
   last = λ some. absurd (omega arith);
   fits = λ fits. fits;
-  gets = rw output_events-none Gets-none;
+  gets = Gets-none;
   failures = refl;
 }
 
@@ -113,7 +113,7 @@ accepts_some {a} {b} c piece n (inl (full, none, gives)) some count sink buffere
     let cut : a.buffered ≡ a.buffered ++ b.buffered = rw (none, append-nil) refl in
     accepts_front a b c piece a.buffered n (rw full refl) cut (rw none (lit< tt)) gives.0 gives.1 some count sink buffered
 accepts_some {a} {b} c piece n (inr (room, same, ok)) some count sink buffered = rw (← same) (accepts_front
-    b b c piece [] n refl refl (rw same room) (rw output_events-none Gets-none) refl some count sink buffered)
+    b b c piece [] n refl refl (rw same room) Gets-none refl some count sink buffered)
 
 -- the sink failed
 pub accept_failed : {a b : BufferState} (piece : List ℕ) → MakesRoom {E = Unit {0}} a b (Err tt) → 0 < length piece

@@ -1,6 +1,6 @@
 -- A buffer over a sink, and what a call that writes a text to it does.
 use Rattle.std.specs.Prelude.{◌≡◌, ◌<◌, ◌≤◌, ◌+◌, ◌%◌, [], ◌++◌, length, ⊤, Result, Ok, Err}
-use Rattle.sum_lines.specs.Sinks.{ByteString, SinkState, output_events, Gets, GetsPrefix, GivesAll}
+use Rattle.sum_lines.specs.Sinks.{ByteString, SinkState, output_events, Gets, GetsPrefix}
 
 -- a buffer's state: that of the sink below it, and the bytes that are buffered
 pub record BufferState : Type 0 where

@@ -1,5 +1,7 @@
-//! Laws of the line grammar. Each is the contract of a function that does nothing, and holds whatever the code does.
-
+//! Laws of the line grammar, and one of the pieces of a text. Each is the contract of a function that does nothing, and
+//! holds whatever the code does.
+ghost use Rattle.std.specs.Prelude.{◌≡◌, ◌<◌, ◌≤◌, ◌∷◌, [], length};
+ghost use Rattle.sum_lines.specs.Sinks.{ByteString, pieces};
 ghost use Rattle.sum_lines.specs.grammar.LineLaws.{AreApart, HasOneEntry, HasOneForm, ParsesByGrammar};
 ghost use Rattle.sum_lines.specs.grammar.LineLaws.{IsReadBack, KeepsForm};
 ghost use Rattle.sum_lines.specs.grammar.LineLaws.{KeepsParse};
@@ -37,4 +39,10 @@ pub fn same_parse()
 #[tactic(auto, using(crate::proofs::PutLineLemmas::read_back))]
 pub fn read_back()
     ensures { IsReadBack }
+{}
+
+/// A text of at most 8,192 bytes, and of one at least, is one piece. So it is offered whole.
+#[tactic(auto, using(crate::proofs::EventLemmas::one_piece))]
+pub fn one_piece()
+    ensures { (text : ByteString) → 0 < length text → length text ≤ 8192 → pieces text ≡ text ∷ [] }
 {}

@@ -1,5 +1,5 @@
 -- Relates writing a text and flushing it to what a step writes, by outputs that are flushed before.
-use Rattle.std.specs.Prelude.{◌≡◌, ◌⊎◌, ◌+◌, ◌++◌, [], Result, Ok, Err, MatchResult, ⊤}
+use Rattle.std.specs.Prelude.{◌≡◌, ◌⊎◌, ◌+◌, [], Result, Ok, Err, MatchResult, ⊤}
 use Rattle.sum_lines.specs.Sinks.{ByteString, output_events, Gets, GetsPrefix, GivesAll}
 use Rattle.sum_lines.specs.Buffers.{BufferState}
 use Rattle.sum_engine.specs.Execution.{OutputsState, IsFlushed, HasNoFailure, HasOneFailure, Stop, Write}
