@@ -189,7 +189,7 @@ module _ {Whole : Type 0} {a m b n : InputsState} {name : List ℕ} {s t : Input
     file_opened file is opens closes =
         let before = a.source.openings in
         let later = reads.openings.0 in
-        let now = closed_openings m b n name before s t (rw opens refl) (rw is refl) same reads closes in
+        let now = closed_openings m b n name before s t (rw opens refl) (rw is refl) (rw is refl) same reads closes in
         record {
           asks = asks_one a m name None file opens;
           reads = file_reads a m b n name s t opens is same read reads closes;
