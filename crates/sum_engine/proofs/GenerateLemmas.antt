@@ -1,39 +1,53 @@
--- `generate_one`: the behavior of hashing one name, by the outcome of `hash_name` and what was then written.
-use Rattle.std.proofs.Common.{rules, ◌≡◌, ◌∙◌, ap, sym, ℕ, Bool, true, false, List, [], ◌∷◌, Result, Ok, Err, refl}
+-- `generate_one`: the behavior of hashing one name, by what `hash_name` gave and what was then written.
+use Rattle.std.proofs.Common.{rules, ◌≡◌, ◌∙◌, ap, ℕ, Bool, true, false, List, [], ◌∷◌, Result, Ok, Err, refl}
 use Rattle.digest_kinds.specs.Kinds.{KindValue}
 use Rattle.sum_engine.specs.Behavior.{Fault, digest_or_fault, Step, single_step, Answer, World, answer_to}
-use Rattle.sum_engine.specs.refinement.Names.{HashOutcome, digest_of_outcome, IsHashOutcome, IsNotBroken}
-use Rattle.sum_engine.specs.declared.hash_name.HashOutcome.TheVariants as outcomes
+use Rattle.sum_engine.specs.refinement.Names.{AsksUnlessRefused, HashFault, IsHashOf, MemoryWasRefused, NoRoom, fault_in}
+use Rattle.sum_engine.specs.declared.hash_name.HashFault.TheVariants.{NotOpened, NotRead, Memory}
 use Rattle.sum_engine.specs.Generation.{Settings, generate_behavior, generate_behavior_by}
-use Rattle.sum_engine.specs.Execution.{Stop, StreamsState, AsksNames, Agrees, world_at, Performs}
+use Rattle.sum_engine.specs.Execution.{Stop, InputsState, StreamsState, AsksNames, Agrees, world_at, Performs}
 use Rattle.sum_engine.specs.refinement.FlushedWrites.{WritesAndReturns, outcome_after}
 use Rattle.sum_engine.proofs.BehaviorLemmas.{Performs-step}
 
--- the outcome is what the definitions say of the answer
-digest_or_fault-is : (kind : KindValue) (r : Answer) (a : HashOutcome) → IsHashOutcome kind r a
-    → digest_or_fault kind r ≡ digest_of_outcome a
-digest_or_fault-is kind r a h = search rules
+-- what was found is what the definitions say of the answer
+pub digest_found : (kind : KindValue) (x : Answer) (d : List ℕ) → IsHashOf kind x (Ok d)
+    → digest_or_fault kind x ≡ Ok d
+digest_found kind (Ok c) d h = h
+digest_found kind (Err f) d h = elim h [ ]
+
+pub fault_found : (kind : KindValue) (x : Answer) (f : Fault) (e : HashFault) → Ok f ≡ fault_in e
+    → IsHashOf kind x (Err e) → digest_or_fault kind x ≡ Err f
+fault_found kind (Ok c) f (NotRead e) is h = search rules
+fault_found kind (Ok c) f (NotOpened e) is h = elim h [ ]
+fault_found kind (Err g) f (NotOpened e) is h = search rules
+fault_found kind (Err g) f (NotRead e) is h = elim h [ ]
+fault_found kind x f Memory is h = cc
+
+-- the name was asked, unless memory was refused
+pub asked_or_refused : {name : List ℕ} (a b : InputsState) (e : HashFault) (f : Fault) → Ok f ≡ fault_in e
+    → AsksUnlessRefused {A = List ℕ} name a b (Err e) → AsksNames a b (name ∷ [])
+asked_or_refused a b (NotOpened e) f is h = h
+asked_or_refused a b (NotRead e) f is h = h
+asked_or_refused a b Memory f is h = cc
+
+pub refused_memory : (name : List ℕ) (a b : InputsState) (e : HashFault) (f : NoRoom) → Err f ≡ fault_in e
+    → AsksUnlessRefused {A = List ℕ} name a b (Err e) → MemoryWasRefused a b
+refused_memory name a b (NotOpened e) f is h = cc
+refused_memory name a b (NotRead e) f is h = cc
+refused_memory name a b Memory f is h = h
 
 -- the name was asked, with this digest or fault, and the line of that was written, or a prefix of it
 pub generate-performed : (settings : Settings) (tool name : List ℕ) (good : Bool) (a b : StreamsState)
-    (outcome : HashOutcome) (found : Result (List ℕ) Fault) {err out : List ℕ} {x : Result Bool Stop}
+    (found : Result (List ℕ) Fault) {err out : List ℕ} {x : Result Bool Stop}
     → ((w : World) → Agrees w b.inputs
-    → IsHashOutcome settings.kind (answer_to (world_at w a.inputs) name) outcome)
-    → AsksNames a.inputs b.inputs (name ∷ []) → found ≡ digest_of_outcome outcome
+    → digest_or_fault settings.kind (answer_to (world_at w a.inputs) name) ≡ found)
+    → AsksNames a.inputs b.inputs (name ∷ [])
     → generate_behavior_by settings tool name found ≡ single_step (name ∷ []) err out good
     → WritesAndReturns a.outputs b.outputs err out good x
     → Performs (λ w. generate_behavior settings tool w name) (λ g. g) a b x
-generate-performed settings tool name good a b outcome found h asked same is said =
+generate-performed settings tool name good a b found h asked is said =
     Performs-step (λ w. generate_behavior settings tool w name) (λ g. g) good a b asked
-    (λ w agrees.
-    let by = digest_or_fault-is settings.kind (answer_to (world_at w a.inputs) name) outcome (h w agrees) in
-    ap (generate_behavior_by settings tool name) (by ∙ sym same) ∙ is) said
-
--- a digest is that of a file that was read to its end
-pub digest_whole : (o : HashOutcome) (d : List ℕ) → Ok d ≡ digest_of_outcome o → IsNotBroken (Ok o)
-digest_whole (outcomes.Read e) d is = tt
-digest_whole (outcomes.NotOpened f) d is = tt
-digest_whole (outcomes.Broken f) d is = cc
+    (λ w agrees. ap (generate_behavior_by settings tool name) (h w agrees) ∙ is) said
 
 -- a fault line is never good
 pub never_good : {E P : Type 0} (written : Result (Unit {0}) E) (x : Result Bool Stop)

@@ -1,5 +1,5 @@
 pub mod WorldLemmas
-pub mod HashNameLemmas
+pub mod OpenedNameLemmas
 pub mod ExecutionLemmas
 pub mod GenerateLemmas
 pub mod FlushedWriteLemmas

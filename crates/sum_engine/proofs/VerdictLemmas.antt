@@ -1,31 +1,42 @@
--- `judge`: the verdict of an entry, by the outcome of hashing its name.
-use Rattle.std.proofs.Common.{rules, ◌≡◌, ◌&&◌, ℕ, List, Bool, false, [], ◌∷◌, Ok, Err, refl, ap}
-use Rattle.sum_engine.specs.refinement.Names.{HashOutcome, IsHashOutcome, IsNotBroken}
-use Rattle.sum_engine.specs.declared.hash_name.HashOutcome.TheVariants.{Read, NotOpened, Broken}
+-- `judge`: the verdict of an entry, by what hashing its name gave.
+use Rattle.std.proofs.Common.{rules, ◌≡◌, ◌&&◌, List, ℕ, Bool, false, Result, Ok, Err, IfOk, refl}
+use Rattle.std.specs.Prelude.{MatchResult}
+use Rattle.sum_engine.specs.declared.hash_name.HashFault.TheVariants.{NotOpened, NotRead, Memory}
 use Rattle.sum_engine.specs.check.Rules.{Rules}
 use Rattle.sum_engine.specs.check.Judge.{Verdict, asks_by, EntryValue, entry}
 use Rattle.sum_engine.specs.check.Reports.{is_unread}
 use Rattle.sum_engine.specs.Behavior.{World, Answer, answer_to, is_dash}
-use Rattle.sum_engine.specs.refinement.Judging.{Judges, verdict_of_outcome}
+use Rattle.sum_engine.specs.Execution.{InputsState, AsksNames}
+use Rattle.sum_engine.specs.refinement.Judging.{Judges, verdict_of_hash}
+use Rattle.sum_engine.specs.refinement.Names.{HashFault, NoRoom, AsksUnlessRefused, IsHashOf, IsNotBroken, MemoryWasRefused}
 
--- an entry's verdict, by the outcome of hashing its name
-pub judged_entry : (r : Rules) (w : World) (s : EntryValue) (a : HashOutcome) (verdict : Verdict)
-    → r.from_stdin && is_dash s.name ≡ false → IsHashOutcome s.kind (answer_to w s.name) a
-    → verdict ≡ verdict_of_outcome r.ignore_missing s.digest a → Judges r w (entry s) (Ok verdict)
-judged_entry r w s a verdict dash h is = by (answer_to w s.name) refl h
+-- an entry's verdict
+pub judged_entry : (r : Rules) (w : World) (s : EntryValue) (found : Result (List ℕ) HashFault)
+    (x : Result Verdict NoRoom) → r.from_stdin && is_dash s.name ≡ false → IsHashOf s.kind (answer_to w s.name) found
+    → x ≡ verdict_of_hash r.ignore_missing s.digest found → Judges r w (entry s) x
+judged_entry r w s found x dash h is = by (answer_to w s.name) refl found h is
   where
-    by : (x : Answer) → answer_to w s.name ≡ x → IsHashOutcome s.kind x a → Judges r w (entry s) (Ok verdict)
-    by (Ok c) same h = search rules
-    by (Err f) same h = search rules
+    by : (x : Answer) → answer_to w s.name ≡ x → (found : Result (List ℕ) HashFault) → IsHashOf s.kind x found
+        → {y : Result Verdict NoRoom} → y ≡ verdict_of_hash r.ignore_missing s.digest found → Judges r w (entry s) y
+    by a same (Err Memory) h is = rw is tt
+    by (Ok c) same (Ok d) h is = search rules
+    by (Ok c) same (Err (NotRead f)) h is = search rules
+    by (Ok c) same (Err (NotOpened f)) h is = elim h [ ]
+    by (Err e) same (Err (NotOpened f)) h is = search rules
+    by (Err e) same (Err (NotRead f)) h is = elim h [ ]
+    by (Err e) same (Ok d) h is = elim h [ ]
 
 -- the name that its verdict asks is the one that was hashed
-pub entry_asks : (ignore : Bool) (s : EntryValue) (a : HashOutcome) (verdict : Verdict)
-    → verdict ≡ verdict_of_outcome ignore s.digest a → asks_by verdict s.name ≡ s.name ∷ []
-entry_asks ignore s a verdict is = search rules
+pub entry_asks : (a b : InputsState) (ignore : Bool) (s : EntryValue) (found : Result (List ℕ) HashFault)
+    (x : Result Verdict NoRoom) → x ≡ verdict_of_hash ignore s.digest found → AsksUnlessRefused s.name a b found
+    → MatchResult x (λ v. AsksNames a b (asks_by v s.name)) (λ e. MemoryWasRefused a b)
+entry_asks a b ignore s (Err Memory) x is h = rw is h
+entry_asks a b ignore s found x is h = search rules
 
 -- it says that the file could not be read, if reading it failed
-pub verdict_read : (ignore : Bool) (digest : List ℕ) (a : HashOutcome) (verdict : Verdict)
-    → verdict ≡ verdict_of_outcome ignore digest a → is_unread verdict ≡ false → IsNotBroken (Ok a)
-verdict_read ignore digest (Read d) verdict is read = tt
-verdict_read ignore digest (NotOpened f) verdict is read = tt
-verdict_read ignore digest (Broken f) verdict is read = cc (ap is_unread is)
+pub verdict_read : (ignore : Bool) (digest : List ℕ) (found : Result (List ℕ) HashFault) (x : Result Verdict NoRoom)
+    → x ≡ verdict_of_hash ignore digest found → IfOk x (λ v. is_unread v ≡ false) → IsNotBroken found
+verdict_read ignore digest (Ok d) x is read = tt
+verdict_read ignore digest (Err (NotOpened f)) x is read = tt
+verdict_read ignore digest (Err Memory) x is read = tt
+verdict_read ignore digest (Err (NotRead f)) x is read = let seen = rw is at read in cc

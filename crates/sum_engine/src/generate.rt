@@ -14,7 +14,7 @@ use crate::stop::Stop;
 use crate::streams::{Outputs, Streams};
 use digest_kinds::Digest;
 use sum_lines::{Sink, SinkFault, put_line};
-use sum_sources::{Input, PIECE, Source};
+use sum_sources::{Input, Source};
 
 /// Hashes the file of this name (`-` is standard input). Its line goes to `out`, or a line with the fault to `err`
 /// (coreutils manual, "md5sum invocation"), and is flushed. Returns true only if the file was read to its end.
@@ -37,14 +37,13 @@ pub fn generate_one<I: Input + Drop, S: Source, O: Sink, E: Sink>(
     ensures refusals { RefusalsMatch IsOneMore streams.old.inputs streams.new.inputs result }
     ensures failures { FailuresMatch streams.old.outputs streams.new.outputs result }
 {
-    let mut buffer = [0; PIECE];
-    let outcome = hash_name(settings.kind, name, &mut streams.inputs, &mut buffer)?;
-    match outcome.into_result() {
+    match hash_name(settings.kind, name, &mut streams.inputs) {
         Ok(digest) => {
             let written = put_line_flushed(&mut streams.outputs, settings, name, &digest);
             outcome_after(written, true)
         }
-        Err(fault) => {
+        Err(failed) => {
+            let fault = failed.fault()?;
             let written = put_name_fault_line(&mut streams.outputs, tool, name, fault);
             outcome_after(written, false)
         }

@@ -21,6 +21,7 @@ mod generate;
 mod hash_name;
 mod inputs;
 pub mod laws;
+mod opened;
 mod put_flushed;
 mod settings;
 mod stop;

@@ -2,13 +2,13 @@
 use Rattle.std.specs.Prelude.{ℕ, ◌≡◌, ◌≤◌, Bool, [], Some, Result, Ok, Err, IfOk, length, if◌then◌else◌, bytes_eq, ⊤}
 use Rattle.sum_sources.specs.declared.fault.Fault.TheVariants.{NotFound}
 use Rattle.sum_engine.specs.declared.check.judge.ListedEntry.{ListedEntry}
-use Rattle.sum_engine.specs.refinement.Names.{HashOutcome, NoRoom}
+use Rattle.sum_engine.specs.refinement.Names.{HashFault, NoRoom}
 use Rattle.sum_engine.specs.check.Rules.{Rules}
 use Rattle.sum_engine.specs.check.Judge.{Verdict, Right, Wrong, Missing, Unread, line_verdict, EntryValue, form_then, line_form, ParsedLine, ignored, bad, entry, parse_line}
 use Rattle.sum_engine.specs.check.Verdicts.{LineVerdict, VerdictResult, line_verdict_value, VerdictsValue, HasNameRange, counts_after}
 use Rattle.sum_engine.specs.Behavior.{ByteString, World}
 use Rattle.sum_sources.specs.declared.line_reader.LineStop.TheVariants.{Memory}
-use Rattle.sum_engine.specs.declared.hash_name.HashOutcome.TheVariants as outcomes
+use Rattle.sum_engine.specs.declared.hash_name.HashFault.TheVariants as hashing
 
 -- the entry that a line spells
 abbrev pub listed_entry : ListedEntry → EntryValue
@@ -20,12 +20,13 @@ name_in_line ignored = []
 name_in_line bad = []
 name_in_line (entry s) = s.name
 
--- the verdict, by the outcome of hashing the name
-abbrev pub verdict_of_outcome : Bool → ByteString → HashOutcome → Verdict
-verdict_of_outcome ignore d (outcomes.Read found) = if bytes_eq found d then Right else Wrong
-verdict_of_outcome ignore d (outcomes.NotOpened NotFound) = if ignore then Missing else Unread NotFound
-verdict_of_outcome ignore d (outcomes.NotOpened f) = Unread f
-verdict_of_outcome ignore d (outcomes.Broken f) = Unread f
+-- the verdict, by what hashing the name gave
+abbrev pub verdict_of_hash : Bool → ByteString → Result (ByteString) HashFault → Result Verdict NoRoom
+verdict_of_hash ignore d (Ok found) = Ok (if bytes_eq found d then Right else Wrong)
+verdict_of_hash ignore d (Err (hashing.NotOpened NotFound)) = Ok (if ignore then Missing else Unread NotFound)
+verdict_of_hash ignore d (Err (hashing.NotOpened f)) = Ok (Unread f)
+verdict_of_hash ignore d (Err (hashing.NotRead f)) = Ok (Unread f)
+verdict_of_hash ignore d (Err hashing.Memory) = Err (record {})
 
 -- a line that says this has this verdict, whatever its number
 abbrev pub Judges : Rules → World → ParsedLine → Result Verdict NoRoom → Type 0

@@ -1,12 +1,19 @@
 -- Relates opening, hashing and closing a name to the world.
-use Rattle.std.specs.Prelude.{◌≡◌, ◌+◌, Bool, true, false, length, Option, None, Some, Result, Ok, Err, ⊤}
+use Rattle.std.specs.Prelude.{◌≡◌, ◌+◌, Bool, true, false, [], ◌∷◌, codes, length, Option, None, Some, Result, Ok, Err, IfOk, ⊤}
 use Rattle.digest_kinds.specs.Kinds.{KindValue}
 pub use Rattle.sum_sources.specs.declared.fault.NoRoom.{NoRoom}
-pub use Rattle.sum_engine.specs.declared.hash_name.HashOutcome.{HashOutcome}
-use Rattle.sum_sources.specs.Contents.{unread}
-use Rattle.sum_engine.specs.Behavior.{Content, InputState, Reads, empty_content, ByteString, Answer, Fault, digest_or_fault}
-use Rattle.sum_engine.specs.Execution.{StdinState, InputsState}
-use Rattle.sum_engine.specs.declared.hash_name.HashOutcome.TheVariants as outcomes
+use Rattle.sum_sources.specs.declared.sources.source.OpenFault.{OpenFault}
+use Rattle.sum_sources.specs.Contents.{unread, HasContent}
+use Rattle.sum_sources.specs.InputLaws.{given_has_content}
+use Rattle.sum_sources.specs.Sources.{IsOpen, opened_file, and_opening, after_closing}
+use Rattle.sum_sources.specs.StandardInput.{given_state}
+use Rattle.sum_engine.specs.Behavior.{World, Fault, is_dash, answer_to, InputState, Reads, empty_content, ByteString, Answer, digest_or_fault}
+use Rattle.sum_engine.specs.Execution.{StdinState, InputsState, Agrees, world_at, AsksNames, ReadsToEndIf}
+pub use Rattle.sum_engine.specs.declared.hash_name.HashFault.{HashFault}
+use Rattle.sum_engine.specs.declared.opened.Place.{Place}
+use Rattle.sum_engine.specs.declared.opened.Place.TheVariants.{Stdin, File}
+use Rattle.sum_engine.specs.declared.hash_name.HashFault.TheVariants as hashing
+use Rattle.sum_sources.specs.declared.sources.source.OpenFault.TheVariants as faults
 
 -- standard input while it is taken
 abbrev pub taken_stdin : StdinState
@@ -35,29 +42,94 @@ stdin_after a t = stdin_by a.reads a t
 abbrev pub MemoryWasRefused : InputsState → InputsState → Type 0
 MemoryWasRefused a b = b ≡ record a { source = record a.source { refusals = a.source.refusals + 1 } }
 
--- the digest of an outcome, or the fault of opening or reading
-abbrev pub digest_of_outcome : HashOutcome → Result (ByteString) Fault
-digest_of_outcome (outcomes.Read d) = Ok d
-digest_of_outcome (outcomes.NotOpened f) = Err f
-digest_of_outcome (outcomes.Broken f) = Err f
+-- ---- any name
 
--- the outcome of reading a content
-abbrev pub IsRead : KindValue → Content → HashOutcome → Type 0
-IsRead kind c (outcomes.Read d) = digest_or_fault kind (Ok c) ≡ Ok d
-IsRead kind c (outcomes.NotOpened f) = ⊥
-IsRead kind c (outcomes.Broken f) = digest_or_fault kind (Ok c) ≡ Err f
+-- the state of what a name gave that was opened. Standard input is named `-`
+abbrev pub opened_state : {I F : Type 0} → (I → InputState) → (F → InputState) → Place I F → InputState
+opened_state stdin file (Stdin given) = record (given_state stdin given) { name = codes "-" }
+opened_state stdin file (File f) = file f
 
--- the outcome of an answer
-abbrev pub IsHashOutcome : KindValue → Answer → HashOutcome → Type 0
-IsHashOutcome kind (Ok c) outcome = IsRead kind c outcome
-IsHashOutcome kind (Err f) outcome = outcome ≡ outcomes.NotOpened f
+-- and no file is named so
+abbrev pub IsNamedFile : {I F : Type 0} → (F → InputState) → Place I F → Type 0
+IsNamedFile file (Stdin given) = ⊤
+IsNamedFile file (File f) = is_dash (file f).name ≡ false
+
+-- its reads are of a content
+pub opened_has_content : {I F : Type 0} (stdin : I → InputState) (file : F → InputState)
+    → ((i : I) → HasContent (stdin i)) → ((f : F) → HasContent (file f)) → (p : Place I F)
+    → HasContent (opened_state stdin file p)
+opened_has_content stdin file has has_file (Stdin given) = given_has_content stdin has given
+opened_has_content stdin file has has_file (File f) = has_file f
+
+-- a name was opened, by whether it is `-`, and gave this
+abbrev pub OpensBy : Bool → ByteString → InputsState → InputsState → InputState → Type 0
+OpensBy true name a b s = GivesStdin s a b
+OpensBy false name a b s = (s ≡ opened_file a.source name) × (b ≡ record a { source = and_opening a.source name None })
+
+-- OPENING a name gives this, of which nothing was read
+pub record OpensName (name : ByteString) (a b : InputsState) (s : InputState) : Type 0 where
+  pub named : s.name ≡ name
+  pub reads : s.reads ≡ unread
+  pub opens : OpensBy (is_dash name) name a b s
+
+-- or it fails: there is no such fault of standard input
+abbrev pub FailsToOpen : ByteString → InputsState → InputsState → OpenFault → Type 0
+FailsToOpen name a b (faults.Fault f) =
+    (is_dash name ≡ false) × (b ≡ record a { source = and_opening a.source name (Some (Err f)) })
+FailsToOpen name a b faults.Memory = MemoryWasRefused a b
+
+-- what has this state is still open
+abbrev pub IsOpenBy : Bool → InputsState → InputState → Type 0
+IsOpenBy true a t = a.stdin.taken ≡ true
+IsOpenBy false a t = IsOpen a.source t
+
+abbrev pub IsStillOpen : InputsState → InputState → Type 0
+IsStillOpen a t = IsOpenBy (is_dash t.name) a t
+
+-- CLOSING what has this state
+abbrev pub closed_by : Bool → InputsState → InputState → InputsState
+closed_by true a t = record a { stdin = stdin_after a.stdin t }
+closed_by false a t = record a { source = after_closing a.source t }
+
+abbrev pub after_closing_name : InputsState → InputState → InputsState
+after_closing_name a t = closed_by (is_dash t.name) a t
+
+-- ---- hashing a name
+
+abbrev pub fault_of_opening : OpenFault → HashFault
+fault_of_opening (faults.Fault f) = hashing.NotOpened f
+fault_of_opening faults.Memory = hashing.Memory
+
+-- the fault of opening or reading
+abbrev pub fault_in : HashFault → Result Fault NoRoom
+fault_in (hashing.NotOpened f) = Ok f
+fault_in (hashing.NotRead f) = Ok f
+fault_in hashing.Memory = Err (record {})
+
+-- what hashing an answer gives
+abbrev pub IsHashOf : KindValue → Answer → Result (ByteString) HashFault → Type 0
+IsHashOf kind x (Err hashing.Memory) = ⊤
+IsHashOf kind (Ok c) (Ok d) = digest_or_fault kind (Ok c) ≡ Ok d
+IsHashOf kind (Ok c) (Err (hashing.NotRead f)) = digest_or_fault kind (Ok c) ≡ Err f
+IsHashOf kind (Err f) (Err (hashing.NotOpened g)) = f ≡ g
+IsHashOf kind x r = ⊥
+
+-- the name is asked, unless memory was refused
+abbrev pub AsksUnlessRefused : {A : Type 0} → ByteString → InputsState → InputsState → Result A HashFault → Type 0
+AsksUnlessRefused name a b (Err hashing.Memory) = MemoryWasRefused a b
+AsksUnlessRefused name a b r = AsksNames a b (name ∷ [])
 
 -- reading it didn't fail
-abbrev pub IsNotBroken : Result HashOutcome NoRoom → Type 0
-IsNotBroken (Ok (outcomes.Broken f)) = ⊥
-IsNotBroken outcome = ⊤
+abbrev pub IsNotBroken : {A : Type 0} → Result A HashFault → Type 0
+IsNotBroken (Err (hashing.NotRead f)) = ⊥
+IsNotBroken r = ⊤
 
--- a digest of the outcome has the kind's length
-abbrev pub HasKindLen : KindValue → Result HashOutcome NoRoom → Type 0
-HasKindLen kind (Ok (outcomes.Read d)) = length d ≡ kind.len
-HasKindLen kind outcome = ⊤
+-- what a call does that hashes a name
+pub record HashesName (kind : KindValue) (name : ByteString) (a b : InputsState) (r : Result (ByteString) HashFault)
+    : Type 0 where
+  -- in every world that agrees with what was read
+  pub hash : (w : World) → Agrees w b → IsHashOf kind (answer_to (world_at w a) name) r
+  pub asked : AsksUnlessRefused name a b r
+  pub stdin : is_dash name ≡ false → b.stdin ≡ a.stdin
+  pub reads : ReadsToEndIf (IsNotBroken r) a b
+  pub len : IfOk r (λ d. length d ≡ kind.len)

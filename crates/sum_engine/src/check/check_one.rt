@@ -1,16 +1,16 @@
 //! Checking one manifest.
+ghost use Rattle.sum_engine.specs.Behavior.{is_dash};
 ghost use Rattle.sum_engine.specs.check.Checking.{check_behavior};
 ghost use Rattle.sum_engine.specs.Execution.{IsFlushed, FailuresMatch, IsOneMoreAtMost, RefusalsMatch, StopHasCause};
 ghost use Rattle.sum_engine.specs.Execution.{Performs, IsAtEndIf, ReadsToEndIf};
 ghost use Rattle.sum_sources.specs.Contents.{unread, IsSameInput};
 ghost use Rattle.sum_engine.specs.check.Verdicts.{IsAtStart};
-ghost use Rattle.std.specs.Prelude.{◌≡◌, true, None, Ok};
+ghost use Rattle.std.specs.Prelude.{◌≡◌, true, None, Ok, codes, if◌then◌else◌};
 ghost use Rattle.sum_engine.specs.check.CheckerLaws.{ManifestPerforms};
 
 use crate::check::checker::Checker;
 use crate::check::progress::Progress;
-use crate::hash_name::is_dash;
-use crate::inputs::Inputs;
+use crate::inputs::{Inputs, is_dash};
 use crate::put_flushed::{outcome_after, put_name_fault_line};
 use crate::settings::CheckSettings;
 use crate::stop::Stop;
@@ -43,25 +43,29 @@ pub fn check_one<A: Allocator + Copy, J: Input + Drop, S: Source, O: Sink, E: Si
     ensures refusals { RefusalsMatch IsOneMoreAtMost streams.old.inputs streams.new.inputs result }
     ensures failures { FailuresMatch streams.old.outputs streams.new.outputs result }
 {
-    if is_dash(name) {
-        let input = streams.inputs.take_stdin();
-        let checker = Checker::new(settings, tool, b"standard input", true, input);
-        let (result, input) = run_to_end(alloc, checker, streams);
-        streams.inputs.put_back_stdin(input);
-        return result;
-    }
-    match streams.inputs.open_file(name) {
-        Err(OpenFault::Memory) => Err(Stop::Memory),
+    let input = match streams.inputs.open(name) {
+        Ok(opened) => opened,
+        Err(OpenFault::Memory) => return Err(Stop::Memory),
         Err(OpenFault::Fault(fault)) => {
             let written = put_name_fault_line(&mut streams.outputs, tool, name, fault);
-            outcome_after(written, false)
+            return outcome_after(written, false);
         }
-        Ok(file) => {
-            let checker = Checker::new(settings, tool, name, false, file);
-            let (result, file) = run_to_end(alloc, checker, streams);
-            streams.inputs.close_file(file);
-            result
-        }
+    };
+    let from_stdin = is_dash(name);
+    let checker = Checker::new(settings, tool, shown_name(name), from_stdin, input);
+    let (result, input) = run_to_end(alloc, checker, streams);
+    streams.inputs.close(input);
+    result
+}
+
+// The manifest's name, as reports show it.
+fn shown_name(name: &[u8]) -> &[u8]
+    ensures { result.now ≡ (if is_dash name.now then codes "standard input" else name.now) }
+{
+    if is_dash(name) {
+        b"standard input"
+    } else {
+        name
     }
 }
 

@@ -7,11 +7,11 @@ ghost use Rattle.sum_engine.specs.refinement.Names.{MemoryWasRefused};
 ghost use Rattle.sum_engine.specs.check.Verdicts.{HasNameRange};
 
 use crate::check::rules::CheckRules;
-use crate::hash_name::{HashOutcome, hash_name, is_dash};
-use crate::inputs::Inputs;
+use crate::hash_name::{HashFault, hash_name};
+use crate::inputs::{Inputs, is_dash};
 use digest_kinds::{Digest, Kind};
 use std::ops::Range;
-use sum_sources::{Fault, Input, NoRoom, PIECE, Source};
+use sum_sources::{Fault, Input, NoRoom, Source};
 
 /// What checking finds of a manifest's line.
 #[derive(Clone, Copy, Debug, PartialEq, Eq)]
@@ -59,7 +59,7 @@ impl LineVerdict {
 }
 
 ghost use Rattle.sum_engine.specs.refinement.Judging.{Judges};
-ghost use Rattle.sum_engine.specs.refinement.Judging.{verdict_of_outcome, listed_entry};
+ghost use Rattle.sum_engine.specs.refinement.Judging.{listed_entry, verdict_of_hash};
 ghost use Rattle.sum_engine.specs.Behavior.{World};
 ghost use Rattle.sum_engine.specs.Execution.{Agrees, world_at, AsksNames, ReadsToEndIf};
 
@@ -76,7 +76,6 @@ pub(crate) fn judge<I: Input + Drop, S: Source>(
     rules: CheckRules,
     listed: &ListedEntry,
     inputs: &mut Inputs<I, S>,
-    buffer: &mut [u8; PIECE],
 ) -> Result<Verdict, NoRoom>
     ensures verdict { (w : World) → Agrees w inputs.new
         → Judges rules (world_at w inputs.old) (entry (listed_entry listed.now)) result }
@@ -88,22 +87,23 @@ pub(crate) fn judge<I: Input + Drop, S: Source>(
     if rules.from_stdin && is_dash(listed.name) {
         return Ok(Verdict::Bad);
     }
-    let outcome = hash_name(listed.kind, listed.name, inputs, buffer)?;
-    Ok(compare(&outcome, listed.digest, rules.ignore_missing))
+    let found = hash_name(listed.kind, listed.name, inputs);
+    compare(&found, listed.digest, rules.ignore_missing)
 }
 
-fn compare(outcome: &HashOutcome, digest: &Digest, ignore_missing: bool) -> Verdict
-    ensures { result ≡ verdict_of_outcome ignore_missing digest.now outcome.now }
+// The verdict, by what hashing the name gave.
+fn compare(
+    found: &Result<Digest, HashFault>,
+    digest: &Digest,
+    ignore_missing: bool,
+) -> Result<Verdict, NoRoom>
+    ensures { result ≡ verdict_of_hash ignore_missing digest.now found.now }
 {
-    match outcome {
-        HashOutcome::Read(found) => {
-            if found.same(digest) {
-                Verdict::Right
-            } else {
-                Verdict::Wrong
-            }
-        }
-        HashOutcome::NotOpened(Fault::NotFound) if ignore_missing => Verdict::Missing,
-        HashOutcome::NotOpened(fault) | HashOutcome::Broken(fault) => Verdict::Unread(*fault),
+    match found {
+        Ok(found) if found.same(digest) => Ok(Verdict::Right),
+        Ok(_) => Ok(Verdict::Wrong),
+        Err(HashFault::NotOpened(Fault::NotFound)) if ignore_missing => Ok(Verdict::Missing),
+        Err(HashFault::NotOpened(fault) | HashFault::NotRead(fault)) => Ok(Verdict::Unread(*fault)),
+        Err(HashFault::Memory) => Err(NoRoom),
     }
 }

@@ -11,7 +11,7 @@ use crate::settings::CheckSettings;
 use std::alloc::Allocator;
 use std::marker::Model;
 use sum_lines::{Form, Reading, read_line};
-use sum_sources::{Input, LineReader, LineStop, Next, NoRoom, PIECE, Source};
+use sum_sources::{Input, LineReader, LineStop, Next, NoRoom, Source};
 
 /// The verdicts of a manifest's lines, one at a time, for a program that shows them in its own way. Nothing is written.
 #[derive(Debug, Drop)]
@@ -20,8 +20,6 @@ pub struct Verdicts<I> {
     reader: LineReader<I>,
     form: Form,
     counts: Counts,
-    // Listed files are read into this, one after another.
-    buffer: [u8; PIECE],
     // That no line is left, or why the verdicts stopped: every later call returns it again.
     outcome: Option<Result<(), LineStop>>,
 }
@@ -70,7 +68,6 @@ impl<I: Input> Verdicts<I> {
             reader: LineReader::new(input),
             form: Form::Undecided,
             counts: Counts::NONE,
-            buffer: [0; PIECE],
             outcome: None,
         }
     }
@@ -198,7 +195,7 @@ impl<I: Input> Verdicts<I> {
                     digest: &digest,
                     name: &line[start..stop],
                 };
-                let verdict = judge(self.rules, &listed, inputs, &mut self.buffer)?;
+                let verdict = judge(self.rules, &listed, inputs)?;
                 Ok(self.count_verdict(verdict, start, stop))
             }
         }

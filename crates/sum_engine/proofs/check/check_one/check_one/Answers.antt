@@ -1,80 +1,62 @@
-use Rattle.std.proofs.Common.{rules, ◌≡◌, true, false, ap, refl}
-use Rattle.sum_sources.specs.InputLaws.{given_has_content}
-use Rattle.sum_engine.specs.Behavior.{is_dash}
-use Rattle.sum_engine.specs.check.Rules.{Rules}
+use Rattle.std.proofs.Common.{◌≡◌, true, ap, Ok, ◌∙◌}
+use Rattle.sum_engine.specs.check.Rules.{Rules, labels_of, rules_of}
+use Rattle.sum_engine.specs.refinement.Names.{opened_has_content, opened_state}
+use Rattle.sum_engine.proofs.CheckOneLemmas.{check_opened, no_room, refused}
 use Rattle.sum_engine.proofs.FlushedWriteLemmas.{writes_and_returns}
-use Rattle.sum_engine.proofs.HashNameLemmas.{gives_taken, given_reads, refused_reads}
+use Rattle.sum_engine.proofs.OpenedNameLemmas.{WasOpened, was_opened}
 use Rattle.sum_engine.proofs.WorldLemmas.{reads_fault}
-use Rattle.sum_engine.proofs.CheckOneLemmas.{file_reads, check_dash, check_file, refused, no_room}
+use Rattle.sum_engine.proofs.check.check_one.check_one.Given as given
 use Rattle.sum_engine.proofs.check.check_one.check_one.Goals as goal
 
 -- ---- there was no memory to open it
 
 pub returns-in-Err-Memory-clause-behavior : goal.returns-in-Err-Memory-clause-behavior
 returns-in-Err-Memory-clause-behavior g c =
-    no_room c.args.settings c.args.tool.now c.args.name.now c.args.streams.now c.open_file.new.self (search rules)
-
-pub returns-in-Err-Memory-clause-reads : goal.returns-in-Err-Memory-clause-reads
-returns-in-Err-Memory-clause-reads g c = search (rules, refused_reads)
+    no_room c.args.settings c.args.tool.now c.args.name.now c.args.streams.now c.open.new.self
+    (rw c.in-Err-Memory.field-0-is at c.in-Err-Memory.ensures)
 
 -- ---- it could not be opened, and the line of its fault was written, or a prefix of it
 
 pub returns-in-Err-Fault-clause-behavior : goal.returns-in-Err-Fault-clause-behavior
 returns-in-Err-Fault-clause-behavior g c =
-    let dash : is_dash c.args.name.now ≡ false = search rules in
+    let failed = rw c.in-Err-Fault.field-0-is at c.in-Err-Fault.ensures in
     let written = rw c.in-Err-Fault.fault-is at c.put_name_fault_line-written.ensures in
-    refused c.args.settings c.args.tool.now c.args.name.now c.args.streams.now c.open_file.new.self
-    _ c.put_name_fault_line-written.new.outputs _ dash (rw c.in-Err-Fault.field-0-is at c.in-Err-Fault.ensures.source)
+    refused c.args.settings c.args.tool.now c.args.name.now c.args.streams.now c.open.new.self
+    _ c.put_name_fault_line-written.new.outputs _ failed.0 failed.1
     (writes_and_returns c.put_name_fault_line-written.result c.outcome_after.ensures written)
 
 pub returns-in-Err-Fault-clause-reads : goal.returns-in-Err-Fault-clause-reads
 returns-in-Err-Fault-clause-reads g c =
-    reads_fault c.args.streams.now.inputs c.open_file.new.self c.args.name.now _
-    (rw c.in-Err-Fault.field-0-is at c.in-Err-Fault.ensures.source)
+    reads_fault c.args.streams.now.inputs c.open.new.self c.args.name.now _
+    (rw c.in-Err-Fault.field-0-is at c.in-Err-Fault.ensures).1
 
--- ---- it is a file
+-- ---- it was opened, checked and closed
 
-pub returns-in-Ok-clause-behavior : goal.returns-in-Ok-clause-behavior
-returns-in-Ok-clause-behavior g c =
-    let dash : is_dash c.args.name.now ≡ false = search rules in
-    let checked = c.run_to_end-result-in-Ok in
-    let made = c.new-checker-in-Ok.ensures in
-    check_file c.args.settings c.args.tool.now c.args.name.now c.args.streams.now c.open_file.new.self
-    c.close_file.new.self _ _ checked.new.streams _ dash c.in-Ok.ensures.source c.in-Ok.ensures.file
-    (rw made.start.reader at checked.ensures.same) c.close_file.ensures checked.ensures.reads
-    (rw (made.rules, made.labels, made.start.reader) at checked.ensures.behavior)
+opened : (g : given.Over) (c : goal.After-close g) → WasOpened (c.run_to_end-result.result.0 ≡ Ok true)
+    c.args.streams.now.inputs c.open.new.self c.run_to_end-result.new.streams.inputs c.close.new.self c.args.name.now
+    (opened_state g.J.Input.state g.S.File.Input.state c.run_to_end-result.result.1)
+opened g c =
+    let checked = c.run_to_end-result.ensures in
+    let start = c.new-checker.ensures.start.reader in
+    let unread = (c.in-Ok.ensures).reads in
+    was_opened (rw start at checked.same) ((rw start at checked.manifest) unread) checked.reads c.in-Ok.ensures
+    (opened_has_content g.J.Input.state g.S.File.Input.state g.met.J.Input.has_content g.met.S.File.Input.has_content
+    c.run_to_end-result.result.1)
+    (λ dash. checked.stdin (ap (λ (r : Rules). r.from_stdin) c.new-checker.ensures.rules
+    ∙ c.is_dash-from_stdin.ensures ∙ dash)) c.close.ensures
 
-pub returns-in-Ok-clause-reads : goal.returns-in-Ok-clause-reads
-returns-in-Ok-clause-reads g c =
-    let checked = c.run_to_end-result-in-Ok in
-    let start = c.new-checker-in-Ok.ensures.start.reader in
-    let manifest = rw start at checked.ensures.manifest in
-    file_reads c.args.streams.now.inputs c.open_file.new.self checked.new.streams.inputs c.close_file.new.self
-    c.args.name.now _ _ c.in-Ok.ensures.source c.in-Ok.ensures.file (rw start at checked.ensures.same)
-    (manifest (rw c.in-Ok.ensures.file refl)) checked.ensures.reads c.close_file.ensures
-
--- ---- it is standard input
-
-pub returns-then-is_dash-clause-behavior : goal.returns-then-is_dash-clause-behavior
-returns-then-is_dash-clause-behavior g c =
-    let dash : is_dash c.args.name.now ≡ true = search rules in
-    let gives = c.take_stdin-input.ensures in
-    let checked = c.run_to_end-result in
+pub returns-clause-behavior : goal.returns-clause-behavior
+returns-clause-behavior g c =
     let made = c.new-checker.ensures in
-    let kept = checked.ensures.stdin (ap (λ (r : Rules). r.from_stdin) made.rules) in
-    let has = given_has_content g.J.Input.state g.met.J.Input.has_content checked.result.1 in
-    check_dash c.args.settings c.args.tool.now c.args.name.now c.args.streams.now c.take_stdin-input.new.self _ _ _
-    checked.new.streams _ dash gives (rw made.start.reader at checked.ensures.same) has kept
-    (c.put_back_stdin.ensures (rw kept (gives_taken gives)))
-    (rw (made.rules, made.labels, made.start.reader) at checked.ensures.behavior)
+    let settings = c.args.settings in
+    let name = c.args.name.now in
+    let rules = made.rules ∙ ap (rules_of settings) c.is_dash-from_stdin.ensures in
+    let labels : c.new-checker.result.labels ≡ labels_of settings c.args.tool.now name =
+    made.labels ∙ ap (λ shown. record { tool = c.args.tool.now; manifest = shown; report = settings.report })
+    c.shown_name.ensures in
+    check_opened settings c.args.tool.now name c.args.streams.now c.open.new.self c.close.new.self
+    (opened_state g.J.Input.state g.S.File.Input.state c.in-Ok.opened) _ c.run_to_end-result.new.streams c.run_to_end-result.result.0 c.in-Ok.ensures.reads (opened g c)
+    (rw (rules, labels, made.start.reader) at c.run_to_end-result.ensures.behavior)
 
-pub returns-then-is_dash-clause-reads : goal.returns-then-is_dash-clause-reads
-returns-then-is_dash-clause-reads g c =
-    let gives = c.take_stdin-input.ensures in
-    let checked = c.run_to_end-result in
-    let made = c.new-checker.ensures in
-    let kept = checked.ensures.stdin (ap (λ (r : Rules). r.from_stdin) made.rules) in
-    let manifest = rw made.start.reader at checked.ensures.manifest in
-    given_reads gives (rw made.start.reader at checked.ensures.same) checked.new.streams.inputs
-    c.put_back_stdin.new.self (manifest gives.reads) checked.ensures.reads kept
-    (c.put_back_stdin.ensures (rw kept (gives_taken gives)))
+pub returns-clause-reads : goal.returns-clause-reads
+returns-clause-reads g c = (opened g c).reads

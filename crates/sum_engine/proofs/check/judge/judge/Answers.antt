@@ -18,18 +18,16 @@ returns-clause-verdict g c =
       | else-rules-via-else-rules
           w ↦ search rules
     ] in
+    let found = c.hash_name-found in
     λ w agrees.
-    judged_entry r (world_at w c.args.inputs.now) s c.in_ok-outcome.outcome _ dash
-    (c.in_ok-outcome.ensures.outcome w agrees) (rw (← c.rules.view_is) c.compare.ensures)
+    judged_entry r (world_at w c.args.inputs.now) s found.result _ dash (found.ensures.hash w agrees)
+    (rw (← c.rules.view_is) c.compare.ensures)
 
 pub returns-clause-asked : goal.returns-clause-asked
-returns-clause-asked g c = rw (entry_asks c.rules.inside.ignore_missing (listed_entry c.args.listed.now)
-    c.in_ok-outcome.outcome _ c.compare.ensures) c.in_ok-outcome.ensures.asked
+returns-clause-asked g c = entry_asks _ _ c.rules.inside.ignore_missing (listed_entry c.args.listed.now)
+    c.hash_name-found.result _ c.compare.ensures c.hash_name-found.ensures.asked
 
 -- the file was read to its end, unless the verdict says that it could not be read
 pub returns-clause-reads : goal.returns-clause-reads
 returns-clause-reads g c = reads_weaker (verdict_read c.rules.inside.ignore_missing c.args.listed.now.digest.now
-    c.in_ok-outcome.outcome _ c.compare.ensures) c.in_ok-outcome.ensures.reads
-
-pub returns-in_err-outcome-clause-reads : goal.returns-in_err-outcome-clause-reads
-returns-in_err-outcome-clause-reads g c = reads_weaker (λ u. tt) c.in_err-outcome.ensures.reads
+    c.hash_name-found.result _ c.compare.ensures) c.hash_name-found.ensures.reads
