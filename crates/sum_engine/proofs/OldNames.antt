@@ -11,7 +11,7 @@ use Rattle.sum_lines.specs.Escape.{present, escape, escape_of, escape_by}
 use Rattle.sum_lines.specs.grammar.Entries.{EntryValue, is_ignored_by, IsRawName, SpellsByTag, SpellsByTail, IsEntry}
 use Rattle.sum_lines.specs.grammar.ParsedLines.{ParsedLine, ignored, bad, entry, parse_line}
 use Rattle.sum_lines.proofs.ParsedLineLemmas.{parse_is_grammar}
-use Rattle.sum_engine.specs.check.OldVerdicts.{older, HasNoCarriageReturn, NamesNoCarriageReturn}
+use Rattle.sum_engine.specs.check.OldVerdicts.{older_profile, HasNoCarriageReturn, NamesNoCarriageReturn}
 use Rattle.sum_engine.proofs.CarriageReturnLemmas.{IsNoCarriageReturn}
 use Rattle.sum_lines.specs.grammar.Entries as entries
 
@@ -36,29 +36,29 @@ part_clean front part rest line is free =
 -- ---- the escape
 
 -- versions differ in the escape of a carriage return alone
-byte_same : (b : ℕ) → b ≢ 13 → escape_of older b ≡ escape_of present b
+byte_same : (b : ℕ) → b ≢ 13 → escape_of older_profile b ≡ escape_of present b
 byte_same b free = grind (arith, nat_tests)
 
 -- so a name without one has the same escape
-pub same_escape : (name : List ℕ) → HasNoCarriageReturn name → escape_by older name ≡ escape_by present name
+pub same_escape : (name : List ℕ) → HasNoCarriageReturn name → escape_by older_profile name ≡ escape_by present name
 same_escape [] free = refl
 same_escape (b ∷ bs) free = search (rules, All-head, byte_same, same_escape bs (All-tail IsNoCarriageReturn b bs free))
 
 -- ---- names
 
 -- an older name whose escape has no carriage return has none
-older_clean : (name : List ℕ) → HasNoCarriageReturn (escape_by older name) → HasNoCarriageReturn name
+older_clean : (name : List ℕ) → HasNoCarriageReturn (escape_by older_profile name) → HasNoCarriageReturn name
 older_clean [] free = All-nil IsNoCarriageReturn
 older_clean (b ∷ bs) free =
-    All-cons IsNoCarriageReturn b bs (first b (front_clean (escape_of older b) (escape_by older bs) free))
-    (older_clean bs (rest_clean (escape_of older b) (escape_by older bs) free))
+    All-cons IsNoCarriageReturn b bs (first b (front_clean (escape_of older_profile b) (escape_by older_profile bs) free))
+    (older_clean bs (rest_clean (escape_of older_profile b) (escape_by older_profile bs) free))
   where
-    first : (b : ℕ) → HasNoCarriageReturn (escape_of older b) → b ≢ 13
+    first : (b : ℕ) → HasNoCarriageReturn (escape_of older_profile b) → b ≢ 13
     first b all = λ is. All-head IsNoCarriageReturn 13 [] (rw is at all) refl
 
 -- so a name that bytes without one spell by the older escape has none
 older_name : (e : Bool) (raw name : List ℕ) → HasNoCarriageReturn raw
-    → entries.Spells (escape_by older) e raw name → HasNoCarriageReturn name
+    → entries.Spells (escape_by older_profile) e raw name → HasNoCarriageReturn name
 older_name true raw name free s = older_clean name (subst HasNoCarriageReturn s.is free)
 older_name false raw name free s = subst HasNoCarriageReturn s.is free
 
@@ -97,7 +97,7 @@ entry_by E F algos f line s same h = search rules
 
 -- an older entry of a line without one has a name without one
 older_entry : (algos : Algos) (f : Form) (line : List ℕ) (s : EntryValue) → HasNoCarriageReturn line
-    → IsEntry (escape_by older) algos f line s → HasNoCarriageReturn s.name
+    → IsEntry (escape_by older_profile) algos f line s → HasNoCarriageReturn s.name
 older_entry algos f line s free (i, inl t) = search (rules, older_name, tag_clean)
 older_entry algos f line s free (i, inr t) = search (rules, older_name, tail_clean)
 
@@ -110,30 +110,30 @@ CleanParsedLine bad = Unit {0}
 CleanParsedLine (entry s) = HasNoCarriageReturn s.name
 
 -- a line that isn't empty is ignored under both profiles or under neither
-ignored_same : (line : List ℕ) (q : Bool) → 0 < length line → is_ignored_by present line ≡ q → is_ignored_by older line
+ignored_same : (line : List ℕ) (q : Bool) → 0 < length line → is_ignored_by present line ≡ q → is_ignored_by older_profile line
     ≡ q
 ignored_same line q some h = search rules
 
 -- a line without one, in which no name has one, says the same under both profiles
 pub parse_line_same : (algos : Algos) (f : Form) (line : List ℕ) → HasNoCarriageReturn line
     → NamesNoCarriageReturn algos f line → 0 < length line
-    → (parse_line older algos f line ≡ parse_line present algos f line)
+    → (parse_line older_profile algos f line ≡ parse_line present algos f line)
     × CleanParsedLine (parse_line present algos f line)
 parse_line_same algos f line free names some = go (parse_line present algos f line) refl
   where
-    go : (x : ParsedLine) → parse_line present algos f line ≡ x → (parse_line older algos f line ≡ x)
+    go : (x : ParsedLine) → parse_line present algos f line ≡ x → (parse_line older_profile algos f line ≡ x)
         × CleanParsedLine x
     go ignored h = search (rules, parse_is_grammar, ignored_same)
     go bad h =
         let is = (parse_is_grammar present algos f line).when_bad.0 h in (
-          (parse_is_grammar older algos f line).when_bad.1 (
+          (parse_is_grammar older_profile algos f line).when_bad.1 (
             ignored_same line false some is.0,
-            λ s e. is.1 s (entry_by (escape_by older) escape algos f line s
+            λ s e. is.1 s (entry_by (escape_by older_profile) escape algos f line s
                 (same_escape s.name (older_entry algos f line s free e)) e),
           ),
           tt,
         )
     go (entry s) h =
         let is = ((parse_is_grammar present algos f line).when_entry s).0 h in
-        let older_is = (parse_is_grammar older algos f line).when_entry s in
+        let older_is = (parse_is_grammar older_profile algos f line).when_entry s in
         search (rules, is.0, is.1, names s is.1, older_is.1, ignored_same, entry_by, same_escape)

@@ -9,7 +9,7 @@ use Rattle.sum_engine.specs.check.Checker.{step_then}
 use Rattle.sum_engine.specs.Behavior.{Ending, Whole, Broken, World, after, Content, clip}
 use Rattle.sum_sources.specs.ManifestLines.{raw_lines, last_line, past_line, bytes_of_lines}
 use Rattle.sum_sources.proofs.CutLemmas.{cut, raw_lines-joined}
-use Rattle.sum_engine.specs.check.OldVerdicts.{older, rules_under, HasNoCarriageReturn, NamesNoCarriageReturn, IsOldManifest, OldVerdicts, OldOutcomes, OlderDiffers}
+use Rattle.sum_engine.specs.check.OldVerdicts.{older_profile, rules_under, HasNoCarriageReturn, NamesNoCarriageReturn, IsOldManifest, OldVerdicts, OldOutcomes, OlderDiffers}
 use Rattle.sum_lines.proofs.ParsedLineLemmas.{parse_is_grammar}
 use Rattle.sum_engine.proofs.OldNames.{front_clean, rest_clean, same_escape, CleanParsedLine, parse_line_same}
 use Rattle.sum_engine.proofs.CarriageReturnLemmas.{strips-kept}
@@ -42,7 +42,7 @@ pieces_clean c free =
     (ended_clean c.ending all.0 all.1 (subst HasNoCarriageReturn all.2 free)))
 
 -- so the lines are the same
-lines_same : (c : Content) → HasNoCarriageReturn c.bytes → lines_under older c ≡ lines_under present c
+lines_same : (c : Content) → HasNoCarriageReturn c.bytes → lines_under older_profile c ≡ lines_under present c
 lines_same c free = sym (strips-kept (raw_lines c) (pieces_clean c free))
 
 -- ---- the verdicts
@@ -63,7 +63,7 @@ pub record Alike (algos : Algos) (f : Form) (line : List ℕ) : Type 0 where
 
 -- the verdicts are the same
 verdicts_same : (r : Rules) (f : Form) (w : World) (n : ℕ) (ls : List (List ℕ)) → All (Alike r.algo f) ls
-    → (verdicts (rules_under older r) f w n ls ≡ verdicts (rules_under present r) f w n ls)
+    → (verdicts (rules_under older_profile r) f w n ls ≡ verdicts (rules_under present r) f w n ls)
     × All CleanName (verdicts (rules_under present r) f w n ls)
 verdicts_same r f w n [] all = (refl, All-nil CleanName)
 verdicts_same r f w n (l ∷ ls) all =
@@ -71,7 +71,7 @@ verdicts_same r f w n (l ∷ ls) all =
     let s = parse_line_same r.algo f l here.no_byte here.no_escape here.some in
     let new = rules_under present r in
     let j = line_verdict new w (n + 1) (parse_line present r.algo f l) in
-    let one : line_verdict (rules_under older r) w (n + 1) (parse_line older r.algo f l) ≡ j = search (rules, s.0) in
+    let one : line_verdict (rules_under older_profile r) w (n + 1) (parse_line older_profile r.algo f l) ≡ j = search (rules, s.0) in
     let more = verdicts_same r f (after w (asks_of j)) (n + 1) ls (All-tail (Alike r.algo f) l ls all) in
     let clean = judged_clean new w (n + 1) (parse_line present r.algo f l) s.1 in
     (rw (one, more.0) refl, All-cons CleanName j (verdicts new f (after w (asks_of j)) (n + 1) ls) clean more.1)
@@ -80,7 +80,7 @@ verdicts_same r f w n (l ∷ ls) all =
 
 -- what is reported of a verdict whose name holds no carriage return
 out_same : (report : Report) (v : Verdict) (name : List ℕ) → HasNoCarriageReturn name
-    → out_by older report v name ≡ out_by present report v name
+    → out_by older_profile report v name ≡ out_by present report v name
 out_same report v name free = search (rules, same_escape)
 
 -- so it is for all of them
@@ -93,16 +93,16 @@ all_same f g same (j ∷ js) all = search (rules, All-head, all_same f g same js
 -- what a line of the manifest adds to standard error
 err_same : (r : Rules) (labels : LabelsValue) (n : ℕ) (v : Verdict) (name : List ℕ)
     → HasNoCarriageReturn labels.manifest → HasNoCarriageReturn name
-    → err_by (rules_under older r) labels n v name ≡ err_by (rules_under present r) labels n v name
+    → err_by (rules_under older_profile r) labels n v name ≡ err_by (rules_under present r) labels n v name
 err_same r labels n v name own free = search (rules, same_escape)
 
 -- the text at its end
 end_same : (r : Rules) (labels : LabelsValue) (e : Ending) (c : Counts) → HasNoCarriageReturn labels.manifest
-    → end_text (rules_under older r) labels e c ≡ end_text (rules_under present r) labels e c
+    → end_text (rules_under older_profile r) labels e c ≡ end_text (rules_under present r) labels e c
 end_same r labels Whole c own = by labels.report
   where
     by : (report : Report) → let shown : LabelsValue = record labels { report = report } in
-        end_text (rules_under older r) shown Whole c ≡ end_text (rules_under present r) shown Whole c
+        end_text (rules_under older_profile r) shown Whole c ≡ end_text (rules_under present r) shown Whole c
     by reports.Status = rw (same_escape labels.manifest own) refl
     by report = rw (same_escape labels.manifest own) refl
 end_same r labels (Broken f) c own = search (rules, same_escape)
@@ -111,7 +111,7 @@ end_same r labels (Broken f) c own = search (rules, same_escape)
 
 -- the verdicts of such a manifest are the same under both profiles, and name no carriage return
 found_same : (r : Rules) (labels : LabelsValue) (w : World) (c : Content) → IsOldManifest r labels c
-    → (all_verdicts (rules_under older r) w c ≡ all_verdicts (rules_under present r) w c)
+    → (all_verdicts (rules_under older_profile r) w c ≡ all_verdicts (rules_under present r) w c)
     × All CleanName (all_verdicts (rules_under present r) w c)
 found_same r labels w c h =
     let f = form r.algo (raw_lines c) in
@@ -119,7 +119,7 @@ found_same r labels w c h =
     let all : All (Alike r.algo f) (raw_lines c) =
     λ k d lt. record { no_byte = clean k d lt; no_escape = h.no_escape k d lt; some = h.no_empty k d lt } in
     let Same : List (List ℕ) → Type 0 = λ ls.
-    (all_verdicts (rules_under older r) w c ≡ verdicts (rules_under present r) (form r.algo ls) w 0 ls)
+    (all_verdicts (rules_under older_profile r) w c ≡ verdicts (rules_under present r) (form r.algo ls) w 0 ls)
     × All CleanName (verdicts (rules_under present r) (form r.algo ls) w 0 ls) in
     subst Same (lines_same c h.no_byte) (verdicts_same r (form r.algo (raw_lines c)) w 0 (raw_lines c) all)
 
@@ -134,7 +134,7 @@ old_verdicts r labels w c h =
 -- the steps are the same
 steps_same : (r : Rules) (labels : LabelsValue) (end : List ℕ) (c : Content) (js : List LineVerdictValue)
     → HasNoCarriageReturn labels.manifest → All CleanName js
-    → line_steps (rules_under older r) labels end c js ≡ line_steps (rules_under present r) labels end c js
+    → line_steps (rules_under older_profile r) labels end c js ≡ line_steps (rules_under present r) labels end c js
 steps_same r labels end c [] own all = refl
 steps_same r labels end c (j ∷ js) own all =
     let later = steps_same r labels end (past_line c) js own (All-tail CleanName j js all) in
@@ -142,7 +142,7 @@ steps_same r labels end c (j ∷ js) own all =
 
 -- the behavior of such a content is the same
 content_same : (r : Rules) (labels : LabelsValue) (w : World) (c : Content) → IsOldManifest r labels c
-    → content_behavior (rules_under older r) labels c (all_verdicts (rules_under older r) w c)
+    → content_behavior (rules_under older_profile r) labels c (all_verdicts (rules_under older_profile r) w c)
     ≡ content_behavior (rules_under present r) labels c (all_verdicts (rules_under present r) w c)
 content_same r labels w c h =
     let found = found_same r labels w c h in
@@ -157,9 +157,9 @@ old_outcomes r labels name w (Ok c) own h =
 -- ---- how the profiles differ
 
 -- an empty line is improper to older versions
-empty_line : (algos : Algos) (f : Form) → parse_line older algos f [] ≡ bad
+empty_line : (algos : Algos) (f : Form) → parse_line older_profile algos f [] ≡ bad
 empty_line algos f =
-    let is = parse_is_grammar older algos f [] in is.when_bad.1 (refl, λ s e. let wrong = e.0 in cc)
+    let is = parse_is_grammar older_profile algos f [] in is.when_bad.1 (refl, λ s e. let wrong = e.0 in cc)
 
 -- the profiles do differ: a name with a carriage return, and an empty line
 pub older_differs : OlderDiffers

@@ -9,8 +9,8 @@ use Rattle.sum_engine.specs.check.Reports.{err_of, out_of, end_text, good}
 use Rattle.sum_engine.specs.check.CheckStates.{CheckState, HandlesLine, remaining_verdicts, remaining_behavior}
 use Rattle.sum_engine.specs.check.Verdicts.{VerdictsValue, state_at, InEachCheck, AdvancesVerdicts, VerdictResult, line_verdict_value, FindsVerdict, HasNoVerdictLeft}
 use Rattle.sum_engine.specs.check.Checker.{ReportsFound, Progress, Going, Ended, step_then, progress_before, IsStep, TakesStep}
-use Rattle.sum_engine.specs.Execution.{Stop, StopHasCause, IsOneMoreAtMost, InputsState, StreamsState, AsksNames, RefusedAt, world_at}
-use Rattle.sum_engine.specs.refinement.FlushedWrites.{outcome_after, WritesAndFlushesBoth, WritesAndReturns}
+use Rattle.sum_engine.specs.Execution.{Stop, InputsState, StreamsState, AsksNames, RefusedAt, world_at}
+use Rattle.sum_engine.specs.refinement.FlushedWrites.{outcome_after, WritesAndReturns}
 use Rattle.sum_engine.specs.refinement.Names.{MemoryWasRefused}
 use Rattle.sum_engine.proofs.ExecutionLemmas.{HappenedOrPrefix, step_performed, HappenedOrPrefix-by, refused_in, refused_first}
 use Rattle.sum_engine.proofs.CountLemmas.{counts_then-nil}
@@ -52,17 +52,6 @@ refused_by : (a b : StreamsState) (step : Step) → 0 < step.remaining → b.out
     → MemoryWasRefused a.inputs b.inputs ⊎ (b.inputs ≡ a.inputs) → RefusedAt step a b
 refused_by a b step some outputs (inl refused) = refused_in a b step refused outputs
 refused_by a b step some outputs (inr same) = search rules
-
--- a text was written, and no memory was refused
-caused : {a b : StreamsState} {err out : List ℕ} {progress : Progress} {x : Result Progress Stop}
-    → b.inputs.source.refusals ≡ a.inputs.source.refusals → WritesAndReturns a.outputs b.outputs err out progress x
-    → StopHasCause IsOneMoreAtMost a b x
-caused {a} {b} {err} {out} {progress} {x} refusals said = by said.written said.writes said.returns
-  where
-    by : (w : Result (Unit {0}) (Unit {0})) → WritesAndFlushesBoth a.outputs b.outputs err out w
-        → x ≡ outcome_after w progress → StopHasCause IsOneMoreAtMost a b x
-    by (Ok u) writes is = search rules
-    by (Err e) writes is = search rules
 
 -- from p and the streams a to q and the streams b
 module _ {I : Type 0} {state : I → InputState} {p q : VerdictsValue I} (a b : StreamsState) (labels : LabelsValue)
@@ -122,11 +111,3 @@ module _ {I : Type 0} {state : I → InputState} {p q : VerdictsValue I} (a b : 
               refused_first first.0 [] refl (refused_by a b first.0 (rw (← first.3) at f.1) reported.1 did.asked);
           going = λ h. cc;
         }))
-
-    -- a stop has its cause
-    pub step_cause : (x : VerdictResult) {y : Result Progress Stop} → AdvancesVerdicts state vector p q a.inputs b.inputs x
-        → ReportsFound q labels vector x a.outputs b.outputs y → StopHasCause IsOneMoreAtMost a b y
-    step_cause (Ok (Some v)) did said = caused did.asked.refusals said
-    step_cause (Ok None) did said = caused did.asked.refusals said
-    step_cause (Err (line_stops.Fault f)) did said = caused did.asked.refusals said
-    step_cause (Err line_stops.Memory) did said = search rules

@@ -7,8 +7,8 @@ use Rattle.sum_engine.specs.check.Checking.{check_behavior_by}
 use Rattle.sum_engine.specs.Behavior.{ByteString, Whole, World, Content, clip, Answer}
 
 -- the profile of older versions
-abbrev pub older : Profile
-older = record { escapes_carriage_return = false; drops_carriage_return = false; ignores_empty = false }
+abbrev pub older_profile : Profile
+older_profile = record { escapes_carriage_return = false; drops_carriage_return = false; ignores_empty = false }
 
 -- the same rules under a profile
 abbrev pub rules_under : Profile → Rules → Rules
@@ -43,18 +43,18 @@ pub record ChecksAlike (r s : Rules) (labels : LabelsValue) (w : World) (c : Con
 -- such a manifest is checked alike under both profiles, whatever was asked before
 abbrev pub OldVerdicts : Type 0
 OldVerdicts = (r : Rules) (labels : LabelsValue) (w : World) (c : Content) → IsOldManifest r labels c
-    → ChecksAlike (rules_under older r) (rules_under present r) labels w c
+    → ChecksAlike (rules_under older_profile r) (rules_under present r) labels w c
 
 -- so its whole behavior is the same, also if the manifest can't be opened
 abbrev pub OldOutcomes : Type 0
 OldOutcomes = (r : Rules) (labels : LabelsValue) (name : ByteString) (w : World) (answer : Answer)
     → HasNoCarriageReturn labels.manifest → ((c : Content) → answer ≡ Ok c → IsOldManifest r labels (clip c))
-    → check_behavior_by (rules_under older r) labels name w answer
+    → check_behavior_by (rules_under older_profile r) labels name w answer
     ≡ check_behavior_by (rules_under present r) labels name w answer
 
 -- how the older profile differs: a carriage return in a name isn't escaped, one at a line's end stays, and an empty
 -- line is improperly formatted
 abbrev pub OlderDiffers : Type 0
-OlderDiffers = (escape_by older (codes "\r") ≡ codes "\r")
-    × (lines_under older (record { bytes = codes "a\r\n"; ending = Whole }) ≡ codes "a\r" ∷ [])
-    × ((algos : Algos) (f : Form) → parse_line older algos f [] ≡ bad)
+OlderDiffers = (escape_by older_profile (codes "\r") ≡ codes "\r")
+    × (lines_under older_profile (record { bytes = codes "a\r\n"; ending = Whole }) ≡ codes "a\r" ∷ [])
+    × ((algos : Algos) (f : Form) → parse_line older_profile algos f [] ≡ bad)
