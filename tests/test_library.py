@@ -5,7 +5,7 @@ import re
 import shutil
 
 from harness import TOP, Case, Ran
-from rattle import text_of
+from rattle import Code, text_of
 
 
 class Library(Case):
@@ -14,10 +14,11 @@ class Library(Case):
     def test_the_page_is_current(self):
         self.assertEqual(self.run_command([os.path.join(TOP, "tools", "library.py"), "--check"]), Ran(0, b"", b""))
         page = text_of("docs", "LIBRARY.md")
+        hidden = {it.name for it in Code().items if "doc(hidden)" in it.attributes}
         for crate in re.findall(r"(?m)^### `(\w+)`$", page):
             root = text_of("crates", crate, "src", "lib.rt")
             for use in re.findall(r"pub use [\w:]+::(\{[^}]*\}|\w+);", root):
-                for name in re.findall(r"\w+", use):
+                for name in set(re.findall(r"\w+", use)) - hidden:
                     self.assertRegex(page, rf"(?m)^- `(fn|struct|enum|trait|const|type|use \w+::) ?{name}\b")
 
     def test_taking_crates_elsewhere(self):

@@ -1,6 +1,7 @@
 #!/usr/bin/env python3
 """Writes the list of public calls in docs/LIBRARY.md from the comments and signatures in the sources: `library.py
-[--check]`. With --check nothing is written, and the status is 1 if the page isn't what would be written."""
+[--check]`. With --check nothing is written, and the status is 1 if the page isn't what would be written. What is
+`#[doc(hidden)]` is public for the crates here alone, and left out."""
 
 import os
 import re
@@ -60,7 +61,7 @@ class Library:
     """The libraries' items, and which traits their types have."""
 
     def __init__(self):
-        self.items = [it for it in Code().items if it.crate in libraries()]
+        self.items = [it for it in Code().items if it.crate in libraries() and "doc(hidden)" not in it.attributes]
         self.blocks = [it for it in self.items if it.kind == "impl"]
         self.aliases = {it.name: re.search(r"= (\w+)", it.head)[1] for it in self.items if it.kind == "type"}
 
