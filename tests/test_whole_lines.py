@@ -130,19 +130,20 @@ class OneWriteALine(Packets):
 
 class OneWriteAReport(Packets):
     def test_all_verdicts(self):
-        """Every report and every warning comes whole, under each setting."""
+        """Every report comes whole, and all warnings together, under each setting."""
         self.write("l", VERDICTS)
         named = b"md5sum: l: 3: improperly formatted MD5 checksum line\n"
-        missing, *warnings = lines_of(VERDICTS_ERR)
+        missing, *each = lines_of(VERDICTS_ERR)
+        warnings = b"".join(each)
         out = lines_of(VERDICTS_OUT)
-        self.expect_packets("md5sum -c l", out=out, err=[missing, *warnings], status=1)
-        self.expect_packets("md5sum -cw l", out=out, err=[named, missing, *warnings], status=1)
-        self.expect_packets("md5sum -c --quiet l", out=out[1:], err=[missing, *warnings], status=1)
+        self.expect_packets("md5sum -c l", out=out, err=[missing, warnings], status=1)
+        self.expect_packets("md5sum -cw l", out=out, err=[named, missing, warnings], status=1)
+        self.expect_packets("md5sum -c --quiet l", out=out[1:], err=[missing, warnings], status=1)
         self.expect_packets("md5sum -c --status l", err=[missing], status=1)
-        err = [warnings[0], warnings[2]]
+        err = [each[0] + each[2]]
         self.expect_packets("md5sum -c --ignore-missing l", out=[out[0], out[2]], err=err, status=1)
         with open(self.path("l"), "rb") as manifest:
-            self.expect_packets("md5sum -c", out=out, err=[missing, *warnings], status=1, stdin=manifest)
+            self.expect_packets("md5sum -c", out=out, err=[missing, warnings], status=1, stdin=manifest)
 
     def test_a_report_of_20000_bytes(self):
         """A report that is longer than any buffer takes several writes, and the next one begins with a new one."""
