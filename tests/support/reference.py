@@ -4,6 +4,7 @@ that ask for it are read in `reference_words.py`.
 It follows the manual and the decisions in `docs/DECISIONS.md` and knows nothing of the crates: a rule that both
 misread, they would have to misread alike. Files are those of the current folder."""
 
+import errno
 import os
 import re
 from dataclasses import dataclass

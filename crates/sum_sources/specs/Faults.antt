@@ -7,8 +7,8 @@ pub use Rattle.digest_kinds.specs.Bytes.{ByteString}
 pub use Rattle.sum_sources.specs.declared.fault.Fault.{Fault}
 pub use Rattle.sum_sources.specs.declared.fault.Fault.TheVariants.{NotFound, Denied, Other, Os}
 
--- the texts of the numbers of Linux from 0 on, as the C library has them. A line that ends with a number begins with the
--- text of that number. A text is empty if there is none, and for 2, 5 and 13, which are NotFound, Other and Denied
+-- the texts of the numbers of Linux from 0 on, as the C library has them. A line that ends with a number begins with
+-- the text of that number. A text is empty if there is none, and for 2, 5 and 13, which are NotFound, Other and Denied
 unfoldable pub reasons : List ByteString
 reasons = map codes (
     "" ∷ "Operation not permitted" ∷ "" ∷ "No such process" ∷ "Interrupted system call" ∷ "" ∷  -- 0

@@ -13,7 +13,8 @@ use Rattle.sum_engine.specs.check.CheckStates.{CheckState, HandlesLine, remainin
 use Rattle.sum_engine.specs.check.Verdicts.{VerdictsValue, InEachCheck, VerdictResult, line_verdict_value, AdvancesVerdicts}
 use Rattle.sum_engine.specs.declared.stop.Stop.TheVariants as stops
 
--- a checker: the verdicts, what its reports show, and the outcome: whether the manifest is good, or why the check stopped
+-- a checker: the verdicts, what its reports show, and the outcome: whether the manifest is good, or why the check
+-- stopped
 pub record CheckerValue (I : Type 0) : Type 0 where
   pub verdicts : VerdictsValue I
   pub labels : LabelsValue
