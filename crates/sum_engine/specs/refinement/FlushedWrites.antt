@@ -13,7 +13,8 @@ pub record WritesAndFlushes {E : Type 0} (a b : BufferState) (text : ByteString)
 
 -- standard error got the first text, and then standard output the second; or a prefix of both in this order
 abbrev pub WritesBoth : {E : Type 0} → OutputsState → OutputsState → ByteString → ByteString → Result ⊤ E → Type 0
-WritesBoth a b err out (Ok u) = Gets a.err.sink b.err.sink (output_events err) × Gets a.out.sink b.out.sink (output_events out)
+WritesBoth a b err out (Ok u) =
+    Gets a.err.sink b.err.sink (output_events err) × Gets a.out.sink b.out.sink (output_events out)
 WritesBoth a b err out (Err e) = (GetsPrefix a.err.sink b.err.sink (output_events err) × (b.out.sink ≡ a.out.sink))
     ⊎ (Gets a.err.sink b.err.sink (output_events err) × GetsPrefix a.out.sink b.out.sink (output_events out))
 
