@@ -11,15 +11,15 @@ no_prefix [] rest h = refl
 no_prefix (b ∷ bs) rest h = cc
 
 -- a flush of a buffer that buffers nothing gives the sink nothing, also if it fails
-pub flushed_none : {E : Type 0} {a : BufferState} (b : SinkState) (r : Result (Unit {0}) E) → GivesAll a.sink b a.buffered r
-    → a.buffered ≡ [] → Gets a.sink b []
+pub flushed_none : {E : Type 0} {a : BufferState} (b : SinkState) (r : Result (Unit {0}) E)
+    → GivesAll a.sink b a.buffered r → a.buffered ≡ [] → Gets a.sink b []
 flushed_none b (Ok u) given none = let all = rw none at given in all.0
 flushed_none b (Err e) given none =
     let (prefix, (rest, is), gets) = rw none at given.0 in
     rw (no_prefix prefix rest is) at gets
 
 -- a line was written and flushed, or that failed
-pub writes_line : {E : Type 0} (a b : BufferState) (line : ByteString) (r : Result (Unit {0}) E) → WritesAndFlushes a b line r
-    → a.buffered ≡ [] → WritesLine line a b
+pub writes_line : {E : Type 0} (a b : BufferState) (line : ByteString) (r : Result (Unit {0}) E)
+    → WritesAndFlushes a b line r → a.buffered ≡ [] → WritesLine line a b
 writes_line a b line (Ok u) wrote none = (Ok tt, wrote.gives none)
 writes_line a b line (Err e) wrote none = (Err tt, wrote.gives none)

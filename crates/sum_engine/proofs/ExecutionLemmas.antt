@@ -29,7 +29,8 @@ kind-none f h none [] = refl
 kind-none f h none (x ∷ xs) = search (rules, kind-none f h none xs)
 
 -- the names
-pub names-by : (names : List (List ℕ)) (err out : List OutputEvent) → filter_map opened_name (events_by names err out) ≡ names
+pub names-by : (names : List (List ℕ)) (err out : List OutputEvent)
+    → filter_map opened_name (events_by names err out) ≡ names
 names-by names err out = search (rules, filter_map-append, kind-all, kind-none)
 
 -- what standard error gets
