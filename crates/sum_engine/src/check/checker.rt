@@ -4,7 +4,7 @@ ghost use Rattle.sum_engine.specs.check.Checker.{ReportsFound};
 ghost use Rattle.sum_engine.specs.check.Rules.{rules_of};
 ghost use Rattle.sum_engine.specs.check.Verdicts.{HasNameRange, is_whole};
 
-use crate::check::judge::LineVerdict;
+use crate::check::judge::{LineVerdict, Verdict};
 use crate::check::progress::Progress;
 use crate::check::report::put_report;
 use crate::check::rules::Labels;
@@ -160,6 +160,10 @@ fn report_found<I: Input, O: Sink, E: Sink>(
             outcome_after(written, Progress::Ended(verdicts.is_good()))
         }
         Ok(Some(found)) => {
+            // Ignored lines feel each call.
+            if let Verdict::Ignored = found.verdict {
+                return Ok(Progress::Going);
+            }
             let (number, verdict, name) = (found.number, found.verdict, found.name(line));
             let written = put_report(outputs, rules, labels, number, verdict, name);
             outcome_after(written, Progress::Going)

@@ -1,4 +1,9 @@
-use Rattle.std.proofs.Common.{rules, ◌≡◌, None, Some, Ok, Err}
+use Rattle.std.proofs.Common.{rules, ◌≡◌, ℕ, List, [], None, Some, Ok, Err, refl}
+use Rattle.sum_lines.proofs.EventLemmas.{Gets-none}
+use Rattle.sum_lines.specs.Escape.{Profile}
+use Rattle.sum_engine.specs.check.Judge.{Ignored}
+use Rattle.sum_engine.specs.check.Reports.{Report, out_by}
+use Rattle.sum_engine.specs.declared.settings.Report.TheVariants.{All, Quiet, Warn, Status}
 use Rattle.sum_engine.proofs.FlushedWriteLemmas.{writes_and_returns}
 use Rattle.sum_sources.specs.declared.line_reader.LineStop.TheVariants.{Fault}
 use Rattle.sum_engine.proofs.check.checker.report_found.Goals as goal
@@ -21,9 +26,26 @@ returns-in-Ok-None g c =
     rw is (writes_and_returns c.put_summary-written.result returned wrote)
 
 -- a line was judged
-pub returns-in-Ok-Some : goal.returns-in-Ok-Some
-returns-in-Ok-Some g c =
+pub returns-in_default : goal.returns-in_default
+returns-in_default g c =
     let is : c.args.found ≡ Ok (Some c.in-Ok-Some.found) = search rules in
     let profile = rw c.rules-rules.ensures.value at c.rules-rules.ensures.profile in
     rw is (writes_and_returns c.put_report-written.result c.outcome_after-in-Ok-Some.ensures
     (rw (c.rules-rules.ensures.value, c.name-name.ensures, ← profile) at c.put_report-written.ensures))
+
+-- an ignored line has no text on standard output
+none_out : (p : Profile) (report : Report) (name : List ℕ) → out_by p report Ignored name ≡ []
+none_out p All name = refl
+none_out p Quiet name = refl
+none_out p Warn name = refl
+none_out p Status name = refl
+
+-- and nothing is written of it
+pub returns-in-Ignored : goal.returns-in-Ignored
+returns-in-Ignored g c =
+    let is : c.args.found ≡ Ok (Some c.in-Ok-Some.found) = search rules in
+    rw (is, c.in-Ignored.is, none_out) (record {
+      written = Ok tt;
+      writes = ((refl, refl), λ flushed. (flushed, (Gets-none, Gets-none)));
+      returns = refl;
+    })
