@@ -3,6 +3,7 @@ the system. Contracts hold what these files log, and not all that they do."""
 
 import re
 
+from believed import MADE
 from harness import Case
 from rattle import crates, files, text_of
 
@@ -46,3 +47,8 @@ class Border(Case):
             if words and crate in self.ours and not file.startswith("tests"):
                 found[f"{crate}/src/{file}.rt"] = words
         self.assertEqual(found, FILES)
+
+    def test_what_main_makes(self):
+        """`main` makes values of those types alone whose constructors `tools/believed.py --text` shows."""
+        made = re.findall(r"\b(\w+)::new\(", text_of("crates", "digests", "src", "main.rt"))
+        self.assertEqual({*made, "Buffered"}, set(MADE))

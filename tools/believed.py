@@ -2,8 +2,8 @@
 """What a reader has to believe: what the contract of a function says, down to the last definition that it reaches.
 
     tools/believed.py            prints, for the headline and the program, the files, each with its lines
-    tools/believed.py --text     prints it all, and the laws, the contract first, each definition before those that it
-                                 stands on
+    tools/believed.py --text     prints it all, the laws, and the constructors that `main` calls: the contract first,
+                                 each definition before those that it stands on
     tools/believed.py --write    makes the tables of docs/PROMISES.md anew
 
 Each fails if a definition that the headline or the program reaches stands in a folder specs/refinement/ of a crate:
@@ -32,6 +32,8 @@ from rattle import TOP, Code, Specs, crates, text_of  # noqa: E402  (nothing is 
 PROMISES = os.path.join(TOP, "docs", "PROMISES.md")
 # What is believed besides the laws, in the order of the page: a function's crate and name, and what the page calls it.
 CLAIMS = [("digests", "run", "The headline"), ("digests", "command", "The program")]
+# The types whose values `main` makes, itself or by `Streams::new`. The contracts of these constructors are shown, too.
+MADE = ("Streams", "Stdin", "Files", "Buffered", "FromWrite", "SystemArguments")
 COMPUTED = {"parse_line": "parse_is_grammar", "form": "one_form"}  # what a law holds against a relation, and the law
 MARKS = "<!-- made by tools/believed.py: what stands below -->\n", "\n<!-- and above this line -->"
 
@@ -89,10 +91,12 @@ def in_files(definitions):
 
 
 def claims():
-    """The headline and the program; and the laws."""
+    """The headline and the program; the laws; and the constructors that `main` calls."""
     before, earlier, specs = set(), [], every_definition()
     functions = [(title, f" (`{name}` of `{crate}`)", [code().function(crate, name)]) for crate, name, title in CLAIMS]
-    for title, of, functions in [*functions, ("The laws", "", code().laws())]:
+    made = [member for name in MADE for it in code().items if (it.kind, it.name, it.trait) == ("impl", name, None)
+            for member in it.members if member.name == "new"]
+    for title, of, functions in [*functions, ("The laws", "", code().laws()), ("What `main` makes", "", made)]:
         contracts = [item for function in functions for item in code().reached(function)]
         reached = specs.reached(cited(contracts), computed()) - computed().keys()
         items = list({id(it): it for it in [*contracts, *declared(contracts), *declared(reached)]}.values())
