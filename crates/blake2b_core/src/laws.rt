@@ -6,9 +6,7 @@ ghost use Rattle.blake2b_core.specs.Digest.{before_last};
 
 /// Known digests. That of `abc` is in RFC 7693, appendix A. Those of the empty message, of 64 and of 32 bytes, are what
 /// GNU b2sum and Python's hashlib compute.
-#[tactic(auto, unfolding(crate::specs::Compression::mix, crate::specs::Compression::round,
-    crate::specs::Compression::work_vector, crate::specs::Compression::compress, crate::specs::Digest::hash_after,
-    crate::specs::Digest::blake2b))]
+#[tactic(auto, unfolding(crate::specs::Compression::mix, crate::specs::Compression::round, crate::specs::Compression::work_vector, crate::specs::Compression::compress, crate::specs::Digest::hash_after, crate::specs::Digest::blake2b))]
 pub fn vectors()
     ensures { HasVectors }
 {}

@@ -70,10 +70,6 @@ blake2b_of_bits bits = if nat_lt 512 bits then Err TooLong
 abbrev pub BeginsWithTag : ByteString → Algo → Type 0
 BeginsWithTag bytes a = (rest : ByteString) × (bytes ≡ tag a ++ rest)
 
--- no tag begins with the tag of another algorithm
-abbrev pub TagsAreApart : Type 0
-TagsAreApart = (a b : Algo) → BeginsWithTag (tag b) a → a ≡ b
-
 -- a text is a digest in hexadecimal: 2 to 128 digits, an even number of them, each in either case
 pub record IsDigits (text : ByteString) : Type 0 where
   pub some : 2 ≤ length text
