@@ -48,9 +48,9 @@ little_number-take : (xs : List ℕ) → 8 ≤ length xs → little_number 8 (ta
 little_number-take xs long = grind arith
 
 -- sixteen words that read as the bytes of a block are its words
-pub block_words-is : (m block : List ℕ) → length m ≡ 16 → length block ≡ 128
+pub block_words_is : (m block : List ℕ) → length m ≡ 16 → length block ≡ 128
     → ((k : ℕ) → k < length m → m ! k ≡ little_number 8 (drop (8 * k) block)) → m ≡ block_words block
-block_words-is m block sixteen size read =
+block_words_is m block sixteen size read =
     let count = length-map (first_chunks 8 16 block) (little_number 8) in
     ext_get_or 0 m _ (sixteen ∙ sym count) (λ i below.
     let here : i < 16 = omega arith in

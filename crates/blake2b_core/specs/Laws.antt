@@ -1,6 +1,5 @@
 -- Laws of the digest's definition.
-use Rattle.std.specs.Prelude.{◌≡◌, ℕ, ◌<◌, List, [], ◌++◌, length, replicate, All, codes}
-use Rattle.std.specs.List.{concat}
+use Rattle.std.specs.Prelude.{◌≡◌, ℕ, ◌+◌, ◌<◌, ◌≤◌, [], ◌++◌, length, codes}
 use Rattle.byteorder.specs.Endian.{big_bytes}
 use Rattle.blake2b_core.specs.Bytes.{ByteString}
 use Rattle.blake2b_core.specs.Digest.{blake2b}
@@ -13,10 +12,8 @@ pub record HasVectors : Type 0 where
       ++ big_bytes 32 0x7d87c5392aab792dc252d5de4533cc9518d38aa8dbf1925ab92386edd4009923
   pub empty_short : blake2b 32 [] ≡ big_bytes 32 0x0e5751c026e543b2e8ab2eb06099daa1d1e5df47778f7787faab45cdf12fe3a8
 
--- bs are the blocks of m: each block has 128 bytes, and all are m and then zeros, fewer than 128, or 128 if m is empty
-pub record IsBlocksOf (bs : List ByteString) (m : ByteString) : Type 0 where
-  pub sizes : All (λ b. length b ≡ 128) bs
-  pub zeros : ℕ
-  pub join : concat bs ≡ m ++ replicate zeros 0
-  pub fewest : 0 < length m → zeros < 128
-  pub empty : length m ≡ 0 → zeros ≡ 128
+-- the last block of m begins at this place: it has 1 to 128 bytes of m, or none if m is empty
+pub record BeginsLast (place : ℕ) (m : ByteString) : Type 0 where
+  pub within : place ≤ length m
+  pub few : length m ≤ place + 128
+  pub some : 0 < length m → place < length m

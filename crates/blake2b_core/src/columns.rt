@@ -8,6 +8,7 @@ use std::simd::u64x4;
 
 // The exclusive ors of the lanes, rotated to the right.
 #[inline(always)]
+#[tactic(auto, using(crate::proofs::ColumnLemmas::shifts_rotate))]
 fn xor_rotate(x: u64x4, y: u64x4, bits: u64) -> u64x4
     requires low { 0 < bits }
     requires high { bits < 64 }

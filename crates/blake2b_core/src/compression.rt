@@ -68,6 +68,7 @@ fn work_vector(h: &[u64; 8], t: u128, last: bool) -> [u64x4; 4]
 
 // The sixteen words of a block, little-endian.
 #[inline(always)]
+#[tactic(auto, using(crate::proofs::CompressionLemmas::block_words_is))]
 fn block_words(block: &[u8; 128]) -> [u64; 16]
     ensures { result ≡ block_words block.now }
 {

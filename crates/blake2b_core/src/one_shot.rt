@@ -3,8 +3,7 @@ ghost use Rattle.std.specs.Prelude.{◌≡◌, ◌↔◌, ◌⊎◌, ℕ, ◌+�
 ghost use Rattle.std.specs.Prelude.{replicate, IsNone, IfSome};
 ghost use Rattle.std.specs.Simd.{first_chunks};
 ghost use Rattle.blake2b_core.specs.Bytes.{ByteString};
-ghost use Rattle.blake2b_core.specs.Digest.{blake2b, blocks};
-ghost use Rattle.blake2b_core.specs.refinement.Chaining.{hash_after, initial};
+ghost use Rattle.blake2b_core.specs.Digest.{before_last, blake2b, hash_after};
 ghost use Rattle.blake2b_core.specs.refinement.Holding.{AreBlocksFrom};
 
 use crate::compression::{IV, advance, compress};
@@ -14,9 +13,10 @@ use crate::output::Output;
 pub(crate) const BLOCK: usize = 128;
 
 // The state before the first block of a message whose digest has `len` bytes.
+#[tactic(auto, unfolding(crate::specs::Digest::hash_after))]
 pub(crate) fn initial(len: usize) -> [u64; 8]
     requires { len ≤ 64 }
-    ensures { result ≡ initial len }
+    ensures { (m : ByteString) → result ≡ hash_after len m 0 }
 {
     let mut h = IV;
     h[0] ^= 0x0101_0000 ^ len as u64;
@@ -24,9 +24,10 @@ pub(crate) fn initial(len: usize) -> [u64; 8]
 }
 
 // The whole blocks at the front of `bytes`, each of which a byte follows. So none of them is a message's last block.
+#[tactic(auto, using(std::proofs::lemmas::Grind::common_steps, crate::proofs::BlockLemmas::first_chunks_take))]
 pub(crate) fn followed_blocks(bytes: &[u8]) -> &[[u8; 128]]
-    ensures value { result.now ≡ first_chunks 128 ((length bytes.now - 1) / 128) bytes.now }
-    ensures count { length result.now ≡ (length bytes.now - 1) / 128 }
+    ensures value { result.now ≡ first_chunks 128 (before_last bytes.now) bytes.now }
+    ensures count { length result.now ≡ before_last bytes.now }
 {
     let followed = bytes.len().saturating_sub(1);
     bytes[..followed].as_chunks::<128>().0
@@ -37,7 +38,7 @@ pub(crate) fn followed_blocks(bytes: &[u8]) -> &[[u8; 128]]
 pub(crate) fn state_after(mut h: [u64; 8], followed: &[[u8; 128]], before: u64) -> [u64; 8]
     requires { before + 128 * length followed.now < 2 ^ 64 }
     ensures { (n : ℕ) (m : ByteString) (k : ℕ) → 128 * k ≡ before → AreBlocksFrom m k followed.now
-        → h ≡ hash_after n (blocks m) k → result ≡ hash_after n (blocks m) (k + length followed.now) }
+        → h ≡ hash_after n m k → result ≡ hash_after n m (k + length followed.now) }
 {
     let mut taken = before;
     for block in followed {

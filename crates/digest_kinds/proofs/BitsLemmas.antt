@@ -1,14 +1,13 @@
 -- The bits that a BLAKE2b tag may name: the digits that the code accepts are those of `decimal`.
-use Rattle.std.proofs.Common.{ℕ, ◌≡◌, ◌≢◌, ◌*◌, ◌/◌, ◌%◌, ◌<◌, ◌≤◌, true, List, length, get_or, Some, ap, sym, ◌∙◌, arith, decimal}
+use Rattle.std.proofs.Common.{ℕ, ◌≡◌, ◌≢◌, ◌*◌, ◌/◌, ◌%◌, ◌<◌, ◌≤◌, true, List, length, get_or, Some, ap, sym, ◌∙◌, arith, decimal, refl, IsTrue}
 use Rattle.std.specs.Char.{is_ascii_digit}
 use Rattle.std.specs.List.{AllPass}
 use Rattle.std.specs.Result.{result_ok}
 use Rattle.std.specs.Str.Parse.{digits_value}
-use Rattle.std.proofs.lemmas.Bool.{and_parts, leb-true}
 use Rattle.std.proofs.lemmas.Fmt.{decimal_digit, decimal-digits_value, digits_decimal, digits_value-decimal, first_decimal, length-decimal-le}
 use Rattle.std.proofs.lemmas.List.Elements.{All-cons, All-head, All-tail, All-nil}
 use Rattle.std.proofs.lemmas.Str.Parse.{IsDigitsTest, IsNumeralModel, digits_value_short, numerals_by_value}
-use Rattle.digest_kinds.specs.Kinds.{KindValue, blake2b_kind, blake2b_of_bits}
+use Rattle.digest_kinds.specs.Kinds.{Blake2b, KindValue, blake2b_kind, blake2b_of_bits, has_len}
 use Rattle.digest_kinds.specs.KindTexts.{kind_of_digits, short_number}
 use Rattle.digest_kinds.proofs.PrefixLemmas.{bind_some}
 
@@ -22,9 +21,7 @@ IsDigit x = is_ascii_digit x ≡ true
 digits-test : IsDigitsTest (AllPass is_ascii_digit)
 digits-test = record {
   empty = All-nil IsDigit;
-  parts = λ c cs all.
-      let range = and_parts _ _ (All-head IsDigit c cs all) in
-      ((leb-true 48 c range.0, leb-true c 57 range.1), All-tail IsDigit c cs all);
+  parts = λ c cs all. let here = All-head IsDigit c cs all in (grind arith, All-tail IsDigit c cs all);
   more = λ c cs range all. grind (arith, All-cons, all);
 }
 
@@ -61,17 +58,9 @@ bits-accepted : (v : ℕ) (k : KindValue) → 0 < v → result_ok (blake2b_of_bi
     → (v % 8 ≡ 0) × (v ≤ 512) × (k ≡ blake2b_kind (v / 8))
 bits-accepted v k some h = grind arith
 
--- a kind that digits give, and its number of bytes
-pub record AreBitsOf (ds : List ℕ) (kind : KindValue) : Type 0 where
-  pub len : ℕ
-  pub some : 0 < len
-  pub few : len ≤ 64
-  pub is : kind ≡ blake2b_kind len
-  pub digits : ds ≡ decimal (8 * len)
-
 -- digits that give a kind are those of its bits
 pub kind_of_digits-some : (ds : List ℕ) (kind : KindValue) → AllPass is_ascii_digit ds → kind_of_digits ds ≡ Some kind
-    → AreBitsOf ds kind
+    → (ds ≡ decimal (8 * kind.len)) × (kind.algo ≡ Blake2b) × IsTrue (has_len Blake2b kind.len)
 kind_of_digits-some ds kind all h =
     let n = bind_some (short_number ds) (λ bits. result_ok (blake2b_of_bits bits)) h in
     let is = short_number-some ds n.0 n.1 in
@@ -82,10 +71,6 @@ kind_of_digits-some ds kind all h =
     is.1 (ap (λ l. get_or l 0 0) (sym text ∙ ap decimal none ∙ decimal_digit 0 (omega arith))) in
     let bits = bits-accepted n.0 kind (omega (arith, some, is.0)) n.2 in
     let eight : digits_value 10 ds ≡ 8 * (n.0 / 8) = omega (arith, is.0, bits.0) in
-    record {
-      len = n.0 / 8;
-      some = omega (arith, some, is.0, bits.0);
-      few = omega (arith, bits.1);
-      is = bits.2;
-      digits = sym text ∙ ap decimal eight;
-    }
+    let low : 1 ≤ n.0 / 8 = omega (arith, some, is.0, bits.0) in
+    let high : n.0 / 8 ≤ 64 = omega (arith, bits.1) in
+    rw bits.2 (sym text ∙ ap decimal eight, refl, grind arith)

@@ -35,11 +35,10 @@ width-bits : (s : List ℕ) (w : KindValue × List ℕ)
 width-bits s w h =
     let k = map_some (λ k. (k, after_while is_ascii_digit s)) (kind_of_digits (take_while is_ascii_digit s)) h in
     let bits = kind_of_digits-some (take_while is_ascii_digit s) k.0 (prefix_passes is_ascii_digit s) k.1 in
-    let has : has_len Blake2b bits.len ≡ true = grind (arith, bits.some, bits.few) in
-    rw (← k.2, bits.is) (record {
-      is_algo = refl;
+    rw (← k.2) (record {
+      is_algo = bits.1;
       width = 45 ∷ take_while is_ascii_digit s;
-      is_width = inr (ap (λ l. 45 ∷ l) bits.digits, refl, has);
+      is_width = inr (ap (λ l. 45 ∷ l) bits.0, bits.1, bits.2);
       whole = ap (λ l. 45 ∷ l) (prefix-and-rest is_ascii_digit s);
     })
 

@@ -4,6 +4,7 @@ use Rattle.std.specs.List.{AllPass, prefix_len}
 use Rattle.std.specs.Result.{result_ok}
 use Rattle.std.proofs.lemmas.List.{take-append-drop, take_at, drop_at}
 use Rattle.std.proofs.lemmas.List.Sums.{take_while-cons}
+use Rattle.std.proofs.lemmas.List.Folds.{prefix_len-append}
 use Rattle.std.proofs.lemmas.List.Elements.{All-head, All-tail, All-nil}
 use Rattle.digest_kinds.specs.Bytes.{◌>>=◌, after_while}
 
@@ -36,18 +37,16 @@ prefix_passes p (x ∷ xs) = grind (arith, prefix_passes p xs, take_while-cons)
 pub prefix-and-rest : (p : ℕ → Bool) (xs : List ℕ) → xs ≡ take_while p xs ++ after_while p xs
 prefix-and-rest p xs = sym (take-append-drop (prefix_len p xs) xs)
 
--- it ends at the first byte that doesn't pass
-pub prefix_len-stop : (p : ℕ → Bool) (xs : List ℕ) (y : ℕ) (ys : List ℕ) → AllPass p xs → p y ≡ false
-    → prefix_len p (xs ++ (y ∷ ys)) ≡ length xs
-prefix_len-stop p [] y ys all stop = rw stop refl
-prefix_len-stop p (x ∷ xs) y ys all stop =
-    grind (arith, prefix_len-stop p xs y ys (All-tail (λ x. p x ≡ true) x xs all), All-head)
-
--- or else at the end
+-- it is all bytes if all pass
 pub prefix_len-all : (p : ℕ → Bool) (xs : List ℕ) → AllPass p xs → prefix_len p xs ≡ length xs
 prefix_len-all p [] all = refl
 prefix_len-all p (x ∷ xs) all =
     grind (arith, prefix_len-all p xs (All-tail (λ x. p x ≡ true) x xs all), All-head)
+
+-- or else it ends at the first byte that doesn't pass
+pub prefix_len-stop : (p : ℕ → Bool) (xs : List ℕ) (y : ℕ) (ys : List ℕ) → AllPass p xs → p y ≡ false
+    → prefix_len p (xs ++ (y ∷ ys)) ≡ length xs
+prefix_len-stop p xs y ys all stop = grind (arith, prefix_len-append, prefix_len-all)
 
 -- so that byte parts the prefix from the rest
 pub parts-at : (p : ℕ → Bool) (xs : List ℕ) (y : ℕ) (ys : List ℕ) → AllPass p xs → p y ≡ false

@@ -19,10 +19,6 @@ IsWidth kind width = ((width ≡ []) × (kind.len ≡ full_len kind.algo))
 abbrev pub NamesKind : ByteString → KindValue → Type 0
 NamesKind text kind = (width : ByteString) × (text ≡ tag kind.algo ++ width) × IsWidth kind width
 
--- each kind that has digests is named by its `kind_text`
-abbrev pub TextsNameKinds : Type 0
-TextsNameKinds = (kind : KindValue) → IsTrue (has_len kind.algo kind.len) → NamesKind (kind_text kind) kind
-
 -- ---- computed: these need not be believed
 
 -- the number in a text of one to three digits without a leading zero (48)

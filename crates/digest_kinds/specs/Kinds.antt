@@ -18,30 +18,24 @@ pub use Rattle.digest_kinds.specs.declared.algo.Algos.{Algos}
 abbrev pub all_algos : List Algo
 all_algos = Md5 ∷ Sha1 ∷ Sha224 ∷ Sha256 ∷ Sha384 ∷ Sha512 ∷ Blake2b ∷ []
 
--- the facts of an algorithm: the length in bytes of its full digest, its tag in lines, and its digest of n bytes of a
--- message; only BLAKE2b has digests of more than one length, so only it reads n
-pub record AlgoFacts : Type 0 where
-  pub full_len : ℕ
-  pub tag : ByteString
-  pub digest : ℕ → ByteString → ByteString
-
--- the facts of each algorithm
-abbrev pub about : Algo → AlgoFacts
-about Md5 = record { full_len = 16; tag = codes "MD5"; digest = λ n m. md5 m }
-about Sha1 = record { full_len = 20; tag = codes "SHA1"; digest = λ n m. sha1 m }
-about Sha224 = record { full_len = 28; tag = codes "SHA224"; digest = λ n m. sha224 m }
-about Sha256 = record { full_len = 32; tag = codes "SHA256"; digest = λ n m. sha256 m }
-about Sha384 = record { full_len = 48; tag = codes "SHA384"; digest = λ n m. sha384 m }
-about Sha512 = record { full_len = 64; tag = codes "SHA512"; digest = λ n m. sha512 m }
-about Blake2b = record { full_len = 64; tag = codes "BLAKE2b"; digest = blake2b }
-
--- the length of the full digest of an algorithm, in bytes
-abbrev pub full_len : Algo → ℕ
-full_len a = (about a).full_len
+-- an algorithm's tag in lines, the length in bytes of its full digest, and its digest of n bytes of a message; only
+-- BLAKE2b has digests of more than one length, so only it reads n
+abbrev pub about : Algo → ByteString × ℕ × (ℕ → ByteString → ByteString)
+about Md5 = (codes "MD5", 16, λ n m. md5 m)
+about Sha1 = (codes "SHA1", 20, λ n m. sha1 m)
+about Sha224 = (codes "SHA224", 28, λ n m. sha224 m)
+about Sha256 = (codes "SHA256", 32, λ n m. sha256 m)
+about Sha384 = (codes "SHA384", 48, λ n m. sha384 m)
+about Sha512 = (codes "SHA512", 64, λ n m. sha512 m)
+about Blake2b = (codes "BLAKE2b", 64, blake2b)
 
 -- the tag of an algorithm in lines
 abbrev pub tag : Algo → ByteString
-tag a = (about a).tag
+tag a = (about a).0
+
+-- the length of the full digest of an algorithm, in bytes
+abbrev pub full_len : Algo → ℕ
+full_len a = (about a).1
 
 -- whether an algorithm has digests of n bytes: for BLAKE2b 1 to 64 bytes (RFC 7693, 2.1), for others the full length
 abbrev pub has_len : Algo → ℕ → Bool
@@ -63,7 +57,7 @@ blake2b_kind n = record { algo = Blake2b; len = n }
 
 -- the digest, of this kind, of a message
 abbrev pub digest : KindValue → ByteString → ByteString
-digest k m = (about k.algo).digest k.len m
+digest k m = (about k.algo).2 k.len m
 
 -- the kind of BLAKE2b digests of so many bits, 0 for 512; TooLong above 512, NotBytes if the bits are no whole bytes
 abbrev pub blake2b_of_bits : ℕ → Result KindValue LengthFault
@@ -75,10 +69,6 @@ blake2b_of_bits bits = if nat_lt 512 bits then Err TooLong
 -- bytes begin with the tag of an algorithm
 abbrev pub BeginsWithTag : ByteString → Algo → Type 0
 BeginsWithTag bytes a = (rest : ByteString) × (bytes ≡ tag a ++ rest)
-
--- no tag begins with the tag of another algorithm
-abbrev pub TagsAreApart : Type 0
-TagsAreApart = (a b : Algo) → BeginsWithTag (tag b) a → a ≡ b
 
 -- a text is a digest in hexadecimal: 2 to 128 digits, an even number of them, each in either case
 pub record IsDigits (text : ByteString) : Type 0 where

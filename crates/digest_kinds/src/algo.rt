@@ -1,8 +1,9 @@
 //! The algorithms and their tags.
 
-ghost use Rattle.std.specs.Prelude.{◌≡◌, Some, IfSome, Ok, IfOk};
+ghost use Rattle.std.specs.Prelude.{◌≡◌, ◌==◌, Some, IfSome, Ok, IfOk, find};
 ghost use Rattle.std.specs.Fmt.{styled_text};
-ghost use Rattle.digest_kinds.specs.Kinds.{full_len, tag, BeginsWithTag};
+ghost use Rattle.std.specs.List.{starts_with};
+ghost use Rattle.digest_kinds.specs.Kinds.{all_algos, full_len, tag, BeginsWithTag};
 
 use std::fmt;
 use std::str::FromStr;
@@ -50,15 +51,23 @@ impl Algo {
 
     /// The algorithm whose tag is a prefix of the bytes, `None` if there is none. No tag is a prefix of another, so
     /// there is at most one ([`tags_apart`](crate::laws::tags_apart)).
+    #[tactic(auto, using(crate::proofs::TagLemmas::found_tagged))]
     pub fn of_tag_prefix(bytes: &[u8]) -> Option<Algo>
         // The algorithm that is returned is such a one, and any such one is returned.
         ensures tagged { IfSome result (λ a. BeginsWithTag bytes.now a) }
         ensures found { (a : Algo) → BeginsWithTag bytes.now a → result ≡ Some a }
     {
+        Algo::first_begun(bytes)
+    }
+
+    // The first algorithm whose tag is a prefix of the bytes.
+    fn first_begun(bytes: &[u8]) -> Option<Algo>
+        ensures { result ≡ find (λ a. starts_with ◌==◌ bytes.now (tag a)) all_algos }
+    {
         Self::ALL
             .iter()
-            .find(|algo| bytes.starts_with(algo.tag().as_bytes()))
             .copied()
+            .find(|algo| bytes.starts_with(algo.tag().as_bytes()))
     }
 
     /// The tag, by which a tagged line names the algorithm.

@@ -1,14 +1,15 @@
 //! Laws of tags and of the texts of kinds. Each is the contract of a function that does nothing.
 
-ghost use Rattle.digest_kinds.specs.Kinds.{TagsAreApart};
-ghost use Rattle.digest_kinds.specs.KindTexts.{TextsNameKinds};
+ghost use Rattle.std.specs.Prelude.{◌≡◌, IsTrue};
+ghost use Rattle.digest_kinds.specs.Kinds.{Algo, BeginsWithTag, KindValue, has_len, tag};
+ghost use Rattle.digest_kinds.specs.KindTexts.{NamesKind, kind_text};
 
 /// No algorithm's tag is a prefix of another's.
 pub fn tags_apart()
-    ensures { TagsAreApart }
+    ensures { (a b : Algo) → BeginsWithTag (tag b) a → a ≡ b }
 {}
 
-/// The text of each kind names that kind.
+/// The text of each kind that has digests names that kind.
 pub fn texts_name_kinds()
-    ensures { TextsNameKinds }
+    ensures { (kind : KindValue) → IsTrue (has_len kind.algo kind.len) → NamesKind (kind_text kind) kind }
 {}

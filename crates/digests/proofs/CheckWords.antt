@@ -6,7 +6,7 @@ use Rattle.std.specs.Str.{chars, is_utf8}
 use lib.Utf8.{encode}
 use Rattle.std.proofs.lemmas.Bool.{and_parts}
 use Rattle.sum_engine.specs.declared.settings.CheckSettings.{CheckSettings}
-use Rattle.sum_words.specs.Request.{Report, request, request_of_items}
+use Rattle.sum_words.specs.Request.{Report, request}
 use Rattle.sum_words.specs.declared.parsing.options.Flag.{Flag}
 use Rattle.sum_words.specs.declared.tool.Tool.{Tool}
 use Rattle.sum_words.specs.declared.parsing.request.Request.TheVariants.{Check}
@@ -38,17 +38,17 @@ long_words t (flag ∷ fs) more all =
 abbrev settings : Tool → Report → Bool → Bool → CheckSettings
 settings t r s i = record { algo = algos_of t; report = r; strict = s; ignore_missing = i }
 
--- no option of a check takes a value, and what they ask for is the check
-options_ask : (t : Tool) (m : ByteString) (r : Report) (s i : Bool)
+-- no option of a check takes a value, and words with these items ask for the check
+options_ask : (t : Tool) (words : List ByteString) (m : ByteString) (r : Report) (s i : Bool)
     → (list_all takes_none (check_options (settings t r s i)) ≡ true)
-    × (request_of_items t (map option (check_options (settings t r s i)) ++ operand m ∷ [])
-    ≡ Ok (Check (settings t r s i) (m ∷ [])))
+    × (items_from t words a_word ≡ map option (check_options (settings t r s i)) ++ operand m ∷ []
+    → request t words ≡ Ok (Check (settings t r s i) (m ∷ [])))
 options_ask = grind (arith, common_steps)
 
 -- so the words ask for the check
 pub request-check_words : (t : Tool) (check : CheckSettings) (manifest : ByteString) → check.algo ≡ algos_of t
     → request t (check_words check manifest) ≡ Ok (Check check (manifest ∷ []))
 request-check_words t check manifest h =
-    let is = options_ask t manifest check.report check.strict check.ignore_missing in
-    ap (request_of_items t) (long_words t (check_options check) (codes "--" ∷ manifest ∷ []) is.0) ∙ is.1
+    let is = options_ask t (check_words check manifest) manifest check.report check.strict check.ignore_missing in
+    is.1 (long_words t (check_options check) (codes "--" ∷ manifest ∷ []) is.0)
     ∙ ap (λ a. Ok (Check (record check { algo = a }) (manifest ∷ []))) (sym h)

@@ -1,9 +1,9 @@
 -- The end of a program: a run that answered, both outputs flushed once more, and the line for a stop.
 use Rattle.std.proofs.Common.{◌≡◌, List, [], ◌∷◌, ◌++◌, Result, Ok, Err, refl}
+use Rattle.std.specs.Prelude.{⊤}
 use Rattle.sum_lines.specs.Sinks.{ByteString, SinkState, Gets, GivesAll}
 use Rattle.sum_lines.specs.Buffers.{BufferState}
 use Rattle.sum_engine.specs.refinement.FlushedWrites.{WritesAndFlushes}
-use Rattle.digests.specs.Program.{WritesLine}
 
 -- nothing has no prefix but nothing
 no_prefix : {A : Type 0} (prefix rest : List A) → [] ≡ prefix ++ rest → prefix ≡ []
@@ -20,6 +20,6 @@ flushed_none b (Err e) given none =
 
 -- a line was written and flushed, or that failed
 pub writes_line : {E : Type 0} (a b : BufferState) (line : ByteString) (r : Result (Unit {0}) E)
-    → WritesAndFlushes a b line r → a.buffered ≡ [] → WritesLine line a b
+    → WritesAndFlushes a b line r → a.buffered ≡ [] → (x : Result ⊤ ⊤) × GivesAll a.sink b.sink line x
 writes_line a b line (Ok u) wrote none = (Ok tt, wrote.gives none)
 writes_line a b line (Err e) wrote none = (Err tt, wrote.gives none)

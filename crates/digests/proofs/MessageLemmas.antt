@@ -1,9 +1,9 @@
 -- Runs that write one text and nothing else: a fault, the help, the version.
-use Rattle.std.proofs.Common.{rules, ℕ, Bool, [], Result, refl}
+use Rattle.std.proofs.Common.{ℕ, Bool, [], Result, refl}
 use Rattle.sum_engine.specs.declared.stop.Stop.{Stop}
 use Rattle.sum_engine.specs.Behavior.{single_step, ByteString}
-use Rattle.sum_engine.specs.Execution.{OutputsState, StreamsState, Performs, FailuresMatch}
-use Rattle.sum_engine.specs.refinement.FlushedWrites.{WritesAndFlushesBoth, WritesAndReturns, outcome_after}
+use Rattle.sum_engine.specs.Execution.{OutputsState, StreamsState, Performs}
+use Rattle.sum_engine.specs.refinement.FlushedWrites.{WritesAndReturns}
 use Rattle.sum_engine.proofs.WorldLemmas.{asks_none}
 use Rattle.sum_engine.proofs.BehaviorLemmas.{Performs-step}
 use Rattle.digests.specs.Meaning.{status_of}
@@ -15,8 +15,3 @@ pub Performs-texts : (a : StreamsState) (outputs : OutputsState) (err out : Byte
 Performs-texts a outputs err out good x said =
     Performs-step (λ w. single_step [] err out good) status_of good a (record a { outputs = outputs })
     (asks_none a.inputs) (λ w agrees. refl) said
-
--- if that failed, one output did
-pub FailuresMatch-texts : {E : Type 0} (a b : OutputsState) (err out : ByteString) (status : ℕ)
-    (r : Result (Unit {0}) E) → WritesAndFlushesBoth a b err out r → FailuresMatch a b (outcome_after r status)
-FailuresMatch-texts = search rules

@@ -8,28 +8,8 @@ use Rattle.sum_engine.specs.Behavior.{World, after, Behavior, behavior_then, tra
 use Rattle.sum_engine.specs.Execution.{StreamsState, IsFlushed, ReadsToEndIf, Agrees, world_at, Happened, Performs, PerformsSteps}
 use Rattle.sum_engine.proofs.ExecutionLemmas.{Happened-none}
 use Rattle.sum_engine.proofs.BehaviorLemmas.{behavior_then-happened, behavior_then-first, behavior_then-second, events_extend}
-use Rattle.sum_words.specs.declared.tool.Tool.{Tool}
-use Rattle.sum_words.specs.Tools.{name_of}
 use Rattle.sum_words.specs.refinement.ItemIterator.{TakesFirst}
-use Rattle.digests.specs.Meaning.{operands_behavior, or_dash, status_of}
-use Rattle.digests.specs.declared.run.Job.{Job}
-use Rattle.digests.specs.refinement.Operands.{operand_behavior}
-
--- ---- behaviors, one after another
-
--- which two of three behaviors are joined first makes no difference
-behavior_then-assoc : (a b c : Behavior) → behavior_then (behavior_then a b) c ≡ behavior_then a (behavior_then b c)
-behavior_then-assoc a b c = rw (append_assoc, and_assoc) refl
-
--- `nothing` after a behavior adds nothing
-abbrev nothing : Behavior
-nothing = record { steps = []; good = true }
-
--- and then nothing: the behavior itself
-behavior_then-nothing : (a : Behavior) → behavior_then a nothing ≡ a
-behavior_then-nothing a = rw (append-nil, and-true) refl
-
--- ---- operands, one after another
+use Rattle.digests.specs.Meaning.{operands_behavior, status_of}
 
 -- the behavior of the operands before the rest happened, from the world w to the world v, and was good or not
 pub record HasDoneOperands (one : World → ByteString → Behavior) (names rest : List ByteString) (w v : World)
@@ -38,15 +18,6 @@ pub record HasDoneOperands (one : World → ByteString → Behavior) (names rest
   pub total : operands_behavior one w names ≡ behavior_then done (operands_behavior one v rest)
   pub happened : Happened a b (trace done.steps)
   pub is : good ≡ done.good
-
--- one of the operands, and all of their names
-pub record OperandsOfRun : Type 0 where
-  pub one : World → ByteString → Behavior
-  pub names : List ByteString
-
--- those of a run: what its job does with each, and their names
-abbrev pub operands_of : Job → Tool → List ByteString → OperandsOfRun
-operands_of job tool names = record { one = operand_behavior job (name_of tool); names = or_dash names }
 
 -- the operands that are left: none, or the next one and those after it
 abbrev pub left : Option (Bor ByteString) → List ByteString → List ByteString
@@ -59,25 +30,21 @@ pub left-next : (old new : List ByteString) (next : Option (Bor ByteString)) →
 left-next old new None h = h.0
 left-next old new (Some name) h = h
 
--- the status is 0 only if all is good
-pub good_status : (good : Bool) (status : ℕ) → status ≡ status_of good → status ≡ 0 → good ≡ true
-good_status true status is zero = refl
-good_status false status is zero = cc
-
 -- the operands before the rest were done, from x to y, if both outputs were flushed
-pub record HasReached (o : OperandsOfRun) (rest : List ByteString) (x y : StreamsState) (good : Bool) : Type 0 where
+pub record HasReached (one : World → ByteString → Behavior) (names rest : List ByteString) (x y : StreamsState)
+    (good : Bool) : Type 0 where
   pub reads : ReadsToEndIf (good ≡ true) x.inputs y.inputs
   pub reached : IsFlushed x.outputs → (w : World) → Agrees w y.inputs
-      → HasDoneOperands o.one o.names rest (world_at w x.inputs) (world_at w y.inputs) x y good
+      → HasDoneOperands one names rest (world_at w x.inputs) (world_at w y.inputs) x y good
 
-module _ {o : OperandsOfRun} where
+module _ {one : World → ByteString → Behavior} {names : List ByteString} where
   -- before the first operand nothing happened
-  pub operands_done_start : {rest : List ByteString} {a : StreamsState} → o.names ≡ rest → HasReached o rest a a true
+  pub operands_done_start : {rest : List ByteString} {a : StreamsState} → names ≡ rest → HasReached one names rest a a true
   operands_done_start {a = a} is = record {
     reads = reads_none a.inputs;
     reached = λ flushed w agrees. record {
-      done = nothing;
-      total = ap (operands_behavior o.one (world_at w a.inputs)) is;
+      done = record { steps = []; good = true };
+      total = ap (operands_behavior one (world_at w a.inputs)) is;
       happened = Happened-none a;
       is = refl;
     };
@@ -85,49 +52,48 @@ module _ {o : OperandsOfRun} where
 
   -- one operand more happened
   pub operands_done_step : {Whole : Type 0} {good : Bool} {name : ByteString} {rest : List ByteString}
-      {x y : StreamsState} (this : Bool) (z : StreamsState) → HasReached o (name ∷ rest) x y good
+      {x y : StreamsState} (this : Bool) (z : StreamsState) → HasReached one names (name ∷ rest) x y good
       → (IsFlushed x.outputs → IsFlushed y.outputs) → (this ≡ true → Whole) → ReadsToEndIf Whole y.inputs z.inputs
-      → Performs (λ w. o.one w name) (λ g. g) y z (Ok this) → HasReached o rest x z (good && this)
+      → Performs (λ w. one w name) (λ g. g) y z (Ok this) → HasReached one names rest x z (good && this)
   operands_done_step {good = good} {name = name} {rest = rest} {x = x} {y = y} this z h kept whole reads k = record {
     reads = reads_then (λ all. let parts = and_parts good this all in (parts.0, whole parts.1)) h.reads reads;
     reached = λ flushed w agrees.
         let p = h.reached flushed w (agrees_before agrees reads) in
         let q = k (kept flushed) w agrees in
         let v = world_at w y.inputs in
-        let run = o.one v name in
+        let run = one v name in
         let world : world_at w z.inputs ≡ after v (asks run) =
         world_after w y.inputs z.inputs (asks run) (events_extend run y z q.1).0 in
         record {
           done = behavior_then p.done run;
-          total = p.total ∙ sym (behavior_then-assoc p.done run (operands_behavior o.one (after v (asks run)) rest))
-              ∙ ap (λ w. behavior_then (behavior_then p.done run) (operands_behavior o.one w rest)) (sym world);
+          total = rw (world, append_assoc, and_assoc) p.total;
           happened = behavior_then-happened p.done.steps run.steps p.happened q.1;
           is = ap (λ g. g && this) p.is ∙ ap (λ g. p.done.good && g) q.0;
         };
   }
 
   -- no operand is left
-  pub operands_done_end : {good : Bool} {x y : StreamsState} → HasReached o [] x y good
-      → Performs (λ w. operands_behavior o.one w o.names) status_of x y (Ok (status_of good))
+  pub operands_done_end : {good : Bool} {x y : StreamsState} → HasReached one names [] x y good
+      → Performs (λ w. operands_behavior one w names) status_of x y (Ok (status_of good))
   operands_done_end {x = x} {y = y} h = λ flushed w agrees.
       let p = h.reached flushed w agrees in
-      let total = p.total ∙ behavior_then-nothing p.done in (
+      let total = rw (append-nil, and-true) at p.total in (
         ap status_of (p.is ∙ ap (λ (r : Behavior). r.good) (sym total)),
         subst (λ (r : Behavior). Happened x y (trace r.steps)) (sym total) p.happened,
       )
 
   -- the next operand stopped the run
   pub operands_done_stop : {Whole : Type 0} {good : Bool} {name : ByteString} {rest : List ByteString}
-      {x y : StreamsState} (stop : Stop) (z : StreamsState) → HasReached o (name ∷ rest) x y good
+      {x y : StreamsState} (stop : Stop) (z : StreamsState) → HasReached one names (name ∷ rest) x y good
       → (IsFlushed x.outputs → IsFlushed y.outputs) → ReadsToEndIf Whole y.inputs z.inputs
-      → Performs (λ w. o.one w name) (λ g. g) y z (Err stop)
-      → Performs (λ w. operands_behavior o.one w o.names) status_of x z (Err stop)
+      → Performs (λ w. one w name) (λ g. g) y z (Err stop)
+      → Performs (λ w. operands_behavior one w names) status_of x z (Err stop)
   operands_done_stop {name = name} {rest = rest} {x = x} {y = y} stop z h kept reads k = λ flushed w agrees.
       let p = h.reached flushed w (agrees_before agrees reads) in
       let q = k (kept flushed) w agrees in
       let v = world_at w y.inputs in
-      let run = o.one v name in
-      let later = operands_behavior o.one (after v (asks run)) rest in
+      let run = one v name in
+      let later = operands_behavior one (after v (asks run)) rest in
       let status = status_of (behavior_then p.done (behavior_then run later)).good in
       let next = behavior_then-first y z status run.good run.steps later.steps stop q in
       let all = behavior_then-second z status status p.done.steps (behavior_then run later).steps stop p.happened next

@@ -1,14 +1,14 @@
 -- A run and its end, joined: what the whole program does.
-use Rattle.std.proofs.Common.{arith, ◌≡◌, ℕ, List, [], Option, None, Result, Ok, Err, false, sym, refl, ◌∙◌, append-nil}
+use Rattle.std.proofs.Common.{rules, arith, ◌≡◌, ℕ, List, [], Option, None, Result, Ok, Err, false, sym, refl, ◌∙◌, append-nil}
 use Rattle.sum_words.specs.Texts.{Stop}
 use Rattle.sum_lines.proofs.EventLemmas.{Gets-then}
 use Rattle.sum_engine.specs.Behavior.{World, Event, Behavior, trace, single_step, ByteString}
 use Rattle.sum_engine.specs.Execution.{OutputsState, StreamsState, world_at, IsFlushed, FailuresMatch, Happened, Performs}
-use Rattle.sum_words.specs.CommandLines.{CommandLineValue}
+use Rattle.sum_words.specs.declared.tool.Tool.{Tool}
 use Rattle.digests.specs.Meaning.{status_of}
-use Rattle.digests.specs.Program.{CallPerforms, call_behavior, call_stop_line}
-use Rattle.digests.specs.refinement.FinishRun.{FlushesBoth, KeepsBoth, FinishesRun, Refuses, tool_stop_line}
-use Rattle.digests.proofs.MessageLemmas.{Performs-texts, FailuresMatch-texts}
+use Rattle.digests.specs.Program.{CallPerforms, CallRefuses}
+use Rattle.digests.specs.refinement.FinishRun.{FlushesBoth, KeepsBoth, FinishesRun, Refuses}
+use Rattle.digests.proofs.MessageLemmas.{Performs-texts}
 
 -- ---- a run that answered, and its end
 
@@ -34,28 +34,27 @@ Performs-flushed run a b outputs x (Err stop) ran flushes kept = rw flushes.0 (�
     (all, ([], sym (append-nil all)), Happened-kept all outputs (ran flushed w agrees).1 kept))
 
 -- a run and its end, by the run's answer and what the flushes returned; b is how things stood between
-pub CallPerforms-finished : (status : ℕ) (line : Option CommandLineValue) (a b : StreamsState)
-    (outputs : OutputsState) (answer : Result ℕ Stop) → Performs (call_behavior line) status_of a b answer
-    → FailuresMatch a.outputs b.outputs answer → FinishesRun (call_stop_line line) answer b.outputs outputs status
-    → CallPerforms line a (record b { outputs = outputs }) status
-CallPerforms-finished status line a b outputs (Ok x) ran failed (later, m, flushes, kept, reports) = (
+pub CallPerforms-finished : (status : ℕ) (tool : Option Tool) (run : World → Behavior) (a b : StreamsState)
+    (outputs : OutputsState) (answer : Result ℕ Stop) → Performs run status_of a b answer
+    → FailuresMatch a.outputs b.outputs answer → FinishesRun tool answer b.outputs outputs status
+    → CallPerforms tool run a (record b { outputs = outputs }) status
+CallPerforms-finished status tool run a b outputs (Ok x) ran failed (later, m, flushes, kept, reports) = (
   later,
   record b { outputs = m },
-  Performs-flushed (call_behavior line) a b m x later ran flushes kept,
+  Performs-flushed run a b m x later ran flushes kept,
   grind arith,
   refl,
   reports,
 )
-CallPerforms-finished status line a b outputs (Err stop) ran failed (later, m, flushes, kept, reports) =
+CallPerforms-finished status tool run a b outputs (Err stop) ran failed (later, m, flushes, kept, reports) =
     (Err stop, b, ran, failed, refl, rw (flushes.0, flushes.1) at reports)
 
--- a call in whose place this text is written
-pub CallPerforms-refused : (status : ℕ) (line : Option CommandLineValue) (a : StreamsState)
-    (outputs : OutputsState) (text : ByteString) → call_behavior line ≡ (λ w. single_step [] text [] false)
-    → call_stop_line line ≡ tool_stop_line None → Refuses text a.outputs outputs status → IsFlushed a.outputs
-    → CallPerforms line a (record a { outputs = outputs }) status
-CallPerforms-refused status line a outputs text is stop refused flushed =
+-- a call in whose place this line is written
+pub CallRefuses-refused : (status : ℕ) (a : StreamsState) (outputs : OutputsState) (line : ByteString)
+    → Refuses line a.outputs outputs status → IsFlushed a.outputs
+    → CallRefuses line a (record a { outputs = outputs }) status
+CallRefuses-refused status a outputs line refused flushed =
     let (answer, between, said, finish) = refused flushed in
-    CallPerforms-finished status line a (record a { outputs = between }) outputs answer
-    (rw is (Performs-texts a between text [] false answer said))
-    (rw said.returns (FailuresMatch-texts a.outputs between text [] 1 said.written said.writes)) (rw stop finish)
+    CallPerforms-finished status None (λ w. single_step [] line [] false) a (record a { outputs = between }) outputs
+    answer (Performs-texts a between line [] false answer said)
+    (rw said.returns (search (rules, said.writes))) finish

@@ -8,7 +8,7 @@ use Rattle.std.specs.Path.{rsplit_once}
 use lib.Utf8.{encode}
 use Rattle.md5.specs.Md5.{block_words as md5_words, rounds as md5_rounds, compress as md5_compress, hash_after as md5_after, digest_bytes as md5_bytes, md5}
 use Rattle.blake2b_core.specs.Compression.{mix, round, work_vector, compress}
-use Rattle.blake2b_core.specs.Digest.{blocks, blake2b}
+use Rattle.blake2b_core.specs.Digest.{hash_after as blake2b_after, blake2b}
 use Rattle.sum_sources.specs.declared.fault.Fault.TheVariants.{NotFound, Other}
 use Rattle.sum_engine.specs.Behavior.{World, Whole, Broken, out_text, err_text, asks}
 use Rattle.std.specs.Fmt.{digits}
@@ -32,7 +32,7 @@ use Rattle.digests.specs.InMemory.{IsInMemory, world_of, MeansInMemory}
 unfoldable meaning_on_literals : ⊤
 unfolding chars encode is_utf8 name_or_fault option_of_letter limit raw_lines entry_of plain_parts tagged_parts
     rsplit_once encode_with decode_pairs digits md5_words md5_rounds md5_compress md5_after md5_bytes md5
-    mix round work_vector compress blocks blake2b
+    mix round work_vector compress blake2b_after blake2b
 meaning_on_literals = tt
 
 -- these lines, each with a newline

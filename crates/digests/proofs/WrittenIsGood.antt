@@ -4,7 +4,7 @@ use Rattle.std.proofs.lemmas.List.{length-map, map-append}
 use Rattle.std.proofs.lemmas.Simd.{map-map}
 use Rattle.std.proofs.lemmas.List.Concat.{flat_map-append}
 use Rattle.std.proofs.lemmas.List.Folds.{flat_map-map}
-use Rattle.std.proofs.lemmas.List.Elements.{All-nil, All-cons, All-head, All-tail, All-append, All-map}
+use Rattle.std.proofs.lemmas.List.Elements.{All-nil, All-head, All-tail, All-append, All-map}
 use Rattle.digest_kinds.specs.Kinds.{digest}
 use Rattle.sum_engine.specs.declared.check.judge.Verdict.TheVariants.{Right}
 use Rattle.sum_engine.specs.check.Reports.{out_by}
@@ -19,7 +19,7 @@ use Rattle.sum_engine.proofs.WorldLemmas.{after-steady}
 use Rattle.sum_words.specs.Tools.{name_of, Algos}
 use Rattle.digests.specs.Meaning.{operands_behavior}
 use Rattle.digests.proofs.CheckWords.{request-check_words}
-use Rattle.digests.specs.GenerationRuns.{IsListable, GenerationRun, generation_output, IsCheckable, HasFiles, WrittenIsGood, JoinedIsGood}
+use Rattle.digests.specs.GenerationRuns.{IsListable, GenerationRun, generation_output, IsCheckable, HasFiles, AreGood}
 
 -- ---- the lines of a run
 
@@ -61,55 +61,34 @@ module _ (algos : Algos) (files later : ByteString → Answer) where
       → later name ≡ files name → Listed algos later (item files g.settings name)
   item-listed c h same = search rules
 
-  -- ---- several runs, one after another
-
-  -- their lines are read back
-  runs-listed : (gs : List GenerationRun) → All (IsCheckable algos files later) gs
+  -- the lines of several runs, one after another, are read back, are what they wrote, and are for all their names
+  runs-are : (w : World) (gs : List GenerationRun) → HasFiles w files → All (IsCheckable algos files later) gs
       → All (Listed algos later) (flat_map (items files) gs)
-  runs-listed [] all = All-nil (Listed algos later)
-  runs-listed (g ∷ gs) all =
+      × (flat_map written_text (flat_map (items files) gs) ≡ flat_map (generation_output w) gs)
+      × (map (λ i. i.name) (flat_map (items files) gs) ≡ flat_map (λ g. g.names) gs)
+  runs-are w [] has all = (All-nil (Listed algos later), refl, refl)
+  runs-are w (g ∷ gs) has all =
       let c = All-head (IsCheckable algos files later) g gs all in
-      All-append (Listed algos later) (items files g) (flat_map (items files) gs)
-      (All-map (Listed algos later) (item files g.settings) g.names (λ k d less.
-      item-listed c (c.listable k d less) (c.same k d less)))
-      (runs-listed gs (All-tail (IsCheckable algos files later) g gs all))
-
-  -- what they wrote is their lines
-  runs-text : (w : World) (gs : List GenerationRun) → HasFiles w files → All (IsCheckable algos files later) gs
-      → flat_map written_text (flat_map (items files) gs) ≡ flat_map (generation_output w) gs
-  runs-text w [] has all = refl
-  runs-text w (g ∷ gs) has all =
-      let c = All-head (IsCheckable algos files later) g gs all in
-      let others = runs-text w gs has (All-tail (IsCheckable algos files later) g gs all) in
-      rw (flat_map-append, ← lines-are g.settings g.tool g.names w has c.newlines c.listable, others) refl
-
--- and these are for all of their names
-runs-names : (files : ByteString → Answer) (gs : List GenerationRun)
-    → map (λ i. i.name) (flat_map (items files) gs) ≡ flat_map (λ g. g.names) gs
-runs-names files [] = refl
-runs-names files (g ∷ gs) = rw (map-append, map-map, map-id, runs-names files gs) refl
-
--- ---- the laws
+      let others = runs-are w gs has (All-tail (IsCheckable algos files later) g gs all) in (
+        All-append (Listed algos later) (items files g) (flat_map (items files) gs)
+            (All-map (Listed algos later) (item files g.settings) g.names (λ k d less.
+            item-listed c (c.listable k d less) (c.same k d less))) others.0,
+        rw (flat_map-append, ← lines-are g.settings g.tool g.names w has c.newlines c.listable, others.1) refl,
+        rw (map-append, map-map, map-id, others.2) refl,
+      )
 
 -- what several runs wrote is a manifest of such lines
-pub joined_is_good : JoinedIsGood
-joined_is_good t check manifest files later w v gs has same by all some fits given =
+pub written_is_good : (gs : List GenerationRun) → AreGood gs
+written_is_good gs t check manifest files later w v has same by all some fits given =
     let xs = flat_map (items files) gs in
-    let names = runs-names files gs in
-    let text = runs-text check.algo files later w gs has all in
-    let count : length xs ≡ length (flat_map (λ g. g.names) gs) = sym (length-map xs (λ i. i.name)) ∙ ap length names in
-    let f = manifest_good check (name_of t) manifest later v xs same (runs-listed check.algo files later gs all)
-    (rw count some) (rw text fits) (rw text given) in
+    let are = runs-are check.algo files later w gs has all in
+    let count : length xs ≡ length (flat_map (λ g. g.names) gs) = sym (length-map xs (λ i. i.name)) ∙ ap length are.2 in
+    let f = manifest_good check (name_of t) manifest later v xs same are.0
+    (rw count some) (rw are.1 fits) (rw are.1 given) in
     let asked = request-check_words t check manifest by in
     record {
       status = rw (asked, f.good) refl;
       out = rw (asked, append-nil) (f.out ∙ sym (flat_map-map (out_by present check.report Right) (λ i. i.name) xs)
-          ∙ ap (flat_map (out_by present check.report Right)) names);
+          ∙ ap (flat_map (out_by present check.report Right)) are.2);
       err = rw (asked, append-nil) f.err;
     }
-
--- so is what one run wrote
-pub written_is_good : WrittenIsGood
-written_is_good t check manifest files later w v g has same by c =
-    simp append-nil at (joined_is_good t check manifest files later w v (g ∷ []) has same by
-    (All-cons (IsCheckable check.algo files later) g [] c (All-nil (IsCheckable check.algo files later))))

@@ -68,19 +68,11 @@ pub record ReportsAllOk (report : Report) (run : Behavior) (names : List ByteStr
   pub out : out_text run ≡ flat_map (out_by present report Right) names
   pub err : err_text run ≡ []
 
--- what one run wrote for one name or more is good as a manifest, if it isn't too long
-abbrev pub WrittenIsGood : Type 0
-WrittenIsGood = (t : Tool) (check : CheckSettings) (manifest : ByteString) (files later : ByteString → Answer)
-    (w v : World) (g : GenerationRun) → HasFiles w files → HasFiles v later → check.algo ≡ algos_of t
-    → IsCheckable check.algo files later g → 0 < length g.names → length (generation_output w g) < limit
-    → answer_to v manifest ≡ Ok (record { bytes = generation_output w g; ending = Whole })
-    → ReportsAllOk check.report (meaning t (check_words check manifest) v) g.names
-
--- so is what several runs wrote, one after another
-abbrev pub JoinedIsGood : Type 0
-JoinedIsGood = (t : Tool) (check : CheckSettings) (manifest : ByteString) (files later : ByteString → Answer)
-    (w v : World) (gs : List GenerationRun) → HasFiles w files → HasFiles v later → check.algo ≡ algos_of t
-    → All (IsCheckable check.algo files later) gs → 0 < length (flat_map (λ g. g.names) gs)
-    → length (flat_map (generation_output w) gs) < limit
+-- what these runs wrote, one after another, for one name or more is good as a manifest, if it isn't too long
+abbrev pub AreGood : List GenerationRun → Type 0
+AreGood gs = let names = flat_map (λ g. g.names) gs in
+    (t : Tool) (check : CheckSettings) (manifest : ByteString) (files later : ByteString → Answer) (w v : World)
+    → HasFiles w files → HasFiles v later → check.algo ≡ algos_of t → All (IsCheckable check.algo files later) gs
+    → 0 < length names → length (flat_map (generation_output w) gs) < limit
     → answer_to v manifest ≡ Ok (record { bytes = flat_map (generation_output w) gs; ending = Whole })
-    → ReportsAllOk check.report (meaning t (check_words check manifest) v) (flat_map (λ g. g.names) gs)
+    → ReportsAllOk check.report (meaning t (check_words check manifest) v) names

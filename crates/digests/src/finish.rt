@@ -2,7 +2,8 @@
 ghost use Rattle.std.specs.Prelude.{◌≡◌, [], Ok};
 ghost use Rattle.sum_engine.specs.Execution.{IsFlushed, HasNoFailure};
 ghost use Rattle.sum_engine.specs.refinement.FlushedWrites.{WritesAndFlushes};
-ghost use Rattle.digests.specs.refinement.FinishRun.{FinishesRun, FlushesBoth, KeepsBoth, tool_stop_line};
+ghost use Rattle.digests.specs.refinement.FinishRun.{FinishesRun, FlushesBoth, KeepsBoth};
+ghost use Rattle.digests.specs.Program.{tool_stop_line};
 
 use crate::messages::{Message, put_message};
 use sum_engine::{Outputs, Stop};
@@ -18,7 +19,7 @@ pub(crate) fn finish_run<O: Sink, E: Sink>(
     outputs: &mut Outputs<O, E>,
 ) -> u8
     ensures finish { IsFlushed outputs.old
-        → FinishesRun (tool_stop_line tool) outcome outputs.old outputs.new result }
+        → FinishesRun tool outcome outputs.old outputs.new result }
     ensures flushed { IsFlushed outputs.old → IsFlushed outputs.new }
     ensures no_failures { result ≡ 0 → (outcome ≡ Ok 0) × HasNoFailure outputs.old outputs.new }
 {

@@ -1,6 +1,7 @@
 //! The laws of a run over files in memory, and of what the tools wrote. Each is the contract of a function that does
 //! nothing.
-ghost use Rattle.digests.specs.GenerationRuns.{WrittenIsGood, JoinedIsGood};
+ghost use Rattle.std.specs.Prelude.{List, [], ◌∷◌};
+ghost use Rattle.digests.specs.GenerationRuns.{AreGood, GenerationRun};
 ghost use Rattle.digests.specs.InMemory.{MeansInMemory};
 
 use sum_engine::laws::some_world_agrees;
@@ -28,11 +29,11 @@ pub fn told_performs<I: Input, S: Source, O: Sink, E: Sink>(
 /// file could be read to its end, has fewer than 2^61 bytes and stays as it was. The manifest has fewer than 2^61
 /// bytes, too. `anysum` accepts it as the tool does, if its lines are tagged.
 pub fn written_is_good()
-    ensures { WrittenIsGood }
+    ensures { (g : GenerationRun) → AreGood (g ∷ []) }
 {}
 
 /// Several such manifests of one tool can be joined to one of fewer than 2^61 bytes, and the tool accepts it, too.
 /// Tagged ones of any tools can be joined for `anysum`.
 pub fn joined_is_good()
-    ensures { JoinedIsGood }
+    ensures { (gs : List GenerationRun) → AreGood gs }
 {}

@@ -1,5 +1,5 @@
 -- Worked examples: what the definitions say of some command lines, computed.
-use Rattle.std.proofs.Common.{rules, ◌≡◌, ◌==◌, ◌≤◌, List, ℕ, [], ◌∷◌, Result, Ok, Err, refl, codes, true, false, length}
+use Rattle.std.proofs.Common.{rules, ◌≡◌, ◌==◌, ◌≤◌, List, ℕ, [], ◌∷◌, None, Some, Result, Ok, Err, refl, codes, true, false, length}
 use Rattle.std.specs.List.{slice_split}
 use Rattle.std.specs.Str.{byte, chars, is_utf8}
 use Prim.Native.String.{String}
@@ -11,7 +11,7 @@ use Rattle.sum_words.specs.Items.{ByteString, name_or_fault, option_of_letter}
 use Rattle.sum_words.specs.Tools.{tool_called}
 use Rattle.sum_words.specs.declared.tool.Tool.TheVariants.{Md5sum, Sha256sum, B2sum, Anysum}
 use Rattle.sum_words.specs.WordFaults.{WordFaultValue, unknown_long, ambiguous_long, value_not_allowed, value_missing, unknown_short, length_invalid, length_not_bytes, tag_with_text, zero_with_check, tag_with_check, mode_with_check, without_check, check_needed, not_text, Long, Short}
-use Rattle.sum_words.specs.CommandLines.{unknown_tool, invoke, command_line, NeedsMemory}
+use Rattle.sum_words.specs.CommandLines.{command_line, NeedsMemory}
 use Rattle.sum_lines.specs.declared.writing.put_line.Mode.TheVariants as modes
 use Rattle.sum_engine.specs.declared.settings.Report.TheVariants as reports
 
@@ -109,9 +109,9 @@ odd_words :
     × (request Md5sum (codes "--help" ∷ (45 ∷ 255 ∷ []) ∷ []) ≡ Ok Help)
     × (request B2sum ((45 ∷ 108 ∷ 252 ∷ []) ∷ []) ≡ Err (not_text (45 ∷ 108 ∷ 252 ∷ [])))
     × (request Md5sum (codes "--" ∷ (45 ∷ 255 ∷ []) ∷ []) ≡ generates Md5 16 modes.Text ((45 ∷ 255 ∷ []) ∷ []))
-    × (command_line (codes "digests" ∷ codes "md5sum" ∷ (45 ∷ 233 ∷ []) ∷ []) ≡ invoke Md5sum ((45 ∷ 233 ∷ []) ∷ []))
-    × (command_line (codes "digests" ∷ (255 ∷ []) ∷ []) ≡ unknown_tool)
-    × (command_line (codes "digests" ∷ (45 ∷ 255 ∷ []) ∷ codes "a" ∷ []) ≡ unknown_tool)
+    × (command_line (codes "digests" ∷ codes "md5sum" ∷ (45 ∷ 233 ∷ []) ∷ []) ≡ Some (Md5sum, (45 ∷ 233 ∷ []) ∷ []))
+    × (command_line (codes "digests" ∷ (255 ∷ []) ∷ []) ≡ None)
+    × (command_line (codes "digests" ∷ (45 ∷ 255 ∷ []) ∷ codes "a" ∷ []) ≡ None)
 unfolding chars encode name_or_fault option_of_letter tool_called is_utf8
 odd_words = (refl, refl, refl, refl, refl, refl, refl, refl, refl, refl)
 

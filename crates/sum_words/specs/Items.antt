@@ -1,5 +1,4 @@
 -- The items of a tool's words: options, values of --length, operands and a fault. No item follows a fault.
-use Prim.Native.String.{String}
 use Rattle.std.specs.Prelude.{ℕ, ◌+◌, ◌==◌, ◌&&◌, not, Bool, true, false, List, [], ◌∷◌, map, drop, length, Option, None, Some, Result, Ok, Err, codes, if◌then◌else◌, option_map, filter, find, position, bytes_eq, chars, encode_utf8_all}
 use Rattle.std.specs.List.{starts_with, before_first}
 use Rattle.std.specs.Option.{option_map_or}
@@ -18,33 +17,24 @@ pub data ItemValue : Type 0 where
   fault : WordFaultValue → ItemValue
 
 -- an option's row in the help: its letter (empty if it has none), its full name and its text
-pub record FlagRow : Type 0 where
-  pub letter : ByteString
-  pub name : ByteString
-  pub help : ByteString
-
-abbrev row : String → String → String → FlagRow
-row letter name help = record { letter = codes letter; name = codes name; help = codes help }
-
--- an option's row
-abbrev pub row_of : Flag → FlagRow
-row_of flags.Binary = row "b" "binary" "mark each line as binary"
-row_of flags.Check = row "c" "check" "read checksums from the FILEs and check them"
-row_of flags.Length = row "l" "length" "digest length in bits, a multiple of 8, at most 512"
-row_of flags.Tag = row "" "tag" "write lines of the tagged form"
-row_of flags.Text = row "t" "text" "mark each line as text (default)"
-row_of flags.Zero = row "z" "zero" "end each line with NUL and escape no name"
-row_of flags.IgnoreMissing = row "" "ignore-missing" "with -c: neither fail nor report for missing files"
-row_of flags.Quiet = row "" "quiet" "with -c: print no OK lines"
-row_of flags.Status = row "" "status" "with -c: print no report"
-row_of flags.Strict = row "" "strict" "with -c: fail for improperly formatted lines"
-row_of flags.Warn = row "w" "warn" "with -c: name each improperly formatted line"
-row_of flags.Help = row "" "help" "print this text"
-row_of flags.Version = row "" "version" "print the version"
+abbrev pub row_of : Flag → ByteString × ByteString × ByteString
+row_of flags.Binary = (codes "b", codes "binary", codes "mark each line as binary")
+row_of flags.Check = (codes "c", codes "check", codes "read checksums from the FILEs and check them")
+row_of flags.Length = (codes "l", codes "length", codes "digest length in bits, a multiple of 8, at most 512")
+row_of flags.Tag = ([], codes "tag", codes "write lines of the tagged form")
+row_of flags.Text = (codes "t", codes "text", codes "mark each line as text (default)")
+row_of flags.Zero = (codes "z", codes "zero", codes "end each line with NUL and escape no name")
+row_of flags.IgnoreMissing = ([], codes "ignore-missing", codes "with -c: neither fail nor report for missing files")
+row_of flags.Quiet = ([], codes "quiet", codes "with -c: print no OK lines")
+row_of flags.Status = ([], codes "status", codes "with -c: print no report")
+row_of flags.Strict = ([], codes "strict", codes "with -c: fail for improperly formatted lines")
+row_of flags.Warn = (codes "w", codes "warn", codes "with -c: name each improperly formatted line")
+row_of flags.Help = ([], codes "help", codes "print this text")
+row_of flags.Version = ([], codes "version", codes "print the version")
 
 -- an option's full name
 abbrev pub full_name : Flag → ByteString
-full_name flag = (row_of flag).name
+full_name flag = (row_of flag).1
 
 -- whether an option takes a value
 abbrev pub takes_value : Flag → Bool
@@ -86,7 +76,7 @@ only_or_fault name several = Err (ambiguous_long name)
 
 -- a tool's option that a name means: it has this full name, or else it is the only one whose full name begins so
 unfoldable pub name_or_fault : Tool → ByteString → Result Flag WordFaultValue
-name_or_fault t name = option_map_or (λ flag. Ok flag) (find (λ flag. bytes_eq name (full_name flag)) (flags_of t))
+name_or_fault t name = option_map_or Ok (find (λ flag. bytes_eq name (full_name flag)) (flags_of t))
     (only_or_fault name (filter (λ flag. starts_with ◌==◌ (full_name flag) name) (flags_of t)))
 
 -- the items of a long option and of the rest of the words, which depends on how the next word is read
@@ -98,7 +88,7 @@ long_option (Err f) value rest = fault f ∷ []
 
 -- a tool's option with this letter
 unfoldable pub option_of_letter : Tool → ℕ → Option Flag
-option_of_letter t c = find (λ flag. bytes_eq (row_of flag).letter (c ∷ [])) (flags_of t)
+option_of_letter t c = find (λ flag. bytes_eq (row_of flag).0 (c ∷ [])) (flags_of t)
 
 -- the items of a cluster of letters and of the rest; what follows the letter of an option with a value is the value
 abbrev pub cluster : Tool → List ℕ → (NextWord → List ItemValue) → List ItemValue

@@ -23,9 +23,13 @@ use Rattle.sum_words.specs.declared.parsing.options.Flag.TheVariants as flags
 abbrev pub has : Flag → List Flag → Bool
 has flag given = list_any (sameb the_type flag) given
 
+-- the last given option of a kind, or this earlier one if none is given
+abbrev pub last_of : List Flag → Option Flag → List Flag → Option Flag
+last_of kind earlier given = last_or earlier (filter (λ flag. has flag kind) given)
+
 -- whether an option is the last given option of a kind
 abbrev pub is_last : Flag → List Flag → List Flag → Bool
-is_last flag kind given = option_map_or (sameb the_type flag) (last_or None (filter (λ f. has f kind) given)) false
+is_last flag kind given = option_map_or (sameb the_type flag) (last_of kind None given) false
 
 -- the options that set the mode of lines
 abbrev pub mode_flags : List Flag
@@ -56,11 +60,9 @@ fault_of_options given = let check = has flags.Check given in
     else if has flags.Tag given && check then Some tag_with_check
     else if (has flags.Binary given || has flags.Text given) && check then Some mode_with_check
     else if check then None
-    else if has flags.IgnoreMissing given then Some (without_check (full_name flags.IgnoreMissing))
-    else if is_last flags.Status report_flags given then Some (without_check (full_name flags.Status))
-    else if is_last flags.Warn report_flags given then Some (without_check (full_name flags.Warn))
-    else if is_last flags.Quiet report_flags given then Some (without_check (full_name flags.Quiet))
-    else if has flags.Strict given then Some (without_check (full_name flags.Strict)) else None
+    else option_map (λ flag. without_check (full_name flag)) (if has flags.IgnoreMissing given
+    then Some flags.IgnoreMissing
+    else option_or (last_of report_flags None given) (if has flags.Strict given then Some flags.Strict else None))
 
 -- the mode of lines that the given options set
 abbrev pub mode_of : List Flag → Mode
@@ -96,15 +98,12 @@ early_request (option flags.Help ∷ xs) = Some (Ok Help)
 early_request (option flags.Version ∷ xs) = Some (Ok Version)
 early_request (x ∷ xs) = early_request xs
 
--- the request of a tool's items, or what precedes it: an item alone, a fault of the last length, a fault of the options
-abbrev pub request_of_items : Tool → List ItemValue → Result Request WordFaultValue
-request_of_items t xs = let given = filter_map option_in xs in
-    let kind = option_map length_kind (last_or None (filter_map value_in xs)) in
-    let asked = request_of_options (has flags.Check given) (algos_of t) (option_and_then result_ok kind) given
-    (filter_map operand_in xs) in
-    let wrong = option_or (option_and_then result_err kind) (fault_of_options given) in
-    unwrap_or (option_or (early_request xs) (option_map Err wrong)) asked
-
--- the request of a tool's words, or a fault
+-- the request of a tool's words, or what precedes it: an item alone, a fault of the last length, a fault of the options
 abbrev pub request : Tool → List ByteString → Result Request WordFaultValue
-request t words = request_of_items t (items_from t words a_word)
+request t words = let items = items_from t words a_word in
+    let given = filter_map option_in items in
+    let kind = option_map length_kind (last_or None (filter_map value_in items)) in
+    let wrong = option_or (option_and_then result_err kind) (fault_of_options given) in
+    let asked = request_of_options (has flags.Check given) (algos_of t) (option_and_then result_ok kind) given
+    (filter_map operand_in items) in
+    unwrap_or (option_or (early_request items) (option_map Err wrong)) asked

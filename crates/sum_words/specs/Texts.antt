@@ -21,12 +21,12 @@ purpose Any = codes "Check checksums of tagged lines."
 -- the letter of an option in the help, or as many spaces if it has none
 abbrev pub letter_column : Flag → ByteString
 letter_column flag =
-    if bytes_eq (row_of flag).letter [] then codes "      " else codes "  -" ++ (row_of flag).letter ++ codes ", "
+    if bytes_eq (row_of flag).0 [] then codes "      " else codes "  -" ++ (row_of flag).0 ++ codes ", "
 
 -- the line of an option in the help: its letter, its full name in 18 columns, and its text
 abbrev pub help_line : Flag → ByteString
 help_line flag = let name = codes "--" ++ full_name flag ++ (if takes_value flag then codes "=BITS" else []) in
-    letter_column flag ++ name ++ replicate (18 - length name) (byte " ") ++ (row_of flag).help ++ codes "\n"
+    letter_column flag ++ name ++ replicate (18 - length name) (byte " ") ++ (row_of flag).2 ++ codes "\n"
 
 -- the text of --help
 abbrev pub help : Tool → ByteString

@@ -35,7 +35,7 @@ impl Tool {
     ];
 
     /// The tool of this name. `None` if no tool has it.
-    #[tactic(auto, using(crate::proofs::ToolLemmas::called_by_name))]
+    #[tactic(auto, unfolding(crate::specs::Tools::tool_called))]
     pub fn from_word(word: &str) -> Option<Tool>
         ensures { (tool : Tool) → (result ≡ Some tool) ↔ (name_of tool ≡ word.now) }
     {

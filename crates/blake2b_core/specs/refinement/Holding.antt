@@ -2,13 +2,12 @@
 -- state holds the message.
 use Rattle.std.specs.Prelude.{◌≡◌, ℕ, ◌+◌, ◌*◌, ◌<◌, List, [], length, take, drop, slice_index_or}
 use Rattle.blake2b_core.specs.Bytes.{ByteString}
-use Rattle.blake2b_core.specs.Digest.{blocks}
-use Rattle.blake2b_core.specs.refinement.Chaining.{hash_after}
+use Rattle.blake2b_core.specs.Digest.{hash_after}
 use Rattle.blake2b_core.specs.declared.incremental.Blake2b.{Blake2b}
 
 -- bs are blocks of the message m, one after another from block k on
 abbrev pub AreBlocksFrom : ByteString → ℕ → List ByteString → Type 0
-AreBlocksFrom m k bs = (i : ℕ) → i < length bs → slice_index_or bs i [] ≡ slice_index_or (blocks m) (k + i) []
+AreBlocksFrom m k bs = (i : ℕ) → i < length bs → slice_index_or bs i [] ≡ take 128 (drop (128 * (k + i)) m)
 
 -- the length of the digest that the state is made for
 abbrev pub digest_len : Blake2b → ℕ
@@ -23,7 +22,7 @@ pub record HoldsSoFar (s : Blake2b) (m : ByteString) : Type 0 where
   pub taken : s.taken ≡ length m
   pub done : ℕ
   pub count : 128 * done + s.buffer_len ≡ length m
-  pub hash : s.h ≡ hash_after s.len (blocks m) done
+  pub hash : s.h ≡ hash_after s.len m done
   pub rest : take s.buffer_len s.buffer ≡ drop (128 * done) m
 
 -- the state s holds the message m: so far it does, and the last block is buffered, so only the empty message leaves

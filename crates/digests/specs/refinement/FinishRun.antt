@@ -1,17 +1,12 @@
 -- Relates what a run returned to the end of the program.
-use Rattle.std.specs.Prelude.{ℕ, ◌≡◌, [], Option, None, Some, Result, Ok, Err}
+use Rattle.std.specs.Prelude.{ℕ, ◌≡◌, [], Option, None, Result, Ok, Err}
 use Rattle.sum_lines.specs.Sinks.{Gets}
 use Rattle.sum_engine.specs.Execution.{OutputsState, IsFlushed, HasNoFailure, HasOneFailure}
 use Rattle.sum_engine.specs.refinement.FlushedWrites.{WritesAndReturns}
 use Rattle.sum_words.specs.Items.{ByteString}
-use Rattle.sum_words.specs.Texts.{Stop, Write, stop_line}
+use Rattle.sum_words.specs.Texts.{Stop, Write}
 use Rattle.sum_words.specs.declared.tool.Tool.{Tool}
 use Rattle.digests.specs.Program.{ReportsStop}
-
--- the line for a stop, if there is a tool, whose name it begins with
-abbrev pub tool_stop_line : Option Tool → Stop → ByteString
-tool_stop_line None stop = []
-tool_stop_line (Some tool) stop = stop_line tool stop
 
 -- both outputs are flushed after a run: its outcome stays, or is a write fault if a flush failed
 abbrev pub FlushesBoth : OutputsState → OutputsState → Result ℕ Stop → Result ℕ Stop → Type 0
@@ -24,11 +19,11 @@ abbrev pub KeepsBoth : OutputsState → OutputsState → Type 0
 KeepsBoth a b = Gets a.out.sink b.out.sink [] × Gets a.err.sink b.err.sink []
 
 -- the end of a run with this outcome: both outputs are flushed, and then a stop is reported
-abbrev pub FinishesRun : (Stop → ByteString) → Result ℕ Stop → OutputsState → OutputsState → ℕ → Type 0
-FinishesRun line answer a b status = (later : Result ℕ Stop) × (between : OutputsState)
-    × FlushesBoth a between answer later × KeepsBoth a between × ReportsStop line later between b status
+abbrev pub FinishesRun : Option Tool → Result ℕ Stop → OutputsState → OutputsState → ℕ → Type 0
+FinishesRun tool answer a b status = (later : Result ℕ Stop) × (between : OutputsState)
+    × FlushesBoth a between answer later × KeepsBoth a between × ReportsStop tool later between b status
 
 -- in place of a run this text is written to standard error, and the status is 1
 abbrev pub Refuses : ByteString → OutputsState → OutputsState → ℕ → Type 0
 Refuses text a b status = IsFlushed a → (answer : Result ℕ Stop) × (between : OutputsState)
-    × WritesAndReturns a between text [] 1 answer × FinishesRun (tool_stop_line None) answer between b status
+    × WritesAndReturns a between text [] 1 answer × FinishesRun None answer between b status

@@ -1,9 +1,9 @@
 -- Relates what was read of the command line to the list of arguments, if that is known.
-use Rattle.std.specs.Prelude.{ℕ, ◌≡◌, ◌<◌, List, length, slice_get, Option, IfSome, IsSomeAnd}
+use Rattle.std.specs.Prelude.{ℕ, ◌≡◌, ◌<◌, List, length, slice_get, Option, None, Some, IfSome, IsSomeAnd}
 use Rattle.sum_words.specs.declared.command_line.CommandLine.{CommandLine}
 use Rattle.sum_words.specs.Items.{ByteString}
 use Rattle.sum_words.specs.declared.command_line.CommandLine.TheVariants.{UnknownTool, Invoke}
-use Rattle.sum_words.specs.CommandLines.{CommandLineValue, unknown_tool, invoke}
+use Rattle.sum_words.specs.Tools.{Tool}
 
 -- the argument at a place is this one, or there is none
 abbrev pub ArgumentIs : Option (List ByteString) → ℕ → Option ByteString → Type 0
@@ -14,6 +14,6 @@ abbrev pub IsLonger : Option (List ByteString) → ℕ → ℕ → Type 0
 IsLonger known place n = IfSome known (λ all. IsSomeAnd (slice_get all place) (λ a. n < length a))
 
 -- the value of a `CommandLine`
-abbrev pub command_line_value : {A : Type 0} → CommandLine A → CommandLineValue
-command_line_value UnknownTool = unknown_tool
-command_line_value (Invoke tool words) = invoke tool words
+abbrev pub command_line_value : {A : Type 0} → CommandLine A → Option (Tool × List ByteString)
+command_line_value UnknownTool = None
+command_line_value (Invoke tool words) = Some (tool, words)

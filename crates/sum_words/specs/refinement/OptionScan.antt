@@ -1,9 +1,9 @@
 -- Relates the scan of the options to the request: the values so far, and what they make of it.
-use Rattle.std.specs.Prelude.{ℕ, ◌≡◌, ◌<◌, ◌^◌, ◌&&◌, ◌||◌, not, bytes_eq, true, Bool, List, [], Option, None, Some, SomeIff, Result, Ok, Err, filter, option_copied, filter_map}
+use Rattle.std.specs.Prelude.{ℕ, ◌≡◌, ◌<◌, ◌^◌, ◌&&◌, ◌||◌, not, bytes_eq, true, Bool, List, [], Option, None, Some, SomeIff, Result, Ok, Err, option_copied, filter_map}
 use Rattle.std.specs.List.{last_or}
 use Rattle.std.specs.Str.{all_ascii_digits}
 use Rattle.std.specs.Str.Parse.{digits_value}
-use Rattle.sum_words.specs.Request.{report_flag, early_request, has, mode_flags, report_flags}
+use Rattle.sum_words.specs.Request.{report_flag, early_request, has, last_of, mode_flags, report_flags}
 use Rattle.sum_words.specs.Items.{Flag, ByteString, ItemValue, option_in, value_in}
 use Rattle.sum_words.specs.declared.messages.word_faults.WordFault.{WordFault}
 use Rattle.sum_words.specs.declared.parsing.request.Chosen.{Chosen}
@@ -13,20 +13,15 @@ use Rattle.sum_words.specs.WordFaults.{WordFaultValue}
 use Rattle.sum_words.specs.refinement.ItemIterator.{word_fault_value}
 use Rattle.sum_words.specs.declared.parsing.options.Flag.TheVariants as flags
 
--- the last of these options that is given, or an earlier one if none is
-abbrev pub last_after : List Flag → Option Flag → List Flag → Option Flag
-last_after kind earlier given = last_or earlier (filter (λ flag. has flag kind) given)
-
 -- an option was given earlier, or is in the rest, exactly if it is among all
 abbrev pub IsThere : Flag → Bool → List ItemValue → List ItemValue → Type 0
 IsThere flag earlier rest all = (has flag (filter_map option_in rest) || earlier) ≡ has flag (filter_map option_in all)
 
 -- the options chosen so far and those of the rest are those of all items
 pub record IsChosenBy (c : Chosen) (rest all : List ItemValue) : Type 0 where
-  pub mode : last_after mode_flags c.mode (filter_map option_in rest)
-      ≡ last_after mode_flags None (filter_map option_in all)
-  pub report : last_after report_flags (report_flag c.report) (filter_map option_in rest)
-      ≡ last_after report_flags None (filter_map option_in all)
+  pub mode : last_of mode_flags c.mode (filter_map option_in rest) ≡ last_of mode_flags None (filter_map option_in all)
+  pub report : last_of report_flags (report_flag c.report) (filter_map option_in rest)
+      ≡ last_of report_flags None (filter_map option_in all)
   pub length : last_or (option_copied c.length) (filter_map value_in rest) ≡ last_or None (filter_map value_in all)
   pub binary : IsThere flags.Binary c.binary rest all
   pub check : IsThere flags.Check c.check rest all
@@ -46,10 +41,7 @@ abbrev pub IsScanOf : ScannedOptions → List ItemValue → Type 0
 IsScanOf (Options c) xs = IsChosenBy c [] xs × (early_request xs ≡ None)
 IsScanOf (Early r) xs = early_request xs ≡ Some (result_value r)
 
--- whether a value is one or more digits
-abbrev pub is_number : ByteString → Bool
-is_number value = not (bytes_eq value []) && all_ascii_digits value
-
--- a value's number, or `None` if it isn't one below 2^64
+-- the number of a value, or `None` if the value isn't one or more digits or its number isn't below 2^64
 abbrev pub IsNumberOf : ByteString → Option ℕ → Type 0
-IsNumberOf value r = let n = digits_value 10 value in SomeIff r ((is_number value ≡ true) × (n < 2 ^ 64)) n
+IsNumberOf value r = let n = digits_value 10 value in
+    SomeIff r ((not (bytes_eq value []) && all_ascii_digits value ≡ true) × (n < 2 ^ 64)) n

@@ -77,9 +77,9 @@ impl Flag {
     /// The option's row in the table.
     #[rattlefmt::skip]
     pub(crate) fn row(self) -> Row
-        ensures letter { option_to_list result.letter ≡ (row_of self).letter }
+        ensures letter { option_to_list result.letter ≡ (row_of self).0 }
         ensures name { result.name.now ≡ full_name self }
-        ensures help { result.help.now ≡ (row_of self).help }
+        ensures help { result.help.now ≡ (row_of self).2 }
     {
         match self {
             Flag::Binary => Row::new(Some(b'b'), "binary", "mark each line as binary"),
@@ -115,7 +115,7 @@ impl Flag {
 
     /// The tool's option that a long name means: the one of this full name, or else the only one whose full name begins
     /// with it. `UnknownLong` if no full name does, `AmbiguousLong` if several do.
-    #[tactic(auto, using(crate::proofs::OptionLemmas::name_means))]
+    #[tactic(auto, unfolding(crate::specs::Items::name_or_fault))]
     pub fn of_name(tool: Tool, name: &str) -> Result<Flag, WordFault<'_>>
         ensures { result_value result ≡ name_or_fault tool name.now }
     {
@@ -140,7 +140,7 @@ impl Flag {
 
 // Whether this is the option's letter.
 fn has_letter(flag: Flag, letter: char) -> bool
-    ensures { result ≡ bytes_eq (row_of flag).letter (letter ∷ []) }
+    ensures { result ≡ bytes_eq (row_of flag).0 (letter ∷ []) }
 {
     match flag.row().letter {
         Some(own) => char::from(own) == letter,

@@ -1,6 +1,5 @@
 use Rattle.std.proofs.Common.{◌≡◌, ℕ, ◌+◌, ◌*◌, List}
-use Rattle.blake2b_core.specs.Digest.{blocks}
-use Rattle.blake2b_core.specs.refinement.Chaining.{hash_after}
+use Rattle.blake2b_core.specs.Digest.{hash_after}
 use Rattle.blake2b_core.specs.refinement.Holding.{AreBlocksFrom}
 use Rattle.blake2b_core.proofs.one_shot.state_after.Given as goal
 
@@ -9,5 +8,5 @@ abbrev pub invariant-loop-block : goal.invariant-loop-block
 invariant-loop-block l = record {
   counted : l.taken ≡ l.before + 128 * l.block-index;
   hashed : (n : ℕ) (m : List ℕ) (k : ℕ) → 128 * k ≡ l.before → AreBlocksFrom m k l.followed
-      → l.fn.h ≡ hash_after n (blocks m) k → l.h ≡ hash_after n (blocks m) (k + l.block-index);
+      → l.fn.h ≡ hash_after n m k → l.h ≡ hash_after n m (k + l.block-index);
 }

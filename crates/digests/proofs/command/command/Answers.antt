@@ -1,8 +1,8 @@
-use Rattle.std.proofs.Common.{Some, None, refl, inl, inr}
+use Rattle.std.proofs.Common.{Some, inl, inr}
 use Rattle.std.proofs.lemmas.Option.{IfSome_then}
-use Rattle.sum_words.specs.CommandLines.{invoke, unknown_tool}
 use Rattle.sum_engine.proofs.WorldLemmas.{reads_weaker}
-use Rattle.digests.proofs.ProgramLemmas.{CallPerforms-finished, CallPerforms-refused}
+use Rattle.digests.specs.Meaning.{meaning}
+use Rattle.digests.proofs.ProgramLemmas.{CallPerforms-finished, CallRefuses-refused}
 use Rattle.digests.proofs.command.command.Goals as goal
 
 -- the tool was run
@@ -11,8 +11,8 @@ returns-in-Ok-Invoke-clause-behavior g c = λ hold.
     let read = rw c.in-Ok-Invoke.field-0-is at c.in-Ok-Invoke.ensures.line in
     let ran = c.run-outcome.ensures in
     IfSome_then _ read (λ arguments is. inl (rw is (CallPerforms-finished c.finish_run.result
-    (Some (invoke c.in-Ok-Invoke.tool c.in-Ok-Invoke.words)) c.args.streams.now c.run-outcome.new.streams
-    c.finish_run.new.outputs c.run-outcome.result ran.behavior ran.failures
+    (Some c.in-Ok-Invoke.tool) (meaning c.in-Ok-Invoke.tool c.in-Ok-Invoke.words) c.args.streams.now
+    c.run-outcome.new.streams c.finish_run.new.outputs c.run-outcome.result ran.behavior ran.failures
     (c.finish_run.ensures.finish (ran.flushed hold)))))
 
 pub returns-in-Ok-Invoke-clause-reads : goal.returns-in-Ok-Invoke-clause-reads
@@ -23,8 +23,8 @@ returns-in-Ok-Invoke-clause-reads g c =
 pub returns-in-Ok-UnknownTool-clause-behavior : goal.returns-in-Ok-UnknownTool-clause-behavior
 returns-in-Ok-UnknownTool-clause-behavior g c = λ hold.
     let read = rw c.in-Ok-UnknownTool.field-0-is at c.in-Ok-UnknownTool.ensures.line in
-    IfSome_then _ read (λ arguments is. inl (rw is (CallPerforms-refused c.refuse.result
-    (Some unknown_tool) c.args.streams.now c.refuse.new.outputs _ refl refl c.refuse.ensures.refusal hold)))
+    IfSome_then _ read (λ arguments is. inl (rw is (CallRefuses-refused c.refuse.result c.args.streams.now
+    c.refuse.new.outputs _ c.refuse.ensures.refusal hold)))
 
 -- the words couldn't be read: another line says so
 pub returns-in-Err-clause-behavior : goal.returns-in-Err-clause-behavior
@@ -32,6 +32,5 @@ returns-in-Err-clause-behavior g c = λ hold.
     let refused = c.refuse-in-Err in
     IfSome_then _ c.in-Err.ensures.not_read (λ arguments memory. inr (
       memory,
-      CallPerforms-refused
-          refused.result None c.args.streams.now refused.new.outputs _ refl refl refused.ensures.refusal hold,
+      CallRefuses-refused refused.result c.args.streams.now refused.new.outputs _ refused.ensures.refusal hold,
     ))

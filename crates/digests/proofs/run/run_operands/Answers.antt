@@ -1,6 +1,6 @@
-use Rattle.std.proofs.Common.{rules, ◌≡◌, ap, Ok}
+use Rattle.std.proofs.Common.{rules, arith, ap, Ok}
 use Rattle.sum_engine.proofs.WorldLemmas.{reads_weaker, reads_then}
-use Rattle.digests.proofs.OperandLemmas.{left-next, operands_done_start, operands_done_step, operands_done_end, operands_done_stop, good_status}
+use Rattle.digests.proofs.OperandLemmas.{left-next, operands_done_start, operands_done_step, operands_done_end, operands_done_stop}
 use Rattle.digests.proofs.run.run_operands.Goals as goal
 
 -- before the first operand nothing happened
@@ -39,6 +39,4 @@ returns-clause-behavior g c =
 
 pub returns-clause-reads : goal.returns-clause-reads
 returns-clause-reads g c =
-    reads_weaker (λ zero.
-    let is : c.status.result ≡ 0 = cc in
-    good_status c.operands.good c.status.result c.status.ensures is) c.operands.invariant.reached.reads
+    reads_weaker (λ zero. grind arith) c.operands.invariant.reached.reads

@@ -1,15 +1,17 @@
 use Rattle.std.proofs.Common.{length, Ok}
 use Rattle.sum_engine.specs.Execution.{StopHasCause}
-use Rattle.digests.specs.refinement.Operands.{JobAllowsRefusals}
-use Rattle.digests.proofs.OperandLemmas.{HasReached, left, operands_of}
+use Rattle.sum_words.specs.Tools.{name_of}
+use Rattle.digests.specs.Meaning.{or_dash}
+use Rattle.digests.specs.refinement.Operands.{JobAllowsRefusals, operand_behavior}
+use Rattle.digests.proofs.OperandLemmas.{HasReached, left}
 use Rattle.digests.proofs.run.run_operands.Given as goal
 
 -- the operands before this one were done; the source was refused nothing, and no
 -- write failed
 abbrev pub invariant-operands : goal.invariant-operands
 invariant-operands g l = record {
-  reached : HasReached (operands_of l.job l.tool l.fn.operands) (left l.next l.operands) l.fn.streams
-      l.streams l.good;
+  reached : HasReached (operand_behavior l.job (name_of l.tool)) (or_dash l.fn.operands)
+      (left l.next l.operands) l.fn.streams l.streams l.good;
   so_far : StopHasCause (JobAllowsRefusals l.job) l.fn.streams l.streams (Ok l.good);
 }
 

@@ -1,7 +1,7 @@
 use Rattle.std.proofs.Common.{◌≡◌, ◌+◌, ◌-◌, ◌*◌, ◌++◌, length, take, arith}
 use Rattle.std.proofs.lemmas.Grind.{common_steps}
 use Rattle.std.proofs.lemmas.List.{take_all}
-use Rattle.blake2b_core.proofs.BlockLemmas.{whole_block, hash_after-more}
+use Rattle.blake2b_core.proofs.BlockLemmas.{hash_after-more}
 use Rattle.blake2b_core.proofs.incremental.Blake2b.fill.Goals as goal
 
 -- the buffered block is full, and is compressed
@@ -16,6 +16,6 @@ returns-clause-holds c = λ m before.
       taken = held.taken;
       done = held.done + 1;
       count = omega arith;
-      hash = grind (arith, whole_block, take_all, hash_after-more, held.hash, held.rest, held.taken);
+      hash = grind (arith, take_all, hash_after-more, held.hash, held.rest, held.taken);
       rest = grind (arith, common_steps);
     }
