@@ -1,11 +1,11 @@
 -- The pieces of a text, the events of these, and what happened of them.
 use Rattle.std.proofs.lemmas.Grind.{common_steps}
-use Rattle.std.proofs.Common.{ℕ, zero, suc, ◌≡◌, ◌<◌, ◌≤◌, ◌+◌, ◌*◌, ◌/◌, ◌%◌, List, [], ◌∷◌, ◌++◌, length, take, drop, map, flat_map, filter_map, refl, sym, ap, ◌∙◌, append_assoc, append-nil, length-append, length-drop, take_all, arith}
+use Rattle.std.proofs.Common.{ℕ, zero, suc, ◌≡◌, ◌<◌, ◌≤◌, ◌+◌, ◌*◌, ◌/◌, ◌%◌, List, [], ◌∷◌, ◌++◌, length, take, drop, flat_map, filter_map, inl, inr, refl, sym, ap, ◌∙◌, append_assoc, append-nil, length-append, length-drop, take_all, arith}
 use Rattle.std.proofs.lemmas.List.Concat.{flat_map-append}
 use Rattle.std.proofs.lemmas.List.Elements.{filter_map-append}
 use Rattle.std.specs.List.{concat}
 use Rattle.std.specs.Simd.{first_chunks}
-use Rattle.sum_lines.specs.Sinks.{SinkState, OutputEvent, offer_piece, write_byte, offered_piece, written_byte, pieces, piece_events, output_events, OffersPiece, OffersEach, Gets, GetsPrefix}
+use Rattle.sum_lines.specs.Sinks.{SinkState, OutputEvent, offer_piece, write_byte, written_byte, pieces, byte_events, output_events, OffersEach, Gets, GetsPrefix}
 
 -- ---- the pieces of a text
 
@@ -51,17 +51,13 @@ concat-pieces xs = concat-chunks 8192 ((length xs + 8191) / 8192) xs (omega arit
 
 -- ---- the events of pieces
 
-offers-written : (xs : List ℕ) → filter_map offered_piece (map write_byte xs) ≡ []
-offers-written [] = refl
-offers-written (x ∷ xs) = offers-written xs
+-- the events of one piece
+abbrev piece_events : List ℕ → List OutputEvent
+piece_events piece = offer_piece piece ∷ byte_events piece
 
-pub bytes-written : (xs : List ℕ) → filter_map written_byte (map write_byte xs) ≡ xs
+bytes-written : (xs : List ℕ) → filter_map written_byte (byte_events xs) ≡ xs
 bytes-written [] = refl
 bytes-written (x ∷ xs) = ap (λ l. x ∷ l) (bytes-written xs)
-
-offers-in : (ps : List (List ℕ)) → filter_map offered_piece (flat_map piece_events ps) ≡ ps
-offers-in [] = refl
-offers-in (p ∷ ps) = grind (arith, filter_map-append, offers-written, offers-in ps)
 
 bytes-in : (ps : List (List ℕ)) → filter_map written_byte (flat_map piece_events ps) ≡ concat ps
 bytes-in [] = refl
@@ -83,38 +79,31 @@ output_events-one xs some fits = rw (one_piece xs some fits) (append-nil (piece_
 
 -- ---- what happened
 
-OffersEach-then : (a b c : List (List ℕ)) (ps qs : List (List ℕ)) → OffersEach a b ps → OffersEach b c qs
-    → OffersEach a c (ps ++ qs)
-OffersEach-then a b c [] qs h k = rw h at k
-OffersEach-then a b c (p ∷ ps) qs h k = (h.0, h.1, OffersEach-then _ b c ps qs h.2 k)
+OffersEach-then : (a b c : List (List ℕ)) (es fs : List OutputEvent) → OffersEach a b es → OffersEach b c fs
+    → OffersEach a c (es ++ fs)
+OffersEach-then a b c [] fs h k = rw h at k
+OffersEach-then a b c (offer_piece p ∷ es) fs h k = OffersEach-then _ b c es fs h k
+OffersEach-then a b c (write_byte x left ∷ es) fs (inl h) k = inl (OffersEach-then a b c es fs h k)
+OffersEach-then a b c (write_byte x left ∷ es) fs (inr h) k = inr (h.0, OffersEach-then _ b c es fs h.1 k)
 
 -- nothing
 pub Gets-none : {a : SinkState} → Gets a a []
 Gets-none {a} = record { offered = refl; written = sym (append-nil a.written) }
 
--- a piece was offered, and its first bytes were written
-pub Gets-piece : (a b : SinkState) (piece prefix : List ℕ) (offers : List (List ℕ)) → OffersPiece piece offers
-    → b.offered ≡ a.offered ++ offers → b.written ≡ a.written ++ prefix
-    → Gets a b (offer_piece piece ∷ map write_byte prefix)
-Gets-piece a b piece prefix offers are offered written = record {
-  offered = rw (offers-written prefix) (offers, are, offered);
-  written = rw (bytes-written prefix) written;
-}
-
 -- some events, and then others
 pub Gets-then : {a b c : SinkState} {p q : List OutputEvent} → Gets a b p → Gets b c q → Gets a c (p ++ q)
 Gets-then {a} {b} {c} {p} {q} h k = record {
-  offered = rw (filter_map-append offered_piece p q) (OffersEach-then _ _ _ _ _ h.offered k.offered);
+  offered = OffersEach-then a.offered b.offered c.offered p q h.offered k.offered;
   written = let first = h.written in let then = k.written in grind (arith, append_assoc, filter_map-append);
 }
 
 -- a prefix of some events is one of what begins with them
 pub GetsPrefix-more : {a b : SinkState} {p : List OutputEvent} (q : List OutputEvent) → GetsPrefix a b p
     → GetsPrefix a b (p ++ q)
-GetsPrefix-more q h = (h.0, (h.1.0 ++ q, ap (λ l. l ++ q) h.1.1 ∙ append_assoc h.0 h.1.0 q), h.2)
+GetsPrefix-more q h = (h.0, h.1 ++ q, ap (λ l. l ++ q) h.2 ∙ append_assoc h.0 h.1 q, h.3)
 
 -- after some events, a prefix of others
 pub GetsPrefix-then : {a b c : SinkState} {p q : List OutputEvent} → Gets a b p → GetsPrefix b c q
     → GetsPrefix a c (p ++ q)
 GetsPrefix-then {p} h k =
-    (p ++ k.0, (k.1.0, ap (λ l. p ++ l) k.1.1 ∙ sym (append_assoc p k.0 k.1.0)), Gets-then h k.2)
+    (p ++ k.0, k.1, ap (λ l. p ++ l) k.2 ∙ sym (append_assoc p k.0 k.1), Gets-then h k.3)
