@@ -73,17 +73,17 @@ pub prefix_err : {a b : StreamsState} (names : List (List ℕ)) (err out : List 
     → GetsPrefix a.outputs.err.sink b.outputs.err.sink err → b.outputs.out.sink ≡ a.outputs.out.sink
     → PrefixHappened a b (events_by names err out)
 prefix_err {a} names err out asked h same =
-    let rest : List Event = map to_err h.1.0 ++ map to_out out in
-    let did = Happened-by names h.0 [] asked h.2 (rw same Gets-none) in
-    (events_by names h.0 [], (rest, search (rules, map-append, append_assoc)), did)
+    let rest : List Event = map to_err h.1 ++ map to_out out in
+    let did = Happened-by names h.0 [] asked h.3 (rw same Gets-none) in
+    (events_by names h.0 [], rest, search (rules, map-append, append_assoc), did)
 
 -- it got all of them, and standard output a prefix of its own
 pub prefix_out : {a b : StreamsState} (names : List (List ℕ)) (err out : List OutputEvent) → AsksNames a.inputs b.inputs names
     → Gets a.outputs.err.sink b.outputs.err.sink err → GetsPrefix a.outputs.out.sink b.outputs.out.sink out
     → PrefixHappened a b (events_by names err out)
 prefix_out names err out asked all h =
-    let rest : List Event = map to_out h.1.0 in
-    (events_by names err h.0, (rest, search (rules, map-append, append_assoc)), Happened-by names err h.0 asked all h.2)
+    let rest : List Event = map to_out h.1 in
+    (events_by names err h.0, rest, search (rules, map-append, append_assoc), Happened-by names err h.0 asked all h.3)
 
 -- what it wrote happened, or a prefix of it if it failed
 abbrev pub HappenedOrPrefix : {E : Type 0} → Result (Unit {0}) E → StreamsState → StreamsState → List Event → Type 0

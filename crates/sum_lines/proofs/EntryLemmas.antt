@@ -35,8 +35,10 @@ tagged-not_ignored p tagged = grind (arith, not_ignored)
 -- so no line that spells an entry is
 pub entry-not_ignored : {escape : List ℕ → List ℕ} {algos : Algos} {f : Form} {line : List ℕ} {s : EntryValue}
     (p : Profile) → IsEntry escape algos f line s → is_ignored p line ≡ false
-entry-not_ignored p (inl t) = tagged-not_ignored p t.tagged
-entry-not_ignored p (inr t) = plain-not_ignored p t.plain
+entry-not_ignored p e = elim e.shape [
+  | inl t ↦ tagged-not_ignored p t
+  | inr t ↦ plain-not_ignored p t.1
+]
 
 -- a line that is found to be plain decides its own form; any other decides nothing
 decides-or : (algos : Algos) (line : List ℕ) → DecidesForm algos line (line_form algos line)

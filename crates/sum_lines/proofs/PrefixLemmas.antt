@@ -1,5 +1,5 @@
 -- What follows a text or a byte in a line.
-use Rattle.std.proofs.Common.{ℕ, zero, suc, ◌≡◌, ◌≢◌, ◌+◌, ◌<◌, ◌≤◌, Bool, true, false, ◌==◌, List, [], ◌∷◌, ◌++◌, length, take, drop, get_or, Option, None, Some, refl, arith, length-append, All, option_map}
+use Rattle.std.proofs.Common.{ℕ, zero, suc, ◌≡◌, ◌≢◌, ◌+◌, ◌<◌, ◌≤◌, Bool, true, false, cond, ◌==◌, List, [], ◌∷◌, ◌++◌, length, take, drop, get_or, Option, None, Some, refl, arith, length-append, All, option_map}
 use Rattle.std.specs.List.{starts_with}
 use Rattle.std.specs.Option.{option_or}
 use Rattle.std.specs.Path.{rsplit_once, rfind_below}
@@ -12,7 +12,7 @@ use Rattle.std.proofs.lemmas.Option.{same_Some}
 use Rattle.std.proofs.lemmas.Slice.Eq.{starts_is}
 use Rattle.digest_kinds.specs.Bytes.{after_while}
 use Rattle.sum_lines.specs.grammar.LineParts.{strip_prefix, mark_and_rest}
-use Rattle.sum_lines.specs.grammar.Shapes.{is_blank, mark, optional}
+use Rattle.sum_lines.specs.grammar.Shapes.{is_blank, mark}
 use Rattle.std.proofs.lemmas.Grind.{common_steps}
 
 -- ---- a byte or a text at the start
@@ -37,13 +37,17 @@ starts-append xs ys = (starts_is Decides-eqb (xs ++ ys) xs (starts_with ◌==◌
 pub strip_prefix-append : (xs ys : List ℕ) → strip_prefix xs (xs ++ ys) ≡ Some ys
 strip_prefix-append xs ys = rw (starts-append xs ys, drop_at xs ys (length xs) refl) refl
 
+-- the parenthesis, with a space before it or without, and what follows it
+abbrev pub opening : Bool → List ℕ → List ℕ
+opening gap inner = cond gap (32 ∷ 40 ∷ []) (40 ∷ []) ++ inner
+
 -- the parenthesis is found, with a space before it or without
 pub opened-some : (s inner : List ℕ) → option_or (strip_prefix (32 ∷ 40 ∷ []) s) (strip_prefix (40 ∷ []) s) ≡ Some inner
-    → (gap : Bool) × (s ≡ optional gap (32 ∷ []) ++ (40 ∷ inner))
+    → (gap : Bool) × (s ≡ opening gap inner)
 opened-some s inner h = grind arith
 
 -- and a parenthesis that is so placed is found
-pub opened-at : (gap : Bool) (inner : List ℕ) → let s = optional gap (32 ∷ []) ++ (40 ∷ inner) in
+pub opened-at : (gap : Bool) (inner : List ℕ) → let s = opening gap inner in
     option_or (strip_prefix (32 ∷ 40 ∷ []) s) (strip_prefix (40 ∷ []) s) ≡ Some inner
 opened-at gap inner = grind arith
 

@@ -1,7 +1,7 @@
 -- The lines that are written. Each has its shape, and spells the name and the digest that it was written for. It has no
 -- newline and no carriage return before its end.
 use Rattle.std.proofs.lemmas.Grind.{common_steps}
-use Rattle.std.proofs.Common.{ℕ, ◌≡◌, ◌≢◌, ◌*◌, ◌<◌, not, Bool, true, false, ◌==◌, ◌||◌, List, [], ◌∷◌, ◌++◌, length, refl, arith, inl, inr, All, decimal}
+use Rattle.std.proofs.Common.{ℕ, ◌≡◌, ◌≢◌, ◌*◌, ◌<◌, not, cond, Bool, true, false, ◌==◌, ◌||◌, List, [], ◌∷◌, ◌++◌, length, refl, arith, inl, inr, All, decimal}
 use Rattle.std.specs.List.{AllPass, list_all}
 use Rattle.std.proofs.lemmas.List.Folds.{list_all-append}
 use Rattle.std.proofs.lemmas.List.Sums.{list_all-from_AllPass}
@@ -17,7 +17,7 @@ use Rattle.digest_kinds.proofs.KindLemmas.{has_len-range}
 use Rattle.std.proofs.lemmas.Slice.Eq.{bytes_eq-Decides}
 use Rattle.hex.specs.Hex.{encode_lower, is_hex_digit}
 use Rattle.hex.proofs.HexLemmas.{decode_of-encode_lower}
-use Rattle.sum_lines.specs.grammar.Entries.{Form, Standard, begins_standard, line_form, Spells, EntryValue, IsEntry}
+use Rattle.sum_lines.specs.grammar.Entries.{Form, Standard, begins_standard, line_form, EntryValue, IsEntry}
 use Rattle.sum_lines.specs.grammar.LineLaws.{IsWritable}
 use Rattle.sum_lines.proofs.PlainLemmas.{AreDigits, digits-of, plain_is_read}
 use Rattle.sum_lines.proofs.EscapeLemmas.{length-escape}
@@ -78,7 +78,7 @@ standard x name lt star = grind (arith, length-escape)
 
 module _ {kind : KindValue} {name digest : List ℕ} (w : IsWritable kind name digest) where
   -- what is written spells the name: its escape or, if that doesn't differ, the name
-  name-spelled : Spells escape (escape_differs present name) (escape name) name
+  name-spelled : escape name ≡ cond (escape_differs present name) (escape name) name
   name-spelled = grind (arith, bytes_eq-Decides)
 
   -- the digest's digits are read back
@@ -111,14 +111,13 @@ module _ {kind : KindValue} {name digest : List ℕ} (w : IsWritable kind name d
   -- in a Standard list it spells what it was written for
   pub plain-entry : (x : ℕ) (f : Form) → is_space_or_star x ≡ true → f ≡ Standard
       → IsEntry escape (One kind.algo) f (plain_line x name digest) (written_for kind name digest)
-  plain-entry x f star is = rw is (inr (record {
+  plain-entry x f star is = rw is (record {
     escaped = escape_differs present name;
-    tail = x ∷ escape name;
     raw = escape name;
-    plain = plain-written x;
-    is_raw = (standard x name w.some star, x, refl);
+    shape = inr (x ∷ escape name, plain-written x, (standard x name w.some star, x, refl));
+    no_nul = w.no_nul;
     spells = name-spelled;
-  }))
+  })
 
   -- a tagged line has that shape
   pub tagged-written : (algos : Algos) (width : List ℕ) → Allows algos kind.algo → IsWidth kind width
@@ -147,7 +146,13 @@ module _ {kind : KindValue} {name digest : List ℕ} (w : IsWritable kind name d
   -- whatever the form, it spells what it was written for
   pub tagged-entry : (algos : Algos) (width : List ℕ) (f : Form) → Allows algos kind.algo → IsWidth kind width
       → IsEntry escape algos f (tagged_line kind width name digest) (written_for kind name digest)
-  tagged-entry algos width f allowed is_width = grind (arith, tagged-written, name-spelled)
+  tagged-entry algos width f allowed is_width = record {
+    escaped = escape_differs present name;
+    raw = escape name;
+    shape = inl (tagged-written algos width allowed is_width);
+    no_nul = w.no_nul;
+    spells = name-spelled;
+  }
 
   -- neither line has a newline or a carriage return
   inline-digits : list_all inline (encode_lower digest) ≡ true

@@ -7,12 +7,12 @@ use Rattle.hex.specs.Hex.{decode_of}
 use Rattle.hex.proofs.HexLemmas.{decode_of-ok}
 use Rattle.digest_kinds.specs.Bytes.{after_while}
 use Rattle.digest_kinds.specs.Kinds.{KindValue, tag, IsDigits}
-use Rattle.sum_lines.specs.grammar.Shapes.{Algo, One, is_blank, optional}
+use Rattle.sum_lines.specs.grammar.Shapes.{Algo, One, is_blank}
 use Rattle.sum_lines.specs.grammar.LineParts.{strip_prefix, tag_in, tagged_parts}
 use Rattle.digest_kinds.specs.KindTexts.{kind_and_rest}
 use Rattle.sum_lines.specs.refinement.Beginnings.{IsFront}
 use Rattle.sum_lines.specs.declared.reading.line_parts.Front.{Front}
-use Rattle.sum_lines.proofs.PrefixLemmas.{text, strip_prefix-some, strip_prefix-append, opened-some, rfind-at, rfind-none, rsplit-some}
+use Rattle.sum_lines.proofs.PrefixLemmas.{text, opening, strip_prefix-some, strip_prefix-append, opened-some, rfind-at, rfind-none, rsplit-some}
 use Rattle.digest_kinds.proofs.PrefixLemmas.{none_of}
 use Rattle.digest_kinds.proofs.KindTextLemmas.{kind_and_rest-some}
 use Rattle.std.proofs.lemmas.Grind.{common_steps}
@@ -86,7 +86,7 @@ pub name_place : {line s inner : List ℕ} {name : List ℕ × List ℕ} (a : Al
 name_place {s = s} {inner = inner} {name = name} a w ends wide opened split =
     let width = kind_and_rest-some a (drop (length (tag a)) s) w (sym wide) in
     let gap = opened-some w.1 inner (sym opened) in
-    let front = take (length (tag a)) s ++ (width.width ++ (optional gap.0 (32 ∷ []) ++ (40 ∷ []))) in
+    let front = take (length (tag a)) s ++ (width.width ++ opening gap.0 []) in
     place name.0 _ (ends-after front inner ends (grind (arith, common_steps))) (rsplit-some 41 inner name (sym split))
 
 -- the end has its place in the line

@@ -15,11 +15,11 @@ use Rattle.hex.specs.Hex.{decode_of, is_hex_digit}
 use Rattle.digest_kinds.specs.Kinds.{KindValue, all_algos, tag}
 use Rattle.digest_kinds.proofs.KindTextLemmas.{kind_and_rest-some}
 use Rattle.digest_kinds.proofs.TagLemmas.{IfSome-find-begins, find-begins}
-use Rattle.sum_lines.specs.grammar.Shapes.{Algo, Algos, One, Any, is_blank, Allows, IsTagged, mark, optional}
+use Rattle.sum_lines.specs.grammar.Shapes.{Algo, Algos, One, Any, is_blank, Allows, IsTagged, mark}
 use Rattle.digest_kinds.specs.KindTexts.{IsWidth, kind_and_rest}
 use Rattle.sum_lines.specs.grammar.LineParts.{LinePartsValue, strip_prefix, mark_and_rest, tag_in, tagged_parts}
 use Rattle.digest_kinds.specs.Bytes.{after_while}
-use Rattle.sum_lines.proofs.PrefixLemmas.{text, mark_and_rest-is, strip_prefix-some, opened-some, rsplit-some, opened-at, rsplit-at, starts-append}
+use Rattle.sum_lines.proofs.PrefixLemmas.{text, opening, mark_and_rest-is, strip_prefix-some, opened-some, rsplit-some, opened-at, rsplit-at, starts-append}
 use Rattle.digest_kinds.proofs.PrefixLemmas.{bind_some, ok_some, prefix_passes, prefix-and-rest, parts-at, prefix_len-all}
 use Rattle.digest_kinds.proofs.BitsLemmas.{kind_of_digits-bits, decimal-digits}
 use Rattle.std.proofs.lemmas.List.{drop_at}
@@ -110,10 +110,6 @@ pub hex-no_blank : (x : ℕ) → is_hex_digit x ≡ true → is_blank x ≡ fals
 hex-no_blank x h = grind arith
 
 -- ---- the width, and the parenthesis after it
-
--- what may follow the width: a space or a parenthesis
-abbrev pub opening : Bool → List ℕ → List ℕ
-opening g s = optional g (32 ∷ []) ++ (40 ∷ s)
 
 -- a kind's width is read as that kind
 pub kind_and_rest-of : (kind : KindValue) (w : List ℕ) (g : Bool) (s : List ℕ) → IsWidth kind w

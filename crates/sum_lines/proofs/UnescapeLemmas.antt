@@ -6,7 +6,7 @@ use Rattle.std.proofs.lemmas.List.{append-nil, append_cancel_left, length-take-l
 use Rattle.std.proofs.lemmas.Option.{cond_some}
 use Rattle.std.proofs.lemmas.List.Sums.{list_all-from_AllPass}
 use Rattle.sum_lines.specs.Escape.{Profile, present, escape_of, escape_by, escape}
-use Rattle.sum_lines.specs.grammar.Entries.{Spells, EntryValue}
+use Rattle.sum_lines.specs.grammar.Entries.{EntryValue}
 use Rattle.sum_lines.specs.grammar.ParsedLines.{unescaped_bytes, unescape, entry_of_parts}
 use Rattle.sum_lines.specs.grammar.LineParts.{LinePartsValue}
 use Rattle.digest_kinds.proofs.PrefixLemmas.{bind_some}
@@ -50,18 +50,18 @@ escape-if : (p : Profile) (e : Bool) (raw n : List ℕ) → cond e (unescape p r
 escape-if p e raw n h = search rules
 
 -- so parts whose raw name spells a name spell an entry, and only such parts do
-pub spelled-is : (p : Profile) (t : LinePartsValue) (n : List ℕ) → Spells (escape_by p) t.escaped t.text n
-    → entry_of_parts p t ≡ Some (record { kind = t.kind; digest = t.digest; name = n })
-spelled-is p t n s = grind (arith, unescape-if, all-of)
+pub spelled-is : (p : Profile) (t : LinePartsValue) (n : List ℕ) → All (λ b. 0 < b) n
+    → t.text ≡ cond t.escaped (escape_by p n) n → entry_of_parts p t ≡ Some (record { kind = t.kind; digest = t.digest; name = n })
+spelled-is p t n no_nul is = grind (arith, unescape-if, all-of)
 
 -- only such parts
 pub is-spelled : (p : Profile) (t : LinePartsValue) (s : EntryValue) → entry_of_parts p t ≡ Some s
-    → (n : List ℕ) × Spells (escape_by p) t.escaped t.text n
+    → (n : List ℕ) × All (λ b. 0 < b) n × (t.text ≡ cond t.escaped (escape_by p n) n)
     × (record { kind = t.kind; digest = t.digest; name = n } ≡ s)
 is-spelled p t s h =
     let n = bind_some (cond t.escaped (unescape p t.text) (Some t.text)) _ h in
     let e = cond_some (list_all (nat_lt 0) n.0) _ s n.2 in
-    (n.0, grind (arith, common_steps, escape-if), e.1)
+    (n.0, grind (arith, common_steps), escape-if p t.escaped t.text n.0 n.1, e.1)
 
 -- what follows the escape of a in the escape of a name is the escape of what follows a in it
 pub escape-rest : (a n rest : List ℕ) → escape a ++ rest ≡ escape n → (m : List ℕ) × (n ≡ a ++ m) × (rest ≡ escape m)
