@@ -133,7 +133,7 @@ kept_happened a b c es h did = search rules
 pub kept_performs : {A : Type 0} (steps : List Step) (x : A) (a b c : StreamsState) (r : Result A Stop) → IsKept b c
     → PerformsSteps steps x a b r → PerformsSteps steps x a c r
 kept_performs steps x a b c (Ok outcome) h did = (did.0, kept_happened a b c _ h did.1)
-kept_performs steps x a b c (Err Write) h did = (did.0, did.1, kept_happened a b c did.0 h did.2)
+kept_performs steps x a b c (Err Write) h did = (did.0, did.1, did.2, kept_happened a b c did.0 h did.3)
 kept_performs steps x a b c (Err Memory) h did = record {
   done = did.done;
   next = did.next;

@@ -1,19 +1,18 @@
 -- A line without a carriage return, neither as a byte nor in its name, says the same under both profiles.
-use Rattle.std.proofs.Common.{rules, ◌≡◌, ◌≢◌, ℕ, ◌<◌, Bool, true, false, List, [], ◌∷◌, ◌++◌, length, refl, sym, inl, inr, arith, subst, codes, append_assoc}
+use Rattle.std.proofs.Common.{rules, ◌≡◌, ◌≢◌, ℕ, ◌<◌, Bool, true, false, List, [], ◌∷◌, ◌++◌, length, refl, sym, inl, inr, arith, subst, codes, append_assoc, if◌then◌else◌}
 use Rattle.std.proofs.lemmas.Bool.Decides.{nat_tests}
 use Rattle.std.proofs.lemmas.List.{take_at, drop_at}
 use Rattle.std.proofs.lemmas.List.Elements.{All-nil, All-cons, All-head, All-tail, All-take, All-drop}
 use Rattle.digest_kinds.specs.Kinds.{tag}
-use Rattle.sum_lines.specs.grammar.Shapes.{Algos, mark, optional}
+use Rattle.sum_lines.specs.grammar.Shapes.{Algos, KindValue, IsPlain, IsTagged, mark}
 use Rattle.sum_lines.specs.declared.reading.read_line.Form.{Form}
 use Rattle.sum_lines.specs.declared.reading.read_line.Form.TheVariants.{Undecided, Standard, Reversed}
 use Rattle.sum_lines.specs.Escape.{present, escape, escape_of, escape_by}
-use Rattle.sum_lines.specs.grammar.Entries.{EntryValue, is_ignored, IsRawName, SpellsByTag, SpellsByTail, IsEntry}
+use Rattle.sum_lines.specs.grammar.Entries.{EntryValue, is_ignored, IsRawName, IsEntry}
 use Rattle.sum_lines.specs.grammar.ParsedLines.{ParsedLine, ignored, bad, entry, parse_line}
 use Rattle.sum_lines.proofs.ParsedLineLemmas.{parse_is_grammar, bad_exactly}
 use Rattle.sum_engine.specs.check.OldVerdicts.{older_profile, HasNoCarriageReturn, NamesNoCarriageReturn}
 use Rattle.sum_engine.proofs.CarriageReturnLemmas.{IsNoCarriageReturn}
-use Rattle.sum_lines.specs.grammar.Entries as entries
 
 -- ---- bytes without a carriage return
 

@@ -17,20 +17,13 @@ abbrev pub begins_standard : ByteString → Bool
 begins_standard (b ∷ c ∷ bs) = b == 32 || b == 42
 begins_standard tail = false
 
--- A plain line decides the form of a list. Its tail says which form.
-pub record DecidesForm (algos : Algos) (line : ByteString) (form : Form) : Type 0 where
-  pub escaped : Bool
-  pub kind : KindValue
-  pub digest : ByteString
-  pub tail : ByteString
-  pub plain : IsPlain algos line escaped kind digest tail
-  pub is : form ≡ (if begins_standard tail then Standard else Reversed)
-
--- The form of a list of lines: the first line that decides one decides it; without such a line it is Undecided.
+-- The form of a list of lines: the tail of its first plain line decides it; without such a line it is Undecided.
 abbrev pub IsForm : Algos → List ByteString → Form → Type 0
 IsForm algos [] form = form ≡ Undecided
-IsForm algos (line ∷ later) form = DecidesForm algos line form
-    ⊎ (((f : Form) → ¬ DecidesForm algos line f) × IsForm algos later form)
+IsForm algos (line ∷ later) form = ((e : Bool) × (kind : KindValue) × (digest tail : ByteString)
+        × IsPlain algos line e kind digest tail × (form ≡ (if begins_standard tail then Standard else Reversed)))
+    ⊎ (((e : Bool) (kind : KindValue) (digest tail : ByteString) → ¬ IsPlain algos line e kind digest tail)
+        × IsForm algos later form)
 
 -- the raw name in a plain line's tail: in a Reversed list it is the tail; in a Standard list the tail begins with a
 -- space or a star, more follows, and the raw name is what follows that byte
