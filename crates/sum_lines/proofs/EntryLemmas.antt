@@ -53,7 +53,8 @@ is-form algos (line ∷ later) = go (plain_parts algos line) refl (is-form algos
 -- it has no other
 form-is : (algos : Algos) (lines : List (List ℕ)) (f : Form) → IsForm algos lines f → f ≡ form algos lines
 form-is algos [] f h = h
-form-is algos (line ∷ later) f (inl h) = rw (plain_is_read (record { escaped = h.0; kind = h.1; digest = h.2; text = h.3 }) h.4) h.5
+form-is algos (line ∷ later) f (inl h) =
+    rw (plain_is_read (record { escaped = h.0; kind = h.1; digest = h.2; text = h.3 }) h.4) h.5
 form-is algos (line ∷ later) f (inr h) =
     rw (← none_of (plain_parts algos line) (λ p read. h.0 _ _ _ _ (read_is_plain read))) (form-is algos later f h.1)
 

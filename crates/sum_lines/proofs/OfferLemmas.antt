@@ -82,7 +82,7 @@ pub HasGiven-all : {a b : SinkState} {text : List ℕ} (rest : List ℕ) → Has
     → GivesAll {E = Unit {0}} a b text (Ok tt)
 HasGiven-all {b = b} [] h none = (
   rw (h.cut, append-nil h.events)
-  (record { offered = rw append-nil at (h.offers b.offered [] (sym (append-nil b.offered))); written = h.written }),
+      (record { offered = rw append-nil at (h.offers b.offered [] (sym (append-nil b.offered))); written = h.written }),
   h.failures,
 )
 HasGiven-all (x ∷ xs) h none = cc

@@ -21,9 +21,9 @@ begins_standard tail = false
 abbrev pub IsForm : Algos → List ByteString → Form → Type 0
 IsForm algos [] form = form ≡ Undecided
 IsForm algos (line ∷ later) form = ((e : Bool) × (kind : KindValue) × (digest tail : ByteString)
-        × IsPlain algos line e kind digest tail × (form ≡ (if begins_standard tail then Standard else Reversed)))
+    × IsPlain algos line e kind digest tail × (form ≡ (if begins_standard tail then Standard else Reversed)))
     ⊎ (((e : Bool) (kind : KindValue) (digest tail : ByteString) → ¬ IsPlain algos line e kind digest tail)
-        × IsForm algos later form)
+    × IsForm algos later form)
 
 -- the raw name in a plain line's tail: in a Reversed list it is the tail; in a Standard list the tail begins with a
 -- space or a star, more follows, and the raw name is what follows that byte
