@@ -31,13 +31,10 @@ pieces-append xs ys full =
     omega (arith, length-append xs ys) in
     rw (own, both) (first_chunks-append 8192 k ((length ys + 8191) / 8192) xs ys size)
 
-chunks-one : (n : ℕ) (xs : List ℕ) → length xs ≤ n → first_chunks n 1 xs ≡ xs ∷ []
-chunks-one n xs fits = ap (λ l. l ∷ []) (take_all n xs fits)
-
 pub one_piece : (xs : List ℕ) → 0 < length xs → length xs ≤ 8192 → pieces xs ≡ xs ∷ []
 one_piece xs some fits =
     let one : (length xs + 8191) / 8192 ≡ 1 = omega arith in
-    rw (one, chunks-one 8192 xs fits) refl
+    rw (one, take_all 8192 xs fits) refl
 
 concat-chunks : (n k : ℕ) (xs : List ℕ) → length xs ≤ k * n → concat (first_chunks n k xs) ≡ xs
 concat-chunks n zero [] fits = refl
@@ -45,9 +42,6 @@ concat-chunks n zero (x ∷ xs) fits = absurd (omega arith)
 concat-chunks n (suc k) xs fits =
     let one : suc k * n ≡ k * n + n = grind arith in
     rw (concat-chunks n k (drop n xs) (omega (arith, length-drop n xs))) (grind (arith, common_steps))
-
-concat-pieces : (xs : List ℕ) → concat (pieces xs) ≡ xs
-concat-pieces xs = concat-chunks 8192 ((length xs + 8191) / 8192) xs (omega arith)
 
 -- ---- the events of pieces
 
@@ -65,7 +59,8 @@ bytes-in (p ∷ ps) = grind (arith, filter_map-append, bytes-written, bytes-in p
 
 -- the bytes of a text's events are the text
 pub output_events-bytes : (text : List ℕ) → filter_map written_byte (output_events text) ≡ text
-output_events-bytes text = bytes-in (pieces text) ∙ concat-pieces text
+output_events-bytes text =
+    bytes-in (pieces text) ∙ concat-chunks 8192 ((length text + 8191) / 8192) text (omega arith)
 
 -- the events after full pieces are those of what follows
 pub output_events-append : (xs ys : List ℕ) → length xs % 8192 ≡ 0

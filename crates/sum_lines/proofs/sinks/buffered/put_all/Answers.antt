@@ -1,6 +1,7 @@
-use Rattle.std.proofs.Common.{[], append-nil, sym}
+use Rattle.std.proofs.Common.{[], append-nil, sym, arith}
+use Rattle.std.proofs.lemmas.Grind.{common_steps}
 use Rattle.std.proofs.lemmas.Result.{err_from_is_err_and}
-use Rattle.sum_lines.proofs.SinkLemmas.{HasLeft-all, HasLeft-step, HasLeft-stop, cut_at}
+use Rattle.sum_lines.proofs.SinkLemmas.{HasLeft-all, HasLeft-step, HasLeft-stop}
 use Rattle.sum_lines.proofs.sinks.buffered.put_all.Goals as goal
 
 -- nothing is written yet
@@ -16,4 +17,4 @@ returns-in_err-count g c =
 -- the buffer accepted a prefix of the rest
 pub loop-rest-preserved : goal.loop-rest-preserved
 loop-rest-preserved g c =
-    HasLeft-step _ c.loop-rest.invariant (cut_at c.loop-rest.rest.now c.in_ok-count.count) c.in_ok-count.ensures.2
+    HasLeft-step _ c.loop-rest.invariant (grind (arith, common_steps)) c.in_ok-count.ensures.2
