@@ -12,7 +12,7 @@ use Rattle.sum_lines.specs.grammar.LineParts.{strip_prefix, tag_in, tagged_parts
 use Rattle.digest_kinds.specs.KindTexts.{kind_and_rest}
 use Rattle.sum_lines.specs.refinement.Beginnings.{IsFront}
 use Rattle.sum_lines.specs.declared.reading.line_parts.Front.{Front}
-use Rattle.sum_lines.proofs.PrefixLemmas.{text, opening, strip_prefix-some, strip_prefix-append, opened-some, rfind-at, rfind-none, rsplit-some}
+use Rattle.sum_lines.proofs.PrefixLemmas.{text, opening, strip_prefix-some, strip_prefix-append, opened-some, rsplit-some}
 use Rattle.digest_kinds.proofs.PrefixLemmas.{none_of}
 use Rattle.digest_kinds.proofs.KindTextLemmas.{kind_and_rest-some}
 use Rattle.std.proofs.lemmas.Grind.{common_steps}
@@ -24,19 +24,6 @@ pub after_is : (xs ys : List ℕ) (r : Option (Bor (List ℕ)))
     → MatchOption r ((rest : List ℕ) → ys ≢ xs ++ rest) (λ x. ys ≡ xs ++ x.now) → option_copied r ≡ strip_prefix xs ys
 after_is xs ys None other = none_of (strip_prefix xs ys) (λ zs h. other zs (strip_prefix-some xs ys zs h))
 after_is xs ys (Some x) is = rw is (sym (strip_prefix-append xs x.now))
-
--- ---- the last such byte
-
--- a search from the end that finds none
-pub last_none : (c : ℕ) (s : List ℕ) → Nowhere (Passes (is_byte c) s) 0 (length s) → rsplit_once c s ≡ None
-unfolding rsplit_once
-last_none c s none = grind (arith, rfind-none)
-
--- one that finds the byte at that place
-pub last_some : (c k : ℕ) (s : List ℕ) → IsLastByte (is_byte c) s (Some k)
-    → rsplit_once c s ≡ Some (take k s, drop (k + 1) s)
-unfolding rsplit_once
-last_some c k s last = grind (arith, rfind-at)
 
 -- ---- digits that spell no digest of that length
 
