@@ -84,7 +84,7 @@ module _ {kind : KindValue} {name digest : List ℕ} (before later : List (List 
     -- a line with an entry is read back, since a line spells at most one
     back : (algos : Algos) (prefix : List ℕ) → list_all inline prefix ≡ true
         → IsEntry escape algos (form algos (before ++ (prefix ∷ later))) prefix
-            (record { kind = kind; digest = digest; name = name })
+        (record { kind = kind; digest = digest; name = name })
         → IsReadable (form algos (before ++ (prefix ∷ [])))
         → SpellsBack algos before later (prefix ++ (10 ∷ [])) kind name digest
     back algos prefix one has keeps = record {
@@ -103,7 +103,7 @@ module _ {kind : KindValue} {name digest : List ℕ} (before later : List (List 
     inline-digits : list_all inline (encode_lower digest) ≡ true
     inline-digits =
         let digits = digits-of (encode_lower digest) digest (decode_of-encode_lower digest w.bytes)
-            (omega (arith, has_len-range kind.algo kind.len w.has)) in
+        (omega (arith, has_len-range kind.algo kind.len w.has)) in
         inline-all is_hex_digit (encode_lower digest) refl refl digits.are
 
     -- a plain line is read back: x is the byte before the name
@@ -115,7 +115,7 @@ module _ {kind : KindValue} {name digest : List ℕ} (before later : List (List 
         let line = mark (escape_differs present name) ++ (encode_lower digest ++ (32 ∷ x ∷ escape name)) in
         let byte : inline x ≡ true = grind arith in
         let one : list_all inline line ≡ true = simp list_all-append (rw (byte, inline-digits, inline-escape name)
-            (grind arith)) in
+        (grind arith)) in
         let shape : IsPlain (One kind.algo) line (escape_differs present name) kind digest (x ∷ escape name) = record {
           blanks = [];
           digits = encode_lower digest;
@@ -148,7 +148,7 @@ module _ {kind : KindValue} {name digest : List ℕ} (before later : List (List 
         ++ (10 ∷ [])) kind name digest
     tagged-back algos width allowed is_width readable =
         let line = mark (escape_differs present name)
-            ++ (tag kind.algo ++ (width ++ (32 ∷ 40 ∷ (escape name ++ (41 ∷ 32 ∷ 61 ∷ 32 ∷ encode_lower digest))))) in
+        ++ (tag kind.algo ++ (width ++ (32 ∷ 40 ∷ (escape name ++ (41 ∷ 32 ∷ 61 ∷ 32 ∷ encode_lower digest))))) in
         let none = All-nil (λ b. is_blank b ≡ true) in
         let space : AllPass is_blank (32 ∷ []) = All-cons (λ b. is_blank b ≡ true) 32 [] refl none in
         let shape : IsTagged algos line (escape_differs present name) kind digest (escape name) = record {
@@ -169,7 +169,7 @@ module _ {kind : KindValue} {name digest : List ℕ} (before later : List (List 
           whole = refl;
         } in
         let own : line_form algos line ≡ Undecided =
-            rw (← none_of (plain_parts algos line) (λ p h. apart (read_is_plain h) shape)) refl in
+        rw (← none_of (plain_parts algos line) (λ p h. apart (read_is_plain h) shape)) refl in
         back algos line (grind (arith, list_all-append, inline-width, inline-escape, inline-digits)) (record {
           escaped = escape_differs present name;
           raw = escape name;

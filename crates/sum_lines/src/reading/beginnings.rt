@@ -71,7 +71,7 @@ fn digits_end(algo: Algo, text: &[u8]) -> Option<usize>
 }
 
 // How many digits the text has if it is that of a plain line. `None` only if no plain line has such a text.
-#[tactic(auto, using(crate::proofs::BeginningLemmas::search_none, crate::proofs::BeginningLemmas::search_some))]
+#[tactic(auto, using(crate::proofs::BeginningLemmas::search_none, crate::proofs::BeginningLemmas::search_some, crate::proofs::BeginningLemmas::fixed_len))]
 fn digits_len(algo: Algo, text: &[u8]) -> Option<usize>
     ensures not_plain { IfNone result ((d : ByteString) → ¬ BeginsWithDigits algo text.now d) }
     ensures end { IfSome result (EndsAt algo text.now) }
