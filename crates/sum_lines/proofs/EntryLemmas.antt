@@ -1,4 +1,5 @@
--- The one form of a list of lines.
+-- The one form of a list of lines, and what later lines change of it: neither how a line parses nor the form after a
+-- plain line.
 use Rattle.std.proofs.lemmas.Grind.{common_steps}
 use Rattle.std.proofs.Common.{ℕ, ◌≡◌, Bool, true, false, List, [], ◌∷◌, ◌++◌, Option, None, Some, refl, sym, ◌∙◌, ◌⊎◌, inl, inr, arith}
 use Rattle.std.specs.List.{AllPass}
@@ -7,10 +8,12 @@ use Rattle.sum_lines.specs.grammar.Shapes.{Algos, is_blank, mark, IsPlain, IsTag
 use Rattle.sum_lines.specs.grammar.Entries.{Form, Undecided, EntryValue, is_ignored, IsForm, IsEntry, form_then, line_form, form}
 use Rattle.sum_lines.specs.Escape.{Profile, present}
 use Rattle.sum_lines.specs.grammar.LineParts.{LinePartsValue, plain_parts}
-use Rattle.sum_lines.specs.grammar.LineLaws.{HasOneForm}
+use Rattle.sum_lines.specs.grammar.LineLaws.{HasOneForm, KeepsParse, KeepsForm}
 use Rattle.digest_kinds.proofs.PrefixLemmas.{none_of}
 use Rattle.sum_lines.proofs.TaggedLemmas.{BeginsText}
 use Rattle.sum_lines.proofs.PlainLemmas.{plain-digits, plain_is_read, read_is_plain}
+use Rattle.digest_kinds.specs.declared.algo.Algos.{Algos}
+use Rattle.sum_lines.specs.grammar.ParsedLines.{entry_of, parse_line}
 
 -- a line of either shape isn't ignored, whichever the profile
 not_ignored : (p : Profile) (blanks : List ℕ) (e : Bool) (xs rest : List ℕ) → AllPass is_blank blanks → BeginsText xs
@@ -79,3 +82,20 @@ form_next algos f line later = grind arith
 pub form_at : (algos : Algos) (before later : List (List ℕ)) (line : List ℕ) → form algos (before ++ (line ∷ later))
     ≡ form_then (form_then (form algos before) (line_form algos line)) (form algos later)
 form_at algos before later line = grind (arith, form-append)
+
+-- no later line changes how a line parses
+pub parse_stays : (p : Profile) (algos : Algos) (f g : Form) (line : List ℕ)
+    → parse_line p algos (form_then (form_then f (line_form algos line)) g) line
+    ≡ parse_line p algos (form_then f (line_form algos line)) line
+unfolding entry_of
+parse_stays p algos f g line = grind arith
+
+-- so later lines may be others
+pub same_parse : KeepsParse
+same_parse = grind (arith, form_at, parse_stays)
+
+-- nor the form after a plain line
+pub same_form : KeepsForm
+same_form algos before later others line e kind d tail plain =
+    let read = plain_is_read (record { escaped = e; kind = kind; digest = d; text = tail }) plain in
+    grind (arith, form_at)

@@ -1,17 +1,22 @@
 -- What is escaped can be read back. If some bytes are the escape of a name, both the definition and the code find the
--- name.
-use Rattle.std.proofs.Common.{◌≡◌, ◌↔◌, ℕ, ◌<◌, ◌==◌, Bool, true, false, cond, List, [], ◌∷◌, ◌++◌, Some, refl, ap, sym, ◌∙◌, ◌≢◌, ◌+◌, ◌-◌, ◌≤◌, length, take, drop, append_assoc, arith, length-drop, All, nat_lt, rules}
+-- name. After that, the raw name in a line.
+use Rattle.std.proofs.Common.{◌≡◌, ◌↔◌, ℕ, ◌<◌, ◌==◌, Bool, true, false, cond, List, [], ◌∷◌, ◌++◌, Some, refl, ap, sym, ◌∙◌, ◌≢◌, ◌+◌, ◌-◌, ◌≤◌, length, take, drop, append_assoc, arith, length-drop, All, nat_lt, rules, not, slice_range, Option, None}
 use Rattle.std.specs.List.{list_all}
-use Rattle.std.proofs.lemmas.List.{append-nil, append_cancel_left, length-take-le}
+use Rattle.std.proofs.lemmas.List.{append-nil, append_cancel_left, length-take-le, drop-drop, drop-take}
 use Rattle.std.proofs.lemmas.Option.{cond_some}
 use Rattle.std.proofs.lemmas.List.Sums.{list_all-from_AllPass}
-use Rattle.sum_lines.specs.Escape.{Profile, present, escape_of, escape_by, escape}
-use Rattle.sum_lines.specs.grammar.Entries.{EntryValue}
-use Rattle.sum_lines.specs.grammar.ParsedLines.{unescaped_bytes, unescape, entry_of_parts}
-use Rattle.sum_lines.specs.grammar.LineParts.{LinePartsValue}
-use Rattle.digest_kinds.proofs.PrefixLemmas.{bind_some}
 use Rattle.std.proofs.lemmas.Grind.{flat_map-append, common_steps}
 use Rattle.std.proofs.Math.Seq.{take-append-add}
+use Rattle.std.specs.Option.{is_some}
+use Rattle.std.proofs.lemmas.List.Folds.{list_all_at}
+use Rattle.sum_lines.specs.Escape.{Profile, present, escape_of, escape_by, escape}
+use Rattle.sum_lines.specs.grammar.Entries.{EntryValue, Standard, begins_standard}
+use Rattle.sum_lines.specs.grammar.ParsedLines.{unescaped_bytes, unescape, entry_of_parts, with_raw}
+use Rattle.sum_lines.specs.grammar.LineParts.{LinePartsValue}
+use Rattle.digest_kinds.proofs.PrefixLemmas.{bind_some}
+use Rattle.memchr.specs.Find.{IsFirstByte, is_byte}
+use Rattle.sum_lines.specs.declared.reading.line_parts.LineParts.{LineParts}
+use Rattle.sum_lines.specs.refinement.Beginnings.{line_parts}
 
 -- a byte that is its own escape
 plain-first : (b : ℕ) (rest : List ℕ) → (b == 92) ≡ false → unescaped_bytes (b ∷ rest) ≡ b ∷ unescaped_bytes rest
@@ -107,3 +112,33 @@ cut_after len from n part post more e fits low le = grind (arith, common_steps, 
 -- the rest of a list from a place on
 pub whole_after : (line d : List ℕ) (from : ℕ) → d ≡ line → take (length d - from) (drop from d) ≡ drop from line
 whole_after line d from e = grind (arith, common_steps)
+
+-- a range of a vector that was cut at the range's end
+pub part_of : (xs : List ℕ) (i j : ℕ) → i ≤ j → drop i (take j xs) ≡ slice_range xs i j
+part_of xs i j le = let whole = drop-take i (j - i) xs in grind arith
+
+-- the bytes from a place on are left as the name whose escape they are, or are none
+pub unescaped : (from : ℕ) (old new : List ℕ) (r : Bool)
+    → ((n : List ℕ) → (drop from old ≡ escape n) ↔ ((r ≡ true) × (new ≡ take from old ++ n)))
+    → take from new ≡ take from old → cond r (Some (drop from new)) None ≡ unescape present (drop from old)
+unescaped from old new true h before =
+    let whole : new ≡ take from old ++ drop from new = grind (arith, common_steps) in
+    sym (ap (unescape present) ((h (drop from new)).1 (refl, whole)) ∙ unescape-escape present (drop from new))
+unescaped from old new false h before = search rules
+
+-- a search for NUL shows whether all bytes are above zero
+pub no_nul : (xs : List ℕ) (r : Option ℕ) → IsFirstByte (is_byte 0) xs r → not (is_some r) ≡ list_all (nat_lt 0) xs
+no_nul xs r h = search (rules, all-of, list_all_at)
+
+-- ---- the raw name of a Standard list's tail
+
+-- a part from one place further on
+range-more : (xs : List ℕ) (i j : ℕ) → i + 1 ≤ j → slice_range xs (i + 1) j ≡ drop 1 (slice_range xs i j)
+range-more xs i j lt =
+    let sum : j - i ≡ 1 + (j - (i + 1)) = omega arith in
+    rw (sum, drop-take 1 (j - (i + 1)) (drop i xs), drop-drop 1 i xs) refl
+
+-- the raw name begins one place further on
+pub raw_standard : (line : List ℕ) (p : LineParts) → begins_standard (line_parts line p).text ≡ true
+    → with_raw Standard (line_parts line p) ≡ Some (line_parts line (record p { start = p.start + 1 }))
+raw_standard line p h = grind (arith, range-more)

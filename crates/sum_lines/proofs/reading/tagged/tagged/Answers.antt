@@ -1,7 +1,7 @@
 use Rattle.std.proofs.Common.{sym, arith, length, ◌∙◌}
 use Rattle.std.proofs.lemmas.Bool.{eqb-false}
 use Rattle.sum_lines.proofs.ScanLemmas.{two_digits, digest_none, digest_other, front-ends, name_place, tagged-none, tagged-read}
-use Rattle.sum_lines.proofs.BeginningLemmas.{tag-begins}
+use Rattle.sum_lines.proofs.ScanLemmas.{tag-begins}
 use Rattle.sum_lines.proofs.reading.tagged.tagged.Goals as goal
 
 -- the text begins with the tag
