@@ -25,16 +25,11 @@ pub plain-not_ignored : {algos : Algos} {line : List ℕ} {e : Bool} {kind : Kin
     → IsPlain algos line e kind d tail → is_ignored p line ≡ false
 plain-not_ignored p plain = let digits = plain-digits plain in grind (arith, not_ignored)
 
--- and a tagged one
-tagged-not_ignored : {algos : Algos} {line : List ℕ} {e : Bool} {kind : KindValue} {d raw : List ℕ} (p : Profile)
-    → IsTagged algos line e kind d raw → is_ignored p line ≡ false
-tagged-not_ignored p tagged = grind (arith, not_ignored)
-
 -- so no line that spells an entry is
 pub entry-not_ignored : {escape : List ℕ → List ℕ} {algos : Algos} {f : Form} {line : List ℕ} {s : EntryValue}
     (p : Profile) → IsEntry escape algos f line s → is_ignored p line ≡ false
 entry-not_ignored p e = elim e.shape [
-  | inl t ↦ tagged-not_ignored p t
+  | inl t ↦ grind (arith, not_ignored)
   | inr t ↦ plain-not_ignored p t.1
 ]
 

@@ -15,12 +15,11 @@ first_chunks-append : (n k j : ℕ) (xs ys : List ℕ) → length xs ≡ k * n
 first_chunks-append n zero j [] ys size = grind arith
 first_chunks-append n zero j (x ∷ xs) ys size = absurd (omega arith)
 first_chunks-append n (suc k) j xs ys size =
-    let next : suc k + j ≡ suc (k + j) = omega arith in
     let one : suc k * n ≡ k * n + n = grind arith in
-    let more = first_chunks-append n k j (drop n xs) ys (omega (arith, length-drop n xs)) in
+    let next : suc k + j ≡ suc (k + j) = omega arith in
     let front : take n (xs ++ ys) ≡ take n xs = grind (arith, common_steps) in
     let back : drop n (xs ++ ys) ≡ drop n xs ++ ys = grind (arith, common_steps) in
-    rw (next, front, back, more) refl
+    rw (next, front, back, first_chunks-append n k j (drop n xs) ys (omega (arith, length-drop n xs))) refl
 
 pieces-append : (xs ys : List ℕ) → length xs % 8192 ≡ 0 → pieces (xs ++ ys) ≡ pieces xs ++ pieces ys
 pieces-append xs ys full =
@@ -67,10 +66,6 @@ pub output_events-append : (xs ys : List ℕ) → length xs % 8192 ≡ 0
     → output_events (xs ++ ys) ≡ output_events xs ++ output_events ys
 output_events-append xs ys full =
     rw (pieces-append xs ys full) (flat_map-append piece_events (pieces xs) (pieces ys))
-
--- a text of one piece
-pub output_events-one : (xs : List ℕ) → 0 < length xs → length xs ≤ 8192 → output_events xs ≡ piece_events xs
-output_events-one xs some fits = rw (one_piece xs some fits) (append-nil (piece_events xs))
 
 -- ---- what happened
 

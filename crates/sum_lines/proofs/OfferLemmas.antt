@@ -2,7 +2,7 @@
 use Rattle.std.proofs.Common.{ℕ, zero, suc, ◌≡◌, ◌<◌, ◌≤◌, ◌+◌, List, [], ◌∷◌, ◌++◌, length, take, drop, filter_map, Ok, Err, inl, inr, refl, sym, ap, ◌∙◌, append_assoc, append-nil, arith}
 use Rattle.std.proofs.lemmas.List.Elements.{filter_map-append}
 use Rattle.sum_lines.specs.Sinks.{SinkState, OutputEvent, WritesSome, OffersEach, GivesAll, offer_piece, write_byte, written_byte, byte_events, output_events}
-use Rattle.sum_lines.proofs.EventLemmas.{output_events-one}
+use Rattle.sum_lines.proofs.EventLemmas.{one_piece}
 
 -- what is left of a piece is offered, if anything is
 abbrev again : List ℕ → List (List ℕ)
@@ -17,20 +17,16 @@ record Takes (n : ℕ) (left : List ℕ) : Type 0 where
   offers : (old new : List (List ℕ)) (es : List OutputEvent) → OffersEach (old ++ again (drop n left)) new es
       → OffersEach old new (events ++ es)
 
+-- after a byte what is left is offered again, if anything is
+offered-again : (b : ℕ) (left : List ℕ) (old new : List (List ℕ)) (es : List OutputEvent)
+    → OffersEach (old ++ again left) new es → OffersEach old new (write_byte b left ∷ es)
+offered-again b [] old new es h = inl (rw append-nil at h)
+offered-again b (c ∷ left) old new es h = inr (omega arith, h)
+
 takes : (n : ℕ) (left : List ℕ) → n < length left → Takes (suc n) left
 takes n [] within = absurd (omega arith)
-takes zero (b ∷ []) within = record {
-  events = write_byte b [] ∷ [];
-  cut = refl;
-  bytes = refl;
-  offers = λ old new es h. inl (rw append-nil at h);
-}
-takes zero (b ∷ c ∷ left) within = record {
-  events = write_byte b (c ∷ left) ∷ [];
-  cut = refl;
-  bytes = refl;
-  offers = λ old new es h. inr (omega arith, h);
-}
+takes zero (b ∷ left) within =
+    record { events = write_byte b left ∷ []; cut = refl; bytes = refl; offers = offered-again b left }
 takes (suc n) (b ∷ left) within = let more = takes n left (omega arith) in record {
   events = write_byte b left ∷ more.events;
   cut = ap (λ es. write_byte b left ∷ es) more.cut;
@@ -58,7 +54,7 @@ HasGiven-none a [] fits = record {
 }
 HasGiven-none a (b ∷ bs) fits = record {
   events = offer_piece (b ∷ bs) ∷ [];
-  cut = output_events-one (b ∷ bs) (omega arith) fits;
+  cut = rw (one_piece (b ∷ bs) (omega arith) fits) (append-nil (offer_piece (b ∷ bs) ∷ byte_events (b ∷ bs)));
   offers = λ new es h. h;
   written = sym (append-nil a.written);
   failures = refl;

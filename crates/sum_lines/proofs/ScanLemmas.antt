@@ -134,15 +134,6 @@ by_tag algos line a h =
           no_prefix a is.digits _ _ digits.are digits.two (sym same ∙ found.1)),
     )
 
--- a line without a tag isn't tagged
-pub no_tag : (algos : Algos) (line : List ℕ) → tag_in algos (text line).1 ≡ None → None ≡ tagged_parts algos line
-unfolding tagged_parts
-no_tag algos line h = rw h refl
-
--- a text in which the tag is found begins with it
-pub tag-begins : {a : Algo} (s : List ℕ) → tag_in (One a) s ≡ Some a → BeginsWithTag s a
-tag-begins {a} s h = let found = tag_in-some (One a) s h in (drop (length (tag a)) s, found.1)
-
 -- ---- the blank after the digits
 
 -- an algorithm other than BLAKE2b has digests of one length, so a line's digits are as many

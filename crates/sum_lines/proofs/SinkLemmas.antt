@@ -54,12 +54,6 @@ FailsToWrite-in xs ys more first failed is = let cut = failed.cut in record {
   buffered = failed.buffered;
 }
 
--- a text's first part failed
-pub writes_stop : {E : Type 0} {a b : BufferState} (xs more : List ℕ) (r : Result (Unit {0}) E) → FailsToWrite a b xs
-    → IsErr r → WritesAll a b (xs ++ more) r
-writes_stop xs more (Ok u) failed err = cc
-writes_stop xs more (Err e) failed err = FailsToWrite-in [] xs more Accepts-nil failed refl
-
 -- a text's first part was accepted, and then the rest was written, or that failed
 pub writes_then : {E : Type 0} {a b : BufferState} (c : BufferState) (xs ys : List ℕ) (r : Result (Unit {0}) E)
     → Accepts a b xs → WritesAll b c ys r → WritesAll a c (xs ++ ys) r
@@ -138,10 +132,17 @@ HasLeft-step piece left cut written = record {
 }
 
 -- a piece of the rest failed: so did the whole text
-pub HasLeft-stop : {a b c : BufferState} {text rest piece : List ℕ} (more : List ℕ) → HasLeft a b text rest
-    → rest ≡ piece ++ more → FailsToWrite b c piece → FailsToWrite a c text
-HasLeft-stop {piece = piece} more left cut failed =
+pub HasLeft-stop : {E : Type 0} {a b c : BufferState} {text rest piece : List ℕ} (more : List ℕ)
+    (r : Result (Unit {0}) E) → HasLeft a b text rest → rest ≡ piece ++ more → FailsToWrite b c piece → IsErr r
+    → WritesAll a c text r
+HasLeft-stop more (Ok u) left cut failed err = cc
+HasLeft-stop {piece = piece} more (Err e) left cut failed err =
     FailsToWrite-in left.prefix piece more left.wrote failed (left.cut ∙ ap (λ l. left.prefix ++ l) cut)
+
+-- a text's first part failed
+pub writes_stop : {E : Type 0} {a b : BufferState} (xs more : List ℕ) (r : Result (Unit {0}) E) → FailsToWrite a b xs
+    → IsErr r → WritesAll a b (xs ++ more) r
+writes_stop xs more r failed err = HasLeft-stop more r HasLeft-all refl failed err
 
 -- the last piece is all of the rest: its result is that of the whole text
 pub HasLeft-last : {E : Type 0} {a b : BufferState} {text rest : List ℕ} (c : BufferState) (r : Result (Unit {0}) E)

@@ -39,13 +39,9 @@ tag_in-some Any s h =
 
 -- ---- the whole line
 
--- the parts are those of a tagged line
-abbrev pub HasTaggedParts : Algos → List ℕ → LinePartsValue → Type 0
-HasTaggedParts algos line p = IsTagged algos line p.escaped p.kind p.digest p.text
-
 -- a line that is read as tagged is tagged
 pub read_is_tagged : {algos : Algos} {line : List ℕ} {p : LinePartsValue} → tagged_parts algos line ≡ Some p
-    → HasTaggedParts algos line p
+    → IsTagged algos line p.escaped p.kind p.digest p.text
 unfolding tagged_parts
 read_is_tagged {algos} {line} {p} h =
     let t : Bool × List ℕ = text line in
@@ -152,8 +148,8 @@ module _ {algos : Algos} {line : List ℕ} {e : Bool} {kind : KindValue} {d raw 
   tagged-prefix = grind (arith, mark_and_rest-prefix)
 
 -- it is read as its parts
-pub tagged_is_read : {algos : Algos} {line : List ℕ} (p : LinePartsValue) → HasTaggedParts algos line p
-    → tagged_parts algos line ≡ Some p
+pub tagged_is_read : {algos : Algos} {line : List ℕ} (p : LinePartsValue)
+    → IsTagged algos line p.escaped p.kind p.digest p.text → tagged_parts algos line ≡ Some p
 unfolding tagged_parts
 tagged_is_read {algos} p t =
     let digits = (decode_of-ok t.digits p.digest t.spelled).1 in

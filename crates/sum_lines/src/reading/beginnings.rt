@@ -25,7 +25,7 @@ pub(crate) enum Beginning {
 /// What a line of these algorithms begins with. `None` only if the line is neither tagged nor plain. It is a call of
 /// its own, so that an ignored line needs no room for it.
 #[inline(never)]
-#[tactic(auto, using(crate::proofs::ScanLemmas::no_tag), unfolding(crate::specs::grammar::LineParts::plain_parts))]
+#[tactic(auto, unfolding(crate::specs::grammar::LineParts::plain_parts, crate::specs::grammar::LineParts::tagged_parts))]
 pub(crate) fn find_beginning(algos: Algos, line: &[u8], front: Front) -> Option<Beginning>
     requires { IsFront line.now front }
     ensures not_tagged { IfNone result (None ≡ tagged_parts algos line.now) }

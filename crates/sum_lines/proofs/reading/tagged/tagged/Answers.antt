@@ -1,12 +1,14 @@
 use Rattle.std.proofs.Common.{sym, arith, length, ◌∙◌}
 use Rattle.std.proofs.lemmas.Bool.{eqb-false}
 use Rattle.sum_lines.proofs.ScanLemmas.{two_digits, digest_none, digest_other, front-ends, name_place, tagged-none, tagged-read}
-use Rattle.sum_lines.proofs.ScanLemmas.{tag-begins}
+use Rattle.sum_lines.specs.grammar.Shapes.{One}
+use Rattle.sum_lines.proofs.PrefixLemmas.{text}
+use Rattle.sum_lines.proofs.TaggedLemmas.{tag_in-some}
 use Rattle.sum_lines.proofs.reading.tagged.tagged.Goals as goal
 
 -- the text begins with the tag
 pub of_tag_prefix-requires : goal.of_tag_prefix-requires
-of_tag_prefix-requires c = rw c.text_after-text.ensures (tag-begins _ c.requires.tag)
+of_tag_prefix-requires c = rw c.text_after-text.ensures (_, (tag_in-some (One c.args.algo) (text c.args.line.now).1 c.requires.tag).1)
 
 -- another number of digits than the kind's digests have
 pub returns-then-digits-len-clause-parts : goal.returns-then-digits-len-clause-parts
