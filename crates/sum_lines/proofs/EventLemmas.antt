@@ -1,6 +1,7 @@
 -- The pieces of a text, the events of these, and what happened of them.
 use Rattle.std.proofs.lemmas.Grind.{common_steps}
 use Rattle.std.proofs.Common.{ℕ, zero, suc, ◌≡◌, ◌<◌, ◌≤◌, ◌+◌, ◌*◌, ◌/◌, ◌%◌, List, [], ◌∷◌, ◌++◌, length, take, drop, flat_map, filter_map, inl, inr, refl, sym, ap, ◌∙◌, append_assoc, append-nil, length-append, length-drop, take_all, arith}
+use Rattle.std.proofs.lemmas.List.{take-append-le, drop-append-le}
 use Rattle.std.proofs.lemmas.List.Concat.{flat_map-append}
 use Rattle.std.proofs.lemmas.List.Elements.{filter_map-append}
 use Rattle.std.specs.List.{concat}
@@ -17,9 +18,8 @@ first_chunks-append n zero j (x ∷ xs) ys size = absurd (omega arith)
 first_chunks-append n (suc k) j xs ys size =
     let one : suc k * n ≡ k * n + n = grind arith in
     let next : suc k + j ≡ suc (k + j) = omega arith in
-    let front : take n (xs ++ ys) ≡ take n xs = grind (arith, common_steps) in
-    let back : drop n (xs ++ ys) ≡ drop n xs ++ ys = grind (arith, common_steps) in
-    rw (next, front, back, first_chunks-append n k j (drop n xs) ys (omega (arith, length-drop n xs))) refl
+    let le : n ≤ length xs = omega arith in
+    rw (next, take-append-le n xs ys le, drop-append-le n xs ys le, first_chunks-append n k j (drop n xs) ys (omega (arith, length-drop n xs))) refl
 
 pieces-append : (xs ys : List ℕ) → length xs % 8192 ≡ 0 → pieces (xs ++ ys) ≡ pieces xs ++ pieces ys
 pieces-append xs ys full =
@@ -44,15 +44,12 @@ concat-chunks n (suc k) xs fits =
 
 -- ---- the events of pieces
 
--- the events of one piece
-abbrev piece_events : List ℕ → List OutputEvent
-piece_events piece = offer_piece piece ∷ byte_events piece
-
 bytes-written : (xs : List ℕ) → filter_map written_byte (byte_events xs) ≡ xs
 bytes-written [] = refl
 bytes-written (x ∷ xs) = ap (λ l. x ∷ l) (bytes-written xs)
 
-bytes-in : (ps : List (List ℕ)) → filter_map written_byte (flat_map piece_events ps) ≡ concat ps
+bytes-in : (ps : List (List ℕ))
+    → filter_map written_byte (flat_map (λ piece. offer_piece piece ∷ byte_events piece) ps) ≡ concat ps
 bytes-in [] = refl
 bytes-in (p ∷ ps) = grind (arith, filter_map-append, bytes-written, bytes-in ps)
 
@@ -65,7 +62,7 @@ output_events-bytes text =
 pub output_events-append : (xs ys : List ℕ) → length xs % 8192 ≡ 0
     → output_events (xs ++ ys) ≡ output_events xs ++ output_events ys
 output_events-append xs ys full =
-    rw (pieces-append xs ys full) (flat_map-append piece_events (pieces xs) (pieces ys))
+    rw (pieces-append xs ys full) (flat_map-append (λ piece. offer_piece piece ∷ byte_events piece) (pieces xs) (pieces ys))
 
 -- ---- what happened
 

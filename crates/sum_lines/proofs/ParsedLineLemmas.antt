@@ -14,14 +14,9 @@ use Rattle.digest_kinds.proofs.PrefixLemmas.{bind_some, none_of}
 use Rattle.sum_lines.proofs.PlainLemmas.{apart, plain_is_read, read_is_plain}
 use Rattle.sum_lines.proofs.TaggedLemmas.{tagged_is_read, read_is_tagged}
 use Rattle.sum_lines.proofs.EntryLemmas.{entry-not_ignored}
-use Rattle.sum_lines.proofs.UnescapeLemmas.{spelled-is, is-spelled}
+use Rattle.sum_lines.proofs.EscapeLemmas.{spelled-is, is-spelled}
 
 -- ---- the raw name
-
--- the raw name of a tail is found
-raw-is : (f : Form) (t : LinePartsValue) (raw : List ℕ) → IsRawName f t.text raw
-    → with_raw f t ≡ Some (record t { text = raw })
-raw-is f t raw h = grind arith
 
 -- what is found in place of a tail is its raw name
 is-raw : (f : Form) (t q : LinePartsValue) → with_raw f t ≡ Some q
@@ -30,11 +25,6 @@ is-raw f t q h = grind arith
 
 module _ (p : Profile) (algos : Algos) (f : Form) (line : List ℕ) where
   -- ---- the entry that a line has is computed
-
-  -- a plain line isn't found to be tagged
-  not-tagged : {e : Bool} {kind : KindValue} {d tail : List ℕ} → IsPlain algos line e kind d tail
-      → None ≡ tagged_parts algos line
-  not-tagged plain = none_of (tagged_parts algos line) (λ q h. apart plain (read_is_tagged h))
 
   -- an entry by its tag or by its tail
   pub entry_value : (s : EntryValue) → IsEntry (escape_by p) algos f line s → entry_of p algos f line ≡ Some s
@@ -45,7 +35,9 @@ module _ (p : Profile) (algos : Algos) (f : Form) (line : List ℕ) where
       elim e.shape [
         | inl t ↦ rw (tagged_is_read q t) named
         | inr t ↦ let plain : LinePartsValue = record q { text = t.0 } in
-            rw (← not-tagged t.1, plain_is_read plain t.1, raw-is f plain e.raw t.2) named
+            let raw = t.2 in
+            rw (← none_of (tagged_parts algos line) (λ q h. apart t.1 (read_is_tagged h)), plain_is_read plain t.1)
+            (grind arith)
       ]
 
   -- ---- the entry that is computed is the line's

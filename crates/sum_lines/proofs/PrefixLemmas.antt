@@ -36,10 +36,6 @@ strip_prefix-some xs ys zs h = grind (arith, starts_is)
 pub starts-append : (xs ys : List ℕ) → starts_with ◌==◌ (xs ++ ys) xs ≡ true
 starts-append xs ys = (starts_is Decides-eqb (xs ++ ys) xs (starts_with ◌==◌ (xs ++ ys) xs) refl).1 ys refl
 
--- and is passed over
-pub strip_prefix-append : (xs ys : List ℕ) → strip_prefix xs (xs ++ ys) ≡ Some ys
-strip_prefix-append xs ys = rw (starts-append xs ys, drop_at xs ys (length xs) refl) refl
-
 -- the parenthesis, with a space before it or without, and what follows it
 abbrev pub opening : Bool → List ℕ → List ℕ
 opening gap inner = cond gap (32 ∷ 40 ∷ []) (40 ∷ []) ++ inner
@@ -70,16 +66,13 @@ last_byte c s (suc n) = step (get_or s n 0 == c) refl (rfind_below c s n) (last_
       h.1,
     )
 
--- so what is the last one is found
-rfind-is : (c : ℕ) (s : List ℕ) (r : Option ℕ) → IsLastByte (is_byte c) s r → rfind_below c s (length s) ≡ r
-rfind-is c s r last = IsLastByte-value (is_byte c) s (rfind_below c s (length s)) (last_byte c s (length s))
-    ∙ sym (IsLastByte-value (is_byte c) s r last)
-
--- and what is split there is what precedes it, and what follows it
+-- so what is split at the last such byte is what precedes it, and what follows it
 pub last_split : (c : ℕ) (s : List ℕ) (r : Option ℕ) → IsLastByte (is_byte c) s r
     → rsplit_once c s ≡ option_map (λ k. (take k s, drop (k + 1) s)) r
 unfolding rsplit_once
-last_split c s r last = rw (rfind-is c s r last) refl
+last_split c s r last =
+    let found = IsLastByte-value (is_byte c) s (rfind_below c s (length s)) (last_byte c s (length s)) in
+    rw (found, ← IsLastByte-value (is_byte c) s r last) refl
 
 -- the parts join again, with that byte between
 pub rsplit-some : (c : ℕ) (s : List ℕ) (p : List ℕ × List ℕ) → rsplit_once c s ≡ Some p → s ≡ p.0 ++ (c ∷ p.1)

@@ -68,16 +68,7 @@ form-after : (algos : Algos) (before later : List (List ℕ)) (line : List ℕ) 
     → IsReadable (form algos before) → form algos (before ++ (line ∷ later)) ≡ Standard
 form-after algos before later line own readable = grind (arith, form_at)
 
--- a line that decides nothing leaves the form as it is
-form-kept : (algos : Algos) (before : List (List ℕ)) (line : List ℕ) → line_form algos line ≡ Undecided
-    → IsReadable (form algos before) → IsReadable (form algos (before ++ (line ∷ [])))
-form-kept algos before line own readable = grind (arith, form_at)
-
 -- ---- the law
-
--- whether a byte makes a list Standard, if a plain line's name follows it
-abbrev is_space_or_star : ℕ → Bool
-is_space_or_star x = x == 32 || x == 42
 
 module _ {kind : KindValue} {name digest : List ℕ} (before later : List (List ℕ)) (w : IsWritable kind name digest)
   where
@@ -107,7 +98,7 @@ module _ {kind : KindValue} {name digest : List ℕ} (before later : List (List 
         inline-all is_hex_digit (encode_lower digest) refl refl digits.are
 
     -- a plain line is read back: x is the byte before the name
-    plain-back : (x : ℕ) → is_space_or_star x ≡ true → IsReadable (form (One kind.algo) before)
+    plain-back : (x : ℕ) → (x == 32 || x == 42) ≡ true → IsReadable (form (One kind.algo) before)
         → SpellsBack (One kind.algo) before later
         ((mark (escape_differs present name) ++ (encode_lower digest ++ (32 ∷ x ∷ escape name))) ++ (10 ∷ []))
         kind name digest
@@ -176,7 +167,7 @@ module _ {kind : KindValue} {name digest : List ℕ} (before later : List (List 
           shape = inl shape;
           no_nul = w.no_nul;
           spells = name-spelled;
-        }) (form-kept algos before line own readable)
+        }) (grind (arith, form_at))
 
 -- each of the three layouts is read back
 pub read_back : IsReadBack

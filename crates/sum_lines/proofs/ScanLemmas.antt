@@ -5,7 +5,7 @@ use Rattle.std.specs.Option.{option_or}
 use Rattle.std.specs.Path.{rsplit_once}
 use Rattle.std.proofs.lemmas.Grind.{common_steps}
 use Rattle.std.specs.List.{position_or_len}
-use Rattle.std.proofs.lemmas.List.{get_or-take, length-take}
+use Rattle.std.proofs.lemmas.List.{drop_at, get_or-take, length-take}
 use Rattle.std.proofs.lemmas.List.Sums.{passes_at_first, position_or_len_is}
 use Rattle.std.proofs.lemmas.List.Elements.{All-get_or}
 use Rattle.memchr.specs.Find.{Nowhere, Passes, IsLastByte, is_byte, IsFirstByte, is_byte2}
@@ -18,7 +18,7 @@ use Rattle.sum_lines.specs.grammar.LineParts.{strip_prefix, tag_in, tagged_parts
 use Rattle.digest_kinds.specs.KindTexts.{kind_and_rest}
 use Rattle.sum_lines.specs.refinement.Beginnings.{IsFront, BeginsWithDigits, EndsAt, EndsDigits, IsReadAs}
 use Rattle.sum_lines.specs.declared.reading.line_parts.Front.{Front}
-use Rattle.sum_lines.proofs.PrefixLemmas.{text, opening, strip_prefix-some, strip_prefix-append, opened-some, rsplit-some, starts-append}
+use Rattle.sum_lines.proofs.PrefixLemmas.{text, opening, strip_prefix-some, starts-append, opened-some, rsplit-some, starts-append}
 use Rattle.digest_kinds.proofs.PrefixLemmas.{none_of}
 use Rattle.digest_kinds.proofs.KindTextLemmas.{kind_and_rest-some}
 use Rattle.sum_lines.proofs.PlainLemmas.{uncut, cut-within, no_prefix, plain-digits, plain-prefix, read_is_plain}
@@ -33,7 +33,7 @@ use Rattle.sum_lines.specs.declared.reading.beginnings.Beginning.TheVariants as 
 pub after_is : (xs ys : List ℕ) (r : Option (Bor (List ℕ)))
     → MatchOption r ((rest : List ℕ) → ys ≢ xs ++ rest) (λ x. ys ≡ xs ++ x.now) → option_copied r ≡ strip_prefix xs ys
 after_is xs ys None other = none_of (strip_prefix xs ys) (λ zs h. other zs (strip_prefix-some xs ys zs h))
-after_is xs ys (Some x) is = rw is (sym (strip_prefix-append xs x.now))
+after_is xs ys (Some x) is = grind (arith, starts-append, drop_at)
 
 -- ---- digits that spell no digest of that length
 
@@ -44,14 +44,6 @@ two_digits s d h = (decode_of-ok s d h).2
 -- so such text is what a digest may be read of
 pub decoded-digits : (s d : List ℕ) → decode_of s ≡ Ok d → 1 ≤ length d → length d ≤ 64 → IsDigits s
 decoded-digits s d h some few = grind (arith, decode_of-ok)
-
--- other digits spell no digest of that length
-pub digest_other : (s d : List ℕ) (n : ℕ) → (length s ≡ 2 * n → ⊥) → decode_of s ≡ Ok d → length d ≢ n
-digest_other s d n other spelled = grind (arith, two_digits)
-
--- nor do such as the code reads none of
-pub digest_none : (s d : List ℕ) (n : ℕ) → 1 ≤ n → n ≤ 64 → (IsDigits s → ⊥) → decode_of s ≡ Ok d → length d ≢ n
-digest_none s d n some few none spelled = grind (arith, decoded-digits)
 
 -- ---- the places of the parts in the line
 
@@ -144,12 +136,10 @@ fixed_len a s n other is = grind (arith, has_len-full, cut-size)
 pub search_none : (a : Algo) (s : List ℕ) {n : ℕ} (r : Option ℕ) → n ≡ min (length s) 129
     → IsFirstByte (is_byte2 32 9) (take n s) r → IfNone r ((d : List ℕ) → ¬ BeginsWithDigits a s d)
 search_none a s {n} None is none = λ d cut.
-    let at : ℕ = position_or_len is_blank s in
-    let within = cut-within cut in
     let size = cut-size cut in
-    let less : at < n = omega (arith, is, within, size.0, size.1) in
-    none at (omega arith) (omega (arith, length-take n s, less, is))
-    (rw (get_or-take n s at 0 less) (passes_at_first is_blank s 0 within))
+    let within = cut-within cut in
+    none (position_or_len is_blank s) (omega arith) (omega (arith, length-take n s))
+    (rw (get_or-take n s (position_or_len is_blank s) 0 (omega arith)) (passes_at_first is_blank s 0 within))
 search_none a s (Some i) is first = tt
 
 -- the one that is found is the first
