@@ -42,16 +42,16 @@ Accepts-trans xs ys first second =
 -- a text was accepted, and then a write of the next one failed: so did that of a text that begins with both
 FailsToWrite-in : {a b c : BufferState} {text : List ℕ} (xs ys more : List ℕ) → Accepts a b xs → FailsToWrite b c ys
     → text ≡ xs ++ (ys ++ more) → FailsToWrite a c text
-FailsToWrite-in xs ys more first failed is = let cut = failed.cut in record {
-  full = failed.full;
-  front = xs ++ failed.front;
+FailsToWrite-in xs ys more first failed is = let own = first.cut in let then = failed.cut in record {
+  nonempty = omega (arith, failed.nonempty, ap length is, length-append xs (ys ++ more), length-append ys more);
+  given = first.given ++ failed.given;
+  full = omega (arith, first.full, failed.full, length-append first.given failed.given);
   rest = failed.rest ++ more;
   cut = grind (arith, append_assoc);
-  some = omega (arith, failed.some, length-append failed.rest more);
-  accepted = Accepts-trans xs failed.front first failed.accepted;
-  size = failed.size;
-  fails = failed.fails;
+  proper = omega (arith, failed.proper, length-append failed.rest more);
+  gets = rw (output_events-append first.given failed.given first.full) (GetsPrefix-then first.gets failed.gets);
   buffered = failed.buffered;
+  failures = failed.failures ∙ ap (λ n. n + 1) first.failures;
 }
 
 -- a text's first part was accepted, and then the rest was written, or that failed
@@ -98,15 +98,15 @@ accepts_some {a} {b} c piece n (inr (room, same, ok)) some count sink buffered =
 pub accept_failed : {a b : BufferState} (piece : List ℕ) → MakesRoom {E = Unit {0}} a b (Err tt) → 0 < length piece
     → FailsToWrite a b piece
 accept_failed {a} piece (inl (full, none, gives)) some = record {
-  full = a;
-  front = [];
+  nonempty = some;
+  given = a.buffered;
+  full = rw full refl;
   rest = piece;
   cut = refl;
-  some = some;
-  accepted = Accepts-nil;
-  size = full;
-  fails = gives;
+  proper = some;
+  gets = gives.0;
   buffered = none;
+  failures = gives.1;
 }
 accept_failed piece (inr (room, same, ok)) some = cc
 
@@ -162,9 +162,5 @@ given_after {b = b} c text (Err e) h given = rw (h.cut, output_events-append h.g
 -- a write of a text failed, so not all was given
 pub not_given : {a b : BufferState} {text : List ℕ} → FailsToWrite a b text
     → GivesAll {E = Unit {0}} a.sink b.sink (a.buffered ++ text) (Err tt)
-not_given {a} {b} h =
-    let given = given_after {E = Unit {0}} b.sink h.front (Err tt) h.accepted h.fails in
-    let full : length (a.buffered ++ h.front) % 8192 ≡ 0 =
-    rw h.accepted.cut (omega (arith, h.accepted.full, h.size, length-append h.accepted.given h.full.buffered)) in
-    rw (h.cut, ← append_assoc a.buffered h.front h.rest, output_events-append (a.buffered ++ h.front) h.rest full)
-    (GetsPrefix-more (output_events h.rest) given.0, given.1)
+not_given h = rw (h.cut, output_events-append h.given h.rest h.full)
+    (GetsPrefix-more (output_events h.rest) h.gets, h.failures)

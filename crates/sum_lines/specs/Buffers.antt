@@ -1,6 +1,6 @@
 -- A buffer over a sink, and what a call that writes a text to it does.
-use Rattle.std.specs.Prelude.{◌≡◌, ◌<◌, ◌≤◌, ◌%◌, [], ◌++◌, length, ⊤, Result, Ok, Err}
-use Rattle.sum_lines.specs.Sinks.{ByteString, SinkState, output_events, Gets, GivesAll}
+use Rattle.std.specs.Prelude.{◌≡◌, ◌<◌, ◌≤◌, ◌+◌, ◌%◌, [], ◌++◌, length, ⊤, Result, Ok, Err}
+use Rattle.sum_lines.specs.Sinks.{ByteString, SinkState, output_events, Gets, GetsPrefix}
 
 -- a buffer's state: that of the sink below it, and the bytes that are buffered
 pub record BufferState : Type 0 where
@@ -18,18 +18,18 @@ pub record Accepts (a b : BufferState) (text : ByteString) : Type 0 where
   pub gets : Gets a.sink b.sink (output_events given)
   pub failures : b.sink.failures ≡ a.sink.failures
 
--- a write failed: some of the text was accepted until the buffer was full, but not all of it; giving that to the sink
--- failed, and what was buffered is lost
+-- a write failed: of the buffered bytes and the text, which isn't empty, all but some last bytes were to be given to
+-- the sink in full pieces, a prefix of their events happened, and the other bytes are lost
 pub record FailsToWrite (a b : BufferState) (text : ByteString) : Type 0 where
-  pub full : BufferState
-  pub front : ByteString
+  pub nonempty : 0 < length text
+  pub given : ByteString
+  pub full : length given % 8192 ≡ 0
   pub rest : ByteString
-  pub cut : text ≡ front ++ rest
-  pub some : 0 < length rest
-  pub accepted : Accepts a full front
-  pub size : length full.buffered ≡ 8192
-  pub fails : GivesAll {E = ⊤} full.sink b.sink full.buffered (Err tt)
+  pub cut : a.buffered ++ text ≡ given ++ rest
+  pub proper : 0 < length rest
+  pub gets : GetsPrefix a.sink b.sink (output_events given)
   pub buffered : b.buffered ≡ []
+  pub failures : b.sink.failures ≡ a.sink.failures + 1
 
 -- a call that accepts all of the text, or fails; with an empty text it doesn't fail
 abbrev pub WritesAll : {E : Type 0} → BufferState → BufferState → ByteString → Result ⊤ E → Type 0

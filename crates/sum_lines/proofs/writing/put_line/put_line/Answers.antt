@@ -2,6 +2,10 @@ use Rattle.std.proofs.Common.{arith, append_assoc}
 use Rattle.sum_lines.proofs.SinkLemmas.{writes_then, writes_stop}
 use Rattle.sum_lines.proofs.writing.put_line.put_line.Goals as goal
 
+-- its mark failed
+pub returns-in_err-put_all : goal.returns-in_err-put_all
+returns-in_err-put_all g c = rw (c.if-style.false, append_assoc) (grind (arith, writes_stop))
+
 -- its mark was written, and its layout failed
 pub returns-in_err-put_layout-2 : goal.returns-in_err-put_layout-2
 returns-in_err-put_layout-2 g c =
