@@ -15,7 +15,7 @@ pub flushed_none : {E : Type 0} {a : BufferState} (b : SinkState) (r : Result (U
     → GivesAll a.sink b a.buffered r → a.buffered ≡ [] → Gets a.sink b []
 flushed_none b (Ok u) given none = let all = rw none at given in all.0
 flushed_none b (Err e) given none =
-    let (prefix, (rest, is), gets) = rw none at given.0 in
+    let (prefix, rest, is, gets) = rw none at given.0 in
     rw (no_prefix prefix rest is) at gets
 
 -- a line was written and flushed, or that failed

@@ -31,7 +31,7 @@ Performs-flushed run a b outputs x (Ok y) ran flushes kept = λ flushed w agrees
     (flushes.0 ∙ p.0, Happened-kept (trace (run (world_at w a.inputs)).steps) outputs p.1 kept)
 Performs-flushed run a b outputs x (Err stop) ran flushes kept = rw flushes.0 (λ flushed w agrees.
     let all = trace (run (world_at w a.inputs)).steps in
-    (all, ([], sym (append-nil all)), Happened-kept all outputs (ran flushed w agrees).1 kept))
+    (all, [], sym (append-nil all), Happened-kept all outputs (ran flushed w agrees).1 kept))
 
 -- a run and its end, by the run's answer and what the flushes returned; b is how things stood between
 pub CallPerforms-finished : (status : ℕ) (tool : Option Tool) (run : World → Behavior) (a b : StreamsState)

@@ -24,7 +24,7 @@ pub behavior_then-second : {A B : Type 0} {a b : StreamsState} (c : StreamsState
     (stop : Stop)
     → Happened a b (trace r) → PerformsSteps s y b c (Err stop) → PerformsSteps (r ++ s) x a c (Err stop)
 behavior_then-second c x y r s Write h k =
-    (trace r ++ k.0, (k.1.0, search (rules, flat_map-append, append_assoc)), Happened-then (trace r) k.0 h k.2)
+    (trace r ++ k.0, k.1, search (rules, flat_map-append, append_assoc), Happened-then (trace r) k.0 h k.3)
 behavior_then-second c x y r s Memory h k = record {
   done = r ++ k.done;
   next = k.next;
@@ -38,7 +38,7 @@ behavior_then-second c x y r s Memory h k = record {
 -- the first stopped
 pub behavior_then-first : {A B : Type 0} (a b : StreamsState) (x : A) (y : B) (r s : List Step) (stop : Stop)
     → PerformsSteps r y a b (Err stop) → PerformsSteps (r ++ s) x a b (Err stop)
-behavior_then-first a b x y r s Write h = (h.0, (h.1.0 ++ trace s, search (rules, flat_map-append, append_assoc)), h.2)
+behavior_then-first a b x y r s Write h = (h.0, h.1 ++ trace s, search (rules, flat_map-append, append_assoc), h.3)
 behavior_then-first a b x y r s Memory h = search (rules, append_assoc)
 
 -- a behavior after its first step, which happened

@@ -73,17 +73,17 @@ pub prefix_err : {a b : StreamsState} (names : List (List ℕ)) (err out : List 
     → GetsPrefix a.outputs.err.sink b.outputs.err.sink err → b.outputs.out.sink ≡ a.outputs.out.sink
     → PrefixHappened a b (events_by names err out)
 prefix_err {a} names err out asked h same =
-    let rest : List Event = map to_err h.1.0 ++ map to_out out in
-    let did = Happened-by names h.0 [] asked h.2 (rw same Gets-none) in
-    (events_by names h.0 [], (rest, search (rules, map-append, append_assoc)), did)
+    let rest : List Event = map to_err h.1 ++ map to_out out in
+    let did = Happened-by names h.0 [] asked h.3 (rw same Gets-none) in
+    (events_by names h.0 [], rest, search (rules, map-append, append_assoc), did)
 
 -- it got all of them, and standard output a prefix of its own
 pub prefix_out : {a b : StreamsState} (names : List (List ℕ)) (err out : List OutputEvent) → AsksNames a.inputs b.inputs names
     → Gets a.outputs.err.sink b.outputs.err.sink err → GetsPrefix a.outputs.out.sink b.outputs.out.sink out
     → PrefixHappened a b (events_by names err out)
 prefix_out names err out asked all h =
-    let rest : List Event = map to_out h.1.0 in
-    (events_by names err h.0, (rest, search (rules, map-append, append_assoc)), Happened-by names err h.0 asked all h.2)
+    let rest : List Event = map to_out h.1 in
+    (events_by names err h.0, rest, search (rules, map-append, append_assoc), Happened-by names err h.0 asked all h.3)
 
 -- what it wrote happened, or a prefix of it if it failed
 abbrev pub HappenedOrPrefix : {E : Type 0} → Result (Unit {0}) E → StreamsState → StreamsState → List Event → Type 0
@@ -133,7 +133,7 @@ kept_happened a b c es h did = search rules
 pub kept_performs : {A : Type 0} (steps : List Step) (x : A) (a b c : StreamsState) (r : Result A Stop) → IsKept b c
     → PerformsSteps steps x a b r → PerformsSteps steps x a c r
 kept_performs steps x a b c (Ok outcome) h did = (did.0, kept_happened a b c _ h did.1)
-kept_performs steps x a b c (Err Write) h did = (did.0, did.1, kept_happened a b c did.0 h did.2)
+kept_performs steps x a b c (Err Write) h did = (did.0, did.1, did.2, kept_happened a b c did.0 h did.3)
 kept_performs steps x a b c (Err Memory) h did = record {
   done = did.done;
   next = did.next;

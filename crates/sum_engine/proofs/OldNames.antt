@@ -1,19 +1,18 @@
 -- A line without a carriage return, neither as a byte nor in its name, says the same under both profiles.
-use Rattle.std.proofs.Common.{rules, ◌≡◌, ◌≢◌, ℕ, ◌<◌, Bool, true, false, List, [], ◌∷◌, ◌++◌, length, refl, sym, inl, inr, arith, subst, codes, append_assoc}
+use Rattle.std.proofs.Common.{rules, ◌≡◌, ◌≢◌, ℕ, ◌<◌, Bool, true, false, List, [], ◌∷◌, ◌++◌, length, refl, sym, inl, inr, arith, subst, codes, append_assoc, if◌then◌else◌}
 use Rattle.std.proofs.lemmas.Bool.Decides.{nat_tests}
 use Rattle.std.proofs.lemmas.List.{take_at, drop_at}
 use Rattle.std.proofs.lemmas.List.Elements.{All-nil, All-cons, All-head, All-tail, All-take, All-drop}
 use Rattle.digest_kinds.specs.Kinds.{tag}
-use Rattle.sum_lines.specs.grammar.Shapes.{Algos, mark, optional}
+use Rattle.sum_lines.specs.grammar.Shapes.{Algos, KindValue, IsPlain, IsTagged, mark}
 use Rattle.sum_lines.specs.declared.reading.read_line.Form.{Form}
 use Rattle.sum_lines.specs.declared.reading.read_line.Form.TheVariants.{Undecided, Standard, Reversed}
 use Rattle.sum_lines.specs.Escape.{present, escape, escape_of, escape_by}
-use Rattle.sum_lines.specs.grammar.Entries.{EntryValue, is_ignored, IsRawName, SpellsByTag, SpellsByTail, IsEntry}
+use Rattle.sum_lines.specs.grammar.Entries.{EntryValue, is_ignored, IsRawName, IsEntry}
 use Rattle.sum_lines.specs.grammar.ParsedLines.{ParsedLine, ignored, bad, entry, parse_line}
 use Rattle.sum_lines.proofs.ParsedLineLemmas.{parse_is_grammar, bad_exactly}
 use Rattle.sum_engine.specs.check.OldVerdicts.{older_profile, HasNoCarriageReturn, NamesNoCarriageReturn}
 use Rattle.sum_engine.proofs.CarriageReturnLemmas.{IsNoCarriageReturn}
-use Rattle.sum_lines.specs.grammar.Entries as entries
 
 -- ---- bytes without a carriage return
 
@@ -58,9 +57,9 @@ older_clean (b ∷ bs) free =
 
 -- so a name that bytes without one spell by the older escape has none
 older_name : (e : Bool) (raw name : List ℕ) → HasNoCarriageReturn raw
-    → entries.Spells (escape_by older_profile) e raw name → HasNoCarriageReturn name
-older_name true raw name free s = older_clean name (subst HasNoCarriageReturn s.is free)
-older_name false raw name free s = subst HasNoCarriageReturn s.is free
+    → raw ≡ (if e then escape_by older_profile name else name) → HasNoCarriageReturn name
+older_name true raw name free is = older_clean name (subst HasNoCarriageReturn is free)
+older_name false raw name free is = subst HasNoCarriageReturn is free
 
 -- ---- the raw name
 
@@ -71,22 +70,19 @@ raw_clean Reversed tail raw h is = subst HasNoCarriageReturn (sym is) h
 raw_clean Standard tail raw h is = All-tail IsNoCarriageReturn is.1 raw (subst HasNoCarriageReturn is.2 h)
 
 -- a tagged line without one has a raw name without one
-tag_clean : (E : List ℕ → List ℕ) (algos : Algos) (line : List ℕ) (s : EntryValue) → HasNoCarriageReturn line
-    → (t : SpellsByTag E algos line s) → HasNoCarriageReturn t.raw
-tag_clean E algos line s free t =
-    let p = t.tagged in
-    let gap = optional p.gap (codes " ") ++ codes "(" in
-    let front = p.blanks ++ (mark t.escaped ++ (tag s.kind.algo ++ (p.width ++ gap))) in
+tag_clean : {algos : Algos} {line : List ℕ} {e : Bool} {kind : KindValue} {d raw : List ℕ} → HasNoCarriageReturn line
+    → IsTagged algos line e kind d raw → HasNoCarriageReturn raw
+tag_clean {line = line} {e} {kind} {raw = raw} free p =
+    let front = p.blanks ++ (mark e ++ (tag kind.algo ++ (p.width ++ (if p.gap then codes " (" else codes "(")))) in
     let rest = codes ")" ++ (p.before ++ (codes "=" ++ (p.after ++ p.digits))) in
-    part_clean front t.raw rest line (search (rules, p.whole, append_assoc)) free
+    part_clean front raw rest line (search (rules, p.whole, append_assoc)) free
 
 -- and a plain one
-tail_clean : (E : List ℕ → List ℕ) (algos : Algos) (f : Form) (line : List ℕ) (s : EntryValue)
-    → HasNoCarriageReturn line → (t : SpellsByTail E algos f line s) → HasNoCarriageReturn t.raw
-tail_clean E algos f line s free t =
-    let p = t.plain in
-    let front = p.blanks ++ (mark t.escaped ++ (p.digits ++ p.blank ∷ [])) in
-    raw_clean f t.tail t.raw (part_clean front t.tail [] line (search (rules, p.whole, append_assoc)) free) t.is_raw
+tail_clean : {algos : Algos} {line : List ℕ} {e : Bool} {kind : KindValue} {d tail : List ℕ} → HasNoCarriageReturn line
+    → IsPlain algos line e kind d tail → HasNoCarriageReturn tail
+tail_clean {line = line} {e} {tail = tail} free p =
+    let front = p.blanks ++ (mark e ++ (p.digits ++ p.blank ∷ [])) in
+    part_clean front tail [] line (search (rules, p.whole, append_assoc)) free
 
 -- ---- the entry
 
@@ -98,8 +94,10 @@ entry_by E F algos f line s same h = search rules
 -- an older entry of a line without one has a name without one
 older_entry : (algos : Algos) (f : Form) (line : List ℕ) (s : EntryValue) → HasNoCarriageReturn line
     → IsEntry (escape_by older_profile) algos f line s → HasNoCarriageReturn s.name
-older_entry algos f line s free (inl t) = search (rules, older_name, tag_clean)
-older_entry algos f line s free (inr t) = search (rules, older_name, tail_clean)
+older_entry algos f line s free e = older_name e.escaped e.raw s.name (elim e.shape [
+  | inl t ↦ tag_clean free t
+  | inr t ↦ raw_clean f t.0 e.raw (tail_clean free t.1) t.2
+]) e.spells
 
 -- ---- what a line says
 

@@ -1,6 +1,6 @@
 -- The verdicts and the behavior that remain, after one line and the next.
 use Rattle.std.proofs.Common.{rules, ◌≡◌, ℕ, zero, suc, ◌+◌, Bool, List, [], ◌∷◌, length, refl}
-use Rattle.sum_lines.proofs.FormLemmas.{form_next, parse_stays}
+use Rattle.sum_lines.proofs.EntryLemmas.{form_next, parse_stays}
 use Rattle.sum_engine.specs.Behavior.{after, Ending, Step, Behavior, Content}
 use Rattle.sum_engine.specs.check.Rules.{Rules, LabelsValue}
 use Rattle.sum_engine.specs.check.Judge.{lines_under, LineVerdictValue, asks_of, verdicts, parse_line, past_line, past_lines, form, form_then, line_form}

@@ -6,7 +6,7 @@ use Rattle.sum_lines.specs.declared.reading.read_line.Form.TheVariants.{Undecide
 use Rattle.sum_engine.specs.Behavior.{World, after}
 use Rattle.sum_engine.specs.check.CheckerLaws.{SameFront}
 use Rattle.sum_lines.proofs.ParsedLineLemmas.{parse_is_grammar}
-use Rattle.sum_lines.proofs.FormLemmas.{form_next, parse_stays, same_parse, same_form}
+use Rattle.sum_lines.proofs.EntryLemmas.{form_next, parse_stays, same_parse, same_form}
 
 -- the verdicts of the first lines, by the form so far
 abbrev running : Rules → World → ℕ → Form → List (List ℕ) → List LineVerdictValue

@@ -6,7 +6,7 @@ pub use Rattle.sum_sources.specs.Sources.{Opening, AnswersAre}
 use Rattle.sum_sources.specs.StandardInput.{given_state}
 use Rattle.sum_sources.specs.declared.inputs.stdin.StdinPlace.{StdinPlace}
 use Rattle.sum_sources.specs.declared.inputs.stdin.StdinPlace.TheVariants.{Untaken, Taken, Returned}
-use Rattle.sum_lines.specs.Sinks.{IsPrefix, Gets}
+use Rattle.sum_lines.specs.Sinks.{Gets}
 use Rattle.sum_lines.specs.Buffers.{BufferState}
 pub use Rattle.sum_engine.specs.declared.streams.Streams.{Streams}
 pub use Rattle.sum_engine.specs.declared.stop.Stop.{Stop}
@@ -125,7 +125,7 @@ pub record Happened (a b : StreamsState) (es : List Event) : Type 0 where
 
 -- a prefix of these events happened
 abbrev pub PrefixHappened : StreamsState → StreamsState → List Event → Type 0
-PrefixHappened a b es = (prefix : List Event) × IsPrefix prefix es × Happened a b prefix
+PrefixHappened a b es = (prefix rest : List Event) × (es ≡ prefix ++ rest) × Happened a b prefix
 
 -- out of memory at a step, of which nothing happened: the source was refused it, or bytes of the manifest remained
 pub record RefusedAt (s : Step) (a b : StreamsState) : Type 0 where

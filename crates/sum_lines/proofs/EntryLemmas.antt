@@ -1,21 +1,19 @@
--- The one form of a list of lines.
+-- The one form of a list of lines, and what later lines change of it: neither how a line parses nor the form after a
+-- plain line.
 use Rattle.std.proofs.lemmas.Grind.{common_steps}
 use Rattle.std.proofs.Common.{ℕ, ◌≡◌, Bool, true, false, List, [], ◌∷◌, ◌++◌, Option, None, Some, refl, sym, ◌∙◌, ◌⊎◌, inl, inr, arith}
 use Rattle.std.specs.List.{AllPass}
 use Rattle.digest_kinds.specs.Kinds.{KindValue}
 use Rattle.sum_lines.specs.grammar.Shapes.{Algos, is_blank, mark, IsPlain, IsTagged}
-use Rattle.sum_lines.specs.grammar.Entries.{Form, Undecided, EntryValue, is_ignored, DecidesForm, IsForm, IsEntry, form_then, line_form, form}
+use Rattle.sum_lines.specs.grammar.Entries.{Form, Undecided, EntryValue, is_ignored, IsForm, IsEntry, form_then, line_form, form}
 use Rattle.sum_lines.specs.Escape.{Profile, present}
 use Rattle.sum_lines.specs.grammar.LineParts.{LinePartsValue, plain_parts}
-use Rattle.sum_lines.specs.grammar.LineLaws.{HasOneForm}
+use Rattle.sum_lines.specs.grammar.LineLaws.{HasOneForm, KeepsParse, KeepsForm}
 use Rattle.digest_kinds.proofs.PrefixLemmas.{none_of}
 use Rattle.sum_lines.proofs.TaggedLemmas.{BeginsText}
 use Rattle.sum_lines.proofs.PlainLemmas.{plain-digits, plain_is_read, read_is_plain}
-
--- what a line decides is its own form, and stays
-pub decides-form : {algos : Algos} {line : List ℕ} {f : Form} → DecidesForm algos line f
-    → (line_form algos line ≡ f) × ((g : Form) → form_then f g ≡ f)
-decides-form d = (rw (plain_is_read _ d.plain) (sym d.is), λ g. rw d.is (grind arith))
+use Rattle.digest_kinds.specs.declared.algo.Algos.{Algos}
+use Rattle.sum_lines.specs.grammar.ParsedLines.{entry_of, parse_line}
 
 -- a line of either shape isn't ignored, whichever the profile
 not_ignored : (p : Profile) (blanks : List ℕ) (e : Bool) (xs rest : List ℕ) → AllPass is_blank blanks → BeginsText xs
@@ -27,62 +25,36 @@ pub plain-not_ignored : {algos : Algos} {line : List ℕ} {e : Bool} {kind : Kin
     → IsPlain algos line e kind d tail → is_ignored p line ≡ false
 plain-not_ignored p plain = let digits = plain-digits plain in grind (arith, not_ignored)
 
--- and a tagged one
-tagged-not_ignored : {algos : Algos} {line : List ℕ} {e : Bool} {kind : KindValue} {d raw : List ℕ} (p : Profile)
-    → IsTagged algos line e kind d raw → is_ignored p line ≡ false
-tagged-not_ignored p tagged = grind (arith, not_ignored)
-
 -- so no line that spells an entry is
 pub entry-not_ignored : {escape : List ℕ → List ℕ} {algos : Algos} {f : Form} {line : List ℕ} {s : EntryValue}
     (p : Profile) → IsEntry escape algos f line s → is_ignored p line ≡ false
-entry-not_ignored p (inl t) = tagged-not_ignored p t.tagged
-entry-not_ignored p (inr t) = plain-not_ignored p t.plain
-
--- a line that is found to be plain decides its own form; any other decides nothing
-decides-or : (algos : Algos) (line : List ℕ) → DecidesForm algos line (line_form algos line)
-    ⊎ ((line_form algos line ≡ Undecided) × ((f : Form) → DecidesForm algos line f → ⊥))
-decides-or algos line = go (plain_parts algos line) refl
-  where
-    go : (o : Option LinePartsValue) → plain_parts algos line ≡ o
-        → DecidesForm algos line (line_form algos line)
-        ⊎ ((line_form algos line ≡ Undecided) × ((f : Form) → DecidesForm algos line f → ⊥))
-    go None h = inr (rw h refl, λ f d. let wrong = sym h ∙ plain_is_read _ d.plain in cc)
-    go (Some p) h = let plain = read_is_plain h in inl (record {
-      escaped = p.escaped;
-      kind = p.kind;
-      digest = p.digest;
-      tail = p.text;
-      plain = plain;
-      is = rw h refl;
-    })
+entry-not_ignored p e = elim e.shape [
+  | inl t ↦ grind (arith, not_ignored)
+  | inr t ↦ plain-not_ignored p t.1
+]
 
 -- an ignored line is not plain, and has no form
 pub ignored_undecided : (algos : Algos) (line : List ℕ) → is_ignored present line ≡ true → line_form algos line ≡ Undecided
 ignored_undecided algos line ignored = rw (← none_of (plain_parts algos line) (λ p h.
     let wrong = sym ignored ∙ plain-not_ignored present (read_is_plain h) in cc)) refl
 
--- the form of a list is its first line's, and after it that of the others
-form-cons : (algos : Algos) (line : List ℕ) (later : List (List ℕ))
-    → form algos (line ∷ later) ≡ form_then (line_form algos line) (form algos later)
-form-cons algos line later = grind arith
-
--- the computed form is one that the list has, and it has no other
+-- the computed form is one that the list has
 is-form : (algos : Algos) (lines : List (List ℕ)) → IsForm algos lines (form algos lines)
 is-form algos [] = refl
-is-form algos (line ∷ later) = rw (form-cons algos line later) elim (decides-or algos line) [
-  | inl d ↦ let own = decides-form d in rw (own.1 (form algos later)) (inl d)
-  | inr none ↦ rw none.0 (inr (none.1, is-form algos later))
-]
+is-form algos (line ∷ later) = go (plain_parts algos line) refl (is-form algos later)
+  where
+    go : (o : Option LinePartsValue) → plain_parts algos line ≡ o → IsForm algos later (form algos later)
+        → IsForm algos (line ∷ later) (form algos (line ∷ later))
+    go None h own = rw h (inr (λ e kind d tail plain. let wrong = sym h ∙ plain_is_read _ plain in cc, own))
+    go (Some p) h own = rw h (inl (p.escaped, p.kind, p.digest, p.text, read_is_plain h, refl))
 
--- a list's form is the one that is computed
+-- it has no other
 form-is : (algos : Algos) (lines : List (List ℕ)) (f : Form) → IsForm algos lines f → f ≡ form algos lines
 form-is algos [] f h = h
-form-is algos (line ∷ later) f (inl d) =
-    let own = decides-form d in rw (form-cons algos line later, own.0) (sym (own.1 (form algos later)))
-form-is algos (line ∷ later) f (inr none) = elim (decides-or algos line) [
-  | inl d ↦ absurd (none.0 (line_form algos line) d)
-  | inr mute ↦ rw (form-cons algos line later, mute.0) (form-is algos later f none.1)
-]
+form-is algos (line ∷ later) f (inl h) =
+    rw (plain_is_read (record { escaped = h.0; kind = h.1; digest = h.2; text = h.3 }) h.4) h.5
+form-is algos (line ∷ later) f (inr h) =
+    rw (← none_of (plain_parts algos line) (λ p read. h.0 _ _ _ _ (read_is_plain read))) (form-is algos later f h.1)
 
 -- a list of lines has the computed form, and no other
 pub one_form : HasOneForm
@@ -105,3 +77,20 @@ form_next algos f line later = grind arith
 pub form_at : (algos : Algos) (before later : List (List ℕ)) (line : List ℕ) → form algos (before ++ (line ∷ later))
     ≡ form_then (form_then (form algos before) (line_form algos line)) (form algos later)
 form_at algos before later line = grind (arith, form-append)
+
+-- no later line changes how a line parses
+pub parse_stays : (p : Profile) (algos : Algos) (f g : Form) (line : List ℕ)
+    → parse_line p algos (form_then (form_then f (line_form algos line)) g) line
+    ≡ parse_line p algos (form_then f (line_form algos line)) line
+unfolding entry_of
+parse_stays p algos f g line = grind arith
+
+-- so later lines may be others
+pub same_parse : KeepsParse
+same_parse = grind (arith, form_at, parse_stays)
+
+-- nor the form after a plain line
+pub same_form : KeepsForm
+same_form algos before later others line e kind d tail plain =
+    let read = plain_is_read (record { escaped = e; kind = kind; digest = d; text = tail }) plain in
+    grind (arith, form_at)

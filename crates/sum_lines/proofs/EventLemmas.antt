@@ -1,11 +1,12 @@
 -- The pieces of a text, the events of these, and what happened of them.
 use Rattle.std.proofs.lemmas.Grind.{common_steps}
-use Rattle.std.proofs.Common.{ℕ, zero, suc, ◌≡◌, ◌<◌, ◌≤◌, ◌+◌, ◌*◌, ◌/◌, ◌%◌, List, [], ◌∷◌, ◌++◌, length, take, drop, map, flat_map, filter_map, refl, sym, ap, ◌∙◌, append_assoc, append-nil, length-append, length-drop, take_all, arith}
+use Rattle.std.proofs.Common.{ℕ, zero, suc, ◌≡◌, ◌<◌, ◌≤◌, ◌+◌, ◌*◌, ◌/◌, ◌%◌, List, [], ◌∷◌, ◌++◌, length, take, drop, flat_map, filter_map, inl, inr, refl, sym, ap, ◌∙◌, append_assoc, append-nil, length-append, length-drop, take_all, arith}
+use Rattle.std.proofs.lemmas.List.{take-append-le, drop-append-le}
 use Rattle.std.proofs.lemmas.List.Concat.{flat_map-append}
 use Rattle.std.proofs.lemmas.List.Elements.{filter_map-append}
 use Rattle.std.specs.List.{concat}
 use Rattle.std.specs.Simd.{first_chunks}
-use Rattle.sum_lines.specs.Sinks.{SinkState, OutputEvent, offer_piece, write_byte, offered_piece, written_byte, pieces, piece_events, output_events, OffersPiece, OffersEach, Gets, GetsPrefix}
+use Rattle.sum_lines.specs.Sinks.{SinkState, OutputEvent, offer_piece, write_byte, written_byte, pieces, byte_events, output_events, OffersEach, Gets, GetsPrefix}
 
 -- ---- the pieces of a text
 
@@ -15,12 +16,10 @@ first_chunks-append : (n k j : ℕ) (xs ys : List ℕ) → length xs ≡ k * n
 first_chunks-append n zero j [] ys size = grind arith
 first_chunks-append n zero j (x ∷ xs) ys size = absurd (omega arith)
 first_chunks-append n (suc k) j xs ys size =
-    let next : suc k + j ≡ suc (k + j) = omega arith in
     let one : suc k * n ≡ k * n + n = grind arith in
-    let more = first_chunks-append n k j (drop n xs) ys (omega (arith, length-drop n xs)) in
-    let front : take n (xs ++ ys) ≡ take n xs = grind (arith, common_steps) in
-    let back : drop n (xs ++ ys) ≡ drop n xs ++ ys = grind (arith, common_steps) in
-    rw (next, front, back, more) refl
+    let next : suc k + j ≡ suc (k + j) = omega arith in
+    let le : n ≤ length xs = omega arith in
+    rw (next, take-append-le n xs ys le, drop-append-le n xs ys le, first_chunks-append n k j (drop n xs) ys (omega (arith, length-drop n xs))) refl
 
 pieces-append : (xs ys : List ℕ) → length xs % 8192 ≡ 0 → pieces (xs ++ ys) ≡ pieces xs ++ pieces ys
 pieces-append xs ys full =
@@ -31,13 +30,10 @@ pieces-append xs ys full =
     omega (arith, length-append xs ys) in
     rw (own, both) (first_chunks-append 8192 k ((length ys + 8191) / 8192) xs ys size)
 
-chunks-one : (n : ℕ) (xs : List ℕ) → length xs ≤ n → first_chunks n 1 xs ≡ xs ∷ []
-chunks-one n xs fits = ap (λ l. l ∷ []) (take_all n xs fits)
-
 pub one_piece : (xs : List ℕ) → 0 < length xs → length xs ≤ 8192 → pieces xs ≡ xs ∷ []
 one_piece xs some fits =
     let one : (length xs + 8191) / 8192 ≡ 1 = omega arith in
-    rw (one, chunks-one 8192 xs fits) refl
+    rw (one, take_all 8192 xs fits) refl
 
 concat-chunks : (n k : ℕ) (xs : List ℕ) → length xs ≤ k * n → concat (first_chunks n k xs) ≡ xs
 concat-chunks n zero [] fits = refl
@@ -46,75 +42,55 @@ concat-chunks n (suc k) xs fits =
     let one : suc k * n ≡ k * n + n = grind arith in
     rw (concat-chunks n k (drop n xs) (omega (arith, length-drop n xs))) (grind (arith, common_steps))
 
-concat-pieces : (xs : List ℕ) → concat (pieces xs) ≡ xs
-concat-pieces xs = concat-chunks 8192 ((length xs + 8191) / 8192) xs (omega arith)
-
 -- ---- the events of pieces
 
-offers-written : (xs : List ℕ) → filter_map offered_piece (map write_byte xs) ≡ []
-offers-written [] = refl
-offers-written (x ∷ xs) = offers-written xs
-
-pub bytes-written : (xs : List ℕ) → filter_map written_byte (map write_byte xs) ≡ xs
+bytes-written : (xs : List ℕ) → filter_map written_byte (byte_events xs) ≡ xs
 bytes-written [] = refl
 bytes-written (x ∷ xs) = ap (λ l. x ∷ l) (bytes-written xs)
 
-offers-in : (ps : List (List ℕ)) → filter_map offered_piece (flat_map piece_events ps) ≡ ps
-offers-in [] = refl
-offers-in (p ∷ ps) = grind (arith, filter_map-append, offers-written, offers-in ps)
-
-bytes-in : (ps : List (List ℕ)) → filter_map written_byte (flat_map piece_events ps) ≡ concat ps
+bytes-in : (ps : List (List ℕ))
+    → filter_map written_byte (flat_map (λ piece. offer_piece piece ∷ byte_events piece) ps) ≡ concat ps
 bytes-in [] = refl
 bytes-in (p ∷ ps) = grind (arith, filter_map-append, bytes-written, bytes-in ps)
 
 -- the bytes of a text's events are the text
 pub output_events-bytes : (text : List ℕ) → filter_map written_byte (output_events text) ≡ text
-output_events-bytes text = bytes-in (pieces text) ∙ concat-pieces text
+output_events-bytes text =
+    bytes-in (pieces text) ∙ concat-chunks 8192 ((length text + 8191) / 8192) text (omega arith)
 
 -- the events after full pieces are those of what follows
 pub output_events-append : (xs ys : List ℕ) → length xs % 8192 ≡ 0
     → output_events (xs ++ ys) ≡ output_events xs ++ output_events ys
 output_events-append xs ys full =
-    rw (pieces-append xs ys full) (flat_map-append piece_events (pieces xs) (pieces ys))
-
--- a text of one piece
-pub output_events-one : (xs : List ℕ) → 0 < length xs → length xs ≤ 8192 → output_events xs ≡ piece_events xs
-output_events-one xs some fits = rw (one_piece xs some fits) (append-nil (piece_events xs))
+    rw (pieces-append xs ys full) (flat_map-append (λ piece. offer_piece piece ∷ byte_events piece) (pieces xs) (pieces ys))
 
 -- ---- what happened
 
-OffersEach-then : (a b c : List (List ℕ)) (ps qs : List (List ℕ)) → OffersEach a b ps → OffersEach b c qs
-    → OffersEach a c (ps ++ qs)
-OffersEach-then a b c [] qs h k = rw h at k
-OffersEach-then a b c (p ∷ ps) qs h k = (h.0, h.1, OffersEach-then _ b c ps qs h.2 k)
+OffersEach-then : (a b c : List (List ℕ)) (es fs : List OutputEvent) → OffersEach a b es → OffersEach b c fs
+    → OffersEach a c (es ++ fs)
+OffersEach-then a b c [] fs h k = rw h at k
+OffersEach-then a b c (offer_piece p ∷ es) fs h k = OffersEach-then _ b c es fs h k
+OffersEach-then a b c (write_byte x left ∷ es) fs (inl h) k = inl (OffersEach-then a b c es fs h k)
+OffersEach-then a b c (write_byte x left ∷ es) fs (inr h) k = inr (h.0, OffersEach-then _ b c es fs h.1 k)
 
 -- nothing
 pub Gets-none : {a : SinkState} → Gets a a []
 Gets-none {a} = record { offered = refl; written = sym (append-nil a.written) }
 
--- a piece was offered, and its first bytes were written
-pub Gets-piece : (a b : SinkState) (piece prefix : List ℕ) (offers : List (List ℕ)) → OffersPiece piece offers
-    → b.offered ≡ a.offered ++ offers → b.written ≡ a.written ++ prefix
-    → Gets a b (offer_piece piece ∷ map write_byte prefix)
-Gets-piece a b piece prefix offers are offered written = record {
-  offered = rw (offers-written prefix) (offers, are, offered);
-  written = rw (bytes-written prefix) written;
-}
-
 -- some events, and then others
 pub Gets-then : {a b c : SinkState} {p q : List OutputEvent} → Gets a b p → Gets b c q → Gets a c (p ++ q)
 Gets-then {a} {b} {c} {p} {q} h k = record {
-  offered = rw (filter_map-append offered_piece p q) (OffersEach-then _ _ _ _ _ h.offered k.offered);
+  offered = OffersEach-then a.offered b.offered c.offered p q h.offered k.offered;
   written = let first = h.written in let then = k.written in grind (arith, append_assoc, filter_map-append);
 }
 
 -- a prefix of some events is one of what begins with them
 pub GetsPrefix-more : {a b : SinkState} {p : List OutputEvent} (q : List OutputEvent) → GetsPrefix a b p
     → GetsPrefix a b (p ++ q)
-GetsPrefix-more q h = (h.0, (h.1.0 ++ q, ap (λ l. l ++ q) h.1.1 ∙ append_assoc h.0 h.1.0 q), h.2)
+GetsPrefix-more q h = (h.0, h.1 ++ q, ap (λ l. l ++ q) h.2 ∙ append_assoc h.0 h.1 q, h.3)
 
 -- after some events, a prefix of others
 pub GetsPrefix-then : {a b c : SinkState} {p q : List OutputEvent} → Gets a b p → GetsPrefix b c q
     → GetsPrefix a c (p ++ q)
 GetsPrefix-then {p} h k =
-    (p ++ k.0, (k.1.0, ap (λ l. p ++ l) k.1.1 ∙ sym (append_assoc p k.0 k.1.0)), Gets-then h k.2)
+    (p ++ k.0, k.1, ap (λ l. p ++ l) k.2 ∙ sym (append_assoc p k.0 k.1), Gets-then h k.3)

@@ -1,10 +1,10 @@
 -- How a line parses, as it is computed, is what the line grammar says of it.
-use Rattle.std.proofs.Common.{◌≡◌, ◌↔◌, ℕ, Bool, false, List, Option, None, Some, refl, ap, sym, ◌∙◌, inl, inr, arith}
+use Rattle.std.proofs.Common.{◌≡◌, ◌↔◌, ℕ, Bool, false, List, Option, None, Some, refl, ap, sym, ◌∙◌, ◌⊎◌, inl, inr, arith}
 use Rattle.std.specs.Option.{option_or}
 use Rattle.std.proofs.lemmas.Option.{same_Some}
 use Rattle.digest_kinds.specs.Bytes.{◌>>=◌}
 use Rattle.digest_kinds.specs.Kinds.{KindValue}
-use Rattle.sum_lines.specs.grammar.Shapes.{Algos, IsPlain}
+use Rattle.sum_lines.specs.grammar.Shapes.{Algos, IsPlain, IsTagged}
 use Rattle.sum_lines.specs.grammar.Entries.{Form, EntryValue, IsEntry, IsRawName, is_ignored}
 use Rattle.sum_lines.specs.Escape.{Profile, present, escape_by}
 use Rattle.sum_lines.specs.grammar.LineParts.{LinePartsValue, tagged_parts, plain_parts}
@@ -14,14 +14,9 @@ use Rattle.digest_kinds.proofs.PrefixLemmas.{bind_some, none_of}
 use Rattle.sum_lines.proofs.PlainLemmas.{apart, plain_is_read, read_is_plain}
 use Rattle.sum_lines.proofs.TaggedLemmas.{tagged_is_read, read_is_tagged}
 use Rattle.sum_lines.proofs.EntryLemmas.{entry-not_ignored}
-use Rattle.sum_lines.proofs.UnescapeLemmas.{spelled-is, is-spelled}
+use Rattle.sum_lines.proofs.EscapeLemmas.{spelled-is, is-spelled}
 
 -- ---- the raw name
-
--- the raw name of a tail is found
-raw-is : (f : Form) (t : LinePartsValue) (raw : List ℕ) → IsRawName f t.text raw
-    → with_raw f t ≡ Some (record t { text = raw })
-raw-is f t raw h = grind arith
 
 -- what is found in place of a tail is its raw name
 is-raw : (f : Form) (t q : LinePartsValue) → with_raw f t ≡ Some q
@@ -31,52 +26,39 @@ is-raw f t q h = grind arith
 module _ (p : Profile) (algos : Algos) (f : Form) (line : List ℕ) where
   -- ---- the entry that a line has is computed
 
-  -- a plain line isn't found to be tagged
-  not-tagged : {e : Bool} {kind : KindValue} {d tail : List ℕ} → IsPlain algos line e kind d tail
-      → None ≡ tagged_parts algos line
-  not-tagged plain = none_of (tagged_parts algos line) (λ q h. apart plain (read_is_tagged h))
-
   -- an entry by its tag or by its tail
   pub entry_value : (s : EntryValue) → IsEntry (escape_by p) algos f line s → entry_of p algos f line ≡ Some s
   unfolding entry_of
-  entry_value s (inl t) =
-      let q : LinePartsValue = record { escaped = t.escaped; kind = s.kind; digest = s.digest; text = t.raw } in
-      rw (tagged_is_read q t.tagged) (spelled-is p q s.name t.spells)
-  entry_value s (inr t) =
-      let q : LinePartsValue = record { escaped = t.escaped; kind = s.kind; digest = s.digest; text = t.tail } in
-      rw (← not-tagged t.plain, plain_is_read q t.plain, raw-is f q t.raw t.is_raw)
-      (spelled-is p (record q { text = t.raw }) s.name t.spells)
+  entry_value s e =
+      let q : LinePartsValue = record { escaped = e.escaped; kind = s.kind; digest = s.digest; text = e.raw } in
+      let named = spelled-is p q s.name e.no_nul e.spells in
+      elim e.shape [
+        | inl t ↦ rw (tagged_is_read q t) named
+        | inr t ↦ let plain : LinePartsValue = record q { text = t.0 } in
+            let raw = t.2 in
+            rw (← none_of (tagged_parts algos line) (λ q h. apart t.1 (read_is_tagged h)), plain_is_read plain t.1)
+            (grind arith)
+      ]
 
   -- ---- the entry that is computed is the line's
 
-  -- what a tagged line's parts spell
-  by-tag : (s : EntryValue) (t : LinePartsValue) → tagged_parts algos line ≡ Some t → entry_of_parts p t ≡ Some s
-      → IsEntry (escape_by p) algos f line s
-  by-tag s t found h =
-      let name = is-spelled p t s h in
-      let tagged = read_is_tagged found in
-      rw (← name.2)
-      (inl (record { escaped = t.escaped; raw = t.text; tagged = tagged; spells = name.1 }))
-
-  -- what a plain line's spell, with the raw name of its tail
-  by-tail : (s : EntryValue) (t : LinePartsValue) (raw : List ℕ) → plain_parts algos line ≡ Some t
-      → IsRawName f t.text raw → entry_of_parts p (record t { text = raw }) ≡ Some s
-      → IsEntry (escape_by p) algos f line s
-  by-tail s t raw found is h =
-      let name = is-spelled p (record t { text = raw }) s h in
-      let plain = read_is_plain found in
-      rw (← name.2)
-      (inr (record { escaped = t.escaped; tail = t.text; raw = raw; plain = plain; is_raw = is; spells = name.1 }))
+  -- what parts with a raw name spell
+  by-shape : (s : EntryValue) (t : LinePartsValue) → IsTagged algos line t.escaped t.kind t.digest t.text
+      ⊎ ((tail : List ℕ) × IsPlain algos line t.escaped t.kind t.digest tail × IsRawName f tail t.text)
+      → entry_of_parts p t ≡ Some s → IsEntry (escape_by p) algos f line s
+  by-shape s t shape h = let name = is-spelled p t s h in rw (← name.3)
+      (record { escaped = t.escaped; raw = t.text; shape = shape; no_nul = name.1; spells = name.2 })
 
   -- either of them, as a line is found to be tagged or only plain
   by-parts : (s : EntryValue) (t q : Option LinePartsValue) → tagged_parts algos line ≡ t → plain_parts algos line ≡ q
       → option_or t (q >>= with_raw f) >>= entry_of_parts p ≡ Some s → IsEntry (escape_by p) algos f line s
-  by-parts s (Some t) q tagged plain h = by-tag s t tagged h
+  by-parts s (Some t) q tagged plain h = by-shape s t (inl (read_is_tagged tagged)) h
   by-parts s None None tagged plain h = cc
   by-parts s None (Some q) tagged plain h =
       let named = bind_some (with_raw f q) (entry_of_parts p) h in
       let raw = is-raw f q named.0 named.1 in
-      by-tail s q named.0.text plain raw.0 (ap (entry_of_parts p) raw.1 ∙ named.2)
+      by-shape s (record q { text = named.0.text }) (inr (q.text, read_is_plain plain, raw.0))
+      (ap (entry_of_parts p) raw.1 ∙ named.2)
 
   -- so what is computed is an entry of the line
   pub value_entry : (s : EntryValue) → entry_of p algos f line ≡ Some s → IsEntry (escape_by p) algos f line s

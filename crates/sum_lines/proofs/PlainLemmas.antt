@@ -17,10 +17,6 @@ use Rattle.sum_lines.proofs.PrefixLemmas.{text, rest-seam, mark_and_rest-is}
 use Rattle.digest_kinds.proofs.PrefixLemmas.{prefix_passes, prefix-and-rest, prefix_len-stop}
 use Rattle.sum_lines.proofs.TaggedLemmas.{BeginsText, hex-no_blank, tagged-prefix, mark_and_rest-prefix}
 
--- the parts are those of a plain line
-abbrev pub HasPlainParts : Algos → List ℕ → LinePartsValue → Type 0
-HasPlainParts algos line p = IsPlain algos line p.escaped p.kind p.digest p.text
-
 -- ---- what is read joins to the line
 
 -- what is read is such a cut
@@ -42,7 +38,7 @@ cut-within cut = grind (arith, length-drop)
 
 -- a line that is read as plain is plain
 pub read_is_plain : {algos : Algos} {line : List ℕ} {p : LinePartsValue} → plain_parts algos line ≡ Some p
-    → HasPlainParts algos line p
+    → IsPlain algos line p.escaped p.kind p.digest p.text
 unfolding plain_parts
 read_is_plain {algos = One a} {line} {p} h =
     let s : List ℕ = (text line).1 in
@@ -97,8 +93,8 @@ module _ {algos : Algos} {line : List ℕ} {e : Bool} {kind : KindValue} {d tail
   plain-prefix = grind (arith, plain-digits, mark_and_rest-prefix)
 
 -- so the line is read as its parts
-pub plain_is_read : {algos : Algos} {line : List ℕ} (p : LinePartsValue) → HasPlainParts algos line p
-    → plain_parts algos line ≡ Some p
+pub plain_is_read : {algos : Algos} {line : List ℕ} (p : LinePartsValue)
+    → IsPlain algos line p.escaped p.kind p.digest p.text → plain_parts algos line ≡ Some p
 unfolding plain_parts
 plain_is_read p t =
     let digits = plain-digits t in

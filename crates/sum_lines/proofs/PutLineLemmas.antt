@@ -1,26 +1,61 @@
--- A line that is written is read back.
-use Rattle.std.proofs.Common.{ℕ, ◌≡◌, Bool, true, List, [], ◌∷◌, ◌++◌, refl, ◌⊎◌, inr, append_assoc, All, arith}
+-- A line that is written is read back. It has a shape, which spells the name and the digest that it was written for, and
+-- no newline and no carriage return before its end.
+use Rattle.std.proofs.lemmas.Grind.{common_steps}
+use Rattle.std.proofs.Common.{ℕ, ◌≡◌, ◌*◌, ◌<◌, not, cond, Bool, true, false, ◌==◌, ◌||◌, List, [], ◌∷◌, ◌++◌, length, refl, ◌⊎◌, inl, inr, append_assoc, arith, All, decimal}
+use Rattle.std.specs.Char.{is_ascii_digit}
+use Rattle.std.specs.List.{AllPass, list_all}
 use Rattle.std.proofs.lemmas.List.{append-nil}
-use Rattle.hex.specs.Hex.{encode_lower}
-use Rattle.digest_kinds.specs.Kinds.{KindValue}
-use Rattle.sum_lines.specs.grammar.Shapes.{Algos, One, mark, Allows, IsTagged}
+use Rattle.std.proofs.lemmas.List.Elements.{All-cons, All-nil}
+use Rattle.std.proofs.lemmas.List.Folds.{list_all-append}
+use Rattle.std.proofs.lemmas.List.Sums.{list_all-from_AllPass}
+use Rattle.std.proofs.lemmas.Slice.Eq.{bytes_eq-Decides}
+use Rattle.hex.specs.Hex.{encode_lower, is_hex_digit}
+use Rattle.hex.proofs.HexLemmas.{decode_of-encode_lower}
+use Rattle.digest_kinds.specs.Kinds.{KindValue, tag}
 use Rattle.digest_kinds.specs.KindTexts.{IsWidth}
-use Rattle.sum_lines.specs.grammar.Entries.{Form, Undecided, Standard, IsEntry, line_form, form}
+use Rattle.digest_kinds.specs.declared.algo.Algo.TheVariants.{Blake2b}
+use Rattle.digest_kinds.proofs.BitsLemmas.{decimal-digits}
+use Rattle.digest_kinds.proofs.KindLemmas.{has_len-range}
+use Rattle.digest_kinds.proofs.PrefixLemmas.{none_of}
 use Rattle.sum_lines.specs.declared.writing.put_line.Mode.{Mode}
 use Rattle.sum_lines.specs.Escape.{present, escape, escape_differs}
+use Rattle.sum_lines.specs.grammar.Shapes.{Algos, One, is_blank, mark, Allows, IsPlain, IsTagged}
+use Rattle.sum_lines.specs.grammar.Entries.{Form, Undecided, Standard, begins_standard, IsEntry, line_form, form}
 use Rattle.sum_lines.specs.grammar.LineParts.{plain_parts}
 use Rattle.sum_lines.specs.grammar.LineLaws.{IsWritable, SpellsBack, IsReadBack}
-use Rattle.sum_lines.proofs.PlainLemmas.{apart, read_is_plain}
-use Rattle.digest_kinds.proofs.PrefixLemmas.{none_of}
 use Rattle.sum_lines.proofs.EntryLemmas.{form_at}
+use Rattle.sum_lines.proofs.EscapeLemmas.{length-escape}
 use Rattle.sum_lines.proofs.ParsedLineLemmas.{one_entry}
-use Rattle.sum_lines.proofs.PutLineShapes.{IsInline, inline, plain_line, tagged_line, written_for, is_space_or_star, plain-form, plain-entry, tagged-written, tagged-entry, IsInline-plain, IsInline-tagged}
+use Rattle.sum_lines.proofs.PlainLemmas.{apart, digits-of, plain_is_read, read_is_plain}
 use Rattle.sum_lines.specs.Lines as lines
 
 -- a line that ends with a newline, without it
 abbrev pub prefix_of : Mode → KindValue → List ℕ → List ℕ → List ℕ
 prefix_of mode kind name digest =
     mark (escape_differs present name) ++ lines.layout mode kind (escape name) (encode_lower digest)
+
+-- ---- bytes within a line
+
+-- whether a byte may be within a line
+abbrev inline : ℕ → Bool
+inline b = not (b == 10 || b == 13)
+
+-- bytes of a kind that a newline and a carriage return aren't may
+inline-all : (test : ℕ → Bool) (xs : List ℕ) → test 10 ≡ false → test 13 ≡ false → AllPass test xs
+    → list_all inline xs ≡ true
+inline-all test xs ten thirteen all = grind (arith, list_all-from_AllPass)
+
+-- so may what comes between the tag and the name
+inline-width : (kind : KindValue) (w : List ℕ) → IsWidth kind w → list_all inline w ≡ true
+inline-width kind w (inl none) = rw none.0 refl
+inline-width kind w (inr bits) =
+    let digits = decimal-digits kind.len (has_len-range Blake2b kind.len bits.2).1 in
+    rw bits.0 (inline-all is_ascii_digit (decimal (8 * kind.len)) refl refl digits)
+
+-- and an escaped name
+inline-escape : (name : List ℕ) → list_all inline (escape name) ≡ true
+inline-escape [] = refl
+inline-escape (x ∷ xs) = grind (arith, list_all-append, inline-escape xs)
 
 -- ---- the form after a written line
 
@@ -33,51 +68,106 @@ form-after : (algos : Algos) (before later : List (List ℕ)) (line : List ℕ) 
     → IsReadable (form algos before) → form algos (before ++ (line ∷ later)) ≡ Standard
 form-after algos before later line own readable = grind (arith, form_at)
 
--- a line that decides nothing leaves the form as it is
-form-kept : (algos : Algos) (before : List (List ℕ)) (line : List ℕ) → line_form algos line ≡ Undecided
-    → IsReadable (form algos before) → IsReadable (form algos (before ++ (line ∷ [])))
-form-kept algos before line own readable = grind (arith, form_at)
-
--- a tagged line is no plain one, and decides nothing
-tagged-undecided : {algos : Algos} {line : List ℕ} {e : Bool} {kind : KindValue} {d raw : List ℕ}
-    → IsTagged algos line e kind d raw → line_form algos line ≡ Undecided
-tagged-undecided {algos} {line} tagged =
-    rw (← none_of (plain_parts algos line) (λ p h. apart (read_is_plain h) tagged)) refl
-
 -- ---- the law
 
--- a line with an entry is read back, since a line spells at most one
-back : {algos : Algos} {before later : List (List ℕ)} {kind : KindValue} {name digest prefix : List ℕ}
-    → All IsInline prefix
-    → IsEntry escape algos (form algos (before ++ (prefix ∷ later))) prefix (written_for kind name digest)
-    → IsReadable (form algos (before ++ (prefix ∷ [])))
-    → SpellsBack algos before later (prefix ++ (10 ∷ [])) kind name digest
-back {algos} {before} {later} {kind} {name} {digest} {prefix} one has keeps =
-    record {
+module _ {kind : KindValue} {name digest : List ℕ} (before later : List (List ℕ)) (w : IsWritable kind name digest)
+  where
+    -- a line with an entry is read back, since a line spells at most one
+    back : (algos : Algos) (prefix : List ℕ) → list_all inline prefix ≡ true
+        → IsEntry escape algos (form algos (before ++ (prefix ∷ later))) prefix
+        (record { kind = kind; digest = digest; name = name })
+        → IsReadable (form algos (before ++ (prefix ∷ [])))
+        → SpellsBack algos before later (prefix ++ (10 ∷ [])) kind name digest
+    back algos prefix one has keeps = record {
       prefix = prefix;
       whole = refl;
-      one_line = one;
+      one_line = grind (arith, common_steps);
       spells = λ t. (λ e. one_entry algos _ prefix t _ e has, λ same. rw same has);
       keeps = keeps;
     }
 
-module _ {kind : KindValue} {name digest : List ℕ} (before later : List (List ℕ)) (w : IsWritable kind name digest)
-  where
-    -- a plain line
-    plain-back : (x : ℕ) → is_space_or_star x ≡ true → inline x ≡ true → IsReadable (form (One kind.algo) before)
-        → SpellsBack (One kind.algo) before later (plain_line x name digest ++ (10 ∷ [])) kind name digest
-    plain-back x star one_line readable =
-        let now = λ (others : List (List ℕ)). form-after _ before others _ (plain-form w x star) readable in
-        back (IsInline-plain w x one_line) (plain-entry w x _ star (now later)) (inr (now []))
+    -- what is written spells the name: its escape or, if that doesn't differ, the name
+    name-spelled : escape name ≡ cond (escape_differs present name) (escape name) name
+    name-spelled = grind (arith, bytes_eq-Decides)
 
-    -- and a tagged one
+    -- neither line's digits have an end of a line
+    inline-digits : list_all inline (encode_lower digest) ≡ true
+    inline-digits =
+        let digits = digits-of (encode_lower digest) digest (decode_of-encode_lower digest w.bytes)
+        (omega (arith, has_len-range kind.algo kind.len w.has)) in
+        inline-all is_hex_digit (encode_lower digest) refl refl digits.are
+
+    -- a plain line is read back: x is the byte before the name
+    plain-back : (x : ℕ) → (x == 32 || x == 42) ≡ true → IsReadable (form (One kind.algo) before)
+        → SpellsBack (One kind.algo) before later
+        ((mark (escape_differs present name) ++ (encode_lower digest ++ (32 ∷ x ∷ escape name))) ++ (10 ∷ []))
+        kind name digest
+    plain-back x star readable =
+        let line = mark (escape_differs present name) ++ (encode_lower digest ++ (32 ∷ x ∷ escape name)) in
+        let byte : inline x ≡ true = grind arith in
+        let one : list_all inline line ≡ true = simp list_all-append (rw (byte, inline-digits, inline-escape name)
+        (grind arith)) in
+        let shape : IsPlain (One kind.algo) line (escape_differs present name) kind digest (x ∷ escape name) = record {
+          blanks = [];
+          digits = encode_lower digest;
+          blank = 32;
+          one = refl;
+          has = w.has;
+          are_blanks = All-nil (λ b. is_blank b ≡ true);
+          spelled = decode_of-encode_lower digest w.bytes;
+          size = w.size;
+          is_one_blank = refl;
+          some = omega arith;
+          whole = refl;
+        } in
+        let standard : begins_standard (x ∷ escape name) ≡ true = let some = w.some in grind (arith, length-escape) in
+        let own : line_form (One kind.algo) line ≡ Standard = rw (plain_is_read _ shape, standard) refl in
+        let after = λ (others : List (List ℕ)). form-after (One kind.algo) before others line own readable in
+        back (One kind.algo) line one (rw (after later) (record {
+          escaped = escape_differs present name;
+          raw = escape name;
+          shape = inr (x ∷ escape name, shape, (standard, x, refl));
+          no_nul = w.no_nul;
+          spells = name-spelled;
+        })) (inr (after []))
+
+    -- so is a tagged one
     tagged-back : (algos : Algos) (width : List ℕ) → Allows algos kind.algo → IsWidth kind width
         → IsReadable (form algos before)
-        → SpellsBack algos before later (tagged_line kind width name digest ++ (10 ∷ [])) kind name digest
+        → SpellsBack algos before later ((mark (escape_differs present name)
+        ++ (tag kind.algo ++ (width ++ (32 ∷ 40 ∷ (escape name ++ (41 ∷ 32 ∷ 61 ∷ 32 ∷ encode_lower digest))))))
+        ++ (10 ∷ [])) kind name digest
     tagged-back algos width allowed is_width readable =
-        let undecided = tagged-undecided (tagged-written w algos width allowed is_width) in
-        back (IsInline-tagged w width is_width) (tagged-entry w algos width _ allowed is_width)
-        (form-kept algos before _ undecided readable)
+        let line = mark (escape_differs present name)
+        ++ (tag kind.algo ++ (width ++ (32 ∷ 40 ∷ (escape name ++ (41 ∷ 32 ∷ 61 ∷ 32 ∷ encode_lower digest))))) in
+        let none = All-nil (λ b. is_blank b ≡ true) in
+        let space : AllPass is_blank (32 ∷ []) = All-cons (λ b. is_blank b ≡ true) 32 [] refl none in
+        let shape : IsTagged algos line (escape_differs present name) kind digest (escape name) = record {
+          blanks = [];
+          width = width;
+          gap = true;
+          before = 32 ∷ [];
+          after = 32 ∷ [];
+          digits = encode_lower digest;
+          allowed = allowed;
+          are_blanks = none;
+          is_width = is_width;
+          some = omega (arith, w.some, length-escape name);
+          before_blanks = space;
+          after_blanks = space;
+          spelled = decode_of-encode_lower digest w.bytes;
+          size = w.size;
+          whole = refl;
+        } in
+        let own : line_form algos line ≡ Undecided =
+        rw (← none_of (plain_parts algos line) (λ p h. apart (read_is_plain h) shape)) refl in
+        back algos line (grind (arith, list_all-append, inline-width, inline-escape, inline-digits)) (record {
+          escaped = escape_differs present name;
+          raw = escape name;
+          shape = inl shape;
+          no_nul = w.no_nul;
+          spells = name-spelled;
+        }) (grind (arith, form_at))
 
 -- each of the three layouts is read back
 pub read_back : IsReadBack

@@ -1,21 +1,31 @@
--- What the functions that scan a line return, step by step.
-use Rattle.std.proofs.Common.{ℕ, ◌≡◌, ◌≢◌, ◌+◌, ◌-◌, ◌*◌, ◌<◌, ◌≤◌, List, [], ◌∷◌, ◌++◌, length, take, drop, slice_range, Option, None, Some, MatchOption, Ok, Bor, sym, arith, append_assoc, option_copied}
+-- What the functions that scan a line return, step by step; what a line begins with, and the parts that it is then read
+-- as. The code looks for the first blank of a plain line's text among as many bytes as the longest digest has digits.
+use Rattle.std.proofs.Common.{ℕ, ◌≡◌, ◌≢◌, ◌+◌, ◌-◌, ◌*◌, ◌<◌, ◌≤◌, List, [], ◌∷◌, ◌++◌, length, take, drop, slice_range, Option, None, Some, MatchOption, Ok, Bor, sym, arith, append_assoc, option_copied, Bool, get_or, min, ◌/◌, true, cond, IfNone, IfSome, refl, ap, ◌∙◌, length-drop, rules}
 use Rattle.std.specs.Option.{option_or}
 use Rattle.std.specs.Path.{rsplit_once}
-use Rattle.memchr.specs.Find.{Nowhere, Passes, IsLastByte, is_byte}
-use Rattle.hex.specs.Hex.{decode_of}
+use Rattle.std.proofs.lemmas.Grind.{common_steps}
+use Rattle.std.specs.List.{position_or_len}
+use Rattle.std.proofs.lemmas.List.{drop_at, get_or-take, length-take}
+use Rattle.std.proofs.lemmas.List.Sums.{passes_at_first, position_or_len_is}
+use Rattle.std.proofs.lemmas.List.Elements.{All-get_or}
+use Rattle.memchr.specs.Find.{Nowhere, Passes, IsLastByte, is_byte, IsFirstByte, is_byte2}
+use Rattle.hex.specs.Hex.{decode_of, is_hex_digit}
 use Rattle.hex.proofs.HexLemmas.{decode_of-ok}
 use Rattle.digest_kinds.specs.Bytes.{after_while}
-use Rattle.digest_kinds.specs.Kinds.{KindValue, tag, IsDigits}
-use Rattle.sum_lines.specs.grammar.Shapes.{Algo, One, is_blank, optional}
-use Rattle.sum_lines.specs.grammar.LineParts.{strip_prefix, tag_in, tagged_parts}
+use Rattle.digest_kinds.specs.Kinds.{KindValue, tag, IsDigits, BeginsWithTag, full_len, has_len}
+use Rattle.sum_lines.specs.grammar.Shapes.{Algo, One, is_blank, Algos}
+use Rattle.sum_lines.specs.grammar.LineParts.{strip_prefix, tag_in, tagged_parts, plain_parts}
 use Rattle.digest_kinds.specs.KindTexts.{kind_and_rest}
-use Rattle.sum_lines.specs.refinement.Beginnings.{IsFront}
+use Rattle.sum_lines.specs.refinement.Beginnings.{IsFront, BeginsWithDigits, EndsAt, EndsDigits, IsReadAs}
 use Rattle.sum_lines.specs.declared.reading.line_parts.Front.{Front}
-use Rattle.sum_lines.proofs.PrefixLemmas.{text, strip_prefix-some, strip_prefix-append, opened-some, rfind-at, rfind-none, rsplit-some}
+use Rattle.sum_lines.proofs.PrefixLemmas.{text, opening, strip_prefix-some, starts-append, opened-some, rsplit-some, starts-append}
 use Rattle.digest_kinds.proofs.PrefixLemmas.{none_of}
 use Rattle.digest_kinds.proofs.KindTextLemmas.{kind_and_rest-some}
-use Rattle.std.proofs.lemmas.Grind.{common_steps}
+use Rattle.sum_lines.proofs.PlainLemmas.{uncut, cut-within, no_prefix, plain-digits, plain-prefix, read_is_plain}
+use Rattle.digest_kinds.proofs.KindLemmas.{has_len-full}
+use Rattle.digest_kinds.specs.declared.algo.Algo.TheVariants.{Blake2b}
+use Rattle.sum_lines.proofs.TaggedLemmas.{hex-no_blank, tag_in-some}
+use Rattle.sum_lines.specs.declared.reading.beginnings.Beginning.TheVariants as beginnings
 
 -- ---- a text at the start
 
@@ -23,20 +33,7 @@ use Rattle.std.proofs.lemmas.Grind.{common_steps}
 pub after_is : (xs ys : List ℕ) (r : Option (Bor (List ℕ)))
     → MatchOption r ((rest : List ℕ) → ys ≢ xs ++ rest) (λ x. ys ≡ xs ++ x.now) → option_copied r ≡ strip_prefix xs ys
 after_is xs ys None other = none_of (strip_prefix xs ys) (λ zs h. other zs (strip_prefix-some xs ys zs h))
-after_is xs ys (Some x) is = rw is (sym (strip_prefix-append xs x.now))
-
--- ---- the last such byte
-
--- a search from the end that finds none
-pub last_none : (c : ℕ) (s : List ℕ) → Nowhere (Passes (is_byte c) s) 0 (length s) → rsplit_once c s ≡ None
-unfolding rsplit_once
-last_none c s none = grind (arith, rfind-none)
-
--- one that finds the byte at that place
-pub last_some : (c k : ℕ) (s : List ℕ) → IsLastByte (is_byte c) s (Some k)
-    → rsplit_once c s ≡ Some (take k s, drop (k + 1) s)
-unfolding rsplit_once
-last_some c k s last = grind (arith, rfind-at)
+after_is xs ys (Some x) is = grind (arith, starts-append, drop_at)
 
 -- ---- digits that spell no digest of that length
 
@@ -47,14 +44,6 @@ two_digits s d h = (decode_of-ok s d h).2
 -- so such text is what a digest may be read of
 pub decoded-digits : (s d : List ℕ) → decode_of s ≡ Ok d → 1 ≤ length d → length d ≤ 64 → IsDigits s
 decoded-digits s d h some few = grind (arith, decode_of-ok)
-
--- other digits spell no digest of that length
-pub digest_other : (s d : List ℕ) (n : ℕ) → (length s ≡ 2 * n → ⊥) → decode_of s ≡ Ok d → length d ≢ n
-digest_other s d n other spelled = grind (arith, two_digits)
-
--- nor do such as the code reads none of
-pub digest_none : (s d : List ℕ) (n : ℕ) → 1 ≤ n → n ≤ 64 → (IsDigits s → ⊥) → decode_of s ≡ Ok d → length d ≢ n
-digest_none s d n some few none spelled = grind (arith, decoded-digits)
 
 -- ---- the places of the parts in the line
 
@@ -86,7 +75,7 @@ pub name_place : {line s inner : List ℕ} {name : List ℕ × List ℕ} (a : Al
 name_place {s = s} {inner = inner} {name = name} a w ends wide opened split =
     let width = kind_and_rest-some a (drop (length (tag a)) s) w (sym wide) in
     let gap = opened-some w.1 inner (sym opened) in
-    let front = take (length (tag a)) s ++ (width.width ++ (optional gap.0 (32 ∷ []) ++ (40 ∷ []))) in
+    let front = take (length (tag a)) s ++ (width.width ++ opening gap.0 []) in
     place name.0 _ (ends-after front inner ends (grind (arith, common_steps))) (rsplit-some 41 inner name (sym split))
 
 -- the end has its place in the line
@@ -113,3 +102,92 @@ module _ {w : KindValue × List ℕ} {inner digits : List ℕ} {name : List ℕ 
       → None ≡ tagged_parts (One a) line
   unfolding tagged_parts
   tagged-none none = grind arith
+
+-- a cut has two digits for each byte of its digest, and so few that the search meets its blank
+cut-size : {a : Algo} {s d : List ℕ} → BeginsWithDigits a s d
+    → (position_or_len is_blank s ≡ 2 * length d) × (length d ≤ 64)
+cut-size cut = search (rules, cut-within, two_digits)
+
+-- ---- the tag
+
+-- a line that begins with a tag is read from there on, and isn't plain
+pub by_tag : (algos : Algos) (line : List ℕ) (a : Algo) → tag_in algos (text line).1 ≡ Some a
+    → IsReadAs algos line (beginnings.Tag a)
+unfolding tagged_parts
+by_tag algos line a h =
+    let found = tag_in-some algos (text line).1 h in
+    let begins : tag_in (One a) (text line).1 ≡ Some a = rw found.1 (rw (starts-append (tag a) _) refl) in (
+      begins,
+      rw (h, begins) refl,
+      none_of (plain_parts algos line) (λ p plain.
+          let is = read_is_plain plain in
+          let digits = plain-digits is in
+          let same = ap (λ (x : Bool × List ℕ). x.1) (plain-prefix is) in
+          no_prefix a is.digits _ _ digits.are digits.two (sym same ∙ found.1)),
+    )
+
+-- ---- the blank after the digits
+
+-- an algorithm other than BLAKE2b has digests of one length, so a line's digits are as many
+pub fixed_len : (a : Algo) (s : List ℕ) (n : ℕ) → (a ≡ Blake2b → ⊥) → n ≡ 2 * full_len a → EndsAt a s n
+fixed_len a s n other is = grind (arith, has_len-full, cut-size)
+
+-- if no blank is found among the first bytes, the line isn't plain
+pub search_none : (a : Algo) (s : List ℕ) {n : ℕ} (r : Option ℕ) → n ≡ min (length s) 129
+    → IsFirstByte (is_byte2 32 9) (take n s) r → IfNone r ((d : List ℕ) → ¬ BeginsWithDigits a s d)
+search_none a s {n} None is none = λ d cut.
+    let size = cut-size cut in
+    let within = cut-within cut in
+    none (position_or_len is_blank s) (omega arith) (omega (arith, length-take n s))
+    (rw (get_or-take n s (position_or_len is_blank s) 0 (omega arith)) (passes_at_first is_blank s 0 within))
+search_none a s (Some i) is first = tt
+
+-- the one that is found is the first
+pub search_some : (a : Algo) (s : List ℕ) {n : ℕ} (r : Option ℕ) → n ≡ min (length s) 129
+    → IsFirstByte (is_byte2 32 9) (take n s) r → IfSome r (EndsAt a s)
+search_some a s r is none = search (rules, position_or_len_is, get_or-take)
+
+-- a blank ends the digits of a plain line, and something follows it
+pub end_none : (a : Algo) (s : List ℕ) (at : ℕ) → EndsAt a s at
+    → (at + 1 < length s → is_blank (get_or s at 0) ≡ true → ⊥) → (d : List ℕ) → ¬ BeginsWithDigits a s d
+end_none a s at place other d = grind (arith, length-drop, passes_at_first)
+
+-- no blank precedes the blank after digits
+first-blank : (s d : List ℕ) (at : ℕ) → at < length s → is_blank (get_or s at 0) ≡ true → decode_of (take at s) ≡ Ok d
+    → position_or_len is_blank s ≡ at
+first-blank s d at within blank spelled =
+    let are = (decode_of-ok (take at s) d spelled).1 in
+    let len = length-take at s in
+    position_or_len_is is_blank s at 0 (omega (arith, within))
+    (λ k less. let hex =
+    All-get_or (λ x. is_hex_digit x ≡ true) (take at s) k 0 (omega (arith, len, less, within)) are in
+    hex-no_blank (get_or s k 0) (rw (get_or-take at s k 0 less) at hex))
+    (λ _. blank)
+
+-- ---- a plain line with such digits
+
+-- no digest is as long as such digits say
+pub kind_none : {a : Algo} {s : List ℕ} {at : ℕ} → EndsDigits a s at
+    → ◌≡◌ {A = Option KindValue} None (cond (has_len a (at / 2)) (Some (record { algo = a; len = at / 2 })) None)
+    → (d : List ℕ) → ¬ BeginsWithDigits a s d
+kind_none ends none d = grind (arith, cut-size)
+
+-- or they are none
+pub digits_none : {a : Algo} {s : List ℕ} {at : ℕ} → EndsDigits a s at → (IsDigits (take at s) → ⊥)
+    → (d : List ℕ) → ¬ BeginsWithDigits a s d
+digits_none ends none d = grind (arith, decoded-digits)
+
+-- why a line isn't plain
+pub ruleset not_plain = (kind_none, digits_none, uncut)
+
+-- what is found so is read as the line's parts
+pub plain_read : (a : Algo) (line : List ℕ) {d : List ℕ} {at : ℕ} (k : KindValue) → let s = (text line).1 in
+    EndsDigits a s at → decode_of (take at s) ≡ Ok d
+    → Some k ≡ cond (has_len a (at / 2)) (Some (record { algo = a; len = at / 2 })) None
+    → Some (record { escaped = (text line).0; kind = k; digest = d; text = drop (at + 1) s })
+    ≡ plain_parts (One a) line
+unfolding plain_parts
+plain_read a line {d} {at} k ends spelled kind =
+    let within = ends.within in
+    let blank = first-blank (text line).1 d at (omega arith) ends.blank spelled in
+    grind (arith, two_digits, length-take, length-drop)

@@ -1,6 +1,6 @@
 -- A text is written to a buffer piece by piece. `a`, `b` and `c` are the buffer before, between and after.
 use Rattle.std.proofs.lemmas.Grind.{common_steps}
-use Rattle.std.proofs.Common.{ℕ, ◌≡◌, ◌<◌, ◌≤◌, ◌-◌, ◌+◌, ◌%◌, List, [], ◌++◌, length, take, drop, Result, Ok, Err, inl, inr, min, refl, ap, ◌∙◌, append_assoc, append-nil, length-append, length-take, lit<, arith}
+use Rattle.std.proofs.Common.{ℕ, ◌≡◌, ◌<◌, ◌≤◌, ◌-◌, ◌+◌, ◌%◌, List, [], ◌++◌, length, take, drop, Result, Ok, Err, inl, inr, min, refl, sym, ap, ◌∙◌, append_assoc, append-nil, length-append, length-take, lit<, arith}
 use Rattle.std.specs.Result.{IsErr}
 use Rattle.sum_lines.specs.Sinks.{SinkState, GivesAll, output_events, Gets}
 use Rattle.sum_lines.specs.Buffers.{BufferState, Accepts, FailsToWrite, WritesAll}
@@ -21,65 +21,44 @@ Accepts-nil {a} = record {
   failures = refl;
 }
 
--- what was given of two texts precedes what is left of them
-cut_both : {a b : BufferState} {text : List ℕ} (more given rest : List ℕ) (first : Accepts a b text)
-    → b.buffered ++ more ≡ given ++ rest → a.buffered ++ (text ++ more) ≡ (first.given ++ given) ++ rest
-cut_both more given rest first cut = let own = first.cut in grind (arith, append_assoc)
-
--- full pieces, and then more of them
-full_both : (xs ys : List ℕ) → length xs % 8192 ≡ 0 → length ys % 8192 ≡ 0 → length (xs ++ ys) % 8192 ≡ 0
-full_both xs ys first then = omega (arith, length-append xs ys)
-
--- something is buffered if something was given
-last_both : {a b c : BufferState} {xs ys : List ℕ} (first : Accepts a b xs) (second : Accepts b c ys)
-    → 0 < length (first.given ++ second.given) → 0 < length c.buffered
-last_both {b = b} {c} {ys = ys} first second some =
-    let whole = simp length-append at (ap length second.cut) in
-    let one = first.last in
-    let two = second.last in
-    grind (arith, length-append)
-
 -- one text was accepted, and then another
 pub Accepts-trans : {a b c : BufferState} (xs ys : List ℕ) → Accepts a b xs → Accepts b c ys → Accepts a c (xs ++ ys)
-Accepts-trans {a} {b} {c} xs ys first second =
+Accepts-trans xs ys first second =
+    let cut = first.cut in
+    let more = second.cut in
+    let size = simp length-append at (ap length second.cut) in
+    let one = first.last in
+    let two = second.last in
     record {
       given = first.given ++ second.given;
-      full = full_both first.given second.given first.full second.full;
-      cut = cut_both ys second.given c.buffered first second.cut;
-      last = last_both first second;
+      full = omega (arith, first.full, second.full, length-append first.given second.given);
+      cut = grind (arith, append_assoc);
+      last = λ some. grind (arith, length-append);
       fits = λ fits. second.fits (first.fits fits);
       gets = rw (output_events-append first.given second.given first.full) (Gets-then first.gets second.gets);
       failures = second.failures ∙ first.failures;
     }
 
--- a text was accepted, and then a write of the next failed
-FailsToWrite-then : {a b c : BufferState} {xs ys : List ℕ} → Accepts a b xs → FailsToWrite b c ys
-    → FailsToWrite a c (xs ++ ys)
-FailsToWrite-then {xs = xs} {ys} first failed = record {
-  nonempty = omega (arith, failed.nonempty, length-append xs ys);
+-- a text was accepted, and then a write of the next one failed: so did that of a text that begins with both
+FailsToWrite-in : {a b c : BufferState} {text : List ℕ} (xs ys more : List ℕ) → Accepts a b xs → FailsToWrite b c ys
+    → text ≡ xs ++ (ys ++ more) → FailsToWrite a c text
+FailsToWrite-in xs ys more first failed is = let own = first.cut in let then = failed.cut in record {
+  nonempty = omega (arith, failed.nonempty, ap length is, length-append xs (ys ++ more), length-append ys more);
   given = first.given ++ failed.given;
-  full = full_both first.given failed.given first.full failed.full;
-  rest = failed.rest;
-  cut = cut_both ys failed.given failed.rest first failed.cut;
-  proper = failed.proper;
+  full = omega (arith, first.full, failed.full, length-append first.given failed.given);
+  rest = failed.rest ++ more;
+  cut = grind (arith, append_assoc);
+  proper = omega (arith, failed.proper, length-append failed.rest more);
   gets = rw (output_events-append first.given failed.given first.full) (GetsPrefix-then first.gets failed.gets);
   buffered = failed.buffered;
   failures = failed.failures ∙ ap (λ n. n + 1) first.failures;
 }
 
--- a write of a text failed: so did that of what begins with it
-FailsToWrite-more : {a b : BufferState} {xs : List ℕ} (ys : List ℕ) → FailsToWrite a b xs → FailsToWrite a b (xs ++ ys)
-FailsToWrite-more {xs = xs} ys failed = let own = failed.cut in record {
-  nonempty = omega (arith, failed.nonempty, length-append xs ys);
-  given = failed.given;
-  full = failed.full;
-  rest = failed.rest ++ ys;
-  cut = grind (arith, append_assoc);
-  proper = omega (arith, failed.proper, length-append failed.rest ys);
-  gets = failed.gets;
-  buffered = failed.buffered;
-  failures = failed.failures;
-}
+-- a text's first part was accepted, and then the rest was written, or that failed
+pub writes_then : {E : Type 0} {a b : BufferState} (c : BufferState) (xs ys : List ℕ) (r : Result (Unit {0}) E)
+    → Accepts a b xs → WritesAll b c ys r → WritesAll a c (xs ++ ys) r
+writes_then c xs ys (Ok u) first rest = Accepts-trans xs ys first rest
+writes_then c xs ys (Err e) first rest = FailsToWrite-in xs ys [] first rest (ap (λ l. xs ++ l) (sym (append-nil ys)))
 
 -- ---- a piece
 
@@ -153,32 +132,22 @@ HasLeft-step piece left cut written = record {
 }
 
 -- a piece of the rest failed: so did the whole text
-pub HasLeft-stop : {a b c : BufferState} {text rest piece : List ℕ} (more : List ℕ) → HasLeft a b text rest
-    → rest ≡ piece ++ more → FailsToWrite b c piece → FailsToWrite a c text
-HasLeft-stop {piece = piece} more left cut failed =
-    rw (left.cut, cut) (FailsToWrite-then left.wrote (FailsToWrite-more more failed))
-
--- the last piece is all of the rest: its result is that of the whole text
-pub HasLeft-last : {E : Type 0} {a b : BufferState} {text rest : List ℕ} (c : BufferState) (r : Result (Unit {0}) E)
-    → HasLeft a b text rest → WritesAll b c rest r → WritesAll a c text r
-HasLeft-last {rest = rest} c (Ok u) left last = rw left.cut (Accepts-trans left.prefix rest left.wrote last)
-HasLeft-last {rest = rest} c (Err e) left last = rw left.cut (FailsToWrite-then left.wrote last)
-
--- a rest is what a write accepts of it, and what is left after that
-pub cut_at : (rest : List ℕ) (n : ℕ) → rest ≡ take n rest ++ take (length rest - n) (drop n rest)
-cut_at rest n = grind (arith, common_steps)
+pub HasLeft-stop : {E : Type 0} {a b c : BufferState} {text rest piece : List ℕ} (more : List ℕ)
+    (r : Result (Unit {0}) E) → HasLeft a b text rest → rest ≡ piece ++ more → FailsToWrite b c piece → IsErr r
+    → WritesAll a c text r
+HasLeft-stop more (Ok u) left cut failed err = cc
+HasLeft-stop {piece = piece} more (Err e) left cut failed err =
+    FailsToWrite-in left.prefix piece more left.wrote failed (left.cut ∙ ap (λ l. left.prefix ++ l) cut)
 
 -- a text's first part failed
 pub writes_stop : {E : Type 0} {a b : BufferState} (xs more : List ℕ) (r : Result (Unit {0}) E) → FailsToWrite a b xs
     → IsErr r → WritesAll a b (xs ++ more) r
-writes_stop xs more (Ok u) failed err = cc
-writes_stop xs more (Err e) failed err = FailsToWrite-more more failed
+writes_stop xs more r failed err = HasLeft-stop more r HasLeft-all refl failed err
 
--- a text's first part was accepted, and then the rest was written, or that failed
-pub writes_then : {E : Type 0} {a b : BufferState} (c : BufferState) (xs ys : List ℕ) (r : Result (Unit {0}) E)
-    → Accepts a b xs → WritesAll b c ys r → WritesAll a c (xs ++ ys) r
-writes_then c xs ys (Ok u) first rest = Accepts-trans xs ys first rest
-writes_then c xs ys (Err e) first rest = FailsToWrite-then first rest
+-- the last piece is all of the rest: its result is that of the whole text
+pub HasLeft-last : {E : Type 0} {a b : BufferState} {text rest : List ℕ} (c : BufferState) (r : Result (Unit {0}) E)
+    → HasLeft a b text rest → WritesAll b c rest r → WritesAll a c text r
+HasLeft-last {rest = rest} c r left last = rw left.cut (writes_then c left.prefix rest r left.wrote last)
 
 -- ---- a text, and a flush
 

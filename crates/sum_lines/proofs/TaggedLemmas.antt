@@ -15,11 +15,11 @@ use Rattle.hex.specs.Hex.{decode_of, is_hex_digit}
 use Rattle.digest_kinds.specs.Kinds.{KindValue, all_algos, tag}
 use Rattle.digest_kinds.proofs.KindTextLemmas.{kind_and_rest-some}
 use Rattle.digest_kinds.proofs.TagLemmas.{IfSome-find-begins, find-begins}
-use Rattle.sum_lines.specs.grammar.Shapes.{Algo, Algos, One, Any, is_blank, Allows, IsTagged, mark, optional}
+use Rattle.sum_lines.specs.grammar.Shapes.{Algo, Algos, One, Any, is_blank, Allows, IsTagged, mark}
 use Rattle.digest_kinds.specs.KindTexts.{IsWidth, kind_and_rest}
 use Rattle.sum_lines.specs.grammar.LineParts.{LinePartsValue, strip_prefix, mark_and_rest, tag_in, tagged_parts}
 use Rattle.digest_kinds.specs.Bytes.{after_while}
-use Rattle.sum_lines.proofs.PrefixLemmas.{text, mark_and_rest-is, strip_prefix-some, opened-some, rsplit-some, opened-at, rsplit-at, starts-append}
+use Rattle.sum_lines.proofs.PrefixLemmas.{text, opening, mark_and_rest-is, strip_prefix-some, opened-some, rsplit-some, opened-at, rsplit-at, starts-append}
 use Rattle.digest_kinds.proofs.PrefixLemmas.{bind_some, ok_some, prefix_passes, prefix-and-rest, parts-at, prefix_len-all}
 use Rattle.digest_kinds.proofs.BitsLemmas.{kind_of_digits-bits, decimal-digits}
 use Rattle.std.proofs.lemmas.List.{drop_at}
@@ -39,13 +39,9 @@ tag_in-some Any s h =
 
 -- ---- the whole line
 
--- the parts are those of a tagged line
-abbrev pub HasTaggedParts : Algos → List ℕ → LinePartsValue → Type 0
-HasTaggedParts algos line p = IsTagged algos line p.escaped p.kind p.digest p.text
-
 -- a line that is read as tagged is tagged
 pub read_is_tagged : {algos : Algos} {line : List ℕ} {p : LinePartsValue} → tagged_parts algos line ≡ Some p
-    → HasTaggedParts algos line p
+    → IsTagged algos line p.escaped p.kind p.digest p.text
 unfolding tagged_parts
 read_is_tagged {algos} {line} {p} h =
     let t : Bool × List ℕ = text line in
@@ -111,10 +107,6 @@ hex-no_blank x h = grind arith
 
 -- ---- the width, and the parenthesis after it
 
--- what may follow the width: a space or a parenthesis
-abbrev pub opening : Bool → List ℕ → List ℕ
-opening g s = optional g (32 ∷ []) ++ (40 ∷ s)
-
 -- a kind's width is read as that kind
 pub kind_and_rest-of : (kind : KindValue) (w : List ℕ) (g : Bool) (s : List ℕ) → IsWidth kind w
     → kind_and_rest kind.algo (w ++ opening g s) ≡ Some (kind, opening g s)
@@ -156,8 +148,8 @@ module _ {algos : Algos} {line : List ℕ} {e : Bool} {kind : KindValue} {d raw 
   tagged-prefix = grind (arith, mark_and_rest-prefix)
 
 -- it is read as its parts
-pub tagged_is_read : {algos : Algos} {line : List ℕ} (p : LinePartsValue) → HasTaggedParts algos line p
-    → tagged_parts algos line ≡ Some p
+pub tagged_is_read : {algos : Algos} {line : List ℕ} (p : LinePartsValue)
+    → IsTagged algos line p.escaped p.kind p.digest p.text → tagged_parts algos line ≡ Some p
 unfolding tagged_parts
 tagged_is_read {algos} p t =
     let digits = (decode_of-ok t.digits p.digest t.spelled).1 in

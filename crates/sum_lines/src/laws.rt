@@ -27,7 +27,7 @@ pub fn parse_is_grammar()
 {}
 
 /// Later lines don't change how a line parses nor, if it is plain, the form.
-#[tactic(auto, using(crate::proofs::FormLemmas::same_parse))]
+#[tactic(auto, using(crate::proofs::EntryLemmas::same_parse))]
 pub fn same_parse()
     ensures parse { KeepsParse }
     ensures form { KeepsForm }

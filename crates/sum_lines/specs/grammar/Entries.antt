@@ -17,25 +17,13 @@ abbrev pub begins_standard : ByteString → Bool
 begins_standard (b ∷ c ∷ bs) = b == 32 || b == 42
 begins_standard tail = false
 
--- A plain line decides the form of a list. Its tail says which form.
-pub record DecidesForm (algos : Algos) (line : ByteString) (form : Form) : Type 0 where
-  pub escaped : Bool
-  pub kind : KindValue
-  pub digest : ByteString
-  pub tail : ByteString
-  pub plain : IsPlain algos line escaped kind digest tail
-  pub is : form ≡ (if begins_standard tail then Standard else Reversed)
-
--- The form of a list of lines: the first line that decides one decides it; without such a line it is Undecided.
+-- The form of a list of lines: the tail of its first plain line decides it; without such a line it is Undecided.
 abbrev pub IsForm : Algos → List ByteString → Form → Type 0
 IsForm algos [] form = form ≡ Undecided
-IsForm algos (line ∷ later) form = DecidesForm algos line form
-    ⊎ (((f : Form) → ¬ DecidesForm algos line f) × IsForm algos later form)
-
--- A raw name spells a name without NUL: its escape, if the line has the backslash for that; the name itself, if not.
-pub record Spells (escape : ByteString → ByteString) (escaped : Bool) (raw name : ByteString) : Type 0 where
-  pub no_nul : All (λ b. 0 < b) name
-  pub is : raw ≡ (if escaped then escape name else name)
+IsForm algos (line ∷ later) form = ((e : Bool) × (kind : KindValue) × (digest tail : ByteString)
+    × IsPlain algos line e kind digest tail × (form ≡ (if begins_standard tail then Standard else Reversed)))
+    ⊎ (((e : Bool) (kind : KindValue) (digest tail : ByteString) → ¬ IsPlain algos line e kind digest tail)
+    × IsForm algos later form)
 
 -- the raw name in a plain line's tail: in a Reversed list it is the tail; in a Standard list the tail begins with a
 -- space or a star, more follows, and the raw name is what follows that byte
@@ -50,27 +38,16 @@ pub record EntryValue : Type 0 where
   pub digest : ByteString
   pub name : ByteString
 
--- the entry of a tagged line, whose raw name spells the name
-pub record SpellsByTag (escape : ByteString → ByteString) (algos : Algos) (line : ByteString) (s : EntryValue) : Type 0
-  where
-    pub escaped : Bool
-    pub raw : ByteString
-    pub tagged : IsTagged algos line escaped s.kind s.digest raw
-    pub spells : Spells escape escaped raw s.name
-
--- the entry of a plain line, in whose tail the form finds the raw name
-pub record SpellsByTail (escape : ByteString → ByteString) (algos : Algos) (form : Form) (line : ByteString)
+-- The entry that a line spells in a list of that form: the raw name in the line spells the entry's name, which has no
+-- NUL. It is the name's escape, if the line has the backslash for that; the name itself, if not.
+pub record IsEntry (escape : ByteString → ByteString) (algos : Algos) (form : Form) (line : ByteString)
     (s : EntryValue) : Type 0 where
   pub escaped : Bool
-  pub tail : ByteString
   pub raw : ByteString
-  pub plain : IsPlain algos line escaped s.kind s.digest tail
-  pub is_raw : IsRawName form tail raw
-  pub spells : Spells escape escaped raw s.name
-
--- The entry that a line spells in a list of that form. Names are escaped by `escape`.
-abbrev pub IsEntry : (ByteString → ByteString) → Algos → Form → ByteString → EntryValue → Type 0
-IsEntry escape algos form line s = SpellsByTag escape algos line s ⊎ SpellsByTail escape algos form line s
+  pub shape : IsTagged algos line escaped s.kind s.digest raw
+      ⊎ ((tail : ByteString) × IsPlain algos line escaped s.kind s.digest tail × IsRawName form tail raw)
+  pub no_nul : All (λ b. 0 < b) s.name
+  pub spells : raw ≡ (if escaped then escape s.name else s.name)
 
 -- The form of a list of lines, computed: its first plain line's. By the law `one_form` it need not be believed.
 abbrev pub form : Algos → List ByteString → Form

@@ -34,10 +34,6 @@ pub record IsPlain (algos : Algos) (line : ByteString) (e : Bool) (kind : KindVa
   pub some : 0 < length tail
   pub whole : line ≡ blanks ++ (mark e ++ (digits ++ (blank ∷ tail)))
 
--- the bytes, if they are there
-abbrev pub optional : Bool → ByteString → ByteString
-optional there bytes = if there then bytes else []
-
 -- the algorithms that a list of lines may name
 abbrev pub Allows : Algos → Algo → Type 0
 Allows (One a) algo = algo ≡ a
@@ -61,5 +57,5 @@ pub record IsTagged (algos : Algos) (line : ByteString) (e : Bool) (kind : KindV
   pub after_blanks : AllPass is_blank after
   pub spelled : decode_of digits ≡ Ok digest
   pub size : length digest ≡ kind.len
-  pub whole : line ≡ blanks ++ (mark e ++ (tag kind.algo ++ (width ++ (optional gap (codes " ")
-      ++ (codes "(" ++ (raw ++ (codes ")" ++ (before ++ (codes "=" ++ (after ++ digits))))))))))
+  pub whole : line ≡ blanks ++ (mark e ++ (tag kind.algo ++ (width ++ ((if gap then codes " (" else codes "(")
+      ++ (raw ++ (codes ")" ++ (before ++ (codes "=" ++ (after ++ digits)))))))))

@@ -1,18 +1,13 @@
 -- Joins the calls of a buffer, and the states of the sinks to their logs.
 use Rattle.std.specs.Prelude.{ℕ, ◌≡◌, ◌<◌, ◌≤◌, ◌-◌, [], ◌++◌, length, take, ⊤, Option, unwrap_or, Result, Ok, Err, ◌⊎◌, IsOk}
 use Rattle.sum_lines.specs.Sinks.{ByteString, SinkState, GivesAll}
-use Rattle.sum_lines.specs.Buffers.{BufferState, Accepts, FailsToWrite}
+use Rattle.sum_lines.specs.Buffers.{BufferState}
 use Rattle.sum_lines.specs.declared.sinks.told_sink.ToldSink.{ToldSink}
 
 -- a full buffer is given to the sink; any other one has room, and stays
 abbrev pub MakesRoom : {E : Type 0} → BufferState → BufferState → Result ⊤ E → Type 0
 MakesRoom a b r = ((length a.buffered ≡ 8192) × (b.buffered ≡ []) × GivesAll a.sink b.sink a.buffered r)
     ⊎ ((length a.buffered < 8192) × (b ≡ a) × IsOk r)
-
--- a call that accepts the first bytes of a piece, or fails
-abbrev pub AcceptsSome : {E : Type 0} → BufferState → BufferState → ByteString → Result ℕ E → Type 0
-AcceptsSome a b piece (Ok n) = (n ≤ length piece) × (0 < n) × Accepts a b (take n piece)
-AcceptsSome a b piece (Err e) = FailsToWrite a b piece
 
 -- the state of a sink over a writer: what the writer held at first, if that is known, and then the log
 abbrev pub over_writer : Option ByteString → SinkState → SinkState

@@ -25,7 +25,7 @@ pub(crate) enum Beginning {
 /// What a line of these algorithms begins with. `None` only if the line is neither tagged nor plain. It is a call of
 /// its own, so that an ignored line needs no room for it.
 #[inline(never)]
-#[tactic(auto, using(crate::proofs::BeginningLemmas::no_tag), unfolding(crate::specs::grammar::LineParts::plain_parts))]
+#[tactic(auto, unfolding(crate::specs::grammar::LineParts::plain_parts, crate::specs::grammar::LineParts::tagged_parts))]
 pub(crate) fn find_beginning(algos: Algos, line: &[u8], front: Front) -> Option<Beginning>
     requires { IsFront line.now front }
     ensures not_tagged { IfNone result (None ≡ tagged_parts algos line.now) }
@@ -71,7 +71,7 @@ fn digits_end(algo: Algo, text: &[u8]) -> Option<usize>
 }
 
 // How many digits the text has if it is that of a plain line. `None` only if no plain line has such a text.
-#[tactic(auto, using(crate::proofs::BeginningLemmas::search_none, crate::proofs::BeginningLemmas::search_some))]
+#[tactic(auto, using(crate::proofs::ScanLemmas::search_none, crate::proofs::ScanLemmas::search_some, crate::proofs::ScanLemmas::fixed_len))]
 fn digits_len(algo: Algo, text: &[u8]) -> Option<usize>
     ensures not_plain { IfNone result ((d : ByteString) → ¬ BeginsWithDigits algo text.now d) }
     ensures end { IfSome result (EndsAt algo text.now) }

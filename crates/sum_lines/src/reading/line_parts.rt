@@ -90,7 +90,7 @@ pub(crate) fn past_text<'a>(text: &[u8], s: &'a [u8]) -> Option<&'a [u8]>
 }
 
 /// What precedes the last such byte, and what follows it.
-#[tactic(auto, using(crate::proofs::ScanLemmas::last_none))]
+#[tactic(auto, using(crate::proofs::PrefixLemmas::last_split, std::proofs::lemmas::List::take_rest))]
 pub(crate) fn split_at_last(byte: u8, s: &[u8]) -> Option<(&[u8], &[u8])>
     ensures { option_map (λ p. (p.0.now, p.1.now)) result ≡ rsplit_once byte s.now }
 {

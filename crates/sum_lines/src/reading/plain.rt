@@ -13,7 +13,7 @@ use digest_kinds::{Algo, Algos, Digest, Kind};
 
 /// Reads a plain line of that algorithm. In its text, the blank after the digits is at the place `at`. `None` if the
 /// line isn't plain.
-#[tactic(auto, using(crate::proofs::BeginningLemmas::not_plain))]
+#[tactic(auto, using(crate::proofs::ScanLemmas::not_plain))]
 pub(crate) fn plain(algo: Algo, line: &[u8], front: Front, at: usize) -> Option<LineParts>
     requires front { IsFront line.now front }
     requires end { EndsDigits algo (mark_and_rest (after_while is_blank line.now)).1 at }

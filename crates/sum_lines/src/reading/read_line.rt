@@ -130,7 +130,7 @@ fn is_ignored(line: &[u8]) -> bool
 }
 
 // Reads a plain line's tail. The first plain line of a manifest decides the form, even if its name makes it bad.
-#[tactic(auto, using(crate::proofs::NameLemmas::raw_standard))]
+#[tactic(auto, using(crate::proofs::EscapeLemmas::raw_standard))]
 fn read_tail<A: Allocator>(form: Form, line: &mut Vec<u8, A>, found: LineParts) -> (Reading, Form)
     requires size { length found.digest ≡ found.kind.len }
     requires ordered { found.start ≤ found.stop }
@@ -174,7 +174,7 @@ fn begins_standard(tail: &[u8]) -> bool
 
 // The entry of the parts, if their text spells a name without a NUL. After a backslash the text is the escape of the
 // name; without one it is the name.
-#[tactic(auto, using(crate::proofs::NameLemmas::part_of, std::proofs::lemmas::List::take_rest))]
+#[tactic(auto, using(crate::proofs::EscapeLemmas::part_of, std::proofs::lemmas::List::take_rest))]
 fn read_name<A: Allocator>(line: &mut Vec<u8, A>, found: LineParts) -> Reading
     requires size { length found.digest ≡ found.kind.len }
     requires ordered { found.start ≤ found.stop }
@@ -199,7 +199,7 @@ fn read_name<A: Allocator>(line: &mut Vec<u8, A>, found: LineParts) -> Reading
 
 // Puts the name that the bytes from `start` on spell in their place. False if a backslash came first and they are no
 // escape.
-#[tactic(auto, using(crate::proofs::NameLemmas::unescaped))]
+#[tactic(auto, using(crate::proofs::EscapeLemmas::unescaped))]
 fn unspell<A: Allocator>(line: &mut Vec<u8, A>, escaped: bool, start: usize) -> bool
     requires { start ≤ length line.old.items }
     ensures name { (if result then Some (drop start line.new.items) else None)
@@ -211,7 +211,7 @@ fn unspell<A: Allocator>(line: &mut Vec<u8, A>, escaped: bool, start: usize) -> 
 }
 
 // Whether a byte is NUL.
-#[tactic(auto, using(crate::proofs::NameLemmas::no_nul))]
+#[tactic(auto, using(crate::proofs::EscapeLemmas::no_nul))]
 fn has_nul(bytes: &[u8]) -> bool
     ensures { not result ≡ list_all (nat_lt 0) bytes.now }
 {

@@ -1,8 +1,8 @@
 //! A buffer over a sink.
-ghost use Rattle.std.specs.Prelude.{◌≡◌, ◌<◌, ◌≤◌, ◌-◌, ◌+◌, ◌++◌, [], length, min, take};
+ghost use Rattle.std.specs.Prelude.{◌≡◌, ◌<◌, ◌≤◌, ◌-◌, ◌+◌, ◌++◌, [], length, min, take, MatchResult};
 ghost use Rattle.sum_lines.specs.Sinks.{GivesAll};
-ghost use Rattle.sum_lines.specs.Buffers.{WritesAll};
-ghost use Rattle.sum_lines.specs.refinement.SinkStates.{MakesRoom, AcceptsSome};
+ghost use Rattle.sum_lines.specs.Buffers.{Accepts, FailsToWrite, WritesAll};
+ghost use Rattle.sum_lines.specs.refinement.SinkStates.{MakesRoom};
 
 use crate::sinks::sink::{Sink, SinkFault, give_all};
 use std::marker::Model;
@@ -94,7 +94,9 @@ impl<S: Sink> Buffered<S> {
     // `SinkFault` if the sink fails then.
     fn accept(&mut self, piece: &[u8]) -> Result<usize, SinkFault>
         requires { 0 < length piece.now }
-        ensures { AcceptsSome self.old self.new piece.now result }
+        ensures { MatchResult result
+            (λ n. (n ≤ length piece.now) × (0 < n) × Accepts self.old self.new (take n piece.now))
+            (λ _. FailsToWrite self.old self.new piece.now) }
     {
         self.make_room()?;
         let before = self.len;

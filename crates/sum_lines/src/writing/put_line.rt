@@ -36,7 +36,7 @@ ghost use Rattle.sum_lines.specs.grammar.Shapes.{mark};
 
 /// Writes the line of a name and its digest to the buffer. The digest has the kind's length.
 /// `SinkFault` as `put_all`.
-#[tactic(auto, using(crate::proofs::SinkLemmas::writes_then))]
+#[tactic(auto, using(crate::proofs::SinkLemmas::writes_then, crate::proofs::SinkLemmas::writes_stop))]
 pub fn put_line<S: Sink>(
     sink: &mut Buffered<S>,
     style: Style,
@@ -82,7 +82,7 @@ pub fn mark_and_name(name: &[u8]) -> (&'static [u8], Part<'_>)
 }
 
 // Writes a line without its end and without the backslash that may begin it.
-#[tactic(auto, using(crate::proofs::SinkLemmas::writes_then))]
+#[tactic(auto, using(crate::proofs::SinkLemmas::writes_then, crate::proofs::SinkLemmas::writes_stop))]
 fn put_layout<'a, S: Sink>(
     sink: &mut Buffered<S>,
     mode: Mode,

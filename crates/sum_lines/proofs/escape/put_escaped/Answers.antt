@@ -1,5 +1,4 @@
 use Rattle.std.proofs.Common.{refl}
-use Rattle.std.proofs.lemmas.Result.{err_from_is_err_and}
 use Rattle.sum_lines.proofs.SinkLemmas.{HasLeft-all, HasLeft-step, HasLeft-stop, HasLeft-last}
 use Rattle.sum_lines.proofs.EscapeLemmas.{escape-parts}
 use Rattle.sum_lines.proofs.escape.put_escaped.Goals as goal
@@ -11,18 +10,15 @@ loop-at-init g c = HasLeft-all
 -- the bytes up to the first special one failed
 pub returns-in_err-put_all : goal.returns-in_err-put_all
 returns-in_err-put_all g c =
-    let failed = err_from_is_err_and c.from_residual.result c.from_residual.ensures.1 in
     let cut = escape-parts _ _ c.split_at.ensures.front c.split_at.ensures.back c.in-Some.ensures.cut in
-    rw failed.1 (HasLeft-stop _ c.loop-at.invariant cut c.in_err-put_all.ensures)
+    HasLeft-stop _ _ c.loop-at.invariant cut c.in_err-put_all.ensures c.from_residual.ensures.0
 
 -- they were written, and the escape of the special byte failed
 pub returns-in_err-put_escape : goal.returns-in_err-put_escape
 returns-in_err-put_escape g c =
-    let result = c.from_residual-in_err-put_escape in
-    let failed = err_from_is_err_and result.result result.ensures.1 in
     let cut = escape-parts _ _ c.split_at.ensures.front c.split_at.ensures.back c.in-Some.ensures.cut in
     let plain = HasLeft-step _ c.loop-at.invariant cut c.in_ok-put_all.ensures in
-    rw failed.1 (HasLeft-stop _ plain refl c.in_err-put_escape.ensures)
+    HasLeft-stop _ _ plain refl c.in_err-put_escape.ensures c.from_residual-in_err-put_escape.ensures.0
 
 -- both were written
 pub loop-at-preserved : goal.loop-at-preserved

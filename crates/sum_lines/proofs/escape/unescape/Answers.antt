@@ -1,5 +1,5 @@
 use Rattle.std.proofs.lemmas.List.{take_rest}
-use Rattle.sum_lines.proofs.UnescapeLemmas.{IsHalfUnescaped-refused}
+use Rattle.sum_lines.proofs.EscapeLemmas.{IsHalfUnescaped-refused}
 use Rattle.sum_lines.proofs.escape.unescape.Goals as goal
 
 -- no escape begins what is left: the bytes are none

@@ -1,5 +1,5 @@
 use Rattle.std.proofs.Common.{length, ◌-◌}
-use Rattle.sum_lines.proofs.UnescapeLemmas.{IsHalfUnescaped}
+use Rattle.sum_lines.proofs.EscapeLemmas.{IsHalfUnescaped}
 use Rattle.sum_lines.proofs.escape.unescape.Given as goal
 
 abbrev pub invariant-loop-read : goal.invariant-loop-read

@@ -1,5 +1,5 @@
 use Rattle.std.proofs.Common.{arith, rules, ◌≤◌, length, sym, ◌∙◌}
-use Rattle.sum_lines.proofs.UnescapeLemmas.{in_place, cut_after, whole_after}
+use Rattle.sum_lines.proofs.EscapeLemmas.{in_place, cut_after, whole_after}
 use Rattle.sum_lines.proofs.escape.unescape_in.Goals as goal
 
 -- the bytes from that place on were replaced by the name

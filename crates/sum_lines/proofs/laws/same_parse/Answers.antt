@@ -1,4 +1,4 @@
-use Rattle.sum_lines.proofs.FormLemmas.{same_form}
+use Rattle.sum_lines.proofs.EntryLemmas.{same_form}
 use Rattle.sum_lines.proofs.laws.same_parse.Goals as goal
 
 -- later lines don't change the form after a plain line

@@ -1,4 +1,4 @@
-use Rattle.sum_lines.proofs.BeginningLemmas.{end_none}
+use Rattle.sum_lines.proofs.ScanLemmas.{end_none}
 use Rattle.sum_lines.proofs.reading.beginnings.digits_end.Goals as goal
 
 -- another byte

@@ -1,5 +1,5 @@
 use Rattle.std.proofs.Common.{sym}
-use Rattle.sum_lines.proofs.BeginningLemmas.{by_tag}
+use Rattle.sum_lines.proofs.ScanLemmas.{by_tag}
 use Rattle.sum_lines.proofs.reading.beginnings.find_beginning.Goals as goal
 
 -- a tag begins the text

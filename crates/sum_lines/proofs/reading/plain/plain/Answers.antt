@@ -1,8 +1,7 @@
 use Rattle.std.proofs.Common.{◌+◌, take, drop, sym}
 use Rattle.std.proofs.lemmas.List.{take-append-drop, take_rest}
-use Rattle.sum_lines.proofs.BeginningLemmas.{plain_read}
 use Rattle.sum_lines.proofs.PlainLemmas.{read_is_plain}
-use Rattle.sum_lines.proofs.ScanLemmas.{ends-after, front-ends, tail-place}
+use Rattle.sum_lines.proofs.ScanLemmas.{plain_read, ends-after, front-ends, tail-place}
 use Rattle.sum_lines.proofs.reading.plain.plain.Goals as goal
 
 -- the parts that were found are the line's

@@ -1,12 +1,14 @@
 use Rattle.std.proofs.Common.{sym, arith, length, ◌∙◌}
 use Rattle.std.proofs.lemmas.Bool.{eqb-false}
-use Rattle.sum_lines.proofs.ScanLemmas.{two_digits, digest_none, digest_other, front-ends, name_place, tagged-none, tagged-read}
-use Rattle.sum_lines.proofs.BeginningLemmas.{tag-begins}
+use Rattle.sum_lines.proofs.ScanLemmas.{two_digits, decoded-digits, front-ends, name_place, tagged-none, tagged-read}
+use Rattle.sum_lines.specs.grammar.Shapes.{One}
+use Rattle.sum_lines.proofs.PrefixLemmas.{text}
+use Rattle.sum_lines.proofs.TaggedLemmas.{tag_in-some}
 use Rattle.sum_lines.proofs.reading.tagged.tagged.Goals as goal
 
 -- the text begins with the tag
 pub of_tag_prefix-requires : goal.of_tag_prefix-requires
-of_tag_prefix-requires c = rw c.text_after-text.ensures (tag-begins _ c.requires.tag)
+of_tag_prefix-requires c = rw c.text_after-text.ensures (_, (tag_in-some (One c.args.algo) (text c.args.line.now).1 c.requires.tag).1)
 
 -- another number of digits than the kind's digests have
 pub returns-then-digits-len-clause-parts : goal.returns-then-digits-len-clause-parts
@@ -14,7 +16,8 @@ returns-then-digits-len-clause-parts c =
     let sign = rw c.skip_blanks.ensures at c.in_ok-past_text.ensures in
     let other = rw (c.skip_blanks-digits.ensures, c.len.ensures.value) at c.if-digits-len.true in
     let width = rw c.text_after-text.ensures at c.in-Some.ensures in
-    tagged-none _ _ c.requires.tag width c.in_ok-inner.ensures c.in_ok-raw.ensures sign (λ d. digest_other _ d _ other)
+    tagged-none _ _ c.requires.tag width c.in_ok-inner.ensures c.in_ok-raw.ensures sign
+    (λ d spelled size. omega (arith, two_digits _ d spelled))
 
 -- as many that spell none
 pub returns-in_err-digest-clause-parts : goal.returns-in_err-digest-clause-parts
@@ -24,8 +27,9 @@ returns-in_err-digest-clause-parts c =
     let width = rw c.text_after-text.ensures at c.in-Some.ensures in
     rw c.from_residual-in_err-digest.ensures (tagged-none _ _ c.requires.tag width c.in_ok-inner.ensures
     c.in_ok-raw.ensures sign
-    (λ d. digest_none _ d _ size.at_least size.at_most (λ digits.
-    let bad = c.in_err-digest.ensures.found.1 (rw c.skip_blanks-digits.ensures digits) in cc)))
+    (λ d spelled same.
+    let digits = decoded-digits _ d spelled (omega arith) (omega arith) in
+    let bad = c.in_err-digest.ensures.found.1 (rw c.skip_blanks-digits.ensures digits) in cc))
 
 -- the name is within the line
 pub overflow_sub-start : goal.overflow_sub-start

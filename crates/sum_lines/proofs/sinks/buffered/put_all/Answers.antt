@@ -1,6 +1,6 @@
-use Rattle.std.proofs.Common.{[], append-nil, sym}
-use Rattle.std.proofs.lemmas.Result.{err_from_is_err_and}
-use Rattle.sum_lines.proofs.SinkLemmas.{HasLeft-all, HasLeft-step, HasLeft-stop, cut_at}
+use Rattle.std.proofs.Common.{[], append-nil, sym, arith}
+use Rattle.std.proofs.lemmas.Grind.{common_steps}
+use Rattle.sum_lines.proofs.SinkLemmas.{HasLeft-all, HasLeft-step, HasLeft-stop}
 use Rattle.sum_lines.proofs.sinks.buffered.put_all.Goals as goal
 
 -- nothing is written yet
@@ -10,10 +10,9 @@ loop-rest-init g c = HasLeft-all
 -- a piece of the rest failed
 pub returns-in_err-count : goal.returns-in_err-count
 returns-in_err-count g c =
-    let stop = err_from_is_err_and c.from_residual.result c.from_residual.ensures.1 in
-    rw stop.1 (HasLeft-stop [] c.loop-rest.invariant (sym (append-nil _)) c.in_err-count.ensures)
+    HasLeft-stop [] _ c.loop-rest.invariant (sym (append-nil _)) c.in_err-count.ensures c.from_residual.ensures.0
 
 -- the buffer accepted a prefix of the rest
 pub loop-rest-preserved : goal.loop-rest-preserved
 loop-rest-preserved g c =
-    HasLeft-step _ c.loop-rest.invariant (cut_at c.loop-rest.rest.now c.in_ok-count.count) c.in_ok-count.ensures.2
+    HasLeft-step _ c.loop-rest.invariant (grind (arith, common_steps)) c.in_ok-count.ensures.2

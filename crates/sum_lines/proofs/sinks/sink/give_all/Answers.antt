@@ -6,13 +6,13 @@ use Rattle.sum_lines.proofs.sinks.sink.give_all.Goals as goal
 
 -- nothing was offered yet
 pub loop-rest-init : goal.loop-rest-init
-loop-rest-init g c = HasGiven-none _ _
+loop-rest-init g c = HasGiven-none _ _ c.requires
 
 -- a write failed
 pub returns-in_err-count : goal.returns-in_err-count
 returns-in_err-count g c =
     let stop = err_from_is_err_and c.from_residual.result c.from_residual.ensures.1 in
-    rw stop.1 (HasGiven-failed c.loop-rest.invariant (search rules) c.requires c.in_err-count.ensures.bytes)
+    rw stop.1 (HasGiven-failed _ c.loop-rest.invariant (search rules) c.in_err-count.ensures.bytes)
 
 -- the sink accepted a prefix of the rest
 pub loop-rest-preserved : goal.loop-rest-preserved
@@ -20,8 +20,8 @@ loop-rest-preserved g c =
     let rest = c.loop-rest.rest.now in
     let some : 0 < length rest = search rules in
     rw (take_rest rest c.in_ok-count.count)
-    (HasGiven-more c.in_ok-count.count c.loop-rest.invariant some c.in_ok-count.ensures.bytes)
+    (HasGiven-more rest c.in_ok-count.count c.loop-rest.invariant some c.in_ok-count.ensures.bytes)
 
 -- all was accepted
 pub returns : goal.returns
-returns g c = HasGiven-all c.loop-rest.invariant (nil_from_length c.loop-rest.rest.now (search rules)) c.requires
+returns g c = HasGiven-all _ c.loop-rest.invariant (nil_from_length c.loop-rest.rest.now (search rules))

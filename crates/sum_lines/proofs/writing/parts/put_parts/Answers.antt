@@ -1,6 +1,5 @@
 use Rattle.std.proofs.Common.{arith}
 use Rattle.std.proofs.lemmas.List.{at_drop_more}
-use Rattle.std.proofs.lemmas.Result.{err_from_is_err_and}
 use Rattle.sum_lines.specs.refinement.PartTexts.{parts_text}
 use Rattle.sum_lines.proofs.SinkLemmas.{HasLeft-all, HasLeft-step, HasLeft-stop}
 use Rattle.sum_lines.proofs.writing.parts.put_parts.Goals as goal
@@ -12,9 +11,8 @@ loop-part-init g c = HasLeft-all
 -- a part failed
 pub returns-in_err-put_part : goal.returns-in_err-put_part
 returns-in_err-put_part g c =
-    let failed = err_from_is_err_and c.from_residual.result c.from_residual.ensures.1 in
     let cut = at_drop_more parts_text c.args.parts.now c.loop-part.part-index _ (omega arith) in
-    rw failed.1 (HasLeft-stop _ c.loop-part.invariant cut c.in_err-put_part.ensures)
+    HasLeft-stop _ _ c.loop-part.invariant cut c.in_err-put_part.ensures c.from_residual.ensures.0
 
 -- a part was written
 pub loop-part-preserved : goal.loop-part-preserved

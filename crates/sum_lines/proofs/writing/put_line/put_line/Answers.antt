@@ -2,11 +2,7 @@ use Rattle.std.proofs.Common.{arith, append_assoc}
 use Rattle.sum_lines.proofs.SinkLemmas.{writes_then, writes_stop}
 use Rattle.sum_lines.proofs.writing.put_line.put_line.Goals as goal
 
--- a line that ends with NUL: its layout failed
-pub returns-in_err-put_layout : goal.returns-in_err-put_layout
-returns-in_err-put_layout g c = grind (arith, writes_stop, c.in_err-put_layout.ensures)
-
--- a line that ends with a newline: its mark failed
+-- its mark failed
 pub returns-in_err-put_all : goal.returns-in_err-put_all
 returns-in_err-put_all g c = rw (c.if-style.false, append_assoc) (grind (arith, writes_stop))
 

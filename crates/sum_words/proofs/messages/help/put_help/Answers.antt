@@ -1,5 +1,4 @@
 use Rattle.std.proofs.Common.{◌∙◌, refl}
-use Rattle.std.proofs.lemmas.Result.{err_from_is_err_and}
 use Rattle.sum_lines.proofs.SinkLemmas.{HasLeft-all, HasLeft-step, HasLeft-stop, HasLeft-last}
 use Rattle.sum_words.specs.Items.{all_flags}
 use Rattle.sum_words.proofs.TextLemmas.{usage_parts, option_lines}
@@ -8,10 +7,9 @@ use Rattle.sum_words.proofs.messages.help.put_help.Goals as goal
 -- the first two lines failed
 pub returns-in_err-put_parts : goal.returns-in_err-put_parts
 returns-in_err-put_parts g c =
-    let failed = err_from_is_err_and c.from_residual.result c.from_residual.ensures.1 in
     let wrote = rw (usage_parts _ _ _ _ _ _ (c.as_bytes.ensures.value ∙ c.name.ensures) c.purpose.ensures)
     at c.in_err-put_parts.ensures in
-    rw failed.1 (HasLeft-stop (option_lines c.args.tool all_flags) HasLeft-all refl wrote)
+    HasLeft-stop (option_lines c.args.tool all_flags) _ HasLeft-all refl wrote c.from_residual.ensures.0
 
 -- they were written, and then those of the options
 pub returns : goal.returns

@@ -1,5 +1,4 @@
 use Rattle.std.proofs.Common.{arith}
-use Rattle.std.proofs.lemmas.Result.{err_from_is_err_and}
 use Rattle.sum_lines.proofs.SinkLemmas.{HasLeft-all, HasLeft-step, HasLeft-stop}
 use Rattle.sum_words.proofs.TextLemmas.{option_lines_from}
 use Rattle.sum_words.proofs.messages.help.put_options.Goals as goal
@@ -11,9 +10,8 @@ loop-flag-init g c = HasLeft-all
 -- a line failed
 pub returns-in_err-put_option : goal.returns-in_err-put_option
 returns-in_err-put_option g c =
-    let failed = err_from_is_err_and c.from_residual.result c.from_residual.ensures.1 in
     let cut = option_lines_from c.args.tool c.args.flags.now c.loop-flag.flag-index _ (omega arith) in
-    rw failed.1 (HasLeft-stop _ c.loop-flag.invariant cut c.in_err-put_option.ensures)
+    HasLeft-stop _ _ c.loop-flag.invariant cut c.in_err-put_option.ensures c.from_residual.ensures.0
 
 -- a line was written
 pub loop-flag-preserved : goal.loop-flag-preserved
