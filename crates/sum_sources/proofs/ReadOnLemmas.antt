@@ -1,6 +1,6 @@
 -- What was read so far of a line, and what reading on adds to it.
 use Rattle.std.proofs.Common.{◌≡◌, ℕ, ◌+◌, ◌-◌, ◌^◌, ◌<◌, ◌≤◌, true, false, List, [], ◌∷◌, ◌++◌, length, take, None, Some, Result, Ok, Err, refl, ap, sym, ◌∙◌, append_assoc, append-nil, ◌==◌, arith, length-append, inl, inr}
-use Rattle.std.specs.Prelude.{◌⊎◌, OnOk, nat_lt, if◌then◌else◌}
+use Rattle.std.specs.Prelude.{◌⊎◌, ◌≢◌, OnOk, nat_lt, if◌then◌else◌}
 use Rattle.std.proofs.Math.Seq.{take-append-add, drop-append_seam}
 use Rattle.std.proofs.lemmas.List.{drop_all}
 use Rattle.std.proofs.lemmas.List.Elements.{All-append}
@@ -8,8 +8,8 @@ use Rattle.std.specs.Str.Lines.{strip_carriage_return}
 use Rattle.sum_sources.specs.ManifestLines.{Next, Line, NoMore, LineStop, HasNoNewline, IsNextLine}
 use Rattle.sum_sources.specs.Contents.{Ending, Whole, Broken, Content, Reads, InputState, IsOf, Other, clip, limit}
 use Rattle.sum_sources.specs.LineReaders.{LineReaderValue, consumed_count, past, remaining, IsReading, ReadsOn}
-use Rattle.sum_sources.specs.Phases.{Unfinished, AtEnd, Past}
-use Rattle.sum_sources.specs.refinement.LimitedReads.{FindsEnding, IsReadTo}
+use Rattle.sum_sources.specs.Phases.{Unfinished, Ended, Past}
+use Rattle.sum_sources.specs.refinement.LimitedReads.{FindsEnding}
 use Rattle.sum_sources.specs.refinement.LineStates.{TakesPiece}
 use Rattle.sum_sources.specs.declared.line_reader.LineStop.TheVariants as stops
 use Rattle.sum_sources.proofs.ContentLemmas.{with_prefix, limit-value}
@@ -179,7 +179,7 @@ settled : {I : Type 0} {state : I → InputState} {n : LineReaderValue I} (answe
     → n.final_answer ≡ Some answer
     → ((bytes : List ℕ) (c : Content) → IsOf (state n.input).reads c
     → IsNextLine (remaining n c) (remaining n c) answer bytes)
-    → (answer ≡ Ok NoMore → (state n.input).reads.phase ≡ AtEnd) → ¬ ((state n.input).reads.phase ≡ Past)
+    → (answer ≡ Ok NoMore → (state n.input).reads.phase ≡ Ended Whole) → ¬ ((state n.input).reads.phase ≡ Past)
     → IsReading state n
 settled answer final right end past = record {
   under_way = λ going. cc;
@@ -218,14 +218,13 @@ answer_by (Broken f) = Err (stops.Fault f)
 
 settled_by : {I : Type 0} {state : I → InputState} {n : LineReaderValue I} (e : Ending)
     → n.final_answer ≡ Some (answer_by e) → ((c : Content) → IsOf (state n.input).reads c → remaining n c ≡ just e)
-    → IsReadTo e (state n.input).reads.phase → IsReading state n
-settled_by Whole final left read = settled (Ok NoMore) final
+    → (e ≡ Whole → (state n.input).reads.phase ≡ Ended Whole) → (state n.input).reads.phase ≢ Past → IsReading state n
+settled_by Whole final left end past = settled (Ok NoMore) final
     (λ bytes c of. next_of {c' = just Whole} {d' = just Whole} (Ok NoMore) bytes (left c of) (left c of)
-    (lines-nil Whole, refl, refl)) (λ is. read)
-    (rw read (λ past. cc))
-settled_by (Broken f) final left read = settled (Err (stops.Fault f)) final
+    (lines-nil Whole, refl, refl)) (λ is. end refl) past
+settled_by (Broken f) final left end past = settled (Err (stops.Fault f)) final
     (λ bytes c of. next_of {c' = just (Broken f)} {d' = just (Broken f)} (Err (stops.Fault f)) bytes (left c of)
-    (left c of) (lines-nil (Broken f), refl, refl)) (λ is. cc) read
+    (left c of) (lines-nil (Broken f), refl, refl)) (λ is. cc) past
 
 -- the input ended so, after these bytes
 pub ends : {I : Type 0} {state : I → InputState} {old s : LineReaderValue I} (m : LineReaderValue I)
@@ -247,7 +246,7 @@ ends {state = state} {old = old} {s = s} m {line = line} e answer h none finds n
     ∙ rw (drop_all (consumed_count m) ((h.front ++ line) ++ []) (omega (arith, count, more, ap length none'))) refl in
     rw is (record {
       line = λ c of. (next_of answer _ (was c of) (now c of) next, sum answer (was c of) (now c of) same);
-      reading = settled_by e refl now finds.phase;
+      reading = settled_by e refl now finds.end finds.past;
       before = λ c of. h.before c (finds.before c of);
     })
   where

@@ -5,9 +5,9 @@ use Rattle.std.proofs.Math.Seq.{map-set_same}
 use Rattle.std.proofs.lemmas.List.{take_min, length-take, length-map, map-append}
 use Rattle.std.proofs.lemmas.Option.{get_or_from_slice_get}
 use Rattle.sum_sources.specs.Contents.{Content, Ending, Whole, Broken}
-use Rattle.sum_sources.specs.Phases.{Phase, Unfinished, AtEnd, Failed, Past}
-use Rattle.sum_sources.specs.StandardInput.{told_reads, ToldContent, told_file, phase_by}
-use Rattle.sum_sources.specs.Sources.{Answer, Opening, Pair, first_answer, IsOpen, closed}
+use Rattle.sum_sources.specs.Phases.{Phase, Unfinished, Ended, Past}
+use Rattle.sum_sources.specs.StandardInput.{told_reads, ToldContent, told_file}
+use Rattle.sum_sources.specs.Sources.{Answer, Opening, Pair, first_answer, IsOpen}
 use Rattle.sum_sources.specs.InMemory.{Answers, ToldFiles, told_gave, told_openings, told_source}
 use Rattle.sum_sources.specs.refinement.ToldPairs.{ToldSourceInvariant}
 
@@ -32,22 +32,20 @@ told_set answer n m (suc k) (x ∷ xs) o at one =
     ap (λ os. record x { gave = told_gave (answer n x.name) x.gave } ∷ os)
     (told_set answer (suc n) m k xs o (omega (arith, at)) one)
 
-ended_again : (bytes : List ℕ) (e : Ending) (n : ℕ) → told_reads (record { bytes = bytes; ending = e }) n (phase_by e)
-    ≡ record { bytes = bytes; phase = phase_by e }
-ended_again bytes Whole n = refl
-ended_again bytes (Broken f) n = refl
-
 -- what was read of a content in memory is what is read of it up to there
 told_again : (c : Content) (n : ℕ) (phase : Phase)
     → told_reads c (length (told_reads c n phase).bytes) (told_reads c n phase).phase ≡ told_reads c n phase
 told_again c n Unfinished = grind (arith, length-take, take_min)
 told_again c n Past = grind (arith, length-take, take_min)
-told_again c n AtEnd = ended_again c.bytes c.ending (length c.bytes)
-told_again c n (Failed f) = ended_again c.bytes c.ending (length c.bytes)
+told_again c n (Ended e) = refl
+
+-- the opening of a file, once that is closed
+abbrev pub closed : ToldContent → Opening
+closed file = record { name = file.name; gave = Some (Ok (told_file file).reads) }
 
 -- a file in memory, which its source opened, gave what its answer gives
 closed_told : (v : ToldFiles) (file : ToldContent) → IsOpen (told_source v) (told_file file)
-    → IsTold (first_answer v.pairs) file.opening (closed (told_file file))
+    → IsTold (first_answer v.pairs) file.opening (closed file)
 closed_told v file here =
     rw (by (first_answer v.pairs file.opening file.name) here.told)
     (ap (λ r. Some (Ok r)) (told_again file.content file.given file.phase))
@@ -76,20 +74,20 @@ opened_one pairs names os o i one = record {
 
 -- and after a file was closed
 pub closed_state : (v : ToldFiles) (file : ToldContent) → IsOpen (told_source v) (told_file file)
-    → told_openings (first_answer v.pairs) 0 (slice_set v.openings file.opening (closed (told_file file)))
-    ≡ slice_set (told_openings (first_answer v.pairs) 0 v.openings) file.opening (closed (told_file file))
+    → told_openings (first_answer v.pairs) 0 (slice_set v.openings file.opening (closed file))
+    ≡ slice_set (told_openings (first_answer v.pairs) 0 v.openings) file.opening (closed file)
 closed_state v file here =
     told_set _ 0 file.opening file.opening v.openings _ (omega arith) (closed_told v file here)
 
 pub closed_one : (v : ToldFiles) (names : List (List ℕ)) (file : ToldContent) → IsOpen (told_source v) (told_file file)
     → ToldSourceInvariant v.pairs names v.openings
-    → ToldSourceInvariant v.pairs names (slice_set v.openings file.opening (closed (told_file file)))
+    → ToldSourceInvariant v.pairs names (slice_set v.openings file.opening (closed file))
 closed_one v names file here i =
     let o : Opening = record { name = file.name; gave = None } in
     let was = get_or_from_slice_get v.openings file.opening o o (rw i.told at here.opening) in
     record {
       asked = i.asked ∙ sym (map-set_same (λ (o : Opening). o.name) v.openings file.opening _ o (rw was refl));
-      told = closed_state v file here ∙ ap (λ os. slice_set os file.opening (closed (told_file file))) i.told;
+      told = closed_state v file here ∙ ap (λ os. slice_set os file.opening (closed file)) i.told;
     }
 
 -- a pair that is added answers no opening that came before

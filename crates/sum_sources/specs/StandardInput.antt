@@ -1,28 +1,21 @@
 -- Standard input: before it is taken, when it was taken, and after it was put back.
-use Rattle.std.specs.Prelude.{ℕ, ◌≡◌, pos, [], take, Some, ⊤}
-use Rattle.sum_sources.specs.Contents.{Content, Whole, Broken, InputState, Reads, unread, empty_content}
+use Rattle.std.specs.Prelude.{ℕ, ◌≡◌, pos, [], take, Some}
+use Rattle.sum_sources.specs.Contents.{Content, Broken, InputState, Reads, unread, empty_content}
 use Rattle.sum_sources.specs.Faults.{Os, ByteString}
-use Rattle.sum_sources.specs.Phases.{Phase, Unfinished, AtEnd, Failed, Past}
+use Rattle.sum_sources.specs.Phases.{Phase, Unfinished, Ended}
 use Rattle.sum_sources.specs.declared.inputs.stdin.StdinPlace.{StdinPlace}
 use Rattle.sum_sources.specs.declared.inputs.stdin.StdinPlace.TheVariants.{Untaken, Taken, Returned}
 use Rattle.sum_sources.specs.declared.inputs.stdin.Reply.{Reply}
 use Rattle.sum_sources.specs.declared.inputs.stdin.Reply.TheVariants.{First, Empty}
 use Rattle.sum_sources.specs.declared.inputs.closable.Closable.{Closable}
 use Rattle.sum_sources.specs.declared.inputs.closable.Closable.TheVariants.{Open, Closed}
-use Rattle.sum_sources.specs.declared.fault.Ending.{Ending}
 
 -- ---- a content in memory
 
--- the phase after an ending was read
-abbrev pub phase_by : Ending → Phase
-phase_by Whole = AtEnd
-phase_by (Broken f) = Failed f
-
 -- what reads of a content gave: its first n bytes so far; or all of them, and then its ending
 abbrev pub told_reads : Content → ℕ → Phase → Reads
-told_reads c n Unfinished = record { bytes = take n c.bytes; phase = Unfinished }
-told_reads c n Past = record { bytes = take n c.bytes; phase = Past }
-told_reads c n phase = record { bytes = c.bytes; phase = phase_by c.ending }
+told_reads c n (Ended e) = record { bytes = c.bytes; phase = Ended c.ending }
+told_reads c n phase = record { bytes = take n c.bytes; phase = phase }
 
 -- an input in memory
 pub record ToldContent : Type 0 where
@@ -45,19 +38,13 @@ told_file t = record (told_state t.content t.given t.phase) { opening = t.openin
 
 -- as long as it wasn't taken, nothing was read of it
 abbrev pub IsUnreadUntilTaken : {I : Type 0} → (I → InputState) → StdinPlace I → Type 0
-IsUnreadUntilTaken state (Untaken i) = (state i).reads ≡ unread
-IsUnreadUntilTaken state place = ⊤
-
--- what was read of an empty input, by its phase: it never failed
-abbrev pub empty_reads : Phase → Reads
-empty_reads (Failed f) = record { bytes = []; phase = AtEnd }
-empty_reads phase = record { bytes = []; phase = phase }
+IsUnreadUntilTaken {I} state place = (i : I) → place ≡ Untaken i → (state i).reads ≡ unread
 
 -- the state of what taking gives
 abbrev pub given_state : {I : Type 0} → (I → InputState) → Reply I → InputState
 given_state state (First i) = state i
 given_state state (Empty phase) =
-    record { opening = 0; name = []; told = Some empty_content; reads = empty_reads phase }
+    record { opening = 0; name = []; told = Some empty_content; reads = told_reads empty_content 0 phase }
 
 -- taking gives the input the first time, of which nothing was read; and an empty one afterwards
 abbrev pub Gives : {I : Type 0} → (I → InputState) → StdinPlace I → StdinPlace I → Reply I → Type 0

@@ -17,12 +17,12 @@ value s = record {
 -- what was read of the file is of its content
 pub invariant_of-self : goal.invariant_of-self
 invariant_of-self g c =
-    rw (c.and-self-inside.ensures, c.log.ensures.opening, c.log.ensures.closed)
+    rw (c.and-self-inside.ensures, c.log.ensures)
     (closed_one (value c.self.inside) _ (told_value c.args.file) (rw (← c.self.view_is) at c.requires) c.self.invariant)
 
 -- and so the state shows it
 pub returns : goal.returns
 returns g c =
-    rw (← c.self.view_is, c.and-self-inside.ensures, c.log.ensures.opening, c.log.ensures.closed)
+    rw (← c.self.view_is, c.and-self-inside.ensures, c.log.ensures)
     (ap (λ (os : List Opening). record (told_source (value c.self.inside)) { openings = os })
     (closed_state (value c.self.inside) (told_value c.args.file) (rw (← c.self.view_is) at c.requires)))
