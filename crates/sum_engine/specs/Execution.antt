@@ -4,7 +4,7 @@ use Rattle.std.specs.List.{list_any}
 use Rattle.sum_sources.specs.declared.fault.Ending.TheVariants as ending
 use Rattle.sum_sources.specs.declared.inputs.phase.Phase.TheVariants.{Ended, Past}
 pub use Rattle.sum_sources.specs.Sources.{Opening, AnswersAre}
-use Rattle.sum_sources.specs.StandardInput.{given_state}
+use Rattle.sum_sources.specs.StandardInput.{unless_closed}
 use Rattle.sum_sources.specs.declared.inputs.stdin.StdinPlace.{StdinPlace}
 use Rattle.sum_sources.specs.declared.inputs.stdin.StdinPlace.TheVariants.{Untaken, Taken, Returned}
 use Rattle.sum_lines.specs.Sinks.{IsPrefix, Gets}
@@ -24,7 +24,7 @@ pub record StdinState : Type 0 where
 abbrev pub stdin_of : {I : Type 0} → (I → InputState) → StdinPlace I → StdinState
 stdin_of state (Untaken i) = record { told = (state i).told; taken = false; reads = None }
 stdin_of state Taken = record { told = Some empty_content; taken = true; reads = None }
-stdin_of state (Returned given) = let s = given_state state given in
+stdin_of state (Returned given) = let s = unless_closed state given in
     record { told = s.told; taken = true; reads = Some s.reads }
 
 -- where names are opened

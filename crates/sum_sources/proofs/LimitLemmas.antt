@@ -63,7 +63,7 @@ module _ (a b : InputState) (t : ℕ) (going : a.reads.phase ≡ Unfinished) (fe
 
   -- it gave bytes, or its end
   pub read_gives : (n : ℕ) (given rest : List ℕ) → 0 < length given → n ≤ length given
-      → b ≡ and_read a given (Ok n) → AddsLimited t a.reads b.reads (Ok n) (given ++ rest)
+      → b ≡ and_read a given (Ok n) → AddsLimited t a.reads b.reads (take n (given ++ rest)) (Ok n)
   read_gives n [] rest some fits is = absurd (omega arith)
   read_gives zero (x ∷ xs) rest some fits is = finds_ending Whole (rw (is, going, append-nil) refl)
   read_gives (suc n) (x ∷ xs) rest some fits is = rw (is, going, take-append-le) refl

@@ -7,9 +7,8 @@ use Rattle.std.proofs.lemmas.Option.{get_or_from_slice_get}
 use Rattle.sum_sources.specs.Contents.{Content, Ending, Whole, Broken}
 use Rattle.sum_sources.specs.Phases.{Phase, Unfinished, Ended, Past}
 use Rattle.sum_sources.specs.StandardInput.{told_reads, ToldContent, told_file}
-use Rattle.sum_sources.specs.Sources.{Answer, Opening, Pair, first_answer, IsOpen}
+use Rattle.sum_sources.specs.Sources.{Answer, Opening, first_answer, IsOpen}
 use Rattle.sum_sources.specs.InMemory.{Answers, ToldFiles, told_gave, told_openings, told_source}
-use Rattle.sum_sources.specs.refinement.ToldPairs.{ToldSourceInvariant}
 
 -- an opening that gave what the answer gives
 abbrev IsTold : Answers → ℕ → Opening → Type 0
@@ -54,23 +53,24 @@ closed_told v file here =
     by (Ok c) is = cc
     by (Err f) is = cc
 
+-- openings keep their names
+told_names : (answer : Answers) (n : ℕ) (os : List Opening)
+    → map (λ o. o.name) (told_openings answer n os) ≡ map (λ o. o.name) os
+told_names answer n [] = refl
+told_names answer n (o ∷ os) = ap (λ names. o.name ∷ names) (told_names answer (suc n) os)
+
 -- as many names were asked as there were openings
 pub count_asked : {A : Type 0} (f : A → List ℕ) (xs : List A) (os : List Opening) → map f xs ≡ map (λ o. o.name) os
     → length xs ≡ length os
 count_asked f xs os is = sym (length-map xs f) ∙ ap length is ∙ length-map os (λ o. o.name)
 
--- what was opened, and the names asked, after one opening more
-pub opened_state : (pairs : List Pair) (os : List Opening) (o : Opening) → IsTold (first_answer pairs) (length os) o
-    → told_openings (first_answer pairs) 0 (os ++ o ∷ []) ≡ told_openings (first_answer pairs) 0 os ++ o ∷ []
-opened_state pairs os o one = told_append (first_answer pairs) 0 (length os) os o (omega arith) one
+pub count_told : (answer : Answers) (os : List Opening) → length (told_openings answer 0 os) ≡ length os
+count_told answer os = count_asked (λ o. o.name) _ os (told_names answer 0 os)
 
-pub opened_one : (pairs : List Pair) (names : List (List ℕ)) (os : List Opening) (o : Opening)
-    → ToldSourceInvariant pairs names os → IsTold (first_answer pairs) (length os) o
-    → ToldSourceInvariant pairs (names ++ o.name ∷ []) (os ++ o ∷ [])
-opened_one pairs names os o i one = record {
-  asked = rw (i.asked, map-append) refl;
-  told = opened_state pairs os o one ∙ ap (λ os. os ++ o ∷ []) i.told;
-}
+-- what was opened, after one opening more
+pub opened_state : (answer : Answers) (os : List Opening) (o : Opening) → IsTold answer (length os) o
+    → told_openings answer 0 (os ++ o ∷ []) ≡ told_openings answer 0 os ++ o ∷ []
+opened_state answer os o one = told_append answer 0 (length os) os o (omega arith) one
 
 -- and after a file was closed
 pub closed_state : (v : ToldFiles) (file : ToldContent) → IsOpen (told_source v) (told_file file)
@@ -79,25 +79,13 @@ pub closed_state : (v : ToldFiles) (file : ToldContent) → IsOpen (told_source 
 closed_state v file here =
     told_set _ 0 file.opening file.opening v.openings _ (omega arith) (closed_told v file here)
 
-pub closed_one : (v : ToldFiles) (names : List (List ℕ)) (file : ToldContent) → IsOpen (told_source v) (told_file file)
-    → ToldSourceInvariant v.pairs names v.openings
-    → ToldSourceInvariant v.pairs names (slice_set v.openings file.opening (closed file))
-closed_one v names file here i =
+-- its name stays
+pub closed_names : (v : ToldFiles) (file : ToldContent) → IsOpen (told_source v) (told_file file)
+    → map (λ o. o.name) (slice_set v.openings file.opening (closed file)) ≡ map (λ o. o.name) v.openings
+closed_names v file here =
+    let names : List Opening → List (List ℕ) = map (λ o. o.name) in
+    let os = told_openings (first_answer v.pairs) 0 v.openings in
     let o : Opening = record { name = file.name; gave = None } in
-    let was = get_or_from_slice_get v.openings file.opening o o (rw i.told at here.opening) in
-    record {
-      asked = i.asked ∙ sym (map-set_same (λ (o : Opening). o.name) v.openings file.opening _ o (rw was refl));
-      told = closed_state v file here ∙ ap (λ os. slice_set os file.opening (closed file)) i.told;
-    }
-
--- a pair that is added answers no opening that came before
-more_pairs : (ps : List Pair) (p : Pair) (n : ℕ) (name : List ℕ) → n < p.from
-    → first_answer (ps ++ p ∷ []) n name ≡ first_answer ps n name
-more_pairs [] p n name later = grind arith
-more_pairs (q ∷ qs) p n name later = grind (arith, more_pairs qs p n name later)
-
-pub told_add : (ps : List Pair) (p : Pair) (n : ℕ) (os : List Opening) → length os + n ≤ p.from
-    → told_openings (first_answer (ps ++ p ∷ [])) n os ≡ told_openings (first_answer ps) n os
-told_add ps p n [] later = refl
-told_add ps p n (o ∷ os) later =
-    rw (more_pairs ps p n o.name (omega arith), told_add ps p (suc n) os (omega arith)) refl
+    let was = get_or_from_slice_get os file.opening o o here.opening in
+    sym (told_names _ 0 _) ∙ ap names (closed_state v file here)
+    ∙ map-set_same (λ (o : Opening). o.name) os file.opening _ o (rw was refl) ∙ told_names _ 0 v.openings

@@ -31,12 +31,8 @@ pub record InputState : Type 0 where
 
 -- the state after one read more, which left this buffer: it gave the buffer's first bytes, as many as it returned
 abbrev pub and_read : InputState → ByteString → Result ℕ Fault → InputState
-and_read s buf result = record s {
-  reads = record {
-    bytes = s.reads.bytes ++ take (result_unwrap_or result 0) buf;
-    phase = phase_after s.reads.phase (length buf) result;
-  };
-}
+and_read s buf result = let r = s.reads in let n = result_unwrap_or result 0 in
+    record s { reads = record { bytes = r.bytes ++ take n buf; phase = phase_after r.phase (length buf) result } }
 
 -- an input of so many bytes is too long
 unfoldable pub limit : ℕ
@@ -50,8 +46,7 @@ clip c = if nat_lt (length c.bytes) limit then c else record { bytes = take (lim
 abbrev pub empty_content : Content
 empty_content = record { bytes = []; ending = Whole }
 
--- a content that begins with these bytes, or is all of them, by how far it was read. What was read past an end is of
--- any content
+-- a content that begins with these bytes, or is all of them, by how far it was read; past an end it is any content
 abbrev pub IsReadTo : Phase → ByteString → Content → Type 0
 IsReadTo Unfinished bytes c = (rest : ByteString) × (c.bytes ≡ bytes ++ rest)
 IsReadTo (Ended e) bytes c = c ≡ record { bytes = bytes; ending = e }

@@ -5,8 +5,7 @@ use Rattle.sum_sources.specs.declared.fault.Ending.TheVariants.{Whole, Broken}
 pub use Rattle.sum_sources.specs.declared.inputs.phase.Phase.{Phase}
 pub use Rattle.sum_sources.specs.declared.inputs.phase.Phase.TheVariants.{Unfinished, Ended, Past}
 
--- the phase after a read into a buffer of so many bytes. A read of no bytes makes it Past: such a read shows nothing,
--- and may fail or wait. So does a read after the end or a fault. An input that is Past stays so
+-- the phase after a read into a buffer of so many bytes. It is Past after a read for no bytes, or after the ending
 abbrev pub phase_after : Phase → ℕ → Result ℕ Fault → Phase
 phase_after Unfinished (suc size) (Ok zero) = Ended Whole
 phase_after Unfinished (suc size) (Ok (suc n)) = Unfinished

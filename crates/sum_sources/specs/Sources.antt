@@ -11,18 +11,16 @@ use Rattle.sum_sources.specs.declared.sources.source.OpenFault.TheVariants as fa
 abbrev pub Answer : Type 0
 Answer = Result Content Fault
 
--- an opening: the name; and what it gave: what was read of the file by the time it was closed, or the fault of opening
--- it. As long as the file is open there is nothing yet
+-- an opening
 pub record Opening : Type 0 where
   pub name : ByteString
-  pub gave : Option (Result Reads Fault)
+  pub gave : Option (Result Reads Fault)  -- what was read of the file, once it is closed; or the fault of opening it
 
 -- this is of an answer: what was read is of its content, or this is the fault
 abbrev pub IsOfAnswer : Answer → Result Reads Fault → Type 0
 IsOfAnswer answer gave = MatchResult gave (λ r. (c : Content) × (answer ≡ Ok c) × IsOf r c) (λ f. answer ≡ Err f)
 
--- these are the answers to these openings, of which the first has so many before it. An answer is to the number of
--- openings before, and to the name: a file may change in between
+-- these openings, of which the first has n before it, gave these answers; a file may change from one to the next
 abbrev pub AnswersAre : (ℕ → ByteString → Answer) → ℕ → List Opening → Type 0
 AnswersAre answer n [] = ⊤
 AnswersAre answer n (o ∷ os) = IfSome o.gave (IsOfAnswer (answer n o.name)) × AnswersAre answer (suc n) os
@@ -33,8 +31,7 @@ pub record Pair : Type 0 where
   pub answer : Answer
   pub from : ℕ
 
--- the answer to the opening that has n before it: that of the first pair with the name that was added by then. A name
--- without a pair isn't found
+-- the answer to the opening that has n before it: that of the first pair with its name that was added by then, if any
 abbrev pub first_answer : List Pair → ℕ → ByteString → Answer
 first_answer [] n name = Err NotFound
 first_answer (p ∷ ps) n name = if nat_le p.from n && bytes_eq p.name name then p.answer else first_answer ps n name

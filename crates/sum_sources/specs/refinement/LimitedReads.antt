@@ -11,11 +11,11 @@ pub record FindsEnding (taken : ℕ) (a b : Reads) (e : Ending) : Type 0 where
   pub end : e ≡ Whole → b.phase ≡ Ended Whole
   pub past : b.phase ≢ Past
 
--- an input that hasn't ended gives bytes; or its end; or a fault, or a byte that reaches the limit
-abbrev pub AddsLimited : ℕ → Reads → Reads → Result ℕ Fault → ByteString → Type 0
-AddsLimited taken a b (Ok zero) buf = FindsEnding taken a b Whole
-AddsLimited taken a b (Ok (suc n)) buf = b ≡ record a { bytes = a.bytes ++ take (suc n) buf }
-AddsLimited taken a b (Err f) buf = FindsEnding taken a b (Broken f)
+-- an input that hasn't ended gives these bytes; or its end; or a fault, or a byte that reaches the limit
+abbrev pub AddsLimited : ℕ → Reads → Reads → ByteString → Result ℕ Fault → Type 0
+AddsLimited taken a b bytes (Ok zero) = FindsEnding taken a b Whole
+AddsLimited taken a b bytes (Ok (suc n)) = b ≡ record a { bytes = a.bytes ++ bytes }
+AddsLimited taken a b bytes (Err f) = FindsEnding taken a b (Broken f)
 
 -- the counts of bytes before and after such a read
 pub record CountsLimited (old new : ℕ) (result : Result ℕ Fault) : Type 0 where

@@ -11,7 +11,8 @@ pub enum Phase {
     Unfinished,
     /// The last read gave its end, or failed by its fault.
     Ended(Ending),
-    /// It was read again after its end or a fault, or a read asked for no bytes. It stays `Past` from then on.
+    /// It was read again after its end or a fault, or a read asked for no bytes, which may fail or wait, and shows
+    /// nothing. It stays `Past` from then on.
     Past,
 }
 
