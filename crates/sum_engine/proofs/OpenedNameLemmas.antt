@@ -17,16 +17,6 @@ use Rattle.sum_engine.specs.declared.hash_name.HashFault.TheVariants as hashing
 use Rattle.sum_sources.specs.declared.sources.source.OpenFault.TheVariants as faults
 use Rattle.sum_engine.proofs.WorldLemmas.{opening_agrees, asks_one, reads_none, reads_fault, AnswersAre-open}
 
--- ---- answers
-
-content_answered : (r : Reads) (x : Answer) → IsOfAnswer (Some (Ok r)) x → (c : Content) × (x ≡ Ok c) × IsOf r c
-content_answered r (Ok c) of = (c, refl, of)
-content_answered r (Err f) of = elim of [ ]
-
-fault_answered : (f : Fault) (x : Answer) → IsOfAnswer (Some (Err f)) x → x ≡ Err f
-fault_answered f (Ok c) same = elim same [ ]
-fault_answered f (Err g) same = search rules
-
 -- ---- standard input
 
 -- what agrees once this was put back agrees before
@@ -202,7 +192,7 @@ module _ {Whole : Type 0} {a m b n : InputsState} {name : List ℕ} {s t : Input
             stdin = rw closes at agrees.stdin;
           };
           answer = λ w agrees.
-              rw file (content_answered t.reads _ (opening_agrees agrees before later name (Ok t.reads) now.1));
+              rw file (opening_agrees agrees before later name (Ok t.reads) now.1);
         }
 
     -- it is standard input
@@ -249,8 +239,7 @@ module _ (a m : InputsState) (name : List ℕ) (f : Fault) (file : is_dash name 
     fault_asks = asks_one a m name (Some (Err f)) file opens
 
     pub fault_answer : (w : World) → Agrees w m → answer_to (world_at w a) name ≡ Err f
-    fault_answer w agrees = rw file
-        (fault_answered f _ (opening_agrees agrees a.source.openings [] name (Err f) (rw opens refl)))
+    fault_answer w agrees = rw file (opening_agrees agrees a.source.openings [] name (Err f) (rw opens refl))
 
 -- ---- hashing
 

@@ -4,7 +4,7 @@ use Rattle.sum_sources.specs.Contents.{HasContent, IsOf}
 use Rattle.sum_sources.specs.Sources.{HasAnswers, SourceState}
 use Rattle.sum_sources.specs.declared.inputs.stdin.StdinPlace.{StdinPlace}
 use Rattle.sum_sources.specs.declared.inputs.stdin.StdinPlace.TheVariants.{Untaken, Taken, Returned}
-use Rattle.sum_sources.specs.InputLaws.{given_has_content}
+use Rattle.sum_sources.specs.InputLaws.{closable_has_content}
 use Rattle.sum_engine.specs.Behavior.{Content, InputState, empty_content}
 use Rattle.sum_engine.specs.Execution.{stdin_of}
 use Rattle.sum_engine.specs.WorldLaws.{SomeWorldAgrees}
@@ -15,7 +15,7 @@ stdin_has : {I : Type 0} (state : I → InputState) → ((i : I) → HasContent 
     × IfSome (stdin_of state s).reads (λ r. IsOf r c)
 stdin_has state has (Untaken i) = let (c, is, of) = has i in (c, is, tt)
 stdin_has state has Taken = (empty_content, refl, tt)
-stdin_has state has (Returned given) = given_has_content state has given
+stdin_has state has (Returned given) = closable_has_content state has given
 
 pub some_world : {I : Type 0} (source : SourceState) (state : I → InputState) (s : StdinPlace I) → HasAnswers source
     → ((i : I) → HasContent (state i)) → SomeWorldAgrees (record { source = source; stdin = stdin_of state s })

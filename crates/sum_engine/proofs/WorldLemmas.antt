@@ -144,11 +144,11 @@ AnswersAre-front f n [] ys h = tt
 AnswersAre-front f n (x ∷ xs) ys h = (h.0, AnswersAre-front f (suc n) xs ys h.1)
 
 AnswersAre-at : (f : ℕ → List ℕ → Answer) (n : ℕ) (xs ys : List Opening) (o : Opening) → AnswersAre f n (xs ++ o ∷ ys)
-    → IsOfAnswer o.gave (f (length xs + n) o.name)
+    → IfSome o.gave (IsOfAnswer (f (length xs + n) o.name))
 AnswersAre-at f n [] ys o h = let here : 0 + n ≡ n = omega arith in rw here h.0
 AnswersAre-at f n (x ∷ xs) ys o h =
     let next : length xs + suc n ≡ suc (length xs) + n = omega arith in
-    subst (λ k. IsOfAnswer o.gave (f k o.name)) next (AnswersAre-at f (suc n) xs ys o h.1)
+    subst (λ k. IfSome o.gave (IsOfAnswer (f k o.name))) next (AnswersAre-at f (suc n) xs ys o h.1)
 
 pub AnswersAre-open : (f : ℕ → List ℕ → Answer) (n : ℕ) (xs ys : List Opening) (o : Opening)
     → AnswersAre f n (xs ++ o ∷ ys) → AnswersAre f n (xs ++ record o { gave = None } ∷ ys)
@@ -184,7 +184,7 @@ world_after w a b names asks =
 -- it is the answer to the name
 pub opening_agrees : {w : World} {b : InputsState} → Agrees w b → (before later : List Opening) (name : List ℕ)
     (gave : Result Reads Fault) → b.source.openings ≡ before ++ record { name = name; gave = Some gave } ∷ later
-    → IsOfAnswer (Some gave) (w.answer (length before) name)
+    → IsOfAnswer (w.answer (length before) name) gave
 opening_agrees {w} {b} h before later name gave is =
     let first : length before + 0 ≡ length before = omega arith in
     rw first at (AnswersAre-at w.answer 0 before later _ (rw is at h.answers))

@@ -1,9 +1,10 @@
 -- The state of a call's streams, and what a call performs of a behavior: the form of the headline.
 use Rattle.std.specs.Prelude.{ℕ, ◌≡◌, ◌≢◌, ◌+◌, ◌⊎◌, Bool, true, false, [], Option, None, Some, IfSome, IfOk, Result, Ok, Err, ◌<◌, ◌||◌, List, ◌∷◌, ◌++◌, map, length, filter, not, filter_map, All, if◌then◌else◌}
 use Rattle.std.specs.List.{list_any}
-use Rattle.sum_sources.specs.declared.inputs.phase.Phase.TheVariants.{AtEnd, Past}
+use Rattle.sum_sources.specs.declared.fault.Ending.TheVariants as ending
+use Rattle.sum_sources.specs.declared.inputs.phase.Phase.TheVariants.{Ended, Past}
 pub use Rattle.sum_sources.specs.Sources.{Opening, AnswersAre}
-use Rattle.sum_sources.specs.StandardInput.{given_state}
+use Rattle.sum_sources.specs.StandardInput.{unless_closed}
 use Rattle.sum_sources.specs.declared.inputs.stdin.StdinPlace.{StdinPlace}
 use Rattle.sum_sources.specs.declared.inputs.stdin.StdinPlace.TheVariants.{Untaken, Taken, Returned}
 use Rattle.sum_lines.specs.Sinks.{Gets}
@@ -23,7 +24,7 @@ pub record StdinState : Type 0 where
 abbrev pub stdin_of : {I : Type 0} → (I → InputState) → StdinPlace I → StdinState
 stdin_of state (Untaken i) = record { told = (state i).told; taken = false; reads = None }
 stdin_of state Taken = record { told = Some empty_content; taken = true; reads = None }
-stdin_of state (Returned given) = let s = given_state state given in
+stdin_of state (Returned given) = let s = unless_closed state given in
     record { told = s.told; taken = true; reads = Some s.reads }
 
 -- where names are opened
@@ -87,7 +88,7 @@ world_at w a =
 
 -- no read came after an end or a fault, or for no bytes; and if Whole holds, the end was found
 abbrev pub IsAtEndIf : Type 0 → Reads → Type 0
-IsAtEndIf Whole r = (r.phase ≢ Past) × (Whole → r.phase ≡ AtEnd)
+IsAtEndIf Whole r = (r.phase ≢ Past) × (Whole → r.phase ≡ Ended ending.Whole)
 
 -- a file was opened, read so, and closed; or it could not be opened
 abbrev pub ReadsFile : Type 0 → Opening → Type 0

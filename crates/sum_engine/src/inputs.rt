@@ -1,7 +1,7 @@
 //! Where a call opens and reads.
 ghost use Rattle.std.specs.Prelude.{◌≡◌, true, length, IfOk, MatchResult};
 ghost use Rattle.sum_sources.specs.Contents.{HashesInput};
-ghost use Rattle.sum_sources.specs.StandardInput.{given_state};
+ghost use Rattle.sum_sources.specs.StandardInput.{unless_closed};
 ghost use Rattle.sum_engine.specs.Behavior.{is_dash};
 ghost use Rattle.sum_engine.specs.refinement.Names.{FailsToOpen, GivesStdin, IsStillOpen, OpensName};
 ghost use Rattle.sum_engine.specs.refinement.Names.{after_closing_name, opened_state, stdin_after};
@@ -116,7 +116,7 @@ impl<I: Input + Drop, S: Source> Inputs<I, S> {
 
     // Takes standard input the first time, and an empty one afterwards.
     fn take_stdin(&mut self) -> Given<I>
-        ensures { GivesStdin (given_state I.state result) self.old self.new }
+        ensures { GivesStdin (unless_closed I.state result) self.old self.new }
     {
         self.stdin.take()
     }
@@ -124,7 +124,7 @@ impl<I: Input + Drop, S: Source> Inputs<I, S> {
     // Puts back what `take_stdin` gave.
     fn put_back_stdin(&mut self, given: Given<I>)
         ensures { self.old.stdin.taken ≡ true
-            → self.new ≡ record self.old { stdin = stdin_after self.old.stdin (given_state I.state given) } }
+            → self.new ≡ record self.old { stdin = stdin_after self.old.stdin (unless_closed I.state given) } }
     {
         self.stdin.put_back(given);
     }

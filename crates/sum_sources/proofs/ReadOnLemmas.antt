@@ -1,16 +1,17 @@
 -- What was read so far of a line, and what reading on adds to it.
-use Rattle.std.proofs.Common.{◌≡◌, ℕ, ◌+◌, ◌-◌, ◌^◌, ◌<◌, ◌≤◌, true, false, List, [], ◌∷◌, ◌++◌, length, take, None, Some, Result, Ok, Err, refl, ap, sym, ◌∙◌, append_assoc, append-nil, ◌==◌, arith, length-append, inl, inr}
-use Rattle.std.specs.Prelude.{◌⊎◌, OnOk, nat_lt, if◌then◌else◌}
+use Rattle.std.proofs.Common.{◌≡◌, ℕ, zero, suc, ◌+◌, ◌-◌, ◌^◌, ◌<◌, ◌≤◌, true, false, List, [], ◌∷◌, ◌++◌, length, take, None, Some, Result, Ok, Err, refl, ap, sym, ◌∙◌, append_assoc, append-nil, ◌==◌, arith, length-append, inl, inr}
+use Rattle.std.specs.Prelude.{◌⊎◌, ◌≢◌, OnOk, nat_lt, if◌then◌else◌}
 use Rattle.std.proofs.Math.Seq.{take-append-add, drop-append_seam}
 use Rattle.std.proofs.lemmas.List.{drop_all}
+use Rattle.std.proofs.lemmas.Result.{on_ok_weaker}
 use Rattle.std.proofs.lemmas.List.Elements.{All-append}
 use Rattle.std.specs.Str.Lines.{strip_carriage_return}
 use Rattle.sum_sources.specs.ManifestLines.{Next, Line, NoMore, LineStop, HasNoNewline, IsNextLine}
 use Rattle.sum_sources.specs.Contents.{Ending, Whole, Broken, Content, Reads, InputState, IsOf, Other, clip, limit}
 use Rattle.sum_sources.specs.LineReaders.{LineReaderValue, consumed_count, past, remaining, IsReading, ReadsOn}
-use Rattle.sum_sources.specs.Phases.{Unfinished, AtEnd, Past}
-use Rattle.sum_sources.specs.refinement.LimitedReads.{FindsEnding, IsReadTo}
-use Rattle.sum_sources.specs.refinement.LineStates.{TakesPiece}
+use Rattle.sum_sources.specs.Phases.{Unfinished, Ended, Past}
+use Rattle.sum_sources.specs.refinement.LimitedReads.{FindsEnding, AddsLimited}
+use Rattle.sum_sources.specs.refinement.LineStates.{FillsReader, TakesPiece}
 use Rattle.sum_sources.specs.declared.line_reader.LineStop.TheVariants as stops
 use Rattle.sum_sources.proofs.ContentLemmas.{with_prefix, limit-value}
 use Rattle.sum_sources.proofs.LimitLemmas.{before_more}
@@ -35,8 +36,18 @@ clip-prefix front rest few =
     (d, grind (arith, limit-value, length-append {A = ℕ}, cut))
 
 -- past the first of two parts
-past-front : (n : ℕ) (a b : List ℕ) (d : Content) → n ≡ length a → past n (with_prefix (a ++ b) d) ≡ with_prefix b d
-past-front n a b d at = rw (at, append_assoc, drop-append_seam) refl
+past-front : {c : Content} (n : ℕ) (a b : List ℕ) (d : Content) → c ≡ with_prefix (a ++ b) d → n ≡ length a
+    → past n c ≡ with_prefix b d
+past-front n a b d is at = rw (is, at, append_assoc, drop-append_seam) refl
+
+-- bytes of the first part were consumed
+adds_up : {x y : Content} {m : ℕ} (n : ℕ) (a b : List ℕ) (d : Content) → x ≡ with_prefix (a ++ b) d
+    → y ≡ with_prefix b d → m ≡ n + length a → m + length y.bytes ≡ n + length x.bytes
+adds_up n a b d was now count = rw (was, now) (simp length-append (omega (arith, count)))
+
+-- bytes of the second part are left
+some_left : {c : Content} (a b : List ℕ) (d : Content) → c ≡ with_prefix (a ++ b) d → 0 < length b → 0 < length c.bytes
+some_left a b d is some = rw is (simp length-append (omega (arith, some)))
 
 -- ---- a line is being read
 
@@ -72,12 +83,11 @@ module _ {I : Type 0} {state : I → InputState} {old s : LineReaderValue I} {by
         let fits : length all < 2 ^ 61 = omega (arith, few, sized, ap (λ (r : Reads). length r.bytes) h.reads) in
         let (d, clipped) = clip-prefix all (record { bytes = rest; ending = c.ending }) fits in
         let is : clip c ≡ with_prefix all d =
-        ap (λ bs. clip (record { bytes = bs; ending = c.ending })) begins ∙ clipped in
-        let now : consumed_count s ≡ length (h.front ++ bytes) = omega (arith, h.taken, length-append h.front bytes) in (
+        ap (λ bs. clip (record { bytes = bs; ending = c.ending })) begins ∙ clipped in (
           d,
-          ap (past (consumed_count old)) (is ∙ ap (λ bs. with_prefix bs d) (append_assoc h.front bytes s.ahead))
-              ∙ past-front _ h.front (bytes ++ s.ahead) d h.count,
-          ap (past (consumed_count s)) is ∙ past-front _ (h.front ++ bytes) s.ahead d now,
+          past-front _ h.front (bytes ++ s.ahead) d (is ∙ ap (λ bs. with_prefix bs d) (append_assoc h.front bytes s.ahead))
+              h.count,
+          past-front _ (h.front ++ bytes) s.ahead d is (omega (arith, h.taken, length-append h.front bytes)),
         )
 
     -- a piece that was ahead
@@ -92,13 +102,14 @@ module _ {I : Type 0} {state : I → InputState} {old s : LineReaderValue I} {by
     })
 
     -- bytes were read of the input
-    pub HasRead-filled : {s' : LineReaderValue I} → s.ahead ≡ []
-        → (state s'.input).reads ≡ record (state s.input).reads { bytes = (state s.input).reads.bytes ++ s'.ahead }
-        → s'.taken ≡ s.taken + length s'.ahead → HasRead state old s' bytes
-    HasRead-filled {s' = s'} none fills taken = record {
+    pub HasRead-filled : {s' : LineReaderValue I} (n : ℕ) → 0 < n → s.ahead ≡ []
+        → AddsLimited s.taken (state s.input).reads (state s'.input).reads s'.ahead (Ok n) → FillsReader s s' (Ok n)
+        → HasRead state old s' bytes
+    HasRead-filled zero some none fills counts = absurd (omega arith)
+    HasRead-filled {s' = s'} (suc n) some none fills counts = record {
       front = h.front;
       count = h.count;
-      taken = omega (arith, h.taken, taken, ap length none);
+      taken = omega (arith, h.taken, counts.0, counts.1, ap length none);
       reads = fills ∙ rw (h.reads, none, append-nil) refl;
       before = λ c of. h.before c (before_more _ _ s'.ahead HasRead-going fills c of);
     }
@@ -133,21 +144,9 @@ ended_line : {I : Type 0} {state : I → InputState} {old s : LineReaderValue I}
     → ReadsOn state old s (Ok Line) (strip_carriage_return line)
 ended_line {s = s} line h plain few going = record {
   line = λ c of.
-      let (d, was, now) = parts h few c of in
-      let size : Content → ℕ = λ x. length x.bytes in
-      let whole : List ℕ = (line ++ 10 ∷ []) ++ s.ahead in
-      let before = was ∙ rw append_assoc refl in (
-        next_of {d' = with_prefix s.ahead d} (Ok Line) _ before now (IsNextLine-ended _ line plain),
-        omega (
-          arith,
-          h.count,
-          h.taken,
-          length-append whole d.bytes,
-          length-append (line ++ 10 ∷ []) s.ahead,
-          length-append s.ahead d.bytes,
-          ap size was,
-          ap size now,
-        ),
+      let (d, was, now) = parts h few c of in (
+        next_of (Ok Line) _ (was ∙ rw append_assoc refl) now (IsNextLine-ended (with_prefix s.ahead d) line plain),
+        adds_up _ (line ++ 10 ∷ []) s.ahead d was now (omega (arith, h.count, h.taken)),
       );
   reading = record {
     under_way = λ going. (
@@ -177,9 +176,9 @@ ends_line {s' = s'} {line = line} h none same few going (piece, plain, cut, is) 
 -- a reader whose final answer is right
 settled : {I : Type 0} {state : I → InputState} {n : LineReaderValue I} (answer : Result Next LineStop)
     → n.final_answer ≡ Some answer
-    → ((bytes : List ℕ) (c : Content) → IsOf (state n.input).reads c
-    → IsNextLine (remaining n c) (remaining n c) answer bytes)
-    → (answer ≡ Ok NoMore → (state n.input).reads.phase ≡ AtEnd) → ¬ ((state n.input).reads.phase ≡ Past)
+    → ((line : List ℕ) (c : Content) → IsOf (state n.input).reads c
+    → IsNextLine (remaining n c) (remaining n c) answer line)
+    → (answer ≡ Ok NoMore → (state n.input).reads.phase ≡ Ended Whole) → ¬ ((state n.input).reads.phase ≡ Past)
     → IsReading state n
 settled answer final right end past = record {
   under_way = λ going. cc;
@@ -201,10 +200,7 @@ ends_memory {state = state} {old = old} {s = s} {line = line} h few some is byte
     let left : (c : Content) → IsOf (state s.input).reads c
     → (0 < length (remaining old c).bytes) × (0 < length (remaining s c).bytes) =
     λ c of. let (d, was, now) = parts h few c of in
-    let size : Content → ℕ = λ x. length x.bytes in (
-      omega (arith, some, ap size was, length-append (line ++ s.ahead) d.bytes, length-append line s.ahead),
-      omega (arith, some, ap size now, length-append s.ahead d.bytes),
-    ) in
+    (some_left line s.ahead d was some, some_left [] s.ahead d now some) in
     rw is (record {
       line = λ c of. ((left c of).0, tt);
       reading = settled (Err stops.Memory) refl (λ bytes c of. (left c of).1) (λ is. cc) (rw h.reads (λ past. cc));
@@ -216,22 +212,20 @@ abbrev answer_by : Ending → Result Next LineStop
 answer_by Whole = Ok NoMore
 answer_by (Broken f) = Err (stops.Fault f)
 
-settled_by : {I : Type 0} {state : I → InputState} {n : LineReaderValue I} (e : Ending)
-    → n.final_answer ≡ Some (answer_by e) → ((c : Content) → IsOf (state n.input).reads c → remaining n c ≡ just e)
-    → IsReadTo e (state n.input).reads.phase → IsReading state n
-settled_by Whole final left read = settled (Ok NoMore) final
-    (λ bytes c of. next_of {c' = just Whole} {d' = just Whole} (Ok NoMore) bytes (left c of) (left c of)
-    (lines-nil Whole, refl, refl)) (λ is. read)
-    (rw read (λ past. cc))
-settled_by (Broken f) final left read = settled (Err (stops.Fault f)) final
-    (λ bytes c of. next_of {c' = just (Broken f)} {d' = just (Broken f)} (Err (stops.Fault f)) bytes (left c of)
-    (left c of) (lines-nil (Broken f), refl, refl)) (λ is. cc) read
+-- the end of a content that has no line
+no_line : (e : Ending) (line : List ℕ) → IsNextLine (just e) (just e) (answer_by e) line
+no_line Whole line = (lines-nil Whole, refl, refl)
+no_line (Broken f) line = (lines-nil (Broken f), refl, refl)
+
+whole_by : (e : Ending) → answer_by e ≡ Ok NoMore → e ≡ Whole
+whole_by Whole is = refl
+whole_by (Broken f) is = cc
 
 -- the input ended so, after these bytes
 pub ends : {I : Type 0} {state : I → InputState} {old s : LineReaderValue I} (m : LineReaderValue I)
     {n : LineReaderValue I} {line bytes : List ℕ} (e : Ending) (answer : Result Next LineStop)
     → HasRead state old s line → s.ahead ≡ []
-    → FindsEnding s.taken (state s.input).reads (state m.input).reads e → m.ahead ≡ [] → s.taken ≤ m.taken
+    → FindsEnding s.taken (state s.input).reads (state m.input).reads e → length m.ahead ≡ 0 → s.taken ≤ m.taken
     → n ≡ record m { final_answer = Some (answer_by e) } → IsNextLine (with_prefix line (just e)) (just e) answer bytes
     → OnOk answer (m.taken ≡ s.taken) → ReadsOn state old n answer bytes
 ends {state = state} {old = old} {s = s} m {line = line} e answer h none finds none' more is next same =
@@ -239,33 +233,34 @@ ends {state = state} {old = old} {s = s} m {line = line} e answer h none finds n
     ap (λ (r : Reads). r.bytes) h.reads ∙ rw none refl in
     let all : (c : Content) → IsOf (state m.input).reads c → clip c ≡ with_prefix (h.front ++ line) (just e) =
     λ c of. finds.content (sized h) c of ∙ rw gave refl in
-    let count : length ((h.front ++ line) ++ []) ≡ s.taken = ap length (sym gave) ∙ sized h in
     let was : (c : Content) → IsOf (state m.input).reads c → remaining old c ≡ with_prefix line (just e) =
-    λ c of. ap (past (consumed_count old)) (all c of) ∙ past-front _ h.front line (just e) h.count in
+    λ c of. past-front _ h.front line (just e) (all c of) h.count in
     let now : (c : Content) → IsOf (state m.input).reads c → remaining m c ≡ just e =
-    λ c of. ap (past (consumed_count m)) (all c of)
-    ∙ rw (drop_all (consumed_count m) ((h.front ++ line) ++ []) (omega (arith, count, more, ap length none'))) refl in
+    λ c of. rw (
+      all c of,
+      drop_all (consumed_count m) ((h.front ++ line) ++ [])
+          (omega (arith, ap length gave, sized h, more, none')),
+    ) refl in
+    let size : Content → ℕ = λ c. length c.bytes in
     rw is (record {
-      line = λ c of. (next_of answer _ (was c of) (now c of) next, sum answer (was c of) (now c of) same);
-      reading = settled_by e refl now finds.phase;
+      line = λ c of. (
+        next_of answer _ (was c of) (now c of) next,
+        on_ok_weaker answer (λ same. omega (
+          arith,
+          h.count,
+          h.taken,
+          same,
+          ap length none,
+          none',
+          ap size (was c of),
+          ap size (now c of),
+          length-append line [],
+        )) same,
+      );
+      reading = settled (answer_by e) refl (λ line c of. next_of (answer_by e) line (now c of) (now c of) (no_line e line))
+          (λ is. finds.end (whole_by e is)) finds.past;
       before = λ c of. h.before c (finds.before c of);
     })
-  where
-    sum : {x y : Content} (r : Result Next LineStop) → x ≡ with_prefix line (just e) → y ≡ just e
-        → OnOk r (m.taken ≡ s.taken)
-        → OnOk r (consumed_count m + length y.bytes ≡ consumed_count old + length x.bytes)
-    sum (Ok n) was now same = omega (
-      arith,
-      h.count,
-      h.taken,
-      same,
-      ap length none,
-      ap length none',
-      ap (λ (c : Content). length c.bytes) was,
-      ap (λ (c : Content). length c.bytes) now,
-      length-append line [],
-    )
-    sum (Err f) was now same = tt
 
 -- a final answer is returned again
 pub settled_again : {I : Type 0} {state : I → InputState} {r : LineReaderValue I} (answer : Result Next LineStop)

@@ -5,11 +5,10 @@ use Rattle.std.proofs.Math.Seq.{map-set_same}
 use Rattle.std.proofs.lemmas.List.{take_min, length-take, length-map, map-append}
 use Rattle.std.proofs.lemmas.Option.{get_or_from_slice_get}
 use Rattle.sum_sources.specs.Contents.{Content, Ending, Whole, Broken}
-use Rattle.sum_sources.specs.Phases.{Phase, Unfinished, AtEnd, Failed, Past}
-use Rattle.sum_sources.specs.StandardInput.{told_reads, ToldContent, told_file, phase_by}
-use Rattle.sum_sources.specs.Sources.{Answer, Opening, Pair, first_answer, IsOpen, closed}
+use Rattle.sum_sources.specs.Phases.{Phase, Unfinished, Ended, Past}
+use Rattle.sum_sources.specs.StandardInput.{told_reads, ToldContent, told_file}
+use Rattle.sum_sources.specs.Sources.{Answer, Opening, first_answer, IsOpen}
 use Rattle.sum_sources.specs.InMemory.{Answers, ToldFiles, told_gave, told_openings, told_source}
-use Rattle.sum_sources.specs.refinement.ToldPairs.{ToldSourceInvariant}
 
 -- an opening that gave what the answer gives
 abbrev IsTold : Answers → ℕ → Opening → Type 0
@@ -32,22 +31,20 @@ told_set answer n m (suc k) (x ∷ xs) o at one =
     ap (λ os. record x { gave = told_gave (answer n x.name) x.gave } ∷ os)
     (told_set answer (suc n) m k xs o (omega (arith, at)) one)
 
-ended_again : (bytes : List ℕ) (e : Ending) (n : ℕ) → told_reads (record { bytes = bytes; ending = e }) n (phase_by e)
-    ≡ record { bytes = bytes; phase = phase_by e }
-ended_again bytes Whole n = refl
-ended_again bytes (Broken f) n = refl
-
 -- what was read of a content in memory is what is read of it up to there
 told_again : (c : Content) (n : ℕ) (phase : Phase)
     → told_reads c (length (told_reads c n phase).bytes) (told_reads c n phase).phase ≡ told_reads c n phase
 told_again c n Unfinished = grind (arith, length-take, take_min)
 told_again c n Past = grind (arith, length-take, take_min)
-told_again c n AtEnd = ended_again c.bytes c.ending (length c.bytes)
-told_again c n (Failed f) = ended_again c.bytes c.ending (length c.bytes)
+told_again c n (Ended e) = refl
+
+-- the opening of a file, once that is closed
+abbrev pub closed : ToldContent → Opening
+closed file = record { name = file.name; gave = Some (Ok (told_file file).reads) }
 
 -- a file in memory, which its source opened, gave what its answer gives
 closed_told : (v : ToldFiles) (file : ToldContent) → IsOpen (told_source v) (told_file file)
-    → IsTold (first_answer v.pairs) file.opening (closed (told_file file))
+    → IsTold (first_answer v.pairs) file.opening (closed file)
 closed_told v file here =
     rw (by (first_answer v.pairs file.opening file.name) here.told)
     (ap (λ r. Some (Ok r)) (told_again file.content file.given file.phase))
@@ -56,50 +53,39 @@ closed_told v file here =
     by (Ok c) is = cc
     by (Err f) is = cc
 
+-- openings keep their names
+told_names : (answer : Answers) (n : ℕ) (os : List Opening)
+    → map (λ o. o.name) (told_openings answer n os) ≡ map (λ o. o.name) os
+told_names answer n [] = refl
+told_names answer n (o ∷ os) = ap (λ names. o.name ∷ names) (told_names answer (suc n) os)
+
 -- as many names were asked as there were openings
 pub count_asked : {A : Type 0} (f : A → List ℕ) (xs : List A) (os : List Opening) → map f xs ≡ map (λ o. o.name) os
     → length xs ≡ length os
 count_asked f xs os is = sym (length-map xs f) ∙ ap length is ∙ length-map os (λ o. o.name)
 
--- what was opened, and the names asked, after one opening more
-pub opened_state : (pairs : List Pair) (os : List Opening) (o : Opening) → IsTold (first_answer pairs) (length os) o
-    → told_openings (first_answer pairs) 0 (os ++ o ∷ []) ≡ told_openings (first_answer pairs) 0 os ++ o ∷ []
-opened_state pairs os o one = told_append (first_answer pairs) 0 (length os) os o (omega arith) one
+pub count_told : (answer : Answers) (os : List Opening) → length (told_openings answer 0 os) ≡ length os
+count_told answer os = count_asked (λ o. o.name) _ os (told_names answer 0 os)
 
-pub opened_one : (pairs : List Pair) (names : List (List ℕ)) (os : List Opening) (o : Opening)
-    → ToldSourceInvariant pairs names os → IsTold (first_answer pairs) (length os) o
-    → ToldSourceInvariant pairs (names ++ o.name ∷ []) (os ++ o ∷ [])
-opened_one pairs names os o i one = record {
-  asked = rw (i.asked, map-append) refl;
-  told = opened_state pairs os o one ∙ ap (λ os. os ++ o ∷ []) i.told;
-}
+-- what was opened, after one opening more
+pub opened_state : (answer : Answers) (os : List Opening) (o : Opening) → IsTold answer (length os) o
+    → told_openings answer 0 (os ++ o ∷ []) ≡ told_openings answer 0 os ++ o ∷ []
+opened_state answer os o one = told_append answer 0 (length os) os o (omega arith) one
 
 -- and after a file was closed
 pub closed_state : (v : ToldFiles) (file : ToldContent) → IsOpen (told_source v) (told_file file)
-    → told_openings (first_answer v.pairs) 0 (slice_set v.openings file.opening (closed (told_file file)))
-    ≡ slice_set (told_openings (first_answer v.pairs) 0 v.openings) file.opening (closed (told_file file))
+    → told_openings (first_answer v.pairs) 0 (slice_set v.openings file.opening (closed file))
+    ≡ slice_set (told_openings (first_answer v.pairs) 0 v.openings) file.opening (closed file)
 closed_state v file here =
     told_set _ 0 file.opening file.opening v.openings _ (omega arith) (closed_told v file here)
 
-pub closed_one : (v : ToldFiles) (names : List (List ℕ)) (file : ToldContent) → IsOpen (told_source v) (told_file file)
-    → ToldSourceInvariant v.pairs names v.openings
-    → ToldSourceInvariant v.pairs names (slice_set v.openings file.opening (closed (told_file file)))
-closed_one v names file here i =
+-- its name stays
+pub closed_names : (v : ToldFiles) (file : ToldContent) → IsOpen (told_source v) (told_file file)
+    → map (λ o. o.name) (slice_set v.openings file.opening (closed file)) ≡ map (λ o. o.name) v.openings
+closed_names v file here =
+    let names : List Opening → List (List ℕ) = map (λ o. o.name) in
+    let os = told_openings (first_answer v.pairs) 0 v.openings in
     let o : Opening = record { name = file.name; gave = None } in
-    let was = get_or_from_slice_get v.openings file.opening o o (rw i.told at here.opening) in
-    record {
-      asked = i.asked ∙ sym (map-set_same (λ (o : Opening). o.name) v.openings file.opening _ o (rw was refl));
-      told = closed_state v file here ∙ ap (λ os. slice_set os file.opening (closed (told_file file))) i.told;
-    }
-
--- a pair that is added answers no opening that came before
-more_pairs : (ps : List Pair) (p : Pair) (n : ℕ) (name : List ℕ) → n < p.from
-    → first_answer (ps ++ p ∷ []) n name ≡ first_answer ps n name
-more_pairs [] p n name later = grind arith
-more_pairs (q ∷ qs) p n name later = grind (arith, more_pairs qs p n name later)
-
-pub told_add : (ps : List Pair) (p : Pair) (n : ℕ) (os : List Opening) → length os + n ≤ p.from
-    → told_openings (first_answer (ps ++ p ∷ [])) n os ≡ told_openings (first_answer ps) n os
-told_add ps p n [] later = refl
-told_add ps p n (o ∷ os) later =
-    rw (more_pairs ps p n o.name (omega arith), told_add ps p (suc n) os (omega arith)) refl
+    let was = get_or_from_slice_get os file.opening o o here.opening in
+    sym (told_names _ 0 _) ∙ ap names (closed_state v file here)
+    ∙ map-set_same (λ (o : Opening). o.name) os file.opening _ o (rw was refl) ∙ told_names _ 0 v.openings

@@ -3,7 +3,7 @@ use Rattle.std.specs.Prelude.{ℕ, ◌≡◌, ◌-◌, ◌^◌, [], ◌++◌, ta
 use Rattle.std.specs.Result.{result_unwrap_or}
 use Rattle.digest_kinds.specs.Bytes.{ByteString}
 use Rattle.digest_kinds.specs.Kinds.{digest, KindValue}
-use Rattle.sum_sources.specs.Phases.{Phase, Unfinished, AtEnd, Failed, Past, phase_after}
+use Rattle.sum_sources.specs.Phases.{Phase, Unfinished, Ended, Past, phase_after}
 pub use Rattle.sum_sources.specs.Faults.{Fault, Other}
 pub use Rattle.sum_sources.specs.declared.fault.Ending.{Ending}
 pub use Rattle.sum_sources.specs.declared.fault.Ending.TheVariants.{Whole, Broken}
@@ -22,19 +22,17 @@ pub record Reads : Type 0 where
 abbrev pub unread : Reads
 unread = record { bytes = []; phase = Unfinished }
 
--- one read more, into a buffer of so many bytes: it gave the first bytes of the buffer, as many as it returned
-abbrev pub and_read : Reads → ℕ → Result ℕ Fault → ByteString → Reads
-and_read r size result buf = record {
-  bytes = r.bytes ++ take (result_unwrap_or result 0) buf;
-  phase = phase_after r.phase size result;
-}
-
 -- the state of an input: which file it is, and what its reads gave
 pub record InputState : Type 0 where
   pub opening : ℕ  -- how many openings of its source came before that of this file
   pub name : ByteString  -- by which it was opened
   pub told : Option Content  -- its content, if that is in memory
   pub reads : Reads
+
+-- the state after one read more, which left this buffer: it gave the buffer's first bytes, as many as it returned
+abbrev pub and_read : InputState → ByteString → Result ℕ Fault → InputState
+and_read s buf result = let r = s.reads in let n = result_unwrap_or result 0 in
+    record s { reads = record { bytes = r.bytes ++ take n buf; phase = phase_after r.phase (length buf) result } }
 
 -- an input of so many bytes is too long
 unfoldable pub limit : ℕ
@@ -48,12 +46,10 @@ clip c = if nat_lt (length c.bytes) limit then c else record { bytes = take (lim
 abbrev pub empty_content : Content
 empty_content = record { bytes = []; ending = Whole }
 
--- a content that begins with these bytes, or is all of them, by how far it was read. What was read past an end is of
--- any content
+-- a content that begins with these bytes, or is all of them, by how far it was read; past an end it is any content
 abbrev pub IsReadTo : Phase → ByteString → Content → Type 0
 IsReadTo Unfinished bytes c = (rest : ByteString) × (c.bytes ≡ bytes ++ rest)
-IsReadTo AtEnd bytes c = c ≡ record { bytes = bytes; ending = Whole }
-IsReadTo (Failed f) bytes c = c ≡ record { bytes = bytes; ending = Broken f }
+IsReadTo (Ended e) bytes c = c ≡ record { bytes = bytes; ending = e }
 IsReadTo Past bytes c = ⊤
 
 -- these reads are of that content
@@ -79,7 +75,7 @@ pub record HashesInput (kind : KindValue) (old new : InputState) (result : Resul
   -- if it was unread: the digest of each content that its reads are of, or its fault
   pub digest : old.reads ≡ unread → (c : Content) → IsOf new.reads c → Hashes kind (clip c) result
   -- a digest is returned only at its end, and it is never read past its end or its fault
-  pub end : old.reads.phase ≡ Unfinished → IfOk result (λ _. new.reads.phase ≡ AtEnd)
+  pub end : old.reads.phase ≡ Unfinished → IfOk result (λ _. new.reads.phase ≡ Ended Whole)
   pub past : old.reads.phase ≡ Unfinished → ¬ (new.reads.phase ≡ Past)
 
 -- an input over a reader, and what its reads gave

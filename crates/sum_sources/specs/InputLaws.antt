@@ -2,57 +2,35 @@
 use Rattle.std.proofs.Common.{rules, ℕ, None, refl, drop}
 use Rattle.std.proofs.lemmas.List.{take-append-drop}
 use Rattle.sum_sources.specs.Contents.{Content, InputState, HasContent, IsOf, IsReadTo, Whole, Broken, empty_content}
-use Rattle.sum_sources.specs.Faults.{Os, ByteString}
-use Rattle.std.specs.Prelude.{pos, []}
-use Rattle.sum_sources.specs.Phases.{Phase, Unfinished, AtEnd, Failed, Past}
-use Rattle.sum_sources.specs.StandardInput.{told_reads, ToldContent, told_state, told_file, phase_by, unless_closed, empty_reads, given_state}
+use Rattle.sum_sources.specs.Faults.{ByteString}
+use Rattle.std.specs.Prelude.{[]}
+use Rattle.sum_sources.specs.Phases.{Phase, Unfinished, Ended, Past}
+use Rattle.sum_sources.specs.StandardInput.{told_reads, ToldContent, told_file, unless_closed}
 use Rattle.sum_sources.specs.declared.inputs.closable.Closable.{Closable}
 use Rattle.sum_sources.specs.declared.inputs.closable.Closable.TheVariants.{Open, Closed}
-use Rattle.sum_sources.specs.declared.inputs.stdin.Reply.{Reply}
-use Rattle.sum_sources.specs.declared.inputs.stdin.Reply.TheVariants.{First, Empty}
 
--- after its ending was read
-pub at_ending : (c : Content) → IsOf (record { bytes = c.bytes; phase = phase_by c.ending }) c
-at_ending c = Prim.search rules
+-- ---- inputs in memory
 
 pub told_is_of : (c : Content) (n : ℕ) (phase : Phase) → IsOf (told_reads c n phase) c
 told_is_of c n Unfinished = (drop n c.bytes, Prim.search (rules, take-append-drop))
-told_is_of c n AtEnd = at_ending c
-told_is_of c n (Failed f) = at_ending c
+told_is_of c n (Ended e) = refl
 told_is_of c n Past = tt
 
-pub told_has_content : (c : Content) (n : ℕ) (phase : Phase) → HasContent (told_state c n phase)
-told_has_content c n phase = (c, refl, told_is_of c n phase)
-
 pub told_file_has_content : (t : ToldContent) → HasContent (told_file t)
-told_file_has_content t = told_has_content t.content t.given t.phase
+told_file_has_content t = (t.content, refl, told_is_of t.content t.given t.phase)
 
 -- of an input that may be closed
 pub closable_has_content : {I : Type 0} (state : I → InputState) (has : (i : I) → HasContent (state i))
     (s : Closable I) → HasContent (unless_closed state s)
 closable_has_content state has (Open i) = has i
-closable_has_content state has (Closed p) =
-    told_has_content (record { bytes = []; ending = Broken (Os (pos 9)) }) 0 p
-
--- of what standard input gives
-pub empty_is_of : (phase : Phase) → IsOf (empty_reads phase) empty_content
-empty_is_of Unfinished = ([], refl)
-empty_is_of AtEnd = refl
-empty_is_of (Failed f) = refl
-empty_is_of Past = tt
-
-pub given_has_content : {I : Type 0} (state : I → InputState) (has : (i : I) → HasContent (state i)) (given : Reply I)
-    → HasContent (given_state state given)
-given_has_content state has (First i) = has i
-given_has_content state has (Empty phase) = (empty_content, refl, empty_is_of phase)
+closable_has_content state has (Closed e phase) = (_, refl, told_is_of (record { bytes = []; ending = e }) 0 phase)
 
 -- ---- inputs that aren't in memory
 
 -- a content that these reads are of
 pub some_content : (bytes : ByteString) (phase : Phase) → (c : Content) × IsReadTo phase bytes c
 some_content bytes Unfinished = (record { bytes = bytes; ending = Whole }, ([], Prim.search rules))
-some_content bytes AtEnd = (_, refl)
-some_content bytes (Failed f) = (_, refl)
+some_content bytes (Ended e) = (_, refl)
 some_content bytes Past = (empty_content, tt)
 
 pub real_has_content : (s : InputState) → HasContent (record s { told = None })

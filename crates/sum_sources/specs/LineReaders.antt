@@ -1,9 +1,9 @@
 -- The state of a reader of lines, and what a call changes in it.
 use Rattle.std.specs.Prelude.{ℕ, ◌≡◌, ◌+◌, ◌-◌, ◌^◌, ◌≤◌, ◌⊎◌, ◌++◌, length, drop, Option, None, Some, Result, Ok, OnOk}
-use Rattle.sum_sources.specs.Contents.{Content, InputState, IsOf, IsSameInput, clip}
+use Rattle.sum_sources.specs.Contents.{Content, Whole, InputState, IsOf, IsSameInput, clip}
 use Rattle.sum_sources.specs.Faults.{ByteString}
 use Rattle.sum_sources.specs.ManifestLines.{Next, Line, NoMore, LineStop, HasNoNewline, IsNextLine, lines_after}
-use Rattle.sum_sources.specs.Phases.{Unfinished, AtEnd, Past}
+use Rattle.sum_sources.specs.Phases.{Unfinished, Ended, Past}
 
 -- a reader of lines
 pub record LineReaderValue (I : Type 0) : Type 0 where
@@ -51,7 +51,7 @@ pub record IsReading {I : Type 0} (state : I → InputState) (r : LineReaderValu
   pub final : (answer : Result Next LineStop) → r.final_answer ≡ Some answer → (line : ByteString)
       → ReadsLine state r r answer line
   -- the input is at its end if no line remains, and is never read past its end or its fault
-  pub end : r.final_answer ≡ Some (Ok NoMore) → (state r.input).reads.phase ≡ AtEnd
+  pub end : r.final_answer ≡ Some (Ok NoMore) → (state r.input).reads.phase ≡ Ended Whole
   pub past : ¬ ((state r.input).reads.phase ≡ Past)
 
 -- what every later call returns, once this was returned. After the end or a stop, the same. After a line, either

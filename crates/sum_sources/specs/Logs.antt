@@ -1,16 +1,11 @@
 -- What the logs keep that only proofs see.
-use Rattle.std.specs.Prelude.{ℕ, [], length, None, Result}
-use Rattle.sum_sources.specs.Faults.{Fault, ByteString}
-use Rattle.sum_sources.specs.Contents.{InputState, unread, and_read}
+use Rattle.std.specs.Prelude.{[], None}
+use Rattle.sum_sources.specs.Contents.{InputState, unread}
 use Rattle.sum_sources.specs.Sources.{SourceState}
 
 -- no read of an input that no source opened, and that isn't in memory
 abbrev pub no_reads : InputState
 no_reads = record { opening = 0; name = []; told = None; reads = unread }
-
--- one read more, which left this buffer
-abbrev pub logged : InputState → ByteString → Result ℕ Fault → InputState
-logged s buf read = record s { reads = and_read s.reads (length buf) read buf }
 
 -- no opening of a source that isn't in memory
 abbrev pub no_openings : SourceState

@@ -1,6 +1,6 @@
 -- The law of sources: each has answers to its openings.
 use Rattle.std.proofs.Common.{ℕ, zero, suc, [], ◌∷◌, refl, List, Ok, Err, None, Some}
-use Rattle.std.specs.Prelude.{length, Option, Result}
+use Rattle.std.specs.Prelude.{length, Option, Result, IfSome}
 use Rattle.sum_sources.specs.Contents.{Fault, Reads}
 use Rattle.sum_sources.specs.Faults.{NotFound}
 use Rattle.sum_sources.specs.Sources.{Answer, Opening, first_answer, SourceState, IsOfAnswer, AnswersAre, HasAnswers}
@@ -10,9 +10,10 @@ use Rattle.sum_sources.specs.InputLaws.{some_content, told_is_of}
 
 -- ---- sources in memory
 
-pub told_gave_is : (answer : Answer) (gave : Option (Result Reads Fault)) → IsOfAnswer (told_gave answer gave) answer
+pub told_gave_is : (answer : Answer) (gave : Option (Result Reads Fault))
+    → IfSome (told_gave answer gave) (IsOfAnswer answer)
 told_gave_is (Err f) gave = refl
-told_gave_is (Ok c) (Some (Ok r)) = told_is_of c (length r.bytes) r.phase
+told_gave_is (Ok c) (Some (Ok r)) = (c, refl, told_is_of c (length r.bytes) r.phase)
 told_gave_is (Ok c) (Some (Err f)) = tt
 told_gave_is (Ok c) None = tt
 
@@ -26,9 +27,9 @@ told_has_answers s = (first_answer s.pairs, refl, told_are (first_answer s.pairs
 -- ---- sources that aren't in memory
 
 -- an answer of which this is
-pub some_answer : (gave : Option (Result Reads Fault)) → (answer : Answer) × IsOfAnswer gave answer
+pub some_answer : (gave : Option (Result Reads Fault)) → (answer : Answer) × IfSome gave (IsOfAnswer answer)
 some_answer None = (Err NotFound, tt)
-some_answer (Some (Ok r)) = let (c, of) = some_content r.bytes r.phase in (Ok c, of)
+some_answer (Some (Ok r)) = let (c, of) = some_content r.bytes r.phase in (Ok c, (c, refl, of))
 some_answer (Some (Err f)) = (Err f, refl)
 
 abbrev pub some_answers : List Opening → Answers

@@ -1,5 +1,5 @@
 -- Sources of files: what was asked of one, and what it answered.
-use Rattle.std.specs.Prelude.{ℕ, suc, slice_get, slice_set, ◌≡◌, ◌+◌, List, [], ◌∷◌, ◌++◌, length, Option, None, Some, Result, Ok, Err, ⊤, IfSome, ◌&&◌, if◌then◌else◌, bytes_eq, nat_le}
+use Rattle.std.specs.Prelude.{ℕ, suc, slice_get, slice_set, ◌≡◌, ◌+◌, List, [], ◌∷◌, ◌++◌, length, Option, None, Some, Result, Ok, Err, ⊤, IfSome, MatchResult, ◌&&◌, if◌then◌else◌, bytes_eq, nat_le}
 use Rattle.std.specs.Option.{option_and_then}
 use Rattle.std.specs.Result.{result_ok}
 use Rattle.sum_sources.specs.Contents.{Content, InputState, Reads, IsOf, unread}
@@ -11,24 +11,19 @@ use Rattle.sum_sources.specs.declared.sources.source.OpenFault.TheVariants as fa
 abbrev pub Answer : Type 0
 Answer = Result Content Fault
 
--- an opening: the name; and what it gave: what was read of the file by the time it was closed, or the fault of opening
--- it. As long as the file is open there is nothing yet
+-- an opening
 pub record Opening : Type 0 where
   pub name : ByteString
-  pub gave : Option (Result Reads Fault)
+  pub gave : Option (Result Reads Fault)  -- what was read of the file, once it is closed; or the fault of opening it
 
--- what an opening gave is of this answer: what was read is of that content, or this is the fault of opening
-abbrev pub IsOfAnswer : Option (Result Reads Fault) → Answer → Type 0
-IsOfAnswer None answer = ⊤
-IsOfAnswer (Some (Ok r)) (Ok c) = IsOf r c
-IsOfAnswer (Some (Err f)) (Err g) = f ≡ g
-IsOfAnswer gave answer = ⊥
+-- this is of an answer: what was read is of its content, or this is the fault
+abbrev pub IsOfAnswer : Answer → Result Reads Fault → Type 0
+IsOfAnswer answer gave = MatchResult gave (λ r. (c : Content) × (answer ≡ Ok c) × IsOf r c) (λ f. answer ≡ Err f)
 
--- these are the answers to these openings, of which the first has so many before it. An answer is to the number of
--- openings before, and to the name: a file may change in between
+-- these openings, of which the first has n before it, gave these answers; a file may change from one to the next
 abbrev pub AnswersAre : (ℕ → ByteString → Answer) → ℕ → List Opening → Type 0
 AnswersAre answer n [] = ⊤
-AnswersAre answer n (o ∷ os) = IsOfAnswer o.gave (answer n o.name) × AnswersAre answer (suc n) os
+AnswersAre answer n (o ∷ os) = IfSome o.gave (IsOfAnswer (answer n o.name)) × AnswersAre answer (suc n) os
 
 -- a name in memory, the answer to it, and from which opening on: so many came before the pair was added
 pub record Pair : Type 0 where
@@ -36,8 +31,7 @@ pub record Pair : Type 0 where
   pub answer : Answer
   pub from : ℕ
 
--- the answer to the opening that has n before it: that of the first pair with the name that was added by then. A name
--- without a pair isn't found
+-- the answer to the opening that has n before it: that of the first pair with its name that was added by then, if any
 abbrev pub first_answer : List Pair → ℕ → ByteString → Answer
 first_answer [] n name = Err NotFound
 first_answer (p ∷ ps) n name = if nat_le p.from n && bytes_eq p.name name then p.answer else first_answer ps n name
@@ -59,12 +53,8 @@ content_at s n name = option_and_then (λ pairs. result_ok (first_answer pairs n
 
 -- a name is opened: this is the file, and nothing was read of it yet
 abbrev pub opened_file : SourceState → ByteString → InputState
-opened_file s name = record {
-  opening = length s.openings;
-  name = name;
-  told = content_at s (length s.openings) name;
-  reads = unread;
-}
+opened_file s name = let n = length s.openings in
+    record { opening = n; name = name; told = content_at s n name; reads = unread }
 
 -- one opening more
 abbrev pub and_opening : SourceState → ByteString → Option (Result Reads Fault) → SourceState
@@ -81,10 +71,7 @@ pub record IsOpen (s : SourceState) (file : InputState) : Type 0 where
   pub opening : slice_get s.openings file.opening ≡ Some (record { name = file.name; gave = None })
   pub told : file.told ≡ content_at s file.opening file.name
 
--- the opening of a file, once that is closed
-abbrev pub closed : InputState → Opening
-closed file = record { name = file.name; gave = Some (Ok file.reads) }
-
 -- the source after this file was closed
 abbrev pub after_closing : SourceState → InputState → SourceState
-after_closing s file = record s { openings = slice_set s.openings file.opening (closed file) }
+after_closing s file =
+    record s { openings = slice_set s.openings file.opening (record { name = file.name; gave = Some (Ok file.reads) }) }

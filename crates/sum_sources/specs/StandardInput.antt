@@ -1,28 +1,19 @@
 -- Standard input: before it is taken, when it was taken, and after it was put back.
-use Rattle.std.specs.Prelude.{ℕ, ◌≡◌, pos, [], take, Some, ⊤}
-use Rattle.sum_sources.specs.Contents.{Content, Whole, Broken, InputState, Reads, unread, empty_content}
-use Rattle.sum_sources.specs.Faults.{Os, ByteString}
-use Rattle.sum_sources.specs.Phases.{Phase, Unfinished, AtEnd, Failed, Past}
+use Rattle.std.specs.Prelude.{ℕ, ◌≡◌, [], take, Some}
+use Rattle.sum_sources.specs.Contents.{Content, Whole, InputState, Reads, unread}
+use Rattle.sum_sources.specs.Faults.{ByteString}
+use Rattle.sum_sources.specs.Phases.{Phase, Unfinished, Ended}
 use Rattle.sum_sources.specs.declared.inputs.stdin.StdinPlace.{StdinPlace}
 use Rattle.sum_sources.specs.declared.inputs.stdin.StdinPlace.TheVariants.{Untaken, Taken, Returned}
-use Rattle.sum_sources.specs.declared.inputs.stdin.Reply.{Reply}
-use Rattle.sum_sources.specs.declared.inputs.stdin.Reply.TheVariants.{First, Empty}
 use Rattle.sum_sources.specs.declared.inputs.closable.Closable.{Closable}
 use Rattle.sum_sources.specs.declared.inputs.closable.Closable.TheVariants.{Open, Closed}
-use Rattle.sum_sources.specs.declared.fault.Ending.{Ending}
 
 -- ---- a content in memory
 
--- the phase after an ending was read
-abbrev pub phase_by : Ending → Phase
-phase_by Whole = AtEnd
-phase_by (Broken f) = Failed f
-
 -- what reads of a content gave: its first n bytes so far; or all of them, and then its ending
 abbrev pub told_reads : Content → ℕ → Phase → Reads
-told_reads c n Unfinished = record { bytes = take n c.bytes; phase = Unfinished }
-told_reads c n Past = record { bytes = take n c.bytes; phase = Past }
-told_reads c n phase = record { bytes = c.bytes; phase = phase_by c.ending }
+told_reads c n (Ended e) = record { bytes = c.bytes; phase = Ended c.ending }
+told_reads c n phase = record { bytes = take n c.bytes; phase = phase }
 
 -- an input in memory
 pub record ToldContent : Type 0 where
@@ -33,45 +24,31 @@ pub record ToldContent : Type 0 where
   pub opening : ℕ
   pub name : ByteString
 
--- the state of one that no source opened
-abbrev pub told_state : Content → ℕ → Phase → InputState
-told_state c n phase = record { opening = 0; name = []; told = Some c; reads = told_reads c n phase }
-
--- and of one that may be a source's file
+-- its state
 abbrev pub told_file : ToldContent → InputState
-told_file t = record (told_state t.content t.given t.phase) { opening = t.opening; name = t.name }
+told_file t = let c = t.content in
+    record { opening = t.opening; name = t.name; told = Some c; reads = told_reads c t.given t.phase }
+
+-- ---- an input that may be closed
+
+-- its state. A closed one has no bytes, and ends so
+abbrev pub unless_closed : {I : Type 0} → (I → InputState) → Closable I → InputState
+unless_closed state (Open i) = state i
+unless_closed state (Closed e phase) = let c : Content = record { bytes = []; ending = e } in
+    record { opening = 0; name = []; told = Some c; reads = told_reads c 0 phase }
 
 -- ---- standard input
 
 -- as long as it wasn't taken, nothing was read of it
 abbrev pub IsUnreadUntilTaken : {I : Type 0} → (I → InputState) → StdinPlace I → Type 0
-IsUnreadUntilTaken state (Untaken i) = (state i).reads ≡ unread
-IsUnreadUntilTaken state place = ⊤
-
--- what was read of an empty input, by its phase: it never failed
-abbrev pub empty_reads : Phase → Reads
-empty_reads (Failed f) = record { bytes = []; phase = AtEnd }
-empty_reads phase = record { bytes = []; phase = phase }
-
--- the state of what taking gives
-abbrev pub given_state : {I : Type 0} → (I → InputState) → Reply I → InputState
-given_state state (First i) = state i
-given_state state (Empty phase) =
-    record { opening = 0; name = []; told = Some empty_content; reads = empty_reads phase }
+IsUnreadUntilTaken {I} state place = (i : I) → place ≡ Untaken i → (state i).reads ≡ unread
 
 -- taking gives the input the first time, of which nothing was read; and an empty one afterwards
-abbrev pub Gives : {I : Type 0} → (I → InputState) → StdinPlace I → StdinPlace I → Reply I → Type 0
-Gives state (Untaken i) new given = (new ≡ Taken) × (given ≡ First i) × ((state i).reads ≡ unread)
-Gives state old new given = (new ≡ old) × (given ≡ Empty Unfinished)
+abbrev pub Gives : {I : Type 0} → (I → InputState) → StdinPlace I → StdinPlace I → Closable I → Type 0
+Gives state (Untaken i) new given = (new ≡ Taken) × (given ≡ Open i) × ((state i).reads ≡ unread)
+Gives state old new given = (new ≡ old) × (given ≡ Closed Whole Unfinished)
 
 -- what was taken is put back, and kept if nothing was before
-abbrev pub put_back : {I : Type 0} → StdinPlace I → Reply I → StdinPlace I
+abbrev pub put_back : {I : Type 0} → StdinPlace I → Closable I → StdinPlace I
 put_back Taken given = Returned given
 put_back place given = place
-
--- ---- a closed input
-
--- the state of an input that may be closed. If it is, only a fault remains, EBADF: each read fails by it
-abbrev pub unless_closed : {I : Type 0} → (I → InputState) → Closable I → InputState
-unless_closed state (Open i) = state i
-unless_closed state (Closed p) = told_state (record { bytes = []; ending = Broken (Os (pos 9)) }) 0 p

@@ -1,5 +1,5 @@
 //! Faults of opening and reading, and how an input ends.
-ghost use Rattle.std.specs.Prelude.{◌≡◌, map};
+ghost use Rattle.std.specs.Prelude.{◌≡◌, map, MatchResult};
 ghost use Rattle.std.specs.IoError.{error_kind, raw_os_error};
 ghost use Rattle.sum_sources.specs.Faults.{fault_text, fault_of_error, fault_of_number, fault_of_kind, reason, reasons};
 
@@ -168,4 +168,16 @@ pub enum Ending {
     Whole,
     /// After the last byte a read fails by this fault.
     Broken(Fault),
+}
+
+impl Ending {
+    // What a read returns when no byte remains.
+    pub(crate) fn read(self) -> Result<usize, Fault>
+        ensures { MatchResult result (λ n. (n ≡ 0) × (self ≡ Ending.Whole)) (λ f. self ≡ Ending.Broken f) }
+    {
+        match self {
+            Ending::Whole => Ok(0),
+            Ending::Broken(fault) => Err(fault),
+        }
+    }
 }

@@ -88,8 +88,8 @@ impl<I: Input> LineReader<I> {
     ghost use Rattle.sum_sources.specs.Phases.{Unfinished};
     ghost use Rattle.sum_sources.specs.ManifestLines.{lines_after};
     ghost use Rattle.sum_sources.specs.LineReaders.{consumed_count, IsBounded, AdvancesLines, IsReading, ReadsOn};
-    ghost use Rattle.sum_sources.specs.refinement.LimitedReads.{CountsBytes};
-    ghost use Rattle.sum_sources.specs.refinement.LineStates.{FillsBuffer, FillsReader, TakesPiece};
+    ghost use Rattle.sum_sources.specs.refinement.LimitedReads.{AddsLimited, CountsBytes};
+    ghost use Rattle.sum_sources.specs.refinement.LineStates.{FillsReader, TakesPiece};
 
     /// A reader of the lines of `input`. If the input has `LIMIT` bytes or more, its first `LIMIT - 1` bytes count, and
     /// then `Fault::Other`.
@@ -130,11 +130,11 @@ impl<I: Input> LineReader<I> {
         self.input
     }
 
-    // Reads into the empty buffer. Returns false if the input has ended. Every later call returns the same fault.
-    fn fill(&mut self) -> Result<bool, Fault>
+    // Reads into the empty buffer, and returns how many bytes: none if the input has ended. A fault is final.
+    fn fill(&mut self) -> Result<usize, Fault>
         requires empty { self.old.ahead ≡ [] }
         requires going { self.old.final_answer ≡ None }
-        ensures reads { (I.state self.old.input).reads.phase ≡ Unfinished → FillsBuffer self.old.taken
+        ensures reads { (I.state self.old.input).reads.phase ≡ Unfinished → AddsLimited self.old.taken
             (I.state self.old.input).reads (I.state self.new.input).reads self.new.ahead result }
         ensures counts { CountsBytes self.old.taken self.new.taken (I.state self.old.input) (I.state self.new.input) }
         ensures reader { FillsReader self.old self.new result }
@@ -149,7 +149,7 @@ impl<I: Input> LineReader<I> {
                 return Err(fault);
             }
         };
-        Ok(self.end != 0)
+        Ok(self.end)
     }
 
     // Moves the buffer's bytes up to its first newline to the line's end, and drops that newline. If the buffer has no
@@ -204,14 +204,14 @@ impl<I: Input> LineReader<I> {
                 }
             }
             match self.fill() {
-                Ok(true) => {}
-                Ok(false) => {
+                Ok(0) => {
                     self.state = ReaderState::Done;
                     if line.is_empty() {
                         return Ok(Next::NoMore);
                     }
                     return Ok(Next::Line);
                 }
+                Ok(_) => {}
                 Err(fault) => return Err(LineStop::Fault(fault)),
             }
         }

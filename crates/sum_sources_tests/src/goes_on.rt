@@ -136,8 +136,8 @@ impl<'a, A: Allocator> Source for InTurn<'a, A> {
     fn close_file(&mut self, file: TwoParts<'a>) {
         self.log = self.log.and(&Note::Closed(&file.log));
         match file.phase {
-            Phase::AtEnd => self.ended = self.ended.saturating_add(1),
-            Phase::Failed(_) => self.failed = self.failed.saturating_add(1),
+            Phase::Ended(Ending::Whole) => self.ended = self.ended.saturating_add(1),
+            Phase::Ended(Ending::Broken(_)) => self.failed = self.failed.saturating_add(1),
             Phase::Unfinished | Phase::Past => {}
         }
     }

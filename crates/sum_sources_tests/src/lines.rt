@@ -28,9 +28,9 @@ fn reads(
     (place, ending): (usize, Ending),
     lines: &[&[u8]],
 ) {
-    let (end, phase) = match ending {
-        Ending::Whole => (Ok(Next::NoMore), Phase::AtEnd),
-        Ending::Broken(fault) => (Err(LineStop::Fault(fault)), Phase::Failed(fault)),
+    let end = match ending {
+        Ending::Whole => Ok(Next::NoMore),
+        Ending::Broken(fault) => Err(LineStop::Fault(fault)),
     };
     for piece in [1, 3, 8192] {
         let mut line = Vec::new(rt.alloc());
@@ -44,7 +44,7 @@ fn reads(
         }
         let counts = (reader.lines(), reader.taken());
         assert_eq!(rt; counts, (lines.len() as u64, place as u64));
-        assert_eq!(rt; reader.into_inner().phase(), phase, "{place}");
+        assert_eq!(rt; reader.into_inner().phase(), Phase::Ended(ending), "{place}");
     }
 }
 

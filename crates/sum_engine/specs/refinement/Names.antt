@@ -4,9 +4,9 @@ use Rattle.digest_kinds.specs.Kinds.{KindValue}
 pub use Rattle.sum_sources.specs.declared.fault.NoRoom.{NoRoom}
 use Rattle.sum_sources.specs.declared.sources.source.OpenFault.{OpenFault}
 use Rattle.sum_sources.specs.Contents.{unread, HasContent}
-use Rattle.sum_sources.specs.InputLaws.{given_has_content}
+use Rattle.sum_sources.specs.InputLaws.{closable_has_content}
 use Rattle.sum_sources.specs.Sources.{IsOpen, opened_file, and_opening, after_closing}
-use Rattle.sum_sources.specs.StandardInput.{given_state}
+use Rattle.sum_sources.specs.StandardInput.{unless_closed}
 use Rattle.sum_engine.specs.Behavior.{World, Fault, is_dash, answer_to, InputState, Reads, empty_content, ByteString, Answer, digest_or_fault}
 use Rattle.sum_engine.specs.Execution.{StdinState, InputsState, Agrees, world_at, AsksNames, ReadsToEndIf}
 pub use Rattle.sum_engine.specs.declared.hash_name.HashFault.{HashFault}
@@ -46,7 +46,7 @@ MemoryWasRefused a b = b ≡ record a { source = record a.source { refusals = a.
 
 -- the state of what a name gave that was opened. Standard input is named `-`
 abbrev pub opened_state : {I F : Type 0} → (I → InputState) → (F → InputState) → Place I F → InputState
-opened_state stdin file (Stdin given) = record (given_state stdin given) { name = codes "-" }
+opened_state stdin file (Stdin given) = record (unless_closed stdin given) { name = codes "-" }
 opened_state stdin file (File f) = file f
 
 -- and no file is named so
@@ -58,7 +58,7 @@ IsNamedFile file (File f) = is_dash (file f).name ≡ false
 pub opened_has_content : {I F : Type 0} (stdin : I → InputState) (file : F → InputState)
     → ((i : I) → HasContent (stdin i)) → ((f : F) → HasContent (file f)) → (p : Place I F)
     → HasContent (opened_state stdin file p)
-opened_has_content stdin file has has_file (Stdin given) = given_has_content stdin has given
+opened_has_content stdin file has has_file (Stdin given) = closable_has_content stdin has given
 opened_has_content stdin file has has_file (File f) = has_file f
 
 -- a name was opened, by whether it is `-`, and gave this

@@ -1,25 +1,21 @@
 -- What a read up to the limit adds to what was read.
-use Rattle.std.specs.Prelude.{ℕ, zero, suc, ◌≡◌, ◌+◌, ◌^◌, ◌<◌, ◌≤◌, ◌++◌, length, take, Result, Ok, Err, IfOk}
+use Rattle.std.specs.Prelude.{ℕ, zero, suc, ◌≡◌, ◌≢◌, ◌+◌, ◌^◌, ◌<◌, ◌≤◌, ◌++◌, length, take, Result, Ok, Err, IfOk}
 use Rattle.sum_sources.specs.Contents.{Content, Ending, Whole, Broken, Reads, InputState, IsOf, IsSameInput, clip, Fault}
 use Rattle.sum_sources.specs.Faults.{ByteString}
-use Rattle.sum_sources.specs.Phases.{Phase, AtEnd, Past}
-
--- how far an input was read that was found to end so
-abbrev pub IsReadTo : Ending → Phase → Type 0
-IsReadTo Whole phase = phase ≡ AtEnd
-IsReadTo (Broken f) phase = ¬ (phase ≡ Past)
+use Rattle.sum_sources.specs.Phases.{Ended, Past}
 
 -- an input was found to end so, as far as the limit allows, if it had given so many bytes
 pub record FindsEnding (taken : ℕ) (a b : Reads) (e : Ending) : Type 0 where
   pub content : length a.bytes ≡ taken → (c : Content) → IsOf b c → clip c ≡ record { bytes = a.bytes; ending = e }
   pub before : (c : Content) → IsOf b c → IsOf a c
-  pub phase : IsReadTo e b.phase
+  pub end : e ≡ Whole → b.phase ≡ Ended Whole
+  pub past : b.phase ≢ Past
 
--- an input that hasn't ended gives bytes; or its end; or a fault, or a byte that reaches the limit
-abbrev pub AddsLimited : ℕ → Reads → Reads → Result ℕ Fault → ByteString → Type 0
-AddsLimited taken a b (Ok zero) buf = FindsEnding taken a b Whole
-AddsLimited taken a b (Ok (suc n)) buf = b ≡ record a { bytes = a.bytes ++ take (suc n) buf }
-AddsLimited taken a b (Err f) buf = FindsEnding taken a b (Broken f)
+-- an input that hasn't ended gives these bytes; or its end; or a fault, or a byte that reaches the limit
+abbrev pub AddsLimited : ℕ → Reads → Reads → ByteString → Result ℕ Fault → Type 0
+AddsLimited taken a b bytes (Ok zero) = FindsEnding taken a b Whole
+AddsLimited taken a b bytes (Ok (suc n)) = b ≡ record a { bytes = a.bytes ++ bytes }
+AddsLimited taken a b bytes (Err f) = FindsEnding taken a b (Broken f)
 
 -- the counts of bytes before and after such a read
 pub record CountsLimited (old new : ℕ) (result : Result ℕ Fault) : Type 0 where

@@ -35,17 +35,10 @@ pub record LineReaderInvariant {I : Type 0} (s : Inside I) : Type 0 where
   pub under : (s.taken < 2 ^ 61) ⊎ ((f : Fault) × (s.state ≡ Stopped (stops.Fault f)))
   pub wants : s.state ≡ Stopped stops.Memory → s.start < s.end
 
--- the empty buffer was filled with bytes of an input that hasn't ended; or its end was read; or a fault, or a byte that
--- reaches the limit
-abbrev pub FillsBuffer : ℕ → Reads → Reads → ByteString → Result Bool Fault → Type 0
-FillsBuffer taken a b ahead (Ok true) = b ≡ record a { bytes = a.bytes ++ ahead }
-FillsBuffer taken a b ahead (Ok false) = FindsEnding taken a b Whole
-FillsBuffer taken a b ahead (Err f) = FindsEnding taken a b (Broken f)
-
--- and what changes in the reader: the bytes that it got are ahead, and counted; a fault is its final answer
-abbrev pub FillsReader : {I : Type 0} → LineReaderValue I → LineReaderValue I → Result Bool Fault → Type 0
-FillsReader old new (Ok more) = (new.taken ≡ old.taken + length new.ahead) × (new.taken < 2 ^ 61)
-    × (more ≡ true → old.taken < new.taken) × (more ≡ false → new.ahead ≡ []) × (new.final_answer ≡ None)
+-- the bytes that a reader got are ahead, and counted; or a fault is its final answer
+abbrev pub FillsReader : {I : Type 0} → LineReaderValue I → LineReaderValue I → Result ℕ Fault → Type 0
+FillsReader old new (Ok n) = (length new.ahead ≡ n) × (new.taken ≡ old.taken + n) × (new.taken < 2 ^ 61)
+    × (new.final_answer ≡ None)
 FillsReader old new (Err f) = (new.ahead ≡ []) × (old.taken ≤ new.taken)
     × (new.final_answer ≡ Some (Err (stops.Fault f)))
 

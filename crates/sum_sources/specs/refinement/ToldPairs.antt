@@ -1,12 +1,10 @@
--- Views of inputs in memory, and of the answers and pairs of a source in memory; and what its fields keep.
-use Rattle.std.specs.Prelude.{◌≡◌, Bool, true, false, Ok, Err, List, [], ◌∷◌, ◌++◌, map}
+-- Views of inputs in memory, and of the answers and pairs of a source in memory.
+use Rattle.std.specs.Prelude.{Ok, Err}
 use Rattle.sum_sources.specs.declared.inputs.told.Told.{Told}
 use Rattle.sum_sources.specs.declared.sources.told_source.Answer.{Answer as ToldAnswer}
 use Rattle.sum_sources.specs.declared.sources.told_source.StoredPair.{StoredPair}
-use Rattle.sum_sources.specs.Faults.{ByteString}
-use Rattle.sum_sources.specs.Sources.{Answer, Opening, Pair, first_answer}
+use Rattle.sum_sources.specs.Sources.{Answer, Pair}
 use Rattle.sum_sources.specs.StandardInput.{ToldContent}
-use Rattle.sum_sources.specs.InMemory.{told_openings}
 use Rattle.sum_sources.specs.declared.sources.told_source.Answer.TheVariants as answers
 
 -- the value of an answer
@@ -18,11 +16,6 @@ answer_value (answers.Content content ending) = Ok (record { bytes = content.now
 abbrev pub pair_of : {A : Type 0} → StoredPair A → Pair
 pair_of p = record { name = p.name.items; answer = answer_value p.answer; from = p.from }
 
--- what the fields keep
-pub record ToldSourceInvariant (pairs : List Pair) (names : List ByteString) (openings : List Opening) : Type 0 where
-  pub asked : names ≡ map (λ o. o.name) openings
-  pub told : told_openings (first_answer pairs) 0 openings ≡ openings
-
 -- an input in memory, by its fields
 abbrev pub told_value : Told → ToldContent
 told_value t = record {
@@ -33,8 +26,3 @@ told_value t = record {
   opening = t.log.opening;
   name = t.log.name;
 }
-
--- a name was added to those asked; or memory was refused
-abbrev pub AddsName : ByteString → List ByteString → List ByteString → Bool → Type 0
-AddsName name old new true = new ≡ old ++ name ∷ []
-AddsName name old new false = new ≡ old

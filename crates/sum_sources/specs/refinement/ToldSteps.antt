@@ -4,12 +4,11 @@ use Rattle.std.specs.Result.{result_unwrap_or}
 use Rattle.sum_sources.specs.Contents.{Content, Reads, Whole, Broken, Fault}
 use Rattle.sum_sources.specs.Faults.{ByteString}
 use Rattle.sum_sources.specs.StandardInput.{told_reads}
-use Rattle.sum_sources.specs.Phases.{Phase, AtEnd, Failed}
+use Rattle.sum_sources.specs.Phases.{Phase, Ended}
 
 -- its ending was read, once
 abbrev pub HasEnded : Phase → Type 0
-HasEnded AtEnd = ⊤
-HasEnded (Failed f) = ⊤
+HasEnded (Ended e) = ⊤
 HasEnded phase = ⊥
 
 -- of a content of which m bytes were given, a read gave those up to the first n; or, if none was left, its ending

@@ -1,26 +1,26 @@
-//! An input that may be closed from the start.
-ghost use Rattle.std.specs.Prelude.{◌≡◌};
+//! An input that may be closed.
+ghost use Rattle.std.specs.Prelude.{◌≡◌, pos};
 ghost use Rattle.sum_sources.specs.StandardInput.{unless_closed};
 ghost use Rattle.sum_sources.specs.InputLaws.{closable_has_content};
 
 use crate::fault::EBADF;
-use crate::{Fault, Input, Phase};
+use crate::{Ending, Fault, Input, Phase};
 
-/// An input that may be closed. Each read of a closed one fails with `Fault::Os(EBADF)`, *Bad file descriptor*.
+/// An input that may be closed.
 #[derive(Debug, Drop)]
 pub enum Closable<I> {
     /// This input.
     Open(I),
-    /// No byte can be read. The phase says how often that was tried.
-    Closed(Phase),
+    /// An input without bytes, which ends so. The phase says how far it was read.
+    Closed(Ending, Phase),
 }
 
 impl<I> Closable<I> {
-    /// A closed input that was not read yet.
+    /// A closed input that was not read yet. Each read fails with `Fault::Os(EBADF)`, *Bad file descriptor*.
     pub fn closed() -> Self
-        ensures { result ≡ Closable.Closed Phase.Unfinished }
+        ensures { result ≡ Closable.Closed (Ending.Broken (Fault.Os (pos 9))) Phase.Unfinished }
     {
-        Closable::Closed(Phase::Unfinished)
+        Closable::Closed(Ending::Broken(Fault::Os(EBADF)), Phase::Unfinished)
     }
 }
 
@@ -30,8 +30,8 @@ impl<I: Input> Input for Closable<I> {
     fn read(&mut self, buf: &mut [u8]) -> Result<usize, Fault> {
         match self {
             Closable::Open(input) => input.read(buf),
-            Closable::Closed(phase) => {
-                let result = Err(Fault::Os(EBADF));
+            Closable::Closed(ending, phase) => {
+                let result = ending.read();
                 *phase = phase.after(buf.len(), &result);
                 result
             }

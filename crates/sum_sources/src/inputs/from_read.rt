@@ -1,7 +1,8 @@
 //! Inputs over std's readers.
 ghost use Rattle.std.specs.Prelude.{◌≡◌, ◌≤◌, length, IfOk, IfSome, MatchOption};
 ghost use Rattle.std.specs.Io.KnownBytes.{Keeps, ReadConsumes};
-ghost use Rattle.sum_sources.specs.Logs.{no_reads, logged};
+ghost use Rattle.sum_sources.specs.Contents.{and_read};
+ghost use Rattle.sum_sources.specs.Logs.{no_reads};
 
 use crate::Fault;
 use crate::fault::fault_of;
@@ -61,7 +62,7 @@ impl<R: Read> FromRead<R> {
         ensures given { MatchOption result (Keeps (R.remaining self.old.reader) (R.remaining self.new.reader)) (λ read.
             ReadConsumes (R.remaining self.old.reader) (R.remaining self.new.reader) read buf.new) }
         ensures log { MatchOption result (self.new.log ≡ self.old.log)
-            (λ read. self.new.log ≡ logged self.old.log buf.new read) }
+            (λ read. self.new.log ≡ and_read self.old.log buf.new read) }
     {
         let read = match self.reader.read(buf) {
             Ok(n) => Ok(n),
@@ -75,7 +76,7 @@ impl<R: Read> FromRead<R> {
     // A read that fails by this fault. The reader isn't called.
     pub(crate) fn fail(&mut self, buf: &[u8], fault: Fault) -> Result<usize, Fault>
         ensures fault { result ≡ Err fault }
-        ensures log { self.new ≡ record self.old { log = logged self.old.log buf.now result } }
+        ensures log { self.new ≡ record self.old { log = and_read self.old.log buf.now result } }
     {
         let result = Err(fault);
         self.log = self.log.and(buf, &result);

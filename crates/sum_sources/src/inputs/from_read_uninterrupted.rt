@@ -1,7 +1,7 @@
 //! Reads that go on after interruptions. They stand apart from `FromRead`, so that they can't touch its reader and log.
 ghost use Rattle.std.specs.Prelude.{◌≡◌, ◌≤◌, length, IfOk};
 ghost use Rattle.std.specs.Io.KnownBytes.{ReadConsumes};
-ghost use Rattle.sum_sources.specs.Logs.{logged};
+ghost use Rattle.sum_sources.specs.Contents.{and_read};
 
 use crate::{Fault, FromRead, Input};
 use digest_kinds::INTERRUPTIONS;
@@ -16,7 +16,7 @@ impl<R: Read> Input for FromRead<R> {
         ensures count { IfOk result (λ n. n ≤ length buf.new) }
         ensures size { length buf.new ≡ length buf.old }
         ensures given { ReadConsumes (R.remaining self.old.reader) (R.remaining self.new.reader) result buf.new }
-        ensures log { self.new.log ≡ logged self.old.log buf.new result }
+        ensures log { self.new.log ≡ and_read self.old.log buf.new result }
     {
         for _ in 0..INTERRUPTIONS {
             if let Some(read) = self.read_once(buf) {

@@ -18,9 +18,7 @@ pub trait Input {
     fn read(&mut self, buf: &mut [u8]) -> Result<usize, Fault>
         ensures count { IfOk result (λ n. n ≤ length buf.new) }
         // What the read gave is added to what the reads before it gave, and nothing else changes.
-        ensures reads { state self.new ≡ record (state self.old) {
-          reads = and_read (state self.old).reads (length buf.old) result buf.new;
-        } };
+        ensures reads { state self.new ≡ and_read (state self.old) buf.new result };
 
     /// Law: the reads are of a content, the one in memory if it is there.
     ghost has_content: { (s : Self) → HasContent (state s) };

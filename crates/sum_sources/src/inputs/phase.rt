@@ -2,18 +2,17 @@
 ghost use Rattle.std.specs.Prelude.{◌≡◌};
 ghost use Rattle.sum_sources.specs.Phases.{phase_after};
 
-use crate::Fault;
+use crate::{Ending, Fault};
 
 /// How far an input was read.
 #[derive(Clone, Copy, Debug, PartialEq, Eq)]
 pub enum Phase {
     /// Each read so far gave bytes, or there was none.
     Unfinished,
-    /// The last read gave its end.
-    AtEnd,
-    /// The last read failed, by this fault.
-    Failed(Fault),
-    /// It was read again after its end or a fault, or a read asked for no bytes. It stays `Past` from then on.
+    /// The last read gave its end, or failed by its fault.
+    Ended(Ending),
+    /// It was read again after its end or a fault, or a read asked for no bytes, which may fail or wait, and shows
+    /// nothing. It stays `Past` from then on.
     Past,
 }
 
@@ -26,9 +25,9 @@ impl Phase {
             return Phase::Past;
         }
         match (self, read) {
-            (Phase::Unfinished, Ok(0)) => Phase::AtEnd,
+            (Phase::Unfinished, Ok(0)) => Phase::Ended(Ending::Whole),
             (Phase::Unfinished, Ok(_)) => Phase::Unfinished,
-            (Phase::Unfinished, Err(fault)) => Phase::Failed(*fault),
+            (Phase::Unfinished, Err(fault)) => Phase::Ended(Ending::Broken(*fault)),
             _ => Phase::Past,
         }
     }

@@ -1,6 +1,7 @@
 //! What the reads of an input gave, for proofs alone.
 ghost use Rattle.std.specs.Prelude.{◌≡◌};
-ghost use Rattle.sum_sources.specs.Logs.{no_reads, logged, input_log};
+ghost use Rattle.sum_sources.specs.Contents.{and_read};
+ghost use Rattle.sum_sources.specs.Logs.{no_reads, input_log};
 
 use crate::Fault;
 use crate::log::{Log, Says};
@@ -30,7 +31,7 @@ impl Says<()> for NoReads {
 struct AndRead;
 
 impl<'a> Says<(&'a ReadLog, &'a [u8], &'a Result<usize, Fault>)> for AndRead {
-    ghost says = { λ x. input_log (logged x.0.now x.1.now x.2.now) };
+    ghost says = { λ x. input_log (and_read x.0.now x.1.now x.2.now) };
 }
 
 impl ReadLog {
@@ -50,7 +51,7 @@ impl ReadLog {
 
     /// These reads, and then one that returned `read`, and left `buf` in its buffer.
     pub fn and(&self, buf: &[u8], read: &Result<usize, Fault>) -> ReadLog
-        ensures { result ≡ logged self.now buf.now read.now }
+        ensures { result ≡ and_read self.now buf.now read.now }
     {
         ReadLog::of_log(Log::of::<_, AndRead>(&(self, buf, read)))
     }

@@ -1,5 +1,6 @@
 //! Reading up to the limit of 2^61 bytes.
-ghost use Rattle.std.specs.Prelude.{◌≡◌, ◌<◌, ◌^◌, length};
+ghost use Rattle.std.specs.Prelude.{◌≡◌, ◌<◌, ◌^◌, length, take};
+ghost use Rattle.std.specs.Result.{result_unwrap_or};
 ghost use Rattle.sum_sources.specs.refinement.LimitedReads.{CountsLimited, CountsBytes, AddsLimited};
 ghost use Rattle.sum_sources.specs.Phases.{Unfinished};
 
@@ -18,7 +19,8 @@ pub(crate) fn read_limited<I: Input>(
     ensures size { length buffer.new ≡ 8192 }
     ensures input { CountsBytes taken.old taken.new (I.state input.old) (I.state input.new) }
     ensures reads { (I.state input.old).reads.phase ≡ Unfinished
-        → AddsLimited taken.old (I.state input.old).reads (I.state input.new).reads result buffer.new }
+        → AddsLimited taken.old (I.state input.old).reads (I.state input.new).reads
+        (take (result_unwrap_or result 0) buffer.new) result }
 {
     // If no byte more counts, one byte shows whether the input ends there.
     let size = (LIMIT - 1 - *taken).min(PIECE as u64).max(1) as usize;

@@ -2,7 +2,7 @@
 ghost use Rattle.std.specs.Prelude.{◌≡◌};
 ghost use Rattle.sum_sources.specs.StandardInput.{Gives, put_back};
 
-use crate::{Fault, Input, Phase};
+use crate::{Closable, Ending, Fault, Input, Phase};
 use std::marker::Model;
 use std::mem;
 
@@ -10,7 +10,7 @@ use std::mem;
 enum StdinPlace<I> {
     Untaken(I),
     Taken,
-    Returned(Reply<I>),
+    Returned(Closable<I>),
 }
 
 /// Standard input. Its input is given once, and is put back. Until then nothing was read of it.
@@ -30,27 +30,19 @@ impl<I: Input> Model for Stdin<I> {
     ghost invariant = { λ s. IsUnreadUntilTaken I.state s.place };
 }
 
-#[derive(Debug, Drop)]
-enum Reply<I> {
-    // the input of standard input
-    First(I),
-    // an empty one, that was read so far
-    Empty(Phase),
-}
-
 /// What [`Stdin::take`] gives: the input of standard input the first time, and an empty one afterwards. It can't be
 /// dropped, so whoever took it puts it back.
 #[derive(Debug)]
 pub struct Given<I> {
-    reply: Reply<I>,
+    input: Closable<I>,
 }
 
 impl<I> Model for Given<I> {
-    ghost use Rattle.sum_sources.specs.declared.inputs.stdin.Reply.{Reply};
+    ghost use Rattle.sum_sources.specs.declared.inputs.closable.Closable.{Closable};
 
-    ghost Value = { Reply I };
+    ghost Value = { Closable I };
 
-    ghost view = { λ s. s.reply };
+    ghost view = { λ s. s.input };
 }
 
 impl<I: Input> Stdin<I> {
@@ -72,43 +64,36 @@ impl<I: Input + Drop> Stdin<I> {
     pub fn take(&mut self) -> Given<I>
         ensures { Gives I.state self.old self.new result }
     {
-        let reply = match mem::replace(&mut self.place, StdinPlace::Taken) {
-            StdinPlace::Untaken(input) => Reply::First(input),
+        let input = match mem::replace(&mut self.place, StdinPlace::Taken) {
+            StdinPlace::Untaken(input) => Closable::Open(input),
             place => {
                 self.place = place;
-                Reply::Empty(Phase::Unfinished)
+                Closable::Closed(Ending::Whole, Phase::Unfinished)
             }
         };
-        Given { reply }
+        Given { input }
     }
 
     /// Puts back what `take` gave. It is kept if nothing was put back before, and dropped otherwise.
     pub fn put_back(&mut self, given: Given<I>)
         ensures { self.new ≡ put_back self.old given }
     {
-        let Given { reply } = given;
+        let Given { input } = given;
         if let StdinPlace::Taken = self.place {
-            self.place = StdinPlace::Returned(reply);
+            self.place = StdinPlace::Returned(input);
         }
     }
 }
 
 impl<I: Input> Input for Given<I> {
-    ghost use Rattle.sum_sources.specs.StandardInput.{given_state};
-    ghost use Rattle.sum_sources.specs.InputLaws.{given_has_content};
+    ghost use Rattle.sum_sources.specs.StandardInput.{unless_closed};
+    ghost use Rattle.sum_sources.specs.InputLaws.{closable_has_content};
 
-    ghost state = { λ s. given_state I.state s };
+    ghost state = { λ s. unless_closed I.state s };
 
     fn read(&mut self, buf: &mut [u8]) -> Result<usize, Fault> {
-        match &mut self.reply {
-            Reply::First(input) => input.read(buf),
-            Reply::Empty(phase) => {
-                let end = Ok(0);
-                *phase = phase.after(buf.len(), &end);
-                end
-            }
-        }
+        self.input.read(buf)
     }
 
-    ghost has_content = { given_has_content I.state I.has_content };
+    ghost has_content = { closable_has_content I.state I.has_content };
 }

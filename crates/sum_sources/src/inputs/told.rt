@@ -1,6 +1,5 @@
 //! An input in memory.
 ghost use Rattle.std.specs.Prelude.{◌≡◌, ◌≤◌, [], length, max, IfOk};
-ghost use Rattle.sum_sources.specs.Sources.{closed};
 ghost use Rattle.sum_sources.specs.StandardInput.{told_file};
 ghost use Rattle.sum_sources.specs.refinement.ToldSteps.{GivesFrom, ToldInvariant};
 
@@ -63,8 +62,7 @@ impl<'a> Told<'a> {
 
     // What its reads gave.
     pub(crate) fn log(&self) -> &ReadLog
-        ensures opening { result.now.opening ≡ self.now.log.opening }
-        ensures closed { closed result.now ≡ closed (told_file (told_value self.now)) }
+        ensures { result.now ≡ record (told_file (told_value self.now)) { told = result.now.told } }
     {
         &self.log
     }
@@ -88,10 +86,7 @@ fn give(
 {
     let rest = &bytes[*given..];
     if rest.is_empty() {
-        return match ending {
-            Ending::Whole => Ok(0),
-            Ending::Broken(fault) => Err(fault),
-        };
+        return ending.read();
     }
     let n = piece.min(rest.len()).min(buf.len());
     buf[..n].copy_from_slice(&rest[..n]);

@@ -1,9 +1,9 @@
 //! A source of files in memory.
-ghost use Rattle.std.specs.Prelude.{◌≡◌, ◌++◌, ◌∷◌, [], OnOk, OnErr, length, map, max, slice_get};
+ghost use Rattle.std.specs.Prelude.{◌≡◌, ◌++◌, ◌∷◌, [], OnOk, OnErr, MatchBool, length, map, max, slice_get};
 ghost use Rattle.std.specs.Option.{option_map};
 ghost use Rattle.sum_sources.specs.InMemory.{told_source};
 ghost use Rattle.sum_sources.specs.Sources.{first_answer};
-ghost use Rattle.sum_sources.specs.refinement.ToldPairs.{pair_of, answer_value, AddsName};
+ghost use Rattle.sum_sources.specs.refinement.ToldPairs.{pair_of, answer_value};
 
 use crate::sources::source_log::{Note, SourceLog};
 use crate::{Ending, Fault, Input, NoRoom, OpenFault, Source, Told};
@@ -38,9 +38,9 @@ pub struct ToldSource<'a, A: Allocator + Copy> {
 }
 
 impl<'a, A: Allocator + Copy> Model for ToldSource<'a, A> {
-    ghost use Rattle.std.specs.Prelude.{map};
+    ghost use Rattle.std.specs.Prelude.{◌≡◌, map};
     ghost use Rattle.sum_sources.specs.InMemory.{ToldFiles};
-    ghost use Rattle.sum_sources.specs.refinement.ToldPairs.{pair_of, ToldSourceInvariant};
+    ghost use Rattle.sum_sources.specs.refinement.ToldPairs.{pair_of};
 
     ghost Value = { ToldFiles };
 
@@ -51,8 +51,7 @@ impl<'a, A: Allocator + Copy> Model for ToldSource<'a, A> {
       refusals = s.log.refusals;
     } };
 
-    ghost invariant = { λ s. ToldSourceInvariant (map pair_of s.pairs.items) (map (λ v. v.items) s.asked.items)
-        s.log.openings };
+    ghost invariant = { λ s. map (λ v. v.items) s.asked.items ≡ map (λ o. o.name) s.log.openings };
 }
 
 // The answer of the first pair with the name that was added when so many names had been asked.
@@ -116,7 +115,9 @@ impl<'a, A: Allocator + Copy> ToldSource<'a, A> {
 
 // Adds a name to the names asked.
 fn add_name<A: Allocator + Copy>(alloc: A, asked: &mut Vec<Vec<u8, A>, A>, name: &[u8]) -> bool
-    ensures { AddsName name.now (map (λ v. v.items) asked.old.items) (map (λ v. v.items) asked.new.items) result }
+    ensures { MatchBool result
+        (map (λ v. v.items) asked.new.items ≡ map (λ v. v.items) asked.old.items ++ name.now ∷ [])
+        (map (λ v. v.items) asked.new.items ≡ map (λ v. v.items) asked.old.items) }
 {
     match Vec::from_slice(alloc, name) {
         Ok(name) => asked.push(name).is_ok(),

@@ -24,7 +24,7 @@ returns-in_err-n-clause-hashed g c =
       digest = λ new d of.
           rw (fault.2, ended i.read.0 (i.read.2 new) (omega (arith, i.taken, counted)) ends d of) refl;
       end = λ going. tt;
-      past = λ going. (ends (i.phase going)).phase;
+      past = λ going. (ends (i.phase going)).past;
     })
 
 -- the end was read, and the hasher holds all that was read before
@@ -38,6 +38,6 @@ returns-then-n-eq0-clause-hashed g c =
       digest = λ new d of.
           rw (← i.kind, ended i.read.0 (i.read.2 new) (omega (arith, i.taken, counted)) ends d of)
           (refl, c.finish.ensures.value i.read.0 i.read.1);
-      end = λ going. (ends (i.phase going)).phase;
-      past = λ going. rw (ends (i.phase going)).phase (λ past. cc);
+      end = λ going. (ends (i.phase going)).end refl;
+      past = λ going. (ends (i.phase going)).past;
     }

@@ -1,4 +1,4 @@
-use Rattle.std.proofs.Common.{rules, arith, refl, ap, sym, append-nil, inr, ◌∙◌, [], Ok, Err}
+use Rattle.std.proofs.Common.{rules, arith, refl, ap, sym, append-nil, inr, ◌∙◌, [], Ok, Err, length}
 use Rattle.std.proofs.lemmas.Grind.{common_steps}
 use Rattle.std.proofs.lemmas.List.{nil_from_length}
 use Rattle.sum_sources.specs.ManifestLines.{HasNoNewline, Line, NoMore}
@@ -45,10 +45,10 @@ pub loop-self-preserved : goal.loop-self-preserved
 loop-self-preserved g c =
     let (read, plain) = moved g (goal.at.loop-self-preserved g c).In-Ok-false in
     let piece = rw c.in-Ok-false.field-0-test at c.in-Ok-false.ensures.piece in
-    let fills = rw c.in-Ok-true-fill.field-0-test at c.in-Ok-true-fill.ensures.reads in
+    let fills = c.in-Ok.ensures in
     record {
       read = λ reading. let h = read reading in
-          HasRead-filled h piece.1 (fills (HasRead-going h)) c.in-Ok-true-fill.ensures.reader.0;
+          HasRead-filled h _ (search rules) piece.1 (fills.reads (HasRead-going h)) fills.reader;
       going = search rules;
       sum = search rules;
       plain = plain;
@@ -63,22 +63,24 @@ pub returns-then-is_empty-clause-line : goal.returns-then-is_empty-clause-line
 returns-then-is_empty-clause-line g c =
     let (read, plain) = moved g (goal.at.returns-then-is_empty-clause-line g c).In-Ok-false in
     let piece = rw c.in-Ok-false.field-0-test at c.in-Ok-false.ensures.piece in
-    let fills = rw c.in-Ok-false-fill.field-0-test at c.in-Ok-false-fill.ensures.reads in
+    let fills = rw c.in-Ok-eq0.field-0-test at c.in-Ok-eq0.ensures.reads in
+    let counts = rw c.in-Ok-eq0.field-0-test at c.in-Ok-eq0.ensures.reader in
     λ reading.
     let h = read reading in
-    ends c.fill.new.self Whole (Ok NoMore) h piece.1 (fills (HasRead-going h)) (search rules) (search rules)
-    (rw (← c.self-in-loop-self.view_is) refl) (IsNextLine-none _ [] (nil_from_length _ (search rules))) (search rules)
+    ends c.fill.new.self Whole (Ok NoMore) h piece.1 (fills (HasRead-going h)) counts.0 (omega (arith, counts.1))
+    (rw (← c.self-in-loop-self.view_is) refl) (IsNextLine-none _ [] (nil_from_length _ (search rules))) (omega (arith, counts.1))
 
 -- the input has ended after a last line
-pub returns-in-Ok-false-fill-clause-line : goal.returns-in-Ok-false-fill-clause-line
-returns-in-Ok-false-fill-clause-line g c =
-    let (read, plain) = moved g (goal.at.returns-in-Ok-false-fill-clause-line g c).In-Ok-false in
+pub returns-in-Ok-eq0-clause-line : goal.returns-in-Ok-eq0-clause-line
+returns-in-Ok-eq0-clause-line g c =
+    let (read, plain) = moved g (goal.at.returns-in-Ok-eq0-clause-line g c).In-Ok-false in
     let piece = rw c.in-Ok-false.field-0-test at c.in-Ok-false.ensures.piece in
-    let fills = rw c.in-Ok-false-fill.field-0-test at c.in-Ok-false-fill.ensures.reads in
+    let fills = rw c.in-Ok-eq0.field-0-test at c.in-Ok-eq0.ensures.reads in
+    let counts = rw c.in-Ok-eq0.field-0-test at c.in-Ok-eq0.ensures.reader in
     λ reading.
     let h = read reading in
-    ends c.fill.new.self Whole (Ok Line) h piece.1 (fills (HasRead-going h)) (search rules) (search rules)
-    (rw (← c.self-in-loop-self.view_is) refl) (IsNextLine-last _ plain (search rules)) (search rules)
+    ends c.fill.new.self Whole (Ok Line) h piece.1 (fills (HasRead-going h)) counts.0 (omega (arith, counts.1))
+    (rw (← c.self-in-loop-self.view_is) refl) (IsNextLine-last _ plain (search rules)) (omega (arith, counts.1))
 
 -- the input has a fault
 pub returns-in-Err-fill-clause-line : goal.returns-in-Err-fill-clause-line
@@ -88,6 +90,6 @@ returns-in-Err-fill-clause-line g c =
     let e = c.in-Err-fill.ensures in
     λ reading.
     let h = read reading in
-    ends c.fill.new.self (Broken _) (Err (stops.Fault _)) h piece.1 (e.reads (HasRead-going h)) e.reader.0 e.reader.1
+    ends c.fill.new.self (Broken _) (Err (stops.Fault _)) h piece.1 (e.reads (HasRead-going h)) (ap length e.reader.0) e.reader.1
     (ap (λ a. record c.fill.new.self { final_answer = a }) e.reader.2)
     (IsNextLine-fault _ _ plain) tt

@@ -1,9 +1,9 @@
-use Rattle.std.proofs.Common.{ap, map, List}
+use Rattle.std.proofs.Common.{ap, sym, map, List}
 use Rattle.sum_sources.specs.InMemory.{ToldFiles, told_source}
 use Rattle.sum_sources.specs.Sources.{Opening}
 use Rattle.sum_sources.specs.refinement.ToldPairs.{pair_of, told_value}
 use Rattle.sum_sources.specs.declared.sources.told_source.ToldSource.TheInside.{Inside}
-use Rattle.sum_sources.proofs.ToldSourceLemmas.{closed_one, closed_state}
+use Rattle.sum_sources.proofs.ToldSourceLemmas.{closed_names, closed_state}
 use Rattle.sum_sources.proofs.sources.told_source.ToldSourceSource.close_file.Goals as goal
 
 abbrev value : {A : Type 0} → Inside A → ToldFiles
@@ -17,12 +17,12 @@ value s = record {
 -- what was read of the file is of its content
 pub invariant_of-self : goal.invariant_of-self
 invariant_of-self g c =
-    rw (c.and-self-inside.ensures, c.log.ensures.opening, c.log.ensures.closed)
-    (closed_one (value c.self.inside) _ (told_value c.args.file) (rw (← c.self.view_is) at c.requires) c.self.invariant)
+    rw (c.and-self-inside.ensures, c.log.ensures, c.self.invariant)
+    (sym (closed_names (value c.self.inside) (told_value c.args.file) (rw (← c.self.view_is) at c.requires)))
 
 -- and so the state shows it
 pub returns : goal.returns
 returns g c =
-    rw (← c.self.view_is, c.and-self-inside.ensures, c.log.ensures.opening, c.log.ensures.closed)
+    rw (← c.self.view_is, c.and-self-inside.ensures, c.log.ensures)
     (ap (λ (os : List Opening). record (told_source (value c.self.inside)) { openings = os })
     (closed_state (value c.self.inside) (told_value c.args.file) (rw (← c.self.view_is) at c.requires)))

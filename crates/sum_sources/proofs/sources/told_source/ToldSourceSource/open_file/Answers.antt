@@ -1,10 +1,9 @@
 use Rattle.std.proofs.Common.{rules, refl, ap, ◌∙◌, ◌≡◌, Ok, Err, Some, map, List, length}
-use Rattle.sum_sources.specs.Sources.{Opening, SourceState}
-use Rattle.sum_sources.specs.Sources.{first_answer}
+use Rattle.sum_sources.specs.Sources.{Opening, SourceState, first_answer}
 use Rattle.sum_sources.specs.StandardInput.{told_file}
 use Rattle.sum_sources.specs.declared.sources.told_source.ToldSource.TheInside.{Inside}
 use Rattle.sum_sources.specs.refinement.ToldPairs.{pair_of}
-use Rattle.sum_sources.proofs.ToldSourceLemmas.{opened_one, opened_state, count_asked}
+use Rattle.sum_sources.proofs.ToldSourceLemmas.{opened_state, count_asked, count_told}
 use Rattle.sum_sources.proofs.sources.told_source.ToldSourceSource.open_file.Goals.{In-Fault, In-Content}
 use Rattle.sum_sources.proofs.sources.told_source.ToldSourceSource.open_file.Given as given
 use Rattle.sum_sources.proofs.sources.told_source.ToldSourceSource.open_file.Goals as goal
@@ -12,24 +11,12 @@ use Rattle.sum_sources.proofs.sources.told_source.ToldSourceSource.open_file.Goa
 -- the answer to the opening that has so many before it: a fault, or a content
 fault : (g : given.Over) (c : In-Fault g) → first_answer (map pair_of c.self.inside.pairs.items)
     (length c.self.inside.log.openings) c.args.name.now ≡ Err c.in-Fault.fault
-fault g c = rw (← count_asked _ _ _ c.self.invariant.asked) (search rules)
+fault g c = rw (← count_asked _ _ _ c.self.invariant) (search rules)
 
 content : (g : given.Over) (c : In-Content g) → first_answer (map pair_of c.self.inside.pairs.items)
     (length c.self.inside.log.openings) c.args.name.now
     ≡ Ok (record { bytes = c.in-Content.content.now; ending = c.in-Content.ending })
-content g c = rw (← count_asked _ _ _ c.self.invariant.asked) (search rules)
-
-pub invariant_of-self-in-Fault : goal.invariant_of-self-in-Fault
-invariant_of-self-in-Fault g c =
-    let is = fault g (goal.at.invariant_of-self-in-Fault g c).In-Fault in
-    rw (c.if-not-add_name.ensures, c.and-self-inside-in-Fault.ensures)
-    (opened_one _ _ _ _ c.self.invariant (rw is refl))
-
-pub invariant_of-self-in-Content : goal.invariant_of-self-in-Content
-invariant_of-self-in-Content g c =
-    let is = content g (goal.at.invariant_of-self-in-Content g c).In-Content in
-    rw (c.if-not-add_name.ensures, c.and-self-inside-in-Content.ensures)
-    (opened_one _ _ _ _ c.self.invariant (rw is refl))
+content g c = rw (← count_asked _ _ _ c.self.invariant) (search rules)
 
 -- and so the state shows it
 abbrev with : {A : Type 0} → Inside A → List Opening → SourceState
@@ -56,4 +43,4 @@ pub returns-in-Content-clause-file : goal.returns-in-Content-clause-file
 returns-in-Content-clause-file g c =
     let is = content g (goal.at.returns-in-Content-clause-file g c).In-Content in
     ap told_file c.opened-file.ensures
-    ∙ rw (c.file.ensures, ← c.self.view_is, c.self.invariant.told, is) refl
+    ∙ rw (c.file.ensures, ← c.self.view_is, count_told, is) refl
