@@ -7,14 +7,15 @@ use Rattle.sum_engine.specs.check.Rules.{Rules, LabelsValue}
 use Rattle.sum_engine.specs.check.Judge.{all_verdicts}
 use Rattle.sum_engine.specs.check.Checking.{content_behavior}
 use Rattle.sum_engine.specs.check.CheckStates.{CheckState, initial_state, remaining_behavior}
-use Rattle.sum_engine.specs.check.Verdicts.{IsAtStart, VerdictsValue, state_at, InEachCheck, VerdictResult, LineVerdict, counts_after, IsNotUnread}
+use Rattle.sum_engine.specs.check.Verdicts.{IsAtStart, VerdictsValue, state_at, InEachCheck, VerdictResult, LineVerdict, counts_after, IsNotUnread, AsksFor}
 use Rattle.sum_engine.specs.check.Checker.{ReportsFound, Progress, Going, Ended, IsStep, TakesStep, step_then, progress_before, CheckerValue, AdvancesChecker}
 use Rattle.sum_sources.specs.declared.line_reader.LineStop.TheVariants.{Fault, Memory}
 use Rattle.sum_sources.specs.LineReaders.{remaining, IsReading}
 use Rattle.sum_engine.specs.check.CheckerLaws.{ManifestPerforms}
-use Rattle.sum_engine.specs.Execution.{Stop, OutputsState, StreamsState, IsFlushed, IsAtEndIf, world_at, PerformsSteps}
-use Rattle.sum_engine.specs.refinement.FlushedWrites.{outcome_after}
+use Rattle.sum_engine.specs.Execution.{Stop, OutputsState, StreamsState, IsFlushed, IsAtEndIf, world_at, PerformsSteps, StopHasCause}
+use Rattle.sum_engine.specs.refinement.FlushedWrites.{outcome_after, WritesAndFlushesBoth, WritesAndReturns}
 use Rattle.sum_engine.proofs.CountLemmas.{counts_then-none}
+use Rattle.sum_engine.proofs.ExecutionLemmas.{one_at_most}
 use Rattle.sum_engine.proofs.WorldLemmas.{agrees_before}
 use Rattle.sum_engine.proofs.BehaviorLemmas.{HasDoneUpTo, done_none, done_more, done_end, done_stops}
 
@@ -83,7 +84,32 @@ going_found q labels vector (Ok None) a b h = let p = returned h.written h.retur
 going_found q labels vector (Err Memory) a b h = let p = h.0 in cc
 going_found q labels vector (Err (Fault f)) a b h = let p = returned h.written h.returns in cc
 
+-- a text was written, or a prefix of it, and no memory was refused
+wrote_cause : {A : Type 0} {a b : StreamsState} {err out : List ℕ} {y : A} {x : Result A Stop} {allowed : List ℕ}
+    → b.inputs.source.refusals ≡ a.inputs.source.refusals → WritesAndReturns a.outputs b.outputs err out y x
+    → StopHasCause allowed a b x
+wrote_cause {A} {a} {b} {err} {out} {y} {allowed = allowed} same h = rw h.returns (by h.written h.writes)
+  where
+    by : (w : Result (Unit {0}) (Unit {0})) → WritesAndFlushesBoth a.outputs b.outputs err out w
+        → StopHasCause {A = A} allowed a b (outcome_after w y)
+    by (Ok u) wrote = record { flushed = λ f. (wrote.1 f).0; refusals = same; failures = wrote.0 }
+    by (Err e) wrote = record { flushed = λ f. (wrote.1 f).0; refusals = same; failures = wrote.0 }
+
+-- a step stops only if memory was refused, at most once, or bytes remained, or one output failed
+cause_found : {I : Type 0} (q : VerdictsValue I) (labels : LabelsValue) (vector : List ℕ) (found : VerdictResult)
+    (a b : StreamsState) {x : Result Progress Stop} → AsksFor vector a.inputs b.inputs found
+    → ReportsFound q labels vector found a.outputs b.outputs x → StopHasCause (0 ∷ 1 ∷ []) a b x
+cause_found q labels vector (Err Memory) a b asked h = rw h.0
+    (record { flushed = λ f. rw h.1 f; refusals = one_at_most a.inputs b.inputs asked; failures = rw h.1 refl })
+cause_found q labels vector (Err (Fault f)) a b asked h = wrote_cause asked.refusals h
+cause_found q labels vector (Ok (Some v)) a b asked h = wrote_cause asked.refusals h
+cause_found q labels vector (Ok None) a b asked h = wrote_cause asked.refusals h
+
 module _ {I : Type 0} {state : I → InputState} {vector : List ℕ} {p q : CheckerValue I} {a b : StreamsState} where
+  pub step_cause : {x : Result Progress Stop} → AdvancesChecker state vector p q a b x
+      → StopHasCause (0 ∷ 1 ∷ []) a b x
+  step_cause h = cause_found q.verdicts p.labels vector h.found a b h.verdict.asked h.reports
+
   pub good_end : AdvancesChecker state vector p q a b (Ok (Ended true)) → q.verdicts.counts.unread ≡ 0
   good_end h = (good_found q.verdicts p.labels vector h.found a.outputs b.outputs h.reports).1
 

@@ -9,10 +9,10 @@ use Rattle.sum_engine.specs.check.Reports.{err_of, out_of, end_text, good}
 use Rattle.sum_engine.specs.check.CheckStates.{CheckState, HandlesLine, remaining_verdicts, remaining_behavior}
 use Rattle.sum_engine.specs.check.Verdicts.{VerdictsValue, state_at, InEachCheck, AdvancesVerdicts, VerdictResult, line_verdict_value, FindsVerdict, HasNoVerdictLeft}
 use Rattle.sum_engine.specs.check.Checker.{ReportsFound, Progress, Going, Ended, step_then, progress_before, IsStep, TakesStep}
-use Rattle.sum_engine.specs.Execution.{Stop, InputsState, StreamsState, AsksNames, RefusedAt, world_at}
+use Rattle.sum_engine.specs.Execution.{Stop, InputsState, StreamsState, AsksNames, world_at}
 use Rattle.sum_engine.specs.refinement.FlushedWrites.{outcome_after, WritesAndReturns}
 use Rattle.sum_engine.specs.refinement.Names.{MemoryWasRefused}
-use Rattle.sum_engine.proofs.ExecutionLemmas.{HappenedOrPrefix, step_performed, HappenedOrPrefix-by, refused_in, refused_first}
+use Rattle.sum_engine.proofs.ExecutionLemmas.{HappenedOrPrefix, step_performed, HappenedOrPrefix-by, refused_first}
 use Rattle.sum_engine.proofs.CountLemmas.{counts_then-nil}
 use Rattle.sum_engine.proofs.RemainingLemmas.{line_step, behavior_by, first_step, found_first, going-before}
 use Rattle.sum_sources.specs.declared.line_reader.LineStop.TheVariants as line_stops
@@ -48,10 +48,10 @@ step_by r labels a b s t vector step later progress x is next came going = recor
     going_of (Err e) h = cc
 
 -- memory was refused, or bytes of the manifest remained
-refused_by : (a b : StreamsState) (step : Step) → 0 < step.remaining → b.outputs ≡ a.outputs
-    → MemoryWasRefused a.inputs b.inputs ⊎ (b.inputs ≡ a.inputs) → RefusedAt step a b
-refused_by a b step some outputs (inl refused) = refused_in a b step refused outputs
-refused_by a b step some outputs (inr same) = search rules
+refused_by : {a b : InputsState} {Some : Type 0} → Some → MemoryWasRefused a b ⊎ (b ≡ a)
+    → MemoryWasRefused a b ⊎ ((b ≡ a) × Some)
+refused_by some (inl refused) = inl refused
+refused_by some (inr same) = inr (same, some)
 
 -- from p and the streams a to q and the streams b
 module _ {I : Type 0} {state : I → InputState} {p q : VerdictsValue I} (a b : StreamsState) (labels : LabelsValue)
@@ -108,6 +108,6 @@ module _ {I : Type 0} {state : I → InputState} {p q : VerdictsValue I} (a b : 
           later = first.1;
           is = first.2;
           performs =
-              refused_first first.0 [] refl (refused_by a b first.0 (rw (← first.3) at f.1) reported.1 did.asked);
+              refused_first a b first.0 [] refl reported.1 (refused_by (rw (← first.3) at f.1) did.asked);
           going = λ h. cc;
         }))

@@ -5,7 +5,7 @@ pub use Rattle.sum_engine.specs.declared.check.progress.Progress.TheVariants.{Go
 use Rattle.sum_sources.specs.declared.line_reader.LineStop.TheVariants.{Fault, Memory}
 use Rattle.sum_sources.specs.LineReaders.{IsReading}
 use Rattle.sum_engine.specs.Behavior.{ByteString, Whole, Broken, Step, Behavior, InputState}
-use Rattle.sum_engine.specs.Execution.{Stop, OutputsState, StreamsState, PerformsSteps, IsFlushed, StopHasCause, IsOneMoreAtMost}
+use Rattle.sum_engine.specs.Execution.{Stop, OutputsState, StreamsState, PerformsSteps, IsFlushed}
 use Rattle.sum_engine.specs.refinement.FlushedWrites.{WritesAndReturns}
 use Rattle.sum_engine.specs.check.Rules.{Rules, LabelsValue}
 use Rattle.sum_engine.specs.check.Reports.{out_of, err_of, end_text, good}
@@ -69,4 +69,3 @@ pub record AdvancesChecker {I : Type 0} (state : I → InputState) (vector : Byt
   pub found : VerdictResult
   pub verdict : AdvancesVerdicts state vector p.verdicts q.verdicts a.inputs b.inputs found
   pub reports : ReportsFound q.verdicts p.labels vector found a.outputs b.outputs x
-  pub cause : StopHasCause IsOneMoreAtMost a b x
