@@ -1,6 +1,6 @@
 //! The whole program, from the list of its arguments to its exit status.
 ghost use Rattle.std.specs.Prelude.{◌≡◌};
-ghost use Rattle.sum_engine.specs.Execution.{IsFlushed, HasNoFailure, ReadsToEndIf};
+ghost use Rattle.sum_engine.specs.Execution.{IsFlushed, ReadsToEndIf, failures};
 ghost use Rattle.digests.specs.Program.{ProgramPerforms};
 ghost use Rattle.digests.specs.refinement.FinishRun.{Refuses};
 ghost use Rattle.digests.specs.refinement.Messages.{message_text};
@@ -32,7 +32,7 @@ pub fn command<A: Allocator + Copy, G: Arguments, I: Input + Drop, S: Source, O:
     ensures behavior { ProgramPerforms (G.known arguments.now) streams.old streams.new result }
     ensures flushed { IsFlushed streams.old.outputs → IsFlushed streams.new.outputs }
     // One way: status 0 only if no call of either output failed.
-    ensures no_failures { result ≡ 0 → HasNoFailure streams.old.outputs streams.new.outputs }
+    ensures no_failures { result ≡ 0 → failures streams.new.outputs ≡ failures streams.old.outputs }
     // Status 0 only if all that was opened was read to its end; and never further.
     ensures reads { ReadsToEndIf (result ≡ 0) streams.old.inputs streams.new.inputs }
 {

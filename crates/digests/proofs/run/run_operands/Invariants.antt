@@ -1,6 +1,6 @@
 use Rattle.std.proofs.Common.{length, Ok}
 use Rattle.sum_engine.specs.Execution.{StopHasCause}
-use Rattle.digests.specs.refinement.Operands.{JobAllowsRefusals}
+use Rattle.digests.specs.refinement.Operands.{job_refusals}
 use Rattle.digests.proofs.OperandLemmas.{HasReached, left, operands_of}
 use Rattle.digests.proofs.run.run_operands.Given as goal
 
@@ -10,7 +10,7 @@ abbrev pub invariant-operands : goal.invariant-operands
 invariant-operands g l = record {
   reached : HasReached (operands_of l.job l.tool l.fn.operands) (left l.next l.operands) l.fn.streams
       l.streams l.good;
-  so_far : StopHasCause (JobAllowsRefusals l.job) l.fn.streams l.streams (Ok l.good);
+  so_far : StopHasCause (job_refusals l.job) l.fn.streams l.streams (Ok l.good);
 }
 
 -- one operand less is left
