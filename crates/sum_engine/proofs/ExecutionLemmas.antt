@@ -3,12 +3,12 @@ use Rattle.std.proofs.Common.{rules, arith, ◌≡◌, ◌<◌, ◌+◌, ℕ, Li
 use Rattle.std.specs.Prelude.{◌⊎◌, Any}
 use Rattle.std.proofs.lemmas.List.{map-append}
 use Rattle.std.proofs.lemmas.List.Elements.{filter_map-append}
-use Rattle.sum_lines.specs.Sinks.{Gets, GetsPrefix}
+use Rattle.sum_lines.specs.Sinks.{IsPrefix, Gets, GetsPrefix}
 use Rattle.sum_lines.proofs.EventLemmas.{Gets-none, Gets-then}
 use Rattle.sum_engine.specs.Behavior.{Event, Step, events_of, OutputEvent, output_events, open_name, to_err, to_out, opened_name, err_event, out_event}
 use Rattle.sum_engine.specs.refinement.FlushedWrites.{WritesBoth, outcome_after}
 use Rattle.sum_engine.specs.refinement.Names.{MemoryWasRefused}
-use Rattle.sum_engine.specs.Execution.{InputsState, StreamsState, StopHasCause, asked, AsksNames, Stop, Memory, Write, Happened, PrefixHappened, RunsOutOfMemory, PerformsSteps}
+use Rattle.sum_engine.specs.Execution.{InputsState, StreamsState, StopHasCause, asked, AsksNames, Stop, Memory, Write, Happened, RunsOutOfMemory, PerformsSteps}
 use Rattle.sum_engine.proofs.WorldLemmas.{asks_none, asks_then}
 
 -- ---- what of a step's events is of each kind
@@ -44,11 +44,6 @@ out-by names err out = search (rules, filter_map-append, kind-all, kind-none)
 
 -- ---- what happened
 
--- the names were asked if they were opened, and nothing was written
-pub asks_by : {a b : StreamsState} (names : List (List ℕ)) → Happened a b (map open_name names)
-    → AsksNames a.inputs b.inputs names
-asks_by names h = search (rules, kind-all)
-
 -- these names were asked, and the outputs got these events
 pub Happened-by : {a b : StreamsState} (names : List (List ℕ)) (err out : List OutputEvent) → AsksNames a.inputs b.inputs names
     → Gets a.outputs.err.sink b.outputs.err.sink err → Gets a.outputs.out.sink b.outputs.out.sink out
@@ -68,6 +63,10 @@ Happened-then {a} {b} {c} p q h k = record {
 }
 
 -- ---- a prefix of it
+
+-- a prefix of these events happened
+abbrev PrefixHappened : StreamsState → StreamsState → List Event → Type 0
+PrefixHappened a b es = (prefix : List Event) × IsPrefix prefix es × Happened a b prefix
 
 -- the names were asked, and standard error got a prefix of its events
 pub prefix_err : {a b : StreamsState} (names : List (List ℕ)) (err out : List OutputEvent) → AsksNames a.inputs b.inputs names

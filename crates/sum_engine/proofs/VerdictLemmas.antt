@@ -3,17 +3,17 @@ use Rattle.std.proofs.Common.{rules, ◌≡◌, ◌&&◌, List, ℕ, Bool, false
 use Rattle.std.specs.Prelude.{MatchResult}
 use Rattle.sum_engine.specs.declared.hash_name.HashFault.TheVariants.{NotOpened, NotRead, Memory}
 use Rattle.sum_engine.specs.check.Rules.{Rules}
-use Rattle.sum_engine.specs.check.Judge.{Verdict, asks_of, EntryValue, entry}
+use Rattle.sum_engine.specs.check.Judge.{Verdict, asks_of, judge, EntryValue}
 use Rattle.sum_engine.specs.check.Reports.{is_unread}
 use Rattle.sum_engine.specs.Behavior.{World, Answer, answer_to, is_dash}
 use Rattle.sum_engine.specs.Execution.{InputsState, AsksNames}
-use Rattle.sum_engine.specs.refinement.Judging.{Judges, verdict_of_hash}
+use Rattle.sum_engine.specs.refinement.Judging.{verdict_of_hash}
 use Rattle.sum_engine.specs.refinement.Names.{HashFault, NoRoom, AsksUnlessRefused, IsHashOf, IsNotBroken, MemoryWasRefused}
 
 -- an entry's verdict
 pub judged_entry : (r : Rules) (w : World) (s : EntryValue) (found : Result (List ℕ) HashFault)
     (x : Result Verdict NoRoom) → r.from_stdin && is_dash s.name ≡ false → IsHashOf s.kind (answer_to w s.name) found
-    → x ≡ verdict_of_hash r.ignore_missing s.digest found → Judges r w (entry s) x
+    → x ≡ verdict_of_hash r.ignore_missing s.digest found → IfOk x (λ v. v ≡ judge r w s)
 judged_entry r w s (Ok d) x dash h is = search rules
 judged_entry r w s (Err (NotOpened f)) x dash h is = search rules
 judged_entry r w s (Err (NotRead f)) x dash h is = search rules

@@ -19,7 +19,7 @@ pub record StdinState : Type 0 where
   pub taken : Bool
   pub reads : Option Reads
 
--- that of a value. While it is taken, an empty one stands in for it
+-- the state of a standard input. While it is taken, an empty one stands in for it
 abbrev pub stdin_of : {I : Type 0} → (I → InputState) → StdinPlace I → StdinState
 stdin_of state (Untaken i) = record { told = (state i).told; taken = false; reads = None }
 stdin_of state Taken = record { told = Some empty_content; taken = true; reads = None }
@@ -117,10 +117,6 @@ pub record Happened (a b : StreamsState) (es : List Event) : Type 0 where
 abbrev pub with_refusals : ℕ → StreamsState → StreamsState
 with_refusals n b = record b { inputs = record b.inputs { source = record b.inputs.source { refusals = n } } }
 
--- a prefix of these events happened
-abbrev pub PrefixHappened : StreamsState → StreamsState → List Event → Type 0
-PrefixHappened a b es = (prefix : List Event) × IsPrefix prefix es × Happened a b prefix
-
 -- out of memory: the steps before the next one happened, and nothing of that, but for a refusal of the source; or bytes
 -- of the manifest remained
 pub record RunsOutOfMemory (steps : List Step) (a b : StreamsState) : Type 0 where
@@ -136,11 +132,11 @@ pub record RunsOutOfMemory (steps : List Step) (a b : StreamsState) : Type 0 whe
 -- prefix of the trace; or memory ran out at a step, and exactly the steps before it happened
 abbrev pub PerformsSteps : {A : Type 0} → List Step → A → StreamsState → StreamsState → Result A Stop → Type 0
 PerformsSteps steps x a b (Ok outcome) = (outcome ≡ x) × Happened a b (trace steps)
-PerformsSteps steps x a b (Err Write) = PrefixHappened a b (trace steps)
+PerformsSteps steps x a b (Err Write) = (prefix : List Event) × IsPrefix prefix (trace steps) × Happened a b prefix
 PerformsSteps steps x a b (Err Memory) = RunsOutOfMemory steps a b
 
--- the same of a behavior in each world that agrees with what was read by the end of the call, if both outputs are
--- flushed; what is returned depends on its `good`
+-- a call performs a behavior, if both outputs are flushed before: its steps in each world that agrees with what was read
+-- by the end of the call; what it returns depends on `good`
 abbrev pub Performs : {A : Type 0} → (World → Behavior) → (Bool → A) → StreamsState → StreamsState → Result A Stop
     → Type 0
 Performs behavior outcome a b r = IsFlushed a.outputs → (w : World) → Agrees w b.inputs

@@ -53,7 +53,7 @@ returns-in-Ok-Ended-clause-reads g c =
     reads_then (λ all.
     let good : c.in-Ok-Ended.good ≡ true = search rules in
     let none = good_end (rw good at advances) in
-    none_unread c.lines.checker.verdicts c.step.new.self.verdicts advances.found advances.verdict.moves.counts none)
+    none_unread c.lines.checker.verdicts c.step.new.self.verdicts advances.found advances.verdict.counts none)
     so_far.reads advances.verdict.reads
 
 pub returns-in-Ok-Ended-clause-manifest : goal.returns-in-Ok-Ended-clause-manifest
@@ -77,7 +77,7 @@ lines-preserved g c =
       going = rw c.in-Ok-Going.field-0-is at done.outcome.kept;
       so_far = search rules;
       reads = reads_then (none_unread c.lines.checker.verdicts c.step.new.self.verdicts advances.found
-          advances.verdict.moves.counts) so_far.reads advances.verdict.reads;
+          advances.verdict.counts) so_far.reads advances.verdict.reads;
       same = search rules;
       stdin = λ from.
           advances.verdict.stdin (ap (λ r. r.from_stdin) so_far.along.rules ∙ from) ∙ so_far.stdin from;
