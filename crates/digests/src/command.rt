@@ -7,9 +7,9 @@ ghost use Rattle.digests.specs.refinement.Messages.{message_text};
 
 use crate::finish::finish_run;
 use crate::messages::{Message, put_err_message};
-use crate::run::{run, status_after_write};
+use crate::run::run;
 use std::alloc::Allocator;
-use sum_engine::{Inputs, Outputs, Streams};
+use sum_engine::{Inputs, Outputs, Streams, outcome_after};
 use sum_lines::Sink;
 use sum_sources::{Input, Source};
 use sum_words::{Arguments, CommandLine, NotRead, read_command_line};
@@ -52,6 +52,6 @@ fn refuse<O: Sink, E: Sink>(text: Message, outputs: &mut Outputs<O, E>) -> u8
     ensures flushed { IsFlushed outputs.old → IsFlushed outputs.new }
     ensures not_good { result ≡ 0 → ⊥ }
 {
-    let outcome = status_after_write(put_err_message(outputs, text), 1);
+    let outcome = outcome_after(put_err_message(outputs, text), 1);
     finish_run(None, outcome, outputs)
 }

@@ -2,7 +2,6 @@
 ghost use Rattle.std.specs.Prelude.{◌≡◌, ◌∷◌, true, Ok};
 ghost use Rattle.sum_engine.specs.Execution.{IsFlushed, FailuresMatch, ReadsToEndIf};
 ghost use Rattle.sum_engine.specs.Execution.{RefusalsMatch, StopHasCause, Performs};
-ghost use Rattle.sum_engine.specs.refinement.FlushedWrites.{outcome_after};
 ghost use Rattle.sum_words.specs.Tools.{name_of};
 ghost use Rattle.sum_words.specs.refinement.OptionScan.{result_value};
 ghost use Rattle.sum_words.specs.Request.{request};
@@ -13,9 +12,9 @@ ghost use Rattle.digests.specs.refinement.Operands.{operand_behavior, job_refusa
 use crate::messages::{Message, put_err_message, put_out_message};
 use std::alloc::Allocator;
 use sum_engine::{
-    CheckSettings, Inputs, Outputs, Settings, Stop, Streams, check_one, generate_one,
+    CheckSettings, Inputs, Outputs, Settings, Stop, Streams, check_one, generate_one, outcome_after,
 };
-use sum_lines::{Sink, SinkFault};
+use sum_lines::Sink;
 use sum_sources::{Input, Source};
 use sum_words::{Operands, Request, Tool, WordFault, Words, read_words};
 
@@ -57,15 +56,15 @@ fn run_request<A: Allocator + Copy, I: Input + Drop, S: Source, O: Sink, E: Sink
     ensures reads { ReadsToEndIf (result ≡ Ok 0) streams.old.inputs streams.new.inputs }
 {
     match asked {
-        Err(fault) => status_after_write(
+        Err(fault) => outcome_after(
             put_err_message(&mut streams.outputs, Message::Fault(tool, &fault)),
             1,
         ),
-        Ok(Request::Help) => status_after_write(
+        Ok(Request::Help) => outcome_after(
             put_out_message(&mut streams.outputs, Message::Help(tool)),
             0,
         ),
-        Ok(Request::Version) => status_after_write(
+        Ok(Request::Version) => outcome_after(
             put_out_message(&mut streams.outputs, Message::Version(tool)),
             0,
         ),
@@ -76,14 +75,6 @@ fn run_request<A: Allocator + Copy, I: Input + Drop, S: Source, O: Sink, E: Sink
             run_operands(alloc, &Job::Check(settings), tool, operands, streams)
         }
     }
-}
-
-// The status after a text was written.
-pub(crate) fn status_after_write(written: Result<(), SinkFault>, status: u8) -> Result<u8, Stop>
-    ensures { result ≡ outcome_after written status }
-{
-    written?;
-    Ok(status)
 }
 
 // What is done with each operand.

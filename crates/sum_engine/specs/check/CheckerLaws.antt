@@ -57,22 +57,19 @@ StepsJoin = (r : Rules) (labels : LabelsValue) (c : Content) (w : World) (b : Ch
     (vectors : List ByteString) → StepsGoing r labels (initial_state c w) b s t vectors
     → AfterSteps r labels c (content_behavior r labels c (all_verdicts r w c)) vectors b s t
 
--- a line after the same lines, in two manifests: it spells the same entry; the verdicts up to its own are the same
--- after the same asks; and if it is plain, the form is the same
-pub record FrontIsSame (r : Rules) (w : World) (before : List ByteString) (line : ByteString)
-    (later others : List ByteString) : Type 0 where
-  pub entry : (s : EntryValue) → IsEntry escape r.algo (form r.algo (before ++ (line ∷ later))) line s
-      ↔ IsEntry escape r.algo (form r.algo (before ++ (line ∷ others))) line s
-  pub verdict :
-      take (length before + 1) (verdicts r (form r.algo (before ++ (line ∷ later))) w 0 (before ++ (line ∷ later)))
-      ≡ take (length before + 1) (verdicts r (form r.algo (before ++ (line ∷ others))) w 0 (before ++ (line ∷ others)))
+-- the first n lines of two manifests are the same, of which this is the last: it spells the same entry; their verdicts
+-- are the same after the same asks; and if it is plain, the form is the same
+pub record FrontIsSame (r : Rules) (w : World) (n : ℕ) (line : ByteString) (ls ks : List ByteString) : Type 0 where
+  pub entry : (s : EntryValue)
+      → IsEntry escape r.algo (form r.algo ls) line s ↔ IsEntry escape r.algo (form r.algo ks) line s
+  pub verdict : take n (verdicts r (form r.algo ls) w 0 ls) ≡ take n (verdicts r (form r.algo ks) w 0 ks)
   pub form : (e : Bool) (kind : KindValue) (d tail : ByteString) → IsPlain r.algo line e kind d tail
-      → form r.algo (before ++ (line ∷ later)) ≡ form r.algo (before ++ (line ∷ others))
+      → form r.algo ls ≡ form r.algo ks
 
 -- later lines have no part in any of this; nor has a manifest's name, which the rules don't hold
 abbrev pub SameFront : Type 0
 SameFront = (r : Rules) (w : World) (before : List ByteString) (line : ByteString) (later others : List ByteString)
-    → FrontIsSame r w before line later others
+    → FrontIsSame r w (length before + 1) line (before ++ (line ∷ later)) (before ++ (line ∷ others))
 
 -- what is returned if no verdict is left and the manifest ends so
 abbrev pub ending_result : Ending → Result (Option LineVerdict) LineStop

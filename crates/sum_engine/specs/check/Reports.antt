@@ -17,18 +17,14 @@ use Rattle.sum_engine.specs.Generation.{tool_line, name_fault_line}
 abbrev pub name_line : Profile → ByteString → ByteString → ByteString
 name_line p name text = concat (mark (escape_differs p name) ∷ escape_by p name ∷ codes ": " ∷ text ∷ codes "\n" ∷ [])
 
--- the line of a verdict
-abbrev pub verdict_line : Profile → Verdict → ByteString → ByteString
-verdict_line p Right name = name_line p name (codes "OK")
-verdict_line p Wrong name = name_line p name (codes "FAILED")
-verdict_line p (Unread f) name = name_line p name (codes "FAILED open or read")
-verdict_line p v name = []
-
 -- a line's report on standard output
 abbrev pub out_by : Profile → Report → Verdict → ByteString → ByteString
-out_by p Quiet Right name = []
 out_by p Status v name = []
-out_by p report v name = verdict_line p v name
+out_by p Quiet Right name = []
+out_by p report Right name = name_line p name (codes "OK")
+out_by p report Wrong name = name_line p name (codes "FAILED")
+out_by p report (Unread f) name = name_line p name (codes "FAILED open or read")
+out_by p report v name = []
 
 abbrev pub out_of : Rules → LabelsValue → LineVerdictValue → ByteString
 out_of r labels j = out_by r.profile labels.report j.verdict j.name
