@@ -1,7 +1,6 @@
 -- What a tool's words mean: a behavior, its status, and how often its source may be refused memory.
 use Rattle.std.specs.Prelude.{ℕ, Bool, true, false, List, [], ◌∷◌, Result, Ok, Err, codes, if◌then◌else◌}
 use Rattle.sum_engine.specs.Behavior.{World, after, Behavior, behavior_then, single_step, asks, ByteString}
-use Rattle.sum_engine.specs.Execution.{IsOneMore, IsOneMoreAtMost}
 use Rattle.sum_engine.specs.Generation.{generate_behavior}
 use Rattle.sum_engine.specs.check.Checking.{check_behavior}
 use Rattle.sum_words.specs.declared.tool.Tool.{Tool}
@@ -37,8 +36,8 @@ meaning t words w = request_behavior t (request t words) w
 abbrev pub status_of : Bool → ℕ
 status_of good = if good then 0 else 1
 
--- out of memory has one refusal more of the source in generation, and one or none in checking; nothing else ends so
-abbrev pub AllowsRefusals : Result Request WordFaultValue → ℕ → ℕ → Type 0
-AllowsRefusals (Ok (Generate settings names)) = IsOneMore
-AllowsRefusals (Ok (Check settings names)) = IsOneMoreAtMost
-AllowsRefusals asked = λ n m. ⊥
+-- how often the source may have been refused memory, if a request ends out of memory
+abbrev pub allowed_refusals : Result Request WordFaultValue → List ℕ
+allowed_refusals (Ok (Generate settings names)) = 1 ∷ []
+allowed_refusals (Ok (Check settings names)) = 0 ∷ 1 ∷ []
+allowed_refusals asked = []

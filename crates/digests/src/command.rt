@@ -1,15 +1,15 @@
 //! The whole program, from the list of its arguments to its exit status.
 ghost use Rattle.std.specs.Prelude.{◌≡◌};
-ghost use Rattle.sum_engine.specs.Execution.{IsFlushed, HasNoFailure, ReadsToEndIf};
+ghost use Rattle.sum_engine.specs.Execution.{IsFlushed, ReadsToEndIf, failures};
 ghost use Rattle.digests.specs.Program.{ProgramPerforms};
 ghost use Rattle.digests.specs.refinement.FinishRun.{Refuses};
 ghost use Rattle.digests.specs.refinement.Messages.{message_text};
 
 use crate::finish::finish_run;
 use crate::messages::{Message, put_err_message};
-use crate::run::{run, status_after_write};
+use crate::run::run;
 use std::alloc::Allocator;
-use sum_engine::{Inputs, Outputs, Streams};
+use sum_engine::{Inputs, Outputs, Streams, outcome_after};
 use sum_lines::Sink;
 use sum_sources::{Input, Source};
 use sum_words::{Arguments, CommandLine, NotRead, read_command_line};
@@ -32,7 +32,7 @@ pub fn command<A: Allocator + Copy, G: Arguments, I: Input + Drop, S: Source, O:
     ensures behavior { ProgramPerforms (G.known arguments.now) streams.old streams.new result }
     ensures flushed { IsFlushed streams.old.outputs → IsFlushed streams.new.outputs }
     // One way: status 0 only if no call of either output failed.
-    ensures no_failures { result ≡ 0 → HasNoFailure streams.old.outputs streams.new.outputs }
+    ensures no_failures { result ≡ 0 → failures streams.new.outputs ≡ failures streams.old.outputs }
     // Status 0 only if all that was opened was read to its end; and never further.
     ensures reads { ReadsToEndIf (result ≡ 0) streams.old.inputs streams.new.inputs }
 {
@@ -52,6 +52,6 @@ fn refuse<O: Sink, E: Sink>(text: Message, outputs: &mut Outputs<O, E>) -> u8
     ensures flushed { IsFlushed outputs.old → IsFlushed outputs.new }
     ensures not_good { result ≡ 0 → ⊥ }
 {
-    let outcome = status_after_write(put_err_message(outputs, text), 1);
+    let outcome = outcome_after(put_err_message(outputs, text), 1);
     finish_run(None, outcome, outputs)
 }

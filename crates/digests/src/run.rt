@@ -2,20 +2,19 @@
 ghost use Rattle.std.specs.Prelude.{◌≡◌, ◌∷◌, true, Ok};
 ghost use Rattle.sum_engine.specs.Execution.{IsFlushed, FailuresMatch, ReadsToEndIf};
 ghost use Rattle.sum_engine.specs.Execution.{RefusalsMatch, StopHasCause, Performs};
-ghost use Rattle.sum_engine.specs.refinement.FlushedWrites.{outcome_after};
 ghost use Rattle.sum_words.specs.Tools.{name_of};
 ghost use Rattle.sum_words.specs.refinement.OptionScan.{result_value};
 ghost use Rattle.sum_words.specs.Request.{request};
 ghost use Rattle.digests.specs.Meaning.{operands_behavior, request_behavior, or_dash, meaning, status_of};
-ghost use Rattle.digests.specs.Meaning.{AllowsRefusals};
-ghost use Rattle.digests.specs.refinement.Operands.{operand_behavior, JobAllowsRefusals};
+ghost use Rattle.digests.specs.Meaning.{allowed_refusals};
+ghost use Rattle.digests.specs.refinement.Operands.{operand_behavior, job_refusals};
 
 use crate::messages::{Message, put_err_message, put_out_message};
 use std::alloc::Allocator;
 use sum_engine::{
-    CheckSettings, Inputs, Outputs, Settings, Stop, Streams, check_one, generate_one,
+    CheckSettings, Inputs, Outputs, Settings, Stop, Streams, check_one, generate_one, outcome_after,
 };
-use sum_lines::{Sink, SinkFault};
+use sum_lines::Sink;
 use sum_sources::{Input, Source};
 use sum_words::{Operands, Request, Tool, WordFault, Words, read_words};
 
@@ -35,7 +34,7 @@ pub fn run<A: Allocator + Copy, I: Input + Drop, S: Source, O: Sink, E: Sink>(
     ensures behavior { Performs (meaning tool words.now) status_of streams.old streams.new result }
     ensures flushed { IsFlushed streams.old.outputs → IsFlushed streams.new.outputs }
     // Refusals rise only as the request allows.
-    ensures refusals { RefusalsMatch (AllowsRefusals (request tool words.now)) streams.old.inputs
+    ensures refusals { RefusalsMatch (allowed_refusals (request tool words.now)) streams.old.inputs
         streams.new.inputs result }
     ensures failures { FailuresMatch streams.old.outputs streams.new.outputs result }
     // Status 0 only if all that was opened was read to its end; and never further.
@@ -53,19 +52,19 @@ fn run_request<A: Allocator + Copy, I: Input + Drop, S: Source, O: Sink, E: Sink
 ) -> Result<u8, Stop>
     ensures behavior { Performs (request_behavior tool (result_value asked.entry)) status_of streams.old
         streams.new result }
-    ensures cause { StopHasCause (AllowsRefusals (result_value asked.entry)) streams.old streams.new result }
+    ensures cause { StopHasCause (allowed_refusals (result_value asked.entry)) streams.old streams.new result }
     ensures reads { ReadsToEndIf (result ≡ Ok 0) streams.old.inputs streams.new.inputs }
 {
     match asked {
-        Err(fault) => status_after_write(
+        Err(fault) => outcome_after(
             put_err_message(&mut streams.outputs, Message::Fault(tool, &fault)),
             1,
         ),
-        Ok(Request::Help) => status_after_write(
+        Ok(Request::Help) => outcome_after(
             put_out_message(&mut streams.outputs, Message::Help(tool)),
             0,
         ),
-        Ok(Request::Version) => status_after_write(
+        Ok(Request::Version) => outcome_after(
             put_out_message(&mut streams.outputs, Message::Version(tool)),
             0,
         ),
@@ -76,14 +75,6 @@ fn run_request<A: Allocator + Copy, I: Input + Drop, S: Source, O: Sink, E: Sink
             run_operands(alloc, &Job::Check(settings), tool, operands, streams)
         }
     }
-}
-
-// The status after a text was written.
-pub(crate) fn status_after_write(written: Result<(), SinkFault>, status: u8) -> Result<u8, Stop>
-    ensures { result ≡ outcome_after written status }
-{
-    written?;
-    Ok(status)
 }
 
 // What is done with each operand.
@@ -103,7 +94,7 @@ fn run_operand<A: Allocator + Copy, I: Input + Drop, S: Source, O: Sink, E: Sink
 ) -> Result<bool, Stop>
     ensures behavior { Performs (λ w. operand_behavior job.now (name_of tool) w name.now) (λ good. good)
         streams.old streams.new result }
-    ensures cause { StopHasCause (JobAllowsRefusals job.now) streams.old streams.new result }
+    ensures cause { StopHasCause (job_refusals job.now) streams.old streams.new result }
     ensures reads { ReadsToEndIf (result ≡ Ok true) streams.old.inputs streams.new.inputs }
 {
     match job {
@@ -133,7 +124,7 @@ fn run_operands<A: Allocator + Copy, I: Input + Drop, S: Source, O: Sink, E: Sin
     ensures behavior { Performs (λ w. operands_behavior (operand_behavior job.now (name_of tool)) w
         (or_dash operands.entry)) status_of
         streams.old streams.new result }
-    ensures cause { StopHasCause (JobAllowsRefusals job.now) streams.old streams.new result }
+    ensures cause { StopHasCause (job_refusals job.now) streams.old streams.new result }
     ensures reads { ReadsToEndIf (result ≡ Ok 0) streams.old.inputs streams.new.inputs }
 {
     let mut operands = operands;

@@ -1,16 +1,16 @@
 -- Runs, one after another, and what a run's steps come to.
-use Rattle.std.proofs.Common.{rules, ◌≡◌, ℕ, Bool, List, [], ◌∷◌, ◌++◌, Option, Result, Ok, Err, refl, ap, sym, ◌∙◌, subst, append_assoc, append-nil, flat_map, filter_map}
+use Rattle.std.proofs.Common.{rules, ◌≡◌, ℕ, Bool, List, [], ◌∷◌, ◌++◌, Option, Result, Ok, Err, refl, ap, sym, ◌∙◌, subst, append_assoc, append-nil, flat_map, filter_map, inl}
 use Rattle.std.proofs.lemmas.Grind.{flat_map-append}
 use Rattle.std.proofs.lemmas.List.Elements.{filter_map-append}
 use Rattle.sum_lines.specs.Sinks.{written_byte}
 use Rattle.sum_lines.proofs.EventLemmas.{output_events-bytes}
-use Rattle.sum_engine.specs.Execution.{Stop, Memory, Write, StreamsState, AsksNames, Agrees, world_at, Happened, PerformsSteps, Performs}
+use Rattle.sum_engine.specs.Execution.{Stop, Memory, Write, StreamsState, AsksNames, Agrees, world_at, Happened, with_refusals, PerformsSteps, Performs}
 use Rattle.sum_engine.specs.Behavior.{World, Event, OutputEvent, Step, Behavior, trace, events_of, output_events, opened_name, err_event, out_event, single_step}
 use Rattle.sum_engine.specs.check.Checker.{step_then}
 use Rattle.sum_engine.specs.check.CheckerLaws.{EventsExtend}
 use Rattle.sum_engine.specs.refinement.FlushedWrites.{WritesAndReturns}
 use Rattle.sum_engine.specs.refinement.Names.{MemoryWasRefused}
-use Rattle.sum_engine.proofs.ExecutionLemmas.{step_performed, names-by, err-by, out-by, Happened-none, Happened-then, HappenedOrPrefix-by, refused_in, refused_first}
+use Rattle.sum_engine.proofs.ExecutionLemmas.{step_performed, names-by, err-by, out-by, Happened-none, Happened-then, HappenedOrPrefix-by, refused_first}
 
 -- ---- a behavior after a step, and one behavior after another
 
@@ -25,14 +25,14 @@ pub behavior_then-second : {A B : Type 0} {a b : StreamsState} (c : StreamsState
     → Happened a b (trace r) → PerformsSteps s y b c (Err stop) → PerformsSteps (r ++ s) x a c (Err stop)
 behavior_then-second c x y r s Write h k =
     (trace r ++ k.0, k.1, search (rules, flat_map-append, append_assoc), Happened-then (trace r) k.0 h k.3)
-behavior_then-second c x y r s Memory h k = record {
+behavior_then-second {b} c x y r s Memory h k = record {
   done = r ++ k.done;
   next = k.next;
   later = k.later;
-  between = k.between;
   are = search (rules, append_assoc);
-  happened = search (rules, flat_map-append, Happened-then);
-  refused = k.refused;
+  happened = behavior_then-happened r k.done h
+      (subst (λ n. Happened b (with_refusals n c) (trace k.done)) h.inputs.refusals k.happened);
+  cause = rw h.inputs.refusals at k.cause;
 }
 
 -- the first stopped
@@ -105,7 +105,7 @@ pub Performs-refused : {A : Type 0} (run : World → Behavior) (outcome : Bool �
     → MemoryWasRefused a.inputs b.inputs → b.outputs ≡ a.outputs → Performs run outcome a b (Err Memory)
 Performs-refused run outcome a b first refused outputs = λ flushed w agrees.
     let next = first (world_at w a.inputs) in
-    refused_first next.0 next.1 next.2 (refused_in a b next.0 refused outputs)
+    refused_first a b next.0 next.1 next.2 outputs (inl refused)
 
 -- ---- what a run's events come to
 

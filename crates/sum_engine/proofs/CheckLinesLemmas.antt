@@ -7,14 +7,15 @@ use Rattle.sum_engine.specs.check.Rules.{Rules, LabelsValue}
 use Rattle.sum_engine.specs.check.Judge.{all_verdicts}
 use Rattle.sum_engine.specs.check.Checking.{content_behavior}
 use Rattle.sum_engine.specs.check.CheckStates.{CheckState, initial_state, remaining_behavior}
-use Rattle.sum_engine.specs.check.Verdicts.{IsAtStart, VerdictsValue, state_at, InEachCheck, VerdictResult, LineVerdict, counts_after, IsNotUnread}
-use Rattle.sum_engine.specs.check.Checker.{ReportsFound, Progress, Going, Ended, IsStep, TakesStep, step_then, progress_before, CheckerValue, AdvancesChecker}
+use Rattle.sum_engine.specs.check.Verdicts.{IsAtStart, VerdictsValue, state_at, InEachCheck, VerdictResult, LineVerdict, counts_after, IsNotUnread, AsksFor}
+use Rattle.sum_engine.specs.check.Checker.{ReportsFound, Progress, Going, Ended, IsStep, TakesStep, step_then, progress_before, CheckerValue, AdvancesChecker, ends}
 use Rattle.sum_sources.specs.declared.line_reader.LineStop.TheVariants.{Fault, Memory}
 use Rattle.sum_sources.specs.LineReaders.{remaining, IsReading}
 use Rattle.sum_engine.specs.check.CheckerLaws.{ManifestPerforms}
-use Rattle.sum_engine.specs.Execution.{Stop, OutputsState, StreamsState, IsFlushed, IsAtEndIf, world_at, PerformsSteps}
-use Rattle.sum_engine.specs.refinement.FlushedWrites.{outcome_after}
+use Rattle.sum_engine.specs.Execution.{Stop, OutputsState, StreamsState, IsFlushed, IsAtEndIf, world_at, PerformsSteps, StopHasCause}
+use Rattle.sum_engine.specs.refinement.FlushedWrites.{outcome_after, WritesAndFlushesBoth, WritesAndReturns}
 use Rattle.sum_engine.proofs.CountLemmas.{counts_then-none}
+use Rattle.sum_engine.proofs.ExecutionLemmas.{one_at_most}
 use Rattle.sum_engine.proofs.WorldLemmas.{agrees_before}
 use Rattle.sum_engine.proofs.BehaviorLemmas.{HasDoneUpTo, done_none, done_more, done_end, done_stops}
 
@@ -36,11 +37,6 @@ behavior-initial {p = p} r labels start c w =
     ap (remaining_behavior r labels) at ∙ remaining-initial r labels (clip c) w
 
 -- ---- the step that ends or stops
-
--- what a step returns that ends a manifest's check so
-abbrev pub ends : Result Bool Stop → Result Progress Stop
-ends (Ok good) = Ok (Ended good)
-ends (Err stop) = Err stop
 
 -- it returns whether all is good only if no step remains
 pub none_left : (steps : List Step) (all good : Bool) → Ended good ≡ progress_before steps all
@@ -83,7 +79,32 @@ going_found q labels vector (Ok None) a b h = let p = returned h.written h.retur
 going_found q labels vector (Err Memory) a b h = let p = h.0 in cc
 going_found q labels vector (Err (Fault f)) a b h = let p = returned h.written h.returns in cc
 
+-- a text was written, or a prefix of it, and no memory was refused
+wrote_cause : {A : Type 0} {a b : StreamsState} {err out : List ℕ} {y : A} {x : Result A Stop} {allowed : List ℕ}
+    → b.inputs.source.refusals ≡ a.inputs.source.refusals → WritesAndReturns a.outputs b.outputs err out y x
+    → StopHasCause allowed a b x
+wrote_cause {A} {a} {b} {err} {out} {y} {allowed = allowed} same h = rw h.returns (by h.written h.writes)
+  where
+    by : (w : Result (Unit {0}) (Unit {0})) → WritesAndFlushesBoth a.outputs b.outputs err out w
+        → StopHasCause {A = A} allowed a b (outcome_after w y)
+    by (Ok u) wrote = record { flushed = λ f. (wrote.1 f).0; refusals = same; failures = wrote.0 }
+    by (Err e) wrote = record { flushed = λ f. (wrote.1 f).0; refusals = same; failures = wrote.0 }
+
+-- a step stops only if memory was refused, at most once, or bytes remained, or one output failed
+cause_found : {I : Type 0} (q : VerdictsValue I) (labels : LabelsValue) (vector : List ℕ) (found : VerdictResult)
+    (a b : StreamsState) {x : Result Progress Stop} → AsksFor vector a.inputs b.inputs found
+    → ReportsFound q labels vector found a.outputs b.outputs x → StopHasCause (0 ∷ 1 ∷ []) a b x
+cause_found q labels vector (Err Memory) a b asked h = rw h.0
+    (record { flushed = λ f. rw h.1 f; refusals = one_at_most a.inputs b.inputs asked; failures = rw h.1 refl })
+cause_found q labels vector (Err (Fault f)) a b asked h = wrote_cause asked.refusals h
+cause_found q labels vector (Ok (Some v)) a b asked h = wrote_cause asked.refusals h
+cause_found q labels vector (Ok None) a b asked h = wrote_cause asked.refusals h
+
 module _ {I : Type 0} {state : I → InputState} {vector : List ℕ} {p q : CheckerValue I} {a b : StreamsState} where
+  pub step_cause : {x : Result Progress Stop} → AdvancesChecker state vector p q a b x
+      → StopHasCause (0 ∷ 1 ∷ []) a b x
+  step_cause h = cause_found q.verdicts p.labels vector h.found a b h.verdict.asked h.reports
+
   pub good_end : AdvancesChecker state vector p q a b (Ok (Ended true)) → q.verdicts.counts.unread ≡ 0
   good_end h = (good_found q.verdicts p.labels vector h.found a.outputs b.outputs h.reports).1
 
@@ -92,8 +113,8 @@ module _ {I : Type 0} {state : I → InputState} {vector : List ℕ} {p q : Chec
       → 2 ^ 61 - q.verdicts.reader.lines < 2 ^ 61 - p.verdicts.reader.lines
   fewer_lines h =
       let (v, found) = going_found q.verdicts p.labels vector h.found a.outputs b.outputs h.reports in
-      let one = h.verdict.moves.number v found in
-      omega (arith, one, h.verdict.moves.bounds)
+      let one = h.verdict.number v found in
+      omega (arith, one, h.verdict.bounds)
 
 -- none was counted that could not be read only if none was before, and this one isn't such a line
 pub none_unread : {I : Type 0} (p q : VerdictsValue I) (found : VerdictResult) → q.counts ≡ counts_after p.counts found
@@ -112,11 +133,9 @@ module _ {I : Type 0} (state : I → InputState) (first : CheckerValue I) (m : S
   abbrev left : CheckState → Behavior
   left a = remaining_behavior first.verdicts.rules first.labels a
 
-  -- P holds between the state there and that at another place and streams, if both outputs were flushed, of an input
-  -- that was unread
+  -- P holds between the state there and the state at another place and streams, if both outputs were flushed
   abbrev HoldsUpTo : VerdictsValue I → StreamsState → (CheckState → CheckState → Type 0) → Type 0
-  HoldsUpTo q n P = IsFlushed m.outputs → IsReading state first.verdicts.reader
-      → InEachCheck state first.verdicts q m.inputs n.inputs P
+  HoldsUpTo q n P = IsFlushed m.outputs → InEachCheck state first.verdicts q m.inputs n.inputs P
 
   -- the check came so far, to this checker and these streams, by the same rules and labels
   pub record HasComeTo (q : CheckerValue I) (n : StreamsState) : Type 0 where
@@ -133,8 +152,8 @@ module _ {I : Type 0} (state : I → InputState) (first : CheckerValue I) (m : S
     labels = refl;
     flushed = λ flushed. flushed;
     reading = λ reading. reading;
-    happened = λ flushed reading. record {
-      holds = λ c of w agrees.
+    happened = λ flushed. record {
+      holds = λ reading c of w agrees.
           done_none (left (state_at first.verdicts (remaining first.verdicts.reader c) (world_at w m.inputs))) m;
     };
   }
@@ -146,25 +165,23 @@ module _ {I : Type 0} (state : I → InputState) (first : CheckerValue I) (m : S
       → ((a b d : CheckState) → HasDoneUpTo (left a) (left b) m n
       → IsStep first.verdicts.rules first.labels vector b d n o x → P a d)
       → HoldsUpTo next.verdicts o P
-  one_more_step {q = q} {n = n} next o vector x h advances step follows = λ flushed reading.
-      let here = h.reading reading in
-      let before = h.happened flushed reading in
-      let stepped = step (h.flushed flushed) here in
-      record {
-        holds = λ c of w agrees.
-            follows _ _ _ (before.holds c (advances.verdict.moves.before here c of) w
-            (agrees_before agrees advances.verdict.reads)) (rw (h.rules, h.labels) at (stepped.holds c of w agrees));
-      }
+  one_more_step {q = q} {n = n} next o vector x h advances step follows = λ flushed. record {
+    holds = λ reading c of w agrees.
+        let here = h.reading reading in
+        follows _ _ _ ((h.happened flushed).holds reading c (advances.verdict.before here c of) w
+        (agrees_before agrees advances.verdict.reads))
+        (rw (h.rules, h.labels) at ((step (h.flushed flushed)).holds here c of w agrees));
+  }
 
   -- a step that goes on comes one line further
   pub HasComeTo-more : (q next : CheckerValue I) (n o : StreamsState) (vector : List ℕ) → HasComeTo q n
       → AdvancesChecker state vector q next n o (Ok Going) → (IsFlushed n.outputs → IsFlushed o.outputs)
       → TakesStep state vector q.labels q.verdicts next.verdicts n o (Ok Going) → HasComeTo next o
   HasComeTo-more q next n o vector h advances flushed step = record {
-    rules = advances.verdict.moves.rules ∙ h.rules;
+    rules = advances.verdict.rules ∙ h.rules;
     labels = advances.labels ∙ h.labels;
     flushed = λ all. flushed (h.flushed all);
-    reading = λ reading. advances.verdict.moves.reading (h.reading reading);
+    reading = λ reading. advances.verdict.reading (h.reading reading);
     happened = one_more_step next o vector (Ok Going) h advances step (λ a b d along step.
         subst (λ later. HasDoneUpTo (left a) later m o)
         (step.going refl).0 (done_more step.step step.later along step.is step.performs.1));
@@ -178,7 +195,7 @@ module _ {I : Type 0} (state : I → InputState) (first : CheckerValue I) (m : S
       → TakesStep state vector q.labels q.verdicts last.verdicts n o (ends x)
       → ManifestPerforms first.verdicts.rules first.labels (state first.verdicts.reader.input)
       (state last.verdicts.reader.input) m o x
-  HasComeTo-last q last n o vector x start h advances step = λ flushed unread c of w agrees.
+  HasComeTo-last q last n o vector x start h advances step = λ unread c of flushed w agrees.
       let ended : HoldsUpTo last.verdicts o (λ a d. PerformsSteps (left a).steps (left a).good m o x) =
       one_more_step last o vector (ends x) h advances step (λ a b d along step.
       done_last o step.step step.later x along step.is step.performs) in
@@ -186,7 +203,7 @@ module _ {I : Type 0} (state : I → InputState) (first : CheckerValue I) (m : S
       ≡ manifest_behavior first.verdicts.rules first.labels (clip c) (world_at w m.inputs) =
       behavior-initial first.verdicts.rules first.labels start c (world_at w m.inputs) in
       subst (λ (b : Behavior). PerformsSteps b.steps b.good m o x) all
-      ((ended flushed (start.reading unread)).holds c of w agrees)
+      ((ended flushed).holds (start.reading unread) c of w agrees)
 
   -- ---- how far the manifest's input was read
 
@@ -196,8 +213,8 @@ module _ {I : Type 0} (state : I → InputState) (first : CheckerValue I) (m : S
       → AdvancesChecker state vector q last n o (ends x) → (state first.verdicts.reader.input).reads ≡ unread
       → IsAtEndIf (x ≡ Ok true) (state last.verdicts.reader.input).reads
   manifest_read q last n o vector x start h advances unread =
-      let reading = advances.verdict.moves.reading (h.reading (start.reading unread)) in (
+      let reading = advances.verdict.reading (h.reading (start.reading unread)) in (
         reading.past,
-        λ good. reading.end (advances.verdict.moves.end (good_found last.verdicts q.labels vector advances.found
+        λ good. reading.end (advances.verdict.end (good_found last.verdicts q.labels vector advances.found
             n.outputs o.outputs (rw good at advances.reports)).0),
       )

@@ -54,7 +54,7 @@ module _ (settings : CheckSettings) (tool name : List ℕ) (a : StreamsState) wh
       → Performed (record b { inputs = n }) x
   check_opened m n s t b x fresh o run = λ flushed w agrees.
       let (c, answer, of) = o.answer w agrees in
-      let ran = run flushed fresh c of w (o.agrees w agrees) in
+      let ran = run fresh c of flushed w (o.agrees w agrees) in
       let kept : IsKept b (record b { inputs = n }) =
       record { outputs = refl; asked = o.asked; taken = o.taken; refusals = o.refusals } in
       let all = check_behavior settings tool (world_at w a.inputs) name in

@@ -1,5 +1,6 @@
 -- What happened from one state to another, one event after another.
-use Rattle.std.proofs.Common.{rules, ◌≡◌, ℕ, List, [], ◌∷◌, ◌++◌, map, Option, None, Some, Result, Ok, Err, refl, inl, inr, append_assoc, append-nil, filter_map}
+use Rattle.std.proofs.Common.{rules, arith, ◌≡◌, ◌<◌, ◌+◌, ℕ, List, [], ◌∷◌, ◌++◌, map, Option, None, Some, Result, Ok, Err, refl, inl, inr, append_assoc, append-nil, filter_map}
+use Rattle.std.specs.Prelude.{◌⊎◌, Any}
 use Rattle.std.proofs.lemmas.List.{map-append}
 use Rattle.std.proofs.lemmas.List.Elements.{filter_map-append}
 use Rattle.sum_lines.specs.Sinks.{Gets, GetsPrefix}
@@ -7,7 +8,7 @@ use Rattle.sum_lines.proofs.EventLemmas.{Gets-none, Gets-then}
 use Rattle.sum_engine.specs.Behavior.{Event, Step, events_of, OutputEvent, output_events, open_name, to_err, to_out, opened_name, err_event, out_event}
 use Rattle.sum_engine.specs.refinement.FlushedWrites.{WritesBoth, outcome_after}
 use Rattle.sum_engine.specs.refinement.Names.{MemoryWasRefused}
-use Rattle.sum_engine.specs.Execution.{StreamsState, asked, AsksNames, Stop, Memory, Write, Happened, PrefixHappened, RefusedAt, RunsOutOfMemory, PerformsSteps}
+use Rattle.sum_engine.specs.Execution.{InputsState, StreamsState, StopHasCause, asked, AsksNames, Stop, Memory, Write, Happened, RunsOutOfMemory, PerformsSteps}
 use Rattle.sum_engine.proofs.WorldLemmas.{asks_none, asks_then}
 
 -- ---- what of a step's events is of each kind
@@ -43,11 +44,6 @@ out-by names err out = search (rules, filter_map-append, kind-all, kind-none)
 
 -- ---- what happened
 
--- the names were asked if they were opened, and nothing was written
-pub asks_by : {a b : StreamsState} (names : List (List ℕ)) → Happened a b (map open_name names)
-    → AsksNames a.inputs b.inputs names
-asks_by names h = search (rules, kind-all)
-
 -- these names were asked, and the outputs got these events
 pub Happened-by : {a b : StreamsState} (names : List (List ℕ)) (err out : List OutputEvent) → AsksNames a.inputs b.inputs names
     → Gets a.outputs.err.sink b.outputs.err.sink err → Gets a.outputs.out.sink b.outputs.out.sink out
@@ -67,6 +63,10 @@ Happened-then {a} {b} {c} p q h k = record {
 }
 
 -- ---- a prefix of it
+
+-- a prefix of these events happened
+abbrev PrefixHappened : StreamsState → StreamsState → List Event → Type 0
+PrefixHappened a b es = (prefix rest : List Event) × (es ≡ prefix ++ rest) × Happened a b prefix
 
 -- the names were asked, and standard error got a prefix of its events
 pub prefix_err : {a b : StreamsState} (names : List (List ℕ)) (err out : List OutputEvent) → AsksNames a.inputs b.inputs names
@@ -106,16 +106,41 @@ step_performed outcome a b step (Err e) came = rw (append-nil (events_of step)) 
 
 -- ---- what stays
 
--- memory was refused, and so nothing was done of a step
-pub refused_in : (a b : StreamsState) (step : Step) → MemoryWasRefused a.inputs b.inputs → b.outputs ≡ a.outputs
-    → RefusedAt step a b
-refused_in a b step refused outputs = search rules
+-- memory ran out at the first step: it was refused, or bytes of the manifest remained
+pub refused_first : (a b : StreamsState) {steps : List Step} (next : Step) (later : List Step) → steps ≡ next ∷ later
+    → b.outputs ≡ a.outputs → MemoryWasRefused a.inputs b.inputs ⊎ ((b.inputs ≡ a.inputs) × (0 < next.remaining))
+    → RunsOutOfMemory steps a b
+refused_first a b next later are outputs (inl refused) = record {
+  done = [];
+  next = next;
+  later = later;
+  are = are;
+  happened = rw (refused, outputs) (Happened-none a);
+  cause = inl (rw refused refl);
+}
+refused_first a b next later are outputs (inr (same, some)) = record {
+  done = [];
+  next = next;
+  later = later;
+  are = are;
+  happened = rw (same, outputs) (Happened-none a);
+  cause = inr (rw same refl, some);
+}
 
--- so memory ran out at the first step
-pub refused_first : {a b : StreamsState} {steps : List Step} (next : Step) (later : List Step) → steps ≡ next ∷ later
-    → RefusedAt next a b → RunsOutOfMemory steps a b
-refused_first {a} next later are here =
-    record { done = []; next = next; later = later; between = a; are = are; happened = Happened-none a; refused = here }
+-- ---- the cause of a stop
+
+-- memory was refused once, or not at all
+pub one_at_most : (a b : InputsState) → MemoryWasRefused a b ⊎ (b ≡ a)
+    → Any (λ n. b.source.refusals ≡ a.source.refusals + n) (0 ∷ 1 ∷ [])
+one_at_most a b (inl refused) = (1, 1, search arith, refl, rw refused refl)
+one_at_most a b (inr same) = (0, 0, search arith, refl, rw same (omega arith))
+
+-- a stop after calls that returned has its own cause
+pub stop_after : {A B C : Type 0} {allowed : List ℕ} {a b c : StreamsState} {x : A} (stop : Stop)
+    → StopHasCause allowed a b (Ok x) → StopHasCause {A = B} allowed b c (Err stop)
+    → StopHasCause {A = C} allowed a c (Err stop)
+stop_after Memory h k = search rules
+stop_after Write h k = search rules
 
 -- ---- a state after which a file was closed, or standard input put back
 
@@ -138,8 +163,7 @@ kept_performs steps x a b c (Err Memory) h did = record {
   done = did.done;
   next = did.next;
   later = did.later;
-  between = did.between;
   are = did.are;
-  happened = did.happened;
-  refused = search rules;
+  happened = search rules;
+  cause = rw h.refusals did.cause;
 }

@@ -9,18 +9,11 @@ use Rattle.sum_engine.specs.Execution.{Stop, InputsState, StreamsState, AsksName
 use Rattle.sum_engine.specs.refinement.FlushedWrites.{WritesAndReturns, outcome_after}
 use Rattle.sum_engine.proofs.BehaviorLemmas.{Performs-step}
 
--- what was found is what the definitions say of the answer
-pub digest_found : (kind : KindValue) (x : Answer) (d : List ℕ) → IsHashOf kind x (Ok d)
-    → digest_or_fault kind x ≡ Ok d
-digest_found kind (Ok c) d h = h
-digest_found kind (Err f) d h = elim h [ ]
-
+-- the fault that was found is what the definitions say of the answer
 pub fault_found : (kind : KindValue) (x : Answer) (f : Fault) (e : HashFault) → Ok f ≡ fault_in e
     → IsHashOf kind x (Err e) → digest_or_fault kind x ≡ Err f
-fault_found kind (Ok c) f (NotRead e) is h = search rules
-fault_found kind (Ok c) f (NotOpened e) is h = elim h [ ]
-fault_found kind (Err g) f (NotOpened e) is h = search rules
-fault_found kind (Err g) f (NotRead e) is h = elim h [ ]
+fault_found kind x f (NotRead e) is h = search rules
+fault_found kind x f (NotOpened e) is h = rw h (search rules)
 fault_found kind x f Memory is h = cc
 
 -- the name was asked, unless memory was refused

@@ -1,31 +1,21 @@
 -- `steps_join`: the steps of a new checker, one after another, by induction on the list of their vectors.
-use Rattle.std.proofs.Common.{rules, ◌≡◌, ℕ, zero, suc, ◌+◌, ◌-◌, ◌≤◌, Bool, true, List, [], ◌∷◌, ◌++◌, Ok, length, take, drop, refl, ap, sym, ◌∙◌, arith, length-drop, flat_map, slice_index_or}
+use Rattle.std.proofs.Common.{rules, ◌≡◌, ℕ, zero, suc, ◌+◌, ◌-◌, ◌≤◌, Bool, true, List, [], ◌∷◌, ◌++◌, Ok, length, take, drop, refl, ap, sym, ◌∙◌, arith, length-drop, slice_index_or}
 use Rattle.std.proofs.lemmas.List.{take-append-drop}
 use Rattle.sum_engine.specs.check.Rules.{Rules, LabelsValue}
-use Rattle.sum_engine.specs.check.Judge.{Form, lines_under, LineVerdictValue, asks_of, verdicts, all_verdicts, line_verdict, parse_line, past_line, past_lines}
-use Rattle.sum_engine.specs.check.Reports.{out_of, err_of, counts_of, end_text}
+use Rattle.sum_engine.specs.check.Judge.{Form, form, lines_under, LineVerdictValue, asks_of, verdicts, all_verdicts, line_verdict, parse_line, past_line, past_lines}
+use Rattle.sum_engine.specs.check.Reports.{counts_of, end_text}
 use Rattle.sum_engine.specs.check.Checking.{line_steps, content_behavior}
-use Rattle.sum_engine.specs.check.CheckStates.{CheckState, counts_then, remaining_verdicts, remaining_behavior, initial_state}
-use Rattle.sum_engine.specs.check.Checker.{Going, Ended, IsStep, step_then, progress_before}
-use Rattle.sum_engine.specs.Behavior.{World, after, Behavior, trace, out_text, err_text, asks, Content}
-use Rattle.sum_engine.specs.Execution.{Write, StreamsState, Happened}
-use Rattle.sum_engine.specs.check.CheckerLaws.{StepsGoing, StepsJoin, EndsManifest}
+use Rattle.sum_engine.specs.check.CheckStates.{CheckState, remaining_behavior, initial_state}
+use Rattle.sum_engine.specs.check.Checker.{Going, Ended, IsStep, step_then}
+use Rattle.sum_engine.specs.Behavior.{World, after, Behavior, trace, Content}
+use Rattle.sum_engine.specs.Execution.{StreamsState, Happened}
+use Rattle.sum_engine.specs.check.CheckerLaws.{StepsGoing, StepsJoin}
 use Rattle.sum_engine.proofs.RemainingLemmas.{past_next}
 use Rattle.sum_engine.proofs.ExecutionLemmas.{Happened-none}
-use Rattle.sum_engine.proofs.BehaviorLemmas.{HasDoneUpTo, done_stops, behavior_then-happened, events_extend}
+use Rattle.sum_engine.proofs.BehaviorLemmas.{HasDoneUpTo, behavior_then-happened}
 use Rattle.sum_engine.proofs.CheckLinesLemmas.{remaining-initial, none_left, done_last}
 
--- ---- the reports of the first steps
-
--- by the lines
-reports : (r : Rules) (labels : LabelsValue) (end : List ℕ) (c : Content) (js : List LineVerdictValue) (k : ℕ)
-    → k ≤ length js → let some : Behavior = record { steps = take k (line_steps r labels end c js); good = true } in
-    (out_text some ≡ flat_map (out_of r labels) (take k js)) × (err_text some ≡ flat_map (err_of r labels) (take k js))
-    × (asks some ≡ flat_map asks_of (take k js))
-reports r labels end c js zero few = (refl, refl, refl)
-reports r labels end c [] (suc k) few = absurd (omega (arith, few))
-reports r labels end c (j ∷ js) (suc k) few =
-    search (rules, reports r labels end (past_line c) js k (omega (arith, few)))
+-- ---- as many steps as lines, and one more
 
 -- there are as many verdicts as lines
 length_verdicts : (r : Rules) (f : Form) (w : World) (n : ℕ) (ls : List (List ℕ))
@@ -39,13 +29,6 @@ length_steps : (r : Rules) (labels : LabelsValue) (end : List ℕ) (c : Content)
     → length (line_steps r labels end c js) ≡ length js + 1
 length_steps r labels end c [] = refl
 length_steps r labels end c (j ∷ js) = omega (arith, length_steps r labels end (past_line c) js)
-
--- the last step is that of the end
-last_step : (r : Rules) (labels : LabelsValue) (end : List ℕ) (c : Content) (js : List LineVerdictValue)
-    → (n : ℕ) × (drop (length js) (line_steps r labels end c js)
-    ≡ record { names = []; err = end; out = []; remaining = n } ∷ [])
-last_step r labels end c [] = (length c.bytes, refl)
-last_step r labels end c (j ∷ js) = last_step r labels end (past_line c) js
 
 -- what remains and what is done after one more
 drop_next : {X : Type 0} (k : ℕ) (xs ys : List X) (y : X) → drop k xs ≡ y ∷ ys
@@ -116,30 +99,16 @@ module _ (r : Rules) (labels : LabelsValue) (c : Content) (w : World) (s : Strea
       → HasDoneUpTo whole (remaining_behavior r labels b) s t
   along h = search (rules, take-append-drop)
 
-  -- a step is left after k steps only if k is at most the number of lines
-  few : {b : CheckState} {t : StreamsState} {k : ℕ} → After b t k → k ≤ length js
-  few {b} {t} {k} h =
-      let ks = remaining_verdicts r b in
-      let text = end_text r labels b.remaining.ending (counts_then b.counts (counts_of ks)) in
-      let left = ap length h.steps ∙ length-drop k whole.steps in
-      omega (arith, left, length_steps r labels text b.remaining ks, length_steps r labels end c js)
-
-  -- the step that ends
-  ends : {b : CheckState} {t : StreamsState} {k : ℕ} → After b t k → (outcome : Bool) (vector : List ℕ) (d : CheckState)
-      (z : StreamsState) → IsStep r labels vector b d t z (Ok (Ended outcome))
-      → EndsManifest r labels c js k t z outcome
-  ends {b} {t} {k} h outcome vector d z e =
-      let none = none_left e.later.steps e.later.good outcome e.performs.0 in
+  -- the step that ends comes after all lines
+  all_lines : {b : CheckState} {t : StreamsState} {k : ℕ} → After b t k → (good : Bool) (vector : List ℕ)
+      (d : CheckState) (z : StreamsState) → IsStep r labels vector b d t z (Ok (Ended good))
+      → k ≡ length (lines_under r.profile c)
+  all_lines {k = k} h good vector d z e =
+      let none = none_left e.later.steps e.later.good good e.performs.0 in
       let last = sym h.steps ∙ ap (λ (q : Behavior). q.steps) e.is ∙ ap (λ steps. e.step ∷ steps) none.0 in
       let one : length whole.steps - k ≡ 1 = sym (length-drop k whole.steps) ∙ ap length last in
-      let number : k ≡ length js = omega (arith, one, length_steps r labels end c js) in
-      let step = last_step r labels end c js in
-      let is : e.step ≡ record { names = []; err = end; out = []; remaining = step.0 } =
-      search (rules, last, number, step.1) in
-      let one_step : Behavior = record { steps = e.step ∷ []; good = true } in
-      let wrote = rw is at (events_extend one_step t z e.performs.1) in
-      let all = done_last z e.step e.later (Ok outcome) (along h) e.is e.performs in
-      search (rules, number, length_verdicts, all.0, wrote)
+      omega (arith, one, length_steps r labels end c js,
+      length_verdicts r (form r.algo (lines_under r.profile c)) w 0 (lines_under r.profile c))
 
 -- no vector is longer than its line
 vectors_fit : (r : Rules) (labels : LabelsValue) (a b : CheckState) (s t : StreamsState) (vectors : List (List ℕ))
@@ -156,22 +125,14 @@ vectors_fit r labels a b s t (v ∷ vectors) more (suc i) =
 -- the law
 pub steps_join : StepsJoin
 steps_join r labels c w b s t vectors going =
-    let js = all_verdicts r w c in
     let k = length vectors in
     let start : 0 + k ≡ k = omega arith in
     let h : After r labels c w s b t k = rw start at (after_all r labels c w s (initial_state c w) b s t 0 vectors
     (after_none r labels c w s) going) in
-    let all = content_behavior r labels c js in
-    let some : Behavior = record { steps = take k all.steps; good = true } in
-    let texts = events_extend some s t h.done in
-    let by = reports r labels (end_text r labels c.ending (counts_of js)) c js k (few r labels c w s h) in
     record {
-      err = rw by.1 at texts.1;
-      out = rw by.0 at texts.2;
-      asked = rw by.2 at texts.0;
+      happened = h.done;
       taken = omega (arith, h.taken, h.consumed);
       vector_lens = vectors_fit r labels (initial_state c w) b s t vectors going;
-      end = ends r labels c w s h;
-      cut = λ vector d z e. done_stops z all.good (progress_before e.later.steps e.later.good) e.step e.later Write
-          (along r labels c w s h) e.is e.performs;
+      last = λ x vector d z e. done_last z e.step e.later x (along r labels c w s h) e.is e.performs;
+      lines = all_lines r labels c w s h;
     }

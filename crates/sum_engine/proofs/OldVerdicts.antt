@@ -1,5 +1,5 @@
 -- `old_verdicts`: a manifest of the time of older versions is checked alike under both profiles.
-use Rattle.std.proofs.Common.{rules, ◌≡◌, ℕ, ◌+◌, ◌<◌, List, [], ◌∷◌, length, map, refl, ap, sym, subst, append_assoc, ◌++◌, All, flat_map, Ok, Err}
+use Rattle.std.proofs.Common.{rules, ◌≡◌, ℕ, ◌+◌, ◌<◌, List, [], ◌∷◌, length, refl, ap, sym, subst, append_assoc, ◌++◌, All, flat_map, Ok, Err}
 use Rattle.std.proofs.lemmas.List.Elements.{All-nil, All-cons, All-head, All-tail}
 use Rattle.sum_engine.specs.check.Rules.{LabelsValue, Rules}
 use Rattle.sum_engine.specs.check.Judge.{Algos, Form, Verdict, lines_under, LineVerdictValue, line_verdict, asks_of, verdicts, all_verdicts, form, present, ParsedLine, bad, parse_line}
@@ -84,13 +84,6 @@ out_same : (report : Report) (v : Verdict) (name : List ℕ) → HasNoCarriageRe
     → out_by older_profile report v name ≡ out_by present report v name
 out_same report v name free = search (rules, same_escape)
 
--- so it is for all of them
-all_same : (f g : LineVerdictValue → List ℕ) → ((j : LineVerdictValue) → CleanName j → f j ≡ g j)
-    → (js : List LineVerdictValue) → All CleanName js
-    → map f js ≡ map g js
-all_same f g same [] all = refl
-all_same f g same (j ∷ js) all = search (rules, All-head, all_same f g same js (All-tail CleanName j js all))
-
 -- what a line of the manifest adds to standard error
 err_same : (r : Rules) (labels : LabelsValue) (n : ℕ) (v : Verdict) (name : List ℕ)
     → HasNoCarriageReturn labels.manifest → HasNoCarriageReturn name
@@ -124,14 +117,6 @@ found_same r labels w c h =
     × All CleanName (verdicts (rules_under present r) (form r.algo ls) w 0 ls) in
     subst Same (lines_same c h.no_byte) (verdicts_same r (form r.algo (raw_lines c)) w 0 (raw_lines c) all)
 
--- so are its reports
-pub old_verdicts : OldVerdicts
-old_verdicts r labels w c h =
-    let found = found_same r labels w c h in
-    search (rules, found.0, found.1, all_same, out_same, err_same, end_same)
-
--- ---- the behavior of checking
-
 -- the steps are the same
 steps_same : (r : Rules) (labels : LabelsValue) (end : List ℕ) (c : Content) (js : List LineVerdictValue)
     → HasNoCarriageReturn labels.manifest → All CleanName js
@@ -149,7 +134,10 @@ content_same r labels w c h =
     let found = found_same r labels w c h in
     search (rules, found.0, found.1, end_same, steps_same)
 
--- so is that of its name
+pub old_verdicts : OldVerdicts
+old_verdicts r labels w c h = ((found_same r labels w c h).0, content_same r labels w c h)
+
+-- so is the behavior of its name
 pub old_outcomes : OldOutcomes
 old_outcomes r labels name w (Err f) own h = search (rules, same_escape)
 old_outcomes r labels name w (Ok c) own h =

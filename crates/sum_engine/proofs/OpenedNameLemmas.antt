@@ -2,6 +2,7 @@
 use Rattle.std.proofs.Common.{rules, ap, refl, Bool, ◌≡◌, ◌∙◌, sym, [], ◌∷◌, ◌++◌, ℕ, true, false, List, Result, Ok, Err, Option, None, Some, IfSome, IfOk, inl, inr, map, append_assoc, append-nil}
 use Rattle.std.specs.Prelude.{◌⊎◌, length}
 use Rattle.std.specs.List.{list_any}
+use Rattle.std.proofs.lemmas.Bool.{MatchBool-at_true, MatchBool-at_false}
 use Rattle.std.proofs.lemmas.List.{map-append}
 use Rattle.std.proofs.lemmas.List.Elements.{All-nil, All-cons}
 use Rattle.std.proofs.Math.Bool.{or-true}
@@ -12,7 +13,7 @@ use Rattle.sum_sources.specs.declared.sources.source.OpenFault.{OpenFault}
 use Rattle.std.proofs.Math.Seq.{set-append_seam}
 use Rattle.sum_engine.specs.Behavior.{World, Answer, Content, Fault, InputState, empty_content, is_dash, answer_to}
 use Rattle.sum_engine.specs.Execution.{StdinState, InputsState, Agrees, world_at, asked, AsksNames, IsAtEndIf, ReadsFile, ReadsStdin, ReadsToEndIf}
-use Rattle.sum_engine.specs.refinement.Names.{HashFault, HashesName, GivesBy, GivesStdin, OpensBy, OpensName, FailsToOpen, closed_by, after_closing_name, fault_of_opening, stdin_by, stdin_after, MemoryWasRefused}
+use Rattle.sum_engine.specs.refinement.Names.{HashFault, HashesName, GivesStdin, OpensName, FailsToOpen, after_closing_name, fault_of_opening, stdin_after, MemoryWasRefused}
 use Rattle.sum_engine.specs.declared.hash_name.HashFault.TheVariants as hashing
 use Rattle.sum_sources.specs.declared.sources.source.OpenFault.TheVariants as faults
 use Rattle.sum_engine.proofs.WorldLemmas.{opening_agrees, asks_one, reads_none, reads_fault, AnswersAre-open}
@@ -24,18 +25,18 @@ stdin_before : (w : World) (x : StdinState) (t : InputState)
     → IfSome (stdin_after x t).reads (λ r. IsOf r w.stdin) → IfSome x.reads (λ r. IsOf r w.stdin)
 stdin_before w x t = by x.reads refl
   where
-    by : (r : Option Reads) → x.reads ≡ r → IfSome (stdin_by r x t).reads (λ r. IsOf r w.stdin)
+    by : (r : Option Reads) → x.reads ≡ r → IfSome (stdin_after x t).reads (λ r. IsOf r w.stdin)
         → IfSome x.reads (λ r. IsOf r w.stdin)
     by None none of = rw none tt
-    by (Some r) some of = of
+    by (Some r) some of = rw some (rw some at of)
 
 -- it stays taken
 taken_after : (x : StdinState) (t : InputState) → x.taken ≡ true → (stdin_after x t).taken ≡ true
-taken_after x t taken = by x.reads
+taken_after x t taken = by x.reads refl
   where
-    by : (r : Option Reads) → (stdin_by r x t).taken ≡ true
-    by None = refl
-    by (Some r) = taken
+    by : (r : Option Reads) → x.reads ≡ r → (stdin_after x t).taken ≡ true
+    by None none = rw none refl
+    by (Some r) some = rw some taken
 
 -- it was taken
 module _ {a m : InputsState} {s : InputState} (gives : GivesStdin s a m) where
@@ -61,35 +62,36 @@ module _ {a m : InputsState} {s t : InputState} (gives : GivesStdin s a m) (same
   -- what was read is of its content in the world
   stdin_content : (w : World) (b : StdinState) → HasContent t → b ≡ stdin_after m.stdin t
       → IfSome b.reads (λ r. IsOf r w.stdin) → IsOf t.reads (world_at w a).stdin
-  stdin_content w b has back of = by a.stdin.taken refl gives.given
+  stdin_content w b has back of = by a.stdin.taken refl
     where
-      by : (taken : Bool) → a.stdin.taken ≡ taken → GivesBy taken s a m → IsOf t.reads (world_at w a).stdin
-      by false at (new, is) = rw at (rw (back, is) at of)
-      by true at (told, away, is) =
+      by : (taken : Bool) → a.stdin.taken ≡ taken → IsOf t.reads (world_at w a).stdin
+      by false was =
+          let (new, is) = MatchBool-at_false _ _ was gives.given in
+          rw was (rw (back, is) at of)
+      by true was =
+          let (told, away, is) = MatchBool-at_true _ _ was gives.given in
           let (c, may, of) = has in
           let empty : c ≡ empty_content = rw (same, told) at may in
-          rw at (rw empty at of)
+          rw was (rw empty at of)
 
   -- it was read so
   pub stdin_reads : {Whole : Type 0} (b : StdinState) → IsAtEndIf Whole t.reads → b ≡ stdin_after m.stdin t
       → (b ≡ a.stdin) ⊎ ReadsStdin Whole a.stdin b
-  stdin_reads {Whole} b read back = by a.stdin.taken gives.given m.stdin.reads refl
+  stdin_reads {Whole} b read back = by a.stdin.taken refl m.stdin.reads refl
     where
-      by : (taken : Bool) → GivesBy taken s a m → (r : Option Reads) → m.stdin.reads ≡ r
+      by : (taken : Bool) → a.stdin.taken ≡ taken → (r : Option Reads) → m.stdin.reads ≡ r
           → (b ≡ a.stdin) ⊎ ReadsStdin Whole a.stdin b
-      by false (new, is) r at = inr (t.reads, ap (λ (x : StdinState). x.reads) new, rw (back, is, new, same) refl, read)
-      by true (told, away, is) None none =
+      by false was r at =
+          let (new, is) = MatchBool-at_false _ _ was gives.given in
+          inr (t.reads, ap (λ (x : StdinState). x.reads) new, rw (back, is, new, same) refl, read)
+      by true was None none =
+          let (told, away, is) = MatchBool-at_true _ _ was gives.given in
           let none_before = sym (ap (λ (m : InputsState). m.stdin.reads) is) ∙ none in
           let told = ap (λ (s : InputState). s.told) same ∙ sym (away none_before) in
-          inr (
-            t.reads,
-            none_before,
-            back ∙ ap (λ r. stdin_by r m.stdin t) none
-                ∙ ap (λ told. record { told = told; taken = true; reads = Some t.reads }) told,
-            read,
-          )
-      by true (told, away, is) (Some r) some =
-          inl (back ∙ ap (λ r. stdin_by r m.stdin t) some ∙ ap (λ (m : InputsState). m.stdin) is)
+          inr (t.reads, none_before, rw (back, none, told) refl, read)
+      by true was (Some r) some =
+          let (told, away, is) = MatchBool-at_true _ _ was gives.given in
+          inl (rw (back, some, is) (ap (λ r. record a.stdin { reads = r }) (sym (rw is at some))))
 
   -- how far all was read over the taking, some calls that left standard input, and the putting back
   given_reads : {Whole : Type 0} (b n : InputsState) → IsAtEndIf Whole t.reads → ReadsToEndIf Whole m b
@@ -174,7 +176,7 @@ module _ {Whole : Type 0} {a m b n : InputsState} {name : List ℕ} {s t : Input
   where
     -- it is a file
     file_opened : is_dash name ≡ false → s ≡ opened_file a.source name
-        → m ≡ record a { source = and_opening a.source name None } → n ≡ closed_by false b t
+        → m ≡ record a { source = and_opening a.source name None } → n ≡ record b { source = after_closing b.source t }
         → WasOpened Whole a m b n name t
     file_opened file is opens closes =
         let before = a.source.openings in
@@ -196,8 +198,8 @@ module _ {Whole : Type 0} {a m b n : InputsState} {name : List ℕ} {s t : Input
         }
 
     -- it is standard input
-    stdin_opened : is_dash name ≡ true → GivesStdin s a m → HasContent t → b.stdin ≡ m.stdin → n ≡ closed_by true b t
-        → WasOpened Whole a m b n name t
+    stdin_opened : is_dash name ≡ true → GivesStdin s a m → HasContent t → b.stdin ≡ m.stdin
+        → n ≡ record b { stdin = stdin_after b.stdin t } → WasOpened Whole a m b n name t
     stdin_opened dash gives has stays back =
         let taken : b.stdin.taken ≡ true = rw stays (gives_taken gives) in
         record {
@@ -219,16 +221,20 @@ module _ {Whole : Type 0} {a m b n : InputsState} {name : List ℕ} {s t : Input
     -- it is either
     pub was_opened : OpensName name a m s → HasContent t → (is_dash name ≡ true → b.stdin ≡ m.stdin)
         → n ≡ after_closing_name b t → WasOpened Whole a m b n name t
-    was_opened given has stays closes = by (is_dash name) refl given.opens
+    was_opened given has stays closes = by (is_dash name) refl
       where
         -- what was read has the name under which it was opened
-        closed : (dash : Bool) → is_dash name ≡ dash → n ≡ closed_by dash b t
-        closed dash is = closes ∙ ap (λ name. closed_by (is_dash name) b t)
-            (ap (λ (x : InputState). x.name) same ∙ given.named) ∙ ap (λ d. closed_by d b t) is
+        own : (dash : Bool) → is_dash name ≡ dash → is_dash t.name ≡ dash
+        own dash is = ap is_dash (ap (λ (x : InputState). x.name) same ∙ given.named) ∙ is
 
-        by : (dash : Bool) → is_dash name ≡ dash → OpensBy dash name a m s → WasOpened Whole a m b n name t
-        by true is opens = stdin_opened is opens has (stays is) (closed true is)
-        by false is opens = file_opened is opens.0 opens.1 (closed false is)
+        by : (dash : Bool) → is_dash name ≡ dash → WasOpened Whole a m b n name t
+        by true is =
+            let own : is_dash t.name ≡ true = own true is in
+            stdin_opened is (MatchBool-at_true _ _ is given.opens) has (stays is) (rw own at closes)
+        by false is =
+            let own : is_dash t.name ≡ false = own false is in
+            let opens = MatchBool-at_false _ _ is given.opens in
+            file_opened is opens.0 opens.1 (rw own at closes)
 
 -- ---- a fault of opening
 
@@ -248,12 +254,13 @@ abbrev pub hash_of : Result (List ℕ) Fault → Result (List ℕ) HashFault
 hash_of (Ok d) = Ok d
 hash_of (Err f) = Err (hashing.NotRead f)
 
-module _ {name : List ℕ} {a m n : InputsState} {s : InputState} (t : InputState)
-    (given : OpensName name a m s) (has : HasContent t) (closes : n ≡ after_closing_name m t)
+module _ {name : List ℕ} {a m b n : InputsState} {s : InputState} (t : InputState)
+    (given : OpensName name a m s) (has : HasContent t) (kept : b ≡ m) (closes : n ≡ after_closing_name b t)
   where
     -- it was opened, and only read before it was closed
     hashed_once : {Whole : Type 0} → IsSameInput s t → IsAtEndIf Whole t.reads → WasOpened Whole a m m n name t
-    hashed_once same read = was_opened same read (reads_none m) given has (λ dash. refl) closes
+    hashed_once same read = was_opened same read (reads_none m) given has (λ dash. refl)
+        (closes ∙ ap (λ (m : InputsState). after_closing_name m t) kept)
 
     -- it was hashed, or that failed
     pub name_hashed : {kind : KindValue} (found : Result (List ℕ) Fault) → HashesInput kind s t found
@@ -289,7 +296,7 @@ module _ {name : List ℕ} {a m n : InputsState} {s : InputState} (t : InputStat
 pub name_not_opened : {kind : KindValue} {name : List ℕ} {a m : InputsState} (f : OpenFault)
     → FailsToOpen name a m f → HashesName kind name a m (Err (fault_of_opening f))
 name_not_opened {name = name} {a = a} {m = m} (faults.Fault f) (file, opens) = record {
-  hash = λ w agrees. rw (fault_answer a m name f file opens w agrees) refl;
+  hash = fault_answer a m name f file opens;
   asked = fault_asks a m name f file opens;
   stdin = λ file. rw opens refl;
   reads = reads_fault a m name f opens;

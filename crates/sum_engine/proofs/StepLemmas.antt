@@ -2,17 +2,17 @@
 use Rattle.std.proofs.Common.{◌≡◌, ℕ, ◌<◌, Bool, false, List, [], length, None, Some, Result, Ok, Err, inl, inr, refl, ap, ◌∙◌, rules}
 use Rattle.std.specs.Prelude.{◌⊎◌}
 use Rattle.sum_engine.specs.Behavior.{Ending, Whole, Broken, World, Step, Behavior, events_of, Content, InputState}
-use Rattle.sum_sources.specs.LineReaders.{remaining, IsReading}
+use Rattle.sum_sources.specs.LineReaders.{remaining}
 use Rattle.sum_engine.specs.check.Rules.{LabelsValue, Rules}
 use Rattle.sum_engine.specs.check.Judge.{asks_of}
 use Rattle.sum_engine.specs.check.Reports.{err_of, out_of, end_text, good}
 use Rattle.sum_engine.specs.check.CheckStates.{CheckState, HandlesLine, remaining_verdicts, remaining_behavior}
-use Rattle.sum_engine.specs.check.Verdicts.{VerdictsValue, state_at, InEachCheck, AdvancesVerdicts, VerdictResult, line_verdict_value, FindsVerdict, HasNoVerdictLeft}
+use Rattle.sum_engine.specs.check.Verdicts.{VerdictsValue, state_at, InEachCheck, AdvancesVerdicts, VerdictResult, line_verdict_value, IsNextVerdict, HasNoVerdictLeft}
 use Rattle.sum_engine.specs.check.Checker.{ReportsFound, Progress, Going, Ended, step_then, progress_before, IsStep, TakesStep}
-use Rattle.sum_engine.specs.Execution.{Stop, InputsState, StreamsState, AsksNames, RefusedAt, world_at}
+use Rattle.sum_engine.specs.Execution.{Stop, InputsState, StreamsState, AsksNames, world_at}
 use Rattle.sum_engine.specs.refinement.FlushedWrites.{outcome_after, WritesAndReturns}
 use Rattle.sum_engine.specs.refinement.Names.{MemoryWasRefused}
-use Rattle.sum_engine.proofs.ExecutionLemmas.{HappenedOrPrefix, step_performed, HappenedOrPrefix-by, refused_in, refused_first}
+use Rattle.sum_engine.proofs.ExecutionLemmas.{HappenedOrPrefix, step_performed, HappenedOrPrefix-by, refused_first}
 use Rattle.sum_engine.proofs.CountLemmas.{counts_then-nil}
 use Rattle.sum_engine.proofs.RemainingLemmas.{line_step, behavior_by, first_step, found_first, going-before}
 use Rattle.sum_sources.specs.declared.line_reader.LineStop.TheVariants as line_stops
@@ -24,7 +24,7 @@ InEachCheck-map : {I : Type 0} {state : I → InputState} {p q : VerdictsValue I
     → R (state_at p (remaining p.reader c) v) (state_at q (remaining q.reader c) w))
     → InEachCheck state p q a b R
 InEachCheck-map {a = a} {b = b} h f =
-    record { holds = λ c of w agrees. f c (world_at w a) (world_at w b) (h.holds c of w agrees) }
+    record { holds = λ reading c of w agrees. f c (world_at w a) (world_at w b) (h.holds reading c of w agrees) }
 
 -- ---- a step, by the verdict that was found
 
@@ -48,10 +48,10 @@ step_by r labels a b s t vector step later progress x is next came going = recor
     going_of (Err e) h = cc
 
 -- memory was refused, or bytes of the manifest remained
-refused_by : (a b : StreamsState) (step : Step) → 0 < step.remaining → b.outputs ≡ a.outputs
-    → MemoryWasRefused a.inputs b.inputs ⊎ (b.inputs ≡ a.inputs) → RefusedAt step a b
-refused_by a b step some outputs (inl refused) = refused_in a b step refused outputs
-refused_by a b step some outputs (inr same) = search rules
+refused_by : {a b : InputsState} {Some : Type 0} → Some → MemoryWasRefused a b ⊎ (b ≡ a)
+    → MemoryWasRefused a b ⊎ ((b ≡ a) × Some)
+refused_by some (inl refused) = inl refused
+refused_by some (inr same) = inr (same, some)
 
 -- from p and the streams a to q and the streams b
 module _ {I : Type 0} {state : I → InputState} {p q : VerdictsValue I} (a b : StreamsState) (labels : LabelsValue)
@@ -59,12 +59,12 @@ module _ {I : Type 0} {state : I → InputState} {p q : VerdictsValue I} (a b : 
   where
     -- the end was found, and its text was written, or a prefix of it
     step_end : (e : Ending) (outcome : Bool) {y : Result Progress Stop}
-        → (IsReading state p.reader → InEachCheck state p q a.inputs b.inputs (HasNoVerdictLeft p.rules e))
+        → InEachCheck state p q a.inputs b.inputs (HasNoVerdictLeft p.rules e)
         → AsksNames a.inputs b.inputs [] → q.rules ≡ p.rules → outcome ≡ good q.rules e q.counts
         → WritesAndReturns a.outputs b.outputs (end_text q.rules labels e q.counts) [] (Ended outcome) y
         → TakesStep state vector labels p q a b y
-    step_end e outcome found asked same sum wrote = λ flushed reading.
-        rw wrote.returns (InEachCheck-map (found reading) (λ c v w f.
+    step_end e outcome found asked same sum wrote = λ flushed.
+        rw wrote.returns (InEachCheck-map found (λ c v w f.
         let r = p.rules in
         let said = rw (same, f.counts) at (wrote.writes.1 flushed).1 in
         let k = remaining p.reader c in
@@ -77,15 +77,16 @@ module _ {I : Type 0} {state : I → InputState} {p q : VerdictsValue I} (a b : 
         (HappenedOrPrefix-by a b [] _ [] wrote.written asked said) (λ h. cc)))
 
     -- the next verdict was found, and then it was reported
-    pub step_taken : (x : VerdictResult) {y : Result Progress Stop} → FindsVerdict state vector p q a.inputs b.inputs x
+    pub step_taken : (x : VerdictResult) {y : Result Progress Stop}
+        → InEachCheck state p q a.inputs b.inputs (λ c d. IsNextVerdict p.rules vector c d x)
         → AdvancesVerdicts state vector p q a.inputs b.inputs x
         → ReportsFound q labels vector x a.outputs b.outputs y → TakesStep state vector labels p q a b y
     -- a line had a verdict; its report is written, and the lines after it remain
-    step_taken (Ok (Some v)) found did reported = λ flushed reading.
+    step_taken (Ok (Some v)) found did reported = λ flushed.
         let j = line_verdict_value vector v in
         let said : WritesAndReturns a.outputs b.outputs (err_of p.rules labels j) (out_of p.rules labels j) Going _ =
-        rw did.moves.rules at reported in
-        rw said.returns (InEachCheck-map (found reading) (λ c v w f.
+        rw did.rules at reported in
+        rw said.returns (InEachCheck-map found (λ c v w f.
         let k = remaining p.reader c in
         let first = state_at p k v in
         let next = state_at q (remaining q.reader c) w in
@@ -95,12 +96,12 @@ module _ {I : Type 0} {state : I → InputState} {p q : VerdictsValue I} (a b : 
         (HappenedOrPrefix-by _ _ (asks_of j) _ _ said.written did.asked (said.writes.1 flushed).1)
         (λ is. (refl, f.1))))
     -- no line was left; the end is written, and nothing remains
-    step_taken (Ok None) found did reported = step_end Whole _ found did.asked did.moves.rules refl reported
+    step_taken (Ok None) found did reported = step_end Whole _ found did.asked did.rules refl reported
     step_taken (Err (line_stops.Fault f)) found did reported =
-        step_end (Broken f) false found did.asked did.moves.rules refl reported
+        step_end (Broken f) false found did.asked did.rules refl reported
     -- memory ran out before the verdict; nothing is written, and all remains
-    step_taken (Err line_stops.Memory) found did reported = λ flushed reading.
-        rw reported.0 (InEachCheck-map (found reading) (λ c v w f.
+    step_taken (Err line_stops.Memory) found did reported = λ flushed.
+        rw reported.0 (InEachCheck-map found (λ c v w f.
         let k = remaining p.reader c in
         let first = first_step p.rules labels k.ending p.counts k (remaining_verdicts p.rules (state_at p k v)) in
         record {
@@ -108,6 +109,6 @@ module _ {I : Type 0} {state : I → InputState} {p q : VerdictsValue I} (a b : 
           later = first.1;
           is = first.2;
           performs =
-              refused_first first.0 [] refl (refused_by a b first.0 (rw (← first.3) at f.1) reported.1 did.asked);
+              refused_first a b first.0 [] refl reported.1 (refused_by (rw (← first.3) at f.1) did.asked);
           going = λ h. cc;
         }))

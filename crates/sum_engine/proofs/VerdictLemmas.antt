@@ -3,33 +3,26 @@ use Rattle.std.proofs.Common.{rules, ◌≡◌, ◌&&◌, List, ℕ, Bool, false
 use Rattle.std.specs.Prelude.{MatchResult}
 use Rattle.sum_engine.specs.declared.hash_name.HashFault.TheVariants.{NotOpened, NotRead, Memory}
 use Rattle.sum_engine.specs.check.Rules.{Rules}
-use Rattle.sum_engine.specs.check.Judge.{Verdict, asks_by, EntryValue, entry}
+use Rattle.sum_engine.specs.check.Judge.{Verdict, asks_of, judge, EntryValue}
 use Rattle.sum_engine.specs.check.Reports.{is_unread}
 use Rattle.sum_engine.specs.Behavior.{World, Answer, answer_to, is_dash}
 use Rattle.sum_engine.specs.Execution.{InputsState, AsksNames}
-use Rattle.sum_engine.specs.refinement.Judging.{Judges, verdict_of_hash}
+use Rattle.sum_engine.specs.refinement.Judging.{verdict_of_hash}
 use Rattle.sum_engine.specs.refinement.Names.{HashFault, NoRoom, AsksUnlessRefused, IsHashOf, IsNotBroken, MemoryWasRefused}
 
 -- an entry's verdict
 pub judged_entry : (r : Rules) (w : World) (s : EntryValue) (found : Result (List ℕ) HashFault)
     (x : Result Verdict NoRoom) → r.from_stdin && is_dash s.name ≡ false → IsHashOf s.kind (answer_to w s.name) found
-    → x ≡ verdict_of_hash r.ignore_missing s.digest found → Judges r w (entry s) x
-judged_entry r w s found x dash h is = by (answer_to w s.name) refl found h is
-  where
-    by : (x : Answer) → answer_to w s.name ≡ x → (found : Result (List ℕ) HashFault) → IsHashOf s.kind x found
-        → {y : Result Verdict NoRoom} → y ≡ verdict_of_hash r.ignore_missing s.digest found → Judges r w (entry s) y
-    by a same (Err Memory) h is = rw is tt
-    by (Ok c) same (Ok d) h is = search rules
-    by (Ok c) same (Err (NotRead f)) h is = search rules
-    by (Ok c) same (Err (NotOpened f)) h is = elim h [ ]
-    by (Err e) same (Err (NotOpened f)) h is = search rules
-    by (Err e) same (Err (NotRead f)) h is = elim h [ ]
-    by (Err e) same (Ok d) h is = elim h [ ]
+    → x ≡ verdict_of_hash r.ignore_missing s.digest found → IfOk x (λ v. v ≡ judge r w s)
+judged_entry r w s (Ok d) x dash h is = search rules
+judged_entry r w s (Err (NotOpened f)) x dash h is = search rules
+judged_entry r w s (Err (NotRead f)) x dash h is = search rules
+judged_entry r w s (Err Memory) x dash h is = rw is tt
 
 -- the name that its verdict asks is the one that was hashed
 pub entry_asks : (a b : InputsState) (ignore : Bool) (s : EntryValue) (found : Result (List ℕ) HashFault)
     (x : Result Verdict NoRoom) → x ≡ verdict_of_hash ignore s.digest found → AsksUnlessRefused s.name a b found
-    → MatchResult x (λ v. AsksNames a b (asks_by v s.name)) (λ e. MemoryWasRefused a b)
+    → MatchResult x (λ v. AsksNames a b (asks_of (record { number = 0; verdict = v; name = s.name }))) (λ e. MemoryWasRefused a b)
 entry_asks a b ignore s (Err Memory) x is h = rw is h
 entry_asks a b ignore s found x is h = search rules
 

@@ -13,11 +13,6 @@ use Rattle.sum_engine.specs.Execution.{StdinState, InputsState, AsksNames, Answe
 
 -- ---- names asked
 
--- some names after others
-pub after-append : (w : World) (a b : List (List ℕ)) → after (after w a) b ≡ after w (a ++ b)
-after-append w [] b = refl
-after-append w (name ∷ names) b = after-append (after_one w name) names b
-
 -- no name was asked
 pub asks_none : (a : InputsState) → AsksNames a a []
 asks_none a = search (rules, append-nil, or-false)
@@ -104,10 +99,6 @@ reads_gave {Whole} a b name gave read is =
       openings = (o ∷ [], rw is refl, All-cons (ReadsFile Whole) o [] (gave, refl, read) (All-nil (ReadsFile Whole)));
       stdin = inl (rw is refl);
     }
-
-pub reads_one : {Whole : Type 0} (a b : InputsState) (name : List ℕ) (r : Reads) → IsAtEndIf Whole r
-    → b ≡ record a { source = and_opening a.source name (Some (Ok r)) } → ReadsToEndIf Whole a b
-reads_one a b name r read is = reads_gave a b name (Ok r) read is
 
 pub reads_fault : {Whole : Type 0} (a b : InputsState) (name : List ℕ) (f : Fault)
     → b ≡ record a { source = and_opening a.source name (Some (Err f)) } → ReadsToEndIf Whole a b

@@ -34,15 +34,10 @@ abbrev pub after : World → List ByteString → World
 after w [] = w
 after w (name ∷ names) = after (after_one w name) names
 
--- what reading these bytes gives that end so: their digest, or the fault
-abbrev pub digest_by : KindValue → ByteString → Ending → Result (ByteString) Fault
-digest_by kind bytes Whole = Ok (digest kind bytes)
-digest_by kind bytes (Broken f) = Err f
-
 -- what reading an answer gives: the digest of all its bytes, or the fault of opening or reading it
 abbrev pub digest_or_fault : KindValue → Answer → Result (ByteString) Fault
 digest_or_fault kind (Err f) = Err f
-digest_or_fault kind (Ok c) = digest_by kind (clip c).bytes (clip c).ending
+digest_or_fault kind (Ok c) = elim (clip c).ending [ Whole ↦ Ok (digest kind (clip c).bytes) | Broken f ↦ Err f ]
 
 -- a name is opened (`-` is standard input); or standard error, or standard output, is offered a piece or writes a byte
 pub data Event : Type 0 where
@@ -54,7 +49,7 @@ pub record Step : Type 0 where
   pub names : List ByteString
   pub err : ByteString  -- a text to standard error
   pub out : ByteString  -- one to standard output
-  pub remaining : ℕ  -- how many bytes of a manifest are still to come before it
+  pub remaining : ℕ  -- how many bytes of a manifest remain before it: those of its own line, if any, and later ones
 
 -- a list of steps, and whether all is good
 pub record Behavior : Type 0 where
@@ -71,16 +66,13 @@ trace steps = flat_map events_of steps
 
 -- an event as an opened name, as one of standard error, or as one of standard output
 abbrev pub opened_name : Event → Option (ByteString)
-opened_name (open_name name) = Some name
-opened_name event = None
+opened_name e = elim e [ open_name name ↦ Some name | other ↦ None ]
 
 abbrev pub err_event : Event → Option OutputEvent
-err_event (to_err e) = Some e
-err_event event = None
+err_event e = elim e [ to_err piece ↦ Some piece | other ↦ None ]
 
 abbrev pub out_event : Event → Option OutputEvent
-out_event (to_out e) = Some e
-out_event event = None
+out_event e = elim e [ to_out piece ↦ Some piece | other ↦ None ]
 
 -- one behavior after another
 abbrev pub behavior_then : Behavior → Behavior → Behavior

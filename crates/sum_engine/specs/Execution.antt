@@ -1,5 +1,5 @@
 -- The state of a call's streams, and what a call performs of a behavior: the form of the headline.
-use Rattle.std.specs.Prelude.{ℕ, ◌≡◌, ◌≢◌, ◌+◌, ◌⊎◌, Bool, true, false, [], Option, None, Some, IfSome, IfOk, Result, Ok, Err, ◌<◌, ◌||◌, List, ◌∷◌, ◌++◌, map, length, filter, not, filter_map, All, if◌then◌else◌}
+use Rattle.std.specs.Prelude.{ℕ, ◌≡◌, ◌≢◌, ◌+◌, ◌⊎◌, Bool, true, false, [], Option, None, Some, IfSome, IfOk, Result, Ok, Err, ◌<◌, ◌||◌, List, ◌∷◌, ◌++◌, map, length, filter, not, filter_map, All, Any, if◌then◌else◌}
 use Rattle.std.specs.List.{list_any}
 use Rattle.sum_sources.specs.declared.fault.Ending.TheVariants as ending
 use Rattle.sum_sources.specs.declared.inputs.phase.Phase.TheVariants.{Ended, Past}
@@ -20,7 +20,7 @@ pub record StdinState : Type 0 where
   pub taken : Bool
   pub reads : Option Reads
 
--- that of a value. While it is taken, an empty one stands in for it
+-- the state of a standard input. While it is taken, an empty one stands in for it
 abbrev pub stdin_of : {I : Type 0} → (I → InputState) → StdinPlace I → StdinState
 stdin_of state (Untaken i) = record { told = (state i).told; taken = false; reads = None }
 stdin_of state Taken = record { told = Some empty_content; taken = true; reads = None }
@@ -43,35 +43,25 @@ StreamsState = Streams InputsState OutputsState
 abbrev pub IsFlushed : OutputsState → Type 0
 IsFlushed m = (m.out.buffered ≡ []) × (m.err.buffered ≡ [])
 
--- no call of an output failed; or one call of one of them did
-abbrev pub HasNoFailure : OutputsState → OutputsState → Type 0
-HasNoFailure a b = (b.out.sink.failures ≡ a.out.sink.failures) × (b.err.sink.failures ≡ a.err.sink.failures)
-
-abbrev pub HasOneFailure : OutputsState → OutputsState → Type 0
-HasOneFailure a b = ((b.out.sink.failures ≡ a.out.sink.failures + 1) × (b.err.sink.failures ≡ a.err.sink.failures))
-    ⊎ ((b.out.sink.failures ≡ a.out.sink.failures) × (b.err.sink.failures ≡ a.err.sink.failures + 1))
+-- how often a call of standard output failed, and how often one of standard error
+abbrev pub failures : OutputsState → ℕ × ℕ
+failures m = (m.out.sink.failures, m.err.sink.failures)
 
 -- a write fault has one failure more, of one output, and any other result none
 abbrev pub FailuresMatch : {A : Type 0} → OutputsState → OutputsState → Result A Stop → Type 0
-FailuresMatch a b (Err Write) = HasOneFailure a b
-FailuresMatch a b r = HasNoFailure a b
+FailuresMatch a b (Err Write) =
+    (failures b ≡ ((failures a).0 + 1, (failures a).1)) ⊎ (failures b ≡ ((failures a).0, (failures a).1 + 1))
+FailuresMatch a b r = failures b ≡ failures a
 
--- how out of memory may change a source's count of refusals: one more; or one more at most
-abbrev pub IsOneMore : ℕ → ℕ → Type 0
-IsOneMore n m = m ≡ n + 1
-
-abbrev pub IsOneMoreAtMost : ℕ → ℕ → Type 0
-IsOneMoreAtMost n m = (m ≡ n) ⊎ IsOneMore n m
-
--- out of memory changes the count so, and any other result leaves it
-abbrev pub RefusalsMatch : {A : Type 0} → (ℕ → ℕ → Type 0) → InputsState → InputsState → Result A Stop → Type 0
-RefusalsMatch Changes a b (Err Memory) = Changes a.source.refusals b.source.refusals
-RefusalsMatch Changes a b r = b.source.refusals ≡ a.source.refusals
+-- out of memory may refuse the source as often as one of these numbers says, and any other result none
+abbrev pub RefusalsMatch : {A : Type 0} → List ℕ → InputsState → InputsState → Result A Stop → Type 0
+RefusalsMatch allowed a b (Err Memory) = Any (λ n. b.source.refusals ≡ a.source.refusals + n) allowed
+RefusalsMatch allowed a b r = b.source.refusals ≡ a.source.refusals
 
 -- what holds of a call that may stop: flushed outputs stay flushed, and a stop has its cause
-pub record StopHasCause {A : Type 0} (Changes : ℕ → ℕ → Type 0) (a b : StreamsState) (r : Result A Stop) : Type 0 where
+pub record StopHasCause {A : Type 0} (allowed : List ℕ) (a b : StreamsState) (r : Result A Stop) : Type 0 where
   pub flushed : IsFlushed a.outputs → IsFlushed b.outputs
-  pub refusals : RefusalsMatch Changes a.inputs b.inputs r
+  pub refusals : RefusalsMatch allowed a.inputs b.inputs r
   pub failures : FailuresMatch a.outputs b.outputs r
 
 -- ---- what was read
@@ -124,37 +114,30 @@ pub record Happened (a b : StreamsState) (es : List Event) : Type 0 where
   pub err : Gets a.outputs.err.sink b.outputs.err.sink (filter_map err_event es)
   pub out : Gets a.outputs.out.sink b.outputs.out.sink (filter_map out_event es)
 
--- a prefix of these events happened
-abbrev pub PrefixHappened : StreamsState → StreamsState → List Event → Type 0
-PrefixHappened a b es = (prefix rest : List Event) × (es ≡ prefix ++ rest) × Happened a b prefix
+-- the streams, but for the source's count of refusals
+abbrev pub with_refusals : ℕ → StreamsState → StreamsState
+with_refusals n b = record b { inputs = record b.inputs { source = record b.inputs.source { refusals = n } } }
 
--- out of memory at a step, of which nothing happened: the source was refused it, or bytes of the manifest remained
-pub record RefusedAt (s : Step) (a b : StreamsState) : Type 0 where
-  pub outputs : b.outputs ≡ a.outputs
-  pub asked : asked b.inputs ≡ asked a.inputs
-  pub taken : b.inputs.stdin.taken ≡ a.inputs.stdin.taken
-  pub cause : IsOneMore a.inputs.source.refusals b.inputs.source.refusals
-      ⊎ ((b.inputs.source.refusals ≡ a.inputs.source.refusals) × (0 < s.remaining))
-
--- out of memory: the steps before the next one happened, and nothing of it
+-- out of memory: the steps before the next one happened, and nothing of that, but for a refusal of the source; or bytes
+-- of the manifest remained
 pub record RunsOutOfMemory (steps : List Step) (a b : StreamsState) : Type 0 where
   pub done : List Step
   pub next : Step
   pub later : List Step
-  pub between : StreamsState
   pub are : steps ≡ done ++ next ∷ later
-  pub happened : Happened a between (trace done)
-  pub refused : RefusedAt next between b
+  pub happened : Happened a (with_refusals a.inputs.source.refusals b) (trace done)
+  pub cause : (b.inputs.source.refusals ≡ a.inputs.source.refusals + 1)
+      ⊎ ((b.inputs.source.refusals ≡ a.inputs.source.refusals) × (0 < next.remaining))
 
 -- THE HEADLINE, for a call that is to return x: it returns x, and the whole trace happened; or a write failed after a
 -- prefix of the trace; or memory ran out at a step, and exactly the steps before it happened
 abbrev pub PerformsSteps : {A : Type 0} → List Step → A → StreamsState → StreamsState → Result A Stop → Type 0
 PerformsSteps steps x a b (Ok outcome) = (outcome ≡ x) × Happened a b (trace steps)
-PerformsSteps steps x a b (Err Write) = PrefixHappened a b (trace steps)
+PerformsSteps steps x a b (Err Write) = (prefix rest : List Event) × (trace steps ≡ prefix ++ rest) × Happened a b prefix
 PerformsSteps steps x a b (Err Memory) = RunsOutOfMemory steps a b
 
--- the same of a behavior in each world that agrees with what was read by the end of the call, if both outputs are
--- flushed; what is returned depends on its `good`
+-- a call performs a behavior, if both outputs are flushed before: its steps in each world that agrees with what was read
+-- by the end of the call; what it returns depends on `good`
 abbrev pub Performs : {A : Type 0} → (World → Behavior) → (Bool → A) → StreamsState → StreamsState → Result A Stop
     → Type 0
 Performs behavior outcome a b r = IsFlushed a.outputs → (w : World) → Agrees w b.inputs

@@ -1,9 +1,9 @@
 //! The line of one name.
-ghost use Rattle.std.specs.Prelude.{◌≡◌, [], length, true, Ok};
+ghost use Rattle.std.specs.Prelude.{◌≡◌, [], ◌∷◌, length, true, Ok};
 ghost use Rattle.sum_lines.specs.Lines.{line};
 ghost use Rattle.sum_engine.specs.Generation.{generate_behavior};
 ghost use Rattle.sum_engine.specs.refinement.FlushedWrites.{WritesAndFlushesBoth};
-ghost use Rattle.sum_engine.specs.Execution.{IsFlushed, FailuresMatch, IsOneMore, RefusalsMatch};
+ghost use Rattle.sum_engine.specs.Execution.{IsFlushed, FailuresMatch, RefusalsMatch};
 ghost use Rattle.sum_engine.specs.Execution.{Performs, ReadsToEndIf};
 
 use crate::hash_name::hash_name;
@@ -34,7 +34,7 @@ pub fn generate_one<I: Input + Drop, S: Source, O: Sink, E: Sink>(
     // True only if the file was read to its end; and whatever is returned, it was read no further.
     ensures reads { ReadsToEndIf (result ≡ Ok true) streams.old.inputs streams.new.inputs }
     // A stop has its cause: one refusal more of the source, or one failure more of one output.
-    ensures refusals { RefusalsMatch IsOneMore streams.old.inputs streams.new.inputs result }
+    ensures refusals { RefusalsMatch (1 ∷ []) streams.old.inputs streams.new.inputs result }
     ensures failures { FailuresMatch streams.old.outputs streams.new.outputs result }
 {
     match hash_name(settings.kind, name, &mut streams.inputs) {

@@ -15,10 +15,11 @@ pub fn some_world_agrees<I: Input, S: Source>(inputs: &Inputs<I, S>)
     let _stdin = &inputs.stdin;
 }
 
-/// After k calls of `step` that each handled a line, both outputs grew by exactly the reports of the first k lines,
-/// whose names were asked; the input gave at most 8192 bytes beyond the end of line k; and each line's vector held at
-/// most as many bytes as its line. The call that ends comes after all lines, and writes exactly the summary or the
-/// fault line. If a call fails to write, a prefix of the manifest's whole trace happened.
+/// After k calls of `step` that each handled a line, exactly the first k steps of the manifest's behavior happened: the
+/// names of the first k lines were asked, and their reports were written. The input gave at most 8192 bytes beyond the
+/// end of line k, and each line's vector held at most as many bytes as its line. If the next call ends or stops, the
+/// manifest's whole behavior was performed. So the call that ends writes exactly the summary or the fault line, and it
+/// comes after all lines.
 pub fn steps_join()
     ensures { StepsJoin }
 {}

@@ -34,6 +34,7 @@ pub use check::progress::Progress;
 pub use check::verdicts::Verdicts;
 pub use generate::generate_one;
 pub use inputs::Inputs;
+pub use put_flushed::outcome_after;
 pub use settings::{CheckSettings, Report, Settings};
 pub use stop::Stop;
 pub use streams::{Outputs, Streams};

@@ -83,7 +83,7 @@ pub(crate) fn put_name_fault<E: Sink>(
 }
 
 /// What a call returns after its text: the outcome if the text was written, and otherwise `Stop::Write`.
-pub(crate) fn outcome_after<T: Drop>(written: Result<(), SinkFault>, outcome: T) -> Result<T, Stop>
+pub fn outcome_after<T: Drop>(written: Result<(), SinkFault>, outcome: T) -> Result<T, Stop>
     ensures { result ≡ outcome_after written outcome }
 {
     written?;

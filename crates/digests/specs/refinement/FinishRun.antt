@@ -1,7 +1,7 @@
 -- Relates what a run returned to the end of the program.
 use Rattle.std.specs.Prelude.{ℕ, ◌≡◌, [], Option, None, Result, Ok, Err}
 use Rattle.sum_lines.specs.Sinks.{Gets}
-use Rattle.sum_engine.specs.Execution.{OutputsState, IsFlushed, HasNoFailure, HasOneFailure}
+use Rattle.sum_engine.specs.Execution.{OutputsState, IsFlushed, FailuresMatch}
 use Rattle.sum_engine.specs.refinement.FlushedWrites.{WritesAndReturns}
 use Rattle.sum_words.specs.Items.{ByteString}
 use Rattle.sum_words.specs.Texts.{Stop, Write}
@@ -10,8 +10,8 @@ use Rattle.digests.specs.Program.{ReportsStop}
 
 -- both outputs are flushed after a run: its outcome stays, or is a write fault if a flush failed
 abbrev pub FlushesBoth : OutputsState → OutputsState → Result ℕ Stop → Result ℕ Stop → Type 0
-FlushesBoth a b (Ok status) (Ok other) = (other ≡ status) × HasNoFailure a b
-FlushesBoth a b (Ok status) (Err stop) = (stop ≡ Write) × HasOneFailure a b
+FlushesBoth a b (Ok status) (Ok other) = (other ≡ status) × FailuresMatch {A = ℕ} a b (Ok other)
+FlushesBoth a b (Ok status) (Err stop) = (stop ≡ Write) × FailuresMatch {A = ℕ} a b (Err Write)
 FlushesBoth a b (Err stop) r = (r ≡ Err stop) × (b ≡ a)
 
 -- neither output got anything more

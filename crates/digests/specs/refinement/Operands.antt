@@ -1,7 +1,6 @@
 -- Relates a job to what it does with an operand.
-use Rattle.std.specs.Prelude.{ℕ}
+use Rattle.std.specs.Prelude.{ℕ, List, [], ◌∷◌}
 use Rattle.sum_engine.specs.Behavior.{World, Behavior, ByteString}
-use Rattle.sum_engine.specs.Execution.{IsOneMore, IsOneMoreAtMost}
 use Rattle.sum_engine.specs.Generation.{generate_behavior}
 use Rattle.sum_engine.specs.check.Checking.{check_behavior}
 use Rattle.digests.specs.declared.run.Job.{Job}
@@ -12,7 +11,7 @@ abbrev pub operand_behavior : Job → ByteString → World → ByteString → Be
 operand_behavior (Generate settings) tool w name = generate_behavior settings tool w name
 operand_behavior (Check settings) tool w name = check_behavior settings tool w name
 
--- how the count of refusals may change if a job runs out of memory
-abbrev pub JobAllowsRefusals : Job → ℕ → ℕ → Type 0
-JobAllowsRefusals (Generate settings) = IsOneMore
-JobAllowsRefusals (Check settings) = IsOneMoreAtMost
+-- how often the source may have been refused memory, if a job ends out of memory
+abbrev pub job_refusals : Job → List ℕ
+job_refusals (Generate settings) = 1 ∷ []
+job_refusals (Check settings) = 0 ∷ 1 ∷ []

@@ -3,9 +3,8 @@ use Rattle.std.specs.Prelude.{Bool, false, ◌≡◌, List, [], ◌∷◌, Optio
 pub use Rattle.sum_engine.specs.declared.check.progress.Progress.{Progress}
 pub use Rattle.sum_engine.specs.declared.check.progress.Progress.TheVariants.{Going, Ended}
 use Rattle.sum_sources.specs.declared.line_reader.LineStop.TheVariants.{Fault, Memory}
-use Rattle.sum_sources.specs.LineReaders.{IsReading}
 use Rattle.sum_engine.specs.Behavior.{ByteString, Whole, Broken, Step, Behavior, InputState}
-use Rattle.sum_engine.specs.Execution.{Stop, OutputsState, StreamsState, PerformsSteps, IsFlushed, StopHasCause, IsOneMoreAtMost}
+use Rattle.sum_engine.specs.Execution.{Stop, OutputsState, StreamsState, PerformsSteps, IsFlushed}
 use Rattle.sum_engine.specs.refinement.FlushedWrites.{WritesAndReturns}
 use Rattle.sum_engine.specs.check.Rules.{Rules, LabelsValue}
 use Rattle.sum_engine.specs.check.Reports.{out_of, err_of, end_text, good}
@@ -29,7 +28,7 @@ abbrev pub progress_before : List Step → Bool → Progress
 progress_before [] good = Ended good
 progress_before steps good = Going
 
--- what a step does from a to b, and of the streams from s to t: it performs the first step of the behavior that
+-- a step leads the check from a to b, and the streams from s to t: it performs the first step of the behavior that
 -- remained; if it returns Going, a line was handled, and the others remain
 pub record IsStep (r : Rules) (labels : LabelsValue) (vector : ByteString) (a b : CheckState) (s t : StreamsState)
     (x : Result Progress Stop) : Type 0 where
@@ -39,11 +38,16 @@ pub record IsStep (r : Rules) (labels : LabelsValue) (vector : ByteString) (a b 
   pub performs : PerformsSteps (step ∷ []) (progress_before later.steps later.good) s t x
   pub going : x ≡ Ok Going → (later ≡ remaining_behavior r labels b) × HandlesLine r a b vector
 
--- a step, if both outputs are flushed at the call, of an input that was unread at the start
+-- the call takes a step of the check, if both outputs are flushed at the call
 abbrev pub TakesStep : {I : Type 0} → (I → InputState) → ByteString → LabelsValue → VerdictsValue I → VerdictsValue I
     → StreamsState → StreamsState → Result Progress Stop → Type 0
-TakesStep state vector labels p q a b x = IsFlushed a.outputs → IsReading state p.reader
+TakesStep state vector labels p q a b x = IsFlushed a.outputs
     → InEachCheck state p q a.inputs b.inputs (λ c d. IsStep p.rules labels vector c d a b x)
+
+-- what a step returns that ends or stops a check with this outcome
+abbrev pub ends : Result Bool Stop → Result Progress Stop
+ends (Ok good) = Ok (Ended good)
+ends (Err stop) = Err stop
 
 -- a line is no outcome, and all else is one
 abbrev pub outcome_in_step : Result Progress Stop → Option (Result Bool Stop)
@@ -69,4 +73,3 @@ pub record AdvancesChecker {I : Type 0} (state : I → InputState) (vector : Byt
   pub found : VerdictResult
   pub verdict : AdvancesVerdicts state vector p.verdicts q.verdicts a.inputs b.inputs found
   pub reports : ReportsFound q.verdicts p.labels vector found a.outputs b.outputs x
-  pub cause : StopHasCause IsOneMoreAtMost a b x

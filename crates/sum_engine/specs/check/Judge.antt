@@ -23,17 +23,12 @@ abbrev pub not_found : Answer → Bool
 not_found (Err NotFound) = true
 not_found r = false
 
--- the verdict of an entry with this digest, by what reading the file gives
-abbrev pub verdict_by : ByteString → Result (ByteString) Fault → Verdict
-verdict_by digest (Ok d) = if bytes_eq d digest then Right else Wrong
-verdict_by digest (Err f) = Unread f
-
 -- the verdict of an entry
 abbrev pub judge : Rules → World → EntryValue → Verdict
 judge r w s = let c = answer_to w s.name in
     if r.from_stdin && is_dash s.name then Bad
     else if r.ignore_missing && not_found c then Missing
-    else verdict_by s.digest (digest_or_fault s.kind c)
+    else elim (digest_or_fault s.kind c) [ Ok d ↦ if bytes_eq d s.digest then Right else Wrong | Err f ↦ Unread f ]
 
 -- the verdict of line n, which says this
 abbrev pub line_verdict : Rules → World → ℕ → ParsedLine → LineVerdictValue
@@ -41,14 +36,9 @@ line_verdict r w n ignored = record { number = n; verdict = Ignored; name = [] }
 line_verdict r w n bad = record { number = n; verdict = Bad; name = [] }
 line_verdict r w n (entry s) = record { number = n; verdict = judge r w s; name = s.name }
 
--- a verdict other than these two asks the name of its entry
-abbrev pub asks_by : Verdict → ByteString → List ByteString
-asks_by Ignored name = []
-asks_by Bad name = []
-asks_by v name = name ∷ []
-
+-- the names that a line's verdict asks: that of its entry, unless the line is ignored or bad
 abbrev pub asks_of : LineVerdictValue → List ByteString
-asks_of j = asks_by j.verdict j.name
+asks_of j = elim j.verdict [ Ignored ↦ [] | Bad ↦ [] | v ↦ j.name ∷ [] ]
 
 -- the lines of a content, each without one carriage return at its end, unless the profile drops none
 abbrev pub lines_under : Profile → Content → List ByteString
@@ -62,6 +52,6 @@ verdicts r f w n (l ∷ ls) =
     let asked = after w (asks_of first) in  -- the later lines find the world so
     first ∷ verdicts r f asked (n + 1) ls
 
--- those of a whole manifest, whose form is that of all its lines
+-- the verdicts of a whole manifest, whose form is that of all its lines
 abbrev pub all_verdicts : Rules → World → Content → List LineVerdictValue
 all_verdicts r w c = verdicts r (form r.algo (lines_under r.profile c)) w 0 (lines_under r.profile c)

@@ -1,9 +1,8 @@
 -- The law of old verdicts: a manifest of the time of older versions is checked alike under both profiles.
-use Rattle.std.specs.Prelude.{◌≡◌, ◌≢◌, ◌<◌, false, [], ◌∷◌, length, map, codes, All, Ok}
+use Rattle.std.specs.Prelude.{◌≡◌, ◌≢◌, ◌<◌, false, [], ◌∷◌, length, codes, All, Ok}
 use Rattle.sum_engine.specs.check.Rules.{LabelsValue, Rules}
 use Rattle.sum_engine.specs.check.Judge.{Algos, Form, lines_under, all_verdicts, raw_lines, bad, parse_line, EntryValue, IsEntry, form, Profile, present, escape, escape_by}
-use Rattle.sum_engine.specs.check.Reports.{out_of, err_of, counts_of, end_text, good}
-use Rattle.sum_engine.specs.check.Checking.{check_behavior_by}
+use Rattle.sum_engine.specs.check.Checking.{content_behavior, check_behavior_by}
 use Rattle.sum_engine.specs.Behavior.{ByteString, Whole, World, Content, clip, Answer}
 
 -- the profile of older versions
@@ -30,20 +29,13 @@ pub record IsOldManifest (r : Rules) (labels : LabelsValue) (c : Content) : Type
   pub no_escape : All (NamesNoCarriageReturn r.algo (form r.algo (raw_lines c))) (raw_lines c)
   pub no_empty : All (λ line. 0 < length line) (raw_lines c)
 
--- two kinds of rules find the same verdicts in a manifest, write the same for each of its lines and for its end, and
--- find it good or not alike
-pub record ChecksAlike (r s : Rules) (labels : LabelsValue) (w : World) (c : Content) : Type 0 where
-  pub verdicts : all_verdicts r w c ≡ all_verdicts s w c
-  pub outs : map (out_of r labels) (all_verdicts r w c) ≡ map (out_of s labels) (all_verdicts s w c)
-  pub errs : map (err_of r labels) (all_verdicts r w c) ≡ map (err_of s labels) (all_verdicts s w c)
-  pub end : end_text r labels c.ending (counts_of (all_verdicts r w c))
-      ≡ end_text s labels c.ending (counts_of (all_verdicts s w c))
-  pub good : good r c.ending (counts_of (all_verdicts r w c)) ≡ good s c.ending (counts_of (all_verdicts s w c))
-
--- such a manifest is checked alike under both profiles, whatever was asked before
+-- such a manifest has the same verdicts under both profiles, whatever was asked before; and the same is written for each
+-- of its lines and for its end, and it is good or not alike
 abbrev pub OldVerdicts : Type 0
 OldVerdicts = (r : Rules) (labels : LabelsValue) (w : World) (c : Content) → IsOldManifest r labels c
-    → ChecksAlike (rules_under older_profile r) (rules_under present r) labels w c
+    → let old = rules_under older_profile r in let new = rules_under present r in
+    (all_verdicts old w c ≡ all_verdicts new w c)
+    × (content_behavior old labels c (all_verdicts old w c) ≡ content_behavior new labels c (all_verdicts new w c))
 
 -- so its whole behavior is the same, also if the manifest can't be opened
 abbrev pub OldOutcomes : Type 0

@@ -17,18 +17,14 @@ use Rattle.sum_engine.specs.Generation.{tool_line, name_fault_line}
 abbrev pub name_line : Profile → ByteString → ByteString → ByteString
 name_line p name text = concat (mark (escape_differs p name) ∷ escape_by p name ∷ codes ": " ∷ text ∷ codes "\n" ∷ [])
 
--- the line of a verdict
-abbrev pub verdict_line : Profile → Verdict → ByteString → ByteString
-verdict_line p Right name = name_line p name (codes "OK")
-verdict_line p Wrong name = name_line p name (codes "FAILED")
-verdict_line p (Unread f) name = name_line p name (codes "FAILED open or read")
-verdict_line p v name = []
-
 -- a line's report on standard output
 abbrev pub out_by : Profile → Report → Verdict → ByteString → ByteString
-out_by p Quiet Right name = []
 out_by p Status v name = []
-out_by p report v name = verdict_line p v name
+out_by p Quiet Right name = []
+out_by p report Right name = name_line p name (codes "OK")
+out_by p report Wrong name = name_line p name (codes "FAILED")
+out_by p report (Unread f) name = name_line p name (codes "FAILED open or read")
+out_by p report v name = []
 
 abbrev pub out_of : Rules → LabelsValue → LineVerdictValue → ByteString
 out_of r labels j = out_by r.profile labels.report j.verdict j.name
@@ -43,18 +39,9 @@ abbrev pub bad_line : Rules → LabelsValue → ℕ → ByteString
 bad_line r labels n = concat (labels.tool ∷ codes ": " ∷ escape_by r.profile labels.manifest ∷ codes ": " ∷ decimal n
     ∷ codes ": improperly formatted " ∷ tag_word r.algo ∷ codes " checksum line\n" ∷ [])
 
--- a text that is shown under `Warn` alone, and one that is not shown under `Status`
-abbrev pub if_warn : Report → ByteString → ByteString
-if_warn Warn text = text
-if_warn report text = []
-
-abbrev pub unless_status : Report → ByteString → ByteString
-unless_status Status text = []
-unless_status report text = text
-
 -- a line's report on standard error: one that is improperly formatted is named under `Warn` alone
 abbrev pub err_by : Rules → LabelsValue → ℕ → Verdict → ByteString → ByteString
-err_by r labels n Bad name = if_warn labels.report (bad_line r labels n)
+err_by r labels n Bad name = elim labels.report [ Warn ↦ bad_line r labels n | other ↦ [] ]
 err_by r labels n (Unread f) name = name_fault_line r.profile labels.tool name f
 err_by r labels n v name = []
 
@@ -66,13 +53,17 @@ abbrev pub is_unread : Verdict → Bool
 is_unread (Unread f) = true
 is_unread v = false
 
--- how many of the lines have such a verdict (`sameb` compares variants)
-abbrev pub count_where : (Verdict → Bool) → List LineVerdictValue → ℕ
-count_where is js = length (filter (λ j. is j.verdict) js)
-
+-- how many of the lines have each verdict (`sameb` compares variants)
 abbrev pub counts_of : List LineVerdictValue → Counts
-counts_of js = let n : Verdict → ℕ = λ v. count_where (sameb the_type v) js in
-    record { right = n Right; wrong = n Wrong; missing = n Missing; unread = count_where is_unread js; bad = n Bad }
+counts_of js =
+    let n : (Verdict → Bool) → ℕ = λ is. length (filter (λ j. is j.verdict) js) in
+    let is : Verdict → Verdict → Bool = sameb the_type in record {
+      right = n (is Right);
+      wrong = n (is Wrong);
+      missing = n (is Missing);
+      unread = n is_unread;
+      bad = n (is Bad);
+    }
 
 -- how many lines are entries
 abbrev pub entries : Counts → ℕ
@@ -95,6 +86,11 @@ warnings r labels c = let tool = labels.tool in
     ++ (warning tool c.unread (codes " listed file could not be read") (codes " listed files could not be read")
     ++ (warning tool c.wrong (codes " computed checksum did NOT match") (codes " computed checksums did NOT match")
     ++ unverified_line r labels c))
+
+-- a text that is not shown under `Status`
+abbrev pub unless_status : Report → ByteString → ByteString
+unless_status Status text = []
+unless_status report text = text
 
 -- the end of a manifest on standard error: its summary, or the line of the fault that broke it
 abbrev pub end_text : Rules → LabelsValue → Ending → Counts → ByteString

@@ -1,5 +1,5 @@
 -- The verdicts of a manifest, one call after another; no text is written.
-use Rattle.std.specs.Prelude.{◌≡◌, ◌+◌, ◌≤◌, ◌<◌, ◌⊎◌, List, [], ◌∷◌, length, slice_range, Bool, true, false, Option, None, Some, IfSome, Result, Ok, Err, ⊤}
+use Rattle.std.specs.Prelude.{◌≡◌, ◌+◌, ◌≤◌, ◌<◌, ◌⊎◌, [], ◌∷◌, length, slice_range, Bool, true, false, Option, None, Some, IfSome, Result, Ok, Err, ⊤}
 use Rattle.sum_lines.specs.declared.reading.read_line.Form.TheVariants.{Undecided}
 use Rattle.sum_sources.specs.Contents.{unread}
 use Rattle.sum_sources.specs.LineReaders.{AdvancesLines, IsBounded, IsReading, consumed_count, remaining}
@@ -46,11 +46,11 @@ state_at p c w = record {
   world = w;
 }
 
--- P holds between the check's states at two values and inputs: of each content of the manifest, and in each world, that
--- agrees with what was read by then
+-- P holds between the check's states at two values and inputs, if the input was unread at the start: of each content of
+-- the manifest, and in each world, that agrees with what was read by then
 pub record InEachCheck {I : Type 0} (state : I → InputState) (p q : VerdictsValue I) (a b : InputsState)
     (P : CheckState → CheckState → Type 0) : Type 0 where
-  pub holds : (c : Content) → IsOf (state q.reader.input).reads c → (w : World) → Agrees w b
+  pub holds : IsReading state p.reader → (c : Content) → IsOf (state q.reader.input).reads c → (w : World) → Agrees w b
       → P (state_at p (remaining p.reader c) (world_at w a)) (state_at q (remaining q.reader c) (world_at w b))
 
 -- ---- what a call returns
@@ -91,12 +91,6 @@ IsNextVerdict r vector a b (Ok None) = HasNoVerdictLeft r Whole a b
 IsNextVerdict r vector a b (Err (Fault f)) = HasNoVerdictLeft r (Broken f) a b
 IsNextVerdict r vector a b (Err Memory) = (b.world ≡ a.world) × (0 < length a.remaining.bytes)
 
--- the same between two values and inputs, of an input that was unread at the start
-abbrev pub FindsVerdict : {I : Type 0} → (I → InputState) → ByteString → VerdictsValue I → VerdictsValue I → InputsState
-    → InputsState → VerdictResult → Type 0
-FindsVerdict state vector p q a b x = IsReading state p.reader
-    → InEachCheck state p q a b (λ c d. IsNextVerdict p.rules vector c d x)
-
 -- ---- the outcome
 
 -- An outcome stays. A call keeps the outcome in its result, if there is one. From then on each call returns the same
@@ -129,35 +123,27 @@ abbrev pub IsNotUnread : VerdictResult → Type 0
 IsNotUnread (Ok (Some v)) = is_unread v.verdict ≡ false
 IsNotUnread x = ⊤
 
--- the names that such a call asks
-abbrev pub names_of_result : ByteString → VerdictResult → List ByteString
-names_of_result vector (Ok (Some v)) = asks_of (line_verdict_value vector v)
-names_of_result vector x = []
-
 -- what such a call asks: the name of the line's verdict, or none; or the source was refused memory
 abbrev pub AsksFor : ByteString → InputsState → InputsState → VerdictResult → Type 0
+AsksFor vector a b (Ok (Some v)) = AsksNames a b (asks_of (line_verdict_value vector v))
 AsksFor vector a b (Err Memory) = MemoryWasRefused a b ⊎ (b ≡ a)
-AsksFor vector a b x = AsksNames a b (names_of_result vector x)
-
--- how such a call moves on
-pub record MovesOn {I : Type 0} (state : I → InputState) (a b : VerdictsValue I) (x : VerdictResult) : Type 0 where
-  pub rules : b.rules ≡ a.rules
-  pub counts : b.counts ≡ counts_after a.counts x
-  pub number : (v : LineVerdict) → x ≡ Ok (Some v) → b.reader.lines ≡ a.reader.lines + 1
-  pub end : x ≡ Ok None → b.reader.final_answer ≡ Some (Ok NoMore)
-  -- how its reader read the line, or what else that found
-  pub found : Result Next LineStop
-  pub reader : AdvancesLines state a.reader b.reader found
-  pub bounds : IsBounded b.reader
-  -- if the input was unread at the start: what was read by now is of no content that what was read before wasn't of
-  pub reading : IsReading state a.reader → IsReading state b.reader
-  pub before : IsReading state a.reader → (c : Content) → IsOf (state b.reader.input).reads c
-      → IsOf (state a.reader.input).reads c
+AsksFor vector a b x = AsksNames a b []
 
 -- what such a call does
 pub record AdvancesVerdicts {I : Type 0} (state : I → InputState) (vector : ByteString) (p q : VerdictsValue I)
     (a b : InputsState) (x : VerdictResult) : Type 0 where
-  pub moves : MovesOn state p q x
+  pub rules : q.rules ≡ p.rules
+  pub counts : q.counts ≡ counts_after p.counts x
+  pub number : (v : LineVerdict) → x ≡ Ok (Some v) → q.reader.lines ≡ p.reader.lines + 1
+  pub end : x ≡ Ok None → q.reader.final_answer ≡ Some (Ok NoMore)
+  -- how its reader read the line, or what else that found
+  pub found : Result Next LineStop
+  pub reader : AdvancesLines state p.reader q.reader found
+  pub bounds : IsBounded q.reader
+  -- if the input was unread at the start: what was read by now is of no content that what was read before wasn't of
+  pub reading : IsReading state p.reader → IsReading state q.reader
+  pub before : IsReading state p.reader → (c : Content) → IsOf (state q.reader.input).reads c
+      → IsOf (state p.reader.input).reads c
   pub asked : AsksFor vector a b x
   pub reads : ReadsToEndIf (IsNotUnread x) a b
   -- the lines of standard input don't name it

@@ -1,24 +1,17 @@
 -- Relates what the code finds of a line to what the line says, to its verdict and to its report.
-use Rattle.std.specs.Prelude.{ℕ, ◌≡◌, ◌≤◌, Bool, [], Some, Result, Ok, Err, IfOk, length, if◌then◌else◌, bytes_eq, ⊤}
+use Rattle.std.specs.Prelude.{◌≡◌, ◌≤◌, Bool, Some, Result, Ok, Err, IfOk, length, if◌then◌else◌, bytes_eq}
 use Rattle.sum_sources.specs.declared.fault.Fault.TheVariants.{NotFound}
 use Rattle.sum_engine.specs.declared.check.judge.ListedEntry.{ListedEntry}
 use Rattle.sum_engine.specs.refinement.Names.{HashFault, NoRoom}
-use Rattle.sum_engine.specs.check.Rules.{Rules}
-use Rattle.sum_engine.specs.check.Judge.{Verdict, Right, Wrong, Missing, Unread, line_verdict, EntryValue, form_then, line_form, ParsedLine, ignored, bad, entry, parse_line}
-use Rattle.sum_engine.specs.check.Verdicts.{LineVerdict, VerdictResult, line_verdict_value, VerdictsValue, HasNameRange, counts_after}
-use Rattle.sum_engine.specs.Behavior.{ByteString, World}
+use Rattle.sum_engine.specs.check.Judge.{Verdict, Right, Wrong, Missing, Unread, EntryValue, form_then, line_form, ParsedLine, parse_line}
+use Rattle.sum_engine.specs.check.Verdicts.{LineVerdict, VerdictResult, VerdictsValue, HasNameRange, counts_after}
+use Rattle.sum_engine.specs.Behavior.{ByteString}
 use Rattle.sum_sources.specs.declared.line_reader.LineStop.TheVariants.{Memory}
 use Rattle.sum_engine.specs.declared.hash_name.HashFault.TheVariants as hashing
 
 -- the entry that a line spells
 abbrev pub listed_entry : ListedEntry → EntryValue
 listed_entry l = record { kind = l.kind; digest = l.digest.now; name = l.name.now }
-
--- the name in what a line says, or nothing
-abbrev pub name_in_line : ParsedLine → ByteString
-name_in_line ignored = []
-name_in_line bad = []
-name_in_line (entry s) = s.name
 
 -- the verdict, by what hashing the name gave
 abbrev pub verdict_of_hash : Bool → ByteString → Result (ByteString) HashFault → Result Verdict NoRoom
@@ -27,12 +20,6 @@ verdict_of_hash ignore d (Err (hashing.NotOpened NotFound)) = Ok (if ignore then
 verdict_of_hash ignore d (Err (hashing.NotOpened f)) = Ok (Unread f)
 verdict_of_hash ignore d (Err (hashing.NotRead f)) = Ok (Unread f)
 verdict_of_hash ignore d (Err hashing.Memory) = Err (record {})
-
--- a line that says this has this verdict, whatever its number
-abbrev pub Judges : Rules → World → ParsedLine → Result Verdict NoRoom → Type 0
-Judges r w x (Err e) = ⊤
-Judges r w x (Ok verdict) =
-    (n : ℕ) → line_verdict r w n x ≡ record { number = n; verdict = verdict; name = name_in_line x }
 
 -- what the line says that was read last
 abbrev pub parsed_at : {I : Type 0} → VerdictsValue I → ByteString → ParsedLine
@@ -44,21 +31,13 @@ abbrev pub found_verdict : Result LineVerdict NoRoom → VerdictResult
 found_verdict (Err e) = Err Memory
 found_verdict (Ok v) = Ok (Some v)
 
--- from a to b the line's form was taken over and its verdict was counted. The name is within the line's vector, which
--- didn't grow
+-- from a to b the line's form was taken over and its verdict was counted, and nothing else changed. The name is within
+-- the line's vector, which didn't grow
 pub record TakesLine {I : Type 0} (a b : VerdictsValue I) (line vector : ByteString) (x : Result LineVerdict NoRoom)
     : Type 0 where
-  pub form : b.form ≡ form_then a.form (line_form a.rules.algo line)
-  pub reader : b.reader ≡ a.reader
-  pub rules : b.rules ≡ a.rules
-  pub outcome : b.outcome ≡ a.outcome
-  pub counts : b.counts ≡ counts_after a.counts (found_verdict x)
+  pub now : b ≡ record a {
+    form = form_then a.form (line_form a.rules.algo line);
+    counts = counts_after a.counts (found_verdict x);
+  }
   pub name_range : IfOk x (HasNameRange vector)
   pub len : length vector ≤ length line
-
--- the last line that was read was judged
-abbrev pub JudgesLine : {I : Type 0} → VerdictsValue I → ByteString → ByteString → World → Result LineVerdict NoRoom
-    → Type 0
-JudgesLine p line vector w (Err e) = ⊤
-JudgesLine p line vector w (Ok found) =
-    line_verdict p.rules w p.reader.lines (parsed_at p line) ≡ line_verdict_value vector found

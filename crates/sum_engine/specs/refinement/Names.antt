@@ -1,5 +1,5 @@
 -- Relates opening, hashing and closing a name to the world.
-use Rattle.std.specs.Prelude.{◌≡◌, ◌+◌, Bool, true, false, [], ◌∷◌, codes, length, Option, None, Some, Result, Ok, Err, IfOk, ⊤}
+use Rattle.std.specs.Prelude.{◌≡◌, ◌≢◌, ◌+◌, Bool, true, false, [], ◌∷◌, codes, length, Option, None, Some, Result, Ok, Err, IfOk, ⊤, if◌then◌else◌, MatchBool}
 use Rattle.digest_kinds.specs.Kinds.{KindValue}
 pub use Rattle.sum_sources.specs.declared.fault.NoRoom.{NoRoom}
 use Rattle.sum_sources.specs.declared.sources.source.OpenFault.{OpenFault}
@@ -15,28 +15,17 @@ use Rattle.sum_engine.specs.declared.opened.Place.TheVariants.{Stdin, File}
 use Rattle.sum_engine.specs.declared.hash_name.HashFault.TheVariants as hashing
 use Rattle.sum_sources.specs.declared.sources.source.OpenFault.TheVariants as faults
 
--- standard input while it is taken
-abbrev pub taken_stdin : StdinState
-taken_stdin = record { told = Some empty_content; taken = true; reads = None }
-
--- this was given when standard input was taken: its own input the first time, and an empty one afterwards
-abbrev pub GivesBy : Bool → InputState → InputsState → InputsState → Type 0
-GivesBy false s a b = (a.stdin ≡ record { told = s.told; taken = false; reads = None })
-    × (b ≡ record a { stdin = taken_stdin })
-GivesBy true s a b = (s.told ≡ Some empty_content) × (a.stdin.reads ≡ None → a.stdin.told ≡ s.told) × (b ≡ a)
-
--- so it is by whether that was taken before; nothing was read of it
+-- standard input was taken, which gave this, unread: an empty input if it was taken before, and its own the first time
 pub record GivesStdin (s : InputState) (a b : InputsState) : Type 0 where
   pub reads : s.reads ≡ unread
-  pub given : GivesBy a.stdin.taken s a b
+  pub given : MatchBool a.stdin.taken
+      ((s.told ≡ Some empty_content) × (a.stdin.reads ≡ None → a.stdin.told ≡ s.told) × (b ≡ a))
+      ((a.stdin ≡ record { told = s.told; taken = false; reads = None })
+      × (b ≡ record a { stdin = record { told = Some empty_content; taken = true; reads = None } }))
 
 -- standard input once this was put back: the first time it is what was put back, and stays so
-abbrev pub stdin_by : Option Reads → StdinState → InputState → StdinState
-stdin_by None a t = record { told = t.told; taken = true; reads = Some t.reads }
-stdin_by (Some r) a t = a
-
 abbrev pub stdin_after : StdinState → InputState → StdinState
-stdin_after a t = stdin_by a.reads a t
+stdin_after a t = elim a.reads [ None ↦ record { told = t.told; taken = true; reads = Some t.reads } | Some r ↦ a ]
 
 -- the source was refused memory, and nothing else happened
 abbrev pub MemoryWasRefused : InputsState → InputsState → Type 0
@@ -61,16 +50,12 @@ pub opened_has_content : {I F : Type 0} (stdin : I → InputState) (file : F →
 opened_has_content stdin file has has_file (Stdin given) = closable_has_content stdin has given
 opened_has_content stdin file has has_file (File f) = has_file f
 
--- a name was opened, by whether it is `-`, and gave this
-abbrev pub OpensBy : Bool → ByteString → InputsState → InputsState → InputState → Type 0
-OpensBy true name a b s = GivesStdin s a b
-OpensBy false name a b s = (s ≡ opened_file a.source name) × (b ≡ record a { source = and_opening a.source name None })
-
 -- OPENING a name gives this, of which nothing was read
 pub record OpensName (name : ByteString) (a b : InputsState) (s : InputState) : Type 0 where
   pub named : s.name ≡ name
   pub reads : s.reads ≡ unread
-  pub opens : OpensBy (is_dash name) name a b s
+  pub opens : MatchBool (is_dash name) (GivesStdin s a b)
+      ((s ≡ opened_file a.source name) × (b ≡ record a { source = and_opening a.source name None }))
 
 -- or it fails: there is no such fault of standard input
 abbrev pub FailsToOpen : ByteString → InputsState → InputsState → OpenFault → Type 0
@@ -79,20 +64,13 @@ FailsToOpen name a b (faults.Fault f) =
 FailsToOpen name a b faults.Memory = MemoryWasRefused a b
 
 -- what has this state is still open
-abbrev pub IsOpenBy : Bool → InputsState → InputState → Type 0
-IsOpenBy true a t = a.stdin.taken ≡ true
-IsOpenBy false a t = IsOpen a.source t
-
 abbrev pub IsStillOpen : InputsState → InputState → Type 0
-IsStillOpen a t = IsOpenBy (is_dash t.name) a t
+IsStillOpen a t = MatchBool (is_dash t.name) (a.stdin.taken ≡ true) (IsOpen a.source t)
 
 -- CLOSING what has this state
-abbrev pub closed_by : Bool → InputsState → InputState → InputsState
-closed_by true a t = record a { stdin = stdin_after a.stdin t }
-closed_by false a t = record a { source = after_closing a.source t }
-
 abbrev pub after_closing_name : InputsState → InputState → InputsState
-after_closing_name a t = closed_by (is_dash t.name) a t
+after_closing_name a t = if is_dash t.name then record a { stdin = stdin_after a.stdin t }
+    else record a { source = after_closing a.source t }
 
 -- ---- hashing a name
 
@@ -108,11 +86,10 @@ fault_in hashing.Memory = Err (record {})
 
 -- what hashing an answer gives
 abbrev pub IsHashOf : KindValue → Answer → Result (ByteString) HashFault → Type 0
+IsHashOf kind x (Ok d) = digest_or_fault kind x ≡ Ok d
+IsHashOf kind x (Err (hashing.NotOpened f)) = x ≡ Err f
+IsHashOf kind x (Err (hashing.NotRead f)) = (digest_or_fault kind x ≡ Err f) × ((g : Fault) → x ≢ Err g)
 IsHashOf kind x (Err hashing.Memory) = ⊤
-IsHashOf kind (Ok c) (Ok d) = digest_or_fault kind (Ok c) ≡ Ok d
-IsHashOf kind (Ok c) (Err (hashing.NotRead f)) = digest_or_fault kind (Ok c) ≡ Err f
-IsHashOf kind (Err f) (Err (hashing.NotOpened g)) = f ≡ g
-IsHashOf kind x r = ⊥
 
 -- the name is asked, unless memory was refused
 abbrev pub AsksUnlessRefused : {A : Type 0} → ByteString → InputsState → InputsState → Result A HashFault → Type 0

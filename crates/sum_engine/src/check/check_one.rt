@@ -1,11 +1,11 @@
 //! Checking one manifest.
 ghost use Rattle.sum_engine.specs.Behavior.{is_dash};
 ghost use Rattle.sum_engine.specs.check.Checking.{check_behavior};
-ghost use Rattle.sum_engine.specs.Execution.{IsFlushed, FailuresMatch, IsOneMoreAtMost, RefusalsMatch, StopHasCause};
+ghost use Rattle.sum_engine.specs.Execution.{IsFlushed, FailuresMatch, RefusalsMatch, StopHasCause};
 ghost use Rattle.sum_engine.specs.Execution.{Performs, IsAtEndIf, ReadsToEndIf};
 ghost use Rattle.sum_sources.specs.Contents.{unread, IsSameInput};
 ghost use Rattle.sum_engine.specs.check.Verdicts.{IsAtStart};
-ghost use Rattle.std.specs.Prelude.{◌≡◌, true, None, Ok, codes, if◌then◌else◌};
+ghost use Rattle.std.specs.Prelude.{◌≡◌, true, [], ◌∷◌, None, Ok, codes, if◌then◌else◌};
 ghost use Rattle.sum_engine.specs.check.CheckerLaws.{ManifestPerforms};
 
 use crate::check::checker::Checker;
@@ -40,7 +40,7 @@ pub fn check_one<A: Allocator + Copy, J: Input + Drop, S: Source, O: Sink, E: Si
     // True only if the manifest and each file that was opened were read to their ends; and never further.
     ensures reads { ReadsToEndIf (result ≡ Ok true) streams.old.inputs streams.new.inputs }
     // A stop has its cause: at most one refusal more of the source, or one failure more of one output.
-    ensures refusals { RefusalsMatch IsOneMoreAtMost streams.old.inputs streams.new.inputs result }
+    ensures refusals { RefusalsMatch (0 ∷ 1 ∷ []) streams.old.inputs streams.new.inputs result }
     ensures failures { FailuresMatch streams.old.outputs streams.new.outputs result }
 {
     let input = match streams.inputs.open(name) {
@@ -79,7 +79,7 @@ fn run_to_end<'a, A: Allocator, I: Input, J: Input + Drop, S: Source, O: Sink, E
     requires outcome { checker.outcome ≡ None }
     ensures behavior { ManifestPerforms checker.entry.verdicts.rules checker.entry.labels
         (I.state checker.entry.verdicts.reader.input) (I.state result.1) streams.old streams.new result.0 }
-    ensures cause { StopHasCause IsOneMoreAtMost streams.old streams.new result.0 }
+    ensures cause { StopHasCause (0 ∷ 1 ∷ []) streams.old streams.new result.0 }
     ensures reads { ReadsToEndIf (result.0 ≡ Ok true) streams.old.inputs streams.new.inputs }
     ensures stdin { checker.entry.verdicts.rules.from_stdin ≡ true
         → streams.new.inputs.stdin ≡ streams.old.inputs.stdin }
@@ -103,7 +103,7 @@ fn check_lines<'a, A: Allocator, I: Input, J: Input + Drop, S: Source, O: Sink, 
     ensures behavior { ManifestPerforms checker.old.verdicts.rules checker.old.labels
         (I.state checker.old.verdicts.reader.input) (I.state checker.new.verdicts.reader.input) streams.old streams.new
         result }
-    ensures cause { StopHasCause IsOneMoreAtMost streams.old streams.new result }
+    ensures cause { StopHasCause (0 ∷ 1 ∷ []) streams.old streams.new result }
     ensures reads { ReadsToEndIf (result ≡ Ok true) streams.old.inputs streams.new.inputs }
     ensures stdin { checker.old.verdicts.rules.from_stdin ≡ true
         → streams.new.inputs.stdin ≡ streams.old.inputs.stdin }

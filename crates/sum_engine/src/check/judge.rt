@@ -1,8 +1,7 @@
 //! The verdict of a line.
 ghost use Rattle.std.specs.Prelude.{◌≡◌, true, false, IfOk, MatchResult, slice_range};
-ghost use Rattle.sum_engine.specs.check.Judge.{asks_by};
+ghost use Rattle.sum_engine.specs.check.Judge.{asks_of, judge};
 ghost use Rattle.sum_engine.specs.check.Reports.{is_unread};
-ghost use Rattle.sum_lines.specs.grammar.ParsedLines.{entry};
 ghost use Rattle.sum_engine.specs.refinement.Names.{MemoryWasRefused};
 ghost use Rattle.sum_engine.specs.check.Verdicts.{HasNameRange};
 
@@ -58,7 +57,6 @@ impl LineVerdict {
     }
 }
 
-ghost use Rattle.sum_engine.specs.refinement.Judging.{Judges};
 ghost use Rattle.sum_engine.specs.refinement.Judging.{listed_entry, verdict_of_hash};
 ghost use Rattle.sum_engine.specs.Behavior.{World};
 ghost use Rattle.sum_engine.specs.Execution.{Agrees, world_at, AsksNames, ReadsToEndIf};
@@ -78,8 +76,9 @@ pub(crate) fn judge<I: Input + Drop, S: Source>(
     inputs: &mut Inputs<I, S>,
 ) -> Result<Verdict, NoRoom>
     ensures verdict { (w : World) → Agrees w inputs.new
-        → Judges rules (world_at w inputs.old) (entry (listed_entry listed.now)) result }
-    ensures asked { MatchResult result (λ v. AsksNames inputs.old inputs.new (asks_by v listed.now.name.now))
+        → IfOk result (λ v. v ≡ judge rules (world_at w inputs.old) (listed_entry listed.now)) }
+    ensures asked { MatchResult result
+        (λ v. AsksNames inputs.old inputs.new (asks_of (record { number = 0; verdict = v; name = listed.now.name.now })))
         (λ _. MemoryWasRefused inputs.old inputs.new) }
     ensures stdin { rules.from_stdin ≡ true → inputs.new.stdin ≡ inputs.old.stdin }
     ensures reads { ReadsToEndIf (IfOk result (λ v. is_unread v ≡ false)) inputs.old inputs.new }

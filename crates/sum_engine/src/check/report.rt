@@ -3,7 +3,8 @@ ghost use Rattle.std.specs.Prelude.{◌≡◌, [], ◌∷◌};
 ghost use Rattle.std.specs.List.{concat};
 ghost use Rattle.sum_lines.specs.Escape.{present, escape, escape_differs};
 ghost use Rattle.sum_lines.specs.grammar.Shapes.{mark};
-ghost use Rattle.sum_engine.specs.check.Reports.{verdict_line, bad_line, err_by, out_by};
+ghost use Rattle.sum_engine.specs.check.Reports.{bad_line, err_by, out_by};
+ghost use Rattle.sum_engine.specs.declared.settings.Report.TheVariants.{All};
 ghost use Rattle.sum_engine.specs.refinement.FlushedWrites.{WritesAndFlushes, WritesAndFlushesBoth};
 
 use crate::check::judge::Verdict;
@@ -50,7 +51,7 @@ fn put_verdict<O: Sink>(
     verdict: Verdict,
     name: &[u8],
 ) -> Result<(), SinkFault>
-    ensures { WritesAndFlushes out.old out.new (verdict_line present verdict name.now) result }
+    ensures { WritesAndFlushes out.old out.new (out_by present All verdict name.now) result }
 {
     match verdict {
         Verdict::Ignored | Verdict::Bad | Verdict::Missing => Ok(()),

@@ -48,12 +48,12 @@ impl<I: Input> Verdicts<I> {
     ghost use Rattle.sum_sources.specs.declared.fault.Ending.TheVariants.{Whole};
     ghost use Rattle.sum_engine.specs.Behavior.{World};
     ghost use Rattle.sum_engine.specs.Execution.{Agrees, world_at, AsksNames, ReadsToEndIf};
-    ghost use Rattle.sum_engine.specs.check.Judge.{asks_of, present};
+    ghost use Rattle.sum_engine.specs.check.Judge.{asks_of, line_verdict, present};
     ghost use Rattle.sum_engine.specs.check.Reports.{good};
-    ghost use Rattle.sum_engine.specs.check.Verdicts.{AdvancesVerdicts, FindsVerdict, HasNameRange, IsAtStart};
+    ghost use Rattle.sum_engine.specs.check.Verdicts.{AdvancesVerdicts, HasNameRange, InEachCheck, IsAtStart, IsNextVerdict};
     ghost use Rattle.sum_engine.specs.check.Verdicts.{IsNotUnread, KeepsOutcome, is_whole, line_verdict_value};
     ghost use Rattle.sum_engine.specs.check.Verdicts.{outcome_in_next};
-    ghost use Rattle.sum_engine.specs.refinement.Judging.{JudgesLine, TakesLine, found_verdict};
+    ghost use Rattle.sum_engine.specs.refinement.Judging.{TakesLine, found_verdict, parsed_at};
     ghost use Rattle.sum_engine.specs.refinement.Names.{MemoryWasRefused};
 
     /// The verdicts of the manifest that `input` gives, before its first line. `from_stdin` says whether the manifest
@@ -130,8 +130,8 @@ impl<I: Input> Verdicts<I> {
         ensures outcome { KeepsOutcome outcome_in_next self.old.outcome self.new.outcome
             ((self.new ≡ self.old) × (inputs.new ≡ inputs.old)) result }
         // Of every content and in every world that agree with what was read: the first of the verdicts that remained.
-        ensures verdict { self.old.outcome ≡ None → FindsVerdict I.state line.new.items self.old self.new
-            inputs.old inputs.new result }
+        ensures verdict { self.old.outcome ≡ None → InEachCheck I.state self.old self.new inputs.old inputs.new
+            (λ a b. IsNextVerdict self.old.rules line.new.items a b result) }
         ensures name_range { IfOk result (λ found. IfSome found (λ v. HasNameRange line.new.items v)) }
         // What was asked, the lines counted, and the cause of a stop.
         ensures advances { self.old.outcome ≡ None → AdvancesVerdicts I.state line.new.items self.old self.new
@@ -170,8 +170,9 @@ impl<I: Input> Verdicts<I> {
         inputs: &mut Inputs<J, S>,
     ) -> Result<LineVerdict, NoRoom>
         requires few { total self.old.counts < self.old.reader.lines }
-        ensures verdict { (w : World) → Agrees w inputs.new
-            → JudgesLine self.old line.old.items line.new.items (world_at w inputs.old) result }
+        ensures verdict { (w : World) → Agrees w inputs.new → IfOk result (λ v. line_verdict_value line.new.items v
+            ≡ line_verdict self.old.rules (world_at w inputs.old) self.old.reader.lines
+            (parsed_at self.old line.old.items)) }
         ensures asked { MatchResult result
             (λ v. AsksNames inputs.old inputs.new (asks_of (line_verdict_value line.new.items v)))
             (λ _. MemoryWasRefused inputs.old inputs.new) }

@@ -5,8 +5,8 @@ use Rattle.digests.proofs.command.refuse.Goals as goal
 pub returns-clause-refusal : goal.returns-clause-refusal
 returns-clause-refusal g c = λ flushed.
     let wrote = c.put_err_message in (
-      c.status_after_write-outcome.result,
+      c.outcome_after-outcome.result,
       wrote.new.outputs,
-      writes_and_returns wrote.result c.status_after_write-outcome.ensures wrote.ensures,
+      writes_and_returns wrote.result c.outcome_after-outcome.ensures wrote.ensures,
       c.finish_run.ensures.finish (wrote.ensures.1 flushed).0,
     )

@@ -2,7 +2,7 @@ use Rattle.std.proofs.Common.{length, Ok}
 use Rattle.sum_engine.specs.Execution.{StopHasCause}
 use Rattle.sum_words.specs.Tools.{name_of}
 use Rattle.digests.specs.Meaning.{or_dash}
-use Rattle.digests.specs.refinement.Operands.{JobAllowsRefusals, operand_behavior}
+use Rattle.digests.specs.refinement.Operands.{job_refusals, operand_behavior}
 use Rattle.digests.proofs.OperandLemmas.{HasReached, left}
 use Rattle.digests.proofs.run.run_operands.Given as goal
 
@@ -12,7 +12,7 @@ abbrev pub invariant-operands : goal.invariant-operands
 invariant-operands g l = record {
   reached : HasReached (operand_behavior l.job (name_of l.tool)) (or_dash l.fn.operands)
       (left l.next l.operands) l.fn.streams l.streams l.good;
-  so_far : StopHasCause (JobAllowsRefusals l.job) l.fn.streams l.streams (Ok l.good);
+  so_far : StopHasCause (job_refusals l.job) l.fn.streams l.streams (Ok l.good);
 }
 
 -- one operand less is left

@@ -4,7 +4,7 @@ use Rattle.sum_engine.specs.Behavior.{answer_to, digest_or_fault}
 use Rattle.sum_engine.specs.Generation.{generate_behavior}
 use Rattle.sum_engine.proofs.BehaviorLemmas.{Performs-refused}
 use Rattle.sum_engine.proofs.FlushedWriteLemmas.{writes_and_returns}
-use Rattle.sum_engine.proofs.GenerateLemmas.{asked_or_refused, digest_found, fault_found, generate-performed, never_good, one_step, refused_memory}
+use Rattle.sum_engine.proofs.GenerateLemmas.{asked_or_refused, fault_found, generate-performed, never_good, one_step, refused_memory}
 use Rattle.sum_engine.proofs.WorldLemmas.{reads_weaker}
 use Rattle.sum_engine.proofs.generate.generate_one.Goals as goal
 
@@ -15,7 +15,7 @@ returns-in-Ok-clause-behavior g c =
     let done = c.in-Ok.ensures in
     generate-performed settings _ c.args.name.now _ c.args.streams.now
     (record { inputs = c.hash_name.new.inputs; outputs = _ }) (Ok _)
-    (λ w agrees. digest_found settings.kind _ _ (done.hash w agrees)) done.asked refl
+    (λ w agrees. done.hash w agrees) done.asked refl
     (writes_and_returns c.put_line_flushed-written.result c.outcome_after.ensures c.put_line_flushed-written.ensures)
 
 pub returns-in-Ok-clause-reads : goal.returns-in-Ok-clause-reads

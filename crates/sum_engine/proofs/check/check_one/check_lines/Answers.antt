@@ -1,5 +1,6 @@
 use Rattle.std.proofs.Common.{◌≡◌, Ok, Err, ap, ◌∙◌, rules, true}
-use Rattle.sum_engine.proofs.CheckLinesLemmas.{HasComeTo-none, HasComeTo-more, HasComeTo-last, manifest_read, good_end, none_unread, fewer_lines}
+use Rattle.sum_engine.proofs.CheckLinesLemmas.{HasComeTo-none, HasComeTo-more, HasComeTo-last, manifest_read, good_end, none_unread, fewer_lines, step_cause}
+use Rattle.sum_engine.proofs.ExecutionLemmas.{stop_after}
 use Rattle.sum_engine.proofs.WorldLemmas.{reads_none, reads_then}
 use Rattle.sum_engine.proofs.check.check_one.check_lines.Goals as goal
 
@@ -13,6 +14,10 @@ returns-in-Err-clause-behavior g c =
     let so_far = c.lines.invariant in
     HasComeTo-last _ _ _ _ c.step.new.self _ c.step.new.streams c.step.new.line.items (Err c.in-Err.stop)
     c.requires.start so_far.along (c.in-Err.ensures.advances so_far.going) (c.in-Err.ensures.step so_far.going)
+
+pub returns-in-Err-clause-cause : goal.returns-in-Err-clause-cause
+returns-in-Err-clause-cause g c = let so_far = c.lines.invariant in
+    stop_after c.in-Err.stop so_far.so_far (step_cause (c.in-Err.ensures.advances so_far.going))
 
 pub returns-in-Err-clause-reads : goal.returns-in-Err-clause-reads
 returns-in-Err-clause-reads g c =
@@ -35,6 +40,11 @@ returns-in-Ok-Ended-clause-behavior g c =
     c.requires.start so_far.along (rw c.in-Ok-Ended.field-0-is at (done.advances so_far.going))
     (rw c.in-Ok-Ended.field-0-is at (done.step so_far.going))
 
+pub returns-in-Ok-Ended-clause-cause : goal.returns-in-Ok-Ended-clause-cause
+returns-in-Ok-Ended-clause-cause g c = let so_far = c.lines.invariant in
+    let cause = step_cause (rw c.in-Ok-Ended.field-0-is at (c.in-Ok-Ended.ensures.advances so_far.going)) in
+    search rules
+
 -- a good manifest has no file that could not be read
 pub returns-in-Ok-Ended-clause-reads : goal.returns-in-Ok-Ended-clause-reads
 returns-in-Ok-Ended-clause-reads g c =
@@ -43,7 +53,7 @@ returns-in-Ok-Ended-clause-reads g c =
     reads_then (λ all.
     let good : c.in-Ok-Ended.good ≡ true = search rules in
     let none = good_end (rw good at advances) in
-    none_unread c.lines.checker.verdicts c.step.new.self.verdicts advances.found advances.verdict.moves.counts none)
+    none_unread c.lines.checker.verdicts c.step.new.self.verdicts advances.found advances.verdict.counts none)
     so_far.reads advances.verdict.reads
 
 pub returns-in-Ok-Ended-clause-manifest : goal.returns-in-Ok-Ended-clause-manifest
@@ -60,13 +70,14 @@ lines-preserved g c =
     let so_far = c.lines.invariant in
     let done = c.in-Ok-Going.ensures in
     let advances = rw c.in-Ok-Going.field-0-is at (done.advances so_far.going) in
+    let cause = step_cause advances in
     record {
       along = HasComeTo-more _ _ _ _ c.step.new.self _ c.step.new.streams c.step.new.line.items so_far.along
           advances done.flushed (rw c.in-Ok-Going.field-0-is at (done.step so_far.going));
       going = rw c.in-Ok-Going.field-0-is at done.outcome.kept;
       so_far = search rules;
       reads = reads_then (none_unread c.lines.checker.verdicts c.step.new.self.verdicts advances.found
-          advances.verdict.moves.counts) so_far.reads advances.verdict.reads;
+          advances.verdict.counts) so_far.reads advances.verdict.reads;
       same = search rules;
       stdin = λ from.
           advances.verdict.stdin (ap (λ r. r.from_stdin) so_far.along.rules ∙ from) ∙ so_far.stdin from;

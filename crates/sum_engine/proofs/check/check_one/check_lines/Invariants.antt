@@ -1,6 +1,6 @@
-use Rattle.std.proofs.Common.{◌≡◌, ◌^◌, ◌-◌, Bool, true, Ok, None}
+use Rattle.std.proofs.Common.{◌≡◌, ◌^◌, ◌-◌, Bool, true, Ok, None, [], ◌∷◌}
 use Rattle.sum_sources.specs.Contents.{IsSameInput}
-use Rattle.sum_engine.specs.Execution.{IsOneMoreAtMost, StopHasCause, ReadsToEndIf}
+use Rattle.sum_engine.specs.Execution.{StopHasCause, ReadsToEndIf}
 use Rattle.sum_engine.proofs.CheckLinesLemmas.{HasComeTo}
 use Rattle.sum_engine.proofs.check.check_one.check_lines.Given as goal
 
@@ -11,7 +11,7 @@ invariant-lines g l =
     record {
       along : HasComeTo input l.fn.checker streams l.checker l.streams;
       going : l.checker.outcome ≡ None;
-      so_far : StopHasCause {A = Bool} IsOneMoreAtMost streams l.streams (Ok true);
+      so_far : StopHasCause {A = Bool} (0 ∷ 1 ∷ []) streams l.streams (Ok true);
       reads : ReadsToEndIf (l.checker.verdicts.counts.unread ≡ 0) streams.inputs l.streams.inputs;
       same : IsSameInput (input l.fn.checker.verdicts.reader.input) (input l.checker.verdicts.reader.input);
       stdin : l.fn.checker.verdicts.rules.from_stdin ≡ true → l.streams.inputs.stdin ≡ streams.inputs.stdin;

@@ -46,6 +46,6 @@ returns-in-Ignored g c =
     let is : c.args.found ≡ Ok (Some c.in-Ok-Some.found) = search rules in
     rw (is, c.in-Ignored.is, none_out) (record {
       written = Ok tt;
-      writes = ((refl, refl), λ flushed. (flushed, (Gets-none, Gets-none)));
+      writes = (refl, λ flushed. (flushed, (Gets-none, Gets-none)));
       returns = refl;
     })

@@ -3,7 +3,6 @@ use Rattle.sum_lines.specs.grammar.Entries.{EntryValue}
 use Rattle.sum_lines.specs.grammar.ParsedLines.{entry}
 use Rattle.sum_engine.specs.refinement.Judging.{parsed_at}
 use Rattle.sum_engine.specs.Execution.{world_at}
-use Rattle.sum_engine.proofs.NextVerdictLemmas.{judged-line}
 use Rattle.sum_engine.proofs.check.verdicts.Verdicts.judge_line.Goals as goal
 
 -- an entry was judged
@@ -19,7 +18,5 @@ returns-in_ok-verdict-in-Entry-clause-verdict g c =
     let said : parsed_at old line ≡ entry s = rw (← c.self.view_is, ← c.self-inside.view_is)
     (sym (rw (listed.is, read.form) at read.parsed)) in
     let judged = rw c.deref.ensures.value at c.in_ok-verdict-in-Entry.ensures.verdict in
-    rw c.count_verdict-in-Entry.ensures.is (λ w agrees.
-    judged-line old line (entry s) _ vector (world_at w c.args.inputs.now) _ _ _ said
-    (rw (← c.self.view_is, ← c.self-inside.view_is) (judged w agrees)) refl
+    rw c.count_verdict-in-Entry.ensures.is (λ w agrees. rw (said, judged w agrees)
     (rw (← c.self.view_is, ← c.self-inside.view_is) refl))
