@@ -1,5 +1,5 @@
 -- A run and its end, joined: what the whole program does.
-use Rattle.std.proofs.Common.{rules, arith, ◌≡◌, ℕ, List, [], Option, None, Result, Ok, Err, false, sym, refl, ◌∙◌, append-nil}
+use Rattle.std.proofs.Common.{rules, arith, ℕ, List, [], Option, None, Result, Ok, Err, false, sym, refl, ◌∙◌, append-nil}
 use Rattle.sum_words.specs.Texts.{Stop}
 use Rattle.sum_lines.proofs.EventLemmas.{Gets-then}
 use Rattle.sum_engine.specs.Behavior.{World, Event, Behavior, trace, single_step, ByteString}

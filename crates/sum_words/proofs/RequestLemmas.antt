@@ -1,9 +1,10 @@
 -- The options read so far, and the number of a length value.
-use Rattle.std.proofs.Common.{rules, ◌≡◌, ◌≢◌, ℕ, zero, suc, get_or, ◌<◌, true, List, [], ◌∷◌, Result, arith, IsUtf8}
+use Rattle.std.proofs.Common.{rules, ◌≡◌, ◌≢◌, ℕ, true, List, ◌∷◌, Result, arith, IsUtf8}
 use Rattle.std.proofs.lemmas.Grind.{common_steps}
 use Rattle.std.specs.Result.{result_ok}
 use Rattle.std.specs.Str.{all_ascii_digits}
 use Rattle.std.specs.Str.Parse.{ParsesUnsigned}
+use Rattle.std.proofs.lemmas.Fmt.{IsAscii-from_digits}
 use Rattle.std.proofs.lemmas.Str.{IsUtf8-from_ascii}
 use Rattle.std.proofs.lemmas.Str.Parse.{numerals_by_value, tells_all_ascii_digits, parse_digits}
 use Rattle.sum_words.specs.Items.{Flag, ByteString, ItemValue, option}
@@ -17,13 +18,9 @@ pub no_early_request : (flag : Flag) (rest : List ItemValue) → flag ≢ flags.
 no_early_request = search rules
 
 -- digits are a text
-digits_ascii : (value : ByteString) → all_ascii_digits value ≡ true → (i : ℕ) → get_or value i 0 < 128
-digits_ascii [] digits i = omega arith
-digits_ascii (b ∷ bs) digits zero = omega (arith, (tells_all_ascii_digits.parts b bs digits).0)
-digits_ascii (b ∷ bs) digits (suc i) = digits_ascii bs (tells_all_ascii_digits.parts b bs digits).1 i
-
 pub digits_text : (value : ByteString) → all_ascii_digits value ≡ true → IsUtf8 value
-digits_text value digits = IsUtf8-from_ascii value (digits_ascii value digits)
+digits_text value digits =
+    IsUtf8-from_ascii value (IsAscii-from_digits value ((numerals_by_value _ tells_all_ascii_digits).to value digits))
 
 -- parsing digits returns their number, or it is too large
 pub number_parsed : {E : Type 0} (value : ByteString) (r : Result ℕ E) → ParsesUnsigned 64 10 value r

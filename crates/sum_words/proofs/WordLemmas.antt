@@ -29,13 +29,10 @@ pub nonempty_after_dash : (word rest : List ℕ) → is_option_word word ≡ tru
 nonempty_after_dash = search rules
 
 -- what isn't UTF-8 is no "--"
-dashes_text : IsUtf8 (codes "--")
-unfolding chars encode is_utf8
-dashes_text = IsUtf8-from_is_utf8 (codes "--") refl
-
 no_dashes : (word : List ℕ) → (IsUtf8 word → ⊥) → bytes_eq word (codes "--") ≡ false
-no_dashes word none =
-    false_from_ne_true _ (λ same. none (rw ((bytes_eq-Decides word (codes "--")).0 same) dashes_text))
+unfolding chars encode is_utf8
+no_dashes word none = false_from_ne_true _ (λ same.
+    none (rw ((bytes_eq-Decides word (codes "--")).0 same) (IsUtf8-from_is_utf8 (codes "--") refl)))
 
 -- such a word is a fault, and the last item
 pub no_text : (t : Tool) (word : List ℕ) (words : List (List ℕ)) → is_option_word word ≡ true → (IsUtf8 word → ⊥)

@@ -83,13 +83,26 @@ impl<'a> Iterator for Items<'a> {
     ghost remaining = { item_count (λ items. items) };
 
     fn next(&mut self) -> Option<Item<'a>> {
-        let step = match self.state {
-            ParserState::Done => return None,
-            ParserState::OnlyOperands => ParserStep::OnlyOperands,
-            ParserState::Cluster(letter, rest) => letter_step(self.tool, letter, rest),
-            ParserState::Word => word_step(self.tool, self.words.next()?),
-        };
+        let step = next_step(self.tool, &mut self.words, self.state)?;
         apply_step(self.tool, &mut self.words, &mut self.state, step)
+    }
+}
+
+// The step of what is read next. `None` if no item remains.
+fn next_step<'a>(
+    tool: Tool,
+    words: &mut WordsIter<'a>,
+    state: ParserState<'a>,
+) -> Option<ParserStep<'a>>
+    ensures { MatchOption result ((remaining_items tool state.entry words.old ≡ [])
+        × (remaining_items tool state.entry words.new ≡ []))
+        (λ step. step_items tool step words.new ≡ remaining_items tool state.entry words.old) }
+{
+    match state {
+        ParserState::Done => None,
+        ParserState::OnlyOperands => Some(ParserStep::OnlyOperands),
+        ParserState::Cluster(letter, rest) => Some(letter_step(tool, letter, rest)),
+        ParserState::Word => Some(word_step(tool, words.next()?)),
     }
 }
 
