@@ -122,6 +122,9 @@ pub record HasLeft (a b : BufferState) (text rest : List ℕ) : Type 0 where
 pub HasLeft-all : {a : BufferState} {text : List ℕ} → HasLeft a a text text
 HasLeft-all = record { prefix = []; cut = refl; wrote = Accepts-nil }
 
+-- that is how a loop begins
+pub ruleset at_first = (HasLeft-all)
+
 -- a piece of the rest was accepted
 pub HasLeft-step : {a b c : BufferState} {text rest more : List ℕ} (piece : List ℕ) → HasLeft a b text rest
     → rest ≡ piece ++ more → Accepts b c piece → HasLeft a c text more
