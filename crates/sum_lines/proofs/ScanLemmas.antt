@@ -8,11 +8,11 @@ use Rattle.std.specs.List.{position_or_len}
 use Rattle.std.proofs.lemmas.List.{drop_at, get_or-take, length-take}
 use Rattle.std.proofs.lemmas.List.Sums.{passes_at_first, position_or_len_is}
 use Rattle.std.proofs.lemmas.List.Elements.{All-get_or}
-use Rattle.memchr.specs.Find.{Nowhere, Passes, IsLastByte, is_byte, IsFirstByte, is_byte2}
+use Rattle.memchr.specs.Find.{IsFirstByte, is_byte2}
 use Rattle.hex.specs.Hex.{decode_of, is_hex_digit}
 use Rattle.hex.proofs.HexLemmas.{decode_of-ok}
 use Rattle.digest_kinds.specs.Bytes.{after_while}
-use Rattle.digest_kinds.specs.Kinds.{KindValue, tag, IsDigits, BeginsWithTag, full_len, has_len}
+use Rattle.digest_kinds.specs.Kinds.{KindValue, tag, IsDigits, full_len, has_len}
 use Rattle.sum_lines.specs.grammar.Shapes.{Algo, One, is_blank, Algos}
 use Rattle.sum_lines.specs.grammar.LineParts.{strip_prefix, tag_in, tagged_parts, plain_parts}
 use Rattle.digest_kinds.specs.KindTexts.{kind_and_rest}

@@ -153,7 +153,7 @@ tagged_is_read {algos} p t =
     let last = All-append IsNot41 t.before (61 ∷ value) (free is_blank t.before refl t.before_blanks)
     (All-cons IsNot41 61 value (λ e. cc) value_free) in
     let named : tag_in algos (tag p.kind.algo ++ (t.width ++ opening t.gap (inner_of t))) ≡ Some p.kind.algo =
-        let allowed = t.allowed in grind (arith, starts-append, find-begins) in
+    let allowed = t.allowed in grind (arith, starts-append, find-begins) in
     rw (
       tagged-prefix t,
       named,
