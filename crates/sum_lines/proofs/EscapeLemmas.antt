@@ -159,10 +159,6 @@ pub cut_after : {line d : List ℕ} (len from n : ℕ) (part post more : List �
     → take (from + n) (take len (take from d ++ (part ++ post) ++ more)) ≡ take from line ++ take n part
 cut_after len from n part post more e fits low le = grind (arith, common_steps, length-take-le, take-append-add)
 
--- the rest of a list from a place on
-pub whole_after : (line d : List ℕ) (from : ℕ) → d ≡ line → take (length d - from) (drop from d) ≡ drop from line
-whole_after line d from e = grind (arith, common_steps)
-
 -- a range of a vector that was cut at the range's end
 pub part_of : (xs : List ℕ) (i j : ℕ) → i ≤ j → drop i (take j xs) ≡ slice_range xs i j
 part_of xs i j le = let whole = drop-take i (j - i) xs in grind arith

@@ -84,11 +84,6 @@ Gets-then {a} {b} {c} {p} {q} h k = record {
   written = let first = h.written in let then = k.written in grind (arith, append_assoc, filter_map-append);
 }
 
--- a prefix of some events is one of what begins with them
-pub GetsPrefix-more : {a b : SinkState} {p : List OutputEvent} (q : List OutputEvent) → GetsPrefix a b p
-    → GetsPrefix a b (p ++ q)
-GetsPrefix-more q h = (h.0, h.1 ++ q, ap (λ l. l ++ q) h.2 ∙ append_assoc h.0 h.1 q, h.3)
-
 -- after some events, a prefix of others
 pub GetsPrefix-then : {a b c : SinkState} {p q : List OutputEvent} → Gets a b p → GetsPrefix b c q
     → GetsPrefix a c (p ++ q)

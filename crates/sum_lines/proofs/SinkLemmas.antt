@@ -4,7 +4,7 @@ use Rattle.std.specs.Result.{IsErr}
 use Rattle.sum_lines.specs.Sinks.{SinkState, GivesAll, output_events, Gets}
 use Rattle.sum_lines.specs.Buffers.{BufferState, Accepts, FailsToWrite, WritesAll}
 use Rattle.sum_lines.specs.refinement.SinkStates.{MakesRoom}
-use Rattle.sum_lines.proofs.EventLemmas.{output_events-append, Gets-none, Gets-then, GetsPrefix-more, GetsPrefix-then}
+use Rattle.sum_lines.proofs.EventLemmas.{output_events-append, Gets-none, Gets-then, GetsPrefix-then}
 
 -- ---- two texts, one after the other
 
@@ -161,5 +161,7 @@ given_after {b = b} c text (Err e) h given = rw (h.cut, output_events-append h.g
 -- a write of a text failed, so not all was given
 pub not_given : {a b : BufferState} {text : List ℕ} → FailsToWrite a b text
     → GivesAll {E = Unit {0}} a.sink b.sink (a.buffered ++ text) (Err tt)
-not_given h = rw (h.cut, output_events-append h.given h.rest h.full)
-    (GetsPrefix-more (output_events h.rest) h.gives.0, h.gives.1)
+not_given h =
+    let (prefix, rest, is, gets) = h.gives.0 in
+    rw (h.cut, output_events-append h.given h.rest h.full, is)
+    ((prefix, rest ++ output_events h.rest, append_assoc prefix rest (output_events h.rest), gets), h.gives.1)
