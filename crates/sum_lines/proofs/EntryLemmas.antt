@@ -34,7 +34,8 @@ entry-not_ignored p e = elim e.shape [
 ]
 
 -- an ignored line is not plain, and has no form
-pub ignored_undecided : (algos : Algos) (line : List ℕ) → is_ignored present line ≡ true → line_form algos line ≡ Undecided
+pub ignored_undecided : (algos : Algos) (line : List ℕ) → is_ignored present line ≡ true
+    → line_form algos line ≡ Undecided
 ignored_undecided algos line ignored = rw (← none_of (plain_parts algos line) (λ p h.
     let wrong = sym ignored ∙ plain-not_ignored present (read_is_plain h) in cc)) refl
 

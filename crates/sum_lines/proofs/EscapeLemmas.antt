@@ -106,7 +106,8 @@ all-of xs h = grind (arith, list_all-from_AllPass)
 
 -- so parts whose raw name spells a name spell an entry, and only such parts do
 pub spelled-is : (p : Profile) (t : LinePartsValue) (n : List ℕ) → All (λ b. 0 < b) n
-    → t.text ≡ cond t.escaped (escape_by p n) n → entry_of_parts p t ≡ Some (record { kind = t.kind; digest = t.digest; name = n })
+    → t.text ≡ cond t.escaped (escape_by p n) n
+    → entry_of_parts p t ≡ Some (record { kind = t.kind; digest = t.digest; name = n })
 spelled-is p t n no_nul is = grind (arith, unescape-escape, all-of)
 
 -- only such parts

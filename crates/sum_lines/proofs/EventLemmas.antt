@@ -19,7 +19,8 @@ first_chunks-append n (suc k) j xs ys size =
     let one : suc k * n ≡ k * n + n = grind arith in
     let next : suc k + j ≡ suc (k + j) = omega arith in
     let le : n ≤ length xs = omega arith in
-    rw (next, take-append-le n xs ys le, drop-append-le n xs ys le, first_chunks-append n k j (drop n xs) ys (omega (arith, length-drop n xs))) refl
+    let more = first_chunks-append n k j (drop n xs) ys (omega (arith, length-drop n xs)) in
+    rw (next, take-append-le n xs ys le, drop-append-le n xs ys le, more) refl
 
 pieces-append : (xs ys : List ℕ) → length xs % 8192 ≡ 0 → pieces (xs ++ ys) ≡ pieces xs ++ pieces ys
 pieces-append xs ys full =
@@ -62,7 +63,8 @@ output_events-bytes text =
 pub output_events-append : (xs ys : List ℕ) → length xs % 8192 ≡ 0
     → output_events (xs ++ ys) ≡ output_events xs ++ output_events ys
 output_events-append xs ys full =
-    rw (pieces-append xs ys full) (flat_map-append (λ piece. offer_piece piece ∷ byte_events piece) (pieces xs) (pieces ys))
+    rw (pieces-append xs ys full)
+    (flat_map-append (λ piece. offer_piece piece ∷ byte_events piece) (pieces xs) (pieces ys))
 
 -- ---- what happened
 

@@ -95,8 +95,8 @@ unfolding plain_parts
 plain_is_read p t =
     let digits = plain-digits t in
     let no_blanks : AllPass (λ x. not (is_blank x)) t.digits =
-    All-weaker (λ b. is_hex_digit b ≡ true) (λ x. not (is_blank x) ≡ true) (λ x hex. ap not (hex-no_blank x hex)) t.digits
-    digits.are in
+    All-weaker (λ b. is_hex_digit b ≡ true) (λ x. not (is_blank x) ≡ true)
+    (λ x hex. ap not (hex-no_blank x hex)) t.digits digits.are in
     let cut = first-at t.digits t.blank p.text no_blanks t.is_one_blank in
     rw (t.one, plain-prefix t) (grind arith)
 

@@ -59,10 +59,15 @@ last_byte c s (suc n) = step (get_or s n 0 == c) refl (rfind_below c s n) (last_
   where
     step : (t : Bool) → (get_or s n 0 == c) ≡ t → (r : Option ℕ) → IsLast (Passes (is_byte c) s) 0 n r
         → IsLast (Passes (is_byte c) s) 0 (suc n) (cond t (Some n) r)
-    step true is r h = (record { low = omega arith; high = omega arith; after = λ k low high. absurd (omega arith) }, is)
+    step true is r h =
+        (record { low = omega arith; high = omega arith; after = λ k low high. absurd (omega arith) }, is)
     step false is None h = rw (← add-one n) (Nowhere-more h (λ pass. cc))
     step false is (Some k) h = (
-      record { low = omega arith; high = omega (arith, h.0.high); after = rw (← add-one n) (Nowhere-more h.0.after (λ pass. cc)) },
+      record {
+        low = omega arith;
+        high = omega (arith, h.0.high);
+        after = rw (← add-one n) (Nowhere-more h.0.after (λ pass. cc));
+      },
       h.1,
     )
 

@@ -84,12 +84,12 @@ pub tail-place : {line tail : List ℕ} → EndsIn line tail
 tail-place ends = grind (arith, common_steps)
 
 -- what was read step by step after the tag; no step looks which algorithm it is
-module _ {w : KindValue × List ℕ} {inner digits : List ℕ} {name : List ℕ × List ℕ} (a : Algo) (line : List ℕ)
-    (found : tag_in (One a) (text line).1 ≡ Some a)
-    (width : Some w ≡ kind_and_rest a (drop (length (tag a)) (text line).1))
+module _ {w : KindValue × List ℕ} {s inner after digits : List ℕ} {name : List ℕ × List ℕ} (a : Algo) (line : List ℕ)
+    (found : tag_in (One a) (text line).1 ≡ Some a) (text_is : s ≡ (text line).1)
+    (width : Some w ≡ kind_and_rest a (drop (length (tag a)) s))
     (opened : Some inner ≡ option_or (strip_prefix (32 ∷ 40 ∷ []) w.1) (strip_prefix (40 ∷ []) w.1))
-    (split : Some name ≡ rsplit_once 41 inner)
-    (sign : Some digits ≡ strip_prefix (61 ∷ []) (after_while is_blank name.1)) where
+    (split : Some name ≡ rsplit_once 41 inner) (after_is : after ≡ after_while is_blank name.1)
+    (sign : Some digits ≡ strip_prefix (61 ∷ []) after) where
   -- is read as the line's parts
   pub tagged-read : {d : List ℕ} → decode_of (after_while is_blank digits) ≡ Ok d → length d ≡ w.0.len
       → 0 < length name.0
