@@ -59,13 +59,7 @@ front-ends {line} {f = f} front is = (take f.start line, grind (arith, common_st
 pub ends-after : {line s : List ℕ} (xs rest : List ℕ) → EndsIn line s → s ≡ xs ++ rest → EndsIn line rest
 ends-after xs rest ends is = (ends.0 ++ xs, grind (arith, append_assoc))
 
--- bytes that the end of the line begins with have their place in it
-place : {line s : List ℕ} (raw rest : List ℕ) → EndsIn line s → s ≡ raw ++ rest
-    → (length s ≤ length line) × (length line - length s + length raw ≤ length line)
-    × (slice_range line (length line - length s) (length line - length s + length raw) ≡ raw)
-place raw rest ends is = grind (arith, common_steps)
-
--- so has the name after the parenthesis
+-- the name after the parenthesis has its place in the line
 pub name_place : {line s inner : List ℕ} {name : List ℕ × List ℕ} (a : Algo) (w : KindValue × List ℕ) → EndsIn line s
     → Some w ≡ kind_and_rest a (drop (length (tag a)) s)
     → Some inner ≡ option_or (strip_prefix (32 ∷ 40 ∷ []) w.1) (strip_prefix (40 ∷ []) w.1)
@@ -76,7 +70,9 @@ name_place {s = s} {inner = inner} {name = name} a w ends wide opened split =
     let width = kind_and_rest-some a (drop (length (tag a)) s) w (sym wide) in
     let gap = opened-some w.1 inner (sym opened) in
     let front = take (length (tag a)) s ++ (width.width ++ opening gap.0 []) in
-    place name.0 _ (ends-after front inner ends (grind (arith, common_steps))) (rsplit-some 41 inner name (sym split))
+    let after = ends-after front inner ends (grind (arith, common_steps)) in
+    let is = rsplit-some 41 inner name (sym split) in
+    grind (arith, common_steps)
 
 -- the end has its place in the line
 pub tail-place : {line tail : List ℕ} → EndsIn line tail

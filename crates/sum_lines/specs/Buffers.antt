@@ -1,5 +1,5 @@
 -- A buffer over a sink, and what a call that writes a text to it does.
-use Rattle.std.specs.Prelude.{◌≡◌, ◌<◌, ◌≤◌, ◌+◌, ◌%◌, [], ◌++◌, length, ⊤, Result, Ok, Err}
+use Rattle.std.specs.Prelude.{◌≡◌, ◌<◌, ◌≤◌, ◌%◌, [], ◌++◌, length, ⊤, Result, Ok, Err}
 use Rattle.sum_lines.specs.Sinks.{ByteString, SinkState, GivesAll}
 
 -- a buffer's state: that of the sink below it, and the bytes that are buffered
