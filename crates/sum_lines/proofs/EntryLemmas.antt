@@ -1,10 +1,10 @@
 -- The one form of a list of lines, and what later lines change of it: neither how a line parses nor the form after a
 -- plain line.
 use Rattle.std.proofs.lemmas.Grind.{common_steps}
-use Rattle.std.proofs.Common.{ℕ, ◌≡◌, Bool, true, false, List, [], ◌∷◌, ◌++◌, Option, None, Some, refl, sym, ◌∙◌, ◌⊎◌, inl, inr, arith}
+use Rattle.std.proofs.Common.{ℕ, ◌≡◌, Bool, true, false, List, [], ◌∷◌, ◌++◌, Option, None, Some, refl, sym, ◌∙◌, inl, inr, arith}
 use Rattle.std.specs.List.{AllPass}
 use Rattle.digest_kinds.specs.Kinds.{KindValue}
-use Rattle.sum_lines.specs.grammar.Shapes.{Algos, is_blank, mark, IsPlain, IsTagged}
+use Rattle.sum_lines.specs.grammar.Shapes.{Algos, is_blank, mark, IsPlain}
 use Rattle.sum_lines.specs.grammar.Entries.{Form, Undecided, EntryValue, is_ignored, IsForm, IsEntry, form_then, line_form, form}
 use Rattle.sum_lines.specs.Escape.{Profile, present}
 use Rattle.sum_lines.specs.grammar.LineParts.{LinePartsValue, plain_parts}
@@ -34,7 +34,8 @@ entry-not_ignored p e = elim e.shape [
 ]
 
 -- an ignored line is not plain, and has no form
-pub ignored_undecided : (algos : Algos) (line : List ℕ) → is_ignored present line ≡ true → line_form algos line ≡ Undecided
+pub ignored_undecided : (algos : Algos) (line : List ℕ) → is_ignored present line ≡ true
+    → line_form algos line ≡ Undecided
 ignored_undecided algos line ignored = rw (← none_of (plain_parts algos line) (λ p h.
     let wrong = sym ignored ∙ plain-not_ignored present (read_is_plain h) in cc)) refl
 

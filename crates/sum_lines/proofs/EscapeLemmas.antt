@@ -45,15 +45,12 @@ escape-split xs k lt none =
     let split = ap escape cut ∙ flat_map-append (escape_of present) (take k xs) (get_or xs k 0 ∷ drop (k + 1) xs) in
     rw (escape-plain xs k (omega arith) none) at split
 
--- without a special byte a name is its own escape
-escape-none : (xs : List ℕ) → IsFirstByte (is_byte3 92 10 13) xs None → escape xs ≡ xs
-escape-none xs none = rw (take-length xs) at (escape-plain xs (length xs) (omega arith) none)
-
 -- what a search for the first special byte says
 pub escape_cut : (xs : List ℕ) (r : Option ℕ) → IsFirstByte (is_byte3 92 10 13) xs r
     → MatchOption r (escape xs ≡ xs)
     (λ k. escape xs ≡ take k xs ++ (escape_of present (get_or xs k 0) ++ escape (drop (k + 1) xs)))
-escape_cut xs r none = grind (arith, escape-none, escape-split)
+escape_cut xs None none = rw (take-length xs) at (escape-plain xs (length xs) (omega arith) none)
+escape_cut xs (Some k) first = escape-split xs k first.0.high first.0.before
 
 -- the same, of the two parts of a slice that was split there
 pub escape-parts : {prefix back : List ℕ} (xs : List ℕ) (k : ℕ) → prefix ≡ take k xs → back ≡ drop k xs
@@ -69,7 +66,7 @@ length-escape (x ∷ xs) = grind (arith, length-append, length-escape xs)
 -- a name without a special byte is its own escape, and any other name is shorter than its escape
 pub differs_by : (xs : List ℕ) (r : Option ℕ) → IsFirstByte (is_byte3 92 10 13) xs r
     → is_some r ≡ escape_differs present xs
-differs_by xs None none = ap not (sym ((bytes_eq-Decides (escape xs) xs).1 (escape-none xs none)))
+differs_by xs None none = ap not (sym ((bytes_eq-Decides (escape xs) xs).1 (escape_cut xs None none)))
 differs_by xs (Some k) first =
     let split = ap length (escape-split xs k first.0.high first.0.before) in
     let two = escape_of-special (get_or xs k 0) first.1 in
@@ -106,7 +103,8 @@ all-of xs h = grind (arith, list_all-from_AllPass)
 
 -- so parts whose raw name spells a name spell an entry, and only such parts do
 pub spelled-is : (p : Profile) (t : LinePartsValue) (n : List ℕ) → All (λ b. 0 < b) n
-    → t.text ≡ cond t.escaped (escape_by p n) n → entry_of_parts p t ≡ Some (record { kind = t.kind; digest = t.digest; name = n })
+    → t.text ≡ cond t.escaped (escape_by p n) n
+    → entry_of_parts p t ≡ Some (record { kind = t.kind; digest = t.digest; name = n })
 spelled-is p t n no_nul is = grind (arith, unescape-escape, all-of)
 
 -- only such parts
@@ -158,10 +156,6 @@ pub cut_after : {line d : List ℕ} (len from n : ℕ) (part post more : List �
     → from ≤ length line → n ≤ length part
     → take (from + n) (take len (take from d ++ (part ++ post) ++ more)) ≡ take from line ++ take n part
 cut_after len from n part post more e fits low le = grind (arith, common_steps, length-take-le, take-append-add)
-
--- the rest of a list from a place on
-pub whole_after : (line d : List ℕ) (from : ℕ) → d ≡ line → take (length d - from) (drop from d) ≡ drop from line
-whole_after line d from e = grind (arith, common_steps)
 
 -- a range of a vector that was cut at the range's end
 pub part_of : (xs : List ℕ) (i j : ℕ) → i ≤ j → drop i (take j xs) ≡ slice_range xs i j

@@ -1,6 +1,6 @@
 -- The pieces of a text, the events of these, and what happened of them.
 use Rattle.std.proofs.lemmas.Grind.{common_steps}
-use Rattle.std.proofs.Common.{ℕ, zero, suc, ◌≡◌, ◌<◌, ◌≤◌, ◌+◌, ◌*◌, ◌/◌, ◌%◌, List, [], ◌∷◌, ◌++◌, length, take, drop, flat_map, filter_map, inl, inr, refl, sym, ap, ◌∙◌, append_assoc, append-nil, length-append, length-drop, take_all, arith}
+use Rattle.std.proofs.Common.{ℕ, zero, suc, ◌≡◌, ◌<◌, ◌≤◌, ◌+◌, ◌*◌, ◌/◌, ◌%◌, List, [], ◌∷◌, ◌++◌, length, drop, flat_map, filter_map, inl, inr, refl, sym, ap, ◌∙◌, append_assoc, append-nil, length-append, length-drop, take_all, arith}
 use Rattle.std.proofs.lemmas.List.{take-append-le, drop-append-le}
 use Rattle.std.proofs.lemmas.List.Concat.{flat_map-append}
 use Rattle.std.proofs.lemmas.List.Elements.{filter_map-append}
@@ -19,7 +19,8 @@ first_chunks-append n (suc k) j xs ys size =
     let one : suc k * n ≡ k * n + n = grind arith in
     let next : suc k + j ≡ suc (k + j) = omega arith in
     let le : n ≤ length xs = omega arith in
-    rw (next, take-append-le n xs ys le, drop-append-le n xs ys le, first_chunks-append n k j (drop n xs) ys (omega (arith, length-drop n xs))) refl
+    let more = first_chunks-append n k j (drop n xs) ys (omega (arith, length-drop n xs)) in
+    rw (next, take-append-le n xs ys le, drop-append-le n xs ys le, more) refl
 
 pieces-append : (xs ys : List ℕ) → length xs % 8192 ≡ 0 → pieces (xs ++ ys) ≡ pieces xs ++ pieces ys
 pieces-append xs ys full =
@@ -62,7 +63,8 @@ output_events-bytes text =
 pub output_events-append : (xs ys : List ℕ) → length xs % 8192 ≡ 0
     → output_events (xs ++ ys) ≡ output_events xs ++ output_events ys
 output_events-append xs ys full =
-    rw (pieces-append xs ys full) (flat_map-append (λ piece. offer_piece piece ∷ byte_events piece) (pieces xs) (pieces ys))
+    rw (pieces-append xs ys full)
+    (flat_map-append (λ piece. offer_piece piece ∷ byte_events piece) (pieces xs) (pieces ys))
 
 -- ---- what happened
 
@@ -83,11 +85,6 @@ Gets-then {a} {b} {c} {p} {q} h k = record {
   offered = OffersEach-then a.offered b.offered c.offered p q h.offered k.offered;
   written = let first = h.written in let then = k.written in grind (arith, append_assoc, filter_map-append);
 }
-
--- a prefix of some events is one of what begins with them
-pub GetsPrefix-more : {a b : SinkState} {p : List OutputEvent} (q : List OutputEvent) → GetsPrefix a b p
-    → GetsPrefix a b (p ++ q)
-GetsPrefix-more q h = (h.0, h.1 ++ q, ap (λ l. l ++ q) h.2 ∙ append_assoc h.0 h.1 q, h.3)
 
 -- after some events, a prefix of others
 pub GetsPrefix-then : {a b c : SinkState} {p q : List OutputEvent} → Gets a b p → GetsPrefix b c q

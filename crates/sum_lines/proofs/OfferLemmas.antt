@@ -1,5 +1,5 @@
 -- A text of one piece is given to a sink. `a`, `b` and `c` are the sink before, between and after.
-use Rattle.std.proofs.Common.{ℕ, zero, suc, ◌≡◌, ◌<◌, ◌≤◌, ◌+◌, List, [], ◌∷◌, ◌++◌, length, take, drop, filter_map, Ok, Err, inl, inr, refl, sym, ap, ◌∙◌, append_assoc, append-nil, arith}
+use Rattle.std.proofs.Common.{ℕ, zero, suc, ◌≡◌, ◌<◌, ◌≤◌, ◌+◌, List, [], ◌∷◌, ◌++◌, length, take, drop, filter_map, Ok, Err, inl, inr, refl, sym, ap, append_assoc, append-nil, arith}
 use Rattle.std.proofs.lemmas.List.Elements.{filter_map-append}
 use Rattle.sum_lines.specs.Sinks.{SinkState, OutputEvent, WritesSome, OffersEach, GivesAll, offer_piece, write_byte, written_byte, byte_events, output_events}
 use Rattle.sum_lines.proofs.EventLemmas.{one_piece}
@@ -76,23 +76,18 @@ HasGiven-more (x ∷ xs) (suc n) h some (within, taken, is) = let t = takes n (x
 -- all of it was accepted
 pub HasGiven-all : {a b : SinkState} {text : List ℕ} (rest : List ℕ) → HasGiven a b text rest → rest ≡ []
     → GivesAll {E = Unit {0}} a b text (Ok tt)
-HasGiven-all {b = b} [] h none = (
-  rw (h.cut, append-nil h.events)
-      (record { offered = rw append-nil at (h.offers b.offered [] (sym (append-nil b.offered))); written = h.written }),
-  h.failures,
-)
+HasGiven-all {b = b} [] h none =
+    let offered = rw append-nil at (h.offers b.offered [] (sym (append-nil b.offered))) in
+    (rw (h.cut, append-nil h.events) (record { offered = offered; written = h.written }), h.failures)
 HasGiven-all (x ∷ xs) h none = cc
 
 -- the rest was offered, and that failed
 pub HasGiven-failed : {a b c : SinkState} {text : List ℕ} (rest : List ℕ) → HasGiven a b text rest → 0 < length rest
     → WritesSome {E = Unit {0}} b c rest (Err tt) → GivesAll {E = Unit {0}} a c text (Err tt)
 HasGiven-failed [] h some is = absurd (omega (arith, some))
-HasGiven-failed (x ∷ xs) h some is = rw is (
-  (
-    h.events,
-    byte_events (x ∷ xs),
-    h.cut,
-    record { offered = rw append-nil at (h.offers _ [] refl); written = h.written },
-  ),
-  ap (λ n. n + 1) h.failures,
-)
+HasGiven-failed {b = b} (x ∷ xs) h some is =
+    let offered = rw append-nil at (h.offers (b.offered ++ (x ∷ xs) ∷ []) [] refl) in
+    rw is (
+      (h.events, byte_events (x ∷ xs), h.cut, record { offered = offered; written = h.written }),
+      ap (λ n. n + 1) h.failures,
+    )

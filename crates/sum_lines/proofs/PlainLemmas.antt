@@ -63,10 +63,6 @@ read_is_plain {algos = Any} h = cc
 
 -- ---- what joins to the line is read
 
--- a byte that is a hexadecimal digit
-abbrev IsHex : ℕ → Type 0
-IsHex x = is_hex_digit x ≡ true
-
 -- the digits of a digest: two at least, and a line may begin with them
 pub record AreDigits (ds : List ℕ) : Type 0 where
   pub are : AllPass is_hex_digit ds
@@ -99,7 +95,8 @@ unfolding plain_parts
 plain_is_read p t =
     let digits = plain-digits t in
     let no_blanks : AllPass (λ x. not (is_blank x)) t.digits =
-    All-weaker IsHex (λ x. not (is_blank x) ≡ true) (λ x hex. ap not (hex-no_blank x hex)) t.digits digits.are in
+    All-weaker (λ b. is_hex_digit b ≡ true) (λ x. not (is_blank x) ≡ true)
+    (λ x hex. ap not (hex-no_blank x hex)) t.digits digits.are in
     let cut = first-at t.digits t.blank p.text no_blanks t.is_one_blank in
     rw (t.one, plain-prefix t) (grind arith)
 
@@ -108,8 +105,8 @@ plain_is_read p t =
 -- a plain line's digits begin no tag
 pub no_prefix : (a : Algo) (ds s rest : List ℕ) → AllPass is_hex_digit ds → 2 ≤ length ds → ds ++ s ≡ tag a ++ rest → ⊥
 no_prefix a (x ∷ y ∷ xs) s rest all two e =
-    no_digits a x y (xs ++ s) rest (All-head IsHex x (y ∷ xs) all)
-    (All-head IsHex y xs (All-tail IsHex x (y ∷ xs) all)) e
+    no_digits a x y (xs ++ s) rest (All-head (λ b. is_hex_digit b ≡ true) x (y ∷ xs) all)
+    (All-head (λ b. is_hex_digit b ≡ true) y xs (All-tail (λ b. is_hex_digit b ≡ true) x (y ∷ xs) all)) e
 no_prefix a ds s rest all two e = absurd (omega arith)
 
 -- no line is both plain and tagged

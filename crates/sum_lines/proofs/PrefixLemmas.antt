@@ -1,12 +1,12 @@
 -- What follows a text or a byte in a line.
-use Rattle.std.proofs.Common.{ℕ, zero, suc, ◌≡◌, ◌≢◌, ◌+◌, ◌<◌, ◌≤◌, Bool, true, false, cond, ◌==◌, List, [], ◌∷◌, ◌++◌, length, take, drop, get_or, Option, None, Some, refl, sym, ◌∙◌, add-one, arith, length-append, All, option_map}
+use Rattle.std.proofs.Common.{ℕ, zero, suc, ◌≡◌, ◌≢◌, ◌+◌, ◌<◌, ◌≤◌, Bool, true, false, cond, ◌==◌, List, [], ◌∷◌, ◌++◌, length, take, drop, get_or, Option, None, Some, refl, add-one, arith, length-append, All, option_map}
 use Rattle.std.specs.List.{starts_with}
 use Rattle.std.specs.Option.{option_or}
 use Rattle.std.specs.Path.{rsplit_once, rfind_below}
 use Rattle.std.proofs.Math.Seq.{get_or-append_seam}
 use Rattle.std.proofs.lemmas.Bool.{eqb-true, eq-eqb}
 use Rattle.std.proofs.lemmas.Bool.Decides.{Decides-eqb}
-use Rattle.std.proofs.lemmas.List.{take_at, drop_at, get_or-append_right}
+use Rattle.std.proofs.lemmas.List.{take_at, get_or-append_right}
 use Rattle.std.proofs.lemmas.List.Elements.{All-get_or}
 use Rattle.memchr.specs.Find.{Passes, IsLast, IsLastByte, is_byte}
 use Rattle.memchr.proofs.lemmas.FindLemmas.{Nowhere-more}
@@ -59,10 +59,15 @@ last_byte c s (suc n) = step (get_or s n 0 == c) refl (rfind_below c s n) (last_
   where
     step : (t : Bool) → (get_or s n 0 == c) ≡ t → (r : Option ℕ) → IsLast (Passes (is_byte c) s) 0 n r
         → IsLast (Passes (is_byte c) s) 0 (suc n) (cond t (Some n) r)
-    step true is r h = (record { low = omega arith; high = omega arith; after = λ k low high. absurd (omega arith) }, is)
+    step true is r h =
+        (record { low = omega arith; high = omega arith; after = λ k low high. absurd (omega arith) }, is)
     step false is None h = rw (← add-one n) (Nowhere-more h (λ pass. cc))
     step false is (Some k) h = (
-      record { low = omega arith; high = omega (arith, h.0.high); after = rw (← add-one n) (Nowhere-more h.0.after (λ pass. cc)) },
+      record {
+        low = omega arith;
+        high = omega (arith, h.0.high);
+        after = rw (← add-one n) (Nowhere-more h.0.after (λ pass. cc));
+      },
       h.1,
     )
 

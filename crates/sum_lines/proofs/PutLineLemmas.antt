@@ -1,7 +1,7 @@
--- A line that is written is read back. It has a shape, which spells the name and the digest that it was written for, and
--- no newline and no carriage return before its end.
+-- A line that is written is read back. It has a shape, which spells the name and the digest that it was written for. It
+-- has no newline and no carriage return before its end.
 use Rattle.std.proofs.lemmas.Grind.{common_steps}
-use Rattle.std.proofs.Common.{ℕ, ◌≡◌, ◌*◌, ◌<◌, not, cond, Bool, true, false, ◌==◌, ◌||◌, List, [], ◌∷◌, ◌++◌, length, refl, ◌⊎◌, inl, inr, append_assoc, arith, All, decimal}
+use Rattle.std.proofs.Common.{ℕ, ◌≡◌, ◌*◌, not, cond, Bool, true, false, ◌==◌, ◌||◌, List, [], ◌∷◌, ◌++◌, refl, ◌⊎◌, inl, inr, append_assoc, arith, decimal}
 use Rattle.std.specs.Char.{is_ascii_digit}
 use Rattle.std.specs.List.{AllPass, list_all}
 use Rattle.std.proofs.lemmas.List.{append-nil}

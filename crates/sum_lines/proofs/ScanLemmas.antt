@@ -8,11 +8,11 @@ use Rattle.std.specs.List.{position_or_len}
 use Rattle.std.proofs.lemmas.List.{drop_at, get_or-take, length-take}
 use Rattle.std.proofs.lemmas.List.Sums.{passes_at_first, position_or_len_is}
 use Rattle.std.proofs.lemmas.List.Elements.{All-get_or}
-use Rattle.memchr.specs.Find.{Nowhere, Passes, IsLastByte, is_byte, IsFirstByte, is_byte2}
+use Rattle.memchr.specs.Find.{IsFirstByte, is_byte2}
 use Rattle.hex.specs.Hex.{decode_of, is_hex_digit}
 use Rattle.hex.proofs.HexLemmas.{decode_of-ok}
 use Rattle.digest_kinds.specs.Bytes.{after_while}
-use Rattle.digest_kinds.specs.Kinds.{KindValue, tag, IsDigits, BeginsWithTag, full_len, has_len}
+use Rattle.digest_kinds.specs.Kinds.{KindValue, tag, IsDigits, full_len, has_len}
 use Rattle.sum_lines.specs.grammar.Shapes.{Algo, One, is_blank, Algos}
 use Rattle.sum_lines.specs.grammar.LineParts.{strip_prefix, tag_in, tagged_parts, plain_parts}
 use Rattle.digest_kinds.specs.KindTexts.{kind_and_rest}
@@ -59,13 +59,7 @@ front-ends {line} {f = f} front is = (take f.start line, grind (arith, common_st
 pub ends-after : {line s : List ℕ} (xs rest : List ℕ) → EndsIn line s → s ≡ xs ++ rest → EndsIn line rest
 ends-after xs rest ends is = (ends.0 ++ xs, grind (arith, append_assoc))
 
--- bytes that the end of the line begins with have their place in it
-place : {line s : List ℕ} (raw rest : List ℕ) → EndsIn line s → s ≡ raw ++ rest
-    → (length s ≤ length line) × (length line - length s + length raw ≤ length line)
-    × (slice_range line (length line - length s) (length line - length s + length raw) ≡ raw)
-place raw rest ends is = grind (arith, common_steps)
-
--- so has the name after the parenthesis
+-- the name after the parenthesis has its place in the line
 pub name_place : {line s inner : List ℕ} {name : List ℕ × List ℕ} (a : Algo) (w : KindValue × List ℕ) → EndsIn line s
     → Some w ≡ kind_and_rest a (drop (length (tag a)) s)
     → Some inner ≡ option_or (strip_prefix (32 ∷ 40 ∷ []) w.1) (strip_prefix (40 ∷ []) w.1)
@@ -76,7 +70,9 @@ name_place {s = s} {inner = inner} {name = name} a w ends wide opened split =
     let width = kind_and_rest-some a (drop (length (tag a)) s) w (sym wide) in
     let gap = opened-some w.1 inner (sym opened) in
     let front = take (length (tag a)) s ++ (width.width ++ opening gap.0 []) in
-    place name.0 _ (ends-after front inner ends (grind (arith, common_steps))) (rsplit-some 41 inner name (sym split))
+    let after = ends-after front inner ends (grind (arith, common_steps)) in
+    let is = rsplit-some 41 inner name (sym split) in
+    grind (arith, common_steps)
 
 -- the end has its place in the line
 pub tail-place : {line tail : List ℕ} → EndsIn line tail
@@ -84,12 +80,12 @@ pub tail-place : {line tail : List ℕ} → EndsIn line tail
 tail-place ends = grind (arith, common_steps)
 
 -- what was read step by step after the tag; no step looks which algorithm it is
-module _ {w : KindValue × List ℕ} {inner digits : List ℕ} {name : List ℕ × List ℕ} (a : Algo) (line : List ℕ)
-    (found : tag_in (One a) (text line).1 ≡ Some a)
-    (width : Some w ≡ kind_and_rest a (drop (length (tag a)) (text line).1))
+module _ {w : KindValue × List ℕ} {s inner after digits : List ℕ} {name : List ℕ × List ℕ} (a : Algo) (line : List ℕ)
+    (found : tag_in (One a) (text line).1 ≡ Some a) (text_is : s ≡ (text line).1)
+    (width : Some w ≡ kind_and_rest a (drop (length (tag a)) s))
     (opened : Some inner ≡ option_or (strip_prefix (32 ∷ 40 ∷ []) w.1) (strip_prefix (40 ∷ []) w.1))
-    (split : Some name ≡ rsplit_once 41 inner)
-    (sign : Some digits ≡ strip_prefix (61 ∷ []) (after_while is_blank name.1)) where
+    (split : Some name ≡ rsplit_once 41 inner) (after_is : after ≡ after_while is_blank name.1)
+    (sign : Some digits ≡ strip_prefix (61 ∷ []) after) where
   -- is read as the line's parts
   pub tagged-read : {d : List ℕ} → decode_of (after_while is_blank digits) ≡ Ok d → length d ≡ w.0.len
       → 0 < length name.0

@@ -1,11 +1,10 @@
 -- A text is written to a buffer piece by piece. `a`, `b` and `c` are the buffer before, between and after.
-use Rattle.std.proofs.lemmas.Grind.{common_steps}
-use Rattle.std.proofs.Common.{ℕ, ◌≡◌, ◌<◌, ◌≤◌, ◌-◌, ◌+◌, ◌%◌, List, [], ◌++◌, length, take, drop, Result, Ok, Err, inl, inr, min, refl, sym, ap, ◌∙◌, append_assoc, append-nil, length-append, length-take, lit<, arith}
+use Rattle.std.proofs.Common.{ℕ, ◌≡◌, ◌<◌, ◌≤◌, ◌-◌, ◌+◌, ◌%◌, List, [], ◌++◌, length, take, Result, Ok, Err, inl, inr, min, refl, sym, ap, ◌∙◌, append_assoc, append-nil, length-append, length-take, lit<, arith}
 use Rattle.std.specs.Result.{IsErr}
-use Rattle.sum_lines.specs.Sinks.{SinkState, GivesAll, output_events, Gets}
+use Rattle.sum_lines.specs.Sinks.{SinkState, GivesAll, output_events}
 use Rattle.sum_lines.specs.Buffers.{BufferState, Accepts, FailsToWrite, WritesAll}
 use Rattle.sum_lines.specs.refinement.SinkStates.{MakesRoom}
-use Rattle.sum_lines.proofs.EventLemmas.{output_events-append, Gets-none, Gets-then, GetsPrefix-more, GetsPrefix-then}
+use Rattle.sum_lines.proofs.EventLemmas.{output_events-append, Gets-none, Gets-then, GetsPrefix-then}
 
 -- ---- two texts, one after the other
 
@@ -17,8 +16,7 @@ Accepts-nil {a} = record {
   cut = append-nil a.buffered;
   last = λ some. absurd (omega arith);
   fits = λ fits. fits;
-  gets = Gets-none;
-  failures = refl;
+  gives = (Gets-none, refl);
 }
 
 -- one text was accepted, and then another
@@ -35,8 +33,8 @@ Accepts-trans xs ys first second =
       cut = grind (arith, append_assoc);
       last = λ some. grind (arith, length-append);
       fits = λ fits. second.fits (first.fits fits);
-      gets = rw (output_events-append first.given second.given first.full) (Gets-then first.gets second.gets);
-      failures = second.failures ∙ first.failures;
+      gives = rw (output_events-append first.given second.given first.full)
+          (Gets-then first.gives.0 second.gives.0, second.gives.1 ∙ first.gives.1);
     }
 
 -- a text was accepted, and then a write of the next one failed: so did that of a text that begins with both
@@ -49,9 +47,9 @@ FailsToWrite-in xs ys more first failed is = let own = first.cut in let then = f
   rest = failed.rest ++ more;
   cut = grind (arith, append_assoc);
   proper = omega (arith, failed.proper, length-append failed.rest more);
-  gets = rw (output_events-append first.given failed.given first.full) (GetsPrefix-then first.gets failed.gets);
+  gives = rw (output_events-append first.given failed.given first.full)
+      (GetsPrefix-then first.gives.0 failed.gives.0, failed.gives.1 ∙ ap (λ n. n + 1) first.gives.1);
   buffered = failed.buffered;
-  failures = failed.failures ∙ ap (λ n. n + 1) first.failures;
 }
 
 -- a text's first part was accepted, and then the rest was written, or that failed
@@ -64,11 +62,11 @@ writes_then c xs ys (Err e) first rest = FailsToWrite-in xs ys [] first rest (ap
 
 -- the first bytes of a piece were accepted, after these bytes were given
 accepts_front : (a b c : BufferState) (piece given : List ℕ) (n : ℕ) → length given % 8192 ≡ 0
-    → a.buffered ≡ given ++ b.buffered → length b.buffered < 8192 → Gets a.sink b.sink (output_events given)
-    → b.sink.failures ≡ a.sink.failures → 0 < length piece → n ≡ min (length piece) (8192 - length b.buffered)
-    → c.sink ≡ b.sink → c.buffered ≡ b.buffered ++ take n piece
+    → a.buffered ≡ given ++ b.buffered → length b.buffered < 8192
+    → GivesAll {E = Unit {0}} a.sink b.sink given (Ok tt) → 0 < length piece
+    → n ≡ min (length piece) (8192 - length b.buffered) → c.sink ≡ b.sink → c.buffered ≡ b.buffered ++ take n piece
     → (n ≤ length piece) × (0 < n) × Accepts a c (take n piece)
-accepts_front a b c piece given n full cut room gets failures some count sink buffered =
+accepts_front a b c piece given n full cut room gives some count sink buffered =
     let size = simp (length-append, length-take) at (ap length buffered) in (
       omega arith,
       omega arith,
@@ -78,8 +76,7 @@ accepts_front a b c piece given n full cut room gets failures some count sink bu
         cut = rw (cut, buffered) (append_assoc given b.buffered (take n piece));
         last = λ _. omega (arith, size);
         fits = λ _. omega (arith, size);
-        gets = rw sink gets;
-        failures = rw sink failures;
+        gives = rw sink gives;
       },
     )
 
@@ -90,9 +87,9 @@ pub accepts_some : {a b : BufferState} (c : BufferState) (piece : List ℕ) (n :
     → (n ≤ length piece) × (0 < n) × Accepts a c (take n piece)
 accepts_some {a} {b} c piece n (inl (full, none, gives)) some count sink buffered =
     let cut : a.buffered ≡ a.buffered ++ b.buffered = rw (none, append-nil) refl in
-    accepts_front a b c piece a.buffered n (rw full refl) cut (rw none (lit< tt)) gives.0 gives.1 some count sink buffered
+    accepts_front a b c piece a.buffered n (rw full refl) cut (rw none (lit< tt)) gives some count sink buffered
 accepts_some {a} {b} c piece n (inr (room, same, ok)) some count sink buffered = rw (← same) (accepts_front
-    b b c piece [] n refl refl (rw same room) Gets-none refl some count sink buffered)
+    b b c piece [] n refl refl (rw same room) (Gets-none, refl) some count sink buffered)
 
 -- the sink failed
 pub accept_failed : {a b : BufferState} (piece : List ℕ) → MakesRoom {E = Unit {0}} a b (Err tt) → 0 < length piece
@@ -104,9 +101,8 @@ accept_failed {a} piece (inl (full, none, gives)) some = record {
   rest = piece;
   cut = refl;
   proper = some;
-  gets = gives.0;
+  gives = gives;
   buffered = none;
-  failures = gives.1;
 }
 accept_failed piece (inr (room, same, ok)) some = cc
 
@@ -121,6 +117,9 @@ pub record HasLeft (a b : BufferState) (text rest : List ℕ) : Type 0 where
 -- before the first piece, all of the text is left
 pub HasLeft-all : {a : BufferState} {text : List ℕ} → HasLeft a a text text
 HasLeft-all = record { prefix = []; cut = refl; wrote = Accepts-nil }
+
+-- that is how a loop begins
+pub ruleset at_first = (HasLeft-all)
 
 -- a piece of the rest was accepted
 pub HasLeft-step : {a b c : BufferState} {text rest more : List ℕ} (piece : List ℕ) → HasLeft a b text rest
@@ -155,12 +154,14 @@ HasLeft-last {rest = rest} c r left last = rw left.cut (writes_then c left.prefi
 pub given_after : {E : Type 0} {a b : BufferState} (c : SinkState) (text : List ℕ) (r : Result (Unit {0}) E)
     → Accepts a b text → GivesAll b.sink c b.buffered r → GivesAll a.sink c (a.buffered ++ text) r
 given_after {b = b} c text (Ok u) h given = rw (h.cut, output_events-append h.given b.buffered h.full)
-    (Gets-then h.gets given.0, given.1 ∙ h.failures)
+    (Gets-then h.gives.0 given.0, given.1 ∙ h.gives.1)
 given_after {b = b} c text (Err e) h given = rw (h.cut, output_events-append h.given b.buffered h.full)
-    (GetsPrefix-then h.gets given.0, given.1 ∙ ap (λ n. n + 1) h.failures)
+    (GetsPrefix-then h.gives.0 given.0, given.1 ∙ ap (λ n. n + 1) h.gives.1)
 
 -- a write of a text failed, so not all was given
 pub not_given : {a b : BufferState} {text : List ℕ} → FailsToWrite a b text
     → GivesAll {E = Unit {0}} a.sink b.sink (a.buffered ++ text) (Err tt)
-not_given h = rw (h.cut, output_events-append h.given h.rest h.full)
-    (GetsPrefix-more (output_events h.rest) h.gets, h.failures)
+not_given h =
+    let (prefix, rest, is, gets) = h.gives.0 in
+    rw (h.cut, output_events-append h.given h.rest h.full, is)
+    ((prefix, rest ++ output_events h.rest, append_assoc prefix rest (output_events h.rest), gets), h.gives.1)

@@ -108,15 +108,9 @@ hex-no_blank x h = grind arith
 -- ---- the width, and the parenthesis after it
 
 -- a kind's width is read as that kind
-pub kind_and_rest-of : (kind : KindValue) (w : List ℕ) (g : Bool) (s : List ℕ) → IsWidth kind w
+kind_and_rest-of : (kind : KindValue) (w : List ℕ) (g : Bool) (s : List ℕ) → IsWidth kind w
     → kind_and_rest kind.algo (w ++ opening g s) ≡ Some (kind, opening g s)
 kind_and_rest-of kind w g s h = search (rules, parts-at, decimal-digits, kind_of_digits-bits)
-
--- ---- the tag
-
--- the tag there is found
-pub tag_in-tag : (algos : Algos) (a : Algo) (s : List ℕ) → Allows algos a → tag_in algos (tag a ++ s) ≡ Some a
-tag_in-tag algos a s allowed = grind (arith, starts-append, find-begins)
 
 -- ---- blanks, digits and the parenthesis
 
@@ -158,9 +152,11 @@ tagged_is_read {algos} p t =
     (free is_hex_digit t.digits refl digits) in
     let last = All-append IsNot41 t.before (61 ∷ value) (free is_blank t.before refl t.before_blanks)
     (All-cons IsNot41 61 value (λ e. cc) value_free) in
+    let named : tag_in algos (tag p.kind.algo ++ (t.width ++ opening t.gap (inner_of t))) ≡ Some p.kind.algo =
+    let allowed = t.allowed in grind (arith, starts-append, find-begins) in
     rw (
       tagged-prefix t,
-      tag_in-tag algos p.kind.algo _ t.allowed,
+      named,
       drop_at (tag p.kind.algo) _ (length (tag p.kind.algo)) refl,
       kind_and_rest-of p.kind t.width t.gap (inner_of t) t.is_width,
       opened-at t.gap (inner_of t),

@@ -1,6 +1,6 @@
 -- A buffer over a sink, and what a call that writes a text to it does.
-use Rattle.std.specs.Prelude.{◌≡◌, ◌<◌, ◌≤◌, ◌+◌, ◌%◌, [], ◌++◌, length, ⊤, Result, Ok, Err}
-use Rattle.sum_lines.specs.Sinks.{ByteString, SinkState, output_events, Gets, GetsPrefix}
+use Rattle.std.specs.Prelude.{◌≡◌, ◌<◌, ◌≤◌, ◌%◌, [], ◌++◌, length, ⊤, Result, Ok, Err}
+use Rattle.sum_lines.specs.Sinks.{ByteString, SinkState, GivesAll}
 
 -- a buffer's state: that of the sink below it, and the bytes that are buffered
 pub record BufferState : Type 0 where
@@ -15,8 +15,7 @@ pub record Accepts (a b : BufferState) (text : ByteString) : Type 0 where
   pub cut : a.buffered ++ text ≡ given ++ b.buffered
   pub last : 0 < length given → 0 < length b.buffered
   pub fits : length a.buffered ≤ 8192 → length b.buffered ≤ 8192
-  pub gets : Gets a.sink b.sink (output_events given)
-  pub failures : b.sink.failures ≡ a.sink.failures
+  pub gives : GivesAll {E = ⊤} a.sink b.sink given (Ok tt)
 
 -- a write failed: of the buffered bytes and the text, which isn't empty, all but some last bytes were to be given to
 -- the sink in full pieces, a prefix of their events happened, and the other bytes are lost
@@ -27,9 +26,8 @@ pub record FailsToWrite (a b : BufferState) (text : ByteString) : Type 0 where
   pub rest : ByteString
   pub cut : a.buffered ++ text ≡ given ++ rest
   pub proper : 0 < length rest
-  pub gets : GetsPrefix a.sink b.sink (output_events given)
+  pub gives : GivesAll {E = ⊤} a.sink b.sink given (Err tt)
   pub buffered : b.buffered ≡ []
-  pub failures : b.sink.failures ≡ a.sink.failures + 1
 
 -- a call that accepts all of the text, or fails; with an empty text it doesn't fail
 abbrev pub WritesAll : {E : Type 0} → BufferState → BufferState → ByteString → Result ⊤ E → Type 0

@@ -23,7 +23,7 @@ Flushes a b (Err e) = b ≡ record a { failures = a.failures + 1 }
 
 -- ---- a text, piece by piece
 
--- what a sink gets: a piece is offered to it; or a byte is written, after which that is left of its piece
+-- what a sink gets: a piece is offered to it; or a byte is written, and these bytes of its piece are left
 pub data OutputEvent : Type 0 where
   offer_piece : ByteString → OutputEvent
   write_byte : ℕ → ByteString → OutputEvent

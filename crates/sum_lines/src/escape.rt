@@ -18,6 +18,7 @@ pub fn needs_escape(name: &[u8]) -> bool
 
 /// Writes the escaped name: `\\` for a backslash, `\n` for a newline, `\r` for a carriage return, each other byte as
 /// it is. `SinkFault` as `put_all`.
+#[tactic(auto, using(crate::proofs::SinkLemmas::at_first))]
 pub fn put_escaped<S: Sink>(sink: &mut Buffered<S>, name: &[u8]) -> Result<(), SinkFault>
     ensures { WritesAll sink.old sink.new (escape name.now) result }
 {

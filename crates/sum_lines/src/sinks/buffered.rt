@@ -118,6 +118,7 @@ fn copy_after(buffer: &mut [u8], len: usize, piece: &[u8]) -> usize
 }
 
 /// Writes all of the bytes to the buffer. `SinkFault` if the sink failed; [`Buffered`] says what was written then.
+#[tactic(auto, using(crate::proofs::SinkLemmas::at_first))]
 pub fn put_all<S: Sink>(sink: &mut Buffered<S>, bytes: &[u8]) -> Result<(), SinkFault>
     ensures { WritesAll sink.old sink.new bytes.now result }
 {

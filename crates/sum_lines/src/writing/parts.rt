@@ -23,6 +23,7 @@ ghost use Rattle.sum_lines.specs.refinement.PartTexts.{part_text, parts_text};
 
 /// Writes the parts, one after another. `SinkFault` as `put_all`.
 #[doc(hidden)]
+#[tactic(auto, using(crate::proofs::SinkLemmas::at_first))]
 pub fn put_parts<S: Sink>(sink: &mut Buffered<S>, parts: &[Part]) -> Result<(), SinkFault>
     ensures { WritesAll sink.old sink.new (parts_text parts.now) result }
 {

@@ -1,11 +1,7 @@
 use Rattle.std.proofs.Common.{refl}
-use Rattle.sum_lines.proofs.SinkLemmas.{HasLeft-all, HasLeft-step, HasLeft-stop, HasLeft-last}
+use Rattle.sum_lines.proofs.SinkLemmas.{HasLeft-step, HasLeft-stop, HasLeft-last}
 use Rattle.sum_lines.proofs.EscapeLemmas.{escape-parts}
 use Rattle.sum_lines.proofs.escape.put_escaped.Goals as goal
-
--- nothing is written yet
-pub loop-at-init : goal.loop-at-init
-loop-at-init g c = HasLeft-all
 
 -- the bytes up to the first special one failed
 pub returns-in_err-put_all : goal.returns-in_err-put_all

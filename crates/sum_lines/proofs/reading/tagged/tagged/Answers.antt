@@ -8,26 +8,23 @@ use Rattle.sum_lines.proofs.reading.tagged.tagged.Goals as goal
 
 -- the text begins with the tag
 pub of_tag_prefix-requires : goal.of_tag_prefix-requires
-of_tag_prefix-requires c = rw c.text_after-text.ensures (_, (tag_in-some (One c.args.algo) (text c.args.line.now).1 c.requires.tag).1)
+of_tag_prefix-requires c =
+    rw c.text_after-text.ensures (_, (tag_in-some (One c.args.algo) (text c.args.line.now).1 c.requires.tag).1)
 
 -- another number of digits than the kind's digests have
 pub returns-then-digits-len-clause-parts : goal.returns-then-digits-len-clause-parts
 returns-then-digits-len-clause-parts c =
-    let sign = rw c.skip_blanks.ensures at c.in_ok-past_text.ensures in
     let other = rw (c.skip_blanks-digits.ensures, c.len.ensures.value) at c.if-digits-len.true in
-    let width = rw c.text_after-text.ensures at c.in-Some.ensures in
-    tagged-none _ _ c.requires.tag width c.in_ok-inner.ensures c.in_ok-raw.ensures sign
-    (λ d spelled size. omega (arith, two_digits _ d spelled))
+    tagged-none _ _ c.requires.tag c.text_after-text.ensures c.in-Some.ensures c.in_ok-inner.ensures
+    c.in_ok-raw.ensures c.skip_blanks.ensures c.in_ok-past_text.ensures (λ d spelled size.
+    omega (arith, two_digits _ d spelled))
 
 -- as many that spell none
 pub returns-in_err-digest-clause-parts : goal.returns-in_err-digest-clause-parts
 returns-in_err-digest-clause-parts c =
-    let sign = rw c.skip_blanks.ensures at c.in_ok-past_text.ensures in
     let size = rw c.len.ensures.value at c.len.ensures in
-    let width = rw c.text_after-text.ensures at c.in-Some.ensures in
-    rw c.from_residual-in_err-digest.ensures (tagged-none _ _ c.requires.tag width c.in_ok-inner.ensures
-    c.in_ok-raw.ensures sign
-    (λ d spelled same.
+    rw c.from_residual-in_err-digest.ensures (tagged-none _ _ c.requires.tag c.text_after-text.ensures c.in-Some.ensures
+    c.in_ok-inner.ensures c.in_ok-raw.ensures c.skip_blanks.ensures c.in_ok-past_text.ensures (λ d spelled same.
     let digits = decoded-digits _ d spelled (omega arith) (omega arith) in
     let bad = c.in_err-digest.ensures.found.1 (rw c.skip_blanks-digits.ensures digits) in cc))
 
@@ -50,9 +47,8 @@ returns-clause-parts c =
     let place = name_place _ _ ends c.in-Some.ensures c.in_ok-inner.ensures c.in_ok-raw.ensures in
     let few = rw c.len.ensures.value at c.if-digits-len.false in
     let size = two_digits _ c.in_ok-digest.digest c.in_ok-digest.ensures.value in
-    let sign = rw c.skip_blanks.ensures at c.in_ok-past_text.ensures in
     let spelled = rw c.skip_blanks-digits.ensures at c.in_ok-digest.ensures.value in
     let some = eqb-false (length c.in_ok-raw.raw.now) 0 (sym c.is_empty.ensures ∙ c.if-is_empty.false) in
-    let width = rw c.text_after-text.ensures at c.in-Some.ensures in
-    rw (place.2, c.requires.front.mark) (tagged-read _ _ c.requires.tag width c.in_ok-inner.ensures
-    c.in_ok-raw.ensures sign spelled (omega (arith, size, few)) (omega (arith, some)))
+    rw (place.2, c.requires.front.mark) (tagged-read _ _ c.requires.tag c.text_after-text.ensures c.in-Some.ensures
+    c.in_ok-inner.ensures c.in_ok-raw.ensures c.skip_blanks.ensures c.in_ok-past_text.ensures spelled
+    (omega (arith, size, few)) (omega (arith, some)))

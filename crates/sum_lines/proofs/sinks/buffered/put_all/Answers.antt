@@ -1,11 +1,7 @@
 use Rattle.std.proofs.Common.{[], append-nil, sym, arith}
 use Rattle.std.proofs.lemmas.Grind.{common_steps}
-use Rattle.sum_lines.proofs.SinkLemmas.{HasLeft-all, HasLeft-step, HasLeft-stop}
+use Rattle.sum_lines.proofs.SinkLemmas.{HasLeft-step, HasLeft-stop}
 use Rattle.sum_lines.proofs.sinks.buffered.put_all.Goals as goal
-
--- nothing is written yet
-pub loop-rest-init : goal.loop-rest-init
-loop-rest-init g c = HasLeft-all
 
 -- a piece of the rest failed
 pub returns-in_err-count : goal.returns-in_err-count

@@ -1,4 +1,4 @@
-use Rattle.std.proofs.Common.{rules, ◌<◌, length}
+use Rattle.std.proofs.Common.{rules}
 use Rattle.std.proofs.lemmas.List.{take_rest, nil_from_length}
 use Rattle.std.proofs.lemmas.Result.{err_from_is_err_and}
 use Rattle.sum_lines.proofs.OfferLemmas.{HasGiven-none, HasGiven-more, HasGiven-all, HasGiven-failed}
@@ -18,9 +18,8 @@ returns-in_err-count g c =
 pub loop-rest-preserved : goal.loop-rest-preserved
 loop-rest-preserved g c =
     let rest = c.loop-rest.rest.now in
-    let some : 0 < length rest = search rules in
     rw (take_rest rest c.in_ok-count.count)
-    (HasGiven-more rest c.in_ok-count.count c.loop-rest.invariant some c.in_ok-count.ensures.bytes)
+    (HasGiven-more rest c.in_ok-count.count c.loop-rest.invariant (search rules) c.in_ok-count.ensures.bytes)
 
 -- all was accepted
 pub returns : goal.returns

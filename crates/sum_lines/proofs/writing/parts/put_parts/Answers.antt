@@ -1,12 +1,8 @@
 use Rattle.std.proofs.Common.{arith}
 use Rattle.std.proofs.lemmas.List.{at_drop_more}
 use Rattle.sum_lines.specs.refinement.PartTexts.{parts_text}
-use Rattle.sum_lines.proofs.SinkLemmas.{HasLeft-all, HasLeft-step, HasLeft-stop}
+use Rattle.sum_lines.proofs.SinkLemmas.{HasLeft-step, HasLeft-stop}
 use Rattle.sum_lines.proofs.writing.parts.put_parts.Goals as goal
-
--- nothing is written yet
-pub loop-part-init : goal.loop-part-init
-loop-part-init g c = HasLeft-all
 
 -- a part failed
 pub returns-in_err-put_part : goal.returns-in_err-put_part
