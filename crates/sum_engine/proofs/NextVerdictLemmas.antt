@@ -54,7 +54,7 @@ module _ {I : Type 0} (state : I → InputState) (p q : VerdictsValue I) (reader
         let is : q ≡ judged (Ok found) = same ∙ ap (λ (r : VerdictsValue I). record r { outcome = q.outcome }) takes.now in
         rw is (record {
       holds = λ reading c of w agrees.
-          let (next, both) = (reads reading).line c of in
+          let next = (reads reading).line c of in
           let number : reader.lines ≡ p.reader.lines + 1 = lines.lines in
           let first : CheckState = state_at p (remaining p.reader c) (world_at w a) in
           let last : CheckState = state_at (judged (Ok found)) (remaining reader c) (world_at w b) in
@@ -65,7 +65,7 @@ module _ {I : Type 0} (state : I → InputState) (p q : VerdictsValue I) (reader
             lines = lines_now p.rules (remaining p.reader c) now ∙ next.0
                 ∙ ap (λ l. line ∷ l) (sym (lines_now p.rules (remaining reader c) now));
             remaining = next.1;
-            consumed = both;
+            consumed = (reads reading).sum Line refl c of;
             taken = omega (arith, bounds.ahead);
             number = number;
             form = refl;
@@ -81,6 +81,6 @@ module _ {I : Type 0} (state : I → InputState) (p q : VerdictsValue I) (reader
         rw is (record {
       holds = λ reading c of w agrees. (
         refused_world w a b asked,
-        line-some (remaining p.reader c) (remaining reader c) line ((reads reading).line c of).0,
+        line-some (remaining p.reader c) (remaining reader c) line ((reads reading).line c of),
       );
     })

@@ -1,5 +1,5 @@
 -- Bytes cut at their newlines.
-use Rattle.std.proofs.Common.{◌≡◌, ℕ, List, [], ◌∷◌, ◌++◌, refl, ap, ◌∙◌, append_assoc, inl, inr, ◌==◌, false, All, arith}
+use Rattle.std.proofs.Common.{◌≡◌, ℕ, List, [], ◌∷◌, ◌++◌, refl, ap, ◌∙◌, append_assoc, inl, inr, ◌==◌, false, All, arith, rules}
 use Rattle.std.proofs.lemmas.Bool.Decides.{eqb_tells}
 use Rattle.std.proofs.lemmas.List.Elements.{All-nil, All-cons, All-head, All-tail}
 use Rattle.sum_sources.specs.declared.fault.Ending.{Ending}
@@ -26,7 +26,7 @@ cut_plain b bs plain (p ∷ ps, tail, is, all, none) =
 -- a newline begins an empty piece
 cut_newline : (bs : List ℕ) → IsCut bs → IsCut (10 ∷ bs)
 cut_newline bs (ended, tail, is, all, none) =
-    ([] ∷ ended, tail, ap (λ l. 10 ∷ l) is, All-cons HasNoNewline [] ended (All-nil IsPlain) all, none)
+    ([] ∷ ended, tail, ap (λ l. 10 ∷ l) is, search (rules, All-cons, All-nil), none)
 
 -- all bytes can be cut
 pub cut : (bytes : List ℕ) → IsCut bytes

@@ -1,6 +1,6 @@
 -- `read_limited`: what an input's end, its fault and the limit say of its contents.
 use Rattle.std.proofs.Common.{◌≡◌, ℕ, zero, suc, ◌+◌, ◌-◌, ◌^◌, ◌<◌, ◌≤◌, [], ◌∷◌, ◌++◌, List, max, length, take, Ok, Err, refl, arith, length-append, ap, append-nil, append_assoc, sym, ◌∙◌}
-use Rattle.std.proofs.Math.Seq.{take-append-add}
+use Rattle.std.proofs.Math.Seq.{take-append_seam}
 use Rattle.std.proofs.lemmas.List.{length-take-le, take-append-le}
 use Rattle.sum_sources.specs.Contents.{Content, Reads, InputState, IsOf, clip, limit, Ending, Whole, Other, Fault, Broken, and_read}
 use Rattle.sum_sources.specs.refinement.LimitedReads.{FindsEnding, AddsLimited}
@@ -40,9 +40,8 @@ module _ (a b : InputState) (t : ℕ) (going : a.reads.phase ≡ Unfinished) (fe
       cut size c rest begins =
           let sum = length-append (a.reads.bytes ++ more) rest in
           let sum2 = length-append a.reads.bytes more in
-          let front : take (limit - 1) c.bytes ≡ a.reads.bytes =
-          let all : limit - 1 ≡ length a.reads.bytes + 0 = rw limit-value (omega (arith, size, last)) in
-          rw (begins, append_assoc, all, take-append-add) (append-nil a.reads.bytes) in
+          let all : limit - 1 ≡ length a.reads.bytes = rw limit-value (omega (arith, size, last)) in
+          let front : take (limit - 1) c.bytes ≡ a.reads.bytes = rw (begins, append_assoc, all, take-append_seam) refl in
           grind (arith, limit-value, size, last, sum, sum2, front, begins)
 
   -- a read failed

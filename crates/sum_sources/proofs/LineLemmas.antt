@@ -50,11 +50,6 @@ pub IsNextLine-last : (piece : List ℕ) → HasNoNewline piece → 0 < length p
     → IsNextLine (with_prefix piece empty_content) empty_content (Ok Line) (strip_carriage_return piece)
 IsNextLine-last piece none some = search (rules, after_piece, pieces-last)
 
--- no bytes, no line
-pub IsNextLine-none : (piece line : List ℕ) → piece ≡ []
-    → IsNextLine (with_prefix piece empty_content) empty_content (Ok NoMore) line
-IsNextLine-none piece line none = rw none (lines-nil Whole, refl, refl)
-
 -- a fault leaves no line, whatever precedes it
 pub IsNextLine-fault : (f : Fault) (piece : List ℕ) → HasNoNewline piece
     → let fault : Content = record { bytes = []; ending = Broken f } in

@@ -3,7 +3,7 @@ use Rattle.std.proofs.Common.{◌≡◌, ℕ, ◌+◌, ◌-◌, ◌<◌, ◌≤�
 use Rattle.std.proofs.lemmas.List.{length-take-le, get_or-take, drop-take, drop-drop}
 use Rattle.std.proofs.lemmas.Bool.{false_from_ne_true}
 use Rattle.std.proofs.lemmas.List.Elements.{All-from_get_or}
-use Rattle.std.proofs.Math.Seq.{split_at, take-length}
+use Rattle.std.proofs.Math.Seq.{split_at}
 use Rattle.memchr.specs.Find.{Nowhere, Passes, is_byte}
 use Rattle.sum_sources.specs.ManifestLines.{HasNoNewline}
 
@@ -13,10 +13,6 @@ pub plain_prefix : (bytes : List ℕ) (n : ℕ) → n ≤ length bytes → Nowhe
 plain_prefix bytes n few none = All-from_get_or (λ b. (b == 10) ≡ false) (take n bytes) 0 (λ k low.
     let below : k < n = omega (arith, low, length-take-le n bytes few) in
     rw (get_or-take n bytes k 0 below) (false_from_ne_true _ (none k (omega arith) below)))
-
--- nor have all bytes, if none is found
-pub plain_piece : (bytes : List ℕ) → Nowhere (Passes (is_byte 10) bytes) 0 (length bytes) → HasNoNewline bytes
-plain_piece bytes none = rw take-length at (plain_prefix bytes (length bytes) (omega arith) none)
 
 -- the buffer is cut at a newline
 pub cut_buffer : (buf : List ℕ) (s e n : ℕ) → e ≤ length buf → n < e - s

@@ -7,7 +7,9 @@ use Rattle.std.proofs.lemmas.Option.{get_or_from_slice_get}
 use Rattle.sum_sources.specs.Contents.{Content, Ending, Whole, Broken}
 use Rattle.sum_sources.specs.Phases.{Phase, Unfinished, Ended, Past}
 use Rattle.sum_sources.specs.StandardInput.{told_reads, ToldContent, told_file}
-use Rattle.sum_sources.specs.Sources.{Answer, Opening, first_answer, IsOpen}
+use Rattle.sum_sources.specs.Sources.{Answer, Opening, first_answer, SourceState, IsOpen}
+use Rattle.sum_sources.specs.declared.sources.told_source.ToldSource.TheInside.{Inside}
+use Rattle.sum_sources.specs.refinement.ToldPairs.{pair_of}
 use Rattle.sum_sources.specs.InMemory.{Answers, ToldFiles, told_gave, told_openings, told_source}
 
 -- an opening that gave what the answer gives
@@ -67,24 +69,37 @@ count_asked f xs os is = sym (length-map xs f) ∙ ap length is ∙ length-map o
 pub count_told : (answer : Answers) (os : List Opening) → length (told_openings answer 0 os) ≡ length os
 count_told answer os = count_asked (λ o. o.name) _ os (told_names answer 0 os)
 
--- what was opened, after one opening more
-pub opened_state : (answer : Answers) (os : List Opening) (o : Opening) → IsTold answer (length os) o
-    → told_openings answer 0 (os ++ o ∷ []) ≡ told_openings answer 0 os ++ o ∷ []
-opened_state answer os o one = told_append answer 0 (length os) os o (omega arith) one
+-- ---- its states
+
+abbrev pub value : {A : Type 0} → Inside A → ToldFiles
+value s = record {
+  pairs = map pair_of s.pairs.items;
+  piece = s.piece;
+  openings = s.log.openings;
+  refusals = s.log.refusals;
+}
+
+abbrev pub with : ToldFiles → List Opening → SourceState
+with v os = record (told_source v) { openings = os }
+
+-- after one opening more
+pub opened_state : (v : ToldFiles) (o : Opening) → IsTold (first_answer v.pairs) (length v.openings) o
+    → told_source (record v { openings = v.openings ++ o ∷ [] }) ≡ with v ((told_source v).openings ++ o ∷ [])
+opened_state v o one = ap (with v) (told_append _ 0 (length v.openings) v.openings o (omega arith) one)
 
 -- and after a file was closed
 pub closed_state : (v : ToldFiles) (file : ToldContent) → IsOpen (told_source v) (told_file file)
-    → told_openings (first_answer v.pairs) 0 (slice_set v.openings file.opening (closed file))
-    ≡ slice_set (told_openings (first_answer v.pairs) 0 v.openings) file.opening (closed file)
+    → told_source (record v { openings = slice_set v.openings file.opening (closed file) })
+    ≡ with v (slice_set (told_source v).openings file.opening (closed file))
 closed_state v file here =
-    told_set _ 0 file.opening file.opening v.openings _ (omega arith) (closed_told v file here)
+    ap (with v) (told_set _ 0 file.opening file.opening v.openings _ (omega arith) (closed_told v file here))
 
 -- its name stays
 pub closed_names : (v : ToldFiles) (file : ToldContent) → IsOpen (told_source v) (told_file file)
     → map (λ o. o.name) (slice_set v.openings file.opening (closed file)) ≡ map (λ o. o.name) v.openings
 closed_names v file here =
-    let names : List Opening → List (List ℕ) = map (λ o. o.name) in
-    let os = told_openings (first_answer v.pairs) 0 v.openings in
+    let names : SourceState → List (List ℕ) = λ s. map (λ o. o.name) s.openings in
+    let os = (told_source v).openings in
     let o : Opening = record { name = file.name; gave = None } in
     let was = get_or_from_slice_get os file.opening o o here.opening in
     sym (told_names _ 0 _) ∙ ap names (closed_state v file here)

@@ -1,5 +1,5 @@
 -- Contents of inputs: what reads gave, of which content they are, the limit of 2^61 bytes, and digests.
-use Rattle.std.specs.Prelude.{ℕ, ◌≡◌, ◌-◌, ◌^◌, [], ◌++◌, take, length, Option, Result, Ok, Err, ⊤, nat_lt, if◌then◌else◌, IfSome, IfOk}
+use Rattle.std.specs.Prelude.{ℕ, ◌≡◌, ◌-◌, ◌^◌, [], ◌++◌, take, length, Option, Result, ⊤, nat_lt, if◌then◌else◌, IfSome, IfOk, MatchResult}
 use Rattle.std.specs.Result.{result_unwrap_or}
 use Rattle.digest_kinds.specs.Bytes.{ByteString}
 use Rattle.digest_kinds.specs.Kinds.{digest, KindValue}
@@ -64,16 +64,12 @@ HasContent s = (c : Content) × IfSome s.told (λ d. c ≡ d) × IsOf s.reads c
 abbrev pub IsSameInput : InputState → InputState → Type 0
 IsSameInput a b = b ≡ record a { reads = b.reads }
 
--- the digest of a content that ends whole, or the fault by which it ends
-abbrev pub Hashes : KindValue → Content → Result ByteString Fault → Type 0
-Hashes kind c (Ok d) = (c.ending ≡ Whole) × (d ≡ digest kind c.bytes)
-Hashes kind c (Err f) = c.ending ≡ Broken f
-
 -- what a call does that hashes an input
 pub record HashesInput (kind : KindValue) (old new : InputState) (result : Result ByteString Fault) : Type 0 where
   pub same : IsSameInput old new
-  -- if it was unread: the digest of each content that its reads are of, or its fault
-  pub digest : old.reads ≡ unread → (c : Content) → IsOf new.reads c → Hashes kind (clip c) result
+  -- if it was unread: the digest of each content that its reads are of, or the fault by which that ends
+  pub digest : old.reads ≡ unread → (c : Content) → IsOf new.reads c → MatchResult result
+      (λ d. ((clip c).ending ≡ Whole) × (d ≡ digest kind (clip c).bytes)) (λ f. (clip c).ending ≡ Broken f)
   -- a digest is returned only at its end, and it is never read past its end or its fault
   pub end : old.reads.phase ≡ Unfinished → IfOk result (λ _. new.reads.phase ≡ Ended Whole)
   pub past : old.reads.phase ≡ Unfinished → ¬ (new.reads.phase ≡ Past)

@@ -1,5 +1,5 @@
 -- The state of a reader of lines, and what a call changes in it.
-use Rattle.std.specs.Prelude.{ℕ, ◌≡◌, ◌+◌, ◌-◌, ◌^◌, ◌≤◌, ◌⊎◌, ◌++◌, length, drop, Option, None, Some, Result, Ok, OnOk}
+use Rattle.std.specs.Prelude.{ℕ, ◌≡◌, ◌+◌, ◌-◌, ◌^◌, ◌≤◌, ◌⊎◌, ◌++◌, length, drop, Option, None, Some, Result, Ok}
 use Rattle.sum_sources.specs.Contents.{Content, Whole, InputState, IsOf, IsSameInput, clip}
 use Rattle.sum_sources.specs.Faults.{ByteString}
 use Rattle.sum_sources.specs.ManifestLines.{Next, Line, NoMore, LineStop, HasNoNewline, IsNextLine, lines_after}
@@ -31,25 +31,18 @@ past n c = record { bytes = drop n c.bytes; ending = c.ending }
 abbrev pub remaining : {I : Type 0} → LineReaderValue I → Content → Content
 remaining r c = past (consumed_count r) (clip c)
 
--- the next line was read, or an end, for each content that what was read of the input is of. If the result is `Ok`,
--- bytes consumed and bytes that remain add up to the same
-abbrev pub ReadsLine : {I : Type 0} → (I → InputState) → LineReaderValue I → LineReaderValue I → Result Next LineStop
-    → ByteString → Type 0
-ReadsLine state old new result line = (c : Content) → IsOf (state new.input).reads c
-    → IsNextLine (remaining old c) (remaining new c) result line × OnOk result (consumed_count new
-    + length (remaining new c).bytes ≡ consumed_count old + length (remaining old c).bytes)
-
--- the input hasn't ended, and has given what was consumed and then what is ahead
-abbrev pub IsUnderWay : {I : Type 0} → (I → InputState) → LineReaderValue I → Type 0
-IsUnderWay state r = (consumed : ByteString) × (length consumed + length r.ahead ≡ r.taken)
-    × ((state r.input).reads ≡ record { bytes = consumed ++ r.ahead; phase = Unfinished })
+-- the input hasn't ended, and what it gave past what was consumed is ahead
+pub record IsUnderWay {I : Type 0} (state : I → InputState) (r : LineReaderValue I) : Type 0 where
+  pub phase : (state r.input).reads.phase ≡ Unfinished
+  pub taken : length (state r.input).reads.bytes ≡ r.taken
+  pub ahead : (consumed : ByteString) × ((state r.input).reads.bytes ≡ consumed ++ r.ahead)
 
 -- a reader of an input that was unread when the reader was made
 pub record IsReading {I : Type 0} (state : I → InputState) (r : LineReaderValue I) : Type 0 where
   pub under_way : r.final_answer ≡ None → IsUnderWay state r
   -- a final answer stays right
-  pub final : (answer : Result Next LineStop) → r.final_answer ≡ Some answer → (line : ByteString)
-      → ReadsLine state r r answer line
+  pub final : (answer : Result Next LineStop) → r.final_answer ≡ Some answer → (line : ByteString) (c : Content)
+      → IsOf (state r.input).reads c → IsNextLine (remaining r c) (remaining r c) answer line
   -- the input is at its end if no line remains, and is never read past its end or its fault
   pub end : r.final_answer ≡ Some (Ok NoMore) → (state r.input).reads.phase ≡ Ended Whole
   pub past : ¬ ((state r.input).reads.phase ≡ Past)
@@ -63,7 +56,12 @@ IsFinalAnswerAfter answer later = later ≡ Some answer
 -- the next line was read of an input that was unread when the reader was made, and reading goes on
 pub record ReadsOn {I : Type 0} (state : I → InputState) (old new : LineReaderValue I) (result : Result Next LineStop)
     (bytes : ByteString) : Type 0 where
-  pub line : ReadsLine state old new result bytes
+  -- of each content that what was read is of: the next line, or an end
+  pub line : (c : Content) → IsOf (state new.input).reads c
+      → IsNextLine (remaining old c) (remaining new c) result bytes
+  -- if the result is `Ok`, bytes consumed and bytes that remain add up to the same
+  pub sum : (next : Next) → result ≡ Ok next → (c : Content) → IsOf (state new.input).reads c
+      → consumed_count new + length (remaining new c).bytes ≡ consumed_count old + length (remaining old c).bytes
   pub reading : IsReading state new
   -- what was read by now is of no content that what was read before wasn't of
   pub before : (c : Content) → IsOf (state new.input).reads c → IsOf (state old.input).reads c

@@ -1,4 +1,4 @@
--- Standard input: before it is taken, when it was taken, and after it was put back.
+-- Inputs in memory, inputs that may be closed, and standard input: before, when and after it is taken.
 use Rattle.std.specs.Prelude.{ℕ, ◌≡◌, [], take, Some}
 use Rattle.sum_sources.specs.Contents.{Content, Whole, InputState, Reads, unread}
 use Rattle.sum_sources.specs.Faults.{ByteString}
@@ -7,8 +7,6 @@ use Rattle.sum_sources.specs.declared.inputs.stdin.StdinPlace.{StdinPlace}
 use Rattle.sum_sources.specs.declared.inputs.stdin.StdinPlace.TheVariants.{Untaken, Taken, Returned}
 use Rattle.sum_sources.specs.declared.inputs.closable.Closable.{Closable}
 use Rattle.sum_sources.specs.declared.inputs.closable.Closable.TheVariants.{Open, Closed}
-
--- ---- a content in memory
 
 -- what reads of a content gave: its first n bytes so far; or all of them, and then its ending
 abbrev pub told_reads : Content → ℕ → Phase → Reads
@@ -24,20 +22,16 @@ pub record ToldContent : Type 0 where
   pub opening : ℕ
   pub name : ByteString
 
--- its state
+-- the state of an input in memory
 abbrev pub told_file : ToldContent → InputState
 told_file t = let c = t.content in
     record { opening = t.opening; name = t.name; told = Some c; reads = told_reads c t.given t.phase }
 
--- ---- an input that may be closed
-
--- its state. A closed one has no bytes, and ends so
+-- the state of an input that may be closed. A closed one has no bytes, and ends so
 abbrev pub unless_closed : {I : Type 0} → (I → InputState) → Closable I → InputState
 unless_closed state (Open i) = state i
 unless_closed state (Closed e phase) = let c : Content = record { bytes = []; ending = e } in
     record { opening = 0; name = []; told = Some c; reads = told_reads c 0 phase }
-
--- ---- standard input
 
 -- as long as it wasn't taken, nothing was read of it
 abbrev pub IsUnreadUntilTaken : {I : Type 0} → (I → InputState) → StdinPlace I → Type 0

@@ -1,15 +1,10 @@
 -- How far an input in memory was read.
-use Rattle.std.specs.Prelude.{ℕ, ◌≡◌, ◌<◌, ◌≤◌, ◌++◌, take, length, Result, ⊤, MatchResult}
+use Rattle.std.specs.Prelude.{ℕ, ◌≡◌, ◌<◌, ◌≤◌, ◌++◌, take, length, Result, MatchResult}
 use Rattle.std.specs.Result.{result_unwrap_or}
-use Rattle.sum_sources.specs.Contents.{Content, Reads, Whole, Broken, Fault}
+use Rattle.sum_sources.specs.Contents.{Content, Ending, Reads, Whole, Broken, Fault}
 use Rattle.sum_sources.specs.Faults.{ByteString}
 use Rattle.sum_sources.specs.StandardInput.{told_reads}
 use Rattle.sum_sources.specs.Phases.{Phase, Ended}
-
--- its ending was read, once
-abbrev pub HasEnded : Phase → Type 0
-HasEnded (Ended e) = ⊤
-HasEnded phase = ⊥
 
 -- of a content of which m bytes were given, a read gave those up to the first n; or, if none was left, its ending
 pub record GivesFrom (c : Content) (m n size : ℕ) (r : Result ℕ Fault) (buf : ByteString) : Type 0 where
@@ -21,5 +16,5 @@ pub record GivesFrom (c : Content) (m n size : ℕ) (r : Result ℕ Fault) (buf 
 pub record ToldInvariant (c : Content) (given size : ℕ) (phase : Phase) (reads : Reads) : Type 0 where
   pub piece : 1 ≤ size
   pub few : given ≤ length c.bytes
-  pub ended : HasEnded phase → length c.bytes ≤ given
+  pub ended : (e : Ending) → phase ≡ Ended e → length c.bytes ≤ given
   pub log : reads ≡ told_reads c given phase

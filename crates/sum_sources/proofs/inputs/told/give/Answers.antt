@@ -1,18 +1,13 @@
-use Rattle.std.proofs.Common.{arith, ◌≡◌, ◌≤◌, ◌+◌, ◌++◌, ℕ, List, length, take, drop, sym, ap, ◌∙◌, ◌-◌, length-drop}
-use Rattle.std.proofs.Math.Seq.{take-append_seam, take-append-add}
-use Rattle.std.proofs.lemmas.List.{take-append-drop, length-take-le, take_all}
+use Rattle.std.proofs.Common.{arith, refl, ◌≡◌, ◌+◌, ◌++◌, ℕ, List, length, take, drop, ◌-◌, length-drop}
+use Rattle.std.proofs.Math.Seq.{take-append_seam, take-add}
+use Rattle.std.proofs.lemmas.List.{take_all}
 use Rattle.std.proofs.lemmas.Grind.{common_steps}
 use Rattle.sum_sources.proofs.inputs.told.give.Goals as goal
 
 -- the bytes that were copied are those that come next
-next_bytes : (bytes copied rest : List ℕ) (m n : ℕ) → m ≤ length bytes → copied ≡ take n (drop m bytes)
-    → length copied ≡ n → take (m + n) bytes ≡ take m bytes ++ take n (copied ++ rest)
-next_bytes bytes copied rest m n few is size =
-    let all : take (length (take m bytes) + n) (take m bytes ++ drop m bytes) ≡ take m bytes ++ take n (drop m bytes) =
-    take-append-add (take m bytes) (drop m bytes) n in
-    let front = rw (take-append-drop m bytes, length-take-le m bytes few) at all in
-    let copies : take n (copied ++ rest) ≡ copied = rw (← size) (take-append_seam copied rest) in
-    front ∙ ap (λ bs. take m bytes ++ bs) (sym is ∙ sym copies)
+next_bytes : (bytes copied rest : List ℕ) (m n : ℕ) → copied ≡ take n (drop m bytes) → length copied ≡ n
+    → take (m + n) bytes ≡ take m bytes ++ take n (copied ++ rest)
+next_bytes bytes copied rest m n is size = rw (take-add m n bytes, ← is, ← size, take-append_seam) refl
 
 -- some bytes were left
 pub returns-clause-gives : goal.returns-clause-gives
@@ -25,6 +20,6 @@ returns-clause-gives c =
     take_all _ _ (omega (arith, length-drop m bytes)) in
     let size : length c.copy_from_slice.new.self ≡ n = grind (arith, common_steps, h.len) in
     record {
-      bytes = next_bytes bytes c.copy_from_slice.new.self _ m n c.requires.few (rw rest at h.after) size;
+      bytes = next_bytes bytes c.copy_from_slice.new.self _ m n (rw rest at h.after) size;
       ending = λ none some. absurd (grind (arith, common_steps));
     }

@@ -1,6 +1,6 @@
 use Rattle.std.proofs.lemmas.Grind.{common_steps}
-use Rattle.std.proofs.Common.{ap, sym, arith, ◌∙◌, ◌≡◌, length}
-use Rattle.sum_sources.specs.LineReaders.{LineReaderValue, IsBounded}
+use Rattle.std.proofs.Common.{ap, arith, ◌≡◌, length}
+use Rattle.sum_sources.specs.LineReaders.{IsBounded}
 use Rattle.sum_sources.specs.declared.line_reader.LineReader.TheInside.{Inside}
 use Rattle.sum_sources.specs.refinement.LineStates.{line_reader_view, final_answer_in, LineReaderInvariant}
 use Rattle.sum_sources.proofs.ReadOnLemmas.{settled_again}
@@ -8,15 +8,11 @@ use Rattle.sum_sources.proofs.line_reader.LineReader.next_line.Goals as goal
 
 -- the end is returned again
 pub returns-in-Done-clause-line : goal.returns-in-Done-clause-line
-returns-in-Done-clause-line g c =
-    settled_again _ _ (sym (ap (λ (r : LineReaderValue _). r.final_answer) c.self.view_is)
-    ∙ ap final_answer_in c.in-Done.is)
+returns-in-Done-clause-line g c = settled_again _ _ (rw (← c.self.view_is) (ap final_answer_in c.in-Done.is))
 
 -- a stop is returned again
 pub returns-in-Stopped-clause-line : goal.returns-in-Stopped-clause-line
-returns-in-Stopped-clause-line g c =
-    settled_again _ _ (sym (ap (λ (r : LineReaderValue _). r.final_answer) c.self.view_is)
-    ∙ ap final_answer_in c.in-Stopped.is)
+returns-in-Stopped-clause-line g c = settled_again _ _ (rw (← c.self.view_is) (ap final_answer_in c.in-Stopped.is))
 
 -- what the fields keep
 bounded : {I : Type 0} (s : Inside I) → length s.buf ≡ 8192 → LineReaderInvariant s → IsBounded (line_reader_view s)

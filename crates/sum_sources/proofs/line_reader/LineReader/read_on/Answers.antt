@@ -1,11 +1,11 @@
-use Rattle.std.proofs.Common.{rules, arith, refl, ap, sym, append-nil, inr, ◌∙◌, [], Ok, Err, length}
+use Rattle.std.proofs.Common.{rules, arith, refl, ap, sym, append-nil, ◌≡◌, ◌∙◌, [], Ok, Err, length}
 use Rattle.std.proofs.lemmas.Grind.{common_steps}
 use Rattle.std.proofs.lemmas.List.{nil_from_length}
 use Rattle.sum_sources.specs.ManifestLines.{HasNoNewline, Line, NoMore}
 use Rattle.sum_sources.specs.Contents.{Whole, Broken}
 use Rattle.sum_sources.specs.LineReaders.{IsReading, LineReaderValue}
-use Rattle.sum_sources.proofs.ReadOnLemmas.{not_ahead, HasRead, HasRead-going, HasRead-more, HasRead-filled, ends_line, ends_memory, ends}
-use Rattle.sum_sources.proofs.LineLemmas.{IsNextLine-none, IsNextLine-last, IsNextLine-fault}
+use Rattle.sum_sources.proofs.ReadOnLemmas.{HasRead, HasRead-more, HasRead-filled, ends_line, ends_memory, no_line, ends}
+use Rattle.sum_sources.proofs.LineLemmas.{IsNextLine-last, IsNextLine-fault}
 use Rattle.sum_sources.specs.declared.line_reader.LineStop.TheVariants as stops
 use Rattle.sum_sources.proofs.line_reader.LineReader.read_on.Goals.{In-Ok-false}
 use Rattle.sum_sources.proofs.line_reader.LineReader.read_on.Given as given
@@ -31,65 +31,67 @@ returns-in-Err-clause-line g c =
 moved : (g : given.Over) (c : In-Ok-false g)
     → (IsReading g.I.Input.state c.args.self.now
     → HasRead g.I.Input.state c.args.self.now c.take_piece.new.self c.take_piece.new.line.items)
-    × HasNoNewline c.take_piece.new.line.items
+    × HasNoNewline c.take_piece.new.line.items × (c.take_piece.new.self.ahead ≡ [])
 moved g c =
     let piece = rw c.in-Ok-false.field-0-test at c.in-Ok-false.ensures.piece in
     let same = c.in-Ok-false.ensures.same in (
-      λ reading. rw piece.2 (HasRead-more (c.loop-self.invariant.read reading) _ c.take_piece.new.self.ahead same
+      λ reading. rw piece.2 (HasRead-more (c.loop-self.invariant.read reading) _ c.take_piece.new.self.ahead
+          c.take_piece.ensures.few.0 same
           (rw piece.1 (sym (append-nil c.loop-self.self.ahead)))),
       grind (arith, common_steps, c.loop-self.invariant.plain, piece.0),
+      piece.1,
     )
 
 -- more bytes are ahead
 pub loop-self-preserved : goal.loop-self-preserved
 loop-self-preserved g c =
-    let (read, plain) = moved g (goal.at.loop-self-preserved g c).In-Ok-false in
+    let (read, plain, none) = moved g (goal.at.loop-self-preserved g c).In-Ok-false in
     let piece = rw c.in-Ok-false.field-0-test at c.in-Ok-false.ensures.piece in
     let fills = c.in-Ok.ensures in
     record {
       read = λ reading. let h = read reading in
-          HasRead-filled h _ (search rules) piece.1 (fills.reads (HasRead-going h)) fills.reader;
+          HasRead-filled h _ (search rules) none (fills.reads h.under_way.phase) fills.reader;
       going = search rules;
       sum = search rules;
       plain = plain;
       taken = search rules;
       same = search rules;
       lines = search rules;
-      unread = inr (not_ahead _ _ c.loop-self.invariant.unread piece.0);
+      unread = λ some. absurd (some (rw (c.loop-self.invariant.unread some) at piece.0));
     }
 
 -- the input has ended, and the line is empty
 pub returns-then-is_empty-clause-line : goal.returns-then-is_empty-clause-line
 returns-then-is_empty-clause-line g c =
-    let (read, plain) = moved g (goal.at.returns-then-is_empty-clause-line g c).In-Ok-false in
-    let piece = rw c.in-Ok-false.field-0-test at c.in-Ok-false.ensures.piece in
+    let (read, plain, none) = moved g (goal.at.returns-then-is_empty-clause-line g c).In-Ok-false in
     let fills = rw c.in-Ok-eq0.field-0-test at c.in-Ok-eq0.ensures.reads in
     let counts = rw c.in-Ok-eq0.field-0-test at c.in-Ok-eq0.ensures.reader in
     λ reading.
     let h = read reading in
-    ends c.fill.new.self Whole (Ok NoMore) h piece.1 (fills (HasRead-going h)) counts.0 (omega (arith, counts.1))
-    (rw (← c.self-in-loop-self.view_is) refl) (IsNextLine-none _ [] (nil_from_length _ (search rules))) (omega (arith, counts.1))
+    ends c.fill.new.self Whole (Ok NoMore) h none (fills h.under_way.phase) counts.0 (omega (arith, counts.1))
+    (rw (← c.self-in-loop-self.view_is) refl)
+    (rw (nil_from_length c.take_piece.new.line.items (search rules)) (no_line Whole []))
+    (λ next is. omega (arith, counts.1))
 
 -- the input has ended after a last line
 pub returns-in-Ok-eq0-clause-line : goal.returns-in-Ok-eq0-clause-line
 returns-in-Ok-eq0-clause-line g c =
-    let (read, plain) = moved g (goal.at.returns-in-Ok-eq0-clause-line g c).In-Ok-false in
-    let piece = rw c.in-Ok-false.field-0-test at c.in-Ok-false.ensures.piece in
+    let (read, plain, none) = moved g (goal.at.returns-in-Ok-eq0-clause-line g c).In-Ok-false in
     let fills = rw c.in-Ok-eq0.field-0-test at c.in-Ok-eq0.ensures.reads in
     let counts = rw c.in-Ok-eq0.field-0-test at c.in-Ok-eq0.ensures.reader in
     λ reading.
     let h = read reading in
-    ends c.fill.new.self Whole (Ok Line) h piece.1 (fills (HasRead-going h)) counts.0 (omega (arith, counts.1))
-    (rw (← c.self-in-loop-self.view_is) refl) (IsNextLine-last _ plain (search rules)) (omega (arith, counts.1))
+    ends c.fill.new.self Whole (Ok Line) h none (fills h.under_way.phase) counts.0 (omega (arith, counts.1))
+    (rw (← c.self-in-loop-self.view_is) refl) (IsNextLine-last _ plain (search rules))
+    (λ next is. omega (arith, counts.1))
 
 -- the input has a fault
 pub returns-in-Err-fill-clause-line : goal.returns-in-Err-fill-clause-line
 returns-in-Err-fill-clause-line g c =
-    let (read, plain) = moved g (goal.at.returns-in-Err-fill-clause-line g c).In-Ok-false in
-    let piece = rw c.in-Ok-false.field-0-test at c.in-Ok-false.ensures.piece in
+    let (read, plain, none) = moved g (goal.at.returns-in-Err-fill-clause-line g c).In-Ok-false in
     let e = c.in-Err-fill.ensures in
     λ reading.
     let h = read reading in
-    ends c.fill.new.self (Broken _) (Err (stops.Fault _)) h piece.1 (e.reads (HasRead-going h)) (ap length e.reader.0) e.reader.1
+    ends c.fill.new.self (Broken _) (Err (stops.Fault _)) h none (e.reads h.under_way.phase) (ap length e.reader.0) e.reader.1
     (ap (λ a. record c.fill.new.self { final_answer = a }) e.reader.2)
-    (IsNextLine-fault _ _ plain) tt
+    (IsNextLine-fault _ _ plain) (λ next is. cc)

@@ -1,4 +1,4 @@
-use Rattle.std.proofs.Common.{◌≡◌, ◌^◌, ◌-◌, ◌+◌, ◌⊎◌, None, length}
+use Rattle.std.proofs.Common.{◌≡◌, ◌^◌, ◌-◌, ◌+◌, None, length}
 use Rattle.sum_sources.specs.Contents.{IsSameInput}
 use Rattle.sum_sources.specs.LineReaders.{consumed_count, IsReading}
 use Rattle.sum_sources.specs.ManifestLines.{HasNoNewline}
@@ -16,7 +16,7 @@ invariant-loop-self g l = record {
       ≡ l.fn.self.taken + length (g.I.Input.state l.self.input).reads.bytes;
   same : IsSameInput (g.I.Input.state l.fn.self.input) (g.I.Input.state l.self.input);
   lines : l.self.lines ≡ l.fn.self.lines;
-  unread : (l.self ≡ l.fn.self) ⊎ HasNoNewline l.fn.self.ahead;
+  unread : ¬ HasNoNewline l.fn.self.ahead → l.self ≡ l.fn.self;
 }
 
 -- the bytes that may still come

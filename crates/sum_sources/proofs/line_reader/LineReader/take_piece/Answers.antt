@@ -1,7 +1,8 @@
 use Rattle.std.proofs.Common.{arith}
 use Rattle.std.proofs.lemmas.Grind.{common_steps}
+use Rattle.std.proofs.Math.Seq.{take-length}
 use Rattle.std.proofs.lemmas.Bool.{eqb-true}
-use Rattle.sum_sources.proofs.PieceLemmas.{plain_piece, plain_prefix, cut_buffer}
+use Rattle.sum_sources.proofs.PieceLemmas.{plain_prefix, cut_buffer}
 use Rattle.sum_sources.proofs.line_reader.LineReader.take_piece.Goals as goal
 
 -- the piece up to the newline
@@ -20,7 +21,7 @@ returns-in_ok-extend_from_slice-in-Some-clause-piece g c =
 pub returns-in_ok-extend_from_slice-in-None-clause-piece : goal.returns-in_ok-extend_from_slice-in-None-clause-piece
 returns-in_ok-extend_from_slice-in-None-clause-piece g c =
     rw (← c.self.view_is) (
-      plain_piece _ c.in-None.ensures,
+      rw take-length at (plain_prefix _ _ (omega arith) c.in-None.ensures),
       grind arith,
       c.in_ok-extend_from_slice-in-None.ensures.items,
     )

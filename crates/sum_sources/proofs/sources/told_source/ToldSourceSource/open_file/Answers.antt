@@ -1,9 +1,8 @@
-use Rattle.std.proofs.Common.{rules, refl, ap, ◌∙◌, ◌≡◌, Ok, Err, Some, map, List, length}
-use Rattle.sum_sources.specs.Sources.{Opening, SourceState, first_answer}
+use Rattle.std.proofs.Common.{rules, refl, ap, ◌∙◌, ◌≡◌, Ok, Err, map, length}
+use Rattle.sum_sources.specs.Sources.{first_answer}
 use Rattle.sum_sources.specs.StandardInput.{told_file}
-use Rattle.sum_sources.specs.declared.sources.told_source.ToldSource.TheInside.{Inside}
 use Rattle.sum_sources.specs.refinement.ToldPairs.{pair_of}
-use Rattle.sum_sources.proofs.ToldSourceLemmas.{opened_state, count_asked, count_told}
+use Rattle.sum_sources.proofs.ToldSourceLemmas.{value, opened_state, count_asked, count_told}
 use Rattle.sum_sources.proofs.sources.told_source.ToldSourceSource.open_file.Goals.{In-Fault, In-Content}
 use Rattle.sum_sources.proofs.sources.told_source.ToldSourceSource.open_file.Given as given
 use Rattle.sum_sources.proofs.sources.told_source.ToldSourceSource.open_file.Goals as goal
@@ -19,24 +18,17 @@ content : (g : given.Over) (c : In-Content g) → first_answer (map pair_of c.se
 content g c = rw (← count_asked _ _ _ c.self.invariant) (search rules)
 
 -- and so the state shows it
-abbrev with : {A : Type 0} → Inside A → List Opening → SourceState
-with s os = record {
-  told = Some (map pair_of s.pairs.items);
-  openings = os;
-  refusals = s.log.refusals;
-}
-
 pub returns-in-Fault-clause-state : goal.returns-in-Fault-clause-state
 returns-in-Fault-clause-state g c =
     let is = fault g (goal.at.returns-in-Fault-clause-state g c).In-Fault in
     rw (← c.self.view_is, c.and-self-inside-in-Fault.ensures)
-    (ap (with c.self.inside) (opened_state _ _ _ (rw is refl)))
+    (opened_state (value c.self.inside) _ (rw is refl))
 
 pub returns-in-Content-clause-state : goal.returns-in-Content-clause-state
 returns-in-Content-clause-state g c =
     let is = content g (goal.at.returns-in-Content-clause-state g c).In-Content in
     rw (← c.self.view_is, c.and-self-inside-in-Content.ensures)
-    (ap (with c.self.inside) (opened_state _ _ _ (rw is refl)))
+    (opened_state (value c.self.inside) _ (rw is refl))
 
 -- the file has the content of the answer
 pub returns-in-Content-clause-file : goal.returns-in-Content-clause-file
