@@ -10,7 +10,7 @@ use Rattle.sum_engine.specs.check.Checker.{step_then}
 use Rattle.sum_engine.specs.check.CheckerLaws.{EventsExtend}
 use Rattle.sum_engine.specs.refinement.FlushedWrites.{WritesAndReturns}
 use Rattle.sum_engine.specs.refinement.Names.{MemoryWasRefused}
-use Rattle.sum_engine.proofs.ExecutionLemmas.{step_performed, names-by, err-by, out-by, Happened-none, Happened-then, HappenedOrPrefix-by, refused_first}
+use Rattle.sum_engine.proofs.ExecutionLemmas.{step_performed, names-by, err-by, out-by, Happened-none, Happened-then, refused_first}
 
 -- ---- a behavior after a step, and one behavior after another
 
@@ -94,10 +94,8 @@ pub Performs-step : {A : Type 0} (run : World → Behavior) (outcome : Bool → 
     {names : List (List ℕ)} {err out : List ℕ} {x : Result A Stop} → AsksNames a.inputs b.inputs names
     → ((w : World) → Agrees w b.inputs → run (world_at w a.inputs) ≡ single_step names err out good)
     → WritesAndReturns a.outputs b.outputs err out (outcome good) x → Performs run outcome a b x
-Performs-step run outcome good a b {names} {err} {out} asked is said = λ flushed w agrees.
-    let came = HappenedOrPrefix-by a b names err out said.written asked (said.writes.1 flushed).1 in
-    let step : Step = record { names = names; err = err; out = out; remaining = 0 } in
-    rw (is w agrees, said.returns) (step_performed (outcome good) a b step said.written came)
+Performs-step run outcome good a b asked is said = λ flushed w agrees.
+    rw (is w agrees) (step_performed 0 asked flushed said)
 
 -- the source had no memory to open the first step's name
 pub Performs-refused : {A : Type 0} (run : World → Behavior) (outcome : Bool → A) (a b : StreamsState)

@@ -6,9 +6,9 @@ use Rattle.std.proofs.lemmas.List.Elements.{filter_map-append}
 use Rattle.sum_lines.specs.Sinks.{IsPrefix, Gets, GetsPrefix}
 use Rattle.sum_lines.proofs.EventLemmas.{Gets-none, Gets-then}
 use Rattle.sum_engine.specs.Behavior.{Event, Step, events_of, OutputEvent, output_events, open_name, to_err, to_out, opened_name, err_event, out_event}
-use Rattle.sum_engine.specs.refinement.FlushedWrites.{WritesBoth, outcome_after}
+use Rattle.sum_engine.specs.refinement.FlushedWrites.{WritesBoth, WritesAndReturns, outcome_after}
 use Rattle.sum_engine.specs.refinement.Names.{MemoryWasRefused}
-use Rattle.sum_engine.specs.Execution.{InputsState, StreamsState, StopHasCause, asked, AsksNames, Stop, Memory, Write, Happened, RunsOutOfMemory, PerformsSteps}
+use Rattle.sum_engine.specs.Execution.{InputsState, StreamsState, IsFlushed, StopHasCause, asked, AsksNames, Stop, Memory, Write, Happened, RunsOutOfMemory, PerformsSteps}
 use Rattle.sum_engine.proofs.WorldLemmas.{asks_none, asks_then}
 
 -- ---- what of a step's events is of each kind
@@ -69,7 +69,7 @@ abbrev PrefixHappened : StreamsState → StreamsState → List Event → Type 0
 PrefixHappened a b es = (prefix : List Event) × IsPrefix prefix es × Happened a b prefix
 
 -- the names were asked, and standard error got a prefix of its events
-pub prefix_err : {a b : StreamsState} (names : List (List ℕ)) (err out : List OutputEvent) → AsksNames a.inputs b.inputs names
+prefix_err : {a b : StreamsState} (names : List (List ℕ)) (err out : List OutputEvent) → AsksNames a.inputs b.inputs names
     → GetsPrefix a.outputs.err.sink b.outputs.err.sink err → b.outputs.out.sink ≡ a.outputs.out.sink
     → PrefixHappened a b (events_by names err out)
 prefix_err {a} names err out asked h same =
@@ -78,31 +78,27 @@ prefix_err {a} names err out asked h same =
     (events_by names h.0 [], (rest, search (rules, map-append, append_assoc)), did)
 
 -- it got all of them, and standard output a prefix of its own
-pub prefix_out : {a b : StreamsState} (names : List (List ℕ)) (err out : List OutputEvent) → AsksNames a.inputs b.inputs names
+prefix_out : {a b : StreamsState} (names : List (List ℕ)) (err out : List OutputEvent) → AsksNames a.inputs b.inputs names
     → Gets a.outputs.err.sink b.outputs.err.sink err → GetsPrefix a.outputs.out.sink b.outputs.out.sink out
     → PrefixHappened a b (events_by names err out)
 prefix_out names err out asked all h =
     let rest : List Event = map to_out h.1.0 in
     (events_by names err h.0, (rest, search (rules, map-append, append_assoc)), Happened-by names err h.0 asked all h.2)
 
--- what it wrote happened, or a prefix of it if it failed
-abbrev pub HappenedOrPrefix : {E : Type 0} → Result (Unit {0}) E → StreamsState → StreamsState → List Event → Type 0
-HappenedOrPrefix (Ok u) a b es = Happened a b es
-HappenedOrPrefix (Err e) a b es = PrefixHappened a b es
-
--- the names were asked, and the two texts or a prefix of them were written
-pub HappenedOrPrefix-by : {E : Type 0} (a b : StreamsState) (names : List (List ℕ)) (err out : List ℕ)
-    (x : Result (Unit {0}) E) → AsksNames a.inputs b.inputs names → WritesBoth a.outputs b.outputs err out x
-    → HappenedOrPrefix x a b (events_by names (output_events err) (output_events out))
-HappenedOrPrefix-by a b names err out (Ok u) asked h = Happened-by names _ _ asked h.0 h.1
-HappenedOrPrefix-by a b names err out (Err e) asked (inl h) = prefix_err names _ _ asked h.0 h.1
-HappenedOrPrefix-by a b names err out (Err e) asked (inr h) = prefix_out names _ _ asked h.0 h.1
-
--- one step was performed, by what came of its events
-pub step_performed : {E A : Type 0} (outcome : A) (a b : StreamsState) (step : Step) (x : Result (Unit {0}) E)
-    → HappenedOrPrefix x a b (events_of step) → PerformsSteps (step ∷ []) outcome a b (outcome_after x outcome)
-step_performed outcome a b step (Ok u) came = rw (append-nil (events_of step)) (refl, came)
-step_performed outcome a b step (Err e) came = rw (append-nil (events_of step)) came
+-- the names were asked and the texts written, or a prefix of them: so the step that has these was performed
+pub step_performed : {A : Type 0} {a b : StreamsState} {names : List (List ℕ)} {err out : List ℕ} {x : A} {r : Result A Stop}
+    (remaining : ℕ) → AsksNames a.inputs b.inputs names → IsFlushed a.outputs
+    → WritesAndReturns a.outputs b.outputs err out x r
+    → PerformsSteps (record { names = names; err = err; out = out; remaining = remaining } ∷ []) x a b r
+step_performed {A} {a} {b} {names} {err} {out} {x} remaining asked flushed said =
+    rw said.returns (by said.written (said.writes.1 flushed).1)
+  where
+    by : (w : Result (Unit {0}) (Unit {0})) → WritesBoth a.outputs b.outputs err out w
+        → PerformsSteps (record { names = names; err = err; out = out; remaining = remaining } ∷ []) x a b
+        (outcome_after w x)
+    by (Ok u) h = rw append-nil (refl, Happened-by names _ _ asked h.0 h.1)
+    by (Err e) (inl h) = rw append-nil (prefix_err names _ _ asked h.0 h.1)
+    by (Err e) (inr h) = rw append-nil (prefix_out names _ _ asked h.0 h.1)
 
 -- ---- what stays
 
@@ -159,11 +155,4 @@ pub kept_performs : {A : Type 0} (steps : List Step) (x : A) (a b c : StreamsSta
     → PerformsSteps steps x a b r → PerformsSteps steps x a c r
 kept_performs steps x a b c (Ok outcome) h did = (did.0, kept_happened a b c _ h did.1)
 kept_performs steps x a b c (Err Write) h did = (did.0, did.1, kept_happened a b c did.0 h did.2)
-kept_performs steps x a b c (Err Memory) h did = record {
-  done = did.done;
-  next = did.next;
-  later = did.later;
-  are = did.are;
-  happened = search rules;
-  cause = rw h.refusals did.cause;
-}
+kept_performs steps x a b c (Err Memory) h did = search rules

@@ -236,25 +236,17 @@ module _ {name : List ℕ} {a m b n : InputsState} {s : InputState} (t : InputSt
     name_hashed {kind} (Ok d) h len =
         let phase = ap (λ (r : Reads). r.phase) given.reads in
         let o : WasOpened (Unit {0}) a m m n name t = hashed_once h.same (h.past phase, λ u. h.end phase) in
-        let hash = hash_is kind t.reads (Ok d) (h.digest given.reads) in
-        record {
-          hash = λ w agrees. hash _ (o.answer w agrees);
-          asked = search rules;
-          stdin = λ file. (o.file file).1 ∙ (o.file file).0;
-          reads = o.reads;
-          len = len;
-        }
+        let hash = λ (w : World) (agrees : Agrees w n).
+        hash_is kind t.reads (Ok d) (h.digest given.reads) _ (o.answer w agrees) in
+        let stdin = λ (file : is_dash name ≡ false). (o.file file).1 ∙ (o.file file).0 in
+        search rules
     name_hashed {kind} (Err f) h len =
         let phase = ap (λ (r : Reads). r.phase) given.reads in
         let o : WasOpened ⊥ a m m n name t = hashed_once h.same (h.past phase, λ u. absurd u) in
-        let hash = hash_is kind t.reads (Err f) (h.digest given.reads) in
-        record {
-          hash = λ w agrees. hash _ (o.answer w agrees);
-          asked = search rules;
-          stdin = λ file. (o.file file).1 ∙ (o.file file).0;
-          reads = o.reads;
-          len = tt;
-        }
+        let hash = λ (w : World) (agrees : Agrees w n).
+        hash_is kind t.reads (Err f) (h.digest given.reads) _ (o.answer w agrees) in
+        let stdin = λ (file : is_dash name ≡ false). (o.file file).1 ∙ (o.file file).0 in
+        search rules
 
 -- it could not be opened
 pub name_not_opened : {kind : KindValue} {name : List ℕ} {a m : InputsState} (f : OpenFault)
