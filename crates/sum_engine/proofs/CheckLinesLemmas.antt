@@ -1,6 +1,6 @@
 -- `check_lines`: a new checker runs to its end. What happened so far and what remains is the whole behavior
 -- (`HasComeTo`). A step that goes on keeps this. The step that ends or stops proves the contract by it.
-use Rattle.std.proofs.Common.{rules, ◌^◌, ◌-◌, ◌<◌, ◌≡◌, ℕ, Bool, List, [], ◌∷◌, Result, Ok, Err, Some, None, true, refl, ap, ◌∙◌, subst, arith}
+use Rattle.std.proofs.Common.{rules, ◌^◌, ◌-◌, ◌<◌, ◌≡◌, ℕ, Bool, List, [], ◌∷◌, ◌++◌, Result, Ok, Err, Some, None, true, refl, ap, ◌∙◌, subst, arith, append-nil}
 use Rattle.sum_sources.specs.Contents.{IsSameInput}
 use Rattle.sum_engine.specs.Behavior.{World, Step, Behavior, Content, InputState, clip}
 use Rattle.sum_engine.specs.check.Rules.{Rules, LabelsValue}
@@ -17,7 +17,7 @@ use Rattle.sum_engine.specs.refinement.FlushedWrites.{outcome_after, WritesAndFl
 use Rattle.sum_engine.proofs.CountLemmas.{counts_then-none}
 use Rattle.sum_engine.proofs.ExecutionLemmas.{one_at_most, stop_after}
 use Rattle.sum_engine.proofs.WorldLemmas.{agrees_before, reads_none, reads_then}
-use Rattle.sum_engine.proofs.BehaviorLemmas.{HasDoneUpTo, done_none, done_more, done_end, done_stops}
+use Rattle.sum_engine.proofs.BehaviorLemmas.{HasDoneUpTo, done_none, done_more, done_stops}
 
 -- ---- before the first step
 
@@ -51,8 +51,9 @@ pub done_last : {whole left : Behavior} {a b : StreamsState} (c : StreamsState) 
     → PerformsSteps whole.steps whole.good a c x
 done_last c step later (Ok good) h is k =
     let last = none_left later.steps later.good good k.0 in
-    let all = done_end (done_more step later h is k.1) last.0 in
-    (last.1 ∙ all.0, all.1)
+    let all = done_more step later h is k.1 in
+    let steps = all.steps ∙ ap (λ steps. all.done ++ steps) last.0 ∙ append-nil all.done in
+    (last.1 ∙ all.good, rw steps all.happened)
 done_last {whole} c step later (Err stop) h is k =
     done_stops c whole.good (progress_before later.steps later.good) step later stop h is k
 

@@ -12,7 +12,7 @@ use Rattle.sum_engine.specs.Execution.{Stop, Memory, InputsState, OutputsState, 
 use Rattle.sum_engine.specs.Generation.{name_fault_line}
 use Rattle.sum_engine.specs.refinement.FlushedWrites.{WritesAndReturns}
 use Rattle.sum_engine.specs.refinement.Names.{MemoryWasRefused}
-use Rattle.sum_engine.proofs.ExecutionLemmas.{Happened-by, IsKept, kept_performs}
+use Rattle.sum_engine.proofs.ExecutionLemmas.{Happened-by, kept_performs}
 use Rattle.sum_engine.proofs.WorldLemmas.{world_after}
 use Rattle.sum_engine.proofs.BehaviorLemmas.{behind_step, Performs-step, Performs-refused}
 use Rattle.sum_engine.proofs.CheckLinesLemmas.{manifest_behavior}
@@ -55,10 +55,8 @@ module _ (settings : CheckSettings) (tool name : List ℕ) (a : StreamsState) wh
   check_opened m n s t b x fresh o run = λ flushed w agrees.
       let (c, answer, of) = o.answer w agrees in
       let ran = run.behavior fresh c of flushed w (o.agrees w agrees) in
-      let kept : IsKept b (record b { inputs = n }) =
-      record { outputs = refl; asked = o.asked; taken = o.taken; refusals = o.refusals } in
       let all = check_behavior settings tool (world_at w a.inputs) name in
-      kept_performs all.steps all.good a b (record b { inputs = n }) x kept
+      kept_performs all.steps all.good a b n x o.asked o.taken o.refusals
       (opened_behavior c m b x w o.asks answer ran)
 
   -- it could not be opened, and the line of its fault was written, or a prefix of it

@@ -9,7 +9,7 @@ use Rattle.sum_engine.specs.check.Reports.{err_of, out_of, end_text, good}
 use Rattle.sum_engine.specs.check.CheckStates.{CheckState, HandlesLine, remaining_verdicts, remaining_behavior}
 use Rattle.sum_engine.specs.check.Verdicts.{VerdictsValue, state_at, InEachCheck, AdvancesVerdicts, VerdictResult, line_verdict_value, IsNextVerdict, HasNoVerdictLeft}
 use Rattle.sum_engine.specs.check.Checker.{ReportsFound, Progress, Going, Ended, step_then, progress_before, IsStep, TakesStep}
-use Rattle.sum_engine.specs.Execution.{Stop, InputsState, StreamsState, AsksNames, PerformsSteps, world_at}
+use Rattle.sum_engine.specs.Execution.{Stop, InputsState, StreamsState, AsksNames, RunsOutOfMemory, PerformsSteps, world_at}
 use Rattle.sum_engine.specs.refinement.FlushedWrites.{WritesAndReturns}
 use Rattle.sum_engine.specs.refinement.Names.{MemoryWasRefused}
 use Rattle.sum_engine.proofs.ExecutionLemmas.{step_performed, refused_first}
@@ -43,11 +43,13 @@ step_by r labels a b s t vector step later progress x is next performs going = r
   going = λ h. going (sym (rw h at performs).0);
 }
 
--- memory was refused, or bytes of the manifest remained
-refused_by : {a b : InputsState} {Some : Type 0} → Some → MemoryWasRefused a b ⊎ (b ≡ a)
-    → MemoryWasRefused a b ⊎ ((b ≡ a) × Some)
-refused_by some (inl refused) = inl refused
-refused_by some (inr same) = inr (same, some)
+-- memory was refused, or bytes of the manifest remained, and nothing was written
+refused_by : {a b : StreamsState} (next : Step) → 0 < next.remaining → b.outputs ≡ a.outputs
+    → MemoryWasRefused a.inputs b.inputs ⊎ (b.inputs ≡ a.inputs) → RunsOutOfMemory (next ∷ []) a b
+refused_by next some outputs (inl refused) =
+    refused_first next [] refl (rw (refused, outputs) refl) (inl (rw refused refl))
+refused_by next some outputs (inr same) =
+    refused_first next [] refl (rw (same, outputs) refl) (inr (rw same refl, some))
 
 -- from p and the streams a to q and the streams b
 module _ {I : Type 0} {state : I → InputState} {p q : VerdictsValue I} (a b : StreamsState) (labels : LabelsValue)
@@ -104,7 +106,6 @@ module _ {I : Type 0} {state : I → InputState} {p q : VerdictsValue I} (a b : 
           step = first.0;
           later = first.1;
           is = first.2;
-          performs =
-              refused_first a b first.0 [] refl reported.1 (refused_by (rw (← first.3) at f.1) did.asked);
+          performs = refused_by first.0 (rw (← first.3) at f.1) reported.1 did.asked;
           going = λ h. cc;
         }))
