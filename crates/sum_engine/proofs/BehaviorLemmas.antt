@@ -10,7 +10,7 @@ use Rattle.sum_engine.specs.check.Checker.{step_then}
 use Rattle.sum_engine.specs.check.CheckerLaws.{EventsExtend}
 use Rattle.sum_engine.specs.refinement.FlushedWrites.{WritesAndReturns}
 use Rattle.sum_engine.specs.refinement.Names.{MemoryWasRefused}
-use Rattle.sum_engine.proofs.ExecutionLemmas.{step_performed, names-by, err-by, out-by, Happened-none, Happened-then, HappenedOrPrefix-by, refused_first}
+use Rattle.sum_engine.proofs.ExecutionLemmas.{step_performed, kind-all, kind-none, Happened-none, Happened-then, refused_first}
 
 -- ---- a behavior after a step, and one behavior after another
 
@@ -72,11 +72,6 @@ done_more step later h is k = record {
   happened = behavior_then-happened h.done (step ∷ []) h.happened k;
 }
 
--- no step is left: all happened
-pub done_end : {a b : StreamsState} {whole left : Behavior} → HasDoneUpTo whole left a b → left.steps ≡ []
-    → (left.good ≡ whole.good) × Happened a b (trace whole.steps)
-done_end h none = (h.good, rw (h.steps, none, append-nil h.done) h.happened)
-
 -- the next step stopped
 pub done_stops : {A B : Type 0} {a b : StreamsState} {whole left : Behavior} (c : StreamsState) (x : A) (y : B)
     (step : Step) (later : Behavior) (stop : Stop) → HasDoneUpTo whole left a b → left ≡ step_then step later
@@ -94,10 +89,8 @@ pub Performs-step : {A : Type 0} (run : World → Behavior) (outcome : Bool → 
     {names : List (List ℕ)} {err out : List ℕ} {x : Result A Stop} → AsksNames a.inputs b.inputs names
     → ((w : World) → Agrees w b.inputs → run (world_at w a.inputs) ≡ single_step names err out good)
     → WritesAndReturns a.outputs b.outputs err out (outcome good) x → Performs run outcome a b x
-Performs-step run outcome good a b {names} {err} {out} asked is said = λ flushed w agrees.
-    let came = HappenedOrPrefix-by a b names err out said.written asked (said.writes.1 flushed).1 in
-    let step : Step = record { names = names; err = err; out = out; remaining = 0 } in
-    rw (is w agrees, said.returns) (step_performed (outcome good) a b step said.written came)
+Performs-step run outcome good a b asked is said = λ flushed w agrees.
+    rw (is w agrees) (step_performed 0 asked flushed said)
 
 -- the source had no memory to open the first step's name
 pub Performs-refused : {A : Type 0} (run : World → Behavior) (outcome : Bool → A) (a b : StreamsState)
@@ -105,7 +98,7 @@ pub Performs-refused : {A : Type 0} (run : World → Behavior) (outcome : Bool �
     → MemoryWasRefused a.inputs b.inputs → b.outputs ≡ a.outputs → Performs run outcome a b (Err Memory)
 Performs-refused run outcome a b first refused outputs = λ flushed w agrees.
     let next = first (world_at w a.inputs) in
-    refused_first a b next.0 next.1 next.2 outputs (inl refused)
+    refused_first next.0 next.1 next.2 (rw (refused, outputs) refl) (inl (rw refused refl))
 
 -- ---- what a run's events come to
 
@@ -130,11 +123,11 @@ bytes_of_texts part (s ∷ steps) =
 pub events_extend : EventsExtend
 events_extend r a b did =
     let names = kind_of_events opened_name (λ s. s.names)
-    (λ s. names-by s.names (output_events s.err) (output_events s.out)) r.steps in
+    (λ s. search (rules, filter_map-append, kind-all, kind-none)) r.steps in
     let err = kind_of_events err_event (λ s. output_events s.err)
-    (λ s. err-by s.names (output_events s.err) (output_events s.out)) r.steps in
+    (λ s. search (rules, filter_map-append, kind-all, kind-none)) r.steps in
     let out = kind_of_events out_event (λ s. output_events s.out)
-    (λ s. out-by s.names (output_events s.err) (output_events s.out)) r.steps in (
+    (λ s. search (rules, filter_map-append, kind-all, kind-none)) r.steps in (
       rw names at did.inputs,
       rw (err, bytes_of_texts (λ s. s.err) r.steps) at did.err.written,
       rw (out, bytes_of_texts (λ s. s.out) r.steps) at did.out.written,

@@ -1,7 +1,7 @@
 -- `check_lines`: a new checker runs to its end. What happened so far and what remains is the whole behavior
 -- (`HasComeTo`). A step that goes on keeps this. The step that ends or stops proves the contract by it.
-use Rattle.std.proofs.Common.{rules, ◌^◌, ◌-◌, ◌<◌, ◌≡◌, ℕ, Bool, List, [], ◌∷◌, Result, Ok, Err, Some, None, true, refl, ap, ◌∙◌, subst, arith}
-use Rattle.sum_sources.specs.Contents.{unread}
+use Rattle.std.proofs.Common.{rules, ◌^◌, ◌-◌, ◌<◌, ◌≡◌, ℕ, Bool, List, [], ◌∷◌, ◌++◌, Result, Ok, Err, Some, None, true, refl, ap, ◌∙◌, subst, arith, append-nil}
+use Rattle.sum_sources.specs.Contents.{IsSameInput}
 use Rattle.sum_engine.specs.Behavior.{World, Step, Behavior, Content, InputState, clip}
 use Rattle.sum_engine.specs.check.Rules.{Rules, LabelsValue}
 use Rattle.sum_engine.specs.check.Judge.{all_verdicts}
@@ -11,13 +11,13 @@ use Rattle.sum_engine.specs.check.Verdicts.{IsAtStart, VerdictsValue, state_at, 
 use Rattle.sum_engine.specs.check.Checker.{ReportsFound, Progress, Going, Ended, IsStep, TakesStep, step_then, progress_before, CheckerValue, AdvancesChecker, ends}
 use Rattle.sum_sources.specs.declared.line_reader.LineStop.TheVariants.{Fault, Memory}
 use Rattle.sum_sources.specs.LineReaders.{remaining, IsReading}
-use Rattle.sum_engine.specs.check.CheckerLaws.{ManifestPerforms}
-use Rattle.sum_engine.specs.Execution.{Stop, OutputsState, StreamsState, IsFlushed, IsAtEndIf, world_at, PerformsSteps, StopHasCause}
+use Rattle.sum_engine.specs.check.CheckerLaws.{RunsManifest}
+use Rattle.sum_engine.specs.Execution.{Stop, OutputsState, StreamsState, IsFlushed, ReadsToEndIf, world_at, PerformsSteps, StopHasCause}
 use Rattle.sum_engine.specs.refinement.FlushedWrites.{outcome_after, WritesAndFlushesBoth, WritesAndReturns}
 use Rattle.sum_engine.proofs.CountLemmas.{counts_then-none}
-use Rattle.sum_engine.proofs.ExecutionLemmas.{one_at_most}
-use Rattle.sum_engine.proofs.WorldLemmas.{agrees_before}
-use Rattle.sum_engine.proofs.BehaviorLemmas.{HasDoneUpTo, done_none, done_more, done_end, done_stops}
+use Rattle.sum_engine.proofs.ExecutionLemmas.{one_at_most, stop_after}
+use Rattle.sum_engine.proofs.WorldLemmas.{agrees_before, reads_none, reads_then}
+use Rattle.sum_engine.proofs.BehaviorLemmas.{HasDoneUpTo, done_none, done_more, done_stops}
 
 -- ---- before the first step
 
@@ -51,8 +51,9 @@ pub done_last : {whole left : Behavior} {a b : StreamsState} (c : StreamsState) 
     → PerformsSteps whole.steps whole.good a c x
 done_last c step later (Ok good) h is k =
     let last = none_left later.steps later.good good k.0 in
-    let all = done_end (done_more step later h is k.1) last.0 in
-    (last.1 ∙ all.0, all.1)
+    let all = done_more step later h is k.1 in
+    let steps = all.steps ∙ ap (λ steps. all.done ++ steps) last.0 ∙ append-nil all.done in
+    (last.1 ∙ all.good, rw steps all.happened)
 done_last {whole} c step later (Err stop) h is k =
     done_stops c whole.good (progress_before later.steps later.good) step later stop h is k
 
@@ -100,13 +101,16 @@ cause_found q labels vector (Err (Fault f)) a b asked h = wrote_cause asked.refu
 cause_found q labels vector (Ok (Some v)) a b asked h = wrote_cause asked.refusals h
 cause_found q labels vector (Ok None) a b asked h = wrote_cause asked.refusals h
 
+-- the cause of a stop of a step that ends or stops, after steps that went on
+cause_ends : {a b c : StreamsState} (x : Result Bool Stop) → StopHasCause {A = Bool} (0 ∷ 1 ∷ []) a b (Ok true)
+    → StopHasCause (0 ∷ 1 ∷ []) b c (ends x) → StopHasCause (0 ∷ 1 ∷ []) a c x
+cause_ends (Ok good) h k = search rules
+cause_ends (Err stop) h k = stop_after stop h k
+
 module _ {I : Type 0} {state : I → InputState} {vector : List ℕ} {p q : CheckerValue I} {a b : StreamsState} where
-  pub step_cause : {x : Result Progress Stop} → AdvancesChecker state vector p q a b x
+  step_cause : {x : Result Progress Stop} → AdvancesChecker state vector p q a b x
       → StopHasCause (0 ∷ 1 ∷ []) a b x
   step_cause h = cause_found q.verdicts p.labels vector h.found a b h.verdict.asked h.reports
-
-  pub good_end : AdvancesChecker state vector p q a b (Ok (Ended true)) → q.verdicts.counts.unread ≡ 0
-  good_end h = (good_found q.verdicts p.labels vector h.found a.outputs b.outputs h.reports).1
 
   -- each line is counted, below the limit
   pub fewer_lines : AdvancesChecker state vector p q a b (Ok Going)
@@ -141,21 +145,29 @@ module _ {I : Type 0} (state : I → InputState) (first : CheckerValue I) (m : S
   pub record HasComeTo (q : CheckerValue I) (n : StreamsState) : Type 0 where
     pub rules : q.verdicts.rules ≡ first.verdicts.rules
     pub labels : q.labels ≡ first.labels
-    pub flushed : IsFlushed m.outputs → IsFlushed n.outputs
+    pub going : q.outcome ≡ None
     pub reading : IsReading state first.verdicts.reader → IsReading state q.verdicts.reader
     pub happened : HoldsUpTo q.verdicts n (λ a b. HasDoneUpTo (left a) (left b) m n)
+    pub so_far : StopHasCause {A = Bool} (0 ∷ 1 ∷ []) m n (Ok true)
+    pub reads : ReadsToEndIf (q.verdicts.counts.unread ≡ 0) m.inputs n.inputs
+    pub same : IsSameInput (state first.verdicts.reader.input) (state q.verdicts.reader.input)
+    pub stdin : first.verdicts.rules.from_stdin ≡ true → n.inputs.stdin ≡ m.inputs.stdin
 
   -- it begins so
-  pub HasComeTo-none : HasComeTo first m
-  HasComeTo-none = record {
+  pub HasComeTo-none : first.outcome ≡ None → HasComeTo first m
+  HasComeTo-none none = record {
     rules = refl;
     labels = refl;
-    flushed = λ flushed. flushed;
+    going = none;
     reading = λ reading. reading;
     happened = λ flushed. record {
       holds = λ reading c of w agrees.
           done_none (left (state_at first.verdicts (remaining first.verdicts.reader c) (world_at w m.inputs))) m;
     };
+    so_far = search rules;
+    reads = reads_none m.inputs;
+    same = search rules;
+    stdin = λ from. refl;
   }
 
   -- after a step more, which returned x, P holds if it follows of what happened before and of the step
@@ -170,51 +182,58 @@ module _ {I : Type 0} (state : I → InputState) (first : CheckerValue I) (m : S
         let here = h.reading reading in
         follows _ _ _ ((h.happened flushed).holds reading c (advances.verdict.before here c of) w
         (agrees_before agrees advances.verdict.reads))
-        (rw (h.rules, h.labels) at ((step (h.flushed flushed)).holds here c of w agrees));
+        (rw (h.rules, h.labels) at ((step (h.so_far.flushed flushed)).holds here c of w agrees));
   }
 
   -- a step that goes on comes one line further
   pub HasComeTo-more : (q next : CheckerValue I) (n o : StreamsState) (vector : List ℕ) → HasComeTo q n
-      → AdvancesChecker state vector q next n o (Ok Going) → (IsFlushed n.outputs → IsFlushed o.outputs)
+      → AdvancesChecker state vector q next n o (Ok Going) → next.outcome ≡ None
       → TakesStep state vector q.labels q.verdicts next.verdicts n o (Ok Going) → HasComeTo next o
-  HasComeTo-more q next n o vector h advances flushed step = record {
-    rules = advances.verdict.rules ∙ h.rules;
-    labels = advances.labels ∙ h.labels;
-    flushed = λ all. flushed (h.flushed all);
-    reading = λ reading. advances.verdict.reading (h.reading reading);
-    happened = one_more_step next o vector (Ok Going) h advances step (λ a b d along step.
-        subst (λ later. HasDoneUpTo (left a) later m o)
-        (step.going refl).0 (done_more step.step step.later along step.is step.performs.1));
-  }
+  HasComeTo-more q next n o vector h advances going step =
+      let cause = step_cause advances in
+      record {
+        rules = advances.verdict.rules ∙ h.rules;
+        labels = advances.labels ∙ h.labels;
+        going = going;
+        reading = λ reading. advances.verdict.reading (h.reading reading);
+        happened = one_more_step next o vector (Ok Going) h advances step (λ a b d along step.
+            subst (λ later. HasDoneUpTo (left a) later m o)
+            (step.going refl).0 (done_more step.step step.later along step.is step.performs.1));
+        so_far = search rules;
+        reads = reads_then (none_unread q.verdicts next.verdicts advances.found advances.verdict.counts)
+            h.reads advances.verdict.reads;
+        same = search rules;
+        stdin = λ from. advances.verdict.stdin (ap (λ r. r.from_stdin) h.rules ∙ from) ∙ h.stdin from;
+      }
 
-  -- the step that ends completes the manifest's behavior. One that stops leaves a prefix of it after a write fault,
-  -- and whole steps if memory ran out
+  -- The step that ends completes the manifest's behavior. One that stops leaves a prefix of it after a write fault,
+  -- and whole steps if memory ran out. The input was never read past its end or a fault; and to its end, if it is good
   pub HasComeTo-last : (q last : CheckerValue I) (n o : StreamsState) (vector : List ℕ) (x : Result Bool Stop)
       → IsAtStart state first.verdicts first.verdicts.reader.input → HasComeTo q n
       → AdvancesChecker state vector q last n o (ends x)
       → TakesStep state vector q.labels q.verdicts last.verdicts n o (ends x)
-      → ManifestPerforms first.verdicts.rules first.labels (state first.verdicts.reader.input)
+      → RunsManifest first.verdicts.rules first.labels (state first.verdicts.reader.input)
       (state last.verdicts.reader.input) m o x
-  HasComeTo-last q last n o vector x start h advances step = λ unread c of flushed w agrees.
-      let ended : HoldsUpTo last.verdicts o (λ a d. PerformsSteps (left a).steps (left a).good m o x) =
-      one_more_step last o vector (ends x) h advances step (λ a b d along step.
-      done_last o step.step step.later x along step.is step.performs) in
-      let all : left (state_at first.verdicts (remaining first.verdicts.reader c) (world_at w m.inputs))
-      ≡ manifest_behavior first.verdicts.rules first.labels (clip c) (world_at w m.inputs) =
-      behavior-initial first.verdicts.rules first.labels start c (world_at w m.inputs) in
-      subst (λ (b : Behavior). PerformsSteps b.steps b.good m o x) all
-      ((ended flushed).holds (start.reading unread) c of w agrees)
-
-  -- ---- how far the manifest's input was read
-
-  -- never past its end or a fault; and to its end, if it is good
-  pub manifest_read : (q last : CheckerValue I) (n o : StreamsState) (vector : List ℕ) (x : Result Bool Stop)
-      → IsAtStart state first.verdicts first.verdicts.reader.input → HasComeTo q n
-      → AdvancesChecker state vector q last n o (ends x) → (state first.verdicts.reader.input).reads ≡ unread
-      → IsAtEndIf (x ≡ Ok true) (state last.verdicts.reader.input).reads
-  manifest_read q last n o vector x start h advances unread =
-      let reading = advances.verdict.reading (h.reading (start.reading unread)) in (
-        reading.past,
-        λ good. reading.end (advances.verdict.end (good_found last.verdicts q.labels vector advances.found
-            n.outputs o.outputs (rw good at advances.reports)).0),
-      )
+  HasComeTo-last q last n o vector x start h advances step = record {
+    behavior = λ unread c of flushed w agrees.
+        let ended : HoldsUpTo last.verdicts o (λ a d. PerformsSteps (left a).steps (left a).good m o x) =
+        one_more_step last o vector (ends x) h advances step (λ a b d along step.
+        done_last o step.step step.later x along step.is step.performs) in
+        let all : left (state_at first.verdicts (remaining first.verdicts.reader c) (world_at w m.inputs))
+        ≡ manifest_behavior first.verdicts.rules first.labels (clip c) (world_at w m.inputs) =
+        behavior-initial first.verdicts.rules first.labels start c (world_at w m.inputs) in
+        subst (λ (b : Behavior). PerformsSteps b.steps b.good m o x) all
+        ((ended flushed).holds (start.reading unread) c of w agrees);
+    manifest = λ unread.
+        let reading = advances.verdict.reading (h.reading (start.reading unread)) in
+        (reading.past, λ good. reading.end (advances.verdict.end (found good).0));
+    same = search rules;
+    cause = cause_ends x h.so_far (step_cause advances);
+    reads = reads_then (λ good. none_unread q.verdicts last.verdicts advances.found advances.verdict.counts
+        (found good).1) h.reads advances.verdict.reads;
+    stdin = λ from. advances.verdict.stdin (ap (λ r. r.from_stdin) h.rules ∙ from) ∙ h.stdin from;
+  }
+    where
+      found : x ≡ Ok true → (advances.found ≡ Ok None) × (last.verdicts.counts.unread ≡ 0)
+      found good = good_found last.verdicts q.labels vector advances.found n.outputs o.outputs
+          (rw good at advances.reports)

@@ -4,7 +4,7 @@ use Rattle.sum_sources.specs.Contents.{unread}
 use Rattle.sum_sources.specs.Sources.{and_opening}
 use Rattle.sum_lines.proofs.EventLemmas.{Gets-none}
 use Rattle.sum_engine.specs.Behavior.{Fault, World, is_dash, answer_to, after, Step, events_of, Answer, Content, InputState, clip}
-use Rattle.sum_engine.specs.check.CheckerLaws.{ManifestPerforms}
+use Rattle.sum_engine.specs.check.CheckerLaws.{RunsManifest}
 use Rattle.sum_engine.specs.check.Rules.{rules_of, labels_of}
 use Rattle.sum_engine.specs.check.Judge.{present}
 use Rattle.sum_engine.specs.check.Checking.{CheckSettings, check_behavior_by, check_behavior}
@@ -12,7 +12,7 @@ use Rattle.sum_engine.specs.Execution.{Stop, Memory, InputsState, OutputsState, 
 use Rattle.sum_engine.specs.Generation.{name_fault_line}
 use Rattle.sum_engine.specs.refinement.FlushedWrites.{WritesAndReturns}
 use Rattle.sum_engine.specs.refinement.Names.{MemoryWasRefused}
-use Rattle.sum_engine.proofs.ExecutionLemmas.{Happened-by, IsKept, kept_performs}
+use Rattle.sum_engine.proofs.ExecutionLemmas.{Happened-by, kept_performs}
 use Rattle.sum_engine.proofs.WorldLemmas.{world_after}
 use Rattle.sum_engine.proofs.BehaviorLemmas.{behind_step, Performs-step, Performs-refused}
 use Rattle.sum_engine.proofs.CheckLinesLemmas.{manifest_behavior}
@@ -50,15 +50,13 @@ module _ (settings : CheckSettings) (tool name : List ℕ) (a : StreamsState) wh
   -- it was opened, run and closed
   pub check_opened : {Whole : Type 0} (m n : InputsState) (s t : InputState) (b : StreamsState) (x : Result Bool Stop)
       → s.reads ≡ unread → WasOpened Whole a.inputs m b.inputs n name t
-      → ManifestPerforms (rules_of settings (is_dash name)) (labels_of settings tool name) s t (from_inputs m) b x
+      → RunsManifest (rules_of settings (is_dash name)) (labels_of settings tool name) s t (from_inputs m) b x
       → Performed (record b { inputs = n }) x
   check_opened m n s t b x fresh o run = λ flushed w agrees.
       let (c, answer, of) = o.answer w agrees in
-      let ran = run fresh c of flushed w (o.agrees w agrees) in
-      let kept : IsKept b (record b { inputs = n }) =
-      record { outputs = refl; asked = o.asked; taken = o.taken; refusals = o.refusals } in
+      let ran = run.behavior fresh c of flushed w (o.agrees w agrees) in
       let all = check_behavior settings tool (world_at w a.inputs) name in
-      kept_performs all.steps all.good a b (record b { inputs = n }) x kept
+      kept_performs all.steps all.good a b n x o.asked o.taken o.refusals
       (opened_behavior c m b x w o.asks answer ran)
 
   -- it could not be opened, and the line of its fault was written, or a prefix of it

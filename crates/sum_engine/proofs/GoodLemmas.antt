@@ -23,29 +23,25 @@ use Rattle.sum_engine.proofs.CheckOneLemmas.{opening}
 abbrev now : Rules → Rules
 now r = record r { profile = present }
 
--- an item's file, read by the kind that its line spells, has the digest that its line spells
-verdict-right : (r : Rules) (files : List ℕ → Answer) (w : World) (i : Item) → w.answer ≡ (λ asked. files)
-    → Listed r.algo files i → judge r w (spelled_for i) ≡ Right
-verdict-right r files w i steady h =
-    rw steady (search (rules, clip-short, limit-value, and-false, bytes_eq-Decides))
-
 -- the verdict of an item on line n
 abbrev right : ℕ → Item → LineVerdictValue
 right n i = record { number = n; verdict = Right; name = i.name }
 
--- those of items after line n
-abbrev rights : ℕ → List Item → List LineVerdictValue
+-- the verdicts of items after line n
+abbrev pub rights : ℕ → List Item → List LineVerdictValue
 rights n [] = []
 rights n (i ∷ is) = right (n + 1) i ∷ rights (n + 1) is
 
--- a written line is judged so
+-- a written line is judged so: its item's file has the digest that it spells
 judged : (r : Rules) (files : List ℕ → Answer) (w : World) (n : ℕ) (f : Form) (i : Item)
     → w.answer ≡ (λ asked. files) → Listed r.algo files i
     → IsEntry escape r.algo f (prefix i) (spelled_for i)
     → line_verdict r w n (parse_line present r.algo f (prefix i)) ≡ right n i
 judged r files w n f i steady h e =
     let is = parse_is_grammar present r.algo f (prefix i) in
-    rw ((is.when_entry (spelled_for i)).1 e, verdict-right r files w i steady h) refl
+    let verdict : judge r w (spelled_for i) ≡ Right =
+    rw steady (search (rules, clip-short, limit-value, and-false, bytes_eq-Decides)) in
+    rw ((is.when_entry (spelled_for i)).1 e, verdict) refl
 
 -- and all of them, each in the world that those before it leave
 right-verdicts : (r : Rules) (files : List ℕ → Answer) (before : List (List ℕ)) (is : List Item) (w : World) (n : ℕ)
@@ -66,43 +62,35 @@ right-verdicts r files before (i ∷ is) w n steady u all =
 abbrev pub right_line : Report → List ℕ → List ℕ
 right_line report name = out_by present report Right name
 
--- each name is reported as right
-rights-out : (r : Rules) (labels : LabelsValue) (n : ℕ) (is : List Item)
-    → flat_map (out_of (now r) labels) (rights n is) ≡ flat_map (λ (i : Item). right_line labels.report i.name) is
-rights-out r labels n [] = refl
-rights-out r labels n (i ∷ is) = ap (λ t. right_line labels.report i.name ++ t) (rights-out r labels (n + 1) is)
-
--- and nothing on standard error
-rights-err : (r : Rules) (labels : LabelsValue) (n : ℕ) (is : List Item)
-    → flat_map (err_of r labels) (rights n is) ≡ []
-rights-err r labels n [] = refl
-rights-err r labels n (i ∷ is) = rights-err r labels (n + 1) is
-
--- a manifest's behavior writes on standard output the reports of its lines
-pub out_text-line_steps : (r : Rules) (labels : LabelsValue) (end : List ℕ) (c : Content) (js : List LineVerdictValue)
-    → flat_map (λ s. s.out) (line_steps r labels end c js) ≡ flat_map (out_of r labels) js
-out_text-line_steps r labels end c [] = refl
-out_text-line_steps r labels end c (j ∷ js) = search (rules, out_text-line_steps r labels end (past_line c) js)
-
--- on standard error these, and then the end
-pub err_text-line_steps : (r : Rules) (labels : LabelsValue) (end : List ℕ) (c : Content) (js : List LineVerdictValue)
-    → flat_map (λ s. s.err) (line_steps r labels end c js) ≡ flat_map (err_of r labels) js ++ end
-err_text-line_steps r labels end c [] = append-nil end
-err_text-line_steps r labels end c (j ∷ js) =
-    search (rules, append_assoc, err_text-line_steps r labels end (past_line c) js)
-
 -- the counts of k right lines
 abbrev right_counts : ℕ → Counts
 right_counts k = record { right = k; wrong = 0; missing = 0; unread = 0; bad = 0 }
 
--- as many as there are items
-counts-are : (n : ℕ) (is : List Item) → counts_of (rights n is) ≡ right_counts (length is)
-counts-are n [] = refl
-counts-are n (i ∷ is) = ap (λ (c : Counts). record c { right = suc c.right }) (counts-are (n + 1) is)
+module _ (r : Rules) (labels : LabelsValue) where
+  -- each name is reported as right, nothing is written on standard error, and each is counted
+  rights-are : (n : ℕ) (is : List Item) → let js = rights n is in
+      (flat_map (out_of (now r) labels) js ≡ flat_map (λ (i : Item). right_line labels.report i.name) is)
+      × (flat_map (err_of r labels) js ≡ []) × (counts_of js ≡ right_counts (length is))
+  rights-are n [] = (refl, refl, refl)
+  rights-are n (i ∷ is) =
+      let h = rights-are (n + 1) is in (
+        ap (λ t. right_line labels.report i.name ++ t) h.0,
+        h.1,
+        ap (λ (c : Counts). record c { right = suc c.right }) h.2,
+      )
 
--- the whole summary is empty
-no-summary : (r : Rules) (labels : LabelsValue) (k : ℕ) → end_text r labels Whole (right_counts (suc k)) ≡ []
-no-summary r labels k = search rules
+  -- a manifest's behavior writes the reports of its lines; and on standard error also the end
+  texts-are : (end : List ℕ) (c : Content) (js : List LineVerdictValue) → let steps = line_steps r labels end c js in
+      (flat_map (λ s. s.out) steps ≡ flat_map (out_of r labels) js)
+      × (flat_map (λ s. s.err) steps ≡ flat_map (err_of r labels) js ++ end)
+  texts-are end c [] = (refl, append-nil end)
+  texts-are end c (j ∷ js) =
+      let h = texts-are end (past_line c) js in
+      (rw h.0 refl, rw (h.1, append_assoc) refl)
+
+  -- the whole summary is empty
+  no-summary : (k : ℕ) → end_text r labels Whole (right_counts (suc k)) ≡ []
+  no-summary k = search rules
 
 -- and the list is good
 is-good : (r : Rules) (k : ℕ) → good r Whole (right_counts (suc k)) ≡ true
@@ -116,28 +104,6 @@ pub record Found (check : CheckSettings) (tool : List ℕ) (w : World) (manifest
   pub out : out_text (check_behavior check tool w manifest) ≡ flat_map (λ (i : Item). right_line check.report i.name) is
   pub err : err_text (check_behavior check tool w manifest) ≡ []
 
--- the verdicts of its lines
-all-right : (r : Rules) (files : List ℕ → Answer) (w : World) (is : List Item) → w.answer ≡ (λ asked. files)
-    → All (Listed r.algo files) is → all_verdicts (now r) w (whole is) ≡ rights 0 is
-all-right r files w is steady all =
-    rw (lines-are r.algo files is all) (right-verdicts r files [] is w 0 steady (inl refl) all)
-
--- the behavior, by these verdicts
-check_behavior-is : (check : CheckSettings) (tool manifest : List ℕ) (files : List ℕ → Answer) (w : World)
-    (is : List Item) → w.answer ≡ (λ asked. files) → All (Listed check.algo files) is
-    → length (flat_map written_text is) < limit → answer_to w manifest ≡ Ok (whole is)
-    → check_behavior check tool w manifest ≡ step_then (opening manifest)
-    (content_behavior (rules_of check (is_dash manifest)) (labels_of check tool manifest) (whole is) (rights 0 is))
-check_behavior-is check tool manifest files w is steady all fits given =
-    let r : Rules = rules_of check (is_dash manifest) in
-    let labels : LabelsValue = labels_of check tool manifest in
-    let next : World = after w (manifest ∷ []) in
-    let of : Content → List LineVerdictValue → Behavior =
-    λ c js. step_then (opening manifest) (content_behavior r labels c js) in
-    ap (check_behavior_by r labels manifest next) given
-    ∙ ap (λ c. of c (all_verdicts r next c)) (clip-short (whole is) (rw limit-value at fits))
-    ∙ ap (of (whole is)) (all-right r files next is (after-steady files w (manifest ∷ []) steady) all)
-
 -- a manifest with at least one line is good, and each of its names is reported as right
 pub manifest_good : (check : CheckSettings) (tool manifest : List ℕ) (files : List ℕ → Answer) (w : World)
     (is : List Item) → w.answer ≡ (λ asked. files) → All (Listed check.algo files) is → 0 < length is
@@ -146,14 +112,21 @@ manifest_good check tool manifest files w [] steady all some fits given = absurd
 manifest_good check tool manifest files w (i ∷ is) steady all some fits given =
     let r : Rules = rules_of check (is_dash manifest) in
     let labels : LabelsValue = labels_of check tool manifest in
-    let here = check_behavior-is check tool manifest files w (i ∷ is) steady all fits given in
+    let next : World = after w (manifest ∷ []) in
+    let c : Content = whole (i ∷ is) in
     let js = rights 0 (i ∷ is) in
-    let c : counts_of js ≡ right_counts (suc (length is)) = counts-are 0 (i ∷ is) in
+    let verdicts : all_verdicts (now r) next c ≡ js = rw (lines-are check.algo files (i ∷ is) all)
+    (right-verdicts r files [] (i ∷ is) next 0 (after-steady files w (manifest ∷ []) steady) (inl refl) all) in
+    let of : Content → List LineVerdictValue → Behavior =
+    λ c js. step_then (opening manifest) (content_behavior r labels c js) in
+    let here = ap (check_behavior_by r labels manifest next) given
+    ∙ ap (λ c. of c (all_verdicts r next c)) (clip-short c (rw limit-value at fits)) ∙ ap (of c) verdicts in
+    let are = rights-are r labels 0 (i ∷ is) in
     let end = end_text r labels Whole (counts_of js) in
+    let texts = texts-are r labels end c js in
     record {
-      good = ap (λ (q : Behavior). q.good) here ∙ ap (good r Whole) c ∙ is-good r (length is);
-      out = ap out_text here ∙ out_text-line_steps r labels end (whole (i ∷ is)) js ∙ rights-out r labels 0 (i ∷ is);
-      err = ap err_text here ∙ err_text-line_steps r labels end (whole (i ∷ is)) js
-          ∙ ap (λ t. t ++ end) (rights-err r labels 0 (i ∷ is))
-          ∙ ap (end_text r labels Whole) c ∙ no-summary r labels (length is);
+      good = ap (λ (q : Behavior). q.good) here ∙ ap (good r Whole) are.2 ∙ is-good r (length is);
+      out = ap out_text here ∙ texts.0 ∙ are.0;
+      err = ap err_text here ∙ texts.1 ∙ ap (λ t. t ++ end) are.1
+          ∙ ap (end_text r labels Whole) are.2 ∙ no-summary r labels (length is);
     }

@@ -12,7 +12,7 @@ use Rattle.sum_lines.specs.declared.writing.put_line.Mode.{Mode}
 use Rattle.sum_lines.specs.Escape.{escape}
 use Rattle.sum_lines.specs.Lines.{line}
 use Rattle.sum_lines.specs.grammar.Entries.{EntryValue, IsEntry, form}
-use Rattle.sum_lines.specs.grammar.LineLaws.{AllowsMode, IsWritable}
+use Rattle.sum_lines.specs.grammar.LineLaws.{AllowsMode}
 use Rattle.sum_lines.proofs.PutLineLemmas.{prefix_of, read_back}
 use Rattle.sum_engine.specs.Behavior.{Whole, is_dash, Answer}
 use Rattle.sum_sources.specs.Contents.{Content, limit}
@@ -52,11 +52,6 @@ prefix i = prefix_of i.mode i.kind i.name (digest i.kind i.bytes)
 abbrev pub spelled_for : Item → EntryValue
 spelled_for i = record { kind = i.kind; digest = digest i.kind i.bytes; name = i.name }
 
--- it can be written so that it is read back
-writable : (algos : Algos) (answer : List ℕ → Answer) (i : Item) → Listed algos answer i
-    → IsWritable i.kind i.name (digest i.kind i.bytes)
-writable algos answer i h = search (rules, IsBytes-digest, length-digest)
-
 -- ---- each line is read back
 
 -- the form of these lines is Undecided or Standard
@@ -77,19 +72,12 @@ pub back : (algos : Algos) (answer : List ℕ → Answer) (before later : List (
     → ReadableSoFar algos before → Back algos before later (spelled_for i) (prefix i)
 back algos answer before later i h u =
     let s = read_back algos i.mode i.kind i.name (digest i.kind i.bytes) before later h.read_by
-    (writable algos answer i h) u in
+    (search (rules, IsBytes-digest, length-digest)) u in
     let same : s.prefix ≡ prefix i =
     append_cancel_right s.prefix (prefix i) (10 ∷ []) (sym s.whole) in
     subst (Back algos before later (spelled_for i)) same (s.one_line, (s.spells (spelled_for i)).1 refl, s.keeps)
 
 -- ---- the lines of the whole text
-
--- each written line is plain
-plain-lines : (algos : Algos) (answer : List ℕ → Answer) (is : List Item) → All (Listed algos answer) is
-    → All Plainly (map prefix is)
-plain-lines algos answer is all =
-    let one = λ (i : Item) (h : Listed algos answer i). (back algos answer [] [] i h (inl refl)).0 in
-    All-map Plainly prefix is (All-weaker (Listed algos answer) (λ i. Plainly (prefix i)) one is all)
 
 -- the text is the lines, each with a newline
 texts : (is : List Item) → flat_map written_text is ≡ flat_map (λ l. l ++ 10 ∷ []) (map prefix is)
@@ -104,7 +92,9 @@ whole is = record { bytes = flat_map written_text is; ending = Whole }
 pub lines-are : (algos : Algos) (answer : List ℕ → Answer) (is : List Item) → All (Listed algos answer) is
     → lines (whole is) ≡ map prefix is
 lines-are algos answer is all =
-    let plain = plain-lines algos answer is all in
+    let one = λ (i : Item) (h : Listed algos answer i). (back algos answer [] [] i h (inl refl)).0 in
+    let plain : All Plainly (map prefix is) =
+    All-map Plainly prefix is (All-weaker (Listed algos answer) (λ i. Plainly (prefix i)) one is all) in
     let make : List ℕ → Content = λ bytes. record { bytes = bytes; ending = Whole } in
     let none = All-weaker Plainly HasNoNewline (λ l h k d lt. ne_eqb _ 10 (h k d lt).0) (map prefix is) plain in
     let cut = raw_lines-joined Whole (map prefix is) [] none (All-nil (λ b. (b == 10) ≡ false)) in

@@ -2,9 +2,9 @@
 use Rattle.std.proofs.Common.{rules, ◌≡◌, ℕ, ◌+◌, ◌<◌, List, [], ◌∷◌, length, refl, ap, sym, subst, append_assoc, ◌++◌, All, flat_map, Ok, Err}
 use Rattle.std.proofs.lemmas.List.Elements.{All-nil, All-cons, All-head, All-tail}
 use Rattle.sum_engine.specs.check.Rules.{LabelsValue, Rules}
-use Rattle.sum_engine.specs.check.Judge.{Algos, Form, Verdict, lines_under, LineVerdictValue, line_verdict, asks_of, verdicts, all_verdicts, form, present, ParsedLine, bad, parse_line}
-use Rattle.sum_engine.specs.check.Reports.{Report, Counts, out_by, err_by, end_text}
-use Rattle.sum_engine.specs.check.Checking.{line_steps, content_behavior}
+use Rattle.sum_engine.specs.check.Judge.{Algos, Form, LineVerdictValue, line_verdict, asks_of, verdicts, all_verdicts, form, present, ParsedLine, bad, parse_line}
+use Rattle.sum_engine.specs.check.Reports.{Report, Counts, out_of, err_of, end_text}
+use Rattle.sum_engine.specs.check.Checking.{line_steps}
 use Rattle.sum_engine.specs.check.Checker.{step_then}
 use Rattle.sum_engine.specs.Behavior.{Ending, Whole, Broken, World, after, Content, clip}
 use Rattle.sum_sources.specs.ManifestLines.{raw_lines, last_line, past_line, bytes_of_lines}
@@ -19,14 +19,10 @@ use Rattle.sum_engine.specs.declared.settings.Report.TheVariants as reports
 
 -- ---- the lines
 
--- the last line of a text without one has none
-last_clean : (e : Ending) (piece : List ℕ) → HasNoCarriageReturn piece → All HasNoCarriageReturn (last_line e piece)
-last_clean e piece free = search rules
-
--- nor has any other line
+-- no line of a text without one has one
 ended_clean : (e : Ending) (ended : List (List ℕ)) (tail : List ℕ) → HasNoCarriageReturn (bytes_of_lines ended tail)
     → All HasNoCarriageReturn (ended ++ last_line e tail)
-ended_clean e [] tail free = last_clean e tail free
+ended_clean e [] tail free = search rules
 ended_clean e (p ∷ ps) tail free =
     let whole : HasNoCarriageReturn ((p ++ 10 ∷ []) ++ bytes_of_lines ps tail) =
     subst HasNoCarriageReturn (append_assoc (p ++ 10 ∷ []) (flat_map (λ piece. piece ++ 10 ∷ []) ps) tail) free in
@@ -42,19 +38,11 @@ pieces_clean c free =
     (subst (All HasNoCarriageReturn) (sym (raw_lines-joined c.ending all.0 all.1 all.3 all.4))
     (ended_clean c.ending all.0 all.1 (subst HasNoCarriageReturn all.2 free)))
 
--- so the lines are the same
-lines_same : (c : Content) → HasNoCarriageReturn c.bytes → lines_under older_profile c ≡ lines_under present c
-lines_same c free = sym (strips-kept (raw_lines c) (pieces_clean c free))
-
--- ---- the verdicts
+-- ---- under both profiles
 
 -- a name that holds no carriage return
 abbrev CleanName : LineVerdictValue → Type 0
 CleanName j = HasNoCarriageReturn j.name
-
--- and what is judged names none
-judged_clean : (r : Rules) (w : World) (n : ℕ) (x : ParsedLine) → CleanParsedLine x → CleanName (line_verdict r w n x)
-judged_clean r w n x h = search rules
 
 -- a line that says the same under both profiles
 pub record Alike (algos : Algos) (f : Form) (line : List ℕ) : Type 0 where
@@ -62,86 +50,82 @@ pub record Alike (algos : Algos) (f : Form) (line : List ℕ) : Type 0 where
   pub no_escape : NamesNoCarriageReturn algos f line
   pub some : 0 < length line
 
--- the verdicts are the same
-verdicts_same : (r : Rules) (f : Form) (w : World) (n : ℕ) (ls : List (List ℕ)) → All (Alike r.algo f) ls
-    → (verdicts (rules_under older_profile r) f w n ls ≡ verdicts (rules_under present r) f w n ls)
-    × All CleanName (verdicts (rules_under present r) f w n ls)
-verdicts_same r f w n [] all = (refl, All-nil CleanName)
-verdicts_same r f w n (l ∷ ls) all =
-    let here = All-head (Alike r.algo f) l ls all in
-    let s = parse_line_same r.algo f l here.no_byte here.no_escape here.some in
-    let new = rules_under present r in
-    let j = line_verdict new w (n + 1) (parse_line present r.algo f l) in
-    let one : line_verdict (rules_under older_profile r) w (n + 1) (parse_line older_profile r.algo f l) ≡ j = search (rules, s.0) in
-    let more = verdicts_same r f (after w (asks_of j)) (n + 1) ls (All-tail (Alike r.algo f) l ls all) in
-    let clean = judged_clean new w (n + 1) (parse_line present r.algo f l) s.1 in
-    (rw (one, more.0) refl, All-cons CleanName j (verdicts new f (after w (asks_of j)) (n + 1) ls) clean more.1)
+module _ (r : Rules) (labels : LabelsValue) where
+  -- the same rules under each
+  abbrev old : Rules
+  old = rules_under older_profile r
 
--- ---- what is written
+  abbrev new : Rules
+  new = rules_under present r
 
--- what is reported of a verdict whose name holds no carriage return
-out_same : (report : Report) (v : Verdict) (name : List ℕ) → HasNoCarriageReturn name
-    → out_by older_profile report v name ≡ out_by present report v name
-out_same report v name free = search (rules, same_escape)
+  -- what is judged names no carriage return, if the line doesn't
+  judged_clean : (w : World) (n : ℕ) (x : ParsedLine) → CleanParsedLine x → CleanName (line_verdict new w n x)
+  judged_clean w n x h = search rules
 
--- what a line of the manifest adds to standard error
-err_same : (r : Rules) (labels : LabelsValue) (n : ℕ) (v : Verdict) (name : List ℕ)
-    → HasNoCarriageReturn labels.manifest → HasNoCarriageReturn name
-    → err_by (rules_under older_profile r) labels n v name ≡ err_by (rules_under present r) labels n v name
-err_same r labels n v name own free = search (rules, same_escape)
+  -- the verdicts are the same
+  verdicts_same : (f : Form) (w : World) (n : ℕ) (ls : List (List ℕ)) → All (Alike r.algo f) ls
+      → (verdicts old f w n ls ≡ verdicts new f w n ls) × All CleanName (verdicts new f w n ls)
+  verdicts_same f w n [] all = (refl, All-nil CleanName)
+  verdicts_same f w n (l ∷ ls) all =
+      let here = All-head (Alike r.algo f) l ls all in
+      let s = parse_line_same r.algo f l here.no_byte here.no_escape here.some in
+      let j = line_verdict new w (n + 1) (parse_line present r.algo f l) in
+      let one : line_verdict old w (n + 1) (parse_line older_profile r.algo f l) ≡ j = search (rules, s.0) in
+      let more = verdicts_same f (after w (asks_of j)) (n + 1) ls (All-tail (Alike r.algo f) l ls all) in
+      let clean = judged_clean w (n + 1) (parse_line present r.algo f l) s.1 in
+      (rw (one, more.0) refl, All-cons CleanName j (verdicts new f (after w (asks_of j)) (n + 1) ls) clean more.1)
 
--- the text at its end
-end_same : (r : Rules) (labels : LabelsValue) (e : Ending) (c : Counts) → HasNoCarriageReturn labels.manifest
-    → end_text (rules_under older_profile r) labels e c ≡ end_text (rules_under present r) labels e c
-end_same r labels Whole c own = by labels.report
-  where
-    by : (report : Report) → let shown : LabelsValue = record labels { report = report } in
-        end_text (rules_under older_profile r) shown Whole c ≡ end_text (rules_under present r) shown Whole c
-    by reports.Status = rw (same_escape labels.manifest own) refl
-    by report = rw (same_escape labels.manifest own) refl
-end_same r labels (Broken f) c own = search (rules, same_escape)
+  -- the verdicts of such a manifest are the same under both profiles, and name no carriage return
+  found_same : (w : World) (c : Content) → IsOldManifest r labels c
+      → (all_verdicts old w c ≡ all_verdicts new w c) × All CleanName (all_verdicts new w c)
+  found_same w c h =
+      let f = form r.algo (raw_lines c) in
+      let clean = pieces_clean c h.no_byte in
+      let all : All (Alike r.algo f) (raw_lines c) =
+      λ k d lt. record { no_byte = clean k d lt; no_escape = h.no_escape k d lt; some = h.no_empty k d lt } in
+      let Same : List (List ℕ) → Type 0 = λ ls. (all_verdicts old w c ≡ verdicts new (form r.algo ls) w 0 ls)
+      × All CleanName (verdicts new (form r.algo ls) w 0 ls) in
+      subst Same (sym (strips-kept (raw_lines c) clean)) (verdicts_same f w 0 (raw_lines c) all)
 
--- ---- the law
+  -- ---- what is written, if the manifest's own name holds no carriage return
 
--- the verdicts of such a manifest are the same under both profiles, and name no carriage return
-found_same : (r : Rules) (labels : LabelsValue) (w : World) (c : Content) → IsOldManifest r labels c
-    → (all_verdicts (rules_under older_profile r) w c ≡ all_verdicts (rules_under present r) w c)
-    × All CleanName (all_verdicts (rules_under present r) w c)
-found_same r labels w c h =
-    let f = form r.algo (raw_lines c) in
-    let clean = pieces_clean c h.no_byte in
-    let all : All (Alike r.algo f) (raw_lines c) =
-    λ k d lt. record { no_byte = clean k d lt; no_escape = h.no_escape k d lt; some = h.no_empty k d lt } in
-    let Same : List (List ℕ) → Type 0 = λ ls.
-    (all_verdicts (rules_under older_profile r) w c ≡ verdicts (rules_under present r) (form r.algo ls) w 0 ls)
-    × All CleanName (verdicts (rules_under present r) (form r.algo ls) w 0 ls) in
-    subst Same (lines_same c h.no_byte) (verdicts_same r (form r.algo (raw_lines c)) w 0 (raw_lines c) all)
+  module _ (own : HasNoCarriageReturn labels.manifest) where
+    -- the text at its end is the same
+    end_same : (e : Ending) (c : Counts) → end_text old labels e c ≡ end_text new labels e c
+    end_same Whole c = by labels.report
+      where
+        by : (report : Report) → let shown : LabelsValue = record labels { report = report } in
+            end_text old shown Whole c ≡ end_text new shown Whole c
+        by reports.Status = rw (same_escape labels.manifest own) refl
+        by report = rw (same_escape labels.manifest own) refl
+    end_same (Broken f) c = search (rules, same_escape)
 
--- the steps are the same
-steps_same : (r : Rules) (labels : LabelsValue) (end : List ℕ) (c : Content) (js : List LineVerdictValue)
-    → HasNoCarriageReturn labels.manifest → All CleanName js
-    → line_steps (rules_under older_profile r) labels end c js ≡ line_steps (rules_under present r) labels end c js
-steps_same r labels end c [] own all = refl
-steps_same r labels end c (j ∷ js) own all =
-    let later = steps_same r labels end (past_line c) js own (All-tail CleanName j js all) in
-    search (rules, All-head, err_same, out_same, later)
+    -- so are the reports of a verdict whose name holds none
+    reports_same : (j : LineVerdictValue) → CleanName j
+        → (err_of old labels j ≡ err_of new labels j) × (out_of old labels j ≡ out_of new labels j)
+    reports_same j free = search (rules, same_escape)
 
--- the behavior of such a content is the same
-content_same : (r : Rules) (labels : LabelsValue) (w : World) (c : Content) → IsOldManifest r labels c
-    → content_behavior (rules_under older_profile r) labels c (all_verdicts (rules_under older_profile r) w c)
-    ≡ content_behavior (rules_under present r) labels c (all_verdicts (rules_under present r) w c)
-content_same r labels w c h =
-    let found = found_same r labels w c h in
-    search (rules, found.0, found.1, end_same, steps_same)
+    -- and the steps
+    steps_same : (end : List ℕ) (c : Content) (js : List LineVerdictValue) → All CleanName js
+        → line_steps old labels end c js ≡ line_steps new labels end c js
+    steps_same end c [] all = refl
+    steps_same end c (j ∷ js) all =
+        let later = steps_same end (past_line c) js (All-tail CleanName j js all) in
+        let here = reports_same j (All-head CleanName j js all) in
+        rw (here.0, here.1, later) refl
+
+-- ---- the laws
 
 pub old_verdicts : OldVerdicts
-old_verdicts r labels w c h = ((found_same r labels w c h).0, content_same r labels w c h)
+old_verdicts r labels w c h =
+    let found = found_same r labels w c h in
+    (found.0, search (rules, found.0, found.1, end_same, steps_same))
 
 -- so is the behavior of its name
 pub old_outcomes : OldOutcomes
 old_outcomes r labels name w (Err f) own h = search (rules, same_escape)
 old_outcomes r labels name w (Ok c) own h =
-    ap (step_then (opening name)) (content_same r labels w (clip c) (h c refl))
+    ap (step_then (opening name)) (old_verdicts r labels w (clip c) (h c refl)).1
 
 -- ---- how the profiles differ
 

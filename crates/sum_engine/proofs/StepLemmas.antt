@@ -1,7 +1,7 @@
 -- One step of a checker, `Checker::step`: the next verdict was found, and its text was written.
-use Rattle.std.proofs.Common.{◌≡◌, ℕ, ◌<◌, Bool, false, List, [], length, None, Some, Result, Ok, Err, inl, inr, refl, ap, ◌∙◌, rules}
+use Rattle.std.proofs.Common.{◌≡◌, ℕ, ◌<◌, Bool, false, List, [], length, None, Some, Result, Ok, Err, inl, inr, refl, ap, sym, ◌∙◌, ◌∷◌, rules}
 use Rattle.std.specs.Prelude.{◌⊎◌}
-use Rattle.sum_engine.specs.Behavior.{Ending, Whole, Broken, World, Step, Behavior, events_of, Content, InputState}
+use Rattle.sum_engine.specs.Behavior.{Ending, Whole, Broken, World, Step, Behavior, Content, InputState}
 use Rattle.sum_sources.specs.LineReaders.{remaining}
 use Rattle.sum_engine.specs.check.Rules.{LabelsValue, Rules}
 use Rattle.sum_engine.specs.check.Judge.{asks_of}
@@ -9,10 +9,10 @@ use Rattle.sum_engine.specs.check.Reports.{err_of, out_of, end_text, good}
 use Rattle.sum_engine.specs.check.CheckStates.{CheckState, HandlesLine, remaining_verdicts, remaining_behavior}
 use Rattle.sum_engine.specs.check.Verdicts.{VerdictsValue, state_at, InEachCheck, AdvancesVerdicts, VerdictResult, line_verdict_value, IsNextVerdict, HasNoVerdictLeft}
 use Rattle.sum_engine.specs.check.Checker.{ReportsFound, Progress, Going, Ended, step_then, progress_before, IsStep, TakesStep}
-use Rattle.sum_engine.specs.Execution.{Stop, InputsState, StreamsState, AsksNames, world_at}
-use Rattle.sum_engine.specs.refinement.FlushedWrites.{outcome_after, WritesAndReturns}
+use Rattle.sum_engine.specs.Execution.{Stop, InputsState, StreamsState, AsksNames, RunsOutOfMemory, PerformsSteps, world_at}
+use Rattle.sum_engine.specs.refinement.FlushedWrites.{WritesAndReturns}
 use Rattle.sum_engine.specs.refinement.Names.{MemoryWasRefused}
-use Rattle.sum_engine.proofs.ExecutionLemmas.{HappenedOrPrefix, step_performed, HappenedOrPrefix-by, refused_first}
+use Rattle.sum_engine.proofs.ExecutionLemmas.{step_performed, refused_first}
 use Rattle.sum_engine.proofs.CountLemmas.{counts_then-nil}
 use Rattle.sum_engine.proofs.RemainingLemmas.{line_step, behavior_by, first_step, found_first, going-before}
 use Rattle.sum_sources.specs.declared.line_reader.LineStop.TheVariants as line_stops
@@ -28,30 +28,28 @@ InEachCheck-map {a = a} {b = b} h f =
 
 -- ---- a step, by the verdict that was found
 
--- a step of these events, or a prefix of them, by what remains after it
+-- a step that was performed, by what remains after it
 step_by : (r : Rules) (labels : LabelsValue) (a b : CheckState) (s t : StreamsState) (vector : List ℕ) (step : Step)
-    (later : Behavior) (progress : Progress) (x : Result (Unit {0}) (Unit {0}))
+    (later : Behavior) (progress : Progress) (x : Result Progress Stop)
     → remaining_behavior r labels a ≡ step_then step later → progress_before later.steps later.good ≡ progress
-    → HappenedOrPrefix x s t (events_of step)
+    → PerformsSteps (step ∷ []) progress s t x
     → (progress ≡ Going → (later ≡ remaining_behavior r labels b) × HandlesLine r a b vector)
-    → IsStep r labels vector a b s t (outcome_after x progress)
-step_by r labels a b s t vector step later progress x is next came going = record {
+    → IsStep r labels vector a b s t x
+step_by r labels a b s t vector step later progress x is next performs going = record {
   step = step;
   later = later;
   is = is;
-  performs = rw next (step_performed progress s t step x came);
-  going = λ h. going (going_of x h);
+  performs = rw next performs;
+  going = λ h. going (sym (rw h at performs).0);
 }
-  where
-    going_of : (x : Result (Unit {0}) (Unit {0})) → outcome_after x progress ≡ Ok Going → progress ≡ Going
-    going_of (Ok u) h = cc
-    going_of (Err e) h = cc
 
--- memory was refused, or bytes of the manifest remained
-refused_by : {a b : InputsState} {Some : Type 0} → Some → MemoryWasRefused a b ⊎ (b ≡ a)
-    → MemoryWasRefused a b ⊎ ((b ≡ a) × Some)
-refused_by some (inl refused) = inl refused
-refused_by some (inr same) = inr (same, some)
+-- memory was refused, or bytes of the manifest remained, and nothing was written
+refused_by : {a b : StreamsState} (next : Step) → 0 < next.remaining → b.outputs ≡ a.outputs
+    → MemoryWasRefused a.inputs b.inputs ⊎ (b.inputs ≡ a.inputs) → RunsOutOfMemory (next ∷ []) a b
+refused_by next some outputs (inl refused) =
+    refused_first next [] refl (rw (refused, outputs) refl) (inl (rw refused refl))
+refused_by next some outputs (inr same) =
+    refused_first next [] refl (rw (same, outputs) refl) (inr (rw same refl, some))
 
 -- from p and the streams a to q and the streams b
 module _ {I : Type 0} {state : I → InputState} {p q : VerdictsValue I} (a b : StreamsState) (labels : LabelsValue)
@@ -64,17 +62,18 @@ module _ {I : Type 0} {state : I → InputState} {p q : VerdictsValue I} (a b : 
         → WritesAndReturns a.outputs b.outputs (end_text q.rules labels e q.counts) [] (Ended outcome) y
         → TakesStep state vector labels p q a b y
     step_end e outcome found asked same sum wrote = λ flushed.
-        rw wrote.returns (InEachCheck-map found (λ c v w f.
+        InEachCheck-map found (λ c v w f.
         let r = p.rules in
-        let said = rw (same, f.counts) at (wrote.writes.1 flushed).1 in
+        let said : WritesAndReturns a.outputs b.outputs (end_text r labels e p.counts) [] (Ended outcome) _ =
+        rw (same, f.counts) at wrote in
         let k = remaining p.reader c in
         let step : Step =
         record { names = []; err = end_text r labels e p.counts; out = []; remaining = length k.bytes } in
         step_by r labels (state_at p k v) (state_at q (remaining q.reader c) w) a b vector step
-        (record { steps = []; good = outcome }) (Ended outcome) wrote.written
+        (record { steps = []; good = outcome }) (Ended outcome) _
         (ap (behavior_by r labels k.ending p.counts k) f.verdicts
         ∙ rw (counts_then-nil p.counts, f.ending, sum, same, f.counts) refl) refl
-        (HappenedOrPrefix-by a b [] _ [] wrote.written asked said) (λ h. cc)))
+        (step_performed _ asked flushed said) (λ h. cc))
 
     -- the next verdict was found, and then it was reported
     pub step_taken : (x : VerdictResult) {y : Result Progress Stop}
@@ -86,15 +85,14 @@ module _ {I : Type 0} {state : I → InputState} {p q : VerdictsValue I} (a b : 
         let j = line_verdict_value vector v in
         let said : WritesAndReturns a.outputs b.outputs (err_of p.rules labels j) (out_of p.rules labels j) Going _ =
         rw did.rules at reported in
-        rw said.returns (InEachCheck-map found (λ c v w f.
+        InEachCheck-map found (λ c v w f.
         let k = remaining p.reader c in
         let first = state_at p k v in
         let next = state_at q (remaining q.reader c) w in
         step_by p.rules labels first next a b vector
-        (line_step p.rules labels (length k.bytes) j) (remaining_behavior p.rules labels next) Going said.written
+        (line_step p.rules labels (length k.bytes) j) (remaining_behavior p.rules labels next) Going _
         (found_first p.rules labels first next j f.0.first f.0.counts f.1.remaining) (going-before p.rules labels next)
-        (HappenedOrPrefix-by _ _ (asks_of j) _ _ said.written did.asked (said.writes.1 flushed).1)
-        (λ is. (refl, f.1))))
+        (step_performed _ did.asked flushed said) (λ is. (refl, f.1)))
     -- no line was left; the end is written, and nothing remains
     step_taken (Ok None) found did reported = step_end Whole _ found did.asked did.rules refl reported
     step_taken (Err (line_stops.Fault f)) found did reported =
@@ -108,7 +106,6 @@ module _ {I : Type 0} {state : I → InputState} {p q : VerdictsValue I} (a b : 
           step = first.0;
           later = first.1;
           is = first.2;
-          performs =
-              refused_first a b first.0 [] refl reported.1 (refused_by (rw (← first.3) at f.1) did.asked);
+          performs = refused_by first.0 (rw (← first.3) at f.1) reported.1 did.asked;
           going = λ h. cc;
         }))

@@ -62,22 +62,21 @@ stdin_then a b c (inr h) (inl k) = inr (rw k h)
 stdin_then a b c (inr h) (inr k) = cc
 
 -- one call and another
-reads_both : {Whole : Type 0} {a b c : InputsState} → ReadsToEndIf Whole a b → ReadsToEndIf Whole b c
-    → ReadsToEndIf Whole a c
-reads_both {Whole} {a} {b} {c} h k = record {
-  told = k.told ∙ h.told;
-  openings = (
-    h.openings.0 ++ k.openings.0,
-    k.openings.1 ∙ ap (λ os. os ++ k.openings.0) h.openings.1
-        ∙ append_assoc a.source.openings h.openings.0 k.openings.0,
-    All-append (ReadsFile Whole) h.openings.0 k.openings.0 h.openings.2 k.openings.2,
-  );
-  stdin = stdin_then a.stdin b.stdin c.stdin h.stdin k.stdin;
-}
-
 pub reads_then : {G H K : Type 0} {a b c : InputsState} → (K → G × H) → ReadsToEndIf G a b → ReadsToEndIf H b c
     → ReadsToEndIf K a c
-reads_then f h k = reads_both (reads_weaker (λ x. (f x).0) h) (reads_weaker (λ x. (f x).1) k)
+reads_then {K = K} {a = a} {b = b} {c = c} f g h =
+    let g : ReadsToEndIf K a b = reads_weaker (λ x. (f x).0) g in
+    let h : ReadsToEndIf K b c = reads_weaker (λ x. (f x).1) h in
+    record {
+      told = h.told ∙ g.told;
+      openings = (
+        g.openings.0 ++ h.openings.0,
+        h.openings.1 ∙ ap (λ os. os ++ h.openings.0) g.openings.1
+            ∙ append_assoc a.source.openings g.openings.0 h.openings.0,
+        All-append (ReadsFile K) g.openings.0 h.openings.0 g.openings.2 h.openings.2,
+      );
+      stdin = stdin_then a.stdin b.stdin c.stdin g.stdin h.stdin;
+    }
 
 -- one name was opened
 pub asks_one : (a b : InputsState) (name : List ℕ) (gave : Option (Result Reads Fault)) → is_dash name ≡ false
@@ -88,21 +87,16 @@ asks_one a b name gave file is = record {
   refusals = rw is refl;
 }
 
--- and was read so, or could not be opened
-reads_gave : {Whole : Type 0} (a b : InputsState) (name : List ℕ) (gave : Result Reads Fault)
-    → IfOk gave (IsAtEndIf Whole) → b ≡ record a { source = and_opening a.source name (Some gave) }
-    → ReadsToEndIf Whole a b
-reads_gave {Whole} a b name gave read is =
-    let o : Opening = record { name = name; gave = Some gave } in
-    record {
-      told = rw is refl;
-      openings = (o ∷ [], rw is refl, All-cons (ReadsFile Whole) o [] (gave, refl, read) (All-nil (ReadsFile Whole)));
-      stdin = inl (rw is refl);
-    }
-
+-- and could not be opened
 pub reads_fault : {Whole : Type 0} (a b : InputsState) (name : List ℕ) (f : Fault)
     → b ≡ record a { source = and_opening a.source name (Some (Err f)) } → ReadsToEndIf Whole a b
-reads_fault a b name f is = reads_gave a b name (Err f) tt is
+reads_fault {Whole} a b name f is =
+    let o : Opening = record { name = name; gave = Some (Err f) } in
+    record {
+      told = rw is refl;
+      openings = (o ∷ [], rw is refl, All-cons (ReadsFile Whole) o [] (Err f, refl, tt) (All-nil (ReadsFile Whole)));
+      stdin = inl (rw is refl);
+    }
 
 -- ---- worlds
 

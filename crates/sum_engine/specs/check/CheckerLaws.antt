@@ -1,9 +1,9 @@
 -- The laws of a checker's steps over a whole manifest, of the lines that precede a line, and of the end.
-use Rattle.std.specs.Prelude.{ℕ, ◌≡◌, ◌+◌, ◌≤◌, ◌↔◌, Bool, List, [], ◌∷◌, take, length, Option, Result, ◌++◌, None, Ok, Err, slice_index_or}
+use Rattle.std.specs.Prelude.{ℕ, ◌≡◌, ◌+◌, ◌≤◌, ◌↔◌, Bool, true, List, [], ◌∷◌, take, length, Option, Result, ◌++◌, None, Ok, Err, slice_index_or}
 use Rattle.sum_sources.specs.declared.line_reader.LineStop.TheVariants.{Fault}
 use Rattle.sum_lines.specs.grammar.Shapes.{IsPlain, KindValue}
-use Rattle.sum_engine.specs.Execution.{Stop, StreamsState, AsksNames, Happened, PerformsSteps, Performs}
-use Rattle.sum_sources.specs.Contents.{unread}
+use Rattle.sum_engine.specs.Execution.{Stop, StreamsState, StopHasCause, IsAtEndIf, ReadsToEndIf, AsksNames, Happened, PerformsSteps, Performs}
+use Rattle.sum_sources.specs.Contents.{unread, IsSameInput}
 use Rattle.sum_engine.specs.Behavior.{ByteString, IsOf, InputState, Behavior, trace, out_text, err_text, asks, Ending, Whole, Broken, World, Content, clip}
 use Rattle.sum_engine.specs.check.Rules.{Rules, LabelsValue}
 use Rattle.sum_engine.specs.check.Judge.{lines_under, all_verdicts, verdicts, past_lines, escape, EntryValue, IsEntry, form}
@@ -12,12 +12,17 @@ use Rattle.sum_engine.specs.check.CheckStates.{CheckState, initial_state}
 use Rattle.sum_engine.specs.check.Verdicts.{LineStop, LineVerdict, HasNoVerdictLeft, IsNextVerdict}
 use Rattle.sum_engine.specs.check.Checker.{Going, Ended, IsStep, ends}
 
--- a new checker of an unread input ran to its end, which leaves the input so: it performed the behavior of each content
--- of the manifest that agrees with what was read
-abbrev pub ManifestPerforms : Rules → LabelsValue → InputState → InputState → StreamsState → StreamsState
-    → Result Bool Stop → Type 0
-ManifestPerforms r labels s t a b x = s.reads ≡ unread → (c : Content) → IsOf t.reads c
-    → Performs (λ w. content_behavior r labels (clip c) (all_verdicts r w (clip c))) (λ good. good) a b x
+-- a new checker of an input s ran to its end, returned x, and left the input as t
+pub record RunsManifest (r : Rules) (labels : LabelsValue) (s t : InputState) (a b : StreamsState)
+    (x : Result Bool Stop) : Type 0 where
+  -- of an input that was unread: it performed the behavior of each content that agrees with what was read
+  pub behavior : s.reads ≡ unread → (c : Content) → IsOf t.reads c
+      → Performs (λ w. content_behavior r labels (clip c) (all_verdicts r w (clip c))) (λ good. good) a b x
+  pub manifest : s.reads ≡ unread → IsAtEndIf (x ≡ Ok true) t.reads
+  pub same : IsSameInput s t
+  pub cause : StopHasCause (0 ∷ 1 ∷ []) a b x
+  pub reads : ReadsToEndIf (x ≡ Ok true) a.inputs b.inputs
+  pub stdin : r.from_stdin ≡ true → b.inputs.stdin ≡ a.inputs.stdin
 
 -- ---- the laws
 

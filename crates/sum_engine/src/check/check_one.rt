@@ -1,12 +1,11 @@
 //! Checking one manifest.
 ghost use Rattle.sum_engine.specs.Behavior.{is_dash};
 ghost use Rattle.sum_engine.specs.check.Checking.{check_behavior};
-ghost use Rattle.sum_engine.specs.Execution.{IsFlushed, FailuresMatch, RefusalsMatch, StopHasCause};
-ghost use Rattle.sum_engine.specs.Execution.{Performs, IsAtEndIf, ReadsToEndIf};
-ghost use Rattle.sum_sources.specs.Contents.{unread, IsSameInput};
+ghost use Rattle.sum_engine.specs.Execution.{IsFlushed, FailuresMatch, RefusalsMatch};
+ghost use Rattle.sum_engine.specs.Execution.{Performs, ReadsToEndIf};
 ghost use Rattle.sum_engine.specs.check.Verdicts.{IsAtStart};
 ghost use Rattle.std.specs.Prelude.{◌≡◌, true, [], ◌∷◌, None, Ok, codes, if◌then◌else◌};
-ghost use Rattle.sum_engine.specs.check.CheckerLaws.{ManifestPerforms};
+ghost use Rattle.sum_engine.specs.check.CheckerLaws.{RunsManifest};
 
 use crate::check::checker::Checker;
 use crate::check::progress::Progress;
@@ -77,15 +76,8 @@ fn run_to_end<'a, A: Allocator, I: Input, J: Input + Drop, S: Source, O: Sink, E
 ) -> (Result<bool, Stop>, I)
     requires start { IsAtStart I.state checker.verdicts checker.verdicts.reader.input }
     requires outcome { checker.outcome ≡ None }
-    ensures behavior { ManifestPerforms checker.entry.verdicts.rules checker.entry.labels
+    ensures { RunsManifest checker.entry.verdicts.rules checker.entry.labels
         (I.state checker.entry.verdicts.reader.input) (I.state result.1) streams.old streams.new result.0 }
-    ensures cause { StopHasCause (0 ∷ 1 ∷ []) streams.old streams.new result.0 }
-    ensures reads { ReadsToEndIf (result.0 ≡ Ok true) streams.old.inputs streams.new.inputs }
-    ensures stdin { checker.entry.verdicts.rules.from_stdin ≡ true
-        → streams.new.inputs.stdin ≡ streams.old.inputs.stdin }
-    ensures same { IsSameInput (I.state checker.entry.verdicts.reader.input) (I.state result.1) }
-    ensures manifest { (I.state checker.entry.verdicts.reader.input).reads ≡ unread
-        → IsAtEndIf (result.0 ≡ Ok true) (I.state result.1).reads }
 {
     let mut line = Vec::new(alloc);
     let result = check_lines(&mut checker, &mut line, streams);
@@ -100,17 +92,8 @@ fn check_lines<'a, A: Allocator, I: Input, J: Input + Drop, S: Source, O: Sink, 
 ) -> Result<bool, Stop>
     requires start { IsAtStart I.state checker.old.verdicts checker.old.verdicts.reader.input }
     requires outcome { checker.old.outcome ≡ None }
-    ensures behavior { ManifestPerforms checker.old.verdicts.rules checker.old.labels
-        (I.state checker.old.verdicts.reader.input) (I.state checker.new.verdicts.reader.input) streams.old streams.new
-        result }
-    ensures cause { StopHasCause (0 ∷ 1 ∷ []) streams.old streams.new result }
-    ensures reads { ReadsToEndIf (result ≡ Ok true) streams.old.inputs streams.new.inputs }
-    ensures stdin { checker.old.verdicts.rules.from_stdin ≡ true
-        → streams.new.inputs.stdin ≡ streams.old.inputs.stdin }
-    ensures same { IsSameInput (I.state checker.old.verdicts.reader.input)
-        (I.state checker.new.verdicts.reader.input) }
-    ensures manifest { (I.state checker.old.verdicts.reader.input).reads ≡ unread
-        → IsAtEndIf (result ≡ Ok true) (I.state checker.new.verdicts.reader.input).reads }
+    ensures { RunsManifest checker.old.verdicts.rules checker.old.labels (I.state checker.old.verdicts.reader.input)
+        (I.state checker.new.verdicts.reader.input) streams.old streams.new result }
 {
     'lines: loop {
         match checker.step(line, streams) {

@@ -56,7 +56,7 @@ returns-clause-behavior g c =
     c.shown_name.ensures in
     check_opened settings c.args.tool.now name c.args.streams.now c.open.new.self c.close.new.self
     (opened_state g.J.Input.state g.S.File.Input.state c.in-Ok.opened) _ c.run_to_end-result.new.streams c.run_to_end-result.result.0 c.in-Ok.ensures.reads (opened g c)
-    (rw (rules, labels, made.start.reader) at c.run_to_end-result.ensures.behavior)
+    (rw (rules, labels, made.start.reader) at c.run_to_end-result.ensures)
 
 pub returns-clause-reads : goal.returns-clause-reads
 returns-clause-reads g c = (opened g c).reads
