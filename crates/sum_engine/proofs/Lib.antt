@@ -7,7 +7,6 @@ pub mod VerdictLemmas
 pub mod CountLemmas
 pub mod RemainingLemmas
 pub mod StepLemmas
-pub mod EndLemmas
 pub mod NextVerdictLemmas
 pub mod BehaviorLemmas
 pub mod JoinLemmas

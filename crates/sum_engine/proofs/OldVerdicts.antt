@@ -1,20 +1,18 @@
 -- `old_verdicts`: a manifest of the time of older versions is checked alike under both profiles.
-use Rattle.std.proofs.Common.{rules, ◌≡◌, ℕ, ◌+◌, ◌<◌, List, [], ◌∷◌, length, refl, ap, sym, subst, append_assoc, ◌++◌, All, flat_map, Ok, Err}
+use Rattle.std.proofs.Common.{rules, ◌≡◌, ℕ, ◌+◌, ◌<◌, List, [], ◌∷◌, length, refl, sym, subst, append_assoc, ◌++◌, All, flat_map}
 use Rattle.std.proofs.lemmas.List.Elements.{All-nil, All-cons, All-head, All-tail}
 use Rattle.sum_engine.specs.check.Rules.{LabelsValue, Rules}
 use Rattle.sum_engine.specs.check.Judge.{Algos, Form, LineVerdictValue, line_verdict, asks_of, verdicts, all_verdicts, form, present, ParsedLine, bad, parse_line}
 use Rattle.sum_engine.specs.check.Reports.{Report, Counts, out_of, err_of, end_text}
 use Rattle.sum_engine.specs.check.Checking.{line_steps}
-use Rattle.sum_engine.specs.check.Checker.{step_then}
-use Rattle.sum_engine.specs.Behavior.{Ending, Whole, Broken, World, after, Content, clip}
+use Rattle.sum_engine.specs.Behavior.{Ending, Whole, Broken, World, after, Content}
 use Rattle.sum_sources.specs.ManifestLines.{raw_lines, last_line, past_line, bytes_of_lines}
 use Rattle.sum_sources.proofs.CutLemmas.{cut, raw_lines-joined}
-use Rattle.sum_engine.specs.check.OldVerdicts.{older_profile, rules_under, HasNoCarriageReturn, NamesNoCarriageReturn, IsOldManifest, OldVerdicts, OldOutcomes, OlderDiffers}
+use Rattle.sum_engine.specs.check.OldVerdicts.{older_profile, rules_under, HasNoCarriageReturn, NamesNoCarriageReturn, IsOldManifest, OldVerdicts, OlderDiffers}
 use Rattle.sum_lines.proofs.EntryLemmas.{entry-not_ignored}
 use Rattle.sum_lines.proofs.ParsedLineLemmas.{bad_exactly}
 use Rattle.sum_engine.proofs.OldNames.{front_clean, rest_clean, same_escape, CleanParsedLine, parse_line_same}
 use Rattle.sum_engine.proofs.CarriageReturnLemmas.{strips-kept}
-use Rattle.sum_engine.proofs.CheckOneLemmas.{opening}
 use Rattle.sum_engine.specs.declared.settings.Report.TheVariants as reports
 
 -- ---- the lines
@@ -120,12 +118,6 @@ pub old_verdicts : OldVerdicts
 old_verdicts r labels w c h =
     let found = found_same r labels w c h in
     (found.0, search (rules, found.0, found.1, end_same, steps_same))
-
--- so is the behavior of its name
-pub old_outcomes : OldOutcomes
-old_outcomes r labels name w (Err f) own h = search (rules, same_escape)
-old_outcomes r labels name w (Ok c) own h =
-    ap (step_then (opening name)) (old_verdicts r labels w (clip c) (h c refl)).1
 
 -- ---- how the profiles differ
 

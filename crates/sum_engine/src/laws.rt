@@ -1,7 +1,7 @@
 //! Laws of what was read; and over whole checks: what the steps of a [`Checker`](crate::Checker) do together.
 ghost use Rattle.sum_engine.specs.WorldLaws.{SomeWorldAgrees};
-ghost use Rattle.sum_engine.specs.check.OldVerdicts.{OldVerdicts, OldOutcomes, OlderDiffers};
-ghost use Rattle.sum_engine.specs.check.CheckerLaws.{StepsJoin, EventsExtend, SameFront, EndStays};
+ghost use Rattle.sum_engine.specs.check.OldVerdicts.{OldVerdicts, OlderDiffers};
+ghost use Rattle.sum_engine.specs.check.CheckerLaws.{StepsJoin, EventsExtend, SameFront};
 
 use crate::inputs::Inputs;
 use sum_sources::{Input, Source};
@@ -36,12 +36,6 @@ pub fn same_front()
     ensures { SameFront }
 {}
 
-/// Once [`Verdicts`](crate::Verdicts) has returned that no line is left, or which fault broke the manifest, every later
-/// call returns the same.
-pub fn end_stays()
-    ensures { EndStays }
-{}
-
 /// A manifest has the same verdicts under the older profile and the present one if it has no empty line and no carriage
 /// return. A carriage return counts in the manifest's own name, as a byte, and as the escape `\r` in a name after a
 /// leading backslash. Older versions of the tools escaped no carriage return in names, dropped none before a line's end
@@ -49,6 +43,5 @@ pub fn end_stays()
 /// are the same, too, and the manifest is good under both or under neither.
 pub fn old_verdicts()
     ensures verdicts { OldVerdicts }
-    ensures outcomes { OldOutcomes }
     ensures differs { OlderDiffers }
 {}

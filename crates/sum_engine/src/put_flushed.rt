@@ -82,7 +82,9 @@ pub(crate) fn put_name_fault<E: Sink>(
     put_tool_line_flushed(err, tool, name, fault.text().as_bytes())
 }
 
-/// What a call returns after its text: the outcome if the text was written, and otherwise `Stop::Write`.
+/// What a call returns after its text: the outcome if the text was written, and otherwise `Stop::Write`. For the crates
+/// above.
+#[doc(hidden)]
 pub fn outcome_after<T: Drop>(written: Result<(), SinkFault>, outcome: T) -> Result<T, Stop>
     ensures { result ≡ outcome_after written outcome }
 {

@@ -1,15 +1,13 @@
--- The laws of a checker's steps over a whole manifest, of the lines that precede a line, and of the end.
-use Rattle.std.specs.Prelude.{ℕ, ◌≡◌, ◌+◌, ◌≤◌, ◌↔◌, Bool, true, List, [], ◌∷◌, take, length, Option, Result, ◌++◌, None, Ok, Err, slice_index_or}
-use Rattle.sum_sources.specs.declared.line_reader.LineStop.TheVariants.{Fault}
+-- The laws of a checker's steps over a whole manifest, and of the lines that precede a line.
+use Rattle.std.specs.Prelude.{ℕ, ◌≡◌, ◌+◌, ◌≤◌, ◌↔◌, Bool, true, List, [], ◌∷◌, take, length, Result, ◌++◌, Ok, slice_index_or}
 use Rattle.sum_lines.specs.grammar.Shapes.{IsPlain, KindValue}
 use Rattle.sum_engine.specs.Execution.{Stop, StreamsState, StopHasCause, IsAtEndIf, ReadsToEndIf, AsksNames, Happened, PerformsSteps, Performs}
 use Rattle.sum_sources.specs.Contents.{unread, IsSameInput}
-use Rattle.sum_engine.specs.Behavior.{ByteString, IsOf, InputState, Behavior, trace, out_text, err_text, asks, Ending, Whole, Broken, World, Content, clip}
+use Rattle.sum_engine.specs.Behavior.{ByteString, IsOf, InputState, Behavior, trace, out_text, err_text, asks, World, Content, clip}
 use Rattle.sum_engine.specs.check.Rules.{Rules, LabelsValue}
 use Rattle.sum_engine.specs.check.Judge.{lines_under, all_verdicts, verdicts, past_lines, escape, EntryValue, IsEntry, form}
 use Rattle.sum_engine.specs.check.Checking.{content_behavior}
 use Rattle.sum_engine.specs.check.CheckStates.{CheckState, initial_state}
-use Rattle.sum_engine.specs.check.Verdicts.{LineStop, LineVerdict, HasNoVerdictLeft, IsNextVerdict}
 use Rattle.sum_engine.specs.check.Checker.{Going, Ended, IsStep, ends}
 
 -- a new checker of an input s ran to its end, returned x, and left the input as t
@@ -75,14 +73,3 @@ pub record FrontIsSame (r : Rules) (w : World) (n : ℕ) (line : ByteString) (ls
 abbrev pub SameFront : Type 0
 SameFront = (r : Rules) (w : World) (before : List ByteString) (line : ByteString) (later others : List ByteString)
     → FrontIsSame r w (length before + 1) line (before ++ (line ∷ later)) (before ++ (line ∷ others))
-
--- what is returned if no verdict is left and the manifest ends so
-abbrev pub ending_result : Ending → Result (Option LineVerdict) LineStop
-ending_result Whole = Ok None
-ending_result (Broken f) = Err (Fault f)
-
--- once that was returned, it is returned again
-abbrev pub EndStays : Type 0
-EndStays = (r : Rules) (e : Ending) (vector : ByteString) (a b c : CheckState)
-    (x : Result (Option LineVerdict) LineStop) → HasNoVerdictLeft r e a b → IsNextVerdict r vector b c x
-    → x ≡ ending_result e

@@ -1,9 +1,9 @@
 -- The law of old verdicts: a manifest of the time of older versions is checked alike under both profiles.
-use Rattle.std.specs.Prelude.{◌≡◌, ◌≢◌, ◌<◌, false, [], ◌∷◌, length, codes, All, Ok}
+use Rattle.std.specs.Prelude.{◌≡◌, ◌≢◌, ◌<◌, false, [], ◌∷◌, length, codes, All}
 use Rattle.sum_engine.specs.check.Rules.{LabelsValue, Rules}
 use Rattle.sum_engine.specs.check.Judge.{Algos, Form, lines_under, all_verdicts, raw_lines, bad, parse_line, EntryValue, IsEntry, form, Profile, present, escape, escape_by}
-use Rattle.sum_engine.specs.check.Checking.{content_behavior, check_behavior_by}
-use Rattle.sum_engine.specs.Behavior.{ByteString, Whole, World, Content, clip, Answer}
+use Rattle.sum_engine.specs.check.Checking.{content_behavior}
+use Rattle.sum_engine.specs.Behavior.{ByteString, Whole, World, Content}
 
 -- the profile of older versions
 abbrev pub older_profile : Profile
@@ -36,13 +36,6 @@ OldVerdicts = (r : Rules) (labels : LabelsValue) (w : World) (c : Content) → I
     → let old = rules_under older_profile r in let new = rules_under present r in
     (all_verdicts old w c ≡ all_verdicts new w c)
     × (content_behavior old labels c (all_verdicts old w c) ≡ content_behavior new labels c (all_verdicts new w c))
-
--- so its whole behavior is the same, also if the manifest can't be opened
-abbrev pub OldOutcomes : Type 0
-OldOutcomes = (r : Rules) (labels : LabelsValue) (name : ByteString) (w : World) (answer : Answer)
-    → HasNoCarriageReturn labels.manifest → ((c : Content) → answer ≡ Ok c → IsOldManifest r labels (clip c))
-    → check_behavior_by (rules_under older_profile r) labels name w answer
-    ≡ check_behavior_by (rules_under present r) labels name w answer
 
 -- how the older profile differs: a carriage return in a name isn't escaped, one at a line's end stays, and an empty
 -- line is improperly formatted

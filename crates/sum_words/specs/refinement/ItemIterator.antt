@@ -10,6 +10,7 @@ use Rattle.sum_words.specs.declared.parsing.items.ParserStep.{ParserStep}
 use Rattle.sum_words.specs.Items.{ByteString, ItemValue, option, length_value, operand, fault, a_word, a_value, cluster, items_from, full_name}
 use Rattle.sum_words.specs.declared.messages.word_faults.WordFault.TheVariants as words
 use Rattle.sum_words.specs.declared.parsing.items.Item.TheVariants as items
+use Rattle.sum_words.specs.declared.parsing.options.Flag.TheVariants as flags
 use Rattle.sum_words.specs.declared.parsing.items.ParserState.TheVariants as states
 use Rattle.sum_words.specs.declared.parsing.items.ParserStep.TheVariants as steps
 
@@ -26,7 +27,11 @@ word_fault_value words.TagWithText = faults.tag_with_text
 word_fault_value words.ZeroWithCheck = faults.zero_with_check
 word_fault_value words.TagWithCheck = faults.tag_with_check
 word_fault_value words.ModeWithCheck = faults.mode_with_check
-word_fault_value (words.WithoutCheck flag) = faults.without_check (full_name flag)
+word_fault_value words.IgnoreWithoutCheck = faults.without_check (full_name flags.IgnoreMissing)
+word_fault_value words.StatusWithoutCheck = faults.without_check (full_name flags.Status)
+word_fault_value words.WarnWithoutCheck = faults.without_check (full_name flags.Warn)
+word_fault_value words.QuietWithoutCheck = faults.without_check (full_name flags.Quiet)
+word_fault_value words.StrictWithoutCheck = faults.without_check (full_name flags.Strict)
 word_fault_value words.CheckNeeded = faults.check_needed
 word_fault_value (words.NotText word) = faults.not_text word.now
 

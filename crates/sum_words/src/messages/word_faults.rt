@@ -6,7 +6,7 @@ ghost use Rattle.sum_words.specs.WordFaults.{WordFaultValue, wording};
 ghost use Rattle.sum_words.specs.refinement.ItemIterator.{word_fault_value};
 ghost use Rattle.sum_words.specs.Texts.{fault_lines};
 
-use crate::parsing::options::{Flag, Spelling};
+use crate::parsing::options::Spelling;
 use crate::tool::Tool;
 use sum_lines::{Buffered, Part, Sink, SinkFault, put_parts};
 
@@ -36,9 +36,16 @@ pub enum WordFault<'a> {
     TagWithCheck,
     /// `--binary` or `--text` with `--check`.
     ModeWithCheck,
-    /// This option without `--check`: `--ignore-missing`, or else the last of `--status`, `--warn` and `--quiet`, or
-    /// else `--strict`.
-    WithoutCheck(Flag),
+    /// `--ignore-missing` without `--check`.
+    IgnoreWithoutCheck,
+    /// `--status` without `--check`, if it is the last of `--status`, `--warn` and `--quiet`.
+    StatusWithoutCheck,
+    /// `--warn` without `--check`, if it is the last of the three.
+    WarnWithoutCheck,
+    /// `--quiet` without `--check`, if it is the last of the three.
+    QuietWithoutCheck,
+    /// `--strict` without `--check`.
+    StrictWithoutCheck,
     /// `anysum` without `--check`.
     CheckNeeded,
     /// This word isn't UTF-8. It begins with a dash and goes on, so it is no operand.
@@ -100,8 +107,16 @@ fn wording<'a>(fault: WordFault<'a>, buffer: &'a mut [u8; 4]) -> (&'static str, 
         WordFault::TagWithCheck => ("the --tag option is meaningless when verifying checksums", NOTHING, ""),
         WordFault::ModeWithCheck =>
             ("the --binary and --text options are meaningless when verifying checksums", NOTHING, ""),
-        WordFault::WithoutCheck(flag) =>
-            ("the --", Part::Bytes(flag.name().as_bytes()), " option is meaningful only when verifying checksums"),
+        WordFault::IgnoreWithoutCheck =>
+            ("the --ignore-missing option is meaningful only when verifying checksums", NOTHING, ""),
+        WordFault::StatusWithoutCheck =>
+            ("the --status option is meaningful only when verifying checksums", NOTHING, ""),
+        WordFault::WarnWithoutCheck =>
+            ("the --warn option is meaningful only when verifying checksums", NOTHING, ""),
+        WordFault::QuietWithoutCheck =>
+            ("the --quiet option is meaningful only when verifying checksums", NOTHING, ""),
+        WordFault::StrictWithoutCheck =>
+            ("the --strict option is meaningful only when verifying checksums", NOTHING, ""),
         WordFault::CheckNeeded => ("--check is required", NOTHING, ""),
         WordFault::NotText(word) => ("unrecognized option '", Part::Escaped(word), "'"),
     }

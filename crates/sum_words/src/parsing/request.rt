@@ -216,13 +216,13 @@ fn fault_of_options(chosen: &Chosen<'_>) -> Option<WordFault<'static>>
         return None;
     }
     if chosen.ignore_missing {
-        return Some(WordFault::WithoutCheck(Flag::IgnoreMissing));
+        return Some(WordFault::IgnoreWithoutCheck);
     }
     match chosen.report {
-        Report::Status => Some(WordFault::WithoutCheck(Flag::Status)),
-        Report::Warn => Some(WordFault::WithoutCheck(Flag::Warn)),
-        Report::Quiet => Some(WordFault::WithoutCheck(Flag::Quiet)),
-        Report::All if chosen.strict => Some(WordFault::WithoutCheck(Flag::Strict)),
+        Report::Status => Some(WordFault::StatusWithoutCheck),
+        Report::Warn => Some(WordFault::WarnWithoutCheck),
+        Report::Quiet => Some(WordFault::QuietWithoutCheck),
+        Report::All if chosen.strict => Some(WordFault::StrictWithoutCheck),
         Report::All => None,
     }
 }
