@@ -7,9 +7,9 @@ use Rattle.std.proofs.lemmas.List.{append-nil}
 use Rattle.std.proofs.lemmas.List.Splits.{slice_split_at, slice_split_none, length-slice_split}
 use Rattle.std.proofs.lemmas.List.Elements.{All-head, All-tail}
 use Rattle.sum_sources.specs.Faults.{Fault}
-use Rattle.sum_sources.specs.Contents.{Ending, Whole, Broken, Content, empty_content}
+use Rattle.sum_sources.specs.Contents.{Ending, Broken, Content, empty_content}
 use Rattle.sum_sources.proofs.ContentLemmas.{with_prefix}
-use Rattle.sum_sources.specs.ManifestLines.{Line, NoMore, last_line, raw_lines, lines, HasNoNewline, IsNextLine}
+use Rattle.sum_sources.specs.ManifestLines.{Line, last_line, raw_lines, lines, HasNoNewline, IsNextLine}
 use Rattle.sum_sources.specs.declared.line_reader.LineStop.TheVariants as stops
 
 -- a newline ends the first piece

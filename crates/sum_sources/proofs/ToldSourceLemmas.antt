@@ -1,10 +1,10 @@
 -- `ToldSource`: its openings give what its answers give.
-use Rattle.std.proofs.Common.{◌≡◌, ℕ, zero, suc, ◌+◌, ◌<◌, ◌≤◌, List, [], ◌∷◌, ◌++◌, length, map, slice_set, Some, None, Ok, Err, refl, ap, sym, ◌∙◌, arith}
+use Rattle.std.proofs.Common.{◌≡◌, ℕ, zero, suc, ◌+◌, List, [], ◌∷◌, ◌++◌, length, map, slice_set, Some, None, Ok, Err, refl, ap, sym, ◌∙◌, arith}
 use Rattle.std.specs.Result.{result_ok}
 use Rattle.std.proofs.Math.Seq.{map-set_same}
-use Rattle.std.proofs.lemmas.List.{take_min, length-take, length-map, map-append}
+use Rattle.std.proofs.lemmas.List.{take_min, length-take, length-map}
 use Rattle.std.proofs.lemmas.Option.{get_or_from_slice_get}
-use Rattle.sum_sources.specs.Contents.{Content, Ending, Whole, Broken}
+use Rattle.sum_sources.specs.Contents.{Content}
 use Rattle.sum_sources.specs.Phases.{Phase, Unfinished, Ended, Past}
 use Rattle.sum_sources.specs.StandardInput.{told_reads, ToldContent, told_file}
 use Rattle.sum_sources.specs.Sources.{Answer, Opening, first_answer, SourceState, IsOpen}

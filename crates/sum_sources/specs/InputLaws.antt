@@ -1,7 +1,7 @@
 -- The law of inputs: what was read of one is of a content, of the one in memory if it is there.
 use Rattle.std.proofs.Common.{rules, ℕ, None, refl, drop}
 use Rattle.std.proofs.lemmas.List.{take-append-drop}
-use Rattle.sum_sources.specs.Contents.{Content, InputState, HasContent, IsOf, IsReadTo, Whole, Broken, empty_content}
+use Rattle.sum_sources.specs.Contents.{Content, InputState, HasContent, IsOf, IsReadTo, Whole, empty_content}
 use Rattle.sum_sources.specs.Faults.{ByteString}
 use Rattle.std.specs.Prelude.{[]}
 use Rattle.sum_sources.specs.Phases.{Phase, Unfinished, Ended, Past}

@@ -1,5 +1,5 @@
 -- What a read up to the limit adds to what was read.
-use Rattle.std.specs.Prelude.{ℕ, zero, suc, ◌≡◌, ◌≢◌, ◌+◌, ◌^◌, ◌<◌, ◌≤◌, ◌++◌, length, take, Result, Ok, Err, IfOk}
+use Rattle.std.specs.Prelude.{ℕ, zero, suc, ◌≡◌, ◌≢◌, ◌+◌, ◌^◌, ◌<◌, ◌≤◌, ◌++◌, length, Result, Ok, Err, IfOk}
 use Rattle.sum_sources.specs.Contents.{Content, Ending, Whole, Broken, Reads, InputState, IsOf, IsSameInput, clip, Fault}
 use Rattle.sum_sources.specs.Faults.{ByteString}
 use Rattle.sum_sources.specs.Phases.{Ended, Past}

@@ -1,7 +1,6 @@
 -- The view of a reader of lines, its invariant, and what its steps change.
 use Rattle.std.specs.Prelude.{ℕ, ◌≡◌, ◌+◌, ◌-◌, ◌^◌, ◌<◌, ◌≤◌, ◌⊎◌, length, take, drop, Option, None, Some, Result, Ok, Err, Bool, true, false, [], ◌∷◌, ◌++◌}
-use Rattle.sum_sources.specs.Contents.{Reads, Fault, Whole, Broken}
-use Rattle.sum_sources.specs.refinement.LimitedReads.{FindsEnding}
+use Rattle.sum_sources.specs.Contents.{Fault}
 use Rattle.digest_kinds.specs.Bytes.{ByteString}
 use Rattle.sum_sources.specs.declared.line_reader.LineReader.TheInside.{Inside}
 use Rattle.sum_sources.specs.declared.line_reader.ReaderState.{ReaderState}
