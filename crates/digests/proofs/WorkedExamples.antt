@@ -69,12 +69,14 @@ outcome tool words l input =
     let run = meaning tool words w in
     record { out = out_text run; err = err_text run; asks = asks run; good = run.good }
 
+-- nothing is written and no name is asked, and all is good
+abbrev nothing : Outcome
+nothing = record { out = []; err = []; asks = []; good = true }
+
 -- each of two files has a line
-files : outcome Md5sum (words "a e") empty_content empty_content ≡ record {
+files : outcome Md5sum (words "a e") empty_content empty_content ≡ record nothing {
   out = lines ("900150983cd24fb0d6963f7d28e17f72  a" ∷ "d41d8cd98f00b204e9800998ecf8427e  e" ∷ []);
-  err = [];
   asks = words "a e";
-  good = true;
 }
 unfolding meaning_on_literals
 files = refl
@@ -90,18 +92,15 @@ unfolding meaning_on_literals
 missing_file = refl
 
 -- standard input, with `abc` on it, is empty the second time
-stdin_twice : outcome Md5sum (words "- -") empty_content (whole_content (codes "abc")) ≡ record {
+stdin_twice : outcome Md5sum (words "- -") empty_content (whole_content (codes "abc")) ≡ record nothing {
   out = lines ("900150983cd24fb0d6963f7d28e17f72  -" ∷ "d41d8cd98f00b204e9800998ecf8427e  -" ∷ []);
-  err = [];
   asks = words "- -";
-  good = true;
 }
 unfolding meaning_on_literals
 stdin_twice = refl
 
 -- without words standard input is read: it gives three bytes, and then a fault
-stdin_fails : outcome Md5sum [] empty_content (broken_content (codes "abc")) ≡ record {
-  out = [];
+stdin_fails : outcome Md5sum [] empty_content (broken_content (codes "abc")) ≡ record nothing {
   err = lines ("md5sum: -: Input/output error" ∷ []);
   asks = words "-";
   good = false;
@@ -110,20 +109,16 @@ unfolding meaning_on_literals
 stdin_fails = refl
 
 -- a tagged line has the length
-tagged : outcome B2sum (words "-l 256 --tag e") empty_content empty_content ≡ record {
+tagged : outcome B2sum (words "-l 256 --tag e") empty_content empty_content ≡ record nothing {
   out = lines ("BLAKE2b-256 (e) = 0e5751c026e543b2e8ab2eb06099daa1d1e5df47778f7787faab45cdf12fe3a8" ∷ []);
-  err = [];
   asks = words "e";
-  good = true;
 }
 unfolding meaning_on_literals
 tagged = refl
 
 -- a fault before --help is told in place of the help
-unknown_option : outcome Md5sum (words "--foo --help") empty_content empty_content ≡ record {
-  out = [];
+unknown_option : outcome Md5sum (words "--foo --help") empty_content empty_content ≡ record nothing {
   err = lines ("md5sum: unrecognized option '--foo'" ∷ "Try 'md5sum --help' for more information." ∷ []);
-  asks = [];
   good = false;
 }
 unfolding meaning_on_literals
@@ -167,8 +162,7 @@ abbrev dash_manifest : Content
 dash_manifest = whole_content (lines ("900150983cd24fb0d6963f7d28e17f72  -" ∷ []))
 
 -- if it is standard input, none of its lines counts
-nothing_to_check : outcome Md5sum (words "-c") empty_content dash_manifest ≡ record {
-  out = [];
+nothing_to_check : outcome Md5sum (words "-c") empty_content dash_manifest ≡ record nothing {
   err = lines ("md5sum: standard input: no properly formatted checksum lines found" ∷ []);
   asks = words "-";
   good = false;
@@ -219,11 +213,10 @@ mixed_tags : outcome Anysum
     (whole_content (lines ("MD5 (a) = 900150983cd24fb0d6963f7d28e17f72"
     ∷ "BLAKE2b-256 (e) = 0e5751c026e543b2e8ab2eb06099daa1d1e5df47778f7787faab45cdf12fe3a8"
     ∷ "900150983cd24fb0d6963f7d28e17f72  a" ∷ [])))
-    empty_content ≡ record {
+    empty_content ≡ record nothing {
       out = lines ("a: OK" ∷ "e: OK" ∷ []);
       err = lines ("anysum: WARNING: 1 line is improperly formatted" ∷ []);
       asks = words "l a e";
-      good = true;
     }
 unfolding meaning_on_literals
 mixed_tags = refl
