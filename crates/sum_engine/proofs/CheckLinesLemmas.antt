@@ -66,19 +66,17 @@ returned (Err e) is = cc
 good_found : {I : Type 0} (q : VerdictsValue I) (labels : LabelsValue) (vector : List ℕ) (found : VerdictResult)
     (a b : OutputsState) → ReportsFound q labels vector found a b (Ok (Ended true))
     → (found ≡ Ok None) × (q.counts.unread ≡ 0)
-good_found q labels vector (Ok (Some v)) a b h = let p = returned h.written h.returns in cc
 good_found q labels vector (Ok None) a b h = let p = returned h.written h.returns in search rules
 good_found q labels vector (Err Memory) a b h = let p = h.0 in cc
-good_found q labels vector (Err (Fault f)) a b h = let p = returned h.written h.returns in cc
+good_found q labels vector found a b h = let p = returned h.written h.returns in cc
 
 -- it goes on only after a line
 going_found : {I : Type 0} (q : VerdictsValue I) (labels : LabelsValue) (vector : List ℕ) (found : VerdictResult)
     (a b : OutputsState) → ReportsFound q labels vector found a b (Ok Going)
     → (v : LineVerdict) × (found ≡ Ok (Some v))
 going_found q labels vector (Ok (Some v)) a b h = (v, refl)
-going_found q labels vector (Ok None) a b h = let p = returned h.written h.returns in cc
 going_found q labels vector (Err Memory) a b h = let p = h.0 in cc
-going_found q labels vector (Err (Fault f)) a b h = let p = returned h.written h.returns in cc
+going_found q labels vector found a b h = let p = returned h.written h.returns in cc
 
 -- a text was written, or a prefix of it, and no memory was refused
 wrote_cause : {A : Type 0} {a b : StreamsState} {err out : List ℕ} {y : A} {x : Result A Stop} {allowed : List ℕ}

@@ -14,10 +14,8 @@ use Rattle.sum_engine.specs.refinement.Names.{HashFault, NoRoom, AsksUnlessRefus
 pub judged_entry : (r : Rules) (w : World) (s : EntryValue) (found : Result (List ℕ) HashFault)
     (x : Result Verdict NoRoom) → r.from_stdin && is_dash s.name ≡ false → IsHashOf s.kind (answer_to w s.name) found
     → x ≡ verdict_of_hash r.ignore_missing s.digest found → IfOk x (λ v. v ≡ judge r w s)
-judged_entry r w s (Ok d) x dash h is = search rules
-judged_entry r w s (Err (NotOpened f)) x dash h is = search rules
-judged_entry r w s (Err (NotRead f)) x dash h is = search rules
 judged_entry r w s (Err Memory) x dash h is = rw is tt
+judged_entry r w s found x dash h is = search rules
 
 -- the name that its verdict asks is the one that was hashed
 pub entry_asks : (a b : InputsState) (ignore : Bool) (s : EntryValue) (found : Result (List ℕ) HashFault)
@@ -29,7 +27,5 @@ entry_asks a b ignore s found x is h = search rules
 -- it says that the file could not be read, if reading it failed
 pub verdict_read : (ignore : Bool) (digest : List ℕ) (found : Result (List ℕ) HashFault) (x : Result Verdict NoRoom)
     → x ≡ verdict_of_hash ignore digest found → IfOk x (λ v. is_unread v ≡ false) → IsNotBroken found
-verdict_read ignore digest (Ok d) x is read = tt
-verdict_read ignore digest (Err (NotOpened f)) x is read = tt
-verdict_read ignore digest (Err Memory) x is read = tt
 verdict_read ignore digest (Err (NotRead f)) x is read = let seen = rw is at read in cc
+verdict_read ignore digest found x is read = tt

@@ -106,6 +106,7 @@ fn put_end<E: Sink>(
     }
 }
 
+#[tactic(auto, using(crate::proofs::FlushedWriteLemmas::not_flushed))]
 fn put_warnings_flushed<E: Sink>(
     err: &mut Buffered<E>,
     rules: CheckRules,
