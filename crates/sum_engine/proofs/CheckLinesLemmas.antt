@@ -16,6 +16,7 @@ use Rattle.sum_engine.specs.Execution.{Stop, OutputsState, StreamsState, IsFlush
 use Rattle.sum_engine.specs.refinement.FlushedWrites.{outcome_after, WritesAndFlushesBoth, WritesAndReturns}
 use Rattle.sum_engine.proofs.CountLemmas.{counts_then-none}
 use Rattle.sum_engine.proofs.ExecutionLemmas.{one_at_most, stop_after}
+use Rattle.sum_engine.proofs.FlushedWriteLemmas.{returned}
 use Rattle.sum_engine.proofs.WorldLemmas.{agrees_before, reads_none, reads_then}
 use Rattle.sum_engine.proofs.BehaviorLemmas.{HasDoneUpTo, done_none, done_more, done_stops}
 
@@ -56,11 +57,6 @@ done_last c step later (Ok good) h is k =
     (last.1 ∙ all.good, rw steps all.happened)
 done_last {whole} c step later (Err stop) h is k =
     done_stops c whole.good (progress_before later.steps later.good) step later stop h is k
-
--- what a call returns that was to return x, unless a write failed
-pub returned : {E A : Type 0} {x y : A} (w : Result (Unit {0}) E) → Ok y ≡ outcome_after w x → y ≡ x
-returned (Ok u) is = search rules
-returned (Err e) is = cc
 
 -- a step returns that all is good only at the end, and only if each listed file could be read
 good_found : {I : Type 0} (q : VerdictsValue I) (labels : LabelsValue) (vector : List ℕ) (found : VerdictResult)

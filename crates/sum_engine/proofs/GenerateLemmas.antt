@@ -1,13 +1,11 @@
 -- `generate_one`: the behavior of hashing one name, by what `hash_name` gave and what was then written.
-use Rattle.std.proofs.Common.{rules, ◌≡◌, ◌∙◌, ap, ℕ, Bool, true, false, List, [], ◌∷◌, Result, Ok, Err, refl}
+use Rattle.std.proofs.Common.{rules, ◌≡◌, ℕ, List, [], ◌∷◌, Result, Ok, Err, refl}
 use Rattle.digest_kinds.specs.Kinds.{KindValue}
-use Rattle.sum_engine.specs.Behavior.{Fault, digest_or_fault, Step, single_step, Answer, World, answer_to}
+use Rattle.sum_engine.specs.Behavior.{Fault, digest_or_fault, Step, World, answer_to}
 use Rattle.sum_engine.specs.refinement.Names.{HashFault, HashesName, MemoryWasRefused, NoRoom, fault_in}
 use Rattle.sum_engine.specs.declared.hash_name.HashFault.TheVariants.{NotOpened, NotRead, Memory}
-use Rattle.sum_engine.specs.Generation.{Settings, generate_behavior, generate_behavior_by}
-use Rattle.sum_engine.specs.Execution.{Stop, InputsState, StreamsState, AsksNames, Agrees, world_at, Performs}
-use Rattle.sum_engine.specs.refinement.FlushedWrites.{WritesAndReturns, outcome_after}
-use Rattle.sum_engine.proofs.BehaviorLemmas.{Performs-step}
+use Rattle.sum_engine.specs.Generation.{Settings, generate_behavior_by}
+use Rattle.sum_engine.specs.Execution.{InputsState, AsksNames, Agrees, world_at}
 
 -- the fault that was found is what the definitions say of the answer, and the name was asked
 pub fault_found : {kind : KindValue} {name : List ℕ} {a b : InputsState} (e : HashFault) (f : Fault) → Ok f ≡ fault_in e
@@ -22,25 +20,6 @@ pub refused_memory : {kind : KindValue} {name : List ℕ} {a b : InputsState} (e
     → Err f ≡ fault_in e → HashesName kind name a b (Err e) → MemoryWasRefused a b
 refused_memory Memory f is h = h.asked
 refused_memory e f is h = cc
-
--- the name was asked, with this digest or fault, and the line of that was written, or a prefix of it
-pub generate-performed : (settings : Settings) (tool name : List ℕ) (good : Bool) (a b : StreamsState)
-    (found : Result (List ℕ) Fault) {err out : List ℕ} {x : Result Bool Stop}
-    → ((w : World) → Agrees w b.inputs
-    → digest_or_fault settings.kind (answer_to (world_at w a.inputs) name) ≡ found)
-    → AsksNames a.inputs b.inputs (name ∷ [])
-    → generate_behavior_by settings tool name found ≡ single_step (name ∷ []) err out good
-    → WritesAndReturns a.outputs b.outputs err out good x
-    → Performs (λ w. generate_behavior settings tool w name) (λ g. g) a b x
-generate-performed settings tool name good a b found h asked is said =
-    Performs-step (λ w. generate_behavior settings tool w name) (λ g. g) good a b asked
-    (λ w agrees. ap (generate_behavior_by settings tool name) (h w agrees) ∙ is) said
-
--- a fault line is never good
-pub never_good : {E P : Type 0} (written : Result (Unit {0}) E) (x : Result Bool Stop)
-    → x ≡ outcome_after written false → x ≡ Ok true → P
-never_good (Ok u) x is good = cc
-never_good (Err e) x is good = cc
 
 -- generation is one step
 pub one_step : (settings : Settings) (tool name : List ℕ) (x : Result (List ℕ) Fault)
