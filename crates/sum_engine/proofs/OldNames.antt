@@ -8,7 +8,7 @@ use Rattle.sum_lines.specs.grammar.Shapes.{Algos, mark, optional}
 use Rattle.sum_lines.specs.declared.reading.read_line.Form.{Form}
 use Rattle.sum_lines.specs.declared.reading.read_line.Form.TheVariants.{Undecided, Standard, Reversed}
 use Rattle.sum_lines.specs.Escape.{present, escape, escape_of, escape_by}
-use Rattle.sum_lines.specs.grammar.Entries.{EntryValue, is_ignored, IsRawName, SpellsByTag, SpellsByTail, IsEntry}
+use Rattle.sum_lines.specs.grammar.Entries.{EntryValue, is_ignored, IsRawName, IsEntry}
 use Rattle.sum_lines.specs.grammar.ParsedLines.{ParsedLine, ignored, bad, entry, parse_line}
 use Rattle.sum_lines.proofs.ParsedLineLemmas.{parse_is_grammar, bad_exactly}
 use Rattle.sum_engine.specs.check.OldVerdicts.{older_profile, HasNoCarriageReturn, NamesNoCarriageReturn}
@@ -70,24 +70,6 @@ raw_clean Undecided tail raw h is = absurd is
 raw_clean Reversed tail raw h is = subst HasNoCarriageReturn (sym is) h
 raw_clean Standard tail raw h is = All-tail IsNoCarriageReturn is.1 raw (subst HasNoCarriageReturn is.2 h)
 
--- a tagged line without one has a raw name without one
-tag_clean : (E : List ℕ → List ℕ) (algos : Algos) (line : List ℕ) (s : EntryValue) → HasNoCarriageReturn line
-    → (t : SpellsByTag E algos line s) → HasNoCarriageReturn t.raw
-tag_clean E algos line s free t =
-    let p = t.tagged in
-    let gap = optional p.gap (codes " ") ++ codes "(" in
-    let front = p.blanks ++ (mark t.escaped ++ (tag s.kind.algo ++ (p.width ++ gap))) in
-    let rest = codes ")" ++ (p.before ++ (codes "=" ++ (p.after ++ p.digits))) in
-    part_clean front t.raw rest line (search (rules, p.whole, append_assoc)) free
-
--- and a plain one
-tail_clean : (E : List ℕ → List ℕ) (algos : Algos) (f : Form) (line : List ℕ) (s : EntryValue)
-    → HasNoCarriageReturn line → (t : SpellsByTail E algos f line s) → HasNoCarriageReturn t.raw
-tail_clean E algos f line s free t =
-    let p = t.plain in
-    let front = p.blanks ++ (mark t.escaped ++ (p.digits ++ p.blank ∷ [])) in
-    raw_clean f t.tail t.raw (part_clean front t.tail [] line (search (rules, p.whole, append_assoc)) free) t.is_raw
-
 -- ---- the entry
 
 -- an entry by one escape is one by the other, if both change its name alike
@@ -95,11 +77,23 @@ entry_by : (E F : List ℕ → List ℕ) (algos : Algos) (f : Form) (line : List
     → IsEntry E algos f line s → IsEntry F algos f line s
 entry_by E F algos f line s same h = search rules
 
--- an older entry of a line without one has a name without one
+-- an older entry of a line without one has a name without one, since the raw name has none
 older_entry : (algos : Algos) (f : Form) (line : List ℕ) (s : EntryValue) → HasNoCarriageReturn line
     → IsEntry (escape_by older_profile) algos f line s → HasNoCarriageReturn s.name
-older_entry algos f line s free (inl t) = search (rules, older_name, tag_clean)
-older_entry algos f line s free (inr t) = search (rules, older_name, tail_clean)
+older_entry algos f line s free (inl t) =
+    let p = t.tagged in
+    let gap = optional p.gap (codes " ") ++ codes "(" in
+    let front = p.blanks ++ (mark t.escaped ++ (tag s.kind.algo ++ (p.width ++ gap))) in
+    let rest = codes ")" ++ (p.before ++ (codes "=" ++ (p.after ++ p.digits))) in
+    let clean : HasNoCarriageReturn t.raw =
+    part_clean front t.raw rest line (search (rules, p.whole, append_assoc)) free in
+    search (rules, older_name)
+older_entry algos f line s free (inr t) =
+    let p = t.plain in
+    let front = p.blanks ++ (mark t.escaped ++ (p.digits ++ p.blank ∷ [])) in
+    let clean : HasNoCarriageReturn t.raw =
+    raw_clean f t.tail t.raw (part_clean front t.tail [] line (search (rules, p.whole, append_assoc)) free) t.is_raw in
+    search (rules, older_name)
 
 -- ---- what a line says
 
