@@ -37,7 +37,7 @@ OldVerdicts = (r : Rules) (labels : LabelsValue) (w : World) (c : Content) → I
     (all_verdicts old w c ≡ all_verdicts new w c)
     × (content_behavior old labels c (all_verdicts old w c) ≡ content_behavior new labels c (all_verdicts new w c))
 
--- so its whole behavior is the same, also if the manifest can't be opened
+-- so the whole behavior of checking it is the same, also if the manifest can't be opened
 abbrev pub OldOutcomes : Type 0
 OldOutcomes = (r : Rules) (labels : LabelsValue) (name : ByteString) (w : World) (answer : Answer)
     → HasNoCarriageReturn labels.manifest → ((c : Content) → answer ≡ Ok c → IsOldManifest r labels (clip c))

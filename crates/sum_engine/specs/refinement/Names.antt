@@ -38,7 +38,7 @@ abbrev pub opened_state : {I F : Type 0} → (I → InputState) → (F → Input
 opened_state stdin file (Stdin given) = record (given_state stdin given) { name = codes "-" }
 opened_state stdin file (File f) = file f
 
--- and no file is named so
+-- no file is named `-`
 abbrev pub IsNamedFile : {I F : Type 0} → (F → InputState) → Place I F → Type 0
 IsNamedFile file (Stdin given) = ⊤
 IsNamedFile file (File f) = is_dash (file f).name ≡ false
@@ -57,7 +57,7 @@ pub record OpensName (name : ByteString) (a b : InputsState) (s : InputState) : 
   pub opens : MatchBool (is_dash name) (GivesStdin s a b)
       ((s ≡ opened_file a.source name) × (b ≡ record a { source = and_opening a.source name None }))
 
--- or it fails: there is no such fault of standard input
+-- or opening the name fails: there is no such fault of standard input
 abbrev pub FailsToOpen : ByteString → InputsState → InputsState → OpenFault → Type 0
 FailsToOpen name a b (faults.Fault f) =
     (is_dash name ≡ false) × (b ≡ record a { source = and_opening a.source name (Some (Err f)) })
