@@ -3,12 +3,12 @@ use Rattle.std.proofs.Common.{◌≡◌, ℕ, Bool, false, List, [], ◌∷◌, 
 use Rattle.sum_sources.specs.Contents.{unread}
 use Rattle.sum_sources.specs.Sources.{and_opening}
 use Rattle.sum_lines.proofs.EventLemmas.{Gets-none}
-use Rattle.sum_engine.specs.Behavior.{Fault, World, is_dash, answer_to, after, Step, events_of, Answer, Content, InputState, clip}
+use Rattle.sum_engine.specs.Behavior.{Fault, World, is_dash, answer_to, after, Step, events_of, Answer, InputState, clip}
 use Rattle.sum_engine.specs.check.CheckerLaws.{RunsManifest}
 use Rattle.sum_engine.specs.check.Rules.{rules_of, labels_of}
 use Rattle.sum_engine.specs.check.Judge.{present}
 use Rattle.sum_engine.specs.check.Checking.{CheckSettings, check_behavior_by, check_behavior}
-use Rattle.sum_engine.specs.Execution.{Stop, Memory, InputsState, OutputsState, StreamsState, AsksNames, world_at, Happened, PerformsSteps, Performs}
+use Rattle.sum_engine.specs.Execution.{Stop, Memory, InputsState, OutputsState, StreamsState, world_at, Happened, Performs}
 use Rattle.sum_engine.specs.Generation.{name_fault_line}
 use Rattle.sum_engine.specs.refinement.FlushedWrites.{WritesAndReturns}
 use Rattle.sum_engine.specs.refinement.Names.{MemoryWasRefused}

@@ -1,12 +1,12 @@
 -- `steps_join`: the steps of a new checker, one after another, by induction on the list of their vectors.
-use Rattle.std.proofs.Common.{rules, ◌≡◌, ℕ, zero, suc, ◌+◌, ◌-◌, ◌≤◌, Bool, true, List, [], ◌∷◌, ◌++◌, Ok, length, take, drop, refl, ap, sym, ◌∙◌, arith, length-drop, slice_index_or}
+use Rattle.std.proofs.Common.{rules, ◌≡◌, ℕ, zero, suc, ◌+◌, ◌-◌, ◌≤◌, List, [], ◌∷◌, ◌++◌, Ok, length, take, drop, refl, ap, sym, ◌∙◌, arith, length-drop, slice_index_or}
 use Rattle.std.proofs.lemmas.List.{take-append-drop}
 use Rattle.sum_engine.specs.check.Rules.{Rules, LabelsValue}
 use Rattle.sum_engine.specs.check.Judge.{Form, form, lines_under, LineVerdictValue, asks_of, verdicts, all_verdicts, line_verdict, parse_line, past_line, past_lines}
 use Rattle.sum_engine.specs.check.Reports.{counts_of, end_text}
 use Rattle.sum_engine.specs.check.Checking.{line_steps, content_behavior}
 use Rattle.sum_engine.specs.check.CheckStates.{CheckState, remaining_behavior, initial_state}
-use Rattle.sum_engine.specs.check.Checker.{Going, Ended, IsStep, step_then}
+use Rattle.sum_engine.specs.check.Checker.{Going, IsStep, step_then}
 use Rattle.sum_engine.specs.Behavior.{World, after, Behavior, trace, Content}
 use Rattle.sum_engine.specs.Execution.{StreamsState, Happened}
 use Rattle.sum_engine.specs.check.CheckerLaws.{StepsGoing, StepsJoin}
@@ -121,6 +121,10 @@ steps_join r labels c w b s t vectors going =
           let last = sym h.steps ∙ ap (λ (q : Behavior). q.steps) e.is ∙ ap (λ steps. e.step ∷ steps) none.0 in
           let one : length all.steps - k ≡ 1 = sym (length-drop k all.steps) ∙ ap length last in
           let ls = lines_under r.profile c in
-          omega (arith, one, length_steps r labels (end_text r labels c.ending (counts_of js)) c js,
-          length_verdicts r (form r.algo ls) w 0 ls);
+          omega (
+            arith,
+            one,
+            length_steps r labels (end_text r labels c.ending (counts_of js)) c js,
+            length_verdicts r (form r.algo ls) w 0 ls,
+          );
     }

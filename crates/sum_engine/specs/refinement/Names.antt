@@ -1,5 +1,5 @@
 -- Relates opening, hashing and closing a name to the world.
-use Rattle.std.specs.Prelude.{◌≡◌, ◌≢◌, ◌+◌, Bool, true, false, [], ◌∷◌, codes, length, Option, None, Some, Result, Ok, Err, IfOk, ⊤, if◌then◌else◌, MatchBool}
+use Rattle.std.specs.Prelude.{◌≡◌, ◌≢◌, ◌+◌, true, false, [], ◌∷◌, codes, length, None, Some, Result, Ok, Err, IfOk, ⊤, if◌then◌else◌, MatchBool}
 use Rattle.digest_kinds.specs.Kinds.{KindValue}
 pub use Rattle.sum_sources.specs.declared.fault.NoRoom.{NoRoom}
 use Rattle.sum_sources.specs.declared.sources.source.OpenFault.{OpenFault}
@@ -7,7 +7,7 @@ use Rattle.sum_sources.specs.Contents.{unread, HasContent}
 use Rattle.sum_sources.specs.InputLaws.{given_has_content}
 use Rattle.sum_sources.specs.Sources.{IsOpen, opened_file, and_opening, after_closing}
 use Rattle.sum_sources.specs.StandardInput.{given_state}
-use Rattle.sum_engine.specs.Behavior.{World, Fault, is_dash, answer_to, InputState, Reads, empty_content, ByteString, Answer, digest_or_fault}
+use Rattle.sum_engine.specs.Behavior.{World, Fault, is_dash, answer_to, InputState, empty_content, ByteString, Answer, digest_or_fault}
 use Rattle.sum_engine.specs.Execution.{StdinState, InputsState, Agrees, world_at, AsksNames, ReadsToEndIf}
 pub use Rattle.sum_engine.specs.declared.hash_name.HashFault.{HashFault}
 use Rattle.sum_engine.specs.declared.opened.Place.{Place}

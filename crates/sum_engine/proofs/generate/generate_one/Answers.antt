@@ -1,4 +1,4 @@
-use Rattle.std.proofs.Common.{refl, true, false, ap, sym, ◌∙◌, Ok, Err}
+use Rattle.std.proofs.Common.{refl, true, false, ap, sym, ◌∙◌}
 use Rattle.std.proofs.lemmas.Result.{err_from_is_err_and}
 use Rattle.sum_engine.specs.Behavior.{answer_to, digest_or_fault}
 use Rattle.sum_engine.specs.Generation.{generate_behavior, generate_behavior_by}
