@@ -51,7 +51,8 @@ module _ {I : Type 0} (state : I → InputState) (p q : VerdictsValue I) (reader
         ≡ line_verdict p.rules (world_at w a) reader.lines (parsed_at p line)))
         → InEachCheck state p q a b (λ c d. IsNextVerdict p.rules vector c d (found_verdict x))
     next_verdict-line now r same (Ok found) takes asked said =
-        let is : q ≡ judged (Ok found) = same ∙ ap (λ (r : VerdictsValue I). record r { outcome = q.outcome }) takes.now in
+        let is : q ≡ judged (Ok found) =
+        same ∙ ap (λ (r : VerdictsValue I). record r { outcome = q.outcome }) takes.now in
         rw is (record {
           holds = λ reading c of w agrees.
               let (next, both) = (reads reading).line c of in
@@ -77,7 +78,8 @@ module _ {I : Type 0} (state : I → InputState) (p q : VerdictsValue I) (reader
               (search (rules, remaining_next p.rules first last vector handled, f, world), handled);
         })
     next_verdict-line now r same (Err e) takes asked said =
-        let is : q ≡ judged (Err e) = same ∙ ap (λ (r : VerdictsValue I). record r { outcome = q.outcome }) takes.now in
+        let is : q ≡ judged (Err e) =
+        same ∙ ap (λ (r : VerdictsValue I). record r { outcome = q.outcome }) takes.now in
         rw is (record {
           holds = λ reading c of w agrees. (
             refused_world w a b asked,
