@@ -16,6 +16,7 @@ use Rattle.sum_engine.specs.Execution.{Stop, OutputsState, StreamsState, IsFlush
 use Rattle.sum_engine.specs.refinement.FlushedWrites.{outcome_after, WritesAndFlushesBoth, WritesAndReturns}
 use Rattle.sum_engine.proofs.CountLemmas.{counts_then-none}
 use Rattle.sum_engine.proofs.ExecutionLemmas.{one_at_most, stop_after}
+use Rattle.sum_engine.proofs.FlushedWriteLemmas.{returned}
 use Rattle.sum_engine.proofs.WorldLemmas.{agrees_before, reads_none, reads_then}
 use Rattle.sum_engine.proofs.BehaviorLemmas.{HasDoneUpTo, done_none, done_more, done_stops}
 
@@ -57,28 +58,21 @@ done_last c step later (Ok good) h is k =
 done_last {whole} c step later (Err stop) h is k =
     done_stops c whole.good (progress_before later.steps later.good) step later stop h is k
 
--- what a call returns that was to return x, unless a write failed
-pub returned : {E A : Type 0} {x y : A} (w : Result (Unit {0}) E) → Ok y ≡ outcome_after w x → y ≡ x
-returned (Ok u) is = search rules
-returned (Err e) is = cc
-
 -- a step returns that all is good only at the end, and only if each listed file could be read
 good_found : {I : Type 0} (q : VerdictsValue I) (labels : LabelsValue) (vector : List ℕ) (found : VerdictResult)
     (a b : OutputsState) → ReportsFound q labels vector found a b (Ok (Ended true))
     → (found ≡ Ok None) × (q.counts.unread ≡ 0)
-good_found q labels vector (Ok (Some v)) a b h = let p = returned h.written h.returns in cc
 good_found q labels vector (Ok None) a b h = let p = returned h.written h.returns in search rules
 good_found q labels vector (Err Memory) a b h = let p = h.0 in cc
-good_found q labels vector (Err (Fault f)) a b h = let p = returned h.written h.returns in cc
+good_found q labels vector found a b h = let p = returned h.written h.returns in cc
 
 -- it goes on only after a line
 going_found : {I : Type 0} (q : VerdictsValue I) (labels : LabelsValue) (vector : List ℕ) (found : VerdictResult)
     (a b : OutputsState) → ReportsFound q labels vector found a b (Ok Going)
     → (v : LineVerdict) × (found ≡ Ok (Some v))
 going_found q labels vector (Ok (Some v)) a b h = (v, refl)
-going_found q labels vector (Ok None) a b h = let p = returned h.written h.returns in cc
 going_found q labels vector (Err Memory) a b h = let p = h.0 in cc
-going_found q labels vector (Err (Fault f)) a b h = let p = returned h.written h.returns in cc
+going_found q labels vector found a b h = let p = returned h.written h.returns in cc
 
 -- a text was written, or a prefix of it, and no memory was refused
 wrote_cause : {A : Type 0} {a b : StreamsState} {err out : List ℕ} {y : A} {x : Result A Stop} {allowed : List ℕ}

@@ -3,12 +3,12 @@ use Rattle.std.proofs.Common.{◌≡◌, ℕ, Bool, false, List, [], ◌∷◌, 
 use Rattle.sum_sources.specs.Contents.{unread}
 use Rattle.sum_sources.specs.Sources.{and_opening}
 use Rattle.sum_lines.proofs.EventLemmas.{Gets-none}
-use Rattle.sum_engine.specs.Behavior.{Fault, World, is_dash, answer_to, after, Step, events_of, Answer, Content, InputState, clip}
+use Rattle.sum_engine.specs.Behavior.{Fault, World, is_dash, answer_to, after, Step, events_of, Answer, InputState, clip}
 use Rattle.sum_engine.specs.check.CheckerLaws.{RunsManifest}
 use Rattle.sum_engine.specs.check.Rules.{rules_of, labels_of}
 use Rattle.sum_engine.specs.check.Judge.{present}
 use Rattle.sum_engine.specs.check.Checking.{CheckSettings, check_behavior_by, check_behavior}
-use Rattle.sum_engine.specs.Execution.{Stop, Memory, InputsState, OutputsState, StreamsState, AsksNames, world_at, Happened, PerformsSteps, Performs}
+use Rattle.sum_engine.specs.Execution.{Stop, Memory, InputsState, OutputsState, StreamsState, world_at, Happened, Performs}
 use Rattle.sum_engine.specs.Generation.{name_fault_line}
 use Rattle.sum_engine.specs.refinement.FlushedWrites.{WritesAndReturns}
 use Rattle.sum_engine.specs.refinement.Names.{MemoryWasRefused}
@@ -32,22 +32,7 @@ module _ (settings : CheckSettings) (tool name : List ℕ) (a : StreamsState) wh
   abbrev from_inputs : InputsState → StreamsState
   from_inputs inputs = record a { inputs = inputs }
 
-  -- The name was asked, which gave this content, and its checker then ran. So the opening happened, and the behavior of
-  -- the content comes behind it.
-  opened_behavior : (c : Content) (m : InputsState) (b : StreamsState) (x : Result Bool Stop) (w : World)
-      → AsksNames a.inputs m (name ∷ []) → answer_to (world_at w a.inputs) name ≡ Ok c
-      → (let all = manifest_behavior (rules_of settings (is_dash name)) (labels_of settings tool name) (clip c)
-      (world_at w m) in PerformsSteps all.steps all.good (from_inputs m) b x)
-      → (let all = check_behavior settings tool (world_at w a.inputs) name in PerformsSteps all.steps all.good a b x)
-  opened_behavior c m b x w asked answer ran =
-      let did : Happened a (from_inputs m) (events_of (opening name)) =
-      Happened-by (name ∷ []) [] [] asked Gets-none Gets-none in
-      let later = world_after w a.inputs m (name ∷ []) asked in
-      let of = manifest_behavior (rules_of settings (is_dash name)) (labels_of settings tool name) (clip c)
-      (world_at w m) in
-      rw (answer, ← later) (behind_step b of.good (opening name) of.steps x did ran)
-
-  -- it was opened, run and closed
+  -- it was opened, run and closed: the opening happened, and the behavior of the content comes behind it
   pub check_opened : {Whole : Type 0} (m n : InputsState) (s t : InputState) (b : StreamsState) (x : Result Bool Stop)
       → s.reads ≡ unread → WasOpened Whole a.inputs m b.inputs n name t
       → RunsManifest (rules_of settings (is_dash name)) (labels_of settings tool name) s t (from_inputs m) b x
@@ -55,9 +40,14 @@ module _ (settings : CheckSettings) (tool name : List ℕ) (a : StreamsState) wh
   check_opened m n s t b x fresh o run = λ flushed w agrees.
       let (c, answer, of) = o.answer w agrees in
       let ran = run.behavior fresh c of flushed w (o.agrees w agrees) in
-      let all = check_behavior settings tool (world_at w a.inputs) name in
-      kept_performs all.steps all.good a b n x o.asked o.taken o.refusals
-      (opened_behavior c m b x w o.asks answer ran)
+      let did : Happened a (from_inputs m) (events_of (opening name)) =
+      Happened-by (name ∷ []) [] [] o.asks Gets-none Gets-none in
+      let all = manifest_behavior (rules_of settings (is_dash name)) (labels_of settings tool name) (clip c)
+      (world_at w m) in
+      let whole = check_behavior settings tool (world_at w a.inputs) name in
+      kept_performs whole.steps whole.good a b n x o.asked o.taken o.refusals
+      (rw (answer, ← world_after w a.inputs m (name ∷ []) o.asks)
+      (behind_step b all.good (opening name) all.steps x did ran))
 
   -- it could not be opened, and the line of its fault was written, or a prefix of it
   pub refused : (m : InputsState) (f : Fault) (outputs : OutputsState) (x : Result Bool Stop) → is_dash name ≡ false

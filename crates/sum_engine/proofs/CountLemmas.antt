@@ -5,8 +5,8 @@ use Rattle.sum_engine.specs.check.Reports.{Counts, counts_of}
 use Rattle.sum_engine.specs.check.CheckStates.{no_counts, counts_with, counts_then, total}
 
 -- a line more is at most one more that is not ignored
-pub total-with : (n : Counts) (v : Verdict) → total (counts_with n v) ≤ total n + 1
-total-with n v = search (rules, arith)
+pub total_with : (n : Counts) (v : Verdict) → total (counts_with n v) ≤ total n + 1
+total_with n v = search (rules, arith)
 
 -- after no line
 pub counts_then-none : (n : Counts) → counts_then no_counts n ≡ n

@@ -5,7 +5,7 @@ use Rattle.std.proofs.lemmas.List.{map-append}
 use Rattle.std.proofs.lemmas.List.Elements.{filter_map-append}
 use Rattle.sum_lines.specs.Sinks.{Gets}
 use Rattle.sum_lines.proofs.EventLemmas.{Gets-none, Gets-then}
-use Rattle.sum_engine.specs.Behavior.{Event, Step, events_of, OutputEvent, output_events, open_name, to_err, to_out, opened_name, err_event, out_event}
+use Rattle.sum_engine.specs.Behavior.{Event, Step, OutputEvent, output_events, open_name, to_err, to_out, err_event, out_event}
 use Rattle.sum_engine.specs.refinement.FlushedWrites.{WritesBoth, WritesAndReturns, outcome_after}
 use Rattle.sum_engine.specs.refinement.Names.{MemoryWasRefused}
 use Rattle.sum_engine.specs.Execution.{InputsState, StreamsState, IsFlushed, StopHasCause, asked, AsksNames, Stop, Memory, Write, Happened, RunsOutOfMemory, with_refusals, PerformsSteps}
@@ -32,8 +32,8 @@ kind-none f h none (x ∷ xs) = search (rules, kind-none f h none xs)
 -- ---- what happened
 
 -- these names were asked, and the outputs got these events
-pub Happened-by : {a b : StreamsState} (names : List (List ℕ)) (err out : List OutputEvent) → AsksNames a.inputs b.inputs names
-    → Gets a.outputs.err.sink b.outputs.err.sink err → Gets a.outputs.out.sink b.outputs.out.sink out
+pub Happened-by : {a b : StreamsState} (names : List (List ℕ)) (err out : List OutputEvent)
+    → AsksNames a.inputs b.inputs names → Gets a.outputs.err.sink b.outputs.err.sink err → Gets a.outputs.out.sink b.outputs.out.sink out
     → Happened a b (events_by names err out)
 Happened-by names err out h p q = search (rules, filter_map-append, kind-all, kind-none)
 
@@ -52,8 +52,8 @@ Happened-then {a} {b} {c} p q h k = record {
 -- ---- one step
 
 -- the names were asked and the texts written, or a prefix of them: so the step that has these was performed
-pub step_performed : {A : Type 0} {a b : StreamsState} {names : List (List ℕ)} {err out : List ℕ} {x : A} {r : Result A Stop}
-    (remaining : ℕ) → AsksNames a.inputs b.inputs names → IsFlushed a.outputs
+pub step_performed : {A : Type 0} {a b : StreamsState} {names : List (List ℕ)} {err out : List ℕ} {x : A}
+    {r : Result A Stop} (remaining : ℕ) → AsksNames a.inputs b.inputs names → IsFlushed a.outputs
     → WritesAndReturns a.outputs b.outputs err out x r
     → PerformsSteps (record { names = names; err = err; out = out; remaining = remaining } ∷ []) x a b r
 step_performed {A} {a} {b} {names} {err} {out} {x} remaining asked flushed said =

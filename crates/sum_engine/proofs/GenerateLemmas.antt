@@ -1,52 +1,25 @@
 -- `generate_one`: the behavior of hashing one name, by what `hash_name` gave and what was then written.
-use Rattle.std.proofs.Common.{rules, ◌≡◌, ◌∙◌, ap, ℕ, Bool, true, false, List, [], ◌∷◌, Result, Ok, Err, refl}
+use Rattle.std.proofs.Common.{rules, ◌≡◌, ℕ, List, [], ◌∷◌, Result, Ok, Err, refl}
 use Rattle.digest_kinds.specs.Kinds.{KindValue}
-use Rattle.sum_engine.specs.Behavior.{Fault, digest_or_fault, Step, single_step, Answer, World, answer_to}
-use Rattle.sum_engine.specs.refinement.Names.{AsksUnlessRefused, HashFault, IsHashOf, MemoryWasRefused, NoRoom, fault_in}
+use Rattle.sum_engine.specs.Behavior.{Fault, digest_or_fault, Step, World, answer_to}
+use Rattle.sum_engine.specs.refinement.Names.{HashFault, HashesName, MemoryWasRefused, NoRoom, fault_in}
 use Rattle.sum_engine.specs.declared.hash_name.HashFault.TheVariants.{NotOpened, NotRead, Memory}
-use Rattle.sum_engine.specs.Generation.{Settings, generate_behavior, generate_behavior_by}
-use Rattle.sum_engine.specs.Execution.{Stop, InputsState, StreamsState, AsksNames, Agrees, world_at, Performs}
-use Rattle.sum_engine.specs.refinement.FlushedWrites.{WritesAndReturns, outcome_after}
-use Rattle.sum_engine.proofs.BehaviorLemmas.{Performs-step}
+use Rattle.sum_engine.specs.Generation.{Settings, generate_behavior_by}
+use Rattle.sum_engine.specs.Execution.{InputsState, AsksNames, Agrees, world_at}
 
--- the fault that was found is what the definitions say of the answer
-pub fault_found : (kind : KindValue) (x : Answer) (f : Fault) (e : HashFault) → Ok f ≡ fault_in e
-    → IsHashOf kind x (Err e) → digest_or_fault kind x ≡ Err f
-fault_found kind x f (NotRead e) is h = search rules
-fault_found kind x f (NotOpened e) is h = rw h (search rules)
-fault_found kind x f Memory is h = cc
+-- the fault that was found is what the definitions say of the answer, and the name was asked
+pub fault_found : {kind : KindValue} {name : List ℕ} {a b : InputsState} (e : HashFault) (f : Fault) → Ok f ≡ fault_in e
+    → HashesName kind name a b (Err e) → AsksNames a b (name ∷ [])
+    × ((w : World) → Agrees w b → digest_or_fault kind (answer_to (world_at w a) name) ≡ Err f)
+fault_found (NotOpened e) f is h = (h.asked, λ w agrees. rw (h.hash w agrees) (search rules))
+fault_found (NotRead e) f is h = (h.asked, λ w agrees. let hash = h.hash w agrees in search rules)
+fault_found Memory f is h = cc
 
--- the name was asked, unless memory was refused
-pub asked_or_refused : {name : List ℕ} (a b : InputsState) (e : HashFault) (f : Fault) → Ok f ≡ fault_in e
-    → AsksUnlessRefused {A = List ℕ} name a b (Err e) → AsksNames a b (name ∷ [])
-asked_or_refused a b (NotOpened e) f is h = h
-asked_or_refused a b (NotRead e) f is h = h
-asked_or_refused a b Memory f is h = cc
-
-pub refused_memory : (name : List ℕ) (a b : InputsState) (e : HashFault) (f : NoRoom) → Err f ≡ fault_in e
-    → AsksUnlessRefused {A = List ℕ} name a b (Err e) → MemoryWasRefused a b
-refused_memory name a b (NotOpened e) f is h = cc
-refused_memory name a b (NotRead e) f is h = cc
-refused_memory name a b Memory f is h = h
-
--- the name was asked, with this digest or fault, and the line of that was written, or a prefix of it
-pub generate-performed : (settings : Settings) (tool name : List ℕ) (good : Bool) (a b : StreamsState)
-    (found : Result (List ℕ) Fault) {err out : List ℕ} {x : Result Bool Stop}
-    → ((w : World) → Agrees w b.inputs
-    → digest_or_fault settings.kind (answer_to (world_at w a.inputs) name) ≡ found)
-    → AsksNames a.inputs b.inputs (name ∷ [])
-    → generate_behavior_by settings tool name found ≡ single_step (name ∷ []) err out good
-    → WritesAndReturns a.outputs b.outputs err out good x
-    → Performs (λ w. generate_behavior settings tool w name) (λ g. g) a b x
-generate-performed settings tool name good a b found h asked is said =
-    Performs-step (λ w. generate_behavior settings tool w name) (λ g. g) good a b asked
-    (λ w agrees. ap (generate_behavior_by settings tool name) (h w agrees) ∙ is) said
-
--- a fault line is never good
-pub never_good : {E P : Type 0} (written : Result (Unit {0}) E) (x : Result Bool Stop)
-    → x ≡ outcome_after written false → x ≡ Ok true → P
-never_good (Ok u) x is good = cc
-never_good (Err e) x is good = cc
+-- or memory was refused
+pub refused_memory : {kind : KindValue} {name : List ℕ} {a b : InputsState} (e : HashFault) (f : NoRoom)
+    → Err f ≡ fault_in e → HashesName kind name a b (Err e) → MemoryWasRefused a b
+refused_memory Memory f is h = h.asked
+refused_memory e f is h = cc
 
 -- generation is one step
 pub one_step : (settings : Settings) (tool name : List ℕ) (x : Result (List ℕ) Fault)

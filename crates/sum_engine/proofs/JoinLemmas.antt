@@ -1,12 +1,12 @@
 -- `steps_join`: the steps of a new checker, one after another, by induction on the list of their vectors.
-use Rattle.std.proofs.Common.{rules, ◌≡◌, ℕ, zero, suc, ◌+◌, ◌-◌, ◌≤◌, Bool, true, List, [], ◌∷◌, ◌++◌, Ok, length, take, drop, refl, ap, sym, ◌∙◌, arith, length-drop, slice_index_or}
+use Rattle.std.proofs.Common.{rules, ◌≡◌, ℕ, zero, suc, ◌+◌, ◌-◌, ◌≤◌, List, [], ◌∷◌, ◌++◌, Ok, length, take, drop, refl, ap, sym, ◌∙◌, arith, length-drop, slice_index_or}
 use Rattle.std.proofs.lemmas.List.{take-append-drop}
 use Rattle.sum_engine.specs.check.Rules.{Rules, LabelsValue}
 use Rattle.sum_engine.specs.check.Judge.{Form, form, lines_under, LineVerdictValue, asks_of, verdicts, all_verdicts, line_verdict, parse_line, past_line, past_lines}
 use Rattle.sum_engine.specs.check.Reports.{counts_of, end_text}
 use Rattle.sum_engine.specs.check.Checking.{line_steps, content_behavior}
 use Rattle.sum_engine.specs.check.CheckStates.{CheckState, remaining_behavior, initial_state}
-use Rattle.sum_engine.specs.check.Checker.{Going, Ended, IsStep, step_then}
+use Rattle.sum_engine.specs.check.Checker.{Going, IsStep, step_then}
 use Rattle.sum_engine.specs.Behavior.{World, after, Behavior, trace, Content}
 use Rattle.sum_engine.specs.Execution.{StreamsState, Happened}
 use Rattle.sum_engine.specs.check.CheckerLaws.{StepsGoing, StepsJoin}
@@ -41,15 +41,9 @@ drop_next (suc k) (x ∷ xs) ys y h = search (rules, drop_next k xs ys y h)
 -- ---- k steps of a new checker
 
 module _ (r : Rules) (labels : LabelsValue) (c : Content) (w : World) (s : StreamsState) where
-  -- the manifest's verdicts and its behavior
-  abbrev js : List LineVerdictValue
-  js = all_verdicts r w c
-
+  -- the manifest's behavior
   abbrev whole : Behavior
-  whole = content_behavior r labels c js
-
-  abbrev end : List ℕ
-  end = end_text r labels c.ending (counts_of js)
+  whole = content_behavior r labels c (all_verdicts r w c)
 
   -- exactly the first k steps happened, and the others remain; the bytes consumed are those up to the end of line k
   pub record After (b : CheckState) (t : StreamsState) (k : ℕ) : Type 0 where
@@ -94,22 +88,6 @@ module _ (r : Rules) (labels : LabelsValue) (c : Content) (w : World) (s : Strea
       let next : i + suc (length vectors) ≡ suc i + length vectors = omega arith in
       rw next (after_all more.0 b more.1 t (suc i) vectors (after_more h more.2) more.3)
 
-  -- the whole behavior is what was done and what remains
-  along : {b : CheckState} {t : StreamsState} {k : ℕ} → After b t k
-      → HasDoneUpTo whole (remaining_behavior r labels b) s t
-  along h = search (rules, take-append-drop)
-
-  -- the step that ends comes after all lines
-  all_lines : {b : CheckState} {t : StreamsState} {k : ℕ} → After b t k → (good : Bool) (vector : List ℕ)
-      (d : CheckState) (z : StreamsState) → IsStep r labels vector b d t z (Ok (Ended good))
-      → k ≡ length (lines_under r.profile c)
-  all_lines {k = k} h good vector d z e =
-      let none = none_left e.later.steps e.later.good good e.performs.0 in
-      let last = sym h.steps ∙ ap (λ (q : Behavior). q.steps) e.is ∙ ap (λ steps. e.step ∷ steps) none.0 in
-      let one : length whole.steps - k ≡ 1 = sym (length-drop k whole.steps) ∙ ap length last in
-      omega (arith, one, length_steps r labels end c js,
-      length_verdicts r (form r.algo (lines_under r.profile c)) w 0 (lines_under r.profile c))
-
 -- no vector is longer than its line
 vectors_fit : (r : Rules) (labels : LabelsValue) (a b : CheckState) (s t : StreamsState) (vectors : List (List ℕ))
     → StepsGoing r labels a b s t vectors → (i : ℕ)
@@ -129,10 +107,24 @@ steps_join r labels c w b s t vectors going =
     let start : 0 + k ≡ k = omega arith in
     let h : After r labels c w s b t k = rw start at (after_all r labels c w s (initial_state c w) b s t 0 vectors
     (after_none r labels c w s) going) in
+    let js = all_verdicts r w c in
+    let all = content_behavior r labels c js in
+    let along : HasDoneUpTo all (remaining_behavior r labels b) s t = search (rules, take-append-drop) in
     record {
       happened = h.done;
       taken = omega (arith, h.taken, h.consumed);
       vector_lens = vectors_fit r labels (initial_state c w) b s t vectors going;
-      last = λ x vector d z e. done_last z e.step e.later x (along r labels c w s h) e.is e.performs;
-      lines = all_lines r labels c w s h;
+      last = λ x vector d z e. done_last z e.step e.later x along e.is e.performs;
+      -- the step that ends is the only one that is left
+      lines = λ good vector d z e.
+          let none = none_left e.later.steps e.later.good good e.performs.0 in
+          let last = sym h.steps ∙ ap (λ (q : Behavior). q.steps) e.is ∙ ap (λ steps. e.step ∷ steps) none.0 in
+          let one : length all.steps - k ≡ 1 = sym (length-drop k all.steps) ∙ ap length last in
+          let ls = lines_under r.profile c in
+          omega (
+            arith,
+            one,
+            length_steps r labels (end_text r labels c.ending (counts_of js)) c js,
+            length_verdicts r (form r.algo ls) w 0 ls,
+          );
     }

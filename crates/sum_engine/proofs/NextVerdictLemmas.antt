@@ -1,5 +1,5 @@
 -- `Verdicts::next`: the next verdict of a manifest, by what reading and judging its line did.
-use Rattle.std.proofs.Common.{rules, ◌≡◌, ◌≤◌, ◌∙◌, ℕ, ◌+◌, List, length, Ok, Err, Result, IfOk, refl, inl, inr, ◌∷◌, ap, sym, arith}
+use Rattle.std.proofs.Common.{rules, ◌≡◌, ◌∙◌, ℕ, ◌+◌, List, Ok, Err, Result, IfOk, refl, inl, inr, ◌∷◌, ap, sym, arith}
 use Rattle.std.specs.Prelude.{◌⊎◌}
 use Rattle.sum_sources.specs.declared.line_reader.Next.TheVariants.{Line}
 use Rattle.sum_sources.specs.LineReaders.{AdvancesLines, IsBounded, IsReading, ReadsOn, remaining}
@@ -51,36 +51,38 @@ module _ {I : Type 0} (state : I → InputState) (p q : VerdictsValue I) (reader
         ≡ line_verdict p.rules (world_at w a) reader.lines (parsed_at p line)))
         → InEachCheck state p q a b (λ c d. IsNextVerdict p.rules vector c d (found_verdict x))
     next_verdict-line now r same (Ok found) takes asked said =
-        let is : q ≡ judged (Ok found) = same ∙ ap (λ (r : VerdictsValue I). record r { outcome = q.outcome }) takes.now in
+        let is : q ≡ judged (Ok found) =
+        same ∙ ap (λ (r : VerdictsValue I). record r { outcome = q.outcome }) takes.now in
         rw is (record {
-      holds = λ reading c of w agrees.
-          let next = (reads reading).line c of in
-          let number : reader.lines ≡ p.reader.lines + 1 = lines.lines in
-          let first : CheckState = state_at p (remaining p.reader c) (world_at w a) in
-          let last : CheckState = state_at (judged (Ok found)) (remaining reader c) (world_at w b) in
-          let f : next_judged p.rules first line ≡ line_verdict_value vector found =
-          sym (rw number at (said w agrees)) in
-          let handled : HandlesLine p.rules first last vector = record {
-            line = line;
-            lines = lines_now p.rules (remaining p.reader c) now ∙ next.0
-                ∙ ap (λ l. line ∷ l) (sym (lines_now p.rules (remaining reader c) now));
-            remaining = next.1;
-            consumed = (reads reading).sum Line refl c of;
-            taken = omega (arith, bounds.ahead);
-            number = number;
-            form = refl;
-            counts = rw f refl;
-            vector_len = takes.len;
-          } in
-          let world : world_at w b ≡ after (world_at w a) (asks_of (line_verdict_value vector found)) =
-          world_after w a b _ asked in
-          (search (rules, remaining_next p.rules first last vector handled, f, world), handled);
-    })
+          holds = λ reading c of w agrees.
+              let next = (reads reading).line c of in
+              let number : reader.lines ≡ p.reader.lines + 1 = lines.lines in
+              let first : CheckState = state_at p (remaining p.reader c) (world_at w a) in
+              let last : CheckState = state_at (judged (Ok found)) (remaining reader c) (world_at w b) in
+              let f : next_judged p.rules first line ≡ line_verdict_value vector found =
+              sym (rw number at (said w agrees)) in
+              let handled : HandlesLine p.rules first last vector = record {
+                line = line;
+                lines = lines_now p.rules (remaining p.reader c) now ∙ next.0
+                    ∙ ap (λ l. line ∷ l) (sym (lines_now p.rules (remaining reader c) now));
+                remaining = next.1;
+                consumed = (reads reading).sum Line refl c of;
+                taken = omega (arith, bounds.ahead);
+                number = number;
+                form = refl;
+                counts = rw f refl;
+                vector_len = takes.len;
+              } in
+              let world : world_at w b ≡ after (world_at w a) (asks_of (line_verdict_value vector found)) =
+              world_after w a b _ asked in
+              (search (rules, remaining_next p.rules first last vector handled, f, world), handled);
+        })
     next_verdict-line now r same (Err e) takes asked said =
-        let is : q ≡ judged (Err e) = same ∙ ap (λ (r : VerdictsValue I). record r { outcome = q.outcome }) takes.now in
+        let is : q ≡ judged (Err e) =
+        same ∙ ap (λ (r : VerdictsValue I). record r { outcome = q.outcome }) takes.now in
         rw is (record {
-      holds = λ reading c of w agrees. (
-        refused_world w a b asked,
-        line-some (remaining p.reader c) (remaining reader c) line ((reads reading).line c of),
-      );
-    })
+          holds = λ reading c of w agrees. (
+            refused_world w a b asked,
+            line-some (remaining p.reader c) (remaining reader c) line ((reads reading).line c of),
+          );
+        })

@@ -91,7 +91,7 @@ entry_by : (E F : List ℕ → List ℕ) (algos : Algos) (f : Form) (line : List
     → IsEntry E algos f line s → IsEntry F algos f line s
 entry_by E F algos f line s same h = search rules
 
--- an older entry of a line without one has a name without one
+-- an older entry of a line without one has a name without one, since the raw name has none
 older_entry : (algos : Algos) (f : Form) (line : List ℕ) (s : EntryValue) → HasNoCarriageReturn line
     → IsEntry (escape_by older_profile) algos f line s → HasNoCarriageReturn s.name
 older_entry algos f line s free e = older_name e.escaped e.raw s.name (elim e.shape [

@@ -1,10 +1,10 @@
 -- `hash_name` and `check_one`: a name is opened, read and closed, and in between other calls may open names.
-use Rattle.std.proofs.Common.{rules, ap, refl, Bool, ◌≡◌, ◌∙◌, sym, [], ◌∷◌, ◌++◌, ℕ, true, false, List, Result, Ok, Err, Option, None, Some, IfSome, IfOk, inl, inr, map, append_assoc, append-nil}
+use Rattle.std.proofs.Common.{rules, ap, refl, Bool, ◌≡◌, ◌∙◌, sym, [], ◌∷◌, ◌++◌, ℕ, true, false, List, Result, Ok, Err, Option, None, Some, IfSome, IfOk, inl, inr, append_assoc, append-nil}
 use Rattle.std.specs.Prelude.{◌⊎◌, length}
 use Rattle.std.specs.List.{list_any}
 use Rattle.std.proofs.lemmas.Bool.{MatchBool-at_true, MatchBool-at_false}
 use Rattle.std.proofs.lemmas.List.{map-append}
-use Rattle.std.proofs.lemmas.List.Elements.{All-nil, All-cons}
+use Rattle.std.proofs.lemmas.List.Elements.{All-cons}
 use Rattle.std.proofs.Math.Bool.{or-true}
 use Rattle.digest_kinds.specs.Kinds.{KindValue}
 use Rattle.sum_sources.specs.Contents.{Reads, IsOf, IsSameInput, HasContent, Hashes, HashesInput, clip}
@@ -13,7 +13,7 @@ use Rattle.sum_sources.specs.declared.sources.source.OpenFault.{OpenFault}
 use Rattle.std.proofs.Math.Seq.{set-append_seam}
 use Rattle.sum_engine.specs.Behavior.{World, Answer, Content, Fault, InputState, empty_content, is_dash, answer_to}
 use Rattle.sum_engine.specs.Execution.{StdinState, InputsState, Agrees, world_at, asked, AsksNames, IsAtEndIf, ReadsFile, ReadsStdin, ReadsToEndIf}
-use Rattle.sum_engine.specs.refinement.Names.{HashFault, IsHashOf, HashesName, GivesStdin, OpensName, FailsToOpen, after_closing_name, fault_of_opening, stdin_after, MemoryWasRefused}
+use Rattle.sum_engine.specs.refinement.Names.{HashFault, IsHashOf, HashesName, GivesStdin, OpensName, FailsToOpen, after_closing_name, fault_of_opening, stdin_after}
 use Rattle.sum_engine.specs.declared.hash_name.HashFault.TheVariants as hashing
 use Rattle.sum_sources.specs.declared.sources.source.OpenFault.TheVariants as faults
 use Rattle.sum_engine.proofs.WorldLemmas.{opening_agrees, asks_one, reads_none, reads_fault, AnswersAre-open}

@@ -1,15 +1,14 @@
 -- One step of a checker, `Checker::step`: the next verdict was found, and its text was written.
-use Rattle.std.proofs.Common.{◌≡◌, ℕ, ◌<◌, Bool, false, List, [], length, None, Some, Result, Ok, Err, inl, inr, refl, ap, sym, ◌∙◌, ◌∷◌, rules}
+use Rattle.std.proofs.Common.{◌≡◌, ℕ, ◌<◌, Bool, false, List, [], length, None, Some, Result, Ok, Err, inl, inr, refl, ap, ◌∙◌, ◌∷◌}
 use Rattle.std.specs.Prelude.{◌⊎◌}
-use Rattle.sum_engine.specs.Behavior.{Ending, Whole, Broken, World, Step, Behavior, Content, InputState}
+use Rattle.sum_engine.specs.Behavior.{Ending, Whole, Broken, World, Step, Content, InputState}
 use Rattle.sum_sources.specs.LineReaders.{remaining}
-use Rattle.sum_engine.specs.check.Rules.{LabelsValue, Rules}
-use Rattle.sum_engine.specs.check.Judge.{asks_of}
+use Rattle.sum_engine.specs.check.Rules.{LabelsValue}
 use Rattle.sum_engine.specs.check.Reports.{err_of, out_of, end_text, good}
-use Rattle.sum_engine.specs.check.CheckStates.{CheckState, HandlesLine, remaining_verdicts, remaining_behavior}
+use Rattle.sum_engine.specs.check.CheckStates.{CheckState, remaining_verdicts, remaining_behavior}
 use Rattle.sum_engine.specs.check.Verdicts.{VerdictsValue, state_at, InEachCheck, AdvancesVerdicts, VerdictResult, line_verdict_value, IsNextVerdict, HasNoVerdictLeft}
-use Rattle.sum_engine.specs.check.Checker.{ReportsFound, Progress, Going, Ended, step_then, progress_before, IsStep, TakesStep}
-use Rattle.sum_engine.specs.Execution.{Stop, InputsState, StreamsState, AsksNames, RunsOutOfMemory, PerformsSteps, world_at}
+use Rattle.sum_engine.specs.check.Checker.{ReportsFound, Progress, Going, Ended, TakesStep}
+use Rattle.sum_engine.specs.Execution.{Stop, InputsState, StreamsState, AsksNames, RunsOutOfMemory, world_at}
 use Rattle.sum_engine.specs.refinement.FlushedWrites.{WritesAndReturns}
 use Rattle.sum_engine.specs.refinement.Names.{MemoryWasRefused}
 use Rattle.sum_engine.proofs.ExecutionLemmas.{step_performed, refused_first}
@@ -27,21 +26,6 @@ InEachCheck-map {a = a} {b = b} h f =
     record { holds = λ reading c of w agrees. f c (world_at w a) (world_at w b) (h.holds reading c of w agrees) }
 
 -- ---- a step, by the verdict that was found
-
--- a step that was performed, by what remains after it
-step_by : (r : Rules) (labels : LabelsValue) (a b : CheckState) (s t : StreamsState) (vector : List ℕ) (step : Step)
-    (later : Behavior) (progress : Progress) (x : Result Progress Stop)
-    → remaining_behavior r labels a ≡ step_then step later → progress_before later.steps later.good ≡ progress
-    → PerformsSteps (step ∷ []) progress s t x
-    → (progress ≡ Going → (later ≡ remaining_behavior r labels b) × HandlesLine r a b vector)
-    → IsStep r labels vector a b s t x
-step_by r labels a b s t vector step later progress x is next performs going = record {
-  step = step;
-  later = later;
-  is = is;
-  performs = rw next performs;
-  going = λ h. going (sym (rw h at performs).0);
-}
 
 -- memory was refused, or bytes of the manifest remained, and nothing was written
 refused_by : {a b : StreamsState} (next : Step) → 0 < next.remaining → b.outputs ≡ a.outputs
@@ -67,13 +51,15 @@ module _ {I : Type 0} {state : I → InputState} {p q : VerdictsValue I} (a b : 
         let said : WritesAndReturns a.outputs b.outputs (end_text r labels e p.counts) [] (Ended outcome) _ =
         rw (same, f.counts) at wrote in
         let k = remaining p.reader c in
-        let step : Step =
-        record { names = []; err = end_text r labels e p.counts; out = []; remaining = length k.bytes } in
-        step_by r labels (state_at p k v) (state_at q (remaining q.reader c) w) a b vector step
-        (record { steps = []; good = outcome }) (Ended outcome) _
-        (ap (behavior_by r labels k.ending p.counts k) f.verdicts
-        ∙ rw (counts_then-nil p.counts, f.ending, sum, same, f.counts) refl) refl
-        (step_performed _ asked flushed said) (λ h. cc))
+        let did = step_performed (length k.bytes) asked flushed said in
+        record {
+          step = record { names = []; err = end_text r labels e p.counts; out = []; remaining = length k.bytes };
+          later = record { steps = []; good = outcome };
+          is = ap (behavior_by r labels k.ending p.counts k) f.verdicts
+              ∙ rw (counts_then-nil p.counts, f.ending, sum, same, f.counts) refl;
+          performs = did;
+          going = λ h. let no = (rw h at did).0 in cc;
+        })
 
     -- the next verdict was found, and then it was reported
     pub step_taken : (x : VerdictResult) {y : Result Progress Stop}
@@ -89,10 +75,13 @@ module _ {I : Type 0} {state : I → InputState} {p q : VerdictsValue I} (a b : 
         let k = remaining p.reader c in
         let first = state_at p k v in
         let next = state_at q (remaining q.reader c) w in
-        step_by p.rules labels first next a b vector
-        (line_step p.rules labels (length k.bytes) j) (remaining_behavior p.rules labels next) Going _
-        (found_first p.rules labels first next j f.0.first f.0.counts f.1.remaining) (going-before p.rules labels next)
-        (step_performed _ did.asked flushed said) (λ is. (refl, f.1)))
+        record {
+          step = line_step p.rules labels (length k.bytes) j;
+          later = remaining_behavior p.rules labels next;
+          is = found_first p.rules labels first next j f.0.first f.0.counts f.1.remaining;
+          performs = rw (going-before p.rules labels next) (step_performed _ did.asked flushed said);
+          going = λ is. (refl, f.1);
+        })
     -- no line was left; the end is written, and nothing remains
     step_taken (Ok None) found did reported = step_end Whole _ found did.asked did.rules refl reported
     step_taken (Err (line_stops.Fault f)) found did reported =

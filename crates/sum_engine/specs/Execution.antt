@@ -136,8 +136,8 @@ PerformsSteps steps x a b (Ok outcome) = (outcome ≡ x) × Happened a b (trace 
 PerformsSteps steps x a b (Err Write) = (prefix rest : List Event) × (trace steps ≡ prefix ++ rest) × Happened a b prefix
 PerformsSteps steps x a b (Err Memory) = RunsOutOfMemory steps a b
 
--- a call performs a behavior, if both outputs are flushed before: its steps in each world that agrees with what was read
--- by the end of the call; what it returns depends on `good`
+-- a call performs a behavior, if both outputs are flushed before: its steps, in each world that agrees with what was
+-- read by the end of the call; what it returns depends on `good`
 abbrev pub Performs : {A : Type 0} → (World → Behavior) → (Bool → A) → StreamsState → StreamsState → Result A Stop
     → Type 0
 Performs behavior outcome a b r = IsFlushed a.outputs → (w : World) → Agrees w b.inputs

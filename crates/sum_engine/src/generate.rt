@@ -51,6 +51,7 @@ pub fn generate_one<I: Input + Drop, S: Source, O: Sink, E: Sink>(
 }
 
 // Writes the line of a name and its digest, and flushes it.
+#[tactic(auto, using(crate::proofs::FlushedWriteLemmas::written_flushed, crate::proofs::FlushedWriteLemmas::not_flushed, crate::proofs::FlushedWriteLemmas::out_alone))]
 fn put_line_flushed<O: Sink, E: Sink>(
     outputs: &mut Outputs<O, E>,
     settings: &Settings,

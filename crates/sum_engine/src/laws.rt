@@ -20,11 +20,13 @@ pub fn some_world_agrees<I: Input, S: Source>(inputs: &Inputs<I, S>)
 /// end of line k, and each line's vector held at most as many bytes as its line. If the next call ends or stops, the
 /// manifest's whole behavior was performed. So the call that ends writes exactly the summary or the fault line, and it
 /// comes after all lines.
+#[tactic(auto, using(crate::proofs::JoinLemmas::steps_join))]
 pub fn steps_join()
     ensures { StepsJoin }
 {}
 
 /// If the trace of a behavior happened, each output grew by the behavior's text there, and its names were asked.
+#[tactic(auto, using(crate::proofs::BehaviorLemmas::events_extend))]
 pub fn events_extend()
     ensures { EventsExtend }
 {}

@@ -13,6 +13,7 @@ use sum_sources::Fault;
 
 /// Writes the parts of a line, one after another, and flushes the sink. If that fails, a prefix of the line was
 /// written.
+#[tactic(auto, using(crate::proofs::FlushedWriteLemmas::not_flushed))]
 pub(crate) fn put_parts_flushed<S: Sink>(
     sink: &mut Buffered<S>,
     parts: &[Part],
@@ -24,6 +25,7 @@ pub(crate) fn put_parts_flushed<S: Sink>(
 }
 
 /// Writes `TOOL: NAME: TEXT` and flushes it, as [`put_parts_flushed`].
+#[tactic(auto, using(crate::proofs::FlushedWriteLemmas::not_flushed))]
 pub(crate) fn put_tool_line_flushed<E: Sink>(
     err: &mut Buffered<E>,
     tool: &str,

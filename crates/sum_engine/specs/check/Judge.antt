@@ -1,8 +1,8 @@
 -- The verdict of a line, and those of a manifest's lines.
-use Rattle.std.specs.Prelude.{ℕ, ◌+◌, ◌&&◌, Bool, true, false, List, [], ◌∷◌, Result, Ok, Err, if◌then◌else◌, bytes_eq}
+use Rattle.std.specs.Prelude.{ℕ, ◌+◌, ◌&&◌, Bool, true, false, List, [], ◌∷◌, Ok, Err, if◌then◌else◌, bytes_eq}
 pub use Rattle.digest_kinds.specs.declared.algo.Algos.{Algos}
 use Rattle.sum_engine.specs.check.Rules.{Rules}
-use Rattle.sum_engine.specs.Behavior.{ByteString, Fault, World, is_dash, answer_to, after, digest_or_fault, Content, Answer}
+use Rattle.sum_engine.specs.Behavior.{ByteString, World, is_dash, answer_to, after, digest_or_fault, Content, Answer}
 use Rattle.sum_sources.specs.declared.fault.Fault.TheVariants.{NotFound}
 pub use Rattle.sum_sources.specs.ManifestLines.{lines, raw_lines, past_line, past_lines}
 pub use Rattle.sum_lines.specs.declared.reading.read_line.Form.{Form}

@@ -57,13 +57,8 @@ is_unread v = false
 abbrev pub counts_of : List LineVerdictValue → Counts
 counts_of js =
     let n : (Verdict → Bool) → ℕ = λ is. length (filter (λ j. is j.verdict) js) in
-    let is : Verdict → Verdict → Bool = sameb the_type in record {
-      right = n (is Right);
-      wrong = n (is Wrong);
-      missing = n (is Missing);
-      unread = n is_unread;
-      bad = n (is Bad);
-    }
+    let m : Verdict → ℕ = λ v. n (sameb the_type v) in
+    record { right = m Right; wrong = m Wrong; missing = m Missing; unread = n is_unread; bad = m Bad }
 
 -- how many lines are entries
 abbrev pub entries : Counts → ℕ

@@ -26,7 +26,7 @@ pub record VerdictsValue (I : Type 0) : Type 0 where
   pub counts : Counts
   pub outcome : Option (Result ⊤ LineStop)
 
--- it is at the first line of that input
+-- the verdicts are at the first line of that input
 pub record IsAtStart {I : Type 0} (state : I → InputState) (p : VerdictsValue I) (input : I) : Type 0 where
   pub reader : p.reader ≡ record { input = input; ahead = []; taken = 0; lines = 0; final_answer = None }
   pub reading : (state input).reads ≡ unread → IsReading state p.reader
@@ -118,7 +118,7 @@ abbrev pub counts_after : Counts → VerdictResult → Counts
 counts_after c (Ok (Some v)) = counts_with c v.verdict
 counts_after c x = c
 
--- it isn't a line whose file could not be opened or read
+-- the result isn't a line whose file could not be opened or read
 abbrev pub IsNotUnread : VerdictResult → Type 0
 IsNotUnread (Ok (Some v)) = is_unread v.verdict ≡ false
 IsNotUnread x = ⊤

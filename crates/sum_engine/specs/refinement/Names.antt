@@ -1,5 +1,5 @@
 -- Relates opening, hashing and closing a name to the world.
-use Rattle.std.specs.Prelude.{◌≡◌, ◌≢◌, ◌+◌, Bool, true, false, [], ◌∷◌, codes, length, Option, None, Some, Result, Ok, Err, IfOk, ⊤, if◌then◌else◌, MatchBool}
+use Rattle.std.specs.Prelude.{◌≡◌, ◌≢◌, ◌+◌, true, false, [], ◌∷◌, codes, length, None, Some, Result, Ok, Err, IfOk, ⊤, if◌then◌else◌, MatchBool}
 use Rattle.digest_kinds.specs.Kinds.{KindValue}
 pub use Rattle.sum_sources.specs.declared.fault.NoRoom.{NoRoom}
 use Rattle.sum_sources.specs.declared.sources.source.OpenFault.{OpenFault}
@@ -7,7 +7,7 @@ use Rattle.sum_sources.specs.Contents.{unread, HasContent}
 use Rattle.sum_sources.specs.InputLaws.{closable_has_content}
 use Rattle.sum_sources.specs.Sources.{IsOpen, opened_file, and_opening, after_closing}
 use Rattle.sum_sources.specs.StandardInput.{unless_closed}
-use Rattle.sum_engine.specs.Behavior.{World, Fault, is_dash, answer_to, InputState, Reads, empty_content, ByteString, Answer, digest_or_fault}
+use Rattle.sum_engine.specs.Behavior.{World, Fault, is_dash, answer_to, InputState, empty_content, ByteString, Answer, digest_or_fault}
 use Rattle.sum_engine.specs.Execution.{StdinState, InputsState, Agrees, world_at, AsksNames, ReadsToEndIf}
 pub use Rattle.sum_engine.specs.declared.hash_name.HashFault.{HashFault}
 use Rattle.sum_engine.specs.declared.opened.Place.{Place}
@@ -38,7 +38,7 @@ abbrev pub opened_state : {I F : Type 0} → (I → InputState) → (F → Input
 opened_state stdin file (Stdin given) = record (unless_closed stdin given) { name = codes "-" }
 opened_state stdin file (File f) = file f
 
--- and no file is named so
+-- no file is named `-`
 abbrev pub IsNamedFile : {I F : Type 0} → (F → InputState) → Place I F → Type 0
 IsNamedFile file (Stdin given) = ⊤
 IsNamedFile file (File f) = is_dash (file f).name ≡ false
@@ -57,7 +57,7 @@ pub record OpensName (name : ByteString) (a b : InputsState) (s : InputState) : 
   pub opens : MatchBool (is_dash name) (GivesStdin s a b)
       ((s ≡ opened_file a.source name) × (b ≡ record a { source = and_opening a.source name None }))
 
--- or it fails: there is no such fault of standard input
+-- or opening the name fails: there is no such fault of standard input
 abbrev pub FailsToOpen : ByteString → InputsState → InputsState → OpenFault → Type 0
 FailsToOpen name a b (faults.Fault f) =
     (is_dash name ≡ false) × (b ≡ record a { source = and_opening a.source name (Some (Err f)) })

@@ -77,8 +77,8 @@ pub(crate) fn judge<I: Input + Drop, S: Source>(
 ) -> Result<Verdict, NoRoom>
     ensures verdict { (w : World) → Agrees w inputs.new
         → IfOk result (λ v. v ≡ judge rules (world_at w inputs.old) (listed_entry listed.now)) }
-    ensures asked { MatchResult result
-        (λ v. AsksNames inputs.old inputs.new (asks_of (record { number = 0; verdict = v; name = listed.now.name.now })))
+    ensures asked { MatchResult result (λ v. AsksNames inputs.old inputs.new
+        (asks_of (record { number = 0; verdict = v; name = listed.now.name.now })))
         (λ _. MemoryWasRefused inputs.old inputs.new) }
     ensures stdin { rules.from_stdin ≡ true → inputs.new.stdin ≡ inputs.old.stdin }
     ensures reads { ReadsToEndIf (IfOk result (λ v. is_unread v ≡ false)) inputs.old inputs.new }

@@ -106,6 +106,7 @@ fn put_end<E: Sink>(
     }
 }
 
+#[tactic(auto, using(crate::proofs::FlushedWriteLemmas::not_flushed))]
 fn put_warnings_flushed<E: Sink>(
     err: &mut Buffered<E>,
     rules: CheckRules,
@@ -118,6 +119,7 @@ fn put_warnings_flushed<E: Sink>(
     err.flush()
 }
 
+#[tactic(auto, using(sum_lines::proofs::SinkLemmas::writes_then, sum_lines::proofs::SinkLemmas::writes_stop))]
 fn put_warnings<E: Sink>(
     err: &mut Buffered<E>,
     rules: CheckRules,

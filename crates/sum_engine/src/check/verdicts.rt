@@ -203,6 +203,7 @@ impl<I: Input> Verdicts<I> {
     }
 
     // Counts the verdict of the line that was read last, whose name is at this range.
+    #[tactic(auto, using(crate::proofs::CountLemmas::total_with))]
     fn count_verdict(&mut self, verdict: Verdict, start: usize, stop: usize) -> LineVerdict
         requires few { total self.old.counts < self.old.reader.lines }
         ensures is { result

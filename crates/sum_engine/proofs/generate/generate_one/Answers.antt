@@ -1,10 +1,10 @@
-use Rattle.std.proofs.Common.{refl, Ok, Err}
+use Rattle.std.proofs.Common.{refl, true, false, ap, sym, ◌∙◌}
 use Rattle.std.proofs.lemmas.Result.{err_from_is_err_and}
 use Rattle.sum_engine.specs.Behavior.{answer_to, digest_or_fault}
-use Rattle.sum_engine.specs.Generation.{generate_behavior}
-use Rattle.sum_engine.proofs.BehaviorLemmas.{Performs-refused}
-use Rattle.sum_engine.proofs.FlushedWriteLemmas.{writes_and_returns}
-use Rattle.sum_engine.proofs.GenerateLemmas.{asked_or_refused, fault_found, generate-performed, never_good, one_step, refused_memory}
+use Rattle.sum_engine.specs.Generation.{generate_behavior, generate_behavior_by}
+use Rattle.sum_engine.proofs.BehaviorLemmas.{Performs-step, Performs-refused}
+use Rattle.sum_engine.proofs.FlushedWriteLemmas.{returned, writes_and_returns}
+use Rattle.sum_engine.proofs.GenerateLemmas.{fault_found, one_step, refused_memory}
 use Rattle.sum_engine.proofs.WorldLemmas.{reads_weaker}
 use Rattle.sum_engine.proofs.generate.generate_one.Goals as goal
 
@@ -12,10 +12,12 @@ use Rattle.sum_engine.proofs.generate.generate_one.Goals as goal
 pub returns-in-Ok-clause-behavior : goal.returns-in-Ok-clause-behavior
 returns-in-Ok-clause-behavior g c =
     let settings = c.args.settings.now in
+    let tool = c.args.tool.now in
+    let name = c.args.name.now in
     let done = c.in-Ok.ensures in
-    generate-performed settings _ c.args.name.now _ c.args.streams.now
-    (record { inputs = c.hash_name.new.inputs; outputs = _ }) (Ok _)
-    (λ w agrees. done.hash w agrees) done.asked refl
+    Performs-step (λ w. generate_behavior settings tool w name) (λ g. g) true c.args.streams.now
+    (record { inputs = c.hash_name.new.inputs; outputs = _ }) done.asked
+    (λ w agrees. ap (generate_behavior_by settings tool name) (done.hash w agrees))
     (writes_and_returns c.put_line_flushed-written.result c.outcome_after.ensures c.put_line_flushed-written.ensures)
 
 pub returns-in-Ok-clause-reads : goal.returns-in-Ok-clause-reads
@@ -25,18 +27,19 @@ returns-in-Ok-clause-reads g c = reads_weaker (λ good. tt) c.in-Ok.ensures.read
 pub returns-in_ok-fault-in-Err-clause-behavior : goal.returns-in_ok-fault-in-Err-clause-behavior
 returns-in_ok-fault-in-Err-clause-behavior g c =
     let settings = c.args.settings.now in
-    let done = c.in-Err.ensures in
-    let found = c.in_ok-fault-in-Err.ensures in
+    let tool = c.args.tool.now in
+    let name = c.args.name.now in
+    let found = fault_found c.in-Err.failed _ c.in_ok-fault-in-Err.ensures c.in-Err.ensures in
     let wrote = c.put_name_fault_line-written in
-    generate-performed settings _ c.args.name.now _ c.args.streams.now
-    (record { inputs = c.hash_name.new.inputs; outputs = _ }) (Err _)
-    (λ w agrees. fault_found settings.kind _ _ c.in-Err.failed found (done.hash w agrees))
-    (asked_or_refused _ _ c.in-Err.failed _ found done.asked) refl
+    Performs-step (λ w. generate_behavior settings tool w name) (λ g. g) false c.args.streams.now
+    (record { inputs = c.hash_name.new.inputs; outputs = _ }) found.0
+    (λ w agrees. ap (generate_behavior_by settings tool name) (found.1 w agrees))
     (writes_and_returns wrote.result c.outcome_after-in-Err.ensures wrote.ensures)
 
 pub returns-in_ok-fault-in-Err-clause-reads : goal.returns-in_ok-fault-in-Err-clause-reads
 returns-in_ok-fault-in-Err-clause-reads g c =
-    reads_weaker (never_good c.put_name_fault_line-written.result _ c.outcome_after-in-Err.ensures)
+    reads_weaker (λ good.
+    let no = returned c.put_name_fault_line-written.result (sym good ∙ c.outcome_after-in-Err.ensures) in cc)
     c.hash_name.ensures.reads
 
 -- there was no memory to open it
@@ -49,4 +52,4 @@ returns-in_err-fault-in-Err-clause-behavior g c =
     rw (stop.1, stop.2) (Performs-refused (λ w. generate_behavior settings tool w name) (λ g. g)
     c.args.streams.now (record c.args.streams.now { inputs = c.hash_name.new.inputs })
     (λ w. one_step settings tool name (digest_or_fault settings.kind (answer_to w name)))
-    (refused_memory name _ _ c.in-Err.failed _ c.in_err-fault-in-Err.ensures c.in-Err.ensures.asked) refl)
+    (refused_memory c.in-Err.failed _ c.in_err-fault-in-Err.ensures c.in-Err.ensures) refl)

@@ -1,8 +1,5 @@
-use Rattle.sum_engine.proofs.FlushedWriteLemmas.{written_flushed, not_flushed}
+use Rattle.sum_engine.proofs.FlushedWriteLemmas.{written_flushed}
 use Rattle.sum_engine.proofs.put_flushed.put_tool_line_flushed.Goals as goal
-
-pub returns-in_err-put_tool_line : goal.returns-in_err-put_tool_line
-returns-in_err-put_tool_line g c = not_flushed _ _ c.in_err-put_tool_line.ensures c.from_residual.ensures.0
 
 -- the line was written, and then the sink was flushed
 pub returns : goal.returns

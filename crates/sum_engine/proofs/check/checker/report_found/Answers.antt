@@ -3,7 +3,7 @@ use Rattle.sum_lines.proofs.EventLemmas.{Gets-none}
 use Rattle.sum_lines.specs.Escape.{Profile}
 use Rattle.sum_engine.specs.check.Judge.{Ignored}
 use Rattle.sum_engine.specs.check.Reports.{Report, out_by}
-use Rattle.sum_engine.specs.declared.settings.Report.TheVariants.{All, Quiet, Warn, Status}
+use Rattle.sum_engine.specs.declared.settings.Report.TheVariants.{Quiet, Status}
 use Rattle.sum_engine.proofs.FlushedWriteLemmas.{writes_and_returns}
 use Rattle.sum_sources.specs.declared.line_reader.LineStop.TheVariants.{Fault}
 use Rattle.sum_engine.proofs.check.checker.report_found.Goals as goal
@@ -35,10 +35,9 @@ returns-in_default g c =
 
 -- an ignored line has no text on standard output
 none_out : (p : Profile) (report : Report) (name : List ℕ) → out_by p report Ignored name ≡ []
-none_out p All name = refl
-none_out p Quiet name = refl
-none_out p Warn name = refl
 none_out p Status name = refl
+none_out p Quiet name = refl
+none_out p report name = refl
 
 -- and nothing is written of it
 pub returns-in-Ignored : goal.returns-in-Ignored

@@ -1,8 +1,5 @@
-use Rattle.sum_engine.proofs.FlushedWriteLemmas.{written_flushed, not_flushed}
+use Rattle.sum_engine.proofs.FlushedWriteLemmas.{written_flushed}
 use Rattle.sum_engine.proofs.check.summary.put_warnings_flushed.Goals as goal
-
-pub returns-in_err-put_warnings : goal.returns-in_err-put_warnings
-returns-in_err-put_warnings g c = not_flushed _ _ c.in_err-put_warnings.ensures c.from_residual.ensures.0
 
 -- the warnings were written, and then the sink was flushed
 pub returns : goal.returns

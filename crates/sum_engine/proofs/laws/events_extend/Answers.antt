@@ -1,5 +1,0 @@
-use Rattle.sum_engine.proofs.BehaviorLemmas.{events_extend}
-use Rattle.sum_engine.proofs.laws.events_extend.Goals as goal
-
-pub returns : goal.returns
-returns c = events_extend

@@ -1,5 +1,0 @@
-use Rattle.sum_engine.proofs.JoinLemmas.{steps_join}
-use Rattle.sum_engine.proofs.laws.steps_join.Goals as goal
-
-pub returns : goal.returns
-returns c = steps_join
