@@ -39,7 +39,8 @@ pub record HasReached (one : World → ByteString → Behavior) (names rest : Li
 
 module _ {one : World → ByteString → Behavior} {names : List ByteString} where
   -- before the first operand nothing happened
-  pub operands_done_start : {rest : List ByteString} {a : StreamsState} → names ≡ rest → HasReached one names rest a a true
+  pub operands_done_start : {rest : List ByteString} {a : StreamsState} → names ≡ rest
+      → HasReached one names rest a a true
   operands_done_start {a = a} is = record {
     reads = reads_none a.inputs;
     reached = λ flushed w agrees. record {

@@ -13,8 +13,8 @@ abbrev pub tool_stop_line : Option Tool → Stop → ByteString
 tool_stop_line None stop = []
 tool_stop_line (Some tool) stop = stop_line tool stop
 
--- a run's status is returned; after a stop, the status is 1, and standard error is given the line for it, or fails after
--- a prefix of the line's events
+-- a run's status is returned; after a stop the status is 1, and standard error is given the line for it, or fails
+-- after a prefix of the line's events
 abbrev pub ReportsStop : Option Tool → Result ℕ Stop → OutputsState → OutputsState → ℕ → Type 0
 ReportsStop tool (Ok answer) a b status = (status ≡ answer) × (b ≡ a)
 ReportsStop tool (Err stop) a b status = (status ≡ 1) × (b ≡ record a { err = b.err })
