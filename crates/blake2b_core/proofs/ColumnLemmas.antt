@@ -1,8 +1,6 @@
 -- Lemmas on rows of four words, whose columns are mixed at once.
 use Rattle.std.proofs.Common.{◌≡◌, ℕ, ◌-◌, ◌*◌, ◌/◌, ◌%◌, ◌^◌, ◌<◌, List, [], ◌∷◌, length, map, bit_or, bit_xor, refl, arith}
-use Rattle.std.specs.Int.{rotate_right}
-use Rattle.std.specs.List.{range_with_len}
-use Rattle.std.specs.Simd.Lanes.{zip2}
+use Rattle.std.specs.{Int.rotate_right, List.range_with_len, Simd.Lanes.zip2}
 use Rattle.blake2b_core.specs.Compression.{◌!◌, ◌⊻◌, ◌⋙◌, mix}
 use Rattle.blake2b_core.specs.refinement.Columns.{columns, diagonals, row, rotated_row, words}
 

@@ -2,10 +2,7 @@
 use Rattle.std.proofs.Common.{◌≡◌, ℕ, zero, suc, ◌*◌, ◌/◌, ◌%◌, ◌^◌, ◌<◌, ◌≤◌, Bool, true, false, List, [], ◌∷◌, ◌++◌, length, take, drop, map, get_or, slice_index_or, if◌then◌else◌, refl, sym, ap, ◌∙◌, arith}
 use Rattle.std.proofs.lemmas.List.{length-drop, drop-drop, length-map, get_or-map, ext_get_or}
 use Rattle.std.proofs.lemmas.Simd.{pick_l_left}
-use Rattle.std.specs.Int.{w64, bit_not}
-use Rattle.std.specs.List.{range_with_len}
-use Rattle.std.specs.Simd.{first_chunks}
-use Rattle.std.specs.Simd.Lanes.{all_below, pick_l}
+use Rattle.std.specs.{Int.w64, Int.bit_not, List.range_with_len, Simd.first_chunks, Simd.Lanes.all_below, Simd.Lanes.pick_l}
 use lib.Dec.{T}
 use Rattle.byteorder.specs.Endian.{little_number}
 use Rattle.blake2b_core.specs.Compression.{◌!◌, ◌⊻◌, sigma, iv, work_vector}
@@ -23,7 +20,8 @@ picked-row m r k size below row = pick_l_left 0 m m 16 (sigma_row k) size below 
 
 -- the working vector before the first round, written out
 pub start_is : (h : List ℕ) (t : ℕ) (last : Bool) → length h ≡ 8
-    → work_vector h t last ≡ h ! 0 ∷ h ! 1 ∷ h ! 2 ∷ h ! 3 ∷ h ! 4 ∷ h ! 5 ∷ h ! 6 ∷ h ! 7 ∷ iv ! 0 ∷ iv ! 1 ∷ iv ! 2 ∷ iv ! 3
+    → work_vector h t last
+    ≡ h ! 0 ∷ h ! 1 ∷ h ! 2 ∷ h ! 3 ∷ h ! 4 ∷ h ! 5 ∷ h ! 6 ∷ h ! 7 ∷ iv ! 0 ∷ iv ! 1 ∷ iv ! 2 ∷ iv ! 3
     ∷ (iv ! 4 ⊻ t % 2 ^ 64) ∷ (iv ! 5 ⊻ t / 2 ^ 64) ∷ (if last then bit_not w64 (iv ! 6) else iv ! 6) ∷ iv ! 7 ∷ []
 unfolding work_vector
 start_is (a ∷ b ∷ c ∷ d ∷ e ∷ f ∷ g ∷ h ∷ []) t true size = refl

@@ -1,8 +1,7 @@
 -- Laws of the digest's definition.
 use Rattle.std.specs.Prelude.{◌≡◌, ℕ, ◌+◌, ◌<◌, ◌≤◌, [], ◌++◌, length, codes}
 use Rattle.byteorder.specs.Endian.{big_bytes}
-use Rattle.blake2b_core.specs.Bytes.{ByteString}
-use Rattle.blake2b_core.specs.Digest.{blake2b}
+use Rattle.blake2b_core.specs.{Bytes.ByteString, Digest.blake2b}
 
 -- digests that are known: that of "abc" is the example of RFC 7693, and other programs compute the two of nothing
 pub record HasVectors : Type 0 where

@@ -1,6 +1,5 @@
 //! The digest of a message that comes in pieces.
-ghost use Rattle.std.specs.Prelude.{◌≡◌, ◌↔◌, ◌⊎◌, ℕ, ◌+◌, ◌-◌, ◌*◌, ◌/◌, ◌^◌, ◌<◌, ◌≤◌, [], ◌++◌, length};
-ghost use Rattle.std.specs.Prelude.{take, IsNone, IfSome, IsOk, OnOk, OnErr};
+ghost use Rattle.std.specs.Prelude.{◌≡◌, ◌↔◌, ◌⊎◌, ℕ, ◌+◌, ◌-◌, ◌*◌, ◌/◌, ◌^◌, ◌<◌, ◌≤◌, [], ◌++◌, length, take, IsNone, IfSome, IsOk, OnOk, OnErr};
 
 use crate::compression::compress;
 use crate::one_shot::{BLOCK, followed_blocks, initial, padded_block, state_after};
@@ -70,7 +69,8 @@ impl Blake2b {
     fn buffer_bytes(&mut self, bytes: &[u8])
         requires room { self.old.buffer_len + length bytes.now ≤ 128 }
         requires fits { self.old.taken + length bytes.now < 2 ^ 61 }
-        ensures holds { (m : ByteString) → HoldsSoFar self.old m → HoldsSoFar self.new (m ++ bytes.now) }
+        ensures holds { (m : ByteString) → HoldsSoFar self.old m
+            → HoldsSoFar self.new (m ++ bytes.now) }
         ensures size { length self.new.buffer ≡ 128 }
         ensures buffer_len { self.new.buffer_len ≡ self.old.buffer_len + length bytes.now }
         ensures taken { self.new.taken ≡ self.old.taken + length bytes.now }
@@ -86,10 +86,13 @@ impl Blake2b {
     // Returns how many bytes it took.
     fn fill(&mut self, piece: &[u8]) -> usize
         requires { self.old.taken + length piece.now < 2 ^ 61 }
-        ensures holds { (m : ByteString) → HoldsSoFar self.old m → HoldsSoFar self.new (m ++ take result piece.now) }
+        ensures holds { (m : ByteString) → HoldsSoFar self.old m
+            → HoldsSoFar self.new (m ++ take result piece.now) }
         ensures below { 0 < length piece.now → result < length piece.now }
-        ensures empty_piece { length piece.now ≡ 0 → (result ≡ 0) × (self.new.buffer_len ≡ self.old.buffer_len) }
-        ensures room { 128 < self.new.buffer_len + (length piece.now - result) → self.new.buffer_len ≡ 0 }
+        ensures empty_piece { length piece.now ≡ 0 → (result ≡ 0)
+            × (self.new.buffer_len ≡ self.old.buffer_len) }
+        ensures room { 128 < self.new.buffer_len + (length piece.now - result)
+            → self.new.buffer_len ≡ 0 }
         ensures taken { self.new.taken ≡ self.old.taken + result }
         ensures len { self.new.len ≡ self.old.len }
     {
@@ -108,7 +111,8 @@ impl Blake2b {
     fn absorb(&mut self, piece: &[u8]) -> usize
         requires fits { self.old.taken + length piece.now < 2 ^ 61 }
         requires room { 128 < self.old.buffer_len + length piece.now → self.old.buffer_len ≡ 0 }
-        ensures holds { (m : ByteString) → HoldsSoFar self.old m → HoldsSoFar self.new (m ++ take result piece.now) }
+        ensures holds { (m : ByteString) → HoldsSoFar self.old m
+            → HoldsSoFar self.new (m ++ take result piece.now) }
         ensures below { 0 < length piece.now → result < length piece.now }
         ensures empty_piece { length piece.now ≡ 0 → result ≡ 0 }
         ensures room { self.new.buffer_len + (length piece.now - result) ≤ 128 }
@@ -143,7 +147,8 @@ impl Blake2b {
     /// as before.
     pub fn try_update(&mut self, piece: &[u8]) -> Result<(), MessageTooLong>
         ensures fits { IsOk result ↔ (taken self.old + length piece.now < 2 ^ 61) }
-        ensures holds { OnOk result ((m : ByteString) → Holds self.old m → Holds self.new (m ++ piece.now)) }
+        ensures holds { OnOk result ((m : ByteString) → Holds self.old m
+            → Holds self.new (m ++ piece.now)) }
         ensures taken { OnOk result (taken self.new ≡ taken self.old + length piece.now) }
         ensures len { digest_len self.new ≡ digest_len self.old }
         ensures err { OnErr result (self.new ≡ self.old) }

@@ -1,8 +1,8 @@
 //! Laws of BLAKE2b's definition. Each is the contract of a function that does nothing.
-ghost use Rattle.std.specs.Prelude.{◌*◌};
 ghost use Rattle.blake2b_core.specs.Bytes.{ByteString};
-ghost use Rattle.blake2b_core.specs.Laws.{HasVectors, BeginsLast};
 ghost use Rattle.blake2b_core.specs.Digest.{before_last};
+ghost use Rattle.blake2b_core.specs.Laws.{HasVectors, BeginsLast};
+ghost use Rattle.std.specs.Prelude.{◌*◌};
 
 /// Known digests. That of `abc` is in RFC 7693, appendix A. Those of the empty message, of 64 and of 32 bytes, are what
 /// GNU b2sum and Python's hashlib compute.

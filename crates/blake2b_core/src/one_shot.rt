@@ -1,10 +1,9 @@
 //! The digest of a whole message (RFC 7693, 3.3).
-ghost use Rattle.std.specs.Prelude.{◌≡◌, ◌↔◌, ◌⊎◌, ℕ, ◌+◌, ◌-◌, ◌*◌, ◌/◌, ◌^◌, ◌<◌, ◌≤◌, ◌++◌, length};
-ghost use Rattle.std.specs.Prelude.{replicate, IsNone, IfSome};
-ghost use Rattle.std.specs.Simd.{first_chunks};
 ghost use Rattle.blake2b_core.specs.Bytes.{ByteString};
 ghost use Rattle.blake2b_core.specs.Digest.{before_last, blake2b, hash_after};
 ghost use Rattle.blake2b_core.specs.refinement.Holding.{AreBlocksFrom};
+ghost use Rattle.std.specs.Prelude.{◌≡◌, ◌↔◌, ◌⊎◌, ℕ, ◌+◌, ◌-◌, ◌*◌, ◌/◌, ◌^◌, ◌<◌, ◌≤◌, ◌++◌, length, replicate, IsNone, IfSome};
+ghost use Rattle.std.specs.Simd.{first_chunks};
 
 use crate::compression::{IV, advance, compress};
 use crate::output::Output;

@@ -1,7 +1,7 @@
 //! The bytes of a BLAKE2b digest.
-ghost use Rattle.std.specs.Prelude.{◌≡◌, ◌≤◌, length, take};
-ghost use Rattle.std.specs.List.{flat_map};
 ghost use Rattle.byteorder.specs.Endian.{little_bytes};
+ghost use Rattle.std.specs.List.{flat_map};
+ghost use Rattle.std.specs.Prelude.{◌≡◌, ◌≤◌, length, take};
 
 use byteorder::{ByteOrder, LittleEndian};
 use std::marker::Model;
@@ -14,8 +14,8 @@ pub struct Output {
 }
 
 impl Model for Output {
-    ghost use Rattle.std.specs.Prelude.{◌≤◌, take};
     ghost use Rattle.blake2b_core.specs.Bytes.{ByteString};
+    ghost use Rattle.std.specs.Prelude.{◌≤◌, take};
 
     ghost Value = { ByteString };
 

@@ -1,9 +1,6 @@
 -- The bits that a BLAKE2b tag may name: the digits that the code accepts are those of `decimal`.
 use Rattle.std.proofs.Common.{ℕ, ◌≡◌, ◌≢◌, ◌*◌, ◌/◌, ◌%◌, ◌<◌, ◌≤◌, true, List, length, get_or, Some, ap, sym, ◌∙◌, arith, decimal, refl, IsTrue}
-use Rattle.std.specs.Char.{is_ascii_digit}
-use Rattle.std.specs.List.{AllPass}
-use Rattle.std.specs.Result.{result_ok}
-use Rattle.std.specs.Str.Parse.{digits_value}
+use Rattle.std.specs.{Char.is_ascii_digit, List.AllPass, Result.result_ok, Str.Parse.digits_value}
 use Rattle.std.proofs.lemmas.Fmt.{decimal_digit, decimal-digits_value, digits_decimal, digits_value-decimal, first_decimal, length-decimal-le}
 use Rattle.std.proofs.lemmas.List.Elements.{All-cons, All-head, All-tail, All-nil}
 use Rattle.std.proofs.lemmas.Str.Parse.{IsDigitsTest, IsNumeralModel, digits_value_short, numerals_by_value}

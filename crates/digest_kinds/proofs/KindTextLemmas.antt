@@ -1,15 +1,9 @@
 -- What follows a tag is read as the width of a kind, and the text of a kind names it.
 use Rattle.std.proofs.Common.{ℕ, ◌≤◌, IsUtf8, codes, ◌≡◌, true, false, ◌==◌, List, [], ◌∷◌, ◌++◌, length, drop, Some, refl, ap, inl, inr, arith, rules, take_while, option_map, decimal, ◌*◌}
-use Rattle.std.proofs.lemmas.Grind.{common_steps}
-use Rattle.std.specs.Char.{is_ascii_digit}
-use Rattle.std.specs.List.{AllPass}
-use Rattle.std.proofs.lemmas.Bool.Decides.{eqb_tells}
-use Rattle.std.proofs.lemmas.Option.{same_Some}
-use Rattle.std.proofs.lemmas.Fmt.{IsAscii-decimal, length-decimal-le}
-use Rattle.std.proofs.lemmas.Str.{IsAscii-append, IsUtf8-from_ascii}
-use Rattle.std.proofs.lemmas.List.{drop_at}
-use Rattle.digest_kinds.proofs.TagLemmas.{find-begins}
-use Rattle.digest_kinds.proofs.KindLemmas.{has_len-full, has_len-range}
+use Rattle.std.proofs.lemmas.{Grind.common_steps, Bool.Decides.eqb_tells, Option.same_Some, Fmt.IsAscii-decimal, Fmt.length-decimal-le}
+use Rattle.std.specs.{Char.is_ascii_digit, List.AllPass}
+use Rattle.std.proofs.lemmas.{Str.IsAscii-append, Str.IsUtf8-from_ascii, List.drop_at}
+use Rattle.digest_kinds.proofs.{TagLemmas.find-begins, KindLemmas.has_len-full, KindLemmas.has_len-range}
 use Rattle.digest_kinds.specs.Bytes.{after_while}
 use Rattle.digest_kinds.specs.Kinds.{Algo, Blake2b, KindValue, BeginsWithTag, full_kind, full_len, has_len, tag}
 use Rattle.digest_kinds.specs.KindTexts.{IsWidth, NamesKind, kind_and_rest, kind_of_digits, kind_text}

@@ -1,8 +1,6 @@
 -- The texts that name kinds: a tag and, for BLAKE2b, the digest's bits.
 use Rattle.std.specs.Prelude.{◌≡◌, ℕ, ◌*◌, ◌⊎◌, ◌==◌, ◌&&◌, not, nat_lt, [], ◌∷◌, ◌++◌, length, codes, IsTrue, Option, None, Some, option_map, if◌then◌else◌, decimal, take_while}
-use Rattle.std.specs.Char.{is_ascii_digit}
-use Rattle.std.specs.Result.{result_ok}
-use Rattle.std.specs.Str.Parse.{digits_value}
+use Rattle.std.specs.{Char.is_ascii_digit, Result.result_ok, Str.Parse.digits_value}
 use Rattle.digest_kinds.specs.Bytes.{ByteString, ◌>>=◌, after_while}
 use Rattle.digest_kinds.specs.Kinds.{Algo, Blake2b, KindValue, blake2b_of_bits, full_kind, full_len, has_len, tag}
 

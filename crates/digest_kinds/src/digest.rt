@@ -1,8 +1,8 @@
 //! A digest of any kind, and its digits.
 
-ghost use Rattle.std.specs.Prelude.{◌≡◌, ◌*◌, ◌++◌, ◌≤◌, ◌↔◌, IsTrue, drop, length, IsSome, IfSome, Ok, IsOk, IfOk};
 ghost use Rattle.digest_kinds.specs.Kinds.{IsDigits};
 ghost use Rattle.hex.specs.Hex.{decode_of, encode_lower};
+ghost use Rattle.std.specs.Prelude.{◌≡◌, ◌*◌, ◌++◌, ◌≤◌, ◌↔◌, IsTrue, drop, length, IsSome, IfSome, Ok, IsOk, IfOk};
 
 use std::cmp::Ordering;
 use std::convert::AsSlice;
@@ -20,8 +20,8 @@ pub struct Digest {
 }
 
 impl Model for Digest {
-    ghost use Rattle.std.specs.Prelude.{◌≤◌, take};
     ghost use Rattle.digest_kinds.specs.Bytes.{ByteString};
+    ghost use Rattle.std.specs.Prelude.{◌≤◌, take};
 
     ghost Value = { ByteString };
 
@@ -97,7 +97,8 @@ pub struct NotDigits;
 impl FromStr for Digest {
     type Err = NotDigits;
 
-    ghost from_str_gives = { λ s r. IfOk r (λ digest. decode_of s ≡ Ok digest) × (IsOk r ↔ IsDigits s) };
+    ghost from_str_gives = { λ s r. IfOk r (λ digest. decode_of s ≡ Ok digest)
+        × (IsOk r ↔ IsDigits s) };
 
     /// The digest that the digits spell, as [`Digest::from_hex`].
     fn from_str(s: &str) -> Result<Digest, NotDigits> {
@@ -106,10 +107,10 @@ impl FromStr for Digest {
 }
 
 impl PartialEq for Digest {
-    ghost use Rattle.std.specs.Prelude.{◌==◌};
+    ghost use Rattle.std.proofs.Common.{rules};
     ghost use Rattle.std.specs.Cmp.Lexicographic.{pointwise};
     ghost use Rattle.std.specs.Cmp.Rules.{comparing};
-    ghost use Rattle.std.proofs.Common.{rules};
+    ghost use Rattle.std.specs.Prelude.{◌==◌};
 
     ghost eq = { pointwise ◌==◌ };
 
@@ -121,16 +122,16 @@ impl PartialEq for Digest {
 }
 
 impl Eq for Digest {
-    ghost use Rattle.std.specs.Cmp.Rules.{comparing};
     ghost use Rattle.std.proofs.Common.{rules};
+    ghost use Rattle.std.specs.Cmp.Rules.{comparing};
 
     ghost laws = { Prim.search (comparing, rules) };
 }
 
 impl PartialOrd for Digest {
-    ghost use Rattle.std.specs.Prelude.{Some};
-    ghost use Rattle.std.specs.Ordering.{nat_cmp};
     ghost use Rattle.std.specs.Cmp.Lexicographic.{slice_cmp, texts_po};
+    ghost use Rattle.std.specs.Ordering.{nat_cmp};
+    ghost use Rattle.std.specs.Prelude.{Some};
 
     ghost partial_cmp = { λ d e. Some (slice_cmp nat_cmp d e) };
 
@@ -142,9 +143,9 @@ impl PartialOrd for Digest {
 }
 
 impl Ord for Digest {
-    ghost use Rattle.std.specs.Prelude.{refl};
-    ghost use Rattle.std.specs.Ordering.{nat_cmp};
     ghost use Rattle.std.specs.Cmp.Lexicographic.{nat_list_cmp_total, slice_cmp, texts_ties};
+    ghost use Rattle.std.specs.Ordering.{nat_cmp};
+    ghost use Rattle.std.specs.Prelude.{refl};
 
     ghost cmp = { slice_cmp nat_cmp };
 
@@ -161,9 +162,9 @@ impl Ord for Digest {
 }
 
 impl Hash for Digest {
-    ghost use Rattle.std.specs.Hash as fed;
-    ghost use Rattle.std.specs.Cmp.Rules.{hashing};
     ghost use Rattle.std.proofs.Common.{rules};
+    ghost use Rattle.std.specs.Cmp.Rules.{hashing};
+    ghost use Rattle.std.specs.Hash as fed;
 
     ghost hash_input = { fed.slice fed.u8 };
 
@@ -184,8 +185,8 @@ impl AsSlice<u8> for Digest {
 }
 
 impl fmt::Display for Digest {
-    ghost use Rattle.std.specs.Prelude.{Some};
     ghost use Rattle.std.specs.Fmt.{styled_text};
+    ghost use Rattle.std.specs.Prelude.{Some};
 
     ghost output = { λ d. Some (encode_lower d) };
 

@@ -1,7 +1,7 @@
 //! An algorithm with its digest's length.
 
-ghost use Rattle.std.specs.Prelude.{◌≡◌, ◌↔◌, ◌⊎◌, ◌*◌, ◌^◌, ◌<◌, ◌≤◌, length, IsNone, IfSome};
 ghost use Rattle.digest_kinds.specs.Kinds.{blake2b_kind, full_kind, tag, blake2b_of_bits, digest};
+ghost use Rattle.std.specs.Prelude.{◌≡◌, ◌↔◌, ◌⊎◌, ◌*◌, ◌^◌, ◌<◌, ◌≤◌, length, IsNone, IfSome};
 
 use crate::algo::Algo;
 use crate::digest::Digest;
@@ -28,8 +28,8 @@ pub struct Kind {
 }
 
 impl Model for Kind {
-    ghost use Rattle.std.specs.Prelude.{IsTrue};
     ghost use Rattle.digest_kinds.specs.Kinds.{KindValue, has_len};
+    ghost use Rattle.std.specs.Prelude.{IsTrue};
 
     ghost Value = { KindValue };
 

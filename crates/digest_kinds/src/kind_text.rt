@@ -1,13 +1,13 @@
 //! The texts that name kinds, as `SHA256` and `BLAKE2b-256`.
 
-ghost use Rattle.std.specs.Prelude.{◌≡◌, ◌≤◌, ◌++◌, codes, decimal, length, take, drop, take_while, Some, Ok, IfOk};
+ghost use Rattle.digest_kinds.specs.Bytes.{after_while};
+ghost use Rattle.digest_kinds.specs.KindTexts.{NamesKind, kind_and_rest, kind_of_digits, kind_text, short_number};
+ghost use Rattle.digest_kinds.specs.Kinds.{BeginsWithTag, KindValue, tag};
 ghost use Rattle.std.specs.Char.{is_ascii_digit};
 ghost use Rattle.std.specs.Fmt.{styled_text};
 ghost use Rattle.std.specs.List.{AllPass, prefix_len};
 ghost use Rattle.std.specs.Option.{option_map};
-ghost use Rattle.digest_kinds.specs.Bytes.{after_while};
-ghost use Rattle.digest_kinds.specs.Kinds.{BeginsWithTag, KindValue, tag};
-ghost use Rattle.digest_kinds.specs.KindTexts.{NamesKind, kind_and_rest, kind_of_digits, kind_text, short_number};
+ghost use Rattle.std.specs.Prelude.{◌≡◌, ◌≤◌, ◌++◌, codes, decimal, length, take, drop, take_while, Some, Ok, IfOk};
 
 use crate::algo::Algo;
 use crate::kind::Kind;
@@ -145,7 +145,8 @@ impl FromStr for Kind {
     type Err = UnknownKind;
 
     // The text names the kind that is returned, and of each text that names a kind that kind is returned.
-    ghost from_str_gives = { λ s r. IfOk r (NamesKind s) × ((kind : KindValue) → NamesKind s kind → r ≡ Ok kind) };
+    ghost from_str_gives = { λ s r. IfOk r (NamesKind s)
+        × ((kind : KindValue) → NamesKind s kind → r ≡ Ok kind) };
 
     /// The kind that the text names: a tag as `SHA256`, or BLAKE2b with its bits, as `BLAKE2b-256`. `BLAKE2b` and
     /// `BLAKE2b-512` name the same kind, as in tagged lines. So the text that `Display` writes gives the kind back

@@ -1,8 +1,8 @@
 //! Laws of tags and of the texts of kinds. Each is the contract of a function that does nothing.
 
-ghost use Rattle.std.specs.Prelude.{◌≡◌, IsTrue};
-ghost use Rattle.digest_kinds.specs.Kinds.{Algo, BeginsWithTag, KindValue, has_len, tag};
 ghost use Rattle.digest_kinds.specs.KindTexts.{NamesKind, kind_text};
+ghost use Rattle.digest_kinds.specs.Kinds.{Algo, BeginsWithTag, KindValue, has_len, tag};
+ghost use Rattle.std.specs.Prelude.{◌≡◌, IsTrue};
 
 /// No algorithm's tag is a prefix of another's.
 pub fn tags_apart()
@@ -11,5 +11,6 @@ pub fn tags_apart()
 
 /// The text of each kind that has digests names that kind.
 pub fn texts_name_kinds()
-    ensures { (kind : KindValue) → IsTrue (has_len kind.algo kind.len) → NamesKind (kind_text kind) kind }
+    ensures { (kind : KindValue) → IsTrue (has_len kind.algo kind.len)
+        → NamesKind (kind_text kind) kind }
 {}

@@ -1,16 +1,11 @@
 -- The words of a check ask for that check.
 use Rattle.std.proofs.Common.{arith, ◌≡◌, Bool, true, not, List, [], ◌∷◌, ◌++◌, map, codes, Ok, refl, ap, sym, ◌∙◌}
-use Rattle.std.proofs.lemmas.Grind.{common_steps}
-use Rattle.std.specs.List.{list_all}
-use Rattle.std.specs.Str.{chars, is_utf8}
+use Rattle.std.proofs.lemmas.{Grind.common_steps, Bool.and_parts}
+use Rattle.std.specs.{List.list_all, Str.chars, Str.is_utf8}
 use lib.Utf8.{encode}
-use Rattle.std.proofs.lemmas.Bool.{and_parts}
 use Rattle.sum_engine.specs.declared.settings.CheckSettings.{CheckSettings}
-use Rattle.sum_words.specs.Request.{Report, request}
-use Rattle.sum_words.specs.declared.parsing.options.Flag.{Flag}
-use Rattle.sum_words.specs.declared.tool.Tool.{Tool}
-use Rattle.sum_words.specs.declared.parsing.request.Request.TheVariants.{Check}
-use Rattle.sum_words.specs.Tools.{algos_of}
+use Rattle.sum_words.specs.{Request.Report, Request.request, Tools.algos_of}
+use Rattle.sum_words.specs.declared.{parsing.options.Flag.Flag, tool.Tool.Tool, parsing.request.Request.TheVariants.Check}
 use Rattle.sum_words.specs.Items.{ByteString, option, operand, a_word, items_from, full_name, takes_value, name_or_fault}
 use Rattle.digests.specs.GenerationRuns.{check_options, check_words}
 

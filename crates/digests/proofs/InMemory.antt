@@ -1,8 +1,7 @@
 -- The law of files in memory: their world is the one that agrees.
 use Rattle.std.proofs.Common.{◌≡◌, ◌∙◌, ap, inl, inr}
 use Rattle.std.specs.Prelude.{◌⊎◌}
-use Rattle.sum_engine.specs.Execution.{StdinState, StreamsState, ReadsStdin}
-use Rattle.sum_engine.specs.WorldLaws.{SomeWorldAgrees}
+use Rattle.sum_engine.specs.{Execution.StdinState, Execution.StreamsState, Execution.ReadsStdin, WorldLaws.SomeWorldAgrees}
 use Rattle.digests.specs.InMemory.{MeansInMemory}
 
 -- a call leaves what is told of standard input

@@ -3,30 +3,23 @@
 use Prim.Native.String.{String}
 use Rattle.std.proofs.Common.{◌≡◌, ◌∙◌, ap, subst, ℕ, ◌++◌, Bool, List, [], ◌∷◌, refl, codes, true, false, flat_map, if◌then◌else◌, bytes_eq, Result, Ok, Err}
 use Rattle.std.specs.Prelude.{⊤}
-use Rattle.std.specs.Str.{chars, is_utf8}
-use Rattle.std.specs.Path.{rsplit_once}
+use Rattle.std.specs.{Str.chars, Str.is_utf8, Path.rsplit_once, Fmt.digits}
 use lib.Utf8.{encode}
 use Rattle.md5.specs.Md5.{block_words as md5_words, rounds as md5_rounds, compress as md5_compress, hash_after as md5_after, digest_bytes as md5_bytes, md5}
 use Rattle.blake2b_core.specs.Compression.{mix, round, work_vector, compress}
 use Rattle.blake2b_core.specs.Digest.{hash_after as blake2b_after, blake2b}
 use Rattle.sum_sources.specs.declared.fault.Fault.TheVariants.{NotFound, Other}
 use Rattle.sum_engine.specs.Behavior.{World, Whole, Broken, out_text, err_text, asks}
-use Rattle.std.specs.Fmt.{digits}
 use Rattle.hex.specs.Hex.{encode_with, decode_pairs}
-use Rattle.sum_lines.specs.grammar.LineParts.{plain_parts, tagged_parts}
-use Rattle.sum_sources.specs.ManifestLines.{raw_lines}
-use Rattle.sum_lines.specs.grammar.ParsedLines.{entry_of}
-use Rattle.sum_sources.specs.Contents.{Content, limit, empty_content}
-use Rattle.sum_sources.specs.Sources.{Answer, Pair}
-use Rattle.sum_words.specs.declared.tool.Tool.{Tool}
-use Rattle.sum_words.specs.declared.tool.Tool.TheVariants.{Md5sum, B2sum, Anysum}
+use Rattle.sum_lines.specs.{grammar.LineParts.plain_parts, grammar.LineParts.tagged_parts, grammar.ParsedLines.entry_of}
+use Rattle.sum_sources.specs.{ManifestLines.raw_lines, Contents.Content, Contents.limit, Contents.empty_content, Sources.Answer, Sources.Pair}
+use Rattle.sum_words.specs.declared.{tool.Tool.Tool, tool.Tool.TheVariants.Md5sum, tool.Tool.TheVariants.B2sum, tool.Tool.TheVariants.Anysum}
 use Rattle.sum_words.specs.Items.{ByteString, name_or_fault, option_of_letter}
 use Rattle.sum_words.proofs.WorkedExamples.{words}
 use Rattle.sum_engine.specs.declared.stop.Stop.{Stop}
 use Rattle.sum_engine.specs.Execution.{StreamsState, IsFlushed, world_at, PerformsSteps, Performs, ReadsToEndIf}
 use Rattle.sum_engine.proofs.BehaviorLemmas.{events_extend}
-use Rattle.digests.specs.Meaning.{meaning, status_of}
-use Rattle.digests.specs.InMemory.{IsInMemory, world_of, MeansInMemory}
+use Rattle.digests.specs.{Meaning.meaning, Meaning.status_of, InMemory.IsInMemory, InMemory.world_of, InMemory.MeansInMemory}
 
 -- what a worked example unfolds, so that its texts are computed
 unfoldable meaning_on_literals : ⊤
@@ -252,5 +245,6 @@ run_in_memory a b status r law told new untaken flushed did reads is =
     PerformsSteps run.steps (status_of run.good) a b r) same
     (law Md5sum (words "a e") two_files empty_content a r told flushed did reads) in
     let all = subst (λ (r : Result ℕ Stop). PerformsSteps run.steps (status_of run.good) a b r) is there in
-    let out : b.outputs.out.sink.written ≡ a.outputs.out.sink.written ++ out_text run = (events_extend run a b all.1).2 in
+    let out : b.outputs.out.sink.written ≡ a.outputs.out.sink.written ++ out_text run =
+    (events_extend run a b all.1).2 in
     (all.0 ∙ ap status_of two_meant.0, out ∙ ap (λ text. a.outputs.out.sink.written ++ text) two_meant.1)

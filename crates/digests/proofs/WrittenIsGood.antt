@@ -1,20 +1,14 @@
 -- What generation writes is good under checking.
 use Rattle.std.proofs.Common.{rules, ◌≡◌, ℕ, false, List, [], ◌∷◌, length, map, refl, ap, sym, ◌∙◌, append-nil, map-id, Ok, flat_map, All, Err}
-use Rattle.std.proofs.lemmas.List.{length-map, map-append}
-use Rattle.std.proofs.lemmas.Simd.{map-map}
-use Rattle.std.proofs.lemmas.List.Concat.{flat_map-append}
-use Rattle.std.proofs.lemmas.List.Folds.{flat_map-map}
+use Rattle.std.proofs.lemmas.{List.length-map, List.map-append, Simd.map-map, List.Concat.flat_map-append, List.Folds.flat_map-map}
 use Rattle.std.proofs.lemmas.List.Elements.{All-nil, All-head, All-tail, All-append, All-map}
 use Rattle.digest_kinds.specs.Kinds.{digest}
-use Rattle.sum_engine.specs.declared.check.judge.Verdict.TheVariants.{Right}
-use Rattle.sum_engine.specs.check.Reports.{out_by}
-use Rattle.sum_lines.specs.Escape.{present}
+use Rattle.sum_engine.specs.declared.{check.judge.Verdict.TheVariants.Right, settings.Settings.Settings}
+use Rattle.sum_engine.specs.{check.Reports.out_by, Generation.generate_behavior}
+use Rattle.sum_lines.specs.Escape.{own_profile}
 use Rattle.sum_engine.specs.Behavior.{World, answer_to, after, digest_or_fault, out_text, asks, ByteString}
 use Rattle.sum_sources.specs.Sources.{Answer}
-use Rattle.sum_engine.specs.declared.settings.Settings.{Settings}
-use Rattle.sum_engine.specs.Generation.{generate_behavior}
-use Rattle.sum_engine.proofs.ListedEntryLemmas.{Item, written_text, Listed}
-use Rattle.sum_engine.proofs.GoodLemmas.{manifest_good}
+use Rattle.sum_engine.proofs.{ListedEntryLemmas.Item, ListedEntryLemmas.written_text, ListedEntryLemmas.Listed, GoodLemmas.manifest_good}
 use Rattle.sum_engine.proofs.WorldLemmas.{after-steady}
 use Rattle.sum_words.specs.Tools.{name_of, Algos}
 use Rattle.digests.specs.Meaning.{operands_behavior}
@@ -88,7 +82,7 @@ written_is_good gs t check manifest files later w v has same by all some fits gi
     let asked = request-check_words t check manifest by in
     record {
       status = rw (asked, f.good) refl;
-      out = rw (asked, append-nil) (f.out ∙ sym (flat_map-map (out_by present check.report Right) (λ i. i.name) xs)
-          ∙ ap (flat_map (out_by present check.report Right)) are.2);
+      out = rw (asked, append-nil) (f.out ∙ sym (flat_map-map (out_by own_profile check.report Right) (λ i. i.name) xs)
+          ∙ ap (flat_map (out_by own_profile check.report Right)) are.2);
       err = rw (asked, append-nil) f.err;
     }

@@ -1,21 +1,13 @@
 -- What generation wrote is good: a later check of it reports OK for each file, if the files stay as they were.
 use Rattle.std.specs.Prelude.{◌≡◌, ◌<◌, false, List, [], ◌∷◌, ◌++◌, IsTrue, length, map, flat_map, codes, if◌then◌else◌, All, Ok, option_to_list}
 use Rattle.digest_kinds.specs.Kinds.{has_len}
-use Rattle.sum_engine.specs.declared.check.judge.Verdict.TheVariants.{Right}
-use Rattle.sum_engine.specs.check.Reports.{out_by}
-use Rattle.sum_lines.specs.Escape.{present}
+use Rattle.sum_engine.specs.declared.{check.judge.Verdict.TheVariants.Right, settings.Settings.Settings, settings.CheckSettings.CheckSettings}
+use Rattle.sum_engine.specs.{check.Reports.out_by, Generation.generate_behavior}
+use Rattle.sum_lines.specs.{Escape.own_profile, grammar.LineLaws.AllowsMode}
 use Rattle.sum_engine.specs.Behavior.{Whole, World, Behavior, is_dash, answer_to, out_text, err_text}
-use Rattle.sum_sources.specs.Contents.{limit}
-use Rattle.sum_sources.specs.Sources.{Answer}
-use Rattle.sum_lines.specs.grammar.LineLaws.{AllowsMode}
-use Rattle.sum_engine.specs.declared.settings.Settings.{Settings}
-use Rattle.sum_engine.specs.declared.settings.CheckSettings.{CheckSettings}
-use Rattle.sum_engine.specs.Generation.{generate_behavior}
-use Rattle.sum_words.specs.declared.parsing.options.Flag.{Flag}
-use Rattle.sum_words.specs.declared.tool.Tool.{Tool}
-use Rattle.sum_words.specs.Tools.{algos_of, Algos}
-use Rattle.sum_words.specs.Items.{ByteString, full_name}
-use Rattle.sum_words.specs.Request.{Report, report_flag}
+use Rattle.sum_sources.specs.{Contents.limit, Sources.Answer}
+use Rattle.sum_words.specs.declared.{parsing.options.Flag.Flag, tool.Tool.Tool}
+use Rattle.sum_words.specs.{Tools.algos_of, Tools.Algos, Items.ByteString, Items.full_name, Request.Report, Request.report_flag}
 use Rattle.digests.specs.Meaning.{operands_behavior, meaning, status_of}
 use Rattle.sum_words.specs.declared.parsing.options.Flag.TheVariants as flags
 
@@ -65,7 +57,7 @@ check_words check manifest =
 -- a run ends with status 0, and writes `NAME: OK` for each name, if the report setting shows that, and nothing else
 pub record ReportsAllOk (report : Report) (run : Behavior) (names : List ByteString) : Type 0 where
   pub status : status_of run.good ≡ 0
-  pub out : out_text run ≡ flat_map (out_by present report Right) names
+  pub out : out_text run ≡ flat_map (out_by own_profile report Right) names
   pub err : err_text run ≡ []
 
 -- what these runs wrote, one after another, for one name or more is good as a manifest, if it isn't too long

@@ -1,14 +1,10 @@
 -- What a tool's words mean: a behavior, its status, and how often its source may be refused memory.
 use Rattle.std.specs.Prelude.{ℕ, Bool, true, false, List, [], ◌∷◌, Result, Ok, Err, codes, if◌then◌else◌}
 use Rattle.sum_engine.specs.Behavior.{World, after, Behavior, behavior_then, single_step, asks, ByteString}
-use Rattle.sum_engine.specs.Generation.{generate_behavior}
-use Rattle.sum_engine.specs.check.Checking.{check_behavior}
-use Rattle.sum_words.specs.declared.tool.Tool.{Tool}
-use Rattle.sum_words.specs.declared.parsing.request.Request.{Request}
+use Rattle.sum_engine.specs.{Generation.generate_behavior, check.Checking.check_behavior}
+use Rattle.sum_words.specs.declared.{tool.Tool.Tool, parsing.request.Request.Request}
 use Rattle.sum_words.specs.declared.parsing.request.Request.TheVariants.{Generate, Check, Help, Version}
-use Rattle.sum_words.specs.Tools.{name_of}
-use Rattle.sum_words.specs.Request.{request, WordFaultValue}
-use Rattle.sum_words.specs.Texts.{fault_lines, help, version}
+use Rattle.sum_words.specs.{Tools.name_of, Request.request, Request.WordFaultValue, Texts.fault_lines, Texts.help, Texts.version}
 
 -- the behavior of all operands, each in the world that the earlier ones leave
 abbrev pub operands_behavior : (World → ByteString → Behavior) → World → List ByteString → Behavior

@@ -1,9 +1,9 @@
 //! The whole program, from the list of its arguments to its exit status.
-ghost use Rattle.std.specs.Prelude.{◌≡◌};
-ghost use Rattle.sum_engine.specs.Execution.{IsFlushed, ReadsToEndIf, failures};
 ghost use Rattle.digests.specs.Program.{ProgramPerforms};
 ghost use Rattle.digests.specs.refinement.FinishRun.{Refuses};
 ghost use Rattle.digests.specs.refinement.Messages.{message_text};
+ghost use Rattle.std.specs.Prelude.{◌≡◌};
+ghost use Rattle.sum_engine.specs.Execution.{IsFlushed, ReadsToEndIf, failures};
 
 use crate::finish::finish_run;
 use crate::messages::{Message, put_err_message};

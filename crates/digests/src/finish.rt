@@ -1,9 +1,9 @@
 //! The end of a run: both outputs are flushed once more, and a stop is reported in a line.
+ghost use Rattle.digests.specs.Program.{tool_stop_line};
+ghost use Rattle.digests.specs.refinement.FinishRun.{FinishesRun, FlushesBoth, KeepsBoth};
 ghost use Rattle.std.specs.Prelude.{◌≡◌, [], Ok};
 ghost use Rattle.sum_engine.specs.Execution.{IsFlushed, failures};
 ghost use Rattle.sum_engine.specs.refinement.FlushedWrites.{WritesAndFlushes};
-ghost use Rattle.digests.specs.refinement.FinishRun.{FinishesRun, FlushesBoth, KeepsBoth};
-ghost use Rattle.digests.specs.Program.{tool_stop_line};
 
 use crate::messages::{Message, put_message};
 use sum_engine::{Outputs, Stop};
@@ -21,7 +21,8 @@ pub(crate) fn finish_run<O: Sink, E: Sink>(
     ensures finish { IsFlushed outputs.old
         → FinishesRun tool outcome outputs.old outputs.new result }
     ensures flushed { IsFlushed outputs.old → IsFlushed outputs.new }
-    ensures no_failures { result ≡ 0 → (outcome ≡ Ok 0) × (failures outputs.new ≡ failures outputs.old) }
+    ensures no_failures { result ≡ 0 → (outcome ≡ Ok 0)
+        × (failures outputs.new ≡ failures outputs.old) }
 {
     match flush_both(outcome, outputs) {
         Ok(status) => status,

@@ -1,8 +1,8 @@
 //! The laws of a run over files in memory, and of what the tools wrote. Each is the contract of a function that does
 //! nothing.
-ghost use Rattle.std.specs.Prelude.{List, [], ◌∷◌};
 ghost use Rattle.digests.specs.GenerationRuns.{AreGood, GenerationRun};
 ghost use Rattle.digests.specs.InMemory.{MeansInMemory};
+ghost use Rattle.std.specs.Prelude.{List, [], ◌∷◌};
 
 use sum_engine::laws::some_world_agrees;
 use sum_engine::{Inputs, Outputs, Streams};

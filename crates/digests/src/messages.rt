@@ -1,7 +1,8 @@
 //! Messages: each text that the program writes beside lines and reports, written to an output and flushed.
+ghost use Rattle.digests.specs.refinement.Messages.{message_text};
 ghost use Rattle.std.specs.Prelude.{[]};
-ghost use Rattle.sum_lines.specs.Buffers.{WritesAll};
 ghost use Rattle.sum_engine.specs.refinement.FlushedWrites.{WritesAndFlushes, WritesAndFlushesBoth};
+ghost use Rattle.sum_lines.specs.Buffers.{WritesAll};
 
 use sum_engine::{Outputs, Stop};
 use sum_lines::{Buffered, Sink, SinkFault};
@@ -23,8 +24,6 @@ pub(crate) enum Message<'a> {
     /// The line for a stop.
     Stop(Tool, Stop),
 }
-
-ghost use Rattle.digests.specs.refinement.Messages.{message_text};
 
 /// Writes a message to standard error and flushes it. If both outputs are flushed before, exactly the text is written;
 /// if that fails, a prefix of it.

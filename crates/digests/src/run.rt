@@ -1,13 +1,11 @@
 //! The run of a tool on its words.
+ghost use Rattle.digests.specs.Meaning.{operands_behavior, request_behavior, or_dash, meaning, status_of, allowed_refusals};
+ghost use Rattle.digests.specs.refinement.Operands.{operand_behavior, job_refusals};
 ghost use Rattle.std.specs.Prelude.{◌≡◌, ◌∷◌, true, Ok};
-ghost use Rattle.sum_engine.specs.Execution.{IsFlushed, FailuresMatch, ReadsToEndIf};
-ghost use Rattle.sum_engine.specs.Execution.{RefusalsMatch, StopHasCause, Performs};
+ghost use Rattle.sum_engine.specs.Execution.{IsFlushed, FailuresMatch, ReadsToEndIf, RefusalsMatch, StopHasCause, Performs};
+ghost use Rattle.sum_words.specs.Request.{request};
 ghost use Rattle.sum_words.specs.Tools.{name_of};
 ghost use Rattle.sum_words.specs.refinement.OptionScan.{result_value};
-ghost use Rattle.sum_words.specs.Request.{request};
-ghost use Rattle.digests.specs.Meaning.{operands_behavior, request_behavior, or_dash, meaning, status_of};
-ghost use Rattle.digests.specs.Meaning.{allowed_refusals};
-ghost use Rattle.digests.specs.refinement.Operands.{operand_behavior, job_refusals};
 
 use crate::messages::{Message, put_err_message, put_out_message};
 use std::alloc::Allocator;
@@ -50,9 +48,11 @@ fn run_request<A: Allocator + Copy, I: Input + Drop, S: Source, O: Sink, E: Sink
     asked: Result<Request, WordFault>,
     streams: &mut Streams<Inputs<I, S>, Outputs<O, E>>,
 ) -> Result<u8, Stop>
-    ensures behavior { Performs (request_behavior tool (result_value asked.entry)) status_of streams.old
+    ensures behavior { Performs (request_behavior tool (result_value asked.entry))
+        status_of streams.old
         streams.new result }
-    ensures cause { StopHasCause (allowed_refusals (result_value asked.entry)) streams.old streams.new result }
+    ensures cause { StopHasCause (allowed_refusals (result_value asked.entry)) streams.old
+        streams.new result }
     ensures reads { ReadsToEndIf (result ≡ Ok 0) streams.old.inputs streams.new.inputs }
 {
     match asked {
@@ -92,7 +92,8 @@ fn run_operand<A: Allocator + Copy, I: Input + Drop, S: Source, O: Sink, E: Sink
     name: &[u8],
     streams: &mut Streams<Inputs<I, S>, Outputs<O, E>>,
 ) -> Result<bool, Stop>
-    ensures behavior { Performs (λ w. operand_behavior job.now (name_of tool) w name.now) (λ good. good)
+    ensures behavior { Performs (λ w. operand_behavior job.now (name_of tool) w name.now)
+        (λ good. good)
         streams.old streams.new result }
     ensures cause { StopHasCause (job_refusals job.now) streams.old streams.new result }
     ensures reads { ReadsToEndIf (result ≡ Ok true) streams.old.inputs streams.new.inputs }

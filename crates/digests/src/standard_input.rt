@@ -1,9 +1,9 @@
 //! Standard input as the program is started with it.
 ghost use Rattle.std.specs.Prelude.{◌≡◌, ◌⊎◌, pos};
+ghost use Rattle.sum_sources.specs.Logs.{no_reads};
 ghost use Rattle.sum_sources.specs.declared.fault.Ending.TheVariants.{Broken};
 ghost use Rattle.sum_sources.specs.declared.fault.Fault.TheVariants.{Os};
 ghost use Rattle.sum_sources.specs.declared.inputs.closable.Closable.TheVariants.{Open, Closed};
-ghost use Rattle.sum_sources.specs.Logs.{no_reads};
 ghost use Rattle.sum_sources.specs.declared.inputs.phase.Phase.TheVariants.{Unfinished};
 
 use std::io;
@@ -14,7 +14,8 @@ use sum_sources::{Closable, EBADF, FromRead};
 /// system would give its number to the next file, and that file's bytes would be read as standard input. The contract
 /// doesn't say which of the two it returns.
 pub fn standard_input(stdin: io::Stdin) -> Closable<FromRead<io::Stdin>>
-    ensures { (result ≡ Closed (Broken (Os (pos 9))) Unfinished) ⊎ (result ≡ Open (record { reader = stdin; log = no_reads })) }
+    ensures { (result ≡ Closed (Broken (Os (pos 9))) Unfinished)
+        ⊎ (result ≡ Open (record { reader = stdin; log = no_reads })) }
 {
     match stdin.as_fd().try_clone_to_owned() {
         Err(error) if is_closed(&error) => Closable::closed(),

@@ -1,22 +1,17 @@
 -- `check_lines`: a new checker runs to its end. What happened so far and what remains is the whole behavior
 -- (`HasComeTo`). A step that goes on keeps this. The step that ends or stops proves the contract by it.
 use Rattle.std.proofs.Common.{rules, ◌^◌, ◌-◌, ◌<◌, ◌≡◌, ℕ, Bool, List, [], ◌∷◌, ◌++◌, Result, Ok, Err, Some, None, true, refl, ap, ◌∙◌, subst, arith, append-nil}
-use Rattle.sum_sources.specs.Contents.{IsSameInput}
+use Rattle.sum_sources.specs.{Contents.IsSameInput, LineReaders.remaining, LineReaders.IsReading}
 use Rattle.sum_engine.specs.Behavior.{World, Step, Behavior, Content, InputState, clip}
-use Rattle.sum_engine.specs.check.Rules.{Rules, LabelsValue}
-use Rattle.sum_engine.specs.check.Judge.{all_verdicts}
-use Rattle.sum_engine.specs.check.Checking.{content_behavior}
+use Rattle.sum_engine.specs.{check.Rules.Rules, check.Rules.LabelsValue, check.Judge.all_verdicts, check.Checking.content_behavior}
 use Rattle.sum_engine.specs.check.CheckStates.{CheckState, initial_state, remaining_behavior}
 use Rattle.sum_engine.specs.check.Verdicts.{IsAtStart, VerdictsValue, state_at, InEachCheck, VerdictResult, LineVerdict, counts_after, IsNotUnread, AsksFor}
 use Rattle.sum_engine.specs.check.Checker.{ReportsFound, Progress, Going, Ended, IsStep, TakesStep, step_then, progress_before, CheckerValue, AdvancesChecker, ends}
 use Rattle.sum_sources.specs.declared.line_reader.LineStop.TheVariants.{Fault, Memory}
-use Rattle.sum_sources.specs.LineReaders.{remaining, IsReading}
 use Rattle.sum_engine.specs.check.CheckerLaws.{RunsManifest}
 use Rattle.sum_engine.specs.Execution.{Stop, OutputsState, StreamsState, IsFlushed, ReadsToEndIf, world_at, PerformsSteps, StopHasCause}
 use Rattle.sum_engine.specs.refinement.FlushedWrites.{outcome_after, WritesAndFlushesBoth, WritesAndReturns}
-use Rattle.sum_engine.proofs.CountLemmas.{counts_then-none}
-use Rattle.sum_engine.proofs.ExecutionLemmas.{one_at_most, stop_after}
-use Rattle.sum_engine.proofs.FlushedWriteLemmas.{returned}
+use Rattle.sum_engine.proofs.{CountLemmas.counts_then-none, ExecutionLemmas.one_at_most, ExecutionLemmas.stop_after, FlushedWriteLemmas.returned}
 use Rattle.sum_engine.proofs.WorldLemmas.{agrees_before, reads_none, reads_then}
 use Rattle.sum_engine.proofs.BehaviorLemmas.{HasDoneUpTo, done_none, done_more, done_stops}
 

@@ -1,21 +1,14 @@
 -- `check_one`: a manifest is opened, its checker runs to its end, and it is closed.
 use Rattle.std.proofs.Common.{◌≡◌, ℕ, Bool, false, List, [], ◌∷◌, Result, Ok, Err, Some, refl}
-use Rattle.sum_sources.specs.Contents.{unread}
-use Rattle.sum_sources.specs.Sources.{and_opening}
+use Rattle.sum_sources.specs.{Contents.unread, Sources.and_opening}
 use Rattle.sum_lines.proofs.EventLemmas.{Gets-none}
 use Rattle.sum_engine.specs.Behavior.{Fault, World, is_dash, answer_to, after, Step, events_of, Answer, InputState, clip}
-use Rattle.sum_engine.specs.check.CheckerLaws.{RunsManifest}
-use Rattle.sum_engine.specs.check.Rules.{rules_of, labels_of}
-use Rattle.sum_engine.specs.check.Judge.{present}
-use Rattle.sum_engine.specs.check.Checking.{CheckSettings, check_behavior_by, check_behavior}
+use Rattle.sum_engine.specs.{check.CheckerLaws.RunsManifest, check.Rules.rules_of, check.Rules.labels_of, check.Judge.own_profile}
+use Rattle.sum_engine.specs.{check.Checking.CheckSettings, check.Checking.check_behavior_by, check.Checking.check_behavior, Generation.name_fault_line}
 use Rattle.sum_engine.specs.Execution.{Stop, Memory, InputsState, OutputsState, StreamsState, world_at, Happened, Performs}
-use Rattle.sum_engine.specs.Generation.{name_fault_line}
-use Rattle.sum_engine.specs.refinement.FlushedWrites.{WritesAndReturns}
-use Rattle.sum_engine.specs.refinement.Names.{MemoryWasRefused}
-use Rattle.sum_engine.proofs.ExecutionLemmas.{Happened-by, kept_performs}
-use Rattle.sum_engine.proofs.WorldLemmas.{world_after}
-use Rattle.sum_engine.proofs.BehaviorLemmas.{behind_step, Performs-step, Performs-refused}
-use Rattle.sum_engine.proofs.CheckLinesLemmas.{manifest_behavior}
+use Rattle.sum_engine.specs.{refinement.FlushedWrites.WritesAndReturns, refinement.Names.MemoryWasRefused}
+use Rattle.sum_engine.proofs.{ExecutionLemmas.Happened-by, ExecutionLemmas.kept_performs, WorldLemmas.world_after}
+use Rattle.sum_engine.proofs.{BehaviorLemmas.behind_step, BehaviorLemmas.Performs-step, BehaviorLemmas.Performs-refused, CheckLinesLemmas.manifest_behavior}
 use Rattle.sum_engine.proofs.OpenedNameLemmas.{WasOpened, fault_asks, fault_answer}
 
 -- the step that opens a manifest of that name
@@ -52,7 +45,7 @@ module _ (settings : CheckSettings) (tool name : List ℕ) (a : StreamsState) wh
   -- it could not be opened, and the line of its fault was written, or a prefix of it
   pub refused : (m : InputsState) (f : Fault) (outputs : OutputsState) (x : Result Bool Stop) → is_dash name ≡ false
       → m ≡ record a.inputs { source = and_opening a.inputs.source name (Some (Err f)) }
-      → WritesAndReturns a.outputs outputs (name_fault_line present tool name f) [] false x
+      → WritesAndReturns a.outputs outputs (name_fault_line own_profile tool name f) [] false x
       → Performed (record a { inputs = m; outputs = outputs }) x
   refused m f outputs x file opens said =
       Performs-step (λ w. check_behavior settings tool w name) (λ g. g) false a

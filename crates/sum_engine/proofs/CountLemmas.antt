@@ -1,7 +1,6 @@
 -- The counts of a summary are numbers of members, and the code's running counters are they.
 use Rattle.std.proofs.Common.{rules, arith, ◌≡◌, ◌≤◌, ◌+◌, []}
-use Rattle.sum_engine.specs.check.Judge.{Verdict}
-use Rattle.sum_engine.specs.check.Reports.{Counts, counts_of}
+use Rattle.sum_engine.specs.{check.Judge.Verdict, check.Reports.Counts, check.Reports.counts_of}
 use Rattle.sum_engine.specs.check.CheckStates.{no_counts, counts_with, counts_then, total}
 
 -- a line more is at most one more that is not ignored

@@ -1,8 +1,7 @@
 -- What happened from one state to another, one event after another.
 use Rattle.std.proofs.Common.{rules, arith, ◌≡◌, ◌<◌, ◌+◌, ℕ, List, [], ◌∷◌, ◌++◌, map, Option, None, Some, Result, Ok, Err, refl, inl, inr, append_assoc, append-nil, filter_map}
 use Rattle.std.specs.Prelude.{◌⊎◌, Any}
-use Rattle.std.proofs.lemmas.List.{map-append}
-use Rattle.std.proofs.lemmas.List.Elements.{filter_map-append}
+use Rattle.std.proofs.lemmas.{List.map-append, List.Elements.filter_map-append}
 use Rattle.sum_lines.specs.Sinks.{Gets}
 use Rattle.sum_lines.proofs.EventLemmas.{Gets-none, Gets-then}
 use Rattle.sum_engine.specs.Behavior.{Event, Step, OutputEvent, output_events, open_name, to_err, to_out, err_event, out_event}
@@ -33,7 +32,8 @@ kind-none f h none (x ∷ xs) = search (rules, kind-none f h none xs)
 
 -- these names were asked, and the outputs got these events
 pub Happened-by : {a b : StreamsState} (names : List (List ℕ)) (err out : List OutputEvent)
-    → AsksNames a.inputs b.inputs names → Gets a.outputs.err.sink b.outputs.err.sink err → Gets a.outputs.out.sink b.outputs.out.sink out
+    → AsksNames a.inputs b.inputs names → Gets a.outputs.err.sink b.outputs.err.sink err
+    → Gets a.outputs.out.sink b.outputs.out.sink out
     → Happened a b (events_by names err out)
 Happened-by names err out h p q = search (rules, filter_map-append, kind-all, kind-none)
 

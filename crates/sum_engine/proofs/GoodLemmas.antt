@@ -1,11 +1,9 @@
 -- A manifest of lines that were written for whole files is good: by induction on its lines.
 use Rattle.std.proofs.Common.{rules, ◌≡◌, ℕ, suc, ◌+◌, ◌<◌, true, List, [], ◌∷◌, ◌++◌, length, map, refl, ap, ◌∙◌, append_assoc, arith, inl, append-nil, flat_map, All, Ok}
-use Rattle.std.proofs.lemmas.Bool.{ne_eqb}
+use Rattle.std.proofs.lemmas.{Bool.ne_eqb, List.Elements.All-head, List.Elements.All-tail, Slice.Eq.bytes_eq-Decides}
 use Rattle.std.proofs.Math.Bool.{and-false, or-true}
-use Rattle.std.proofs.lemmas.List.Elements.{All-head, All-tail}
-use Rattle.std.proofs.lemmas.Slice.Eq.{bytes_eq-Decides}
 use Rattle.sum_engine.specs.check.Rules.{LabelsValue, Rules, rules_of, labels_of}
-use Rattle.sum_engine.specs.check.Judge.{Algos, Form, Right, LineVerdictValue, judge, line_verdict, verdicts, all_verdicts, parse_line, past_line, present, escape, IsEntry, form}
+use Rattle.sum_engine.specs.check.Judge.{Algos, Form, Right, LineVerdictValue, judge, line_verdict, verdicts, all_verdicts, parse_line, past_line, own_profile, escape, IsEntry, form}
 use Rattle.sum_engine.specs.check.Reports.{Report, Counts, out_by, out_of, err_of, counts_of, end_text, good}
 use Rattle.sum_engine.specs.check.Checking.{CheckSettings, line_steps, content_behavior, check_behavior_by, check_behavior}
 use Rattle.sum_engine.specs.check.Checker.{step_then}
@@ -14,14 +12,13 @@ use Rattle.sum_sources.specs.Contents.{Content, limit}
 use Rattle.sum_sources.proofs.ContentLemmas.{limit-value, clip-short}
 use Rattle.sum_lines.proofs.ParsedLineLemmas.{parse_is_grammar}
 use Rattle.sum_engine.proofs.ListedEntryLemmas.{Item, written_text, Listed, prefix, spelled_for, ReadableSoFar, back, whole, lines-are}
-use Rattle.sum_engine.proofs.WorldLemmas.{after-steady}
-use Rattle.sum_engine.proofs.CheckOneLemmas.{opening}
+use Rattle.sum_engine.proofs.{WorldLemmas.after-steady, CheckOneLemmas.opening}
 
 -- ---- each verdict is Right
 
 -- the same rules at the present profile
 abbrev now : Rules → Rules
-now r = record r { profile = present }
+now r = record r { profile = own_profile }
 
 -- the verdict of an item on line n
 abbrev right : ℕ → Item → LineVerdictValue
@@ -36,9 +33,9 @@ rights n (i ∷ is) = right (n + 1) i ∷ rights (n + 1) is
 judged : (r : Rules) (files : List ℕ → Answer) (w : World) (n : ℕ) (f : Form) (i : Item)
     → w.answer ≡ (λ asked. files) → Listed r.algo files i
     → IsEntry escape r.algo f (prefix i) (spelled_for i)
-    → line_verdict r w n (parse_line present r.algo f (prefix i)) ≡ right n i
+    → line_verdict r w n (parse_line own_profile r.algo f (prefix i)) ≡ right n i
 judged r files w n f i steady h e =
-    let is = parse_is_grammar present r.algo f (prefix i) in
+    let is = parse_is_grammar own_profile r.algo f (prefix i) in
     let verdict : judge r w (spelled_for i) ≡ Right =
     rw steady (search (rules, clip-short, limit-value, and-false, bytes_eq-Decides)) in
     rw ((is.when_entry (spelled_for i)).1 e, verdict) refl
@@ -60,7 +57,7 @@ right-verdicts r files before (i ∷ is) w n steady u all =
 
 -- the report of a right name
 abbrev pub right_line : Report → List ℕ → List ℕ
-right_line report name = out_by present report Right name
+right_line report name = out_by own_profile report Right name
 
 -- the counts of k right lines
 abbrev right_counts : ℕ → Counts

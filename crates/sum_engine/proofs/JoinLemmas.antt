@@ -1,18 +1,14 @@
 -- `steps_join`: the steps of a new checker, one after another, by induction on the list of their vectors.
 use Rattle.std.proofs.Common.{rules, ◌≡◌, ℕ, zero, suc, ◌+◌, ◌-◌, ◌≤◌, List, [], ◌∷◌, ◌++◌, Ok, length, take, drop, refl, ap, sym, ◌∙◌, arith, length-drop, slice_index_or}
 use Rattle.std.proofs.lemmas.List.{take-append-drop}
-use Rattle.sum_engine.specs.check.Rules.{Rules, LabelsValue}
+use Rattle.sum_engine.specs.{check.Rules.Rules, check.Rules.LabelsValue, check.Reports.counts_of, check.Reports.end_text}
 use Rattle.sum_engine.specs.check.Judge.{Form, form, lines_under, LineVerdictValue, asks_of, verdicts, all_verdicts, line_verdict, parse_line, past_line, past_lines}
-use Rattle.sum_engine.specs.check.Reports.{counts_of, end_text}
 use Rattle.sum_engine.specs.check.Checking.{line_steps, content_behavior}
 use Rattle.sum_engine.specs.check.CheckStates.{CheckState, remaining_behavior, initial_state}
-use Rattle.sum_engine.specs.check.Checker.{Going, IsStep, step_then}
+use Rattle.sum_engine.specs.{check.Checker.Going, check.Checker.IsStep, check.Checker.step_then, Execution.StreamsState, Execution.Happened}
 use Rattle.sum_engine.specs.Behavior.{World, after, Behavior, trace, Content}
-use Rattle.sum_engine.specs.Execution.{StreamsState, Happened}
 use Rattle.sum_engine.specs.check.CheckerLaws.{StepsGoing, StepsJoin}
-use Rattle.sum_engine.proofs.RemainingLemmas.{past_next}
-use Rattle.sum_engine.proofs.ExecutionLemmas.{Happened-none}
-use Rattle.sum_engine.proofs.BehaviorLemmas.{HasDoneUpTo, behavior_then-happened}
+use Rattle.sum_engine.proofs.{RemainingLemmas.past_next, ExecutionLemmas.Happened-none, BehaviorLemmas.HasDoneUpTo, BehaviorLemmas.behavior_then-happened}
 use Rattle.sum_engine.proofs.CheckLinesLemmas.{remaining-initial, none_left, done_last}
 
 -- ---- as many steps as lines, and one more
@@ -22,7 +18,8 @@ length_verdicts : (r : Rules) (f : Form) (w : World) (n : ℕ) (ls : List (List 
     → length (verdicts r f w n ls) ≡ length ls
 length_verdicts r f w n [] = refl
 length_verdicts r f w n (l ∷ ls) =
-    ap suc (length_verdicts r f (after w (asks_of (line_verdict r w (n + 1) (parse_line r.profile r.algo f l)))) (n + 1) ls)
+    ap suc (length_verdicts r f (after w (asks_of (line_verdict r w (n + 1) (parse_line r.profile r.algo f l))))
+    (n + 1) ls)
 
 -- and one step more
 length_steps : (r : Rules) (labels : LabelsValue) (end : List ℕ) (c : Content) (js : List LineVerdictValue)

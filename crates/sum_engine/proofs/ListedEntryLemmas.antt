@@ -1,24 +1,16 @@
 -- A manifest of lines that were written for whole files: each line is read back.
 use Rattle.std.proofs.Common.{rules, ◌≡◌, ◌≢◌, ◌==◌, ℕ, ◌<◌, false, List, [], ◌∷◌, ◌++◌, length, map, refl, ap, sym, ◌∙◌, subst, ◌⊎◌, inl, IsTrue, flat_map, All, Ok}
 use Rattle.std.specs.Str.Lines.{strip_carriage_return}
-use Rattle.std.proofs.lemmas.Bool.{ne_eqb}
-use Rattle.std.proofs.lemmas.List.{append-nil, append_cancel_right}
-use Rattle.std.proofs.lemmas.List.Elements.{All-nil, All-map, All-weaker}
+use Rattle.std.proofs.lemmas.{Bool.ne_eqb, List.append-nil, List.append_cancel_right, List.Elements.All-nil, List.Elements.All-map, List.Elements.All-weaker}
 use Rattle.digest_kinds.specs.Kinds.{KindValue, has_len, digest}
 use Rattle.digest_kinds.specs.declared.algo.Algos.{Algos}
 use Rattle.digest_kinds.proofs.DigestLemmas.{length-digest, IsBytes-digest}
-use Rattle.sum_lines.specs.declared.reading.read_line.Form.TheVariants.{Undecided, Standard}
-use Rattle.sum_lines.specs.declared.writing.put_line.Mode.{Mode}
-use Rattle.sum_lines.specs.Escape.{escape}
-use Rattle.sum_lines.specs.Lines.{line}
-use Rattle.sum_lines.specs.grammar.Entries.{EntryValue, IsEntry, form}
-use Rattle.sum_lines.specs.grammar.LineLaws.{AllowsMode}
+use Rattle.sum_lines.specs.declared.{reading.read_line.Form.TheVariants.Undecided, reading.read_line.Form.TheVariants.Standard, writing.put_line.Mode.Mode}
+use Rattle.sum_lines.specs.{Escape.escape, Lines.line, grammar.Entries.EntryValue, grammar.Entries.IsEntry, grammar.Entries.form, grammar.LineLaws.AllowsMode}
 use Rattle.sum_lines.proofs.PutLineLemmas.{prefix_of, read_back}
-use Rattle.sum_engine.specs.Behavior.{Whole, is_dash, Answer}
-use Rattle.sum_sources.specs.Contents.{Content, limit}
-use Rattle.sum_sources.specs.ManifestLines.{HasNoNewline, lines, raw_lines}
+use Rattle.sum_engine.specs.{Behavior.Whole, Behavior.is_dash, Behavior.Answer, check.OldVerdicts.HasNoCarriageReturn}
+use Rattle.sum_sources.specs.{Contents.Content, Contents.limit, ManifestLines.HasNoNewline, ManifestLines.lines, ManifestLines.raw_lines}
 use Rattle.sum_sources.proofs.CutLemmas.{raw_lines-joined}
-use Rattle.sum_engine.specs.check.OldVerdicts.{HasNoCarriageReturn}
 use Rattle.sum_engine.proofs.CarriageReturnLemmas.{strips-kept}
 
 -- ---- what is written

@@ -1,21 +1,17 @@
 -- `Verdicts::next`: the next verdict of a manifest, by what reading and judging its line did.
 use Rattle.std.proofs.Common.{rules, ◌≡◌, ◌∙◌, ℕ, ◌+◌, List, Ok, Err, Result, IfOk, refl, inl, inr, ◌∷◌, ap, sym, arith}
 use Rattle.std.specs.Prelude.{◌⊎◌}
-use Rattle.sum_sources.specs.declared.line_reader.Next.TheVariants.{Line}
+use Rattle.sum_sources.specs.declared.{line_reader.Next.TheVariants.Line, line_reader.LineReader.LineReader}
 use Rattle.sum_sources.specs.LineReaders.{AdvancesLines, IsBounded, IsReading, ReadsOn, remaining}
 use Rattle.sum_sources.specs.ManifestLines.{lines}
-use Rattle.sum_sources.specs.declared.line_reader.LineReader.{LineReader}
 use Rattle.sum_sources.proofs.LineLemmas.{line-some}
-use Rattle.sum_engine.specs.check.Rules.{Rules}
-use Rattle.sum_engine.specs.check.Judge.{lines_under, line_verdict, asks_of, form_then, line_form, present}
-use Rattle.sum_engine.specs.check.CheckStates.{CheckState, HandlesLine, next_judged}
+use Rattle.sum_engine.specs.{check.Rules.Rules, check.CheckStates.CheckState, check.CheckStates.HandlesLine, check.CheckStates.next_judged}
+use Rattle.sum_engine.specs.check.Judge.{lines_under, line_verdict, asks_of, form_then, line_form, own_profile}
 use Rattle.sum_engine.specs.check.Verdicts.{LineVerdict, line_verdict_value, InEachCheck, IsNextVerdict, AsksFor, VerdictsValue, counts_after, state_at}
 use Rattle.sum_engine.specs.Behavior.{World, Content, InputState, after}
-use Rattle.sum_engine.specs.Execution.{InputsState, Agrees, world_at}
-use Rattle.sum_engine.specs.refinement.Names.{NoRoom, MemoryWasRefused}
+use Rattle.sum_engine.specs.{Execution.InputsState, Execution.Agrees, Execution.world_at, refinement.Names.NoRoom, refinement.Names.MemoryWasRefused}
 use Rattle.sum_engine.specs.refinement.Judging.{TakesLine, parsed_at, found_verdict}
-use Rattle.sum_engine.proofs.WorldLemmas.{world_after}
-use Rattle.sum_engine.proofs.RemainingLemmas.{remaining_next}
+use Rattle.sum_engine.proofs.{WorldLemmas.world_after, RemainingLemmas.remaining_next}
 
 -- without memory the world is where it was
 refused_world : (w : World) (a b : InputsState) → MemoryWasRefused a b ⊎ (b ≡ a) → world_at w b ≡ world_at w a
@@ -23,7 +19,7 @@ refused_world w a b (inl refused) = ap (world_at w) refused
 refused_world w a b (inr same) = ap (world_at w) same
 
 -- the lines of a content under the present profile
-lines_now : (r : Rules) (c : Content) → r.profile ≡ present → lines_under r.profile c ≡ lines c
+lines_now : (r : Rules) (c : Content) → r.profile ≡ own_profile → lines_under r.profile c ≡ lines c
 lines_now r c h = rw h refl
 
 -- ---- a line was read
@@ -44,7 +40,7 @@ module _ {I : Type 0} (state : I → InputState) (p q : VerdictsValue I) (reader
 
     -- The line is the first of those that remained. Or memory to open its file was refused, and it remained. r is the
     -- value after judging, before the outcome was kept
-    pub next_verdict-line : p.rules.profile ≡ present → (r : VerdictsValue I) → q ≡ record r { outcome = q.outcome }
+    pub next_verdict-line : p.rules.profile ≡ own_profile → (r : VerdictsValue I) → q ≡ record r { outcome = q.outcome }
         → (x : Result LineVerdict NoRoom) → TakesLine (record p { reader = reader }) r line vector x
         → AsksFor vector a b (found_verdict x)
         → ((w : World) → Agrees w b → IfOk x (λ v. line_verdict_value vector v

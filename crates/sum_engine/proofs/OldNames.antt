@@ -1,13 +1,12 @@
 -- A line without a carriage return, neither as a byte nor in its name, says the same under both profiles.
 use Rattle.std.proofs.Common.{rules, ◌≡◌, ◌≢◌, ℕ, ◌<◌, Bool, true, false, List, [], ◌∷◌, ◌++◌, length, refl, sym, inl, inr, arith, subst, codes, append_assoc, if◌then◌else◌}
-use Rattle.std.proofs.lemmas.Bool.Decides.{nat_tests}
-use Rattle.std.proofs.lemmas.List.{take_at, drop_at}
+use Rattle.std.proofs.lemmas.{Bool.Decides.nat_tests, List.take_at, List.drop_at}
 use Rattle.std.proofs.lemmas.List.Elements.{All-nil, All-cons, All-head, All-tail, All-take, All-drop}
 use Rattle.digest_kinds.specs.Kinds.{tag}
 use Rattle.sum_lines.specs.grammar.Shapes.{Algos, KindValue, IsPlain, IsTagged, mark}
 use Rattle.sum_lines.specs.declared.reading.read_line.Form.{Form}
 use Rattle.sum_lines.specs.declared.reading.read_line.Form.TheVariants.{Undecided, Standard, Reversed}
-use Rattle.sum_lines.specs.Escape.{present, escape, escape_of, escape_by}
+use Rattle.sum_lines.specs.Escape.{own_profile, escape, escape_of, escape_by}
 use Rattle.sum_lines.specs.grammar.Entries.{EntryValue, is_ignored, IsRawName, IsEntry}
 use Rattle.sum_lines.specs.grammar.ParsedLines.{ParsedLine, ignored, bad, entry, parse_line}
 use Rattle.sum_lines.proofs.ParsedLineLemmas.{parse_is_grammar, bad_exactly}
@@ -35,11 +34,11 @@ part_clean front part rest line is free =
 -- ---- the escape
 
 -- versions differ in the escape of a carriage return alone
-byte_same : (b : ℕ) → b ≢ 13 → escape_of older_profile b ≡ escape_of present b
+byte_same : (b : ℕ) → b ≢ 13 → escape_of older_profile b ≡ escape_of own_profile b
 byte_same b free = grind (arith, nat_tests)
 
 -- so a name without one has the same escape
-pub same_escape : (name : List ℕ) → HasNoCarriageReturn name → escape_by older_profile name ≡ escape_by present name
+pub same_escape : (name : List ℕ) → HasNoCarriageReturn name → escape_by older_profile name ≡ escape_by own_profile name
 same_escape [] free = refl
 same_escape (b ∷ bs) free = search (rules, All-head, byte_same, same_escape bs (All-tail IsNoCarriageReturn b bs free))
 
@@ -49,7 +48,8 @@ same_escape (b ∷ bs) free = search (rules, All-head, byte_same, same_escape bs
 older_clean : (name : List ℕ) → HasNoCarriageReturn (escape_by older_profile name) → HasNoCarriageReturn name
 older_clean [] free = All-nil IsNoCarriageReturn
 older_clean (b ∷ bs) free =
-    All-cons IsNoCarriageReturn b bs (first b (front_clean (escape_of older_profile b) (escape_by older_profile bs) free))
+    All-cons IsNoCarriageReturn b bs
+    (first b (front_clean (escape_of older_profile b) (escape_by older_profile bs) free))
     (older_clean bs (rest_clean (escape_of older_profile b) (escape_by older_profile bs) free))
   where
     first : (b : ℕ) → HasNoCarriageReturn (escape_of older_profile b) → b ≢ 13
@@ -108,22 +108,22 @@ CleanParsedLine bad = Unit {0}
 CleanParsedLine (entry s) = HasNoCarriageReturn s.name
 
 -- a line that isn't empty is ignored under both profiles or under neither
-ignored_same : (line : List ℕ) (q : Bool) → 0 < length line → is_ignored present line ≡ q
+ignored_same : (line : List ℕ) (q : Bool) → 0 < length line → is_ignored own_profile line ≡ q
     → is_ignored older_profile line ≡ q
 ignored_same line q some h = search rules
 
 -- a line without one, in which no name has one, says the same under both profiles
 pub parse_line_same : (algos : Algos) (f : Form) (line : List ℕ) → HasNoCarriageReturn line
     → NamesNoCarriageReturn algos f line → 0 < length line
-    → (parse_line older_profile algos f line ≡ parse_line present algos f line)
-    × CleanParsedLine (parse_line present algos f line)
-parse_line_same algos f line free names some = go (parse_line present algos f line) refl
+    → (parse_line older_profile algos f line ≡ parse_line own_profile algos f line)
+    × CleanParsedLine (parse_line own_profile algos f line)
+parse_line_same algos f line free names some = go (parse_line own_profile algos f line) refl
   where
-    go : (x : ParsedLine) → parse_line present algos f line ≡ x → (parse_line older_profile algos f line ≡ x)
+    go : (x : ParsedLine) → parse_line own_profile algos f line ≡ x → (parse_line older_profile algos f line ≡ x)
         × CleanParsedLine x
     go ignored h = search (rules, parse_is_grammar, ignored_same)
     go bad h =
-        let is = (bad_exactly present algos f line).0 h in (
+        let is = (bad_exactly own_profile algos f line).0 h in (
           (bad_exactly older_profile algos f line).1 (
             ignored_same line false some is.0,
             λ s e. is.1 s (entry_by (escape_by older_profile) escape algos f line s
@@ -132,6 +132,6 @@ parse_line_same algos f line free names some = go (parse_line present algos f li
           tt,
         )
     go (entry s) h =
-        let is = ((parse_is_grammar present algos f line).when_entry s).0 h in
+        let is = ((parse_is_grammar own_profile algos f line).when_entry s).0 h in
         let older_is = (parse_is_grammar older_profile algos f line).when_entry s in
         search (rules, is, names s is, older_is.1, entry_by, same_escape)

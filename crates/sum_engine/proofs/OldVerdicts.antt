@@ -1,16 +1,14 @@
 -- `old_verdicts`: a manifest of the time of older versions is checked alike under both profiles.
 use Rattle.std.proofs.Common.{rules, ◌≡◌, ℕ, ◌+◌, ◌<◌, List, [], ◌∷◌, length, refl, sym, subst, append_assoc, ◌++◌, All, flat_map}
 use Rattle.std.proofs.lemmas.List.Elements.{All-nil, All-cons, All-head, All-tail}
-use Rattle.sum_engine.specs.check.Rules.{LabelsValue, Rules}
-use Rattle.sum_engine.specs.check.Judge.{Algos, Form, LineVerdictValue, line_verdict, asks_of, verdicts, all_verdicts, form, present, ParsedLine, bad, parse_line}
+use Rattle.sum_engine.specs.{check.Rules.LabelsValue, check.Rules.Rules, check.Checking.line_steps}
+use Rattle.sum_engine.specs.check.Judge.{Algos, Form, LineVerdictValue, line_verdict, asks_of, verdicts, all_verdicts, form, own_profile, ParsedLine, bad, parse_line}
 use Rattle.sum_engine.specs.check.Reports.{Report, Counts, out_of, err_of, end_text}
-use Rattle.sum_engine.specs.check.Checking.{line_steps}
 use Rattle.sum_engine.specs.Behavior.{Ending, Whole, Broken, World, after, Content}
 use Rattle.sum_sources.specs.ManifestLines.{raw_lines, last_line, past_line, bytes_of_lines}
 use Rattle.sum_sources.proofs.CutLemmas.{cut, raw_lines-joined}
 use Rattle.sum_engine.specs.check.OldVerdicts.{older_profile, rules_under, HasNoCarriageReturn, NamesNoCarriageReturn, IsOldManifest, OldVerdicts, OlderDiffers}
-use Rattle.sum_lines.proofs.EntryLemmas.{entry-not_ignored}
-use Rattle.sum_lines.proofs.ParsedLineLemmas.{bad_exactly}
+use Rattle.sum_lines.proofs.{EntryLemmas.entry-not_ignored, ParsedLineLemmas.bad_exactly}
 use Rattle.sum_engine.proofs.OldNames.{front_clean, rest_clean, same_escape, CleanParsedLine, parse_line_same}
 use Rattle.sum_engine.proofs.CarriageReturnLemmas.{strips-kept}
 use Rattle.sum_engine.specs.declared.settings.Report.TheVariants as reports
@@ -54,7 +52,7 @@ module _ (r : Rules) (labels : LabelsValue) where
   old = rules_under older_profile r
 
   abbrev new : Rules
-  new = rules_under present r
+  new = rules_under own_profile r
 
   -- what is judged names no carriage return, if the line doesn't
   judged_clean : (w : World) (n : ℕ) (x : ParsedLine) → CleanParsedLine x → CleanName (line_verdict new w n x)
@@ -67,10 +65,10 @@ module _ (r : Rules) (labels : LabelsValue) where
   verdicts_same f w n (l ∷ ls) all =
       let here = All-head (Alike r.algo f) l ls all in
       let s = parse_line_same r.algo f l here.no_byte here.no_escape here.some in
-      let j = line_verdict new w (n + 1) (parse_line present r.algo f l) in
+      let j = line_verdict new w (n + 1) (parse_line own_profile r.algo f l) in
       let one : line_verdict old w (n + 1) (parse_line older_profile r.algo f l) ≡ j = search (rules, s.0) in
       let more = verdicts_same f (after w (asks_of j)) (n + 1) ls (All-tail (Alike r.algo f) l ls all) in
-      let clean = judged_clean w (n + 1) (parse_line present r.algo f l) s.1 in
+      let clean = judged_clean w (n + 1) (parse_line own_profile r.algo f l) s.1 in
       (rw (one, more.0) refl, All-cons CleanName j (verdicts new f (after w (asks_of j)) (n + 1) ls) clean more.1)
 
   -- the verdicts of such a manifest are the same under both profiles, and name no carriage return
@@ -123,7 +121,8 @@ old_verdicts r labels w c h =
 
 -- an empty line is improper to older versions
 empty_line : (algos : Algos) (f : Form) → parse_line older_profile algos f [] ≡ bad
-empty_line algos f = (bad_exactly older_profile algos f []).1 (refl, λ s e. let wrong = entry-not_ignored present e in cc)
+empty_line algos f =
+    (bad_exactly older_profile algos f []).1 (refl, λ s e. let wrong = entry-not_ignored own_profile e in cc)
 
 -- the profiles do differ: a name with a carriage return, and an empty line
 pub older_differs : OlderDiffers

@@ -1,17 +1,14 @@
 -- `hash_name` and `check_one`: a name is opened, read and closed, and in between other calls may open names.
 use Rattle.std.proofs.Common.{rules, ap, refl, Bool, ◌≡◌, ◌∙◌, sym, [], ◌∷◌, ◌++◌, ℕ, true, false, List, Result, Ok, Err, Option, None, Some, IfSome, IfOk, inl, inr, append_assoc, append-nil}
-use Rattle.std.specs.Prelude.{◌⊎◌, length}
+use Rattle.std.specs.Prelude.{◌⊎◌, length, MatchResult}
 use Rattle.std.specs.List.{list_any}
-use Rattle.std.proofs.lemmas.Bool.{MatchBool-at_true, MatchBool-at_false}
-use Rattle.std.proofs.lemmas.List.{map-append}
-use Rattle.std.proofs.lemmas.List.Elements.{All-cons}
-use Rattle.std.proofs.Math.Bool.{or-true}
-use Rattle.digest_kinds.specs.Kinds.{KindValue}
-use Rattle.sum_sources.specs.Contents.{Reads, IsOf, IsSameInput, HasContent, Hashes, HashesInput, clip}
+use Rattle.std.proofs.lemmas.{Bool.MatchBool-at_true, Bool.MatchBool-at_false, List.map-append, List.Elements.All-cons}
+use Rattle.std.proofs.{Math.Bool.or-true, Math.Seq.set-append_seam}
+use Rattle.digest_kinds.specs.Kinds.{KindValue, digest}
+use Rattle.sum_sources.specs.Contents.{Reads, IsOf, IsSameInput, HasContent, HashesInput, clip}
 use Rattle.sum_sources.specs.Sources.{Opening, IsOfAnswer, opened_file, and_opening, after_closing}
 use Rattle.sum_sources.specs.declared.sources.source.OpenFault.{OpenFault}
-use Rattle.std.proofs.Math.Seq.{set-append_seam}
-use Rattle.sum_engine.specs.Behavior.{World, Answer, Content, Fault, InputState, empty_content, is_dash, answer_to}
+use Rattle.sum_engine.specs.Behavior.{World, Answer, Content, Whole, Broken, Fault, InputState, empty_content, is_dash, answer_to}
 use Rattle.sum_engine.specs.Execution.{StdinState, InputsState, Agrees, world_at, asked, AsksNames, IsAtEndIf, ReadsFile, ReadsStdin, ReadsToEndIf}
 use Rattle.sum_engine.specs.refinement.Names.{HashFault, IsHashOf, HashesName, GivesStdin, OpensName, FailsToOpen, after_closing_name, fault_of_opening, stdin_after}
 use Rattle.sum_engine.specs.declared.hash_name.HashFault.TheVariants as hashing
@@ -206,7 +203,9 @@ hash_of (Ok d) = Ok d
 hash_of (Err f) = Err (hashing.NotRead f)
 
 hash_is : (kind : KindValue) (r : Reads) (found : Result (List ℕ) Fault)
-    → ((c : Content) → IsOf r c → Hashes kind (clip c) found) → (x : Answer) → (c : Content) × (x ≡ Ok c) × IsOf r c
+    → ((c : Content) → IsOf r c → MatchResult found
+    (λ d. ((clip c).ending ≡ Whole) × (d ≡ digest kind (clip c).bytes)) (λ f. (clip c).ending ≡ Broken f))
+    → (x : Answer) → (c : Content) × (x ≡ Ok c) × IsOf r c
     → IsHashOf kind x (hash_of found)
 hash_is kind r (Ok d) hashes x (c, is, of) = let h = hashes c of in rw is (search rules)
 hash_is kind r (Err f) hashes x (c, is, of) = let h = hashes c of in rw is (search rules)

@@ -1,10 +1,8 @@
 -- `same_front`: later lines have no part in what a line says, by induction on the lines before it.
 use Rattle.std.proofs.Common.{rules, ◌≡◌, ℕ, ◌+◌, List, [], ◌∷◌, ◌++◌, length, take, refl, sym, ◌∙◌, append_assoc, length-append}
-use Rattle.sum_engine.specs.check.Rules.{Rules}
-use Rattle.sum_engine.specs.check.Judge.{Algos, Form, LineVerdictValue, line_verdict, asks_of, verdicts, parse_line, present, escape, EntryValue, IsEntry, form, form_then, line_form}
+use Rattle.sum_engine.specs.{check.Rules.Rules, Behavior.World, Behavior.after, check.CheckerLaws.SameFront}
+use Rattle.sum_engine.specs.check.Judge.{Algos, Form, LineVerdictValue, line_verdict, asks_of, verdicts, parse_line, own_profile, escape, EntryValue, IsEntry, form, form_then, line_form}
 use Rattle.sum_lines.specs.declared.reading.read_line.Form.TheVariants.{Undecided}
-use Rattle.sum_engine.specs.Behavior.{World, after}
-use Rattle.sum_engine.specs.check.CheckerLaws.{SameFront}
 use Rattle.sum_lines.proofs.ParsedLineLemmas.{parse_is_grammar}
 use Rattle.sum_lines.proofs.EntryLemmas.{form_next, parse_stays, same_parse, same_form}
 
@@ -30,18 +28,18 @@ prefix_verdicts r w n f (l ∷ ls) later =
 
 -- an entry by one form is one by another, if the line says the same
 entry_same : (algos : Algos) (f g : Form) (line : List ℕ) (s : EntryValue)
-    → parse_line present algos f line ≡ parse_line present algos g line
+    → parse_line own_profile algos f line ≡ parse_line own_profile algos g line
     → IsEntry escape algos f line s → IsEntry escape algos g line s
 entry_same algos f g line s same e =
-    ((parse_is_grammar present algos g line).when_entry s).0
-    (sym same ∙ ((parse_is_grammar present algos f line).when_entry s).1 e)
+    ((parse_is_grammar own_profile algos g line).when_entry s).0
+    (sym same ∙ ((parse_is_grammar own_profile algos f line).when_entry s).1 e)
 
 -- so later lines have no part in an entry, a verdict or a plain line's form
 pub same_front : SameFront
 same_front r w before line later others =
-    let same : (a b : List (List ℕ)) → parse_line present r.algo (form r.algo (before ++ (line ∷ a))) line
-    ≡ parse_line present r.algo (form r.algo (before ++ (line ∷ b))) line =
-    λ a b. same_parse present r.algo before a b line in
+    let same : (a b : List (List ℕ)) → parse_line own_profile r.algo (form r.algo (before ++ (line ∷ a))) line
+    ≡ parse_line own_profile r.algo (form r.algo (before ++ (line ∷ b))) line =
+    λ a b. same_parse own_profile r.algo before a b line in
     let prefix = before ++ line ∷ [] in
     let all = prefix_verdicts r w 0 Undecided prefix later ∙ sym (prefix_verdicts r w 0 Undecided prefix others) in
     record {

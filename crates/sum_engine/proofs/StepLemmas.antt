@@ -3,16 +3,13 @@ use Rattle.std.proofs.Common.{◌≡◌, ℕ, ◌<◌, Bool, false, List, [], le
 use Rattle.std.specs.Prelude.{◌⊎◌}
 use Rattle.sum_engine.specs.Behavior.{Ending, Whole, Broken, World, Step, Content, InputState}
 use Rattle.sum_sources.specs.LineReaders.{remaining}
-use Rattle.sum_engine.specs.check.Rules.{LabelsValue}
+use Rattle.sum_engine.specs.{check.Rules.LabelsValue, check.CheckStates.CheckState, check.CheckStates.remaining_verdicts, check.CheckStates.remaining_behavior}
 use Rattle.sum_engine.specs.check.Reports.{err_of, out_of, end_text, good}
-use Rattle.sum_engine.specs.check.CheckStates.{CheckState, remaining_verdicts, remaining_behavior}
 use Rattle.sum_engine.specs.check.Verdicts.{VerdictsValue, state_at, InEachCheck, AdvancesVerdicts, VerdictResult, line_verdict_value, IsNextVerdict, HasNoVerdictLeft}
 use Rattle.sum_engine.specs.check.Checker.{ReportsFound, Progress, Going, Ended, TakesStep}
 use Rattle.sum_engine.specs.Execution.{Stop, InputsState, StreamsState, AsksNames, RunsOutOfMemory, world_at}
-use Rattle.sum_engine.specs.refinement.FlushedWrites.{WritesAndReturns}
-use Rattle.sum_engine.specs.refinement.Names.{MemoryWasRefused}
-use Rattle.sum_engine.proofs.ExecutionLemmas.{step_performed, refused_first}
-use Rattle.sum_engine.proofs.CountLemmas.{counts_then-nil}
+use Rattle.sum_engine.specs.{refinement.FlushedWrites.WritesAndReturns, refinement.Names.MemoryWasRefused}
+use Rattle.sum_engine.proofs.{ExecutionLemmas.step_performed, ExecutionLemmas.refused_first, CountLemmas.counts_then-nil}
 use Rattle.sum_engine.proofs.RemainingLemmas.{line_step, behavior_by, first_step, found_first, going-before}
 use Rattle.sum_sources.specs.declared.line_reader.LineStop.TheVariants as line_stops
 

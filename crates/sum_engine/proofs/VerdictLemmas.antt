@@ -1,9 +1,7 @@
 -- `judge`: the verdict of an entry, by what hashing its name gave.
 use Rattle.std.proofs.Common.{◌≡◌, List, ℕ, Bool, false, Result, Err, IfOk}
 use Rattle.sum_engine.specs.declared.hash_name.HashFault.TheVariants.{NotRead}
-use Rattle.sum_engine.specs.check.Judge.{Verdict}
-use Rattle.sum_engine.specs.check.Reports.{is_unread}
-use Rattle.sum_engine.specs.refinement.Judging.{verdict_of_hash}
+use Rattle.sum_engine.specs.{check.Judge.Verdict, check.Reports.is_unread, refinement.Judging.verdict_of_hash}
 use Rattle.sum_engine.specs.refinement.Names.{HashFault, NoRoom, IsNotBroken}
 
 -- the verdict says that the file could not be read, if reading it failed

@@ -1,13 +1,9 @@
 -- The law that some world agrees with what was read: by the laws of inputs and of sources.
 use Rattle.std.proofs.Common.{◌≡◌, IfSome, refl}
-use Rattle.sum_sources.specs.Contents.{HasContent, IsOf}
-use Rattle.sum_sources.specs.Sources.{HasAnswers, SourceState}
+use Rattle.sum_sources.specs.{Contents.HasContent, Contents.IsOf, Sources.HasAnswers, Sources.SourceState, InputLaws.closable_has_content}
 use Rattle.sum_sources.specs.declared.inputs.stdin.StdinPlace.{StdinPlace}
 use Rattle.sum_sources.specs.declared.inputs.stdin.StdinPlace.TheVariants.{Untaken, Taken, Returned}
-use Rattle.sum_sources.specs.InputLaws.{closable_has_content}
-use Rattle.sum_engine.specs.Behavior.{Content, InputState, empty_content}
-use Rattle.sum_engine.specs.Execution.{stdin_of}
-use Rattle.sum_engine.specs.WorldLaws.{SomeWorldAgrees}
+use Rattle.sum_engine.specs.{Behavior.Content, Behavior.InputState, Behavior.empty_content, Execution.stdin_of, WorldLaws.SomeWorldAgrees}
 
 -- standard input has a content
 stdin_has : {I : Type 0} (state : I → InputState) → ((i : I) → HasContent (state i)) → (s : StdinPlace I)

@@ -3,11 +3,9 @@ use Rattle.std.proofs.Common.{rules, arith, ◌≡◌, ◌∙◌, ◌+◌, ap, s
 use Rattle.std.specs.Prelude.{◌⊎◌, length, filter, not}
 use Rattle.std.specs.List.{list_any}
 use Rattle.std.proofs.Math.Bool.{or_assoc, or-false}
-use Rattle.std.proofs.lemmas.List.{map-append, length-map}
+use Rattle.std.proofs.lemmas.{List.map-append, List.length-map, List.Folds.list_any-append}
 use Rattle.std.proofs.lemmas.List.Elements.{filter-append, All-nil, All-cons, All-append, All-weaker}
-use Rattle.std.proofs.lemmas.List.Folds.{list_any-append}
-use Rattle.sum_sources.specs.Contents.{Reads, IsOf}
-use Rattle.sum_sources.specs.Sources.{Opening, IsOfAnswer, and_opening}
+use Rattle.sum_sources.specs.{Contents.Reads, Contents.IsOf, Sources.Opening, Sources.IsOfAnswer, Sources.and_opening}
 use Rattle.sum_engine.specs.Behavior.{World, Answer, Fault, empty_content, is_dash, after_one, after}
 use Rattle.sum_engine.specs.Execution.{StdinState, InputsState, AsksNames, AnswersAre, Agrees, asked, world_at, IsAtEndIf, ReadsFile, ReadsStdin, ReadsToEndIf}
 

@@ -2,13 +2,11 @@
 use Rattle.std.specs.Prelude.{ℕ, ◌≡◌, ◌≢◌, ◌+◌, ◌⊎◌, Bool, true, false, [], Option, None, Some, IfSome, IfOk, Result, Ok, Err, ◌<◌, ◌||◌, List, ◌∷◌, ◌++◌, map, length, filter, not, filter_map, All, Any, if◌then◌else◌}
 use Rattle.std.specs.List.{list_any}
 use Rattle.sum_sources.specs.declared.fault.Ending.TheVariants as ending
-use Rattle.sum_sources.specs.declared.inputs.phase.Phase.TheVariants.{Ended, Past}
+use Rattle.sum_sources.specs.declared.{inputs.phase.Phase.TheVariants.Ended, inputs.phase.Phase.TheVariants.Past, inputs.stdin.StdinPlace.StdinPlace}
 pub use Rattle.sum_sources.specs.Sources.{Opening, AnswersAre}
 use Rattle.sum_sources.specs.StandardInput.{unless_closed}
-use Rattle.sum_sources.specs.declared.inputs.stdin.StdinPlace.{StdinPlace}
 use Rattle.sum_sources.specs.declared.inputs.stdin.StdinPlace.TheVariants.{Untaken, Taken, Returned}
-use Rattle.sum_lines.specs.Sinks.{Gets}
-use Rattle.sum_lines.specs.Buffers.{BufferState}
+use Rattle.sum_lines.specs.{Sinks.Gets, Buffers.BufferState}
 pub use Rattle.sum_engine.specs.declared.streams.Streams.{Streams}
 pub use Rattle.sum_engine.specs.declared.stop.Stop.{Stop}
 pub use Rattle.sum_engine.specs.declared.stop.Stop.TheVariants.{Memory, Write}
@@ -133,7 +131,7 @@ pub record RunsOutOfMemory (steps : List Step) (a b : StreamsState) : Type 0 whe
 -- prefix of the trace; or memory ran out at a step, and exactly the steps before it happened
 abbrev pub PerformsSteps : {A : Type 0} → List Step → A → StreamsState → StreamsState → Result A Stop → Type 0
 PerformsSteps steps x a b (Ok outcome) = (outcome ≡ x) × Happened a b (trace steps)
-PerformsSteps steps x a b (Err Write) = (prefix rest : List Event) × (trace steps ≡ prefix ++ rest) × Happened a b prefix
+PerformsSteps steps x a b (Err Write) = (front rest : List Event) × (trace steps ≡ front ++ rest) × Happened a b front
 PerformsSteps steps x a b (Err Memory) = RunsOutOfMemory steps a b
 
 -- a call performs a behavior, if both outputs are flushed before: its steps, in each world that agrees with what was

@@ -3,9 +3,8 @@ use Rattle.std.specs.Prelude.{true, false, [], ◌∷◌, codes, Result, Ok, Err
 use Rattle.std.specs.List.{concat}
 use Rattle.sum_engine.specs.Behavior.{ByteString, Fault, World, answer_to, digest_or_fault, Behavior, single_step}
 use Rattle.sum_sources.specs.Faults.{fault_text}
-use Rattle.sum_lines.specs.Lines.{line}
+use Rattle.sum_lines.specs.{Lines.line, Escape.Profile, Escape.own_profile, Escape.escape_by}
 pub use Rattle.sum_engine.specs.declared.settings.Settings.{Settings}
-use Rattle.sum_lines.specs.Escape.{Profile, present, escape_by}
 
 -- TOOL: NAME: TEXT
 abbrev pub tool_line : Profile → ByteString → ByteString → ByteString → ByteString
@@ -18,7 +17,7 @@ name_fault_line p tool name fault = tool_line p tool name (fault_text fault)
 -- a name with this digest has its line written, and one with a fault the line of the fault
 abbrev pub generate_behavior_by : Settings → ByteString → ByteString → Result (ByteString) Fault → Behavior
 generate_behavior_by s tool name (Ok d) = single_step (name ∷ []) [] (line s.style s.kind name d) true
-generate_behavior_by s tool name (Err f) = single_step (name ∷ []) (name_fault_line present tool name f) [] false
+generate_behavior_by s tool name (Err f) = single_step (name ∷ []) (name_fault_line own_profile tool name f) [] false
 
 -- the behavior of hashing a name in a world
 abbrev pub generate_behavior : Settings → ByteString → World → ByteString → Behavior

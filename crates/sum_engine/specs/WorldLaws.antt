@@ -1,8 +1,7 @@
 -- The law that some world agrees with what was read.
 use Rattle.std.specs.Prelude.{◌≡◌, IfSome}
 use Rattle.sum_sources.specs.Sources.{first_answer}
-use Rattle.sum_engine.specs.Behavior.{World}
-use Rattle.sum_engine.specs.Execution.{InputsState, Agrees}
+use Rattle.sum_engine.specs.{Behavior.World, Execution.InputsState, Execution.Agrees}
 
 -- some world agrees with what was read so far: the one in memory, as far as that is there
 pub record SomeWorldAgrees (a : InputsState) : Type 0 where

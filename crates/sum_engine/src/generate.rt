@@ -1,10 +1,9 @@
 //! The line of one name.
 ghost use Rattle.std.specs.Prelude.{◌≡◌, [], ◌∷◌, length, true, Ok};
-ghost use Rattle.sum_lines.specs.Lines.{line};
+ghost use Rattle.sum_engine.specs.Execution.{IsFlushed, FailuresMatch, RefusalsMatch, Performs, ReadsToEndIf};
 ghost use Rattle.sum_engine.specs.Generation.{generate_behavior};
 ghost use Rattle.sum_engine.specs.refinement.FlushedWrites.{WritesAndFlushesBoth};
-ghost use Rattle.sum_engine.specs.Execution.{IsFlushed, FailuresMatch, RefusalsMatch};
-ghost use Rattle.sum_engine.specs.Execution.{Performs, ReadsToEndIf};
+ghost use Rattle.sum_lines.specs.Lines.{line};
 
 use crate::hash_name::hash_name;
 use crate::inputs::Inputs;
@@ -28,7 +27,8 @@ pub fn generate_one<I: Input + Drop, S: Source, O: Sink, E: Sink>(
     streams: &mut Streams<Inputs<I, S>, Outputs<O, E>>,
 ) -> Result<bool, Stop>
     // If both outputs are flushed: the behavior of hashing that name, in every world that agrees with what was read.
-    ensures behavior { Performs (λ w. generate_behavior settings.now tool.now w name.now) (λ good. good)
+    ensures behavior { Performs (λ w. generate_behavior settings.now tool.now w name.now)
+        (λ good. good)
         streams.old streams.new result }
     ensures flushed { IsFlushed streams.old.outputs → IsFlushed streams.new.outputs }
     // True only if the file was read to its end; and whatever is returned, it was read no further.

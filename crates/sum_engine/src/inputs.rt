@@ -1,10 +1,9 @@
 //! Where a call opens and reads.
 ghost use Rattle.std.specs.Prelude.{◌≡◌, true, length, IfOk, MatchResult};
+ghost use Rattle.sum_engine.specs.Behavior.{is_dash};
+ghost use Rattle.sum_engine.specs.refinement.Names.{FailsToOpen, GivesStdin, IsStillOpen, OpensName, after_closing_name, opened_state, stdin_after};
 ghost use Rattle.sum_sources.specs.Contents.{HashesInput};
 ghost use Rattle.sum_sources.specs.StandardInput.{unless_closed};
-ghost use Rattle.sum_engine.specs.Behavior.{is_dash};
-ghost use Rattle.sum_engine.specs.refinement.Names.{FailsToOpen, GivesStdin, IsStillOpen, OpensName};
-ghost use Rattle.sum_engine.specs.refinement.Names.{after_closing_name, opened_state, stdin_after};
 
 use crate::opened::{Opened, Place};
 use digest_kinds::{AnyHasher, Digest, Kind};
@@ -31,7 +30,8 @@ impl<I: Input, S: Source> Model for Inputs<I, S> {
 
     ghost Value = { InputsState };
 
-    ghost view = { λ inputs. record { source = S.state inputs.source; stdin = stdin_of I.state inputs.stdin } };
+    ghost view = { λ inputs.
+        record { source = S.state inputs.source; stdin = stdin_of I.state inputs.stdin } };
 }
 
 impl<I: Input, S: Source> Inputs<I, S> {
@@ -77,7 +77,8 @@ impl<I: Input + Drop, S: Source> Inputs<I, S> {
     /// as the source does. `OpenFault::Memory` if the source was refused memory; the name then doesn't count as asked.
     pub(crate) fn open(&mut self, name: &[u8]) -> Result<Opened<I, S::File>, OpenFault>
         ensures { MatchResult result
-            (λ opened. OpensName name.now self.old self.new (opened_state I.state S.File.state opened))
+            (λ opened. OpensName name.now self.old self.new
+            (opened_state I.state S.File.state opened))
             (λ fault. FailsToOpen name.now self.old self.new fault) }
     {
         if is_dash(name) {
@@ -95,7 +96,8 @@ impl<I: Input + Drop, S: Source> Inputs<I, S> {
     /// Closes what `open` gave: puts standard input back, or has the source close the file.
     pub(crate) fn close(&mut self, opened: Opened<I, S::File>)
         requires { IsStillOpen self.old (opened_state I.state S.File.state opened) }
-        ensures { self.new ≡ after_closing_name self.old (opened_state I.state S.File.state opened) }
+        ensures { self.new
+            ≡ after_closing_name self.old (opened_state I.state S.File.state opened) }
     {
         let Opened { place } = opened;
         match place {
@@ -124,7 +126,8 @@ impl<I: Input + Drop, S: Source> Inputs<I, S> {
     // Puts back what `take_stdin` gave.
     fn put_back_stdin(&mut self, given: Given<I>)
         ensures { self.old.stdin.taken ≡ true
-            → self.new ≡ record self.old { stdin = stdin_after self.old.stdin (unless_closed I.state given) } }
+            → self.new
+            ≡ record self.old { stdin = stdin_after self.old.stdin (unless_closed I.state given) } }
     {
         self.stdin.put_back(given);
     }

@@ -1,7 +1,7 @@
 //! Laws of what was read; and over whole checks: what the steps of a [`Checker`](crate::Checker) do together.
 ghost use Rattle.sum_engine.specs.WorldLaws.{SomeWorldAgrees};
-ghost use Rattle.sum_engine.specs.check.OldVerdicts.{OldVerdicts, OlderDiffers};
 ghost use Rattle.sum_engine.specs.check.CheckerLaws.{StepsJoin, EventsExtend, SameFront};
+ghost use Rattle.sum_engine.specs.check.OldVerdicts.{OldVerdicts, OlderDiffers};
 
 use crate::inputs::Inputs;
 use sum_sources::{Input, Source};

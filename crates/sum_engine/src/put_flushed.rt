@@ -1,10 +1,10 @@
 //! Lines that are written and flushed at once.
 ghost use Rattle.std.specs.Prelude.{◌≡◌, []};
-ghost use Rattle.sum_lines.specs.Buffers.{WritesAll};
-ghost use Rattle.sum_lines.specs.Escape.{present};
-ghost use Rattle.sum_lines.specs.refinement.PartTexts.{parts_text};
 ghost use Rattle.sum_engine.specs.Generation.{tool_line, name_fault_line};
 ghost use Rattle.sum_engine.specs.refinement.FlushedWrites.{WritesAndFlushes, WritesAndFlushesBoth, outcome_after};
+ghost use Rattle.sum_lines.specs.Buffers.{WritesAll};
+ghost use Rattle.sum_lines.specs.Escape.{own_profile};
+ghost use Rattle.sum_lines.specs.refinement.PartTexts.{parts_text};
 
 use crate::stop::Stop;
 use crate::streams::Outputs;
@@ -32,7 +32,8 @@ pub(crate) fn put_tool_line_flushed<E: Sink>(
     name: &[u8],
     text: &[u8],
 ) -> Result<(), SinkFault>
-    ensures { WritesAndFlushes err.old err.new (tool_line present tool.now name.now text.now) result }
+    ensures { WritesAndFlushes err.old err.new
+        (tool_line own_profile tool.now name.now text.now) result }
 {
     put_tool_line(err, tool, name, text)?;
     err.flush()
@@ -45,7 +46,7 @@ pub(crate) fn put_tool_line<'a, E: Sink>(
     name: &'a [u8],
     text: &'a [u8],
 ) -> Result<(), SinkFault>
-    ensures { WritesAll err.old err.new (tool_line present tool.now name.now text.now) result }
+    ensures { WritesAll err.old err.new (tool_line own_profile tool.now name.now text.now) result }
 {
     put_parts(
         err,
@@ -67,7 +68,8 @@ pub(crate) fn put_name_fault_line<O: Sink, E: Sink>(
     name: &[u8],
     fault: Fault,
 ) -> Result<(), SinkFault>
-    ensures { WritesAndFlushesBoth outputs.old outputs.new (name_fault_line present tool.now name.now fault) [] result }
+    ensures { WritesAndFlushesBoth outputs.old outputs.new
+        (name_fault_line own_profile tool.now name.now fault) [] result }
 {
     put_name_fault(&mut outputs.err, tool, name, fault)
 }
@@ -79,7 +81,8 @@ pub(crate) fn put_name_fault<E: Sink>(
     name: &[u8],
     fault: Fault,
 ) -> Result<(), SinkFault>
-    ensures { WritesAndFlushes err.old err.new (name_fault_line present tool.now name.now fault) result }
+    ensures { WritesAndFlushes err.old err.new
+        (name_fault_line own_profile tool.now name.now fault) result }
 {
     put_tool_line_flushed(err, tool, name, fault.text().as_bytes())
 }

@@ -43,7 +43,8 @@ pub struct CheckSettings {
 impl CheckSettings {
     /// The plain check of lines of these algorithms: all is reported, and no option is set.
     pub fn new(algo: Algos) -> Self
-        ensures { result ≡ record { algo = algo; report = All; strict = false; ignore_missing = false } }
+        ensures { result
+            ≡ record { algo = algo; report = All; strict = false; ignore_missing = false } }
     {
         CheckSettings {
             algo,

@@ -36,7 +36,8 @@ pub struct Streams<In, Out> {
 impl<I: Input, S: Source, O: Sink, E: Sink> Streams<Inputs<I, S>, Outputs<O, E>> {
     /// Streams of these parts, with an empty buffer over each output.
     pub fn new(stdin: Stdin<I>, source: S, out: O, err: E) -> Self
-        ensures inputs { result.inputs ≡ record { source = S.state source; stdin = stdin_of I.state stdin } }
+        ensures inputs { result.inputs
+            ≡ record { source = S.state source; stdin = stdin_of I.state stdin } }
         ensures outputs { result.outputs ≡ record {
           out = record { sink = O.state out; buffered = [] };
           err = record { sink = E.state err; buffered = [] };

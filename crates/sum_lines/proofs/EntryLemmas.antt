@@ -6,12 +6,10 @@ use Rattle.std.specs.List.{AllPass}
 use Rattle.digest_kinds.specs.Kinds.{KindValue}
 use Rattle.sum_lines.specs.grammar.Shapes.{Algos, is_blank, mark, IsPlain}
 use Rattle.sum_lines.specs.grammar.Entries.{Form, Undecided, EntryValue, is_ignored, IsForm, IsEntry, form_then, line_form, form}
-use Rattle.sum_lines.specs.Escape.{Profile, present}
-use Rattle.sum_lines.specs.grammar.LineParts.{LinePartsValue, plain_parts}
+use Rattle.sum_lines.specs.{Escape.Profile, Escape.own_profile, grammar.LineParts.LinePartsValue, grammar.LineParts.plain_parts}
 use Rattle.sum_lines.specs.grammar.LineLaws.{HasOneForm, KeepsParse, KeepsForm}
 use Rattle.digest_kinds.proofs.PrefixLemmas.{none_of}
-use Rattle.sum_lines.proofs.TaggedLemmas.{BeginsText}
-use Rattle.sum_lines.proofs.PlainLemmas.{plain-digits, plain_is_read, read_is_plain}
+use Rattle.sum_lines.proofs.{TaggedLemmas.BeginsText, PlainLemmas.plain-digits, PlainLemmas.plain_is_read, PlainLemmas.read_is_plain}
 use Rattle.digest_kinds.specs.declared.algo.Algos.{Algos}
 use Rattle.sum_lines.specs.grammar.ParsedLines.{entry_of, parse_line}
 
@@ -34,10 +32,10 @@ entry-not_ignored p e = elim e.shape [
 ]
 
 -- an ignored line is not plain, and has no form
-pub ignored_undecided : (algos : Algos) (line : List ℕ) → is_ignored present line ≡ true
+pub ignored_undecided : (algos : Algos) (line : List ℕ) → is_ignored own_profile line ≡ true
     → line_form algos line ≡ Undecided
 ignored_undecided algos line ignored = rw (← none_of (plain_parts algos line) (λ p h.
-    let wrong = sym ignored ∙ plain-not_ignored present (read_is_plain h) in cc)) refl
+    let wrong = sym ignored ∙ plain-not_ignored own_profile (read_is_plain h) in cc)) refl
 
 -- the computed form is one that the list has
 is-form : (algos : Algos) (lines : List (List ℕ)) → IsForm algos lines (form algos lines)

@@ -1,31 +1,25 @@
 -- The escape of a list of bytes, cut at its first special byte: a backslash, a newline or a carriage return. What is
 -- escaped can be read back: both the definition and the code find the name. After that, the raw name in a line.
 use Rattle.std.proofs.Common.{◌≡◌, ℕ, zero, suc, ◌+◌, ◌-◌, ◌<◌, ◌≤◌, true, not, List, [], ◌∷◌, ◌++◌, length, take, drop, get_or, Option, None, Some, MatchOption, refl, ap, sym, ◌∙◌, arith, is_some, length-append, length-drop, ◌↔◌, ◌==◌, Bool, false, cond, ◌≢◌, append_assoc, All, nat_lt, rules, slice_range}
-use Rattle.std.proofs.lemmas.Bool.{false_from_ne_true}
+use Rattle.std.proofs.lemmas.{Bool.false_from_ne_true, Grind.flat_map-append, Grind.common_steps, Slice.Eq.bytes_eq-Decides, Option.cond_some}
 use Rattle.std.proofs.lemmas.List.{length-take-le, append-nil, append_cancel_left, drop-drop, drop-take}
-use Rattle.std.proofs.lemmas.Grind.{flat_map-append, common_steps}
-use Rattle.std.proofs.lemmas.Slice.Eq.{bytes_eq-Decides}
 use Rattle.std.proofs.Math.Seq.{take-length, take-append-add}
-use Rattle.std.specs.List.{list_all}
-use Rattle.std.proofs.lemmas.Option.{cond_some}
-use Rattle.std.proofs.lemmas.List.Sums.{list_all-from_AllPass}
-use Rattle.std.specs.Option.{is_some}
-use Rattle.std.proofs.lemmas.List.Folds.{list_all_at}
+use Rattle.std.specs.{List.list_all, Option.is_some}
+use Rattle.std.proofs.lemmas.{List.Sums.list_all-from_AllPass, List.Folds.list_all_at}
 use Rattle.memchr.specs.Find.{Nowhere, Passes, IsFirstByte, is_byte3, is_byte}
-use Rattle.sum_lines.specs.Escape.{present, escape, escape_of, escape_differs, Profile, escape_by}
-use Rattle.sum_lines.specs.grammar.Entries.{EntryValue, Standard, begins_standard}
+use Rattle.sum_lines.specs.Escape.{own_profile, escape, escape_of, escape_differs, Profile, escape_by}
+use Rattle.sum_lines.specs.{grammar.Entries.EntryValue, grammar.Entries.Standard, grammar.Entries.begins_standard, grammar.LineParts.LinePartsValue}
 use Rattle.sum_lines.specs.grammar.ParsedLines.{unescaped_bytes, unescape, entry_of_parts, with_raw}
-use Rattle.sum_lines.specs.grammar.LineParts.{LinePartsValue}
 use Rattle.digest_kinds.proofs.PrefixLemmas.{bind_some}
 use Rattle.sum_lines.specs.declared.reading.line_parts.LineParts.{LineParts}
 use Rattle.sum_lines.specs.refinement.Beginnings.{line_parts}
 
 -- a byte that isn't special is its own escape
-escape_of-plain : (b : ℕ) → (is_byte3 92 10 13 b ≡ true → ⊥) → escape_of present b ≡ b ∷ []
+escape_of-plain : (b : ℕ) → (is_byte3 92 10 13 b ≡ true → ⊥) → escape_of own_profile b ≡ b ∷ []
 escape_of-plain b other = grind arith
 
 -- a special byte's escape has two bytes
-escape_of-special : (b : ℕ) → is_byte3 92 10 13 b ≡ true → length (escape_of present b) ≡ 2
+escape_of-special : (b : ℕ) → is_byte3 92 10 13 b ≡ true → length (escape_of own_profile b) ≡ 2
 escape_of-special b special = grind arith
 
 -- what precedes the first special byte is its own escape
@@ -39,23 +33,23 @@ escape-plain (x ∷ xs) (suc k) le none =
 
 -- then come the escape of that byte and the escape of what follows it
 pub escape-split : (xs : List ℕ) (k : ℕ) → k < length xs → Nowhere (Passes (is_byte3 92 10 13) xs) 0 k
-    → escape xs ≡ take k xs ++ (escape_of present (get_or xs k 0) ++ escape (drop (k + 1) xs))
+    → escape xs ≡ take k xs ++ (escape_of own_profile (get_or xs k 0) ++ escape (drop (k + 1) xs))
 escape-split xs k lt none =
     let cut : xs ≡ take k xs ++ (get_or xs k 0 ∷ drop (k + 1) xs) = grind (arith, common_steps) in
-    let split = ap escape cut ∙ flat_map-append (escape_of present) (take k xs) (get_or xs k 0 ∷ drop (k + 1) xs) in
+    let split = ap escape cut ∙ flat_map-append (escape_of own_profile) (take k xs) (get_or xs k 0 ∷ drop (k + 1) xs) in
     rw (escape-plain xs k (omega arith) none) at split
 
 -- what a search for the first special byte says
 pub escape_cut : (xs : List ℕ) (r : Option ℕ) → IsFirstByte (is_byte3 92 10 13) xs r
     → MatchOption r (escape xs ≡ xs)
-    (λ k. escape xs ≡ take k xs ++ (escape_of present (get_or xs k 0) ++ escape (drop (k + 1) xs)))
+    (λ k. escape xs ≡ take k xs ++ (escape_of own_profile (get_or xs k 0) ++ escape (drop (k + 1) xs)))
 escape_cut xs None none = rw (take-length xs) at (escape-plain xs (length xs) (omega arith) none)
 escape_cut xs (Some k) first = escape-split xs k first.0.high first.0.before
 
 -- the same, of the two parts of a slice that was split there
 pub escape-parts : {prefix back : List ℕ} (xs : List ℕ) (k : ℕ) → prefix ≡ take k xs → back ≡ drop k xs
-    → escape xs ≡ take k xs ++ (escape_of present (get_or xs k 0) ++ escape (drop (k + 1) xs))
-    → escape xs ≡ prefix ++ (escape_of present (get_or back 0 0) ++ escape (take (length back - 1) (drop 1 back)))
+    → escape xs ≡ take k xs ++ (escape_of own_profile (get_or xs k 0) ++ escape (drop (k + 1) xs))
+    → escape xs ≡ prefix ++ (escape_of own_profile (get_or back 0 0) ++ escape (take (length back - 1) (drop 1 back)))
 escape-parts xs k prefix_is back_is cut = grind (arith, common_steps)
 
 -- an escape is no shorter than its name
@@ -65,7 +59,7 @@ length-escape (x ∷ xs) = grind (arith, length-append, length-escape xs)
 
 -- a name without a special byte is its own escape, and any other name is shorter than its escape
 pub differs_by : (xs : List ℕ) (r : Option ℕ) → IsFirstByte (is_byte3 92 10 13) xs r
-    → is_some r ≡ escape_differs present xs
+    → is_some r ≡ escape_differs own_profile xs
 differs_by xs None none = ap not (sym ((bytes_eq-Decides (escape xs) xs).1 (escape_cut xs None none)))
 differs_by xs (Some k) first =
     let split = ap length (escape-split xs k first.0.high first.0.before) in
@@ -120,12 +114,17 @@ is-spelled p t s h =
 pub escape-rest : (a n rest : List ℕ) → escape a ++ rest ≡ escape n → (m : List ℕ) × (n ≡ a ++ m) × (rest ≡ escape m)
 escape-rest a n rest h =
     let m = unescaped_bytes rest in
-    let is : n ≡ a ++ m = rw (← unescaped_bytes-append present a rest, h) (sym (unescaped_bytes-escape present n)) in
-    (m, is, append_cancel_left (escape a) rest (escape m) (h ∙ ap escape is ∙ flat_map-append (escape_of present) a m))
+    let is : n ≡ a ++ m =
+    rw (← unescaped_bytes-append own_profile a rest, h) (sym (unescaped_bytes-escape own_profile n)) in (
+      m,
+      is,
+      append_cancel_left (escape a) rest (escape m)
+          (h ∙ ap escape is ∙ flat_map-append (escape_of own_profile) a m),
+    )
 
 -- no two names have the same escape
 pub escape-apart : (a b : List ℕ) → escape a ≡ escape b → a ≡ b
-escape-apart a b h = simp (unescaped_bytes-escape present) at (ap unescaped_bytes h)
+escape-apart a b h = simp (unescaped_bytes-escape own_profile) at (ap unescaped_bytes h)
 
 -- what the loop keeps: the escape of what it wrote, and then what it has still to read, are the bytes at its start
 pub record IsHalfUnescaped (start bytes : List ℕ) (read write : ℕ) : Type 0 where
@@ -136,7 +135,7 @@ pub record IsHalfUnescaped (start bytes : List ℕ) (read write : ℕ) : Type 0 
 
 -- a rest that no escape begins
 pub IsHalfUnescaped-refused : {start bytes : List ℕ} {read write : ℕ} → IsHalfUnescaped start bytes read write
-    → read < length bytes → ((b : ℕ) (rest : List ℕ) → drop read bytes ≢ escape_of present b ++ rest)
+    → read < length bytes → ((b : ℕ) (rest : List ℕ) → drop read bytes ≢ escape_of own_profile b ++ rest)
     → (n : List ℕ) → start ≢ escape n
 IsHalfUnescaped-refused {bytes = bytes} {read = read} {write = write} h some none n e =
     let rest = escape-rest (take write bytes) n (drop read bytes) (h.whole ∙ e) in
@@ -164,10 +163,10 @@ part_of xs i j le = let whole = drop-take i (j - i) xs in grind arith
 -- the bytes from a place on are left as the name whose escape they are, or are none
 pub unescaped : (from : ℕ) (old new : List ℕ) (r : Bool)
     → ((n : List ℕ) → (drop from old ≡ escape n) ↔ ((r ≡ true) × (new ≡ take from old ++ n)))
-    → take from new ≡ take from old → cond r (Some (drop from new)) None ≡ unescape present (drop from old)
+    → take from new ≡ take from old → cond r (Some (drop from new)) None ≡ unescape own_profile (drop from old)
 unescaped from old new true h before =
     let whole : new ≡ take from old ++ drop from new = grind (arith, common_steps) in
-    sym (ap (unescape present) ((h (drop from new)).1 (refl, whole)) ∙ unescape-escape present (drop from new))
+    sym (ap (unescape own_profile) ((h (drop from new)).1 (refl, whole)) ∙ unescape-escape own_profile (drop from new))
 unescaped from old new false h before = search rules
 
 -- a search for NUL shows whether all bytes are above zero

@@ -3,17 +3,14 @@ use Rattle.std.proofs.Common.{◌≡◌, ◌↔◌, ℕ, false, List, Option, No
 use Rattle.std.specs.Option.{option_or}
 use Rattle.std.proofs.lemmas.Option.{same_Some}
 use Rattle.digest_kinds.specs.Bytes.{◌>>=◌}
-use Rattle.sum_lines.specs.grammar.Shapes.{Algos, IsPlain, IsTagged}
+use Rattle.sum_lines.specs.{grammar.Shapes.Algos, grammar.Shapes.IsPlain, grammar.Shapes.IsTagged, Escape.Profile, Escape.own_profile, Escape.escape_by}
 use Rattle.sum_lines.specs.grammar.Entries.{Form, EntryValue, IsEntry, IsRawName, is_ignored}
-use Rattle.sum_lines.specs.Escape.{Profile, present, escape_by}
 use Rattle.sum_lines.specs.grammar.LineParts.{LinePartsValue, tagged_parts, plain_parts}
 use Rattle.sum_lines.specs.grammar.ParsedLines.{with_raw, entry_of_parts, entry_of, ParsedLine, bad, parse_line}
 use Rattle.sum_lines.specs.grammar.LineLaws.{HasOneEntry, FitsGrammar, ParsesByGrammar}
 use Rattle.digest_kinds.proofs.PrefixLemmas.{bind_some, none_of}
-use Rattle.sum_lines.proofs.PlainLemmas.{apart, plain_is_read, read_is_plain}
-use Rattle.sum_lines.proofs.TaggedLemmas.{tagged_is_read, read_is_tagged}
-use Rattle.sum_lines.proofs.EntryLemmas.{entry-not_ignored}
-use Rattle.sum_lines.proofs.EscapeLemmas.{spelled-is, is-spelled}
+use Rattle.sum_lines.proofs.{PlainLemmas.apart, PlainLemmas.plain_is_read, PlainLemmas.read_is_plain, TaggedLemmas.tagged_is_read, TaggedLemmas.read_is_tagged}
+use Rattle.sum_lines.proofs.{EntryLemmas.entry-not_ignored, EscapeLemmas.spelled-is, EscapeLemmas.is-spelled}
 
 -- ---- the raw name
 
@@ -67,7 +64,7 @@ module _ (p : Profile) (algos : Algos) (f : Form) (line : List ℕ) where
 -- a line has at most one entry
 pub one_entry : HasOneEntry
 one_entry algos f line s t p q =
-    same_Some s t (sym (entry_value present algos f line s p) ∙ entry_value present algos f line t q)
+    same_Some s t (sym (entry_value own_profile algos f line s p) ∙ entry_value own_profile algos f line t q)
 
 -- ---- what a line says
 

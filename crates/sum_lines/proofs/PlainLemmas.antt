@@ -2,19 +2,15 @@
 -- plain. No line is both plain and tagged.
 use Rattle.std.proofs.Common.{ℕ, ◌≡◌, ◌<◌, ◌≤◌, not, Bool, true, List, ◌∷◌, ◌++◌, length, get_or, None, Some, Ok, refl, ap, sym, ◌∙◌, arith, length-drop, take_while, rules}
 use Rattle.std.specs.List.{AllPass, before_first, after_first, position_or_len}
-use Rattle.std.proofs.lemmas.List.{take_at}
-use Rattle.std.proofs.lemmas.List.Elements.{All-head, All-tail, All-weaker}
+use Rattle.std.proofs.lemmas.{List.take_at, List.Elements.All-head, List.Elements.All-tail, List.Elements.All-weaker}
 use Rattle.std.proofs.lemmas.List.Sums.{split_at_first, passes_at_first}
 use Rattle.hex.specs.Hex.{decode_of, is_hex_digit}
 use Rattle.hex.proofs.HexLemmas.{decode_of-ok}
-use Rattle.digest_kinds.specs.Kinds.{KindValue, tag}
-use Rattle.digest_kinds.proofs.KindLemmas.{no_digits}
+use Rattle.digest_kinds.specs.{Kinds.KindValue, Kinds.tag, Bytes.after_while}
+use Rattle.digest_kinds.proofs.{KindLemmas.no_digits, PrefixLemmas.prefix_passes, PrefixLemmas.prefix-and-rest, PrefixLemmas.prefix_len-stop}
 use Rattle.sum_lines.specs.grammar.Shapes.{Algo, Algos, One, Any, is_blank, IsPlain, IsTagged}
-use Rattle.sum_lines.specs.grammar.LineParts.{LinePartsValue, plain_parts}
-use Rattle.digest_kinds.specs.Bytes.{after_while}
-use Rattle.sum_lines.specs.refinement.Beginnings.{BeginsWithDigits}
+use Rattle.sum_lines.specs.{grammar.LineParts.LinePartsValue, grammar.LineParts.plain_parts, refinement.Beginnings.BeginsWithDigits}
 use Rattle.sum_lines.proofs.PrefixLemmas.{text, rest-seam, mark_and_rest-is}
-use Rattle.digest_kinds.proofs.PrefixLemmas.{prefix_passes, prefix-and-rest, prefix_len-stop}
 use Rattle.sum_lines.proofs.TaggedLemmas.{BeginsText, hex-no_blank, tagged-prefix, mark_and_rest-prefix}
 
 -- ---- what is read joins to the line

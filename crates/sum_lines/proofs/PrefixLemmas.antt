@@ -1,22 +1,14 @@
 -- What follows a text or a byte in a line.
 use Rattle.std.proofs.Common.{ℕ, zero, suc, ◌≡◌, ◌≢◌, ◌+◌, ◌<◌, ◌≤◌, Bool, true, false, cond, ◌==◌, List, [], ◌∷◌, ◌++◌, length, take, drop, get_or, Option, None, Some, refl, add-one, arith, length-append, All, option_map}
-use Rattle.std.specs.List.{starts_with}
-use Rattle.std.specs.Option.{option_or}
-use Rattle.std.specs.Path.{rsplit_once, rfind_below}
+use Rattle.std.specs.{List.starts_with, Option.option_or, Path.rsplit_once, Path.rfind_below}
 use Rattle.std.proofs.Math.Seq.{get_or-append_seam}
-use Rattle.std.proofs.lemmas.Bool.{eqb-true, eq-eqb}
-use Rattle.std.proofs.lemmas.Bool.Decides.{Decides-eqb}
-use Rattle.std.proofs.lemmas.List.{take_at, get_or-append_right}
-use Rattle.std.proofs.lemmas.List.Elements.{All-get_or}
+use Rattle.std.proofs.lemmas.{Bool.eqb-true, Bool.eq-eqb, Bool.Decides.Decides-eqb, List.take_at, List.get_or-append_right, List.Elements.All-get_or}
 use Rattle.memchr.specs.Find.{Passes, IsLast, IsLastByte, is_byte}
-use Rattle.memchr.proofs.lemmas.FindLemmas.{Nowhere-more}
-use Rattle.memchr.proofs.lemmas.ValueLemmas.{IsLastByte-value}
+use Rattle.memchr.proofs.lemmas.{FindLemmas.Nowhere-more, ValueLemmas.IsLastByte-value}
 use Rattle.digest_kinds.proofs.PrefixLemmas.{map_some}
-use Rattle.std.proofs.lemmas.Slice.Eq.{starts_is}
+use Rattle.std.proofs.lemmas.{Slice.Eq.starts_is, Grind.common_steps}
 use Rattle.digest_kinds.specs.Bytes.{after_while}
-use Rattle.sum_lines.specs.grammar.LineParts.{strip_prefix, mark_and_rest}
-use Rattle.sum_lines.specs.grammar.Shapes.{is_blank, mark}
-use Rattle.std.proofs.lemmas.Grind.{common_steps}
+use Rattle.sum_lines.specs.{grammar.LineParts.strip_prefix, grammar.LineParts.mark_and_rest, grammar.Shapes.is_blank, grammar.Shapes.mark}
 
 -- ---- a byte or a text at the start
 

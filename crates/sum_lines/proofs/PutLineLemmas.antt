@@ -1,38 +1,27 @@
 -- A line that is written is read back. It has a shape, which spells the name and the digest that it was written for. It
 -- has no newline and no carriage return before its end.
-use Rattle.std.proofs.lemmas.Grind.{common_steps}
+use Rattle.std.proofs.lemmas.{Grind.common_steps, List.append-nil, List.Elements.All-cons, List.Elements.All-nil, List.Folds.list_all-append}
 use Rattle.std.proofs.Common.{ℕ, ◌≡◌, ◌*◌, not, cond, Bool, true, false, ◌==◌, ◌||◌, List, [], ◌∷◌, ◌++◌, refl, ◌⊎◌, inl, inr, append_assoc, arith, decimal}
-use Rattle.std.specs.Char.{is_ascii_digit}
-use Rattle.std.specs.List.{AllPass, list_all}
-use Rattle.std.proofs.lemmas.List.{append-nil}
-use Rattle.std.proofs.lemmas.List.Elements.{All-cons, All-nil}
-use Rattle.std.proofs.lemmas.List.Folds.{list_all-append}
-use Rattle.std.proofs.lemmas.List.Sums.{list_all-from_AllPass}
-use Rattle.std.proofs.lemmas.Slice.Eq.{bytes_eq-Decides}
+use Rattle.std.specs.{Char.is_ascii_digit, List.AllPass, List.list_all}
+use Rattle.std.proofs.lemmas.{List.Sums.list_all-from_AllPass, Slice.Eq.bytes_eq-Decides}
 use Rattle.hex.specs.Hex.{encode_lower, is_hex_digit}
 use Rattle.hex.proofs.HexLemmas.{decode_of-encode_lower}
-use Rattle.digest_kinds.specs.Kinds.{KindValue, tag}
-use Rattle.digest_kinds.specs.KindTexts.{IsWidth}
+use Rattle.digest_kinds.specs.{Kinds.KindValue, Kinds.tag, KindTexts.IsWidth}
 use Rattle.digest_kinds.specs.declared.algo.Algo.TheVariants.{Blake2b}
-use Rattle.digest_kinds.proofs.BitsLemmas.{decimal-digits}
-use Rattle.digest_kinds.proofs.KindLemmas.{has_len-range}
-use Rattle.digest_kinds.proofs.PrefixLemmas.{none_of}
+use Rattle.digest_kinds.proofs.{BitsLemmas.decimal-digits, KindLemmas.has_len-range, PrefixLemmas.none_of}
 use Rattle.sum_lines.specs.declared.writing.put_line.Mode.{Mode}
-use Rattle.sum_lines.specs.Escape.{present, escape, escape_differs}
+use Rattle.sum_lines.specs.{Escape.own_profile, Escape.escape, Escape.escape_differs, grammar.LineParts.plain_parts}
 use Rattle.sum_lines.specs.grammar.Shapes.{Algos, One, is_blank, mark, Allows, IsPlain, IsTagged}
 use Rattle.sum_lines.specs.grammar.Entries.{Form, Undecided, Standard, begins_standard, IsEntry, line_form, form}
-use Rattle.sum_lines.specs.grammar.LineParts.{plain_parts}
 use Rattle.sum_lines.specs.grammar.LineLaws.{IsWritable, SpellsBack, IsReadBack}
-use Rattle.sum_lines.proofs.EntryLemmas.{form_at}
-use Rattle.sum_lines.proofs.EscapeLemmas.{length-escape}
-use Rattle.sum_lines.proofs.ParsedLineLemmas.{one_entry}
+use Rattle.sum_lines.proofs.{EntryLemmas.form_at, EscapeLemmas.length-escape, ParsedLineLemmas.one_entry}
 use Rattle.sum_lines.proofs.PlainLemmas.{apart, digits-of, plain_is_read, read_is_plain}
 use Rattle.sum_lines.specs.Lines as lines
 
 -- a line that ends with a newline, without it
 abbrev pub prefix_of : Mode → KindValue → List ℕ → List ℕ → List ℕ
 prefix_of mode kind name digest =
-    mark (escape_differs present name) ++ lines.layout mode kind (escape name) (encode_lower digest)
+    mark (escape_differs own_profile name) ++ lines.layout mode kind (escape name) (encode_lower digest)
 
 -- ---- bytes within a line
 
@@ -87,7 +76,7 @@ module _ {kind : KindValue} {name digest : List ℕ} (before later : List (List 
     }
 
     -- what is written spells the name: its escape or, if that doesn't differ, the name
-    name-spelled : escape name ≡ cond (escape_differs present name) (escape name) name
+    name-spelled : escape name ≡ cond (escape_differs own_profile name) (escape name) name
     name-spelled = grind (arith, bytes_eq-Decides)
 
     -- neither line's digits have an end of a line
@@ -100,14 +89,15 @@ module _ {kind : KindValue} {name digest : List ℕ} (before later : List (List 
     -- a plain line is read back: x is the byte before the name
     plain-back : (x : ℕ) → (x == 32 || x == 42) ≡ true → IsReadable (form (One kind.algo) before)
         → SpellsBack (One kind.algo) before later
-        ((mark (escape_differs present name) ++ (encode_lower digest ++ (32 ∷ x ∷ escape name))) ++ (10 ∷ []))
+        ((mark (escape_differs own_profile name) ++ (encode_lower digest ++ (32 ∷ x ∷ escape name))) ++ (10 ∷ []))
         kind name digest
     plain-back x star readable =
-        let line = mark (escape_differs present name) ++ (encode_lower digest ++ (32 ∷ x ∷ escape name)) in
+        let line = mark (escape_differs own_profile name) ++ (encode_lower digest ++ (32 ∷ x ∷ escape name)) in
         let byte : inline x ≡ true = grind arith in
         let one : list_all inline line ≡ true = simp list_all-append (rw (byte, inline-digits, inline-escape name)
         (grind arith)) in
-        let shape : IsPlain (One kind.algo) line (escape_differs present name) kind digest (x ∷ escape name) = record {
+        let shape : IsPlain (One kind.algo) line (escape_differs own_profile name) kind digest
+        (x ∷ escape name) = record {
           blanks = [];
           digits = encode_lower digest;
           blank = 32;
@@ -124,7 +114,7 @@ module _ {kind : KindValue} {name digest : List ℕ} (before later : List (List 
         let own : line_form (One kind.algo) line ≡ Standard = rw (plain_is_read _ shape, standard) refl in
         let after = λ (others : List (List ℕ)). form-after (One kind.algo) before others line own readable in
         back (One kind.algo) line one (rw (after later) (record {
-          escaped = escape_differs present name;
+          escaped = escape_differs own_profile name;
           raw = escape name;
           shape = inr (x ∷ escape name, shape, (standard, x, refl));
           no_nul = w.no_nul;
@@ -134,15 +124,15 @@ module _ {kind : KindValue} {name digest : List ℕ} (before later : List (List 
     -- so is a tagged one
     tagged-back : (algos : Algos) (width : List ℕ) → Allows algos kind.algo → IsWidth kind width
         → IsReadable (form algos before)
-        → SpellsBack algos before later ((mark (escape_differs present name)
+        → SpellsBack algos before later ((mark (escape_differs own_profile name)
         ++ (tag kind.algo ++ (width ++ (32 ∷ 40 ∷ (escape name ++ (41 ∷ 32 ∷ 61 ∷ 32 ∷ encode_lower digest))))))
         ++ (10 ∷ [])) kind name digest
     tagged-back algos width allowed is_width readable =
-        let line = mark (escape_differs present name)
+        let line = mark (escape_differs own_profile name)
         ++ (tag kind.algo ++ (width ++ (32 ∷ 40 ∷ (escape name ++ (41 ∷ 32 ∷ 61 ∷ 32 ∷ encode_lower digest))))) in
         let none = All-nil (λ b. is_blank b ≡ true) in
         let space : AllPass is_blank (32 ∷ []) = All-cons (λ b. is_blank b ≡ true) 32 [] refl none in
-        let shape : IsTagged algos line (escape_differs present name) kind digest (escape name) = record {
+        let shape : IsTagged algos line (escape_differs own_profile name) kind digest (escape name) = record {
           blanks = [];
           width = width;
           gap = true;
@@ -162,7 +152,7 @@ module _ {kind : KindValue} {name digest : List ℕ} (before later : List (List 
         let own : line_form algos line ≡ Undecided =
         rw (← none_of (plain_parts algos line) (λ p h. apart (read_is_plain h) shape)) refl in
         back algos line (grind (arith, list_all-append, inline-width, inline-escape, inline-digits)) (record {
-          escaped = escape_differs present name;
+          escaped = escape_differs own_profile name;
           raw = escape name;
           shape = inl shape;
           no_nul = w.no_nul;

@@ -1,28 +1,21 @@
 -- What the functions that scan a line return, step by step; what a line begins with, and the parts that it is then read
 -- as. The code looks for the first blank of a plain line's text among as many bytes as the longest digest has digits.
 use Rattle.std.proofs.Common.{ℕ, ◌≡◌, ◌≢◌, ◌+◌, ◌-◌, ◌*◌, ◌<◌, ◌≤◌, List, [], ◌∷◌, ◌++◌, length, take, drop, slice_range, Option, None, Some, MatchOption, Ok, Bor, sym, arith, append_assoc, option_copied, Bool, get_or, min, ◌/◌, true, cond, IfNone, IfSome, refl, ap, ◌∙◌, length-drop, rules}
-use Rattle.std.specs.Option.{option_or}
-use Rattle.std.specs.Path.{rsplit_once}
-use Rattle.std.proofs.lemmas.Grind.{common_steps}
-use Rattle.std.specs.List.{position_or_len}
-use Rattle.std.proofs.lemmas.List.{drop_at, get_or-take, length-take}
-use Rattle.std.proofs.lemmas.List.Sums.{passes_at_first, position_or_len_is}
+use Rattle.std.specs.{Option.option_or, Path.rsplit_once, List.position_or_len}
+use Rattle.std.proofs.lemmas.{Grind.common_steps, List.drop_at, List.get_or-take, List.length-take, List.Sums.passes_at_first, List.Sums.position_or_len_is}
 use Rattle.std.proofs.lemmas.List.Elements.{All-get_or}
 use Rattle.memchr.specs.Find.{IsFirstByte, is_byte2}
 use Rattle.hex.specs.Hex.{decode_of, is_hex_digit}
 use Rattle.hex.proofs.HexLemmas.{decode_of-ok}
-use Rattle.digest_kinds.specs.Bytes.{after_while}
+use Rattle.digest_kinds.specs.{Bytes.after_while, KindTexts.kind_and_rest}
 use Rattle.digest_kinds.specs.Kinds.{KindValue, tag, IsDigits, full_len, has_len}
 use Rattle.sum_lines.specs.grammar.Shapes.{Algo, One, is_blank, Algos}
 use Rattle.sum_lines.specs.grammar.LineParts.{strip_prefix, tag_in, tagged_parts, plain_parts}
-use Rattle.digest_kinds.specs.KindTexts.{kind_and_rest}
 use Rattle.sum_lines.specs.refinement.Beginnings.{IsFront, BeginsWithDigits, EndsAt, EndsDigits, IsReadAs}
 use Rattle.sum_lines.specs.declared.reading.line_parts.Front.{Front}
 use Rattle.sum_lines.proofs.PrefixLemmas.{text, opening, strip_prefix-some, starts-append, opened-some, rsplit-some, starts-append}
-use Rattle.digest_kinds.proofs.PrefixLemmas.{none_of}
-use Rattle.digest_kinds.proofs.KindTextLemmas.{kind_and_rest-some}
+use Rattle.digest_kinds.proofs.{PrefixLemmas.none_of, KindTextLemmas.kind_and_rest-some, KindLemmas.has_len-full}
 use Rattle.sum_lines.proofs.PlainLemmas.{uncut, cut-within, no_prefix, plain-digits, plain-prefix, read_is_plain}
-use Rattle.digest_kinds.proofs.KindLemmas.{has_len-full}
 use Rattle.digest_kinds.specs.declared.algo.Algo.TheVariants.{Blake2b}
 use Rattle.sum_lines.proofs.TaggedLemmas.{hex-no_blank, tag_in-some}
 use Rattle.sum_lines.specs.declared.reading.beginnings.Beginning.TheVariants as beginnings

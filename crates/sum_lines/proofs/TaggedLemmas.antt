@@ -1,28 +1,17 @@
 -- The parts that are read of a tagged line, put together, are the line. A line that is put together from the parts of a
 -- tagged line is read as these parts.
-use Rattle.std.proofs.lemmas.Grind.{common_steps}
+use Rattle.std.proofs.lemmas.{Grind.common_steps, Bool.Decides.Decides-eqb, List.Prefix.front_rest, Slice.Eq.starts_is, Option.cond_some, List.drop_at}
 use Rattle.std.proofs.Common.{ℕ, ◌≡◌, Bool, true, ◌==◌, ◌&&◌, List, [], ◌∷◌, ◌++◌, length, drop, Some, refl, ◌≢◌, false, eq-eqb, arith, nat_lt, take_while, All, rules}
-use Rattle.std.specs.List.{starts_with, AllPass}
-use Rattle.std.specs.Option.{option_or}
-use Rattle.std.specs.Path.{rsplit_once}
-use Rattle.std.specs.Result.{result_ok}
+use Rattle.std.specs.{List.starts_with, List.AllPass, Option.option_or, Path.rsplit_once, Result.result_ok}
 use Rattle.std.proofs.lemmas.Bool.{eqb-true, ltb-true, and_parts, lt-ltb}
-use Rattle.std.proofs.lemmas.Bool.Decides.{Decides-eqb}
-use Rattle.std.proofs.lemmas.List.Prefix.{front_rest}
-use Rattle.std.proofs.lemmas.Slice.Eq.{starts_is}
-use Rattle.std.proofs.lemmas.Option.{cond_some}
 use Rattle.hex.specs.Hex.{decode_of, is_hex_digit}
-use Rattle.digest_kinds.specs.Kinds.{KindValue, all_algos, tag}
-use Rattle.digest_kinds.proofs.KindTextLemmas.{kind_and_rest-some}
-use Rattle.digest_kinds.proofs.TagLemmas.{IfSome-find-begins, find-begins}
+use Rattle.digest_kinds.specs.{Kinds.KindValue, Kinds.all_algos, Kinds.tag, KindTexts.IsWidth, KindTexts.kind_and_rest, Bytes.after_while}
+use Rattle.digest_kinds.proofs.{KindTextLemmas.kind_and_rest-some, TagLemmas.IfSome-find-begins, TagLemmas.find-begins}
 use Rattle.sum_lines.specs.grammar.Shapes.{Algo, Algos, One, Any, is_blank, Allows, IsTagged, mark}
-use Rattle.digest_kinds.specs.KindTexts.{IsWidth, kind_and_rest}
 use Rattle.sum_lines.specs.grammar.LineParts.{LinePartsValue, strip_prefix, mark_and_rest, tag_in, tagged_parts}
-use Rattle.digest_kinds.specs.Bytes.{after_while}
 use Rattle.sum_lines.proofs.PrefixLemmas.{text, opening, mark_and_rest-is, strip_prefix-some, opened-some, rsplit-some, opened-at, rsplit-at, starts-append}
 use Rattle.digest_kinds.proofs.PrefixLemmas.{bind_some, ok_some, prefix_passes, prefix-and-rest, parts-at, prefix_len-all}
 use Rattle.digest_kinds.proofs.BitsLemmas.{kind_of_digits-bits, decimal-digits}
-use Rattle.std.proofs.lemmas.List.{drop_at}
 use Rattle.std.proofs.lemmas.List.Elements.{All-cons, All-head, All-append, All-weaker}
 use Rattle.hex.proofs.HexLemmas.{decode_of-ok}
 

@@ -9,8 +9,8 @@ pub record Profile : Type 0 where
   pub ignores_empty : Bool
 
 -- the profile of the tools here
-abbrev pub present : Profile
-present = record { escapes_carriage_return = true; drops_carriage_return = true; ignores_empty = true }
+abbrev pub own_profile : Profile
+own_profile = record { escapes_carriage_return = true; drops_carriage_return = true; ignores_empty = true }
 
 -- a backslash (92) becomes `\\`, a newline (10) `\n`, a carriage return (13) `\r` if the profile says so; others stay
 abbrev pub escape_of : Profile → ℕ → ByteString
@@ -23,7 +23,7 @@ escape_by p name = flat_map (escape_of p) name
 
 -- the escape of a name by the tools here
 abbrev pub escape : ByteString → ByteString
-escape name = escape_by present name
+escape name = escape_by own_profile name
 
 -- whether the escape of a name differs from the name
 abbrev pub escape_differs : Profile → ByteString → Bool

@@ -6,8 +6,7 @@ use Rattle.digest_kinds.specs.KindTexts.{kind_text}
 pub use Rattle.sum_lines.specs.declared.writing.put_line.Style.{Style}
 pub use Rattle.sum_lines.specs.declared.writing.put_line.Mode.{Mode}
 use Rattle.sum_lines.specs.declared.writing.put_line.Mode.TheVariants.{Text, Binary, Tag}
-use Rattle.sum_lines.specs.Escape.{present, escape, escape_differs}
-use Rattle.sum_lines.specs.grammar.Shapes.{ByteString, mark, KindValue}
+use Rattle.sum_lines.specs.{Escape.own_profile, Escape.escape, Escape.escape_differs, grammar.Shapes.ByteString, grammar.Shapes.mark, grammar.Shapes.KindValue}
 
 -- a line without its end and without the backslash that may begin it
 abbrev pub layout : Mode → KindValue → ByteString → ByteString → ByteString
@@ -19,4 +18,4 @@ layout Tag kind name digits = concat (kind_text kind ∷ codes " (" ∷ name ∷
 abbrev pub line : Style → KindValue → ByteString → ByteString → ByteString
 line style kind name digest = let digits = encode_lower digest in
     if style.zero then layout style.mode kind name digits ++ codes "\0"
-    else mark (escape_differs present name) ++ layout style.mode kind (escape name) digits ++ codes "\n"
+    else mark (escape_differs own_profile name) ++ layout style.mode kind (escape name) digits ++ codes "\n"

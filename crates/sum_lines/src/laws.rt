@@ -2,9 +2,7 @@
 //! holds whatever the code does.
 ghost use Rattle.std.specs.Prelude.{◌≡◌, ◌<◌, ◌≤◌, ◌∷◌, [], length};
 ghost use Rattle.sum_lines.specs.Sinks.{ByteString, pieces};
-ghost use Rattle.sum_lines.specs.grammar.LineLaws.{AreApart, HasOneEntry, HasOneForm, ParsesByGrammar};
-ghost use Rattle.sum_lines.specs.grammar.LineLaws.{IsReadBack, KeepsForm};
-ghost use Rattle.sum_lines.specs.grammar.LineLaws.{KeepsParse};
+ghost use Rattle.sum_lines.specs.grammar.LineLaws.{AreApart, HasOneEntry, HasOneForm, ParsesByGrammar, IsReadBack, KeepsForm, KeepsParse};
 
 /// For given algorithms and a given form a line spells at most one entry. No line is both plain and tagged, even if the
 /// two have other algorithms.

@@ -3,8 +3,7 @@ use Rattle.std.proofs.Common.{◌≡◌, ℕ, zero, suc, ◌+◌, ◌-◌, ◌^�
 use Rattle.std.proofs.Math.Seq.{take-append_seam}
 use Rattle.std.proofs.lemmas.List.{length-take-le, take-append-le}
 use Rattle.sum_sources.specs.Contents.{Content, Reads, InputState, IsOf, clip, limit, Ending, Whole, Other, Fault, Broken, and_read}
-use Rattle.sum_sources.specs.refinement.LimitedReads.{FindsEnding, AddsLimited}
-use Rattle.sum_sources.specs.Phases.{Unfinished, Ended}
+use Rattle.sum_sources.specs.{refinement.LimitedReads.FindsEnding, refinement.LimitedReads.AddsLimited, Phases.Unfinished, Phases.Ended}
 use Rattle.sum_sources.proofs.ContentLemmas.{limit-value, clip-short}
 
 -- more bytes are of no content that the bytes before weren't of
@@ -41,7 +40,8 @@ module _ (a b : InputState) (t : ℕ) (going : a.reads.phase ≡ Unfinished) (fe
           let sum = length-append (a.reads.bytes ++ more) rest in
           let sum2 = length-append a.reads.bytes more in
           let all : limit - 1 ≡ length a.reads.bytes = rw limit-value (omega (arith, size, last)) in
-          let front : take (limit - 1) c.bytes ≡ a.reads.bytes = rw (begins, append_assoc, all, take-append_seam) refl in
+          let front : take (limit - 1) c.bytes ≡ a.reads.bytes =
+          rw (begins, append_assoc, all, take-append_seam) refl in
           grind (arith, limit-value, size, last, sum, sum2, front, begins)
 
   -- a read failed
@@ -52,7 +52,8 @@ module _ (a b : InputState) (t : ℕ) (going : a.reads.phase ≡ Unfinished) (fe
 
   -- its byte reached the limit
   pub read_reaches : (n : ℕ) (given : List ℕ) → 0 < length given → n ≤ length given → t + n ≡ 2 ^ 61
-      → length given ≤ max (2 ^ 61 - 1 - t) 1 → b ≡ and_read a given (Ok n) → FindsEnding t a.reads b.reads (Broken Other)
+      → length given ≤ max (2 ^ 61 - 1 - t) 1 → b ≡ and_read a given (Ok n)
+      → FindsEnding t a.reads b.reads (Broken Other)
   read_reaches n [] some fits last bound is = absurd (omega arith)
   read_reaches zero (x ∷ xs) some fits last bound is = absurd (omega (arith, few))
   read_reaches (suc n) (x ∷ xs) some fits last bound is =

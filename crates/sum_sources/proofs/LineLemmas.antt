@@ -1,10 +1,7 @@
 -- Pieces and lines at the steps of the line reader.
-use Rattle.std.proofs.lemmas.Grind.{common_steps}
+use Rattle.std.proofs.lemmas.{Grind.common_steps, List.append-nil, List.Splits.slice_split_at, List.Splits.slice_split_none, List.Splits.length-slice_split}
 use Rattle.std.proofs.Common.{◌≡◌, ℕ, ◌<◌, false, List, [], ◌∷◌, ◌++◌, length, map, Ok, Err, refl, ap, append_assoc, arith, ◌==◌, rules}
-use Rattle.std.specs.List.{after_first}
-use Rattle.std.specs.Str.Lines.{strip_carriage_return}
-use Rattle.std.proofs.lemmas.List.{append-nil}
-use Rattle.std.proofs.lemmas.List.Splits.{slice_split_at, slice_split_none, length-slice_split}
+use Rattle.std.specs.{List.after_first, Str.Lines.strip_carriage_return}
 use Rattle.std.proofs.lemmas.List.Elements.{All-head, All-tail}
 use Rattle.sum_sources.specs.Faults.{Fault}
 use Rattle.sum_sources.specs.Contents.{Ending, Broken, Content, empty_content}

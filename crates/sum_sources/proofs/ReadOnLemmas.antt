@@ -2,19 +2,15 @@
 use Rattle.std.proofs.Common.{◌≡◌, ℕ, zero, suc, ◌+◌, ◌-◌, ◌^◌, ◌<◌, ◌≤◌, true, false, List, [], ◌∷◌, ◌++◌, length, take, drop, None, Some, Result, Ok, Err, refl, ap, sym, ◌∙◌, append_assoc, ◌==◌, arith, length-append}
 use Rattle.std.specs.Prelude.{nat_lt, if◌then◌else◌}
 use Rattle.std.proofs.Math.Seq.{take-append-add, drop-append_seam}
-use Rattle.std.proofs.lemmas.List.{drop_all}
-use Rattle.std.proofs.lemmas.List.Elements.{All-append}
+use Rattle.std.proofs.lemmas.{List.drop_all, List.Elements.All-append}
 use Rattle.std.specs.Str.Lines.{strip_carriage_return}
 use Rattle.sum_sources.specs.ManifestLines.{Next, Line, NoMore, LineStop, HasNoNewline, IsNextLine}
 use Rattle.sum_sources.specs.Contents.{Ending, Whole, Broken, Content, InputState, IsOf, Other, clip, limit}
 use Rattle.sum_sources.specs.LineReaders.{LineReaderValue, consumed_count, past, remaining, IsUnderWay, IsReading, ReadsOn}
-use Rattle.sum_sources.specs.Phases.{Ended, Past}
-use Rattle.sum_sources.specs.refinement.LimitedReads.{FindsEnding, AddsLimited}
+use Rattle.sum_sources.specs.{Phases.Ended, Phases.Past, refinement.LimitedReads.FindsEnding, refinement.LimitedReads.AddsLimited}
 use Rattle.sum_sources.specs.refinement.LineStates.{FillsReader, TakesPiece}
 use Rattle.sum_sources.specs.declared.line_reader.LineStop.TheVariants as stops
-use Rattle.sum_sources.proofs.ContentLemmas.{with_prefix, limit-value}
-use Rattle.sum_sources.proofs.LimitLemmas.{before_more}
-use Rattle.sum_sources.proofs.LineLemmas.{lines-nil, IsNextLine-ended}
+use Rattle.sum_sources.proofs.{ContentLemmas.with_prefix, ContentLemmas.limit-value, LimitLemmas.before_more, LineLemmas.lines-nil, LineLemmas.IsNextLine-ended}
 
 -- nothing, and then this ending
 abbrev just : Ending → Content

@@ -2,14 +2,11 @@
 use Rattle.std.proofs.Common.{◌≡◌, ℕ, zero, suc, ◌+◌, List, [], ◌∷◌, ◌++◌, length, map, slice_set, Some, None, Ok, Err, refl, ap, sym, ◌∙◌, arith}
 use Rattle.std.specs.Result.{result_ok}
 use Rattle.std.proofs.Math.Seq.{map-set_same}
-use Rattle.std.proofs.lemmas.List.{take_min, length-take, length-map}
-use Rattle.std.proofs.lemmas.Option.{get_or_from_slice_get}
-use Rattle.sum_sources.specs.Contents.{Content}
+use Rattle.std.proofs.lemmas.{List.take_min, List.length-take, List.length-map, Option.get_or_from_slice_get}
+use Rattle.sum_sources.specs.{Contents.Content, StandardInput.told_reads, StandardInput.ToldContent, StandardInput.told_file, refinement.ToldPairs.pair_of}
 use Rattle.sum_sources.specs.Phases.{Phase, Unfinished, Ended, Past}
-use Rattle.sum_sources.specs.StandardInput.{told_reads, ToldContent, told_file}
 use Rattle.sum_sources.specs.Sources.{Answer, Opening, first_answer, SourceState, IsOpen}
 use Rattle.sum_sources.specs.declared.sources.told_source.ToldSource.TheInside.{Inside}
-use Rattle.sum_sources.specs.refinement.ToldPairs.{pair_of}
 use Rattle.sum_sources.specs.InMemory.{Answers, ToldFiles, told_gave, told_openings, told_source}
 
 -- an opening that gave what the answer gives

@@ -1,8 +1,7 @@
 -- Contents of inputs: what reads gave, of which content they are, the limit of 2^61 bytes, and digests.
 use Rattle.std.specs.Prelude.{ℕ, ◌≡◌, ◌-◌, ◌^◌, [], ◌++◌, take, length, Option, Result, ⊤, nat_lt, if◌then◌else◌, IfSome, IfOk, MatchResult}
 use Rattle.std.specs.Result.{result_unwrap_or}
-use Rattle.digest_kinds.specs.Bytes.{ByteString}
-use Rattle.digest_kinds.specs.Kinds.{digest, KindValue}
+use Rattle.digest_kinds.specs.{Bytes.ByteString, Kinds.digest, Kinds.KindValue}
 use Rattle.sum_sources.specs.Phases.{Phase, Unfinished, Ended, Past, phase_after}
 pub use Rattle.sum_sources.specs.Faults.{Fault, Other}
 pub use Rattle.sum_sources.specs.declared.fault.Ending.{Ending}

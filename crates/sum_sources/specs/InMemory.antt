@@ -1,9 +1,7 @@
 -- Sources in memory.
 use Rattle.std.specs.Prelude.{ℕ, suc, List, [], ◌∷◌, length, Option, None, Some, Result, Ok, Err}
-use Rattle.sum_sources.specs.Contents.{Reads, Fault}
-use Rattle.sum_sources.specs.Faults.{ByteString}
+use Rattle.sum_sources.specs.{Contents.Reads, Contents.Fault, Faults.ByteString, StandardInput.told_reads}
 use Rattle.sum_sources.specs.Sources.{Answer, Opening, Pair, first_answer, SourceState}
-use Rattle.sum_sources.specs.StandardInput.{told_reads}
 
 -- answers, each to the number of openings before, and to the name
 abbrev pub Answers : Type 0

@@ -1,9 +1,8 @@
 -- The state of a reader of lines, and what a call changes in it.
 use Rattle.std.specs.Prelude.{ℕ, ◌≡◌, ◌+◌, ◌-◌, ◌^◌, ◌≤◌, ◌⊎◌, ◌++◌, length, drop, Option, None, Some, Result, Ok}
 use Rattle.sum_sources.specs.Contents.{Content, Whole, InputState, IsOf, IsSameInput, clip}
-use Rattle.sum_sources.specs.Faults.{ByteString}
+use Rattle.sum_sources.specs.{Faults.ByteString, Phases.Unfinished, Phases.Ended, Phases.Past}
 use Rattle.sum_sources.specs.ManifestLines.{Next, Line, NoMore, LineStop, HasNoNewline, IsNextLine, lines_after}
-use Rattle.sum_sources.specs.Phases.{Unfinished, Ended, Past}
 
 -- a reader of lines
 pub record LineReaderValue (I : Type 0) : Type 0 where

@@ -1,7 +1,6 @@
 -- What the logs keep that only proofs see.
 use Rattle.std.specs.Prelude.{[], None}
-use Rattle.sum_sources.specs.Contents.{InputState, unread}
-use Rattle.sum_sources.specs.Sources.{SourceState}
+use Rattle.sum_sources.specs.{Contents.InputState, Contents.unread, Sources.SourceState}
 
 -- no read of an input that no source opened, and that isn't in memory
 abbrev pub no_reads : InputState

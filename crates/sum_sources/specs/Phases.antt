@@ -1,7 +1,6 @@
 -- How far an input was read.
 use Rattle.std.specs.Prelude.{ℕ, zero, suc, Result, Ok, Err}
-use Rattle.sum_sources.specs.declared.fault.Fault.{Fault}
-use Rattle.sum_sources.specs.declared.fault.Ending.TheVariants.{Whole, Broken}
+use Rattle.sum_sources.specs.declared.{fault.Fault.Fault, fault.Ending.TheVariants.Whole, fault.Ending.TheVariants.Broken}
 pub use Rattle.sum_sources.specs.declared.inputs.phase.Phase.{Phase}
 pub use Rattle.sum_sources.specs.declared.inputs.phase.Phase.TheVariants.{Unfinished, Ended, Past}
 

@@ -1,12 +1,9 @@
 -- The law of sources: each has answers to its openings.
 use Rattle.std.proofs.Common.{ℕ, zero, suc, [], ◌∷◌, refl, List, Ok, Err, None, Some}
 use Rattle.std.specs.Prelude.{length, Option, Result, IfSome}
-use Rattle.sum_sources.specs.Contents.{Fault, Reads}
-use Rattle.sum_sources.specs.Faults.{NotFound}
+use Rattle.sum_sources.specs.{Contents.Fault, Contents.Reads, Faults.NotFound, Logs.untold, InputLaws.some_content, InputLaws.told_is_of}
 use Rattle.sum_sources.specs.Sources.{Answer, Opening, first_answer, SourceState, IsOfAnswer, AnswersAre, HasAnswers}
-use Rattle.sum_sources.specs.Logs.{untold}
 use Rattle.sum_sources.specs.InMemory.{Answers, ToldFiles, told_gave, told_openings, told_source}
-use Rattle.sum_sources.specs.InputLaws.{some_content, told_is_of}
 
 -- ---- sources in memory
 

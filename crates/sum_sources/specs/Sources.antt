@@ -1,7 +1,6 @@
 -- Sources of files: what was asked of one, and what it answered.
 use Rattle.std.specs.Prelude.{ℕ, suc, slice_get, slice_set, ◌≡◌, ◌+◌, List, [], ◌∷◌, ◌++◌, length, Option, None, Some, Result, Ok, Err, ⊤, IfSome, MatchResult, ◌&&◌, if◌then◌else◌, bytes_eq, nat_le}
-use Rattle.std.specs.Option.{option_and_then}
-use Rattle.std.specs.Result.{result_ok}
+use Rattle.std.specs.{Option.option_and_then, Result.result_ok}
 use Rattle.sum_sources.specs.Contents.{Content, InputState, Reads, IsOf, unread}
 use Rattle.sum_sources.specs.Faults.{Fault, NotFound, ByteString}
 use Rattle.sum_sources.specs.declared.sources.source.OpenFault.{OpenFault}

@@ -1,8 +1,7 @@
 -- Inputs in memory, inputs that may be closed, and standard input: before, when and after it is taken.
 use Rattle.std.specs.Prelude.{ℕ, ◌≡◌, [], take, Some}
 use Rattle.sum_sources.specs.Contents.{Content, Whole, InputState, Reads, unread}
-use Rattle.sum_sources.specs.Faults.{ByteString}
-use Rattle.sum_sources.specs.Phases.{Phase, Unfinished, Ended}
+use Rattle.sum_sources.specs.{Faults.ByteString, Phases.Phase, Phases.Unfinished, Phases.Ended}
 use Rattle.sum_sources.specs.declared.inputs.stdin.StdinPlace.{StdinPlace}
 use Rattle.sum_sources.specs.declared.inputs.stdin.StdinPlace.TheVariants.{Untaken, Taken, Returned}
 use Rattle.sum_sources.specs.declared.inputs.closable.Closable.{Closable}

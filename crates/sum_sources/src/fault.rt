@@ -1,6 +1,6 @@
 //! Faults of opening and reading, and how an input ends.
-ghost use Rattle.std.specs.Prelude.{◌≡◌, map, MatchResult};
 ghost use Rattle.std.specs.IoError.{error_kind, raw_os_error};
+ghost use Rattle.std.specs.Prelude.{◌≡◌, map, MatchResult};
 ghost use Rattle.sum_sources.specs.Faults.{fault_text, fault_of_error, fault_of_number, fault_of_kind, reason, reasons};
 
 use std::io::{self, ErrorKind};
@@ -173,7 +173,8 @@ pub enum Ending {
 impl Ending {
     // What a read returns when no byte remains.
     pub(crate) fn read(self) -> Result<usize, Fault>
-        ensures { MatchResult result (λ n. (n ≡ 0) × (self ≡ Ending.Whole)) (λ f. self ≡ Ending.Broken f) }
+        ensures { MatchResult result (λ n. (n ≡ 0)
+            × (self ≡ Ending.Whole)) (λ f. self ≡ Ending.Broken f) }
     {
         match self {
             Ending::Whole => Ok(0),

@@ -1,6 +1,5 @@
 //! The lines of a manifest, one at a time.
-ghost use Rattle.std.specs.Prelude.{◌≡◌, ◌≤◌, ◌<◌, ◌+◌, ◌^◌, [], true, false, length};
-ghost use Rattle.std.specs.Prelude.{None, Some, Err, IfOk, IfSome, IsErr, MatchResult, if◌then◌else◌};
+ghost use Rattle.std.specs.Prelude.{◌≡◌, ◌≤◌, ◌<◌, ◌+◌, ◌^◌, [], true, false, length, None, Some, Err, IfOk, IfSome, IsErr, MatchResult, if◌then◌else◌};
 ghost use Rattle.std.specs.Str.Lines.{strip_carriage_return};
 ghost use Rattle.sum_sources.specs.Contents.{IsSameInput};
 
@@ -85,16 +84,17 @@ fn drop_return<A: Allocator>(line: &mut Vec<u8, A>)
 
 impl<I: Input> LineReader<I> {
     ghost use Rattle.sum_sources.specs.Contents.{unread};
-    ghost use Rattle.sum_sources.specs.Phases.{Unfinished};
-    ghost use Rattle.sum_sources.specs.ManifestLines.{lines_after};
     ghost use Rattle.sum_sources.specs.LineReaders.{consumed_count, IsBounded, AdvancesLines, IsReading, ReadsOn};
+    ghost use Rattle.sum_sources.specs.ManifestLines.{lines_after};
+    ghost use Rattle.sum_sources.specs.Phases.{Unfinished};
     ghost use Rattle.sum_sources.specs.refinement.LimitedReads.{AddsLimited, CountsBytes};
     ghost use Rattle.sum_sources.specs.refinement.LineStates.{FillsReader, TakesPiece};
 
     /// A reader of the lines of `input`. If the input has `LIMIT` bytes or more, its first `LIMIT - 1` bytes count, and
     /// then `Fault::Other`.
     pub fn new(input: I) -> Self
-        ensures is { result ≡ record { input = input; ahead = []; taken = 0; lines = 0; final_answer = None } }
+        ensures is { result
+            ≡ record { input = input; ahead = []; taken = 0; lines = 0; final_answer = None } }
         ensures reading { (I.state input).reads ≡ unread → IsReading I.state result }
     {
         LineReader {
@@ -134,9 +134,11 @@ impl<I: Input> LineReader<I> {
     fn fill(&mut self) -> Result<usize, Fault>
         requires empty { self.old.ahead ≡ [] }
         requires going { self.old.final_answer ≡ None }
-        ensures reads { (I.state self.old.input).reads.phase ≡ Unfinished → AddsLimited self.old.taken
+        ensures reads { (I.state self.old.input).reads.phase ≡ Unfinished
+            → AddsLimited self.old.taken
             (I.state self.old.input).reads (I.state self.new.input).reads self.new.ahead result }
-        ensures counts { CountsBytes self.old.taken self.new.taken (I.state self.old.input) (I.state self.new.input) }
+        ensures counts { CountsBytes self.old.taken self.new.taken (I.state self.old.input)
+            (I.state self.new.input) }
         ensures reader { FillsReader self.old self.new result }
         ensures lines { self.new.lines ≡ self.old.lines }
     {
@@ -225,9 +227,11 @@ impl<I: Input> LineReader<I> {
     /// of these the content of `line` is unspecified, and every later call returns the same and doesn't read the input.
     pub fn next_line<A: Allocator>(&mut self, line: &mut Vec<u8, A>) -> Result<Next, LineStop>
         // Of each content that what was read of the input is of: the next line of what remained.
-        ensures line { IsReading I.state self.old → ReadsOn I.state self.old self.new result line.new.items }
+        ensures line { IsReading I.state self.old
+            → ReadsOn I.state self.old self.new result line.new.items }
         // A final answer is returned again, and the reader stays as it is.
-        ensures repeats { IfSome self.old.final_answer (λ answer. (result ≡ answer) × (self.new ≡ self.old)) }
+        ensures repeats { IfSome self.old.final_answer (λ answer. (result ≡ answer)
+            × (self.new ≡ self.old)) }
         // The lines counted, and which answers are final.
         ensures reader { AdvancesLines I.state self.old self.new result }
         // At most 8192 bytes are read ahead of the lines, and no count passes its limit.

@@ -1,6 +1,6 @@
 //! A log that only proofs see.
-ghost use Rattle.std.specs.Prelude.{◌≡◌};
 ghost use Rattle.std.specs.Borrow.{ftrue};
+ghost use Rattle.std.specs.Prelude.{◌≡◌};
 ghost use Rattle.sum_sources.specs.Logs.{LogState};
 
 use std::marker::Model;

@@ -44,7 +44,11 @@ fn reads(
         }
         let counts = (reader.lines(), reader.taken());
         assert_eq!(rt; counts, (lines.len() as u64, place as u64));
-        assert_eq!(rt; reader.into_inner().phase(), Phase::Ended(ending), "{place}");
+        assert_eq!(rt;
+            reader.into_inner().phase(),
+            Phase::Ended(ending),
+            "{place}"
+        );
     }
 }
 

@@ -1,13 +1,11 @@
 -- The reading of the arguments, one after another, gives the command line.
 use Rattle.std.proofs.Common.{ℕ, ◌≡◌, ◌+◌, ◌-◌, ◌<◌, ◌≤◌, not, ◌==◌, List, [], ◌∷◌, ◌++◌, length, drop, Option, Some, None, IfSome, arith, append-nil, append_assoc, ◌∙◌, refl}
 use Rattle.std.specs.List.{after_last}
-use Rattle.std.proofs.lemmas.List.Sums.{suffix_len_is}
-use Rattle.std.proofs.lemmas.Bool.{not_from_false, not_from_true, false_from_ne_true}
+use Rattle.std.proofs.lemmas.{List.Sums.suffix_len_is, Bool.not_from_false, Bool.not_from_true, Bool.false_from_ne_true}
 use Rattle.std.proofs.lemmas.Option.{slice_get_within, slice_get_cases}
 use Rattle.memchr.specs.Find.{Passes, Nowhere, is_byte}
 use Rattle.sum_words.proofs.WordBytesLemmas.{drop_at_none, drop_at_some}
-use Rattle.sum_words.specs.Items.{ByteString}
-use Rattle.sum_words.specs.refinement.CommandLine.{ArgumentIs}
+use Rattle.sum_words.specs.{Items.ByteString, refinement.CommandLine.ArgumentIs}
 
 -- the part after a slash that no other follows, or all of a path without one
 pub last_part-from : (path : List ℕ) (n : ℕ) → n ≤ length path → Nowhere (Passes (is_byte 47) path) n (length path)

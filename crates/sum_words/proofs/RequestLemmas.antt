@@ -1,15 +1,10 @@
 -- The options read so far, and the number of a length value.
 use Rattle.std.proofs.Common.{rules, ◌≡◌, ◌≢◌, ℕ, true, List, ◌∷◌, Result, arith, IsUtf8}
-use Rattle.std.proofs.lemmas.Grind.{common_steps}
-use Rattle.std.specs.Result.{result_ok}
-use Rattle.std.specs.Str.{all_ascii_digits}
-use Rattle.std.specs.Str.Parse.{ParsesUnsigned}
-use Rattle.std.proofs.lemmas.Fmt.{IsAscii-from_digits}
-use Rattle.std.proofs.lemmas.Str.{IsUtf8-from_ascii}
+use Rattle.std.proofs.lemmas.{Grind.common_steps, Fmt.IsAscii-from_digits, Str.IsUtf8-from_ascii}
+use Rattle.std.specs.{Result.result_ok, Str.all_ascii_digits, Str.Parse.ParsesUnsigned}
 use Rattle.std.proofs.lemmas.Str.Parse.{numerals_by_value, tells_all_ascii_digits, parse_digits}
 use Rattle.sum_words.specs.Items.{Flag, ByteString, ItemValue, option}
-use Rattle.sum_words.specs.Request.{early_request}
-use Rattle.sum_words.specs.refinement.OptionScan.{IsNumberOf}
+use Rattle.sum_words.specs.{Request.early_request, refinement.OptionScan.IsNumberOf}
 use Rattle.sum_words.specs.declared.parsing.options.Flag.TheVariants as flags
 
 -- an option other than help and version decides nothing early

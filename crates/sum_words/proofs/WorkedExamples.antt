@@ -1,14 +1,12 @@
 -- Worked examples: what the definitions say of some command lines, computed.
 use Rattle.std.proofs.Common.{rules, ◌≡◌, ◌==◌, ◌≤◌, List, ℕ, [], ◌∷◌, None, Some, Result, Ok, Err, refl, codes, true, false, length}
-use Rattle.std.specs.List.{slice_split}
-use Rattle.std.specs.Str.{byte, chars, is_utf8}
+use Rattle.std.specs.{List.slice_split, Str.byte, Str.chars, Str.is_utf8}
 use Prim.Native.String.{String}
 use lib.Utf8.{encode}
 use Rattle.sum_lines.specs.grammar.Shapes.{Algo, One, Any}
 use Rattle.digest_kinds.specs.declared.algo.Algo.TheVariants.{Md5, Sha256, Blake2b}
 use Rattle.sum_words.specs.Request.{Mode, Request, Generate, Check, Help, Version, request}
-use Rattle.sum_words.specs.Items.{ByteString, name_or_fault, option_of_letter}
-use Rattle.sum_words.specs.Tools.{tool_called}
+use Rattle.sum_words.specs.{Items.ByteString, Items.name_or_fault, Items.option_of_letter, Tools.tool_called}
 use Rattle.sum_words.specs.declared.tool.Tool.TheVariants.{Md5sum, Sha256sum, B2sum, Anysum}
 use Rattle.sum_words.specs.WordFaults.{WordFaultValue, unknown_long, ambiguous_long, value_not_allowed, value_missing, unknown_short, length_invalid, length_not_bytes, tag_with_text, zero_with_check, tag_with_check, mode_with_check, without_check, check_needed, not_text, Long, Short}
 use Rattle.sum_words.specs.CommandLines.{command_line, NeedsMemory}

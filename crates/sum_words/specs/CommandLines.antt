@@ -1,7 +1,6 @@
 -- What a command line asks for. It is a list of arguments, and the first of them is the program's name.
 use Rattle.std.specs.Prelude.{ℕ, ◌≡◌, ◌<◌, ◌⊎◌, ◌==◌, List, Any, length, take, drop, slice_get, Option, None, Some, is_some, IsSomeAnd, Result, Ok, Err, if◌then◌else◌, option_and_then, option_map}
-use Rattle.std.specs.declared.env.FillError.{FillError}
-use Rattle.std.specs.declared.env.FillError.TheVariants.{NotPresent, TooLong}
+use Rattle.std.specs.declared.{env.FillError.FillError, env.FillError.TheVariants.NotPresent, env.FillError.TheVariants.TooLong}
 use Rattle.std.specs.List.{after_last}
 use Rattle.sum_words.specs.Tools.{ByteString, Tool, tool_called}
 

@@ -1,8 +1,6 @@
 -- The items of a tool's words: options, values of --length, operands and a fault. No item follows a fault.
 use Rattle.std.specs.Prelude.{ℕ, ◌+◌, ◌==◌, ◌&&◌, not, Bool, true, false, List, [], ◌∷◌, map, drop, length, Option, None, Some, Result, Ok, Err, codes, if◌then◌else◌, option_map, filter, find, position, bytes_eq, chars, encode_utf8_all}
-use Rattle.std.specs.List.{starts_with, before_first}
-use Rattle.std.specs.Option.{option_map_or}
-use Rattle.std.specs.Str.{byte, is_utf8}
+use Rattle.std.specs.{List.starts_with, List.before_first, Option.option_map_or, Str.byte, Str.is_utf8}
 pub use Rattle.digest_kinds.specs.Bytes.{ByteString}
 use Rattle.sum_words.specs.declared.tool.Tool.{Tool}
 pub use Rattle.sum_words.specs.declared.parsing.options.Flag.{Flag}

@@ -1,11 +1,8 @@
 -- What a tool's words ask for: a request, or the first fault that counts.
 use denote.Enum.Bare.{sameb}
 use Rattle.std.specs.Prelude.{◌&&◌, ◌||◌, not, nat_lt, Bool, true, false, List, [], ◌∷◌, Option, None, Some, Result, Ok, Err, if◌then◌else◌, unwrap_or, option_map, filter, bytes_eq, filter_map}
-use Rattle.std.specs.List.{last_or, list_any}
+use Rattle.std.specs.{List.last_or, List.list_any, Result.result_ok, Result.result_err, Str.all_ascii_digits, Str.Parse.digits_value}
 use Rattle.std.specs.Option.{ok_or, option_map_or, option_or, option_and_then}
-use Rattle.std.specs.Result.{result_ok, result_err}
-use Rattle.std.specs.Str.{all_ascii_digits}
-use Rattle.std.specs.Str.Parse.{digits_value}
 use Rattle.sum_words.specs.Tools.{Algos, Tool, algos_of, One, Any}
 use Rattle.digest_kinds.specs.Kinds.{KindValue, full_kind, blake2b_of_bits}
 pub use Rattle.sum_lines.specs.declared.writing.put_line.Mode.{Mode}

@@ -1,6 +1,6 @@
 //! The arguments of the process.
-ghost use Rattle.std.specs.Prelude.{◌≡◌, ◌≤◌, List, Option, None, IfOk, IfSome, length, map};
 ghost use Rattle.digest_kinds.specs.Bytes.{ByteString};
+ghost use Rattle.std.specs.Prelude.{◌≡◌, ◌≤◌, List, Option, None, IfOk, IfSome, length, map};
 ghost use Rattle.sum_words.specs.CommandLines.{Fills};
 
 use std::env::FillError;
@@ -46,8 +46,8 @@ pub struct ToldArguments<'a> {
 }
 
 impl<'a> Model for ToldArguments<'a> {
-    ghost use Rattle.std.specs.Prelude.{List, map};
     ghost use Rattle.digest_kinds.specs.Bytes.{ByteString};
+    ghost use Rattle.std.specs.Prelude.{List, map};
 
     ghost Value = { List ByteString };
 

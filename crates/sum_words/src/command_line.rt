@@ -1,11 +1,10 @@
 //! The command line: which tool is asked for, and on which words.
-ghost use Rattle.std.specs.Prelude.{◌≡◌, ◌==◌, ◌≤◌, ◌<◌, ◌*◌, vec_len, take, drop, length, slice_get};
-ghost use Rattle.std.specs.Prelude.{IfOk, IfSome, OnOk, OnErr};
 ghost use Rattle.std.specs.List.{after_last};
 ghost use Rattle.std.specs.Option.{option_map, option_and_then};
+ghost use Rattle.std.specs.Prelude.{◌≡◌, ◌==◌, ◌≤◌, ◌<◌, ◌*◌, vec_len, take, drop, length, slice_get, IfOk, IfSome, OnOk, OnErr};
 ghost use Rattle.sum_words.specs.CommandLines.{command_line, NeedsMemory};
-ghost use Rattle.sum_words.specs.refinement.CommandLine.{ArgumentIs, IsLonger, command_line_value};
 ghost use Rattle.sum_words.specs.Tools.{tool_called};
+ghost use Rattle.sum_words.specs.refinement.CommandLine.{ArgumentIs, IsLonger, command_line_value};
 
 use crate::arguments::Arguments;
 use crate::tool::Tool;

@@ -1,8 +1,8 @@
 //! The law of plain words. It is the contract of a function that does nothing.
-ghost use Rattle.std.specs.Prelude.{◌≡◌, not, List, ◌∷◌, ◌++◌, map, codes};
 ghost use Rattle.std.specs.List.{AllPass};
-ghost use Rattle.sum_words.specs.declared.tool.Tool.{Tool};
+ghost use Rattle.std.specs.Prelude.{◌≡◌, not, List, ◌∷◌, ◌++◌, map, codes};
 ghost use Rattle.sum_words.specs.Items.{ByteString, operand, a_word, is_option_word, items_from};
+ghost use Rattle.sum_words.specs.declared.tool.Tool.{Tool};
 
 /// A word is plain if it is `-` or doesn't begin with a dash. The plain words in front are operands in their order,
 /// whatever follows them. After `--` every word is an operand.

@@ -1,8 +1,7 @@
 -- Joins the definition of a round, one G after another, to the code, which mixes four columns at once. The working
 -- vector is four rows of four words.
 use Rattle.std.specs.Prelude.{ℕ, ◌+◌, ◌/◌, ◌%◌, List, [], map, fold, slice_index_or}
-use Rattle.std.specs.List.{range_with_len}
-use Rattle.std.specs.Simd.{first_chunks}
+use Rattle.std.specs.{List.range_with_len, Simd.first_chunks}
 use Rattle.byteorder.specs.Endian.{little_number}
 use Rattle.blake2b_core.specs.Compression.{◌!◌, ◌⊻◌, sigma, mix, ByteString}
 

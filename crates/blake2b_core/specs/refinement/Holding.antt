@@ -1,8 +1,7 @@
 -- Joins `new`, `update` and `finish` of `Blake2b`: which message a state may have taken. The kit says for that: the
 -- state holds the message.
 use Rattle.std.specs.Prelude.{◌≡◌, ℕ, ◌+◌, ◌*◌, ◌<◌, List, [], length, take, drop, slice_index_or}
-use Rattle.blake2b_core.specs.Bytes.{ByteString}
-use Rattle.blake2b_core.specs.Digest.{hash_after}
+use Rattle.blake2b_core.specs.{Bytes.ByteString, Digest.hash_after}
 use Rattle.blake2b_core.specs.declared.incremental.Blake2b.{Blake2b}
 
 -- bs are blocks of the message m, one after another from block k on

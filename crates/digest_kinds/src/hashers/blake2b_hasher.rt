@@ -1,7 +1,7 @@
 //! BLAKE2b as a hasher.
 
-ghost use Rattle.digest_kinds.specs.Kinds.{blake2b_kind};
 ghost use Rattle.blake2b_core.specs.refinement.Holding.{Holds, digest_len, taken};
+ghost use Rattle.digest_kinds.specs.Kinds.{blake2b_kind};
 
 use crate::digest::Digest;
 use crate::hashers::hasher::Hasher;

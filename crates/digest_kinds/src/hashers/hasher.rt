@@ -1,8 +1,8 @@
 //! The trait of a hasher.
 
-ghost use Rattle.std.specs.Prelude.{◌≡◌, ◌↔◌, ℕ, ◌+◌, ◌^◌, ◌<◌, ◌++◌, length, IsOk, OnOk, OnErr};
 ghost use Rattle.digest_kinds.specs.Bytes.{ByteString};
 ghost use Rattle.digest_kinds.specs.Kinds.{KindValue, digest};
+ghost use Rattle.std.specs.Prelude.{◌≡◌, ◌↔◌, ℕ, ◌+◌, ◌^◌, ◌<◌, ◌++◌, length, IsOk, OnOk, OnErr};
 
 use crate::digest::Digest;
 use crate::kind::Kind;
@@ -39,7 +39,8 @@ pub trait Hasher {
     /// bytes or more; the hasher is then as before.
     fn try_update(&mut self, piece: &[u8]) -> Result<(), MessageTooLong>
         ensures fits { IsOk result ↔ (taken_of self.old + length piece.now < 2 ^ 61) }
-        ensures holds { OnOk result ((m : ByteString) → holds self.old m → holds self.new (m ++ piece.now)) }
+        ensures holds { OnOk result ((m : ByteString) → holds self.old m
+            → holds self.new (m ++ piece.now)) }
         ensures taken { OnOk result (taken_of self.new ≡ taken_of self.old + length piece.now) }
         ensures kind { kind_of self.new ≡ kind_of self.old }
         ensures err { OnErr result (self.new ≡ self.old) }

@@ -1,10 +1,8 @@
 -- Relates what a run returned to the end of the program.
 use Rattle.std.specs.Prelude.{ℕ, ◌≡◌, [], Option, None, Result, Ok, Err}
 use Rattle.sum_lines.specs.Sinks.{Gets}
-use Rattle.sum_engine.specs.Execution.{OutputsState, IsFlushed, FailuresMatch}
-use Rattle.sum_engine.specs.refinement.FlushedWrites.{WritesAndReturns}
-use Rattle.sum_words.specs.Items.{ByteString}
-use Rattle.sum_words.specs.Texts.{Stop, Write}
+use Rattle.sum_engine.specs.{Execution.OutputsState, Execution.IsFlushed, Execution.FailuresMatch, refinement.FlushedWrites.WritesAndReturns}
+use Rattle.sum_words.specs.{Items.ByteString, Texts.Stop, Texts.Write}
 use Rattle.sum_words.specs.declared.tool.Tool.{Tool}
 use Rattle.digests.specs.Program.{ReportsStop}
 

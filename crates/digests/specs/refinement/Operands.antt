@@ -1,10 +1,7 @@
 -- Relates a job to what it does with an operand.
 use Rattle.std.specs.Prelude.{ℕ, List, [], ◌∷◌}
-use Rattle.sum_engine.specs.Behavior.{World, Behavior, ByteString}
-use Rattle.sum_engine.specs.Generation.{generate_behavior}
-use Rattle.sum_engine.specs.check.Checking.{check_behavior}
-use Rattle.digests.specs.declared.run.Job.{Job}
-use Rattle.digests.specs.declared.run.Job.TheVariants.{Generate, Check}
+use Rattle.sum_engine.specs.{Behavior.World, Behavior.Behavior, Behavior.ByteString, Generation.generate_behavior, check.Checking.check_behavior}
+use Rattle.digests.specs.declared.{run.Job.Job, run.Job.TheVariants.Generate, run.Job.TheVariants.Check}
 
 -- the behavior of one operand of a job
 abbrev pub operand_behavior : Job → ByteString → World → ByteString → Behavior

@@ -2,10 +2,9 @@
 use Rattle.std.specs.Prelude.{ℕ, ◌≡◌, ◌+◌, ◌≤◌, List, ◌∷◌, length}
 use Rattle.sum_lines.specs.declared.reading.read_line.Form.TheVariants.{Undecided}
 use Rattle.sum_engine.specs.Behavior.{ByteString, World, Behavior, Content}
-use Rattle.sum_engine.specs.check.Rules.{Rules, LabelsValue}
+use Rattle.sum_engine.specs.{check.Rules.Rules, check.Rules.LabelsValue, check.Checking.line_steps}
 use Rattle.sum_engine.specs.check.Judge.{Form, Verdict, Ignored, Bad, Right, Wrong, Missing, Unread, lines_under, LineVerdictValue, line_verdict, verdicts, past_line, parse_line, form_then, line_form, form}
 use Rattle.sum_engine.specs.check.Reports.{Counts, counts_of, entries, end_text, good}
-use Rattle.sum_engine.specs.check.Checking.{line_steps}
 
 -- the counts of no line, those with one line more, and those of lines and then of others
 abbrev pub no_counts : Counts

@@ -5,8 +5,7 @@ pub use Rattle.sum_engine.specs.declared.check.progress.Progress.TheVariants.{Go
 use Rattle.sum_sources.specs.declared.line_reader.LineStop.TheVariants.{Fault, Memory}
 use Rattle.sum_engine.specs.Behavior.{ByteString, Whole, Broken, Step, Behavior, InputState}
 use Rattle.sum_engine.specs.Execution.{Stop, OutputsState, StreamsState, PerformsSteps, IsFlushed}
-use Rattle.sum_engine.specs.refinement.FlushedWrites.{WritesAndReturns}
-use Rattle.sum_engine.specs.check.Rules.{Rules, LabelsValue}
+use Rattle.sum_engine.specs.{refinement.FlushedWrites.WritesAndReturns, check.Rules.Rules, check.Rules.LabelsValue}
 use Rattle.sum_engine.specs.check.Reports.{out_of, err_of, end_text, good}
 use Rattle.sum_engine.specs.check.CheckStates.{CheckState, HandlesLine, remaining_behavior}
 use Rattle.sum_engine.specs.check.Verdicts.{VerdictsValue, InEachCheck, VerdictResult, line_verdict_value, AdvancesVerdicts}

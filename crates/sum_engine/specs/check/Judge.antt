@@ -9,7 +9,7 @@ pub use Rattle.sum_lines.specs.declared.reading.read_line.Form.{Form}
 pub use Rattle.sum_lines.specs.grammar.Entries.{EntryValue, IsEntry, form, form_then, line_form}
 pub use Rattle.sum_engine.specs.declared.check.judge.Verdict.{Verdict}
 pub use Rattle.sum_engine.specs.declared.check.judge.Verdict.TheVariants.{Ignored, Bad, Right, Wrong, Missing, Unread}
-pub use Rattle.sum_lines.specs.Escape.{Profile, present, escape, escape_by}
+pub use Rattle.sum_lines.specs.Escape.{Profile, own_profile, escape, escape_by}
 pub use Rattle.sum_lines.specs.grammar.ParsedLines.{ParsedLine, ignored, bad, entry, parse_line}
 
 -- a line's number (the first is 1), its verdict, and the name of its entry

@@ -1,8 +1,7 @@
 -- The law of old verdicts: a manifest of the time of older versions is checked alike under both profiles.
 use Rattle.std.specs.Prelude.{◌≡◌, ◌≢◌, ◌<◌, false, [], ◌∷◌, length, codes, All}
-use Rattle.sum_engine.specs.check.Rules.{LabelsValue, Rules}
-use Rattle.sum_engine.specs.check.Judge.{Algos, Form, lines_under, all_verdicts, raw_lines, bad, parse_line, EntryValue, IsEntry, form, Profile, present, escape, escape_by}
-use Rattle.sum_engine.specs.check.Checking.{content_behavior}
+use Rattle.sum_engine.specs.{check.Rules.LabelsValue, check.Rules.Rules, check.Checking.content_behavior}
+use Rattle.sum_engine.specs.check.Judge.{Algos, Form, lines_under, all_verdicts, raw_lines, bad, parse_line, EntryValue, IsEntry, form, Profile, own_profile, escape, escape_by}
 use Rattle.sum_engine.specs.Behavior.{ByteString, Whole, World, Content}
 
 -- the profile of older versions
@@ -33,7 +32,7 @@ pub record IsOldManifest (r : Rules) (labels : LabelsValue) (c : Content) : Type
 -- its lines and for its end, and it is good or not alike
 abbrev pub OldVerdicts : Type 0
 OldVerdicts = (r : Rules) (labels : LabelsValue) (w : World) (c : Content) → IsOldManifest r labels c
-    → let old = rules_under older_profile r in let new = rules_under present r in
+    → let old = rules_under older_profile r in let new = rules_under own_profile r in
     (all_verdicts old w c ≡ all_verdicts new w c)
     × (content_behavior old labels c (all_verdicts old w c) ≡ content_behavior new labels c (all_verdicts new w c))
 

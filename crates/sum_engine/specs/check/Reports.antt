@@ -7,8 +7,7 @@ use Rattle.sum_engine.specs.Behavior.{ByteString, Ending, Whole, Broken}
 pub use Rattle.sum_engine.specs.declared.settings.Report.{Report}
 pub use Rattle.sum_engine.specs.declared.check.summary.Counts.{Counts}
 use Rattle.sum_engine.specs.declared.settings.Report.TheVariants.{Quiet, Warn, Status}
-use Rattle.sum_engine.specs.contracts.check.judge.Verdict.{the_type}
-use Rattle.sum_engine.specs.check.Rules.{Rules, LabelsValue}
+use Rattle.sum_engine.specs.{contracts.check.judge.Verdict.the_type, check.Rules.Rules, check.Rules.LabelsValue}
 use Rattle.sum_engine.specs.check.Judge.{Algos, Verdict, Bad, Right, Wrong, Missing, Unread, LineVerdictValue}
 use Rattle.sum_lines.specs.Escape.{Profile, escape_by, escape_differs}
 use Rattle.sum_engine.specs.Generation.{tool_line, name_fault_line}

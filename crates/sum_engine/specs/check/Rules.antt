@@ -1,10 +1,9 @@
 -- By what a manifest's lines are judged, and what its reports show.
 use Rattle.std.specs.Prelude.{Bool, codes, if◌then◌else◌}
 use Rattle.digest_kinds.specs.declared.algo.Algos.{Algos}
-use Rattle.sum_lines.specs.Escape.{Profile, present}
+use Rattle.sum_lines.specs.Escape.{Profile, own_profile}
 use Rattle.sum_engine.specs.Behavior.{ByteString, is_dash}
-use Rattle.sum_engine.specs.declared.settings.CheckSettings.{CheckSettings}
-use Rattle.sum_engine.specs.declared.settings.Report.{Report}
+use Rattle.sum_engine.specs.declared.{settings.CheckSettings.CheckSettings, settings.Report.Report}
 
 -- by what a manifest's lines are judged
 pub record Rules : Type 0 where
@@ -22,8 +21,8 @@ pub record LabelsValue : Type 0 where
 
 -- the rules of these settings, by whether the manifest came from standard input
 abbrev pub rules_of : CheckSettings → Bool → Rules
-rules_of s dash =
-    record { profile = present; algo = s.algo; ignore_missing = s.ignore_missing; strict = s.strict; from_stdin = dash }
+rules_of s d =
+    record { profile = own_profile; algo = s.algo; ignore_missing = s.ignore_missing; strict = s.strict; from_stdin = d }
 
 -- what the tool's reports of a manifest of that name show
 abbrev pub labels_of : CheckSettings → ByteString → ByteString → LabelsValue

@@ -3,17 +3,13 @@ use Rattle.std.specs.Prelude.{◌≡◌, ◌+◌, ◌≤◌, ◌<◌, ◌⊎◌,
 use Rattle.sum_lines.specs.declared.reading.read_line.Form.TheVariants.{Undecided}
 use Rattle.sum_sources.specs.Contents.{unread}
 use Rattle.sum_sources.specs.LineReaders.{AdvancesLines, IsBounded, IsReading, consumed_count, remaining}
-use Rattle.sum_sources.specs.declared.line_reader.LineReader.{LineReader}
+use Rattle.sum_sources.specs.declared.{line_reader.LineReader.LineReader, line_reader.LineStop.TheVariants.Fault, line_reader.LineStop.TheVariants.Memory}
 pub use Rattle.sum_sources.specs.declared.line_reader.LineStop.{LineStop}
-use Rattle.sum_sources.specs.declared.line_reader.LineStop.TheVariants.{Fault, Memory}
-use Rattle.sum_sources.specs.declared.line_reader.Next.TheVariants.{NoMore}
-use Rattle.sum_sources.specs.declared.line_reader.Next.{Next}
+use Rattle.sum_sources.specs.declared.{line_reader.Next.TheVariants.NoMore, line_reader.Next.Next}
 use Rattle.sum_engine.specs.Behavior.{ByteString, Ending, Whole, Broken, World, after, Content, InputState, IsOf}
 use Rattle.sum_engine.specs.Execution.{InputsState, Agrees, world_at, ReadsToEndIf, AsksNames}
-use Rattle.sum_engine.specs.refinement.Names.{MemoryWasRefused}
+use Rattle.sum_engine.specs.{refinement.Names.MemoryWasRefused, check.Rules.Rules, check.Judge.Form, check.Judge.LineVerdictValue, check.Judge.asks_of}
 pub use Rattle.sum_engine.specs.declared.check.judge.LineVerdict.{LineVerdict}
-use Rattle.sum_engine.specs.check.Rules.{Rules}
-use Rattle.sum_engine.specs.check.Judge.{Form, LineVerdictValue, asks_of}
 use Rattle.sum_engine.specs.check.Reports.{Counts, is_unread}
 use Rattle.sum_engine.specs.check.CheckStates.{CheckState, no_counts, counts_with, HandlesLine, remaining_verdicts}
 

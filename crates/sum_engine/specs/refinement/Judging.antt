@@ -1,12 +1,10 @@
 -- Relates what the code finds of a line to what the line says, to its verdict and to its report.
 use Rattle.std.specs.Prelude.{◌≡◌, ◌≤◌, Bool, Some, Result, Ok, Err, IfOk, length, if◌then◌else◌, bytes_eq}
-use Rattle.sum_sources.specs.declared.fault.Fault.TheVariants.{NotFound}
+use Rattle.sum_sources.specs.declared.{fault.Fault.TheVariants.NotFound, line_reader.LineStop.TheVariants.Memory}
 use Rattle.sum_engine.specs.declared.check.judge.ListedEntry.{ListedEntry}
-use Rattle.sum_engine.specs.refinement.Names.{HashFault, NoRoom}
+use Rattle.sum_engine.specs.{refinement.Names.HashFault, refinement.Names.NoRoom, Behavior.ByteString}
 use Rattle.sum_engine.specs.check.Judge.{Verdict, Right, Wrong, Missing, Unread, EntryValue, form_then, line_form, ParsedLine, parse_line}
 use Rattle.sum_engine.specs.check.Verdicts.{LineVerdict, VerdictResult, VerdictsValue, HasNameRange, counts_after}
-use Rattle.sum_engine.specs.Behavior.{ByteString}
-use Rattle.sum_sources.specs.declared.line_reader.LineStop.TheVariants.{Memory}
 use Rattle.sum_engine.specs.declared.hash_name.HashFault.TheVariants as hashing
 
 -- the entry that a line spells

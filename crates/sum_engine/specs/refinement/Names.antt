@@ -3,15 +3,12 @@ use Rattle.std.specs.Prelude.{◌≡◌, ◌≢◌, ◌+◌, true, false, [], �
 use Rattle.digest_kinds.specs.Kinds.{KindValue}
 pub use Rattle.sum_sources.specs.declared.fault.NoRoom.{NoRoom}
 use Rattle.sum_sources.specs.declared.sources.source.OpenFault.{OpenFault}
-use Rattle.sum_sources.specs.Contents.{unread, HasContent}
-use Rattle.sum_sources.specs.InputLaws.{closable_has_content}
+use Rattle.sum_sources.specs.{Contents.unread, Contents.HasContent, InputLaws.closable_has_content, StandardInput.unless_closed}
 use Rattle.sum_sources.specs.Sources.{IsOpen, opened_file, and_opening, after_closing}
-use Rattle.sum_sources.specs.StandardInput.{unless_closed}
 use Rattle.sum_engine.specs.Behavior.{World, Fault, is_dash, answer_to, InputState, empty_content, ByteString, Answer, digest_or_fault}
 use Rattle.sum_engine.specs.Execution.{StdinState, InputsState, Agrees, world_at, AsksNames, ReadsToEndIf}
 pub use Rattle.sum_engine.specs.declared.hash_name.HashFault.{HashFault}
-use Rattle.sum_engine.specs.declared.opened.Place.{Place}
-use Rattle.sum_engine.specs.declared.opened.Place.TheVariants.{Stdin, File}
+use Rattle.sum_engine.specs.declared.{opened.Place.Place, opened.Place.TheVariants.Stdin, opened.Place.TheVariants.File}
 use Rattle.sum_engine.specs.declared.hash_name.HashFault.TheVariants as hashing
 use Rattle.sum_sources.specs.declared.sources.source.OpenFault.TheVariants as faults
 

@@ -1,11 +1,10 @@
 //! Checking one manifest.
-ghost use Rattle.sum_engine.specs.Behavior.{is_dash};
-ghost use Rattle.sum_engine.specs.check.Checking.{check_behavior};
-ghost use Rattle.sum_engine.specs.Execution.{IsFlushed, FailuresMatch, RefusalsMatch};
-ghost use Rattle.sum_engine.specs.Execution.{Performs, ReadsToEndIf};
-ghost use Rattle.sum_engine.specs.check.Verdicts.{IsAtStart};
 ghost use Rattle.std.specs.Prelude.{◌≡◌, true, [], ◌∷◌, None, Ok, codes, if◌then◌else◌};
+ghost use Rattle.sum_engine.specs.Behavior.{is_dash};
+ghost use Rattle.sum_engine.specs.Execution.{IsFlushed, FailuresMatch, RefusalsMatch, Performs, ReadsToEndIf};
 ghost use Rattle.sum_engine.specs.check.CheckerLaws.{RunsManifest};
+ghost use Rattle.sum_engine.specs.check.Checking.{check_behavior};
+ghost use Rattle.sum_engine.specs.check.Verdicts.{IsAtStart};
 
 use crate::check::checker::Checker;
 use crate::check::progress::Progress;
@@ -77,7 +76,8 @@ fn run_to_end<'a, A: Allocator, I: Input, J: Input + Drop, S: Source, O: Sink, E
     requires start { IsAtStart I.state checker.verdicts checker.verdicts.reader.input }
     requires outcome { checker.outcome ≡ None }
     ensures { RunsManifest checker.entry.verdicts.rules checker.entry.labels
-        (I.state checker.entry.verdicts.reader.input) (I.state result.1) streams.old streams.new result.0 }
+        (I.state checker.entry.verdicts.reader.input) (I.state result.1) streams.old
+        streams.new result.0 }
 {
     let mut line = Vec::new(alloc);
     let result = check_lines(&mut checker, &mut line, streams);
@@ -92,7 +92,8 @@ fn check_lines<'a, A: Allocator, I: Input, J: Input + Drop, S: Source, O: Sink, 
 ) -> Result<bool, Stop>
     requires start { IsAtStart I.state checker.old.verdicts checker.old.verdicts.reader.input }
     requires outcome { checker.old.outcome ≡ None }
-    ensures { RunsManifest checker.old.verdicts.rules checker.old.labels (I.state checker.old.verdicts.reader.input)
+    ensures { RunsManifest checker.old.verdicts.rules checker.old.labels
+        (I.state checker.old.verdicts.reader.input)
         (I.state checker.new.verdicts.reader.input) streams.old streams.new result }
 {
     'lines: loop {

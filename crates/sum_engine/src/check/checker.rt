@@ -58,7 +58,11 @@ impl<'a, I: Input> Checker<'a, I> {
     ) -> Self
         ensures rules { result.verdicts.rules ≡ rules_of settings from_stdin }
         ensures labels { result.labels
-            ≡ record { tool = tool.entry.now; manifest = manifest.entry.now; report = settings.report } }
+            ≡ record {
+              tool = tool.entry.now;
+              manifest = manifest.entry.now;
+              report = settings.report;
+            } }
         ensures start { IsAtStart I.state result.verdicts input }
         ensures outcome { result.outcome ≡ None }
     {
@@ -109,7 +113,8 @@ impl<'a, I: Input> Checker<'a, I> {
             self.old.verdicts self.new.verdicts streams.old streams.new result }
         // What was found, and what was written of it.
         ensures advances { self.old.outcome ≡ None
-            → AdvancesChecker I.state line.new.items self.old self.new streams.old streams.new result }
+            → AdvancesChecker I.state line.new.items self.old self.new streams.old
+            streams.new result }
         ensures flushed { IsFlushed streams.old.outputs → IsFlushed streams.new.outputs }
     {
         match self.outcome {

@@ -1,9 +1,12 @@
 //! The verdict of a line.
 ghost use Rattle.std.specs.Prelude.{◌≡◌, true, false, IfOk, MatchResult, slice_range};
+ghost use Rattle.sum_engine.specs.Behavior.{World};
+ghost use Rattle.sum_engine.specs.Execution.{Agrees, world_at, AsksNames, ReadsToEndIf};
 ghost use Rattle.sum_engine.specs.check.Judge.{asks_of, judge};
 ghost use Rattle.sum_engine.specs.check.Reports.{is_unread};
-ghost use Rattle.sum_engine.specs.refinement.Names.{MemoryWasRefused};
 ghost use Rattle.sum_engine.specs.check.Verdicts.{HasNameRange};
+ghost use Rattle.sum_engine.specs.refinement.Judging.{listed_entry, verdict_of_hash};
+ghost use Rattle.sum_engine.specs.refinement.Names.{MemoryWasRefused};
 
 use crate::check::rules::CheckRules;
 use crate::hash_name::{HashFault, hash_name};
@@ -56,10 +59,6 @@ impl LineVerdict {
         &line[self.start..self.stop]
     }
 }
-
-ghost use Rattle.sum_engine.specs.refinement.Judging.{listed_entry, verdict_of_hash};
-ghost use Rattle.sum_engine.specs.Behavior.{World};
-ghost use Rattle.sum_engine.specs.Execution.{Agrees, world_at, AsksNames, ReadsToEndIf};
 
 /// An entry of a manifest: the digest of a file, with its kind, and the file's name.
 #[derive(Clone, Copy)]

@@ -1,11 +1,11 @@
 //! The lines that checking writes about a manifest's lines.
-ghost use Rattle.std.specs.Prelude.{◌≡◌, [], ◌∷◌};
 ghost use Rattle.std.specs.List.{concat};
-ghost use Rattle.sum_lines.specs.Escape.{present, escape, escape_differs};
-ghost use Rattle.sum_lines.specs.grammar.Shapes.{mark};
-ghost use Rattle.sum_engine.specs.check.Reports.{bad_line, err_by, out_by};
+ghost use Rattle.std.specs.Prelude.{◌≡◌, [], ◌∷◌};
+ghost use Rattle.sum_engine.specs.check.Reports.{bad_line, err_by, out_by, tag_word};
 ghost use Rattle.sum_engine.specs.declared.settings.Report.TheVariants.{All};
 ghost use Rattle.sum_engine.specs.refinement.FlushedWrites.{WritesAndFlushes, WritesAndFlushesBoth};
+ghost use Rattle.sum_lines.specs.Escape.{own_profile, escape, escape_differs};
+ghost use Rattle.sum_lines.specs.grammar.Shapes.{mark};
 
 use crate::check::judge::Verdict;
 use crate::check::rules::{CheckRules, Labels};
@@ -26,7 +26,7 @@ pub(crate) fn put_report<O: Sink, E: Sink>(
 ) -> Result<(), SinkFault>
     ensures { WritesAndFlushesBoth outputs.old outputs.new
         (err_by rules labels.now number verdict name.now)
-        (out_by present labels.now.report verdict name.now) result }
+        (out_by own_profile labels.now.report verdict name.now) result }
 {
     put_err(&mut outputs.err, rules, labels, number, verdict, name)?;
     put_out(&mut outputs.out, labels.report, verdict, name)
@@ -38,7 +38,7 @@ fn put_out<O: Sink>(
     verdict: Verdict,
     name: &[u8],
 ) -> Result<(), SinkFault>
-    ensures { WritesAndFlushes out.old out.new (out_by present report verdict name.now) result }
+    ensures { WritesAndFlushes out.old out.new (out_by own_profile report verdict name.now) result }
 {
     match (report, verdict) {
         (Report::Status, _) | (Report::Quiet, Verdict::Right) => Ok(()),
@@ -51,7 +51,7 @@ fn put_verdict<O: Sink>(
     verdict: Verdict,
     name: &[u8],
 ) -> Result<(), SinkFault>
-    ensures { WritesAndFlushes out.old out.new (out_by present All verdict name.now) result }
+    ensures { WritesAndFlushes out.old out.new (out_by own_profile All verdict name.now) result }
 {
     match verdict {
         Verdict::Ignored | Verdict::Bad | Verdict::Missing => Ok(()),
@@ -68,7 +68,7 @@ fn put_name_line<'a, O: Sink>(
     text: &'a [u8],
 ) -> Result<(), SinkFault>
     ensures { WritesAndFlushes out.old out.new
-        (concat (mark (escape_differs present name.now) ∷ escape name.now ∷ text.now ∷ [])) result }
+        (concat (mark (escape_differs own_profile name.now) ∷ escape name.now ∷ text.now ∷ [])) result }
 {
     let (mark, name) = mark_and_name(name);
     put_parts_flushed(out, &[Part::Bytes(mark), name, Part::Bytes(text)])
@@ -121,8 +121,6 @@ fn put_bad_line<E: Sink>(
         ],
     )
 }
-
-ghost use Rattle.sum_engine.specs.check.Reports.{tag_word};
 
 // The word for the tag in a report.
 fn tag_word(algos: Algos) -> &'static str

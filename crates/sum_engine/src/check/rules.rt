@@ -18,12 +18,12 @@ pub(crate) struct CheckRules {
 
 impl Model for CheckRules {
     ghost use Rattle.sum_engine.specs.check.Rules.{Rules};
-    ghost use Rattle.sum_lines.specs.Escape.{present};
+    ghost use Rattle.sum_lines.specs.Escape.{own_profile};
 
     ghost Value = { Rules };
 
     ghost view = { λ r. record {
-      profile = present;
+      profile = own_profile;
       algo = r.algo;
       ignore_missing = r.ignore_missing;
       strict = r.strict;
@@ -65,5 +65,6 @@ impl<'a> Model for Labels<'a> {
 
     ghost Value = { LabelsValue };
 
-    ghost view = { λ l. record { tool = l.tool.now; manifest = l.manifest.now; report = l.report } };
+    ghost view = { λ l.
+        record { tool = l.tool.now; manifest = l.manifest.now; report = l.report } };
 }

@@ -1,5 +1,10 @@
 //! The end of a manifest.
 ghost use Rattle.std.specs.Prelude.{◌≡◌, ◌<◌, ◌^◌, []};
+ghost use Rattle.sum_engine.specs.check.CheckStates.{counts_with, total};
+ghost use Rattle.sum_engine.specs.check.Reports.{warning, warnings, unverified_line, end_text, good, entries};
+ghost use Rattle.sum_engine.specs.refinement.FlushedWrites.{WritesAndFlushes, WritesAndFlushesBoth};
+ghost use Rattle.sum_lines.specs.Buffers.{WritesAll};
+ghost use Rattle.sum_sources.specs.declared.fault.Ending.TheVariants.{Whole};
 
 use crate::check::judge::Verdict;
 use crate::check::rules::{CheckRules, Labels};
@@ -17,13 +22,6 @@ pub(crate) struct Counts {
     pub unread: u64,
     pub bad: u64,
 }
-
-ghost use Rattle.sum_lines.specs.Buffers.{WritesAll};
-ghost use Rattle.sum_engine.specs.check.Reports.{warning, warnings, unverified_line, end_text, good, entries};
-ghost use Rattle.sum_engine.specs.check.CheckStates.{counts_with};
-ghost use Rattle.sum_engine.specs.check.CheckStates.{total};
-ghost use Rattle.sum_engine.specs.refinement.FlushedWrites.{WritesAndFlushes, WritesAndFlushesBoth};
-ghost use Rattle.sum_sources.specs.declared.fault.Ending.TheVariants.{Whole};
 
 impl Counts {
     /// No line yet.

@@ -26,9 +26,9 @@ pub struct Verdicts<I> {
 
 impl<I> Model for Verdicts<I> {
     ghost use Rattle.std.specs.Prelude.{◌≡◌, ◌≤◌, ◌^◌};
-    ghost use Rattle.sum_lines.specs.Escape.{present};
     ghost use Rattle.sum_engine.specs.check.CheckStates.{total};
     ghost use Rattle.sum_engine.specs.check.Verdicts.{VerdictsValue};
+    ghost use Rattle.sum_lines.specs.Escape.{own_profile};
 
     ghost Value = { VerdictsValue I };
 
@@ -41,20 +41,18 @@ impl<I> Model for Verdicts<I> {
     } };
 
     ghost invariant = { λ v. (total v.counts ≤ v.reader.lines) × (v.reader.lines ≤ 2 ^ 61)
-        × (v.rules.profile ≡ present) };
+        × (v.rules.profile ≡ own_profile) };
 }
 
 impl<I: Input> Verdicts<I> {
-    ghost use Rattle.sum_sources.specs.declared.fault.Ending.TheVariants.{Whole};
     ghost use Rattle.sum_engine.specs.Behavior.{World};
     ghost use Rattle.sum_engine.specs.Execution.{Agrees, world_at, AsksNames, ReadsToEndIf};
-    ghost use Rattle.sum_engine.specs.check.Judge.{asks_of, line_verdict, present};
+    ghost use Rattle.sum_engine.specs.check.Judge.{asks_of, line_verdict, own_profile};
     ghost use Rattle.sum_engine.specs.check.Reports.{good};
-    ghost use Rattle.sum_engine.specs.check.Verdicts.{AdvancesVerdicts, HasNameRange, InEachCheck, IsAtStart, IsNextVerdict};
-    ghost use Rattle.sum_engine.specs.check.Verdicts.{IsNotUnread, KeepsOutcome, is_whole, line_verdict_value};
-    ghost use Rattle.sum_engine.specs.check.Verdicts.{outcome_in_next};
+    ghost use Rattle.sum_engine.specs.check.Verdicts.{AdvancesVerdicts, HasNameRange, InEachCheck, IsAtStart, IsNextVerdict, IsNotUnread, KeepsOutcome, is_whole, line_verdict_value, outcome_in_next};
     ghost use Rattle.sum_engine.specs.refinement.Judging.{TakesLine, found_verdict, parsed_at};
     ghost use Rattle.sum_engine.specs.refinement.Names.{MemoryWasRefused};
+    ghost use Rattle.sum_sources.specs.declared.fault.Ending.TheVariants.{Whole};
 
     /// The verdicts of the manifest that `input` gives, before its first line. `from_stdin` says whether the manifest
     /// came from standard input: a line that names `-` is then improperly formatted. The report setting has no part in
@@ -100,7 +98,7 @@ impl<I: Input> Verdicts<I> {
     /// By what its lines are judged.
     pub(crate) fn rules(&self) -> CheckRules
         ensures value { result ≡ self.now.rules }
-        ensures profile { result.profile ≡ present }
+        ensures profile { result.profile ≡ own_profile }
     {
         self.rules
     }
@@ -130,11 +128,14 @@ impl<I: Input> Verdicts<I> {
         ensures outcome { KeepsOutcome outcome_in_next self.old.outcome self.new.outcome
             ((self.new ≡ self.old) × (inputs.new ≡ inputs.old)) result }
         // Of every content and in every world that agree with what was read: the first of the verdicts that remained.
-        ensures verdict { self.old.outcome ≡ None → InEachCheck I.state self.old self.new inputs.old inputs.new
+        ensures verdict { self.old.outcome ≡ None
+            → InEachCheck I.state self.old self.new inputs.old inputs.new
             (λ a b. IsNextVerdict self.old.rules line.new.items a b result) }
-        ensures name_range { IfOk result (λ found. IfSome found (λ v. HasNameRange line.new.items v)) }
+        ensures name_range { IfOk result
+            (λ found. IfSome found (λ v. HasNameRange line.new.items v)) }
         // What was asked, the lines counted, and the cause of a stop.
-        ensures advances { self.old.outcome ≡ None → AdvancesVerdicts I.state line.new.items self.old self.new
+        ensures advances { self.old.outcome ≡ None
+            → AdvancesVerdicts I.state line.new.items self.old self.new
             inputs.old inputs.new result }
     {
         match self.outcome {
@@ -170,7 +171,8 @@ impl<I: Input> Verdicts<I> {
         inputs: &mut Inputs<J, S>,
     ) -> Result<LineVerdict, NoRoom>
         requires few { total self.old.counts < self.old.reader.lines }
-        ensures verdict { (w : World) → Agrees w inputs.new → IfOk result (λ v. line_verdict_value line.new.items v
+        ensures verdict { (w : World) → Agrees w inputs.new
+            → IfOk result (λ v. line_verdict_value line.new.items v
             ≡ line_verdict self.old.rules (world_at w inputs.old) self.old.reader.lines
             (parsed_at self.old line.old.items)) }
         ensures asked { MatchResult result
@@ -207,8 +209,14 @@ impl<I: Input> Verdicts<I> {
     fn count_verdict(&mut self, verdict: Verdict, start: usize, stop: usize) -> LineVerdict
         requires few { total self.old.counts < self.old.reader.lines }
         ensures is { result
-            ≡ record { number = self.old.reader.lines; verdict = verdict; start = start; stop = stop } }
-        ensures counts { self.new ≡ record self.old { counts = counts_with self.old.counts verdict } }
+            ≡ record {
+              number = self.old.reader.lines;
+              verdict = verdict;
+              start = start;
+              stop = stop;
+            } }
+        ensures counts { self.new
+            ≡ record self.old { counts = counts_with self.old.counts verdict } }
     {
         self.counts = self.counts.counted(verdict);
         LineVerdict {

@@ -2,8 +2,7 @@
 use Rattle.std.specs.Prelude.{ℕ, ◌≡◌, ◌<◌, ◌⊎◌, ◌==◌, ◌||◌, Bool, false, List, [], ◌∷◌, IsTrue, if◌then◌else◌, All}
 use Rattle.std.specs.Option.{option_map_or}
 use Rattle.sum_lines.specs.grammar.Shapes.{ByteString, Algos, IsPlain, IsTagged, KindValue}
-use Rattle.sum_lines.specs.Escape.{Profile}
-use Rattle.sum_lines.specs.grammar.LineParts.{plain_parts}
+use Rattle.sum_lines.specs.{Escape.Profile, grammar.LineParts.plain_parts}
 pub use Rattle.sum_lines.specs.declared.reading.read_line.Form.{Form}
 pub use Rattle.sum_lines.specs.declared.reading.read_line.Form.TheVariants.{Undecided, Standard, Reversed}
 

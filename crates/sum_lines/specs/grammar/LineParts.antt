@@ -1,10 +1,7 @@
 -- The parts of a line of either shape, computed. They need not be believed: by the law `parse_is_grammar` the entry
 -- that is made of them is the line grammar's.
 use Rattle.std.specs.Prelude.{◌==◌, ◌&&◌, nat_lt, Bool, true, false, length, drop, codes, Option, None, Some, if◌then◌else◌, find}
-use Rattle.std.specs.Option.{option_or}
-use Rattle.std.specs.Result.{result_ok}
-use Rattle.std.specs.List.{starts_with, before_first, after_first}
-use Rattle.std.specs.Path.{rsplit_once}
+use Rattle.std.specs.{Option.option_or, Result.result_ok, List.starts_with, List.before_first, List.after_first, Path.rsplit_once}
 pub use Rattle.digest_kinds.specs.Bytes.{ByteString, ◌>>=◌, after_while}
 use Rattle.digest_kinds.specs.Kinds.{KindValue, all_algos, has_len, tag}
 use Rattle.digest_kinds.specs.KindTexts.{kind_and_rest}

@@ -1,8 +1,7 @@
 -- How a line parses, computed. It need not be believed: by the law `parse_is_grammar` it is what the line grammar says.
 -- After that, what a `Reading` says of a line.
 use Rattle.std.specs.Prelude.{◌≡◌, ◌≤◌, ◌==◌, ◌∷◌, length, drop, slice_range, nat_lt, bytes_eq, ⊤, Option, None, Some, if◌then◌else◌}
-use Rattle.std.specs.Option.{option_or, option_map_or}
-use Rattle.std.specs.List.{list_all}
+use Rattle.std.specs.{Option.option_or, Option.option_map_or, List.list_all}
 use Rattle.digest_kinds.specs.declared.algo.Algos.{Algos}
 use Rattle.sum_lines.specs.grammar.Entries.{Form, Undecided, Standard, Reversed, EntryValue, begins_standard, is_ignored}
 use Rattle.sum_lines.specs.declared.reading.read_line.Reading.{Reading}

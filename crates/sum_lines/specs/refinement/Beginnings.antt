@@ -2,9 +2,7 @@
 use Rattle.std.specs.Prelude.{ℕ, ◌≡◌, ◌+◌, ◌<◌, ◌≤◌, true, length, drop, slice_range, get_or, IsTrue, None, Some, Ok}
 use Rattle.std.specs.List.{position_or_len, before_first, after_first}
 use Rattle.sum_lines.specs.grammar.Shapes.{ByteString, Algo, Algos, One, is_blank, decode_of, has_len}
-use Rattle.sum_lines.specs.declared.reading.beginnings.Beginning.{Beginning}
-use Rattle.sum_lines.specs.declared.reading.line_parts.LineParts.{LineParts}
-use Rattle.sum_lines.specs.declared.reading.line_parts.Front.{Front}
+use Rattle.sum_lines.specs.declared.{reading.beginnings.Beginning.Beginning, reading.line_parts.LineParts.LineParts, reading.line_parts.Front.Front}
 use Rattle.sum_lines.specs.grammar.LineParts.{LinePartsValue, mark_and_rest, plain_parts, tag_in, tagged_parts, after_while}
 use Rattle.sum_lines.specs.declared.reading.beginnings.Beginning.TheVariants as beginnings
 

@@ -1,7 +1,6 @@
 -- Joins the calls of a buffer, and the states of the sinks to their logs.
 use Rattle.std.specs.Prelude.{ℕ, ◌≡◌, ◌<◌, ◌-◌, [], ◌++◌, length, take, ⊤, Option, unwrap_or, Result, ◌⊎◌, IsOk}
-use Rattle.sum_lines.specs.Sinks.{ByteString, SinkState, GivesAll}
-use Rattle.sum_lines.specs.Buffers.{BufferState}
+use Rattle.sum_lines.specs.{Sinks.ByteString, Sinks.SinkState, Sinks.GivesAll, Buffers.BufferState}
 use Rattle.sum_lines.specs.declared.sinks.told_sink.ToldSink.{ToldSink}
 
 -- a full buffer is given to the sink; any other one has room, and stays

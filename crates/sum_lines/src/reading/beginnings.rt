@@ -1,8 +1,8 @@
 //! What a line begins with. Most bad lines don't begin as an entry does, so the rest of them isn't read.
 
 ghost use Rattle.std.specs.Prelude.{◌≡◌, IfNone, IfSome, None};
-ghost use Rattle.sum_lines.specs.grammar.Shapes.{ByteString};
 ghost use Rattle.sum_lines.specs.grammar.LineParts.{plain_parts, tag_in, tagged_parts};
+ghost use Rattle.sum_lines.specs.grammar.Shapes.{ByteString};
 ghost use Rattle.sum_lines.specs.refinement.Beginnings.{BeginsWithDigits, IsReadAs, EndsAt, EndsDigits, IsFront};
 
 use crate::reading::line_parts::{Front, is_blank, text_after};

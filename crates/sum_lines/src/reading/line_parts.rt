@@ -1,11 +1,11 @@
 //! The steps by which a line is read from its start.
 
-ghost use Rattle.std.specs.Prelude.{◌≡◌, ◌≤◌, length};
+ghost use Rattle.digest_kinds.specs.Bytes.{after_while};
 ghost use Rattle.std.specs.List.{prefix_len, take_while};
 ghost use Rattle.std.specs.Option.{option_copied, option_map};
 ghost use Rattle.std.specs.Path.{rsplit_once};
+ghost use Rattle.std.specs.Prelude.{◌≡◌, ◌≤◌, length};
 ghost use Rattle.sum_lines.specs.grammar.LineParts.{strip_prefix, mark_and_rest};
-ghost use Rattle.digest_kinds.specs.Bytes.{after_while};
 ghost use Rattle.sum_lines.specs.grammar.Shapes.{is_blank};
 ghost use Rattle.sum_lines.specs.refinement.Beginnings.{IsFront};
 

@@ -1,11 +1,11 @@
 //! Plain lines: digits, a blank, a tail.
 
-ghost use Rattle.std.specs.Prelude.{◌≡◌, ◌≤◌, IfSome, if◌then◌else◌, length, Some, None};
-ghost use Rattle.std.specs.Option.{option_map};
-ghost use Rattle.digest_kinds.specs.Kinds.{has_len};
-ghost use Rattle.sum_lines.specs.grammar.Shapes.{is_blank};
-ghost use Rattle.sum_lines.specs.grammar.LineParts.{mark_and_rest, plain_parts};
 ghost use Rattle.digest_kinds.specs.Bytes.{after_while};
+ghost use Rattle.digest_kinds.specs.Kinds.{has_len};
+ghost use Rattle.std.specs.Option.{option_map};
+ghost use Rattle.std.specs.Prelude.{◌≡◌, ◌≤◌, IfSome, if◌then◌else◌, length, Some, None};
+ghost use Rattle.sum_lines.specs.grammar.LineParts.{mark_and_rest, plain_parts};
+ghost use Rattle.sum_lines.specs.grammar.Shapes.{is_blank};
 ghost use Rattle.sum_lines.specs.refinement.Beginnings.{EndsDigits, IsFront, line_parts};
 
 use crate::reading::line_parts::{Front, LineParts, text_after};
@@ -17,7 +17,8 @@ use digest_kinds::{Algo, Algos, Digest, Kind};
 pub(crate) fn plain(algo: Algo, line: &[u8], front: Front, at: usize) -> Option<LineParts>
     requires front { IsFront line.now front }
     requires end { EndsDigits algo (mark_and_rest (after_while is_blank line.now)).1 at }
-    ensures parts { option_map (line_parts line.now) result ≡ plain_parts (Algos.One algo) line.now }
+    ensures parts { option_map (line_parts line.now) result
+        ≡ plain_parts (Algos.One algo) line.now }
     ensures range { IfSome result (λ p. (p.start ≤ p.stop) × (p.stop ≤ length line.now)) }
     ensures size { IfSome result (λ p. length p.digest ≡ p.kind.len) }
 {
@@ -37,7 +38,8 @@ pub(crate) fn plain(algo: Algo, line: &[u8], front: Front, at: usize) -> Option<
 
 // The algorithm's kind with digests of that length.
 fn kind_of_len(algo: Algo, len: usize) -> Option<Kind>
-    ensures { result ≡ (if has_len algo len then Some (record { algo = algo; len = len }) else None) }
+    ensures { result
+        ≡ (if has_len algo len then Some (record { algo = algo; len = len }) else None) }
 {
     let kind = match algo {
         Algo::Blake2b if 1 <= len && len <= 64 => Kind::blake2b_bits(8 * len as u64).ok()?,

@@ -1,13 +1,12 @@
 //! One line of a manifest.
 
-ghost use Rattle.std.specs.Prelude.{◌≡◌, ◌≤◌, None, Some, drop, if◌then◌else◌, length, nat_lt, not, take, vec_len};
 ghost use Rattle.std.specs.List.{list_all};
 ghost use Rattle.std.specs.Option.{option_and_then, option_map_or};
+ghost use Rattle.std.specs.Prelude.{◌≡◌, ◌≤◌, None, Some, drop, if◌then◌else◌, length, nat_lt, not, take, vec_len};
+ghost use Rattle.sum_lines.specs.Escape.{own_profile};
 ghost use Rattle.sum_lines.specs.grammar.Entries.{begins_standard, form_then, is_ignored, line_form};
 ghost use Rattle.sum_lines.specs.grammar.LineLaws.{FitsGrammar};
-ghost use Rattle.sum_lines.specs.grammar.ParsedLines.{bad, entry, entry_of, entry_of_parts, parse_line, unescape};
-ghost use Rattle.sum_lines.specs.grammar.ParsedLines.{with_raw, IsWithin, parsed_line_of};
-ghost use Rattle.sum_lines.specs.Escape.{present};
+ghost use Rattle.sum_lines.specs.grammar.ParsedLines.{bad, entry, entry_of, entry_of_parts, parse_line, unescape, with_raw, IsWithin, parsed_line_of};
 ghost use Rattle.sum_lines.specs.refinement.Beginnings.{IsReadAs, IsFront, line_parts};
 
 use crate::escape::unescape_in;
@@ -70,9 +69,11 @@ pub fn read_line<A: Allocator>(algos: Algos, form: Form, line: &mut Vec<u8, A>) 
     // A form that is decided stays; otherwise a plain line decides it, even if its name makes it bad.
     ensures form { result.1 ≡ form_then form (line_form algos line.old.items) }
     // What the line says, as it is computed. The name of an entry is a range of the vector.
-    ensures parsed { parsed_line_of line.new.items result.0 ≡ parse_line present algos result.1 line.old.items }
+    ensures parsed { parsed_line_of line.new.items result.0
+        ≡ parse_line own_profile algos result.1 line.old.items }
     // The same by the line grammar: ignored, an entry, or bad, each if and only if the grammar says so.
-    ensures grammar { FitsGrammar present algos result.1 line.old.items (parsed_line_of line.new.items result.0) }
+    ensures grammar { FitsGrammar own_profile algos result.1 line.old.items
+        (parsed_line_of line.new.items result.0) }
     // The range of an entry's name is in the vector, and its digest is as long as the kind's.
     ensures within { IsWithin line.new.items result.0 }
     ensures ignored { result.0 ≡ Reading.Ignored → line.new ≡ line.old }
@@ -103,7 +104,7 @@ fn read_begun<A: Allocator>(
     requires read_as { IsReadAs algos line.old.items beginning }
     ensures form { result.1 ≡ form_then form (line_form algos line.old.items) }
     ensures parsed { parsed_line_of line.new.items result.0
-        ≡ option_map_or entry (entry_of present algos result.1 line.old.items) bad }
+        ≡ option_map_or entry (entry_of own_profile algos result.1 line.old.items) bad }
     ensures within { IsWithin line.new.items result.0 }
     ensures len { vec_len line.new ≤ vec_len line.old }
 {
@@ -121,7 +122,7 @@ fn read_begun<A: Allocator>(
 
 // Whether the line is empty or begins with `#`.
 fn is_ignored(line: &[u8]) -> bool
-    ensures { result ≡ is_ignored present line.now }
+    ensures { result ≡ is_ignored own_profile line.now }
 {
     match line {
         [] => true,
@@ -136,9 +137,11 @@ fn read_tail<A: Allocator>(form: Form, line: &mut Vec<u8, A>, found: LineParts) 
     requires ordered { found.start ≤ found.stop }
     requires within { found.stop ≤ length line.old.items }
     ensures form { result.1 ≡ form_then form
-        (if begins_standard (line_parts line.old.items found).text then Form.Standard else Form.Reversed) }
+        (if begins_standard (line_parts line.old.items found).text then Form.Standard
+        else Form.Reversed) }
     ensures parsed { parsed_line_of line.new.items result.0 ≡ option_map_or entry
-        (option_and_then (entry_of_parts present) (with_raw result.1 (line_parts line.old.items found))) bad }
+        (option_and_then (entry_of_parts own_profile)
+        (with_raw result.1 (line_parts line.old.items found))) bad }
     ensures within { IsWithin line.new.items result.0 }
     ensures len { vec_len line.new ≤ vec_len line.old }
 {
@@ -180,7 +183,7 @@ fn read_name<A: Allocator>(line: &mut Vec<u8, A>, found: LineParts) -> Reading
     requires ordered { found.start ≤ found.stop }
     requires within { found.stop ≤ length line.old.items }
     ensures parsed { parsed_line_of line.new.items result
-        ≡ option_map_or entry (entry_of_parts present (line_parts line.old.items found)) bad }
+        ≡ option_map_or entry (entry_of_parts own_profile (line_parts line.old.items found)) bad }
     ensures within { IsWithin line.new.items result }
     ensures len { vec_len line.new ≤ vec_len line.old }
 {
@@ -203,7 +206,8 @@ fn read_name<A: Allocator>(line: &mut Vec<u8, A>, found: LineParts) -> Reading
 fn unspell<A: Allocator>(line: &mut Vec<u8, A>, escaped: bool, start: usize) -> bool
     requires { start ≤ length line.old.items }
     ensures name { (if result then Some (drop start line.new.items) else None)
-        ≡ (if escaped then unescape present (drop start line.old.items) else Some (drop start line.old.items)) }
+        ≡ (if escaped then unescape own_profile (drop start line.old.items)
+        else Some (drop start line.old.items)) }
     ensures before { take start line.new.items ≡ take start line.old.items }
     ensures len { vec_len line.new ≤ vec_len line.old }
 {

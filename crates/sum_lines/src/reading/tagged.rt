@@ -1,10 +1,10 @@
 //! Tagged lines: a tag, a name in parentheses, `=`, digits.
 
-ghost use Rattle.std.specs.Prelude.{◌≡◌, ◌≤◌, codes, length, IfSome, Some};
-ghost use Rattle.std.specs.Option.{option_copied, option_map, option_or};
 ghost use Rattle.digest_kinds.specs.Bytes.{after_while};
-ghost use Rattle.sum_lines.specs.grammar.Shapes.{is_blank};
+ghost use Rattle.std.specs.Option.{option_copied, option_map, option_or};
+ghost use Rattle.std.specs.Prelude.{◌≡◌, ◌≤◌, codes, length, IfSome, Some};
 ghost use Rattle.sum_lines.specs.grammar.LineParts.{mark_and_rest, strip_prefix, tag_in, tagged_parts};
+ghost use Rattle.sum_lines.specs.grammar.Shapes.{is_blank};
 ghost use Rattle.sum_lines.specs.refinement.Beginnings.{IsFront, line_parts};
 
 use crate::reading::line_parts::{
@@ -16,8 +16,10 @@ use digest_kinds::{Algo, Algos, Digest, Kind};
 #[tactic(auto, using(crate::proofs::ScanLemmas::two_digits), unfolding(crate::specs::grammar::LineParts::tagged_parts))]
 pub(crate) fn tagged(algo: Algo, line: &[u8], front: Front) -> Option<LineParts>
     requires front { IsFront line.now front }
-    requires tag { tag_in (Algos.One algo) (mark_and_rest (after_while is_blank line.now)).1 ≡ Some algo }
-    ensures parts { option_map (line_parts line.now) result ≡ tagged_parts (Algos.One algo) line.now }
+    requires tag { tag_in (Algos.One algo)
+        (mark_and_rest (after_while is_blank line.now)).1 ≡ Some algo }
+    ensures parts { option_map (line_parts line.now) result
+        ≡ tagged_parts (Algos.One algo) line.now }
     ensures range { IfSome result (λ t. (t.start ≤ t.stop) × (t.stop ≤ length line.now)) }
     ensures size { IfSome result (λ t. length t.digest ≡ t.kind.len) }
 {
@@ -51,7 +53,8 @@ pub(crate) fn tagged(algo: Algo, line: &[u8], front: Front) -> Option<LineParts>
 
 // What follows the opening parenthesis, which a space may precede.
 fn past_parenthesis(s: &[u8]) -> Option<&[u8]>
-    ensures { option_copied result ≡ option_or (strip_prefix (codes " (") s.now) (strip_prefix (codes "(") s.now) }
+    ensures { option_copied result
+        ≡ option_or (strip_prefix (codes " (") s.now) (strip_prefix (codes "(") s.now) }
 {
     past_text(b" (", s).or(past_text(b"(", s))
 }

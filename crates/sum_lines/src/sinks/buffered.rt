@@ -1,7 +1,7 @@
 //! A buffer over a sink.
 ghost use Rattle.std.specs.Prelude.{◌≡◌, ◌<◌, ◌≤◌, ◌-◌, ◌+◌, ◌++◌, [], length, min, take, MatchResult};
-ghost use Rattle.sum_lines.specs.Sinks.{GivesAll};
 ghost use Rattle.sum_lines.specs.Buffers.{Accepts, FailsToWrite, WritesAll};
+ghost use Rattle.sum_lines.specs.Sinks.{GivesAll};
 ghost use Rattle.sum_lines.specs.refinement.SinkStates.{MakesRoom};
 
 use crate::sinks::sink::{Sink, SinkFault, give_all};

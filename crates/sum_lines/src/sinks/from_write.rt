@@ -1,6 +1,6 @@
 //! A sink over a writer of the standard library.
-ghost use Rattle.std.specs.Prelude.{◌≡◌, ◌+◌, ◌++◌, Some, unwrap_or, []};
 ghost use Rattle.std.specs.Option.{ForSome};
+ghost use Rattle.std.specs.Prelude.{◌≡◌, ◌+◌, ◌++◌, Some, unwrap_or, []};
 
 use crate::sinks::sink::{Sink, SinkFault};
 use crate::sinks::writes::Writes;
@@ -15,7 +15,8 @@ pub struct FromWrite<W: Write> {
     // the writer as it was at first, and what it took since: only proofs see them
     first: Snapshot<W>,
     log: Writes,
-    ghost known: { ForSome (W.contents first.value) (λ bytes. W.contents writer ≡ Some (bytes ++ log.state.written)) },
+    ghost known: { ForSome (W.contents first.value) (λ bytes. W.contents writer
+        ≡ Some (bytes ++ log.state.written)) },
 }
 
 impl<W: Write> FromWrite<W> {
@@ -37,7 +38,8 @@ impl<W: Write> FromWrite<W> {
     pub fn into_inner(self) -> W
         ensures writer { result ≡ self.writer }
         ensures known { ForSome (W.contents self.first.value) (λ bytes.
-            W.contents result ≡ Some (over_writer (W.contents self.first.value) self.log.state).written) }
+            W.contents result
+            ≡ Some (over_writer (W.contents self.first.value) self.log.state).written) }
     {
         self.writer
     }
@@ -46,7 +48,8 @@ impl<W: Write> FromWrite<W> {
     fn fault(&mut self) -> SinkFault
         ensures writer { self.new.writer ≡ self.old.writer }
         ensures first { self.new.first ≡ self.old.first }
-        ensures log { self.new.log.state ≡ record self.old.log.state { failures = self.old.log.state.failures + 1 } }
+        ensures log { self.new.log.state
+            ≡ record self.old.log.state { failures = self.old.log.state.failures + 1 } }
     {
         self.log = self.log.and_failure();
         SinkFault

@@ -49,13 +49,17 @@ impl<const N: usize> Sink for ToldSink<N> {
     /// Accepts what there is room for. `SinkFault` if and only if there is no room and the piece isn't empty. There is
     /// no room from then on.
     fn write(&mut self, piece: &[u8]) -> Result<usize, SinkFault>
-        ensures bytes { WritesSome (told_sink_state self.old) (told_sink_state self.new) piece.now result }
+        ensures bytes { WritesSome (told_sink_state self.old) (told_sink_state self.new)
+            piece.now result }
         ensures empty { piece.now ≡ [] → result ≡ Ok 0 }
-        ensures count { IfOk result (λ n. n ≡ min (remaining_capacity self.old) (length piece.now)) }
+        ensures count { IfOk result (λ n. n
+            ≡ min (remaining_capacity self.old) (length piece.now)) }
         // It fails if and only if there is no room for a byte.
         ensures full { IsErr result ↔ ((remaining_capacity self.old ≡ 0) × (0 < length piece.now)) }
-        ensures room { IfOk result (λ n. remaining_capacity self.new + n ≡ remaining_capacity self.old) }
-        ensures room_on_err { OnErr result (remaining_capacity self.new ≡ remaining_capacity self.old) }
+        ensures room { IfOk result (λ n. remaining_capacity self.new + n
+            ≡ remaining_capacity self.old) }
+        ensures room_on_err { OnErr result (remaining_capacity self.new
+            ≡ remaining_capacity self.old) }
     {
         if piece.is_empty() {
             self.log = self.log.and(piece, &[]);

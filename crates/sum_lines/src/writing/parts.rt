@@ -1,6 +1,7 @@
 //! Texts written in parts.
 ghost use Rattle.std.specs.Prelude.{decimal};
 ghost use Rattle.sum_lines.specs.Buffers.{WritesAll};
+ghost use Rattle.sum_lines.specs.refinement.PartTexts.{part_text, parts_text};
 
 use crate::escape::put_escaped;
 use crate::sinks::buffered::{Buffered, put_all};
@@ -18,8 +19,6 @@ pub enum Part<'a> {
     /// A number in decimal digits, without a leading zero.
     Number(u64),
 }
-
-ghost use Rattle.sum_lines.specs.refinement.PartTexts.{part_text, parts_text};
 
 /// Writes the parts, one after another. `SinkFault` as `put_all`.
 #[doc(hidden)]

@@ -1,6 +1,11 @@
 //! The line that is written for a name and its digest.
+ghost use Rattle.hex.specs.Hex.{encode_lower};
 ghost use Rattle.std.specs.Prelude.{◌≡◌, length};
 ghost use Rattle.sum_lines.specs.Buffers.{WritesAll};
+ghost use Rattle.sum_lines.specs.Escape.{own_profile, escape, escape_differs};
+ghost use Rattle.sum_lines.specs.Lines.{layout, line};
+ghost use Rattle.sum_lines.specs.grammar.Shapes.{mark};
+ghost use Rattle.sum_lines.specs.refinement.PartTexts.{part_text};
 
 use crate::escape::needs_escape;
 use crate::sinks::buffered::{Buffered, put_all};
@@ -27,12 +32,6 @@ pub struct Style {
     /// Whether lines end with NUL and names aren't escaped.
     pub zero: bool,
 }
-
-ghost use Rattle.sum_lines.specs.Lines.{layout, line};
-ghost use Rattle.hex.specs.Hex.{encode_lower};
-ghost use Rattle.sum_lines.specs.refinement.PartTexts.{part_text};
-ghost use Rattle.sum_lines.specs.Escape.{present, escape, escape_differs};
-ghost use Rattle.sum_lines.specs.grammar.Shapes.{mark};
 
 /// Writes the line of a name and its digest to the buffer. The digest has the kind's length.
 /// `SinkFault` as `put_all`.
@@ -71,7 +70,7 @@ fn digits_of<'a>(digest: &Digest, buffer: &'a mut [u8; 128]) -> &'a [u8]
 /// once.
 #[doc(hidden)]
 pub fn mark_and_name(name: &[u8]) -> (&'static [u8], Part<'_>)
-    ensures mark { result.0.now ≡ mark (escape_differs present name.now) }
+    ensures mark { result.0.now ≡ mark (escape_differs own_profile name.now) }
     ensures name { part_text result.1 ≡ escape name.now }
 {
     if needs_escape(name) {

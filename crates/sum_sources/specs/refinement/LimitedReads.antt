@@ -1,8 +1,7 @@
 -- What a read up to the limit adds to what was read.
 use Rattle.std.specs.Prelude.{ℕ, zero, suc, ◌≡◌, ◌≢◌, ◌+◌, ◌^◌, ◌<◌, ◌≤◌, ◌++◌, length, Result, Ok, Err, IfOk}
 use Rattle.sum_sources.specs.Contents.{Content, Ending, Whole, Broken, Reads, InputState, IsOf, IsSameInput, clip, Fault}
-use Rattle.sum_sources.specs.Faults.{ByteString}
-use Rattle.sum_sources.specs.Phases.{Ended, Past}
+use Rattle.sum_sources.specs.{Faults.ByteString, Phases.Ended, Phases.Past}
 
 -- an input was found to end so, as far as the limit allows, if it had given so many bytes
 pub record FindsEnding (taken : ℕ) (a b : Reads) (e : Ending) : Type 0 where

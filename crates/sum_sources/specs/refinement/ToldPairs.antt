@@ -1,10 +1,7 @@
 -- Views of inputs in memory, and of the answers and pairs of a source in memory.
 use Rattle.std.specs.Prelude.{Ok, Err}
-use Rattle.sum_sources.specs.declared.inputs.told.Told.{Told}
-use Rattle.sum_sources.specs.declared.sources.told_source.Answer.{Answer as ToldAnswer}
-use Rattle.sum_sources.specs.declared.sources.told_source.StoredPair.{StoredPair}
-use Rattle.sum_sources.specs.Sources.{Answer, Pair}
-use Rattle.sum_sources.specs.StandardInput.{ToldContent}
+use Rattle.sum_sources.specs.declared.{inputs.told.Told.Told, sources.told_source.Answer.Answer as ToldAnswer, sources.told_source.StoredPair.StoredPair}
+use Rattle.sum_sources.specs.{Sources.Answer, Sources.Pair, StandardInput.ToldContent}
 use Rattle.sum_sources.specs.declared.sources.told_source.Answer.TheVariants as answers
 
 -- the value of an answer

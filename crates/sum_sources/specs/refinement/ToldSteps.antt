@@ -2,9 +2,7 @@
 use Rattle.std.specs.Prelude.{ℕ, ◌≡◌, ◌<◌, ◌≤◌, ◌++◌, take, length, Result, MatchResult}
 use Rattle.std.specs.Result.{result_unwrap_or}
 use Rattle.sum_sources.specs.Contents.{Content, Ending, Reads, Whole, Broken, Fault}
-use Rattle.sum_sources.specs.Faults.{ByteString}
-use Rattle.sum_sources.specs.StandardInput.{told_reads}
-use Rattle.sum_sources.specs.Phases.{Phase, Ended}
+use Rattle.sum_sources.specs.{Faults.ByteString, StandardInput.told_reads, Phases.Phase, Phases.Ended}
 
 -- of a content of which m bytes were given, a read gave those up to the first n; or, if none was left, its ending
 pub record GivesFrom (c : Content) (m n size : ℕ) (r : Result ℕ Fault) (buf : ByteString) : Type 0 where

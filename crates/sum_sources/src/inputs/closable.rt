@@ -1,7 +1,7 @@
 //! An input that may be closed.
 ghost use Rattle.std.specs.Prelude.{◌≡◌, pos};
-ghost use Rattle.sum_sources.specs.StandardInput.{unless_closed};
 ghost use Rattle.sum_sources.specs.InputLaws.{closable_has_content};
+ghost use Rattle.sum_sources.specs.StandardInput.{unless_closed};
 
 use crate::fault::EBADF;
 use crate::{Ending, Fault, Input, Phase};

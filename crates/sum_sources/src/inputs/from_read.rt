@@ -1,6 +1,6 @@
 //! Inputs over std's readers.
-ghost use Rattle.std.specs.Prelude.{◌≡◌, ◌≤◌, length, IfOk, IfSome, MatchOption};
 ghost use Rattle.std.specs.Io.KnownBytes.{Keeps, ReadConsumes};
+ghost use Rattle.std.specs.Prelude.{◌≡◌, ◌≤◌, length, IfOk, IfSome, MatchOption};
 ghost use Rattle.sum_sources.specs.Contents.{and_read};
 ghost use Rattle.sum_sources.specs.Logs.{no_reads};
 
@@ -59,7 +59,8 @@ impl<R: Read> FromRead<R> {
     pub(crate) fn read_once(&mut self, buf: &mut [u8]) -> Option<Result<usize, Fault>>
         ensures count { IfSome result (λ read. IfOk read (λ n. n ≤ length buf.new)) }
         ensures size { length buf.new ≡ length buf.old }
-        ensures given { MatchOption result (Keeps (R.remaining self.old.reader) (R.remaining self.new.reader)) (λ read.
+        ensures given { MatchOption result
+            (Keeps (R.remaining self.old.reader) (R.remaining self.new.reader)) (λ read.
             ReadConsumes (R.remaining self.old.reader) (R.remaining self.new.reader) read buf.new) }
         ensures log { MatchOption result (self.new.log ≡ self.old.log)
             (λ read. self.new.log ≡ and_read self.old.log buf.new read) }

@@ -1,6 +1,6 @@
 //! Reads that go on after interruptions. They stand apart from `FromRead`, so that they can't touch its reader and log.
-ghost use Rattle.std.specs.Prelude.{◌≡◌, ◌≤◌, length, IfOk};
 ghost use Rattle.std.specs.Io.KnownBytes.{ReadConsumes};
+ghost use Rattle.std.specs.Prelude.{◌≡◌, ◌≤◌, length, IfOk};
 ghost use Rattle.sum_sources.specs.Contents.{and_read};
 
 use crate::{Fault, FromRead, Input};
@@ -15,7 +15,8 @@ impl<R: Read> Input for FromRead<R> {
     fn read(&mut self, buf: &mut [u8]) -> Result<usize, Fault>
         ensures count { IfOk result (λ n. n ≤ length buf.new) }
         ensures size { length buf.new ≡ length buf.old }
-        ensures given { ReadConsumes (R.remaining self.old.reader) (R.remaining self.new.reader) result buf.new }
+        ensures given { ReadConsumes (R.remaining self.old.reader) (R.remaining self.new.reader)
+            result buf.new }
         ensures log { self.new.log ≡ and_read self.old.log buf.new result }
     {
         for _ in 0..INTERRUPTIONS {

@@ -1,8 +1,8 @@
 //! Reading up to the limit of 2^61 bytes.
 ghost use Rattle.std.specs.Prelude.{◌≡◌, ◌<◌, ◌^◌, length, take};
 ghost use Rattle.std.specs.Result.{result_unwrap_or};
-ghost use Rattle.sum_sources.specs.refinement.LimitedReads.{CountsLimited, CountsBytes, AddsLimited};
 ghost use Rattle.sum_sources.specs.Phases.{Unfinished};
+ghost use Rattle.sum_sources.specs.refinement.LimitedReads.{CountsLimited, CountsBytes, AddsLimited};
 
 use crate::{Fault, Input, PIECE};
 use digest_kinds::LIMIT;

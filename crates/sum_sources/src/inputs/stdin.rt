@@ -20,8 +20,8 @@ pub struct Stdin<I: Input> {
 }
 
 impl<I: Input> Model for Stdin<I> {
-    ghost use Rattle.sum_sources.specs.declared.inputs.stdin.StdinPlace.{StdinPlace};
     ghost use Rattle.sum_sources.specs.StandardInput.{IsUnreadUntilTaken};
+    ghost use Rattle.sum_sources.specs.declared.inputs.stdin.StdinPlace.{StdinPlace};
 
     ghost Value = { StdinPlace I };
 
@@ -86,8 +86,8 @@ impl<I: Input + Drop> Stdin<I> {
 }
 
 impl<I: Input> Input for Given<I> {
-    ghost use Rattle.sum_sources.specs.StandardInput.{unless_closed};
     ghost use Rattle.sum_sources.specs.InputLaws.{closable_has_content};
+    ghost use Rattle.sum_sources.specs.StandardInput.{unless_closed};
 
     ghost state = { λ s. unless_closed I.state s };
 

@@ -17,7 +17,8 @@ pub struct Told<'a> {
     phase: Phase,
     log: ReadLog,
     // No Model: the borrow checker doesn't cover a source whose files have one and a lifetime.
-    ghost is: { ToldInvariant (record { bytes = bytes.now; ending = ending }) given piece phase log.reads },
+    ghost is: { ToldInvariant (record { bytes = bytes.now; ending = ending }) given piece
+        phase log.reads },
 }
 
 impl<'a> Told<'a> {
@@ -81,7 +82,8 @@ fn give(
     ensures few { given.new ≤ length bytes.now }
     ensures count { IfOk result (λ n. n ≤ length buf.new) }
     ensures size { length buf.new ≡ length buf.old }
-    ensures gives { GivesFrom (record { bytes = bytes.now; ending = ending }) given.old given.new (length buf.old)
+    ensures gives { GivesFrom (record { bytes = bytes.now; ending = ending }) given.old given.new
+        (length buf.old)
         result buf.new }
 {
     let rest = &bytes[*given..];

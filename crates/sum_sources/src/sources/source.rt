@@ -26,7 +26,8 @@ pub trait Source {
     /// refused; then the name isn't recorded as asked.
     fn open_file(&mut self, name: &[u8]) -> Result<Self::File, OpenFault>
         ensures state { state self.new ≡ after_opening (state self.old) name.now result }
-        ensures file { IfOk result (λ file. Self.File.state file ≡ opened_file (state self.old) name.now) };
+        ensures file { IfOk result (λ file. Self.File.state file
+            ≡ opened_file (state self.old) name.now) };
 
     /// Closes a file that this source opened, and keeps what was read of it.
     fn close_file(&mut self, file: Self::File)

@@ -1,6 +1,6 @@
 //! A source of files in memory.
-ghost use Rattle.std.specs.Prelude.{◌≡◌, ◌++◌, ◌∷◌, [], OnOk, OnErr, MatchBool, length, map, max, slice_get};
 ghost use Rattle.std.specs.Option.{option_map};
+ghost use Rattle.std.specs.Prelude.{◌≡◌, ◌++◌, ◌∷◌, [], OnOk, OnErr, MatchBool, length, map, max, slice_get};
 ghost use Rattle.sum_sources.specs.InMemory.{told_source};
 ghost use Rattle.sum_sources.specs.Sources.{first_answer};
 ghost use Rattle.sum_sources.specs.refinement.ToldPairs.{pair_of, answer_value};
@@ -104,7 +104,8 @@ impl<'a, A: Allocator + Copy> ToldSource<'a, A> {
 
     /// The name at place `i`, from 0, of the names asked so far.
     pub fn asked_name(&self, i: usize) -> Option<&[u8]>
-        ensures { option_map (λ n. n.now) result ≡ slice_get (map (λ o. o.name) self.now.openings) i }
+        ensures { option_map (λ n. n.now) result
+            ≡ slice_get (map (λ o. o.name) self.now.openings) i }
     {
         match self.asked.get(i) {
             Some(name) => Some(name.as_slice()),

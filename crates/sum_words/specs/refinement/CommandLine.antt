@@ -1,9 +1,8 @@
 -- Relates what was read of the command line to the list of arguments, if that is known.
 use Rattle.std.specs.Prelude.{ℕ, ◌≡◌, ◌<◌, List, length, slice_get, Option, None, Some, IfSome, IsSomeAnd}
 use Rattle.sum_words.specs.declared.command_line.CommandLine.{CommandLine}
-use Rattle.sum_words.specs.Items.{ByteString}
+use Rattle.sum_words.specs.{Items.ByteString, Tools.Tool}
 use Rattle.sum_words.specs.declared.command_line.CommandLine.TheVariants.{UnknownTool, Invoke}
-use Rattle.sum_words.specs.Tools.{Tool}
 
 -- the argument at a place is this one, or there is none
 abbrev pub ArgumentIs : Option (List ByteString) → ℕ → Option ByteString → Type 0

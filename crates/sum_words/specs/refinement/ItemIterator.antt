@@ -1,12 +1,9 @@
 -- Relates the iterator over the words to the list of items: the values of its types, and the items that remain.
 use Rattle.std.specs.Prelude.{ℕ, ◌≡◌, map, List, [], ◌∷◌, Option, None, Some, chars, encode_utf8_all}
-use Rattle.sum_words.specs.declared.tool.Tool.{Tool}
-use Rattle.sum_words.specs.declared.messages.word_faults.WordFault.{WordFault}
+use Rattle.sum_words.specs.declared.{tool.Tool.Tool, messages.word_faults.WordFault.WordFault, parsing.items.Item.Item as WordItem}
 use Rattle.sum_words.specs.WordFaults as faults
 use Rattle.sum_words.specs.WordFaults.{Short}
-use Rattle.sum_words.specs.declared.parsing.items.Item.{Item as WordItem}
-use Rattle.sum_words.specs.declared.parsing.items.ParserState.{ParserState}
-use Rattle.sum_words.specs.declared.parsing.items.ParserStep.{ParserStep}
+use Rattle.sum_words.specs.declared.{parsing.items.ParserState.ParserState, parsing.items.ParserStep.ParserStep}
 use Rattle.sum_words.specs.Items.{ByteString, ItemValue, option, length_value, operand, fault, a_word, a_value, cluster, items_from, full_name}
 use Rattle.sum_words.specs.declared.messages.word_faults.WordFault.TheVariants as words
 use Rattle.sum_words.specs.declared.parsing.items.Item.TheVariants as items

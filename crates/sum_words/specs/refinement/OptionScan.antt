@@ -1,16 +1,11 @@
 -- Relates the scan of the options to the request: the values so far, and what they make of it.
 use Rattle.std.specs.Prelude.{ℕ, ◌≡◌, ◌<◌, ◌^◌, ◌&&◌, ◌||◌, not, bytes_eq, true, Bool, List, [], Option, None, Some, SomeIff, Result, Ok, Err, option_copied, filter_map}
-use Rattle.std.specs.List.{last_or}
-use Rattle.std.specs.Str.{all_ascii_digits}
-use Rattle.std.specs.Str.Parse.{digits_value}
+use Rattle.std.specs.{List.last_or, Str.all_ascii_digits, Str.Parse.digits_value}
 use Rattle.sum_words.specs.Request.{report_flag, early_request, has, last_of, mode_flags, report_flags}
 use Rattle.sum_words.specs.Items.{Flag, ByteString, ItemValue, option_in, value_in}
-use Rattle.sum_words.specs.declared.messages.word_faults.WordFault.{WordFault}
-use Rattle.sum_words.specs.declared.parsing.request.Chosen.{Chosen}
-use Rattle.sum_words.specs.declared.parsing.request.ScannedOptions.{ScannedOptions}
+use Rattle.sum_words.specs.declared.{messages.word_faults.WordFault.WordFault, parsing.request.Chosen.Chosen, parsing.request.ScannedOptions.ScannedOptions}
 use Rattle.sum_words.specs.declared.parsing.request.ScannedOptions.TheVariants.{Options, Early}
-use Rattle.sum_words.specs.WordFaults.{WordFaultValue}
-use Rattle.sum_words.specs.refinement.ItemIterator.{word_fault_value}
+use Rattle.sum_words.specs.{WordFaults.WordFaultValue, refinement.ItemIterator.word_fault_value}
 use Rattle.sum_words.specs.declared.parsing.options.Flag.TheVariants as flags
 
 -- an option was given earlier, or is in the rest, exactly if it is among all

@@ -26,7 +26,8 @@ pub fn put_help<O: Sink>(out: &mut Buffered<O>, tool: Tool) -> Result<(), SinkFa
 
 // What the tool is for: the algorithm's tag, and what precedes and follows it.
 fn purpose(tool: Tool) -> (Part<'static>, Part<'static>, Part<'static>)
-    ensures { part_text result.0 ++ part_text result.1 ++ part_text result.2 ≡ purpose (algos_of tool) }
+    ensures { part_text result.0 ++ part_text result.1 ++ part_text result.2
+        ≡ purpose (algos_of tool) }
 {
     let (prefix, tag, suffix) = match tool.algos() {
         Algos::One(algo) => ("Print or check ", algo.tag(), " checksums."),
@@ -41,7 +42,8 @@ fn purpose(tool: Tool) -> (Part<'static>, Part<'static>, Part<'static>)
 
 // Writes the lines of those of these options that the tool has.
 fn put_options<O: Sink>(out: &mut Buffered<O>, tool: Tool, flags: &[Flag]) -> Result<(), SinkFault>
-    ensures { WritesAll out.old out.new (flat_map help_line (filter (has_option tool) flags.now)) result }
+    ensures { WritesAll out.old out.new
+        (flat_map help_line (filter (has_option tool) flags.now)) result }
 {
     for flag in flags {
         put_option(out, tool, *flag)?;
@@ -51,7 +53,8 @@ fn put_options<O: Sink>(out: &mut Buffered<O>, tool: Tool, flags: &[Flag]) -> Re
 
 // Writes the line of an option, if the tool has it.
 fn put_option<O: Sink>(out: &mut Buffered<O>, tool: Tool, flag: Flag) -> Result<(), SinkFault>
-    ensures { WritesAll out.old out.new (flat_map help_line (filter (has_option tool) (flag ∷ []))) result }
+    ensures { WritesAll out.old out.new
+        (flat_map help_line (filter (has_option tool) (flag ∷ []))) result }
 {
     if !has_option(tool, flag) {
         return put_all(out, b"");

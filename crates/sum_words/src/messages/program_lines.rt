@@ -2,9 +2,9 @@
 ghost use Rattle.std.specs.Prelude.{◌≡◌, ◌++◌};
 ghost use Rattle.sum_lines.specs.Buffers.{WritesAll};
 ghost use Rattle.sum_lines.specs.refinement.PartTexts.{part_text};
-ghost use Rattle.sum_words.specs.declared.tool.Tool.{Tool};
-ghost use Rattle.sum_words.specs.Tools.{name_of};
 ghost use Rattle.sum_words.specs.Texts.{stop_line, unknown_tool_line, not_read_line};
+ghost use Rattle.sum_words.specs.Tools.{name_of};
+ghost use Rattle.sum_words.specs.declared.tool.Tool.{Tool};
 
 use crate::tool::Tool;
 use sum_engine::Stop;

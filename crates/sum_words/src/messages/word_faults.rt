@@ -2,9 +2,9 @@
 ghost use Rattle.std.specs.Prelude.{◌≡◌, ◌++◌};
 ghost use Rattle.sum_lines.specs.Buffers.{WritesAll};
 ghost use Rattle.sum_lines.specs.refinement.PartTexts.{part_text};
+ghost use Rattle.sum_words.specs.Texts.{fault_lines};
 ghost use Rattle.sum_words.specs.WordFaults.{WordFaultValue, wording};
 ghost use Rattle.sum_words.specs.refinement.ItemIterator.{word_fault_value};
-ghost use Rattle.sum_words.specs.Texts.{fault_lines};
 
 use crate::parsing::options::Spelling;
 use crate::tool::Tool;
@@ -89,7 +89,8 @@ fn put_lines<'a, E: Sink>(
 // A full name needs no escape.
 #[rattlefmt::skip]
 fn wording<'a>(fault: WordFault<'a>, buffer: &'a mut [u8; 4]) -> (&'static str, Part<'a>, &'static str)
-    ensures { result.0.now ++ part_text result.1 ++ result.2.now ≡ wording (word_fault_value fault.entry) }
+    ensures { result.0.now ++ part_text result.1 ++ result.2.now
+        ≡ wording (word_fault_value fault.entry) }
 {
     match fault {
         WordFault::UnknownLong(name) => ("unrecognized option '--", Part::Escaped(name.as_bytes()), "'"),

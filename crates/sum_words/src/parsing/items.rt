@@ -1,14 +1,12 @@
 //! The items of a tool's words, and those that are operands.
-ghost use Rattle.std.specs.Prelude.{◌≡◌, ◌==◌, List, [], ◌∷◌, MatchOption, drop, length, true, false, filter_map};
 ghost use Rattle.std.specs.Iterator.{item_count};
 ghost use Rattle.std.specs.List.{starts_with};
 ghost use Rattle.std.specs.Option.{option_copied};
+ghost use Rattle.std.specs.Prelude.{◌≡◌, ◌==◌, List, [], ◌∷◌, MatchOption, drop, length, true, false, filter_map};
 ghost use Rattle.std.specs.Str.{chars};
+ghost use Rattle.sum_words.specs.Items.{ByteString, a_word, name_part, value_part, long_option, name_or_fault, cluster, is_option_word, items_from, operand_in};
 ghost use Rattle.sum_words.specs.declared.tool.Tool.{Tool};
-ghost use Rattle.sum_words.specs.Items.{ByteString, a_word, name_part, value_part, long_option, name_or_fault};
-ghost use Rattle.sum_words.specs.Items.{cluster, is_option_word, items_from, operand_in};
-ghost use Rattle.sum_words.specs.refinement.ItemIterator.{attached_value, remaining_items, step_items};
-ghost use Rattle.sum_words.specs.refinement.ItemIterator.{item_value, TakesFirst};
+ghost use Rattle.sum_words.specs.refinement.ItemIterator.{attached_value, remaining_items, step_items, item_value, TakesFirst};
 
 use crate::messages::word_faults::WordFault;
 use crate::parsing::options::{Flag, Spelling};

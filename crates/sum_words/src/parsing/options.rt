@@ -1,9 +1,8 @@
 //! The options of the tools, by name and by letter (coreutils manual, "md5sum invocation" and "b2sum invocation").
-ghost use Rattle.std.specs.Prelude.{◌≡◌, ◌==◌, ◌&&◌, [], ◌∷◌, find, option_to_list};
 ghost use Rattle.std.specs.List.{filter, starts_with};
+ghost use Rattle.std.specs.Prelude.{◌≡◌, ◌==◌, ◌&&◌, [], ◌∷◌, find, option_to_list};
 ghost use Rattle.std.specs.Str.{bytes_eq};
-ghost use Rattle.sum_words.specs.Items.{row_of, full_name, all_flags, flags_of, has_option, takes_value};
-ghost use Rattle.sum_words.specs.Items.{option_of_letter, only_or_fault, name_or_fault};
+ghost use Rattle.sum_words.specs.Items.{row_of, full_name, all_flags, flags_of, has_option, takes_value, option_of_letter, only_or_fault, name_or_fault};
 ghost use Rattle.sum_words.specs.refinement.OptionScan.{result_value};
 
 use crate::messages::word_faults::WordFault;

@@ -1,6 +1,5 @@
 use Rattle.std.proofs.Common.{refl}
-use Rattle.blake2b_core.specs.refinement.Columns.{columns, diagonals, schedule}
-use Rattle.blake2b_core.specs.Compression.{round}
+use Rattle.blake2b_core.specs.{refinement.Columns.columns, refinement.Columns.diagonals, refinement.Columns.schedule, Compression.round}
 use Rattle.blake2b_core.proofs.compression.round.Goals as goal
 
 -- the columns, and then the diagonals

@@ -22,5 +22,6 @@ returns-in-Ok-Help-clause-behavior g c =
 pub returns-in-Ok-Version-clause-behavior : goal.returns-in-Ok-Version-clause-behavior
 returns-in-Ok-Version-clause-behavior g c =
     let wrote = c.put_out_message-in-Ok-Version in
-    rw (c.in-Ok-Version.is, c.in-Ok-Version.field-0-is) (Performs-texts c.args.streams.now _ [] (version c.args.tool) true
+    rw (c.in-Ok-Version.is, c.in-Ok-Version.field-0-is)
+    (Performs-texts c.args.streams.now _ [] (version c.args.tool) true
     _ (writes_and_returns wrote.result c.outcome_after-in-Ok-Version.ensures wrote.ensures))

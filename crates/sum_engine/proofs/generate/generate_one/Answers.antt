@@ -1,11 +1,8 @@
 use Rattle.std.proofs.Common.{refl, true, false, ap, sym, ◌∙◌}
 use Rattle.std.proofs.lemmas.Result.{err_from_is_err_and}
-use Rattle.sum_engine.specs.Behavior.{answer_to, digest_or_fault}
-use Rattle.sum_engine.specs.Generation.{generate_behavior, generate_behavior_by}
-use Rattle.sum_engine.proofs.BehaviorLemmas.{Performs-step, Performs-refused}
-use Rattle.sum_engine.proofs.FlushedWriteLemmas.{returned, writes_and_returns}
-use Rattle.sum_engine.proofs.GenerateLemmas.{fault_found, one_step, refused_memory}
-use Rattle.sum_engine.proofs.WorldLemmas.{reads_weaker}
+use Rattle.sum_engine.specs.{Behavior.answer_to, Behavior.digest_or_fault, Generation.generate_behavior, Generation.generate_behavior_by}
+use Rattle.sum_engine.proofs.{BehaviorLemmas.Performs-step, BehaviorLemmas.Performs-refused, FlushedWriteLemmas.returned, FlushedWriteLemmas.writes_and_returns}
+use Rattle.sum_engine.proofs.{GenerateLemmas.fault_found, GenerateLemmas.one_step, GenerateLemmas.refused_memory, WorldLemmas.reads_weaker}
 use Rattle.sum_engine.proofs.generate.generate_one.Goals as goal
 
 -- the name was read, and its line written

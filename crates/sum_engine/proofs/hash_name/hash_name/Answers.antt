@@ -13,13 +13,15 @@ returns-in_err-file g c =
 -- it was hashed
 pub returns-in-Ok : goal.returns-in-Ok
 returns-in-Ok g c =
-    name_hashed _ c.in_ok-file.ensures (opened_has_content g.I.Input.state g.S.File.Input.state g.met.I.Input.has_content
+    name_hashed _ c.in_ok-file.ensures
+    (opened_has_content g.I.Input.state g.S.File.Input.state g.met.I.Input.has_content
     g.met.S.File.Input.has_content c.hash-found.new.file) c.hash-found.ensures.same c.close.ensures
     (Ok _) c.in-Ok.ensures.hashes c.in-Ok.ensures.len
 
 -- reading it failed
 pub returns-in-Err : goal.returns-in-Err
 returns-in-Err g c =
-    name_hashed _ c.in_ok-file.ensures (opened_has_content g.I.Input.state g.S.File.Input.state g.met.I.Input.has_content
+    name_hashed _ c.in_ok-file.ensures
+    (opened_has_content g.I.Input.state g.S.File.Input.state g.met.I.Input.has_content
     g.met.S.File.Input.has_content c.hash-found.new.file) c.hash-found.ensures.same c.close.ensures
     (Err _) c.in-Err.ensures.hashes tt

@@ -1,6 +1,5 @@
 use Rattle.std.proofs.Common.{refl}
-use Rattle.sum_lines.proofs.SinkLemmas.{HasLeft-step, HasLeft-stop, HasLeft-last}
-use Rattle.sum_lines.proofs.EscapeLemmas.{escape-parts}
+use Rattle.sum_lines.proofs.{SinkLemmas.HasLeft-step, SinkLemmas.HasLeft-stop, SinkLemmas.HasLeft-last, EscapeLemmas.escape-parts}
 use Rattle.sum_lines.proofs.escape.put_escaped.Goals as goal
 
 -- the bytes up to the first special one failed

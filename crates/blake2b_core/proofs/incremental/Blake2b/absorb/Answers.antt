@@ -1,6 +1,5 @@
 use Rattle.std.proofs.Common.{◌≡◌, ℕ, ◌+◌, ◌*◌, ◌≤◌, List, ◌++◌, length, take, ap, sym, ◌∙◌, arith, length-append}
-use Rattle.std.proofs.lemmas.Grind.{common_steps}
-use Rattle.std.proofs.lemmas.List.{drop_at, length-take-le}
+use Rattle.std.proofs.lemmas.{Grind.common_steps, List.drop_at, List.length-take-le}
 use Rattle.std.specs.Simd.{first_chunks}
 use Rattle.blake2b_core.specs.Digest.{before_last}
 use Rattle.blake2b_core.proofs.BlockLemmas.{are_blocks, first_chunks_take, hash_after-append}

@@ -1,8 +1,7 @@
 use Rattle.std.proofs.Common.{◌↔◌, IsOk, arith}
 use Rattle.std.proofs.lemmas.Grind.{common_steps}
 use Rattle.digest_kinds.specs.Kinds.{IsDigits}
-use Rattle.digest_kinds.proofs.DigitLemmas.{IsOk-decoded}
-use Rattle.digest_kinds.proofs.digest.Digest.from_hex.Goals.{After-decode_to_slice}
+use Rattle.digest_kinds.proofs.{DigitLemmas.IsOk-decoded, digest.Digest.from_hex.Goals.After-decode_to_slice}
 use Rattle.digest_kinds.proofs.digest.Digest.from_hex.Goals as goal
 
 -- the text is decoded if and only if it is a digest's digits

@@ -1,10 +1,7 @@
 use Rattle.std.proofs.Common.{◌≡◌, true, ap, Ok, ◌∙◌}
-use Rattle.sum_engine.specs.check.Rules.{Rules, labels_of, rules_of}
-use Rattle.sum_engine.specs.refinement.Names.{opened_has_content, opened_state}
-use Rattle.sum_engine.proofs.CheckOneLemmas.{check_opened, no_room, refused}
-use Rattle.sum_engine.proofs.FlushedWriteLemmas.{writes_and_returns}
-use Rattle.sum_engine.proofs.OpenedNameLemmas.{WasOpened, was_opened}
-use Rattle.sum_engine.proofs.WorldLemmas.{reads_fault}
+use Rattle.sum_engine.specs.{check.Rules.Rules, check.Rules.labels_of, check.Rules.rules_of, refinement.Names.opened_has_content, refinement.Names.opened_state}
+use Rattle.sum_engine.proofs.{CheckOneLemmas.check_opened, CheckOneLemmas.no_room, CheckOneLemmas.refused, FlushedWriteLemmas.writes_and_returns}
+use Rattle.sum_engine.proofs.{OpenedNameLemmas.WasOpened, OpenedNameLemmas.was_opened, WorldLemmas.reads_fault}
 use Rattle.sum_engine.proofs.check.check_one.check_one.Given as given
 use Rattle.sum_engine.proofs.check.check_one.check_one.Goals as goal
 
@@ -55,7 +52,8 @@ returns-clause-behavior g c =
     made.labels ∙ ap (λ shown. record { tool = c.args.tool.now; manifest = shown; report = settings.report })
     c.shown_name.ensures in
     check_opened settings c.args.tool.now name c.args.streams.now c.open.new.self c.close.new.self
-    (opened_state g.J.Input.state g.S.File.Input.state c.in-Ok.opened) _ c.run_to_end-result.new.streams c.run_to_end-result.result.0 c.in-Ok.ensures.reads (opened g c)
+    (opened_state g.J.Input.state g.S.File.Input.state c.in-Ok.opened) _ c.run_to_end-result.new.streams
+    c.run_to_end-result.result.0 c.in-Ok.ensures.reads (opened g c)
     (rw (rules, labels, made.start.reader) at c.run_to_end-result.ensures)
 
 pub returns-clause-reads : goal.returns-clause-reads

@@ -1,8 +1,7 @@
 use Rattle.std.proofs.Common.{rules, ◌≡◌, ℕ, List, [], None, Some, Ok, Err, refl}
 use Rattle.sum_lines.proofs.EventLemmas.{Gets-none}
 use Rattle.sum_lines.specs.Escape.{Profile}
-use Rattle.sum_engine.specs.check.Judge.{Ignored}
-use Rattle.sum_engine.specs.check.Reports.{Report, out_by}
+use Rattle.sum_engine.specs.{check.Judge.Ignored, check.Reports.Report, check.Reports.out_by}
 use Rattle.sum_engine.specs.declared.settings.Report.TheVariants.{Quiet, Status}
 use Rattle.sum_engine.proofs.FlushedWriteLemmas.{writes_and_returns}
 use Rattle.sum_sources.specs.declared.line_reader.LineStop.TheVariants.{Fault}

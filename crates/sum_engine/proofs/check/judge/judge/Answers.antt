@@ -1,5 +1,4 @@
-use Rattle.sum_engine.proofs.VerdictLemmas.{verdict_read}
-use Rattle.sum_engine.proofs.WorldLemmas.{reads_weaker}
+use Rattle.sum_engine.proofs.{VerdictLemmas.verdict_read, WorldLemmas.reads_weaker}
 use Rattle.sum_engine.proofs.check.judge.judge.Goals as goal
 
 -- the file was read to its end, unless the verdict says that it could not be read

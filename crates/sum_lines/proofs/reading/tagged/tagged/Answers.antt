@@ -2,8 +2,7 @@ use Rattle.std.proofs.Common.{sym, arith, length, ◌∙◌}
 use Rattle.std.proofs.lemmas.Bool.{eqb-false}
 use Rattle.sum_lines.proofs.ScanLemmas.{two_digits, decoded-digits, front-ends, name_place, tagged-none, tagged-read}
 use Rattle.sum_lines.specs.grammar.Shapes.{One}
-use Rattle.sum_lines.proofs.PrefixLemmas.{text}
-use Rattle.sum_lines.proofs.TaggedLemmas.{tag_in-some}
+use Rattle.sum_lines.proofs.{PrefixLemmas.text, TaggedLemmas.tag_in-some}
 use Rattle.sum_lines.proofs.reading.tagged.tagged.Goals as goal
 
 -- the text begins with the tag

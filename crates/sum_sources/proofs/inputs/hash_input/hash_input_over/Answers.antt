@@ -1,8 +1,7 @@
 use Rattle.std.proofs.Common.{rules, arith, refl, ap, ◌≡◌, List, ℕ, length, ◌∙◌}
 use Rattle.std.proofs.lemmas.Result.{err_from_is_err_and}
 use Rattle.sum_sources.specs.Contents.{Content, Ending, Reads, IsOf, clip}
-use Rattle.sum_sources.specs.Phases.{Unfinished}
-use Rattle.sum_sources.specs.refinement.LimitedReads.{FindsEnding}
+use Rattle.sum_sources.specs.{Phases.Unfinished, refinement.LimitedReads.FindsEnding}
 use Rattle.sum_sources.proofs.inputs.hash_input.hash_input_over.Goals as goal
 
 -- the ending was read after these bytes

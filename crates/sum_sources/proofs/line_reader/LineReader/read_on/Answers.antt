@@ -1,13 +1,10 @@
 use Rattle.std.proofs.Common.{rules, arith, refl, ap, sym, append-nil, ◌≡◌, ◌∙◌, [], Ok, Err, length}
-use Rattle.std.proofs.lemmas.Grind.{common_steps}
-use Rattle.std.proofs.lemmas.List.{nil_from_length}
-use Rattle.sum_sources.specs.ManifestLines.{HasNoNewline, Line, NoMore}
-use Rattle.sum_sources.specs.Contents.{Whole, Broken}
+use Rattle.std.proofs.lemmas.{Grind.common_steps, List.nil_from_length}
+use Rattle.sum_sources.specs.{ManifestLines.HasNoNewline, ManifestLines.Line, ManifestLines.NoMore, Contents.Whole, Contents.Broken}
 use Rattle.sum_sources.specs.LineReaders.{IsReading, LineReaderValue}
 use Rattle.sum_sources.proofs.ReadOnLemmas.{HasRead, HasRead-more, HasRead-filled, ends_line, ends_memory, no_line, ends}
-use Rattle.sum_sources.proofs.LineLemmas.{IsNextLine-last, IsNextLine-fault}
+use Rattle.sum_sources.proofs.{LineLemmas.IsNextLine-last, LineLemmas.IsNextLine-fault, line_reader.LineReader.read_on.Goals.In-Ok-false}
 use Rattle.sum_sources.specs.declared.line_reader.LineStop.TheVariants as stops
-use Rattle.sum_sources.proofs.line_reader.LineReader.read_on.Goals.{In-Ok-false}
 use Rattle.sum_sources.proofs.line_reader.LineReader.read_on.Given as given
 use Rattle.sum_sources.proofs.line_reader.LineReader.read_on.Goals as goal
 
@@ -92,6 +89,7 @@ returns-in-Err-fill-clause-line g c =
     let e = c.in-Err-fill.ensures in
     λ reading.
     let h = read reading in
-    ends c.fill.new.self (Broken _) (Err (stops.Fault _)) h none (e.reads h.under_way.phase) (ap length e.reader.0) e.reader.1
+    ends c.fill.new.self (Broken _) (Err (stops.Fault _)) h none (e.reads h.under_way.phase) (ap length e.reader.0)
+    e.reader.1
     (ap (λ a. record c.fill.new.self { final_answer = a }) e.reader.2)
     (IsNextLine-fault _ _ plain) (λ next is. cc)

@@ -16,8 +16,7 @@ use denote.Shadow.{pure_i}
 use denote.Signature.{plain, types_at}
 use denote.Triple.Entry.{alive}
 use denote.Triple.Walked.{says, stay_none_ref, Stays, ends_at, Goes-none_ref}
-use Rattle.sum_sources.specs.contracts.log.Log.{the_row as Row}
-use Rattle.sum_sources.specs.contracts.log.Log.of.{ended, clauses}
+use Rattle.sum_sources.specs.{contracts.log.Log.the_row as Row, contracts.log.Log.of.ended, contracts.log.Log.of.clauses}
 use Rattle.sum_sources.specs.contracts.log.Log.of.Key.{name as #self}
 use Rattle.sum_sources.proofs.log.Log.of.Statement.{statement}
 use Rattle.sum_sources.proofs.log.Log.of.Code as code

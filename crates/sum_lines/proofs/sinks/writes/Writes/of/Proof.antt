@@ -16,8 +16,7 @@ use denote.Shadow.{pure_i}
 use denote.Signature.{plain, types_at}
 use denote.Triple.Entry.{alive}
 use denote.Triple.Walked.{says, stay_none_ref, Stays, ends_at, Goes-none_ref}
-use Rattle.sum_lines.specs.contracts.sinks.writes.Writes.{the_row as Row}
-use Rattle.sum_lines.specs.contracts.sinks.writes.Writes.of.{ended, clauses}
+use Rattle.sum_lines.specs.{contracts.sinks.writes.Writes.the_row as Row, contracts.sinks.writes.Writes.of.ended, contracts.sinks.writes.Writes.of.clauses}
 use Rattle.sum_lines.specs.contracts.sinks.writes.Writes.of.Key.{name as #self}
 use Rattle.sum_lines.proofs.sinks.writes.Writes.of.Statement.{statement}
 use Rattle.sum_lines.proofs.sinks.writes.Writes.of.Code as code

@@ -1,7 +1,5 @@
 use Rattle.std.proofs.Common.{rules, refl, ap, ◌∙◌, ◌≡◌, Ok, Err, map, length}
-use Rattle.sum_sources.specs.Sources.{first_answer}
-use Rattle.sum_sources.specs.StandardInput.{told_file}
-use Rattle.sum_sources.specs.refinement.ToldPairs.{pair_of}
+use Rattle.sum_sources.specs.{Sources.first_answer, StandardInput.told_file, refinement.ToldPairs.pair_of}
 use Rattle.sum_sources.proofs.ToldSourceLemmas.{value, opened_state, count_asked, count_told}
 use Rattle.sum_sources.proofs.sources.told_source.ToldSourceSource.open_file.Goals.{In-Fault, In-Content}
 use Rattle.sum_sources.proofs.sources.told_source.ToldSourceSource.open_file.Given as given
