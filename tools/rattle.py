@@ -233,10 +233,11 @@ def imports_of(line):
     module, names, alias = said.groups()
     if module and names is None:
         yield alias or module.split(".")[-1], (module, None)
-    for name in (names or "").split(","):
-        name, _, other = name.strip().partition(" as ")
+    for path in (names or "").split(","):
+        path, _, other = path.strip().partition(" as ")
+        below, _, name = path.strip().rpartition(".")
         if name:
-            yield (other or name).strip(), (module, name)
+            yield (other or name).strip(), (f"{module}.{below}" if below else module, name)
 
 
 def spellings(name):
