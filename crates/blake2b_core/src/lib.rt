@@ -24,6 +24,3 @@ pub use compression::compress;
 pub use incremental::{Blake2b, LIMIT, MessageTooLong};
 pub use one_shot::blake2b;
 pub use output::Output;
-
-#[cfg(test)]
-mod tests;

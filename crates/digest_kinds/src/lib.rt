@@ -22,8 +22,6 @@ mod interruptions;
 mod kind;
 mod kind_text;
 pub mod laws;
-#[cfg(test)]
-mod tests;
 
 pub use algo::{Algo, Algos, UnknownTag};
 pub use digest::{Digest, NotDigits};

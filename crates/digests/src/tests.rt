@@ -81,27 +81,26 @@ fn spell_all(alloc: Global, files: &[File]) -> Result<Vec<String>, Fail> {
     Ok(contents)
 }
 
-// Adds the files that most examples have: `a`, `e` and two names with special bytes. There is no `x`.
-fn add_usual<A: Allocator + Copy>(source: &mut ToldSource<A>) -> Result<(), NoRoom> {
+// A source of the files that most examples have, which are `a`, `e` and two names with special bytes, and of these. There
+// is no `x`.
+fn source_of<'a>(
+    alloc: Global,
+    piece: usize,
+    files: &[File],
+    contents: &'a [String],
+) -> Result<ToldSource<'a, Global>, NoRoom> {
+    let mut source = ToldSource::new(alloc, piece);
     source.add(b"a", Answer::Content(b"abc", Ending::Whole))?;
     source.add(b"e", Answer::Content(b"", Ending::Whole))?;
     source.add(b"q\\\nz", Answer::Content(b"abc", Ending::Whole))?;
-    source.add(b"a\rb", Answer::Content(b"abc", Ending::Whole))
-}
-
-// Adds files with these contents.
-fn add_all<'a, A: Allocator + Copy>(
-    source: &mut ToldSource<'a, A>,
-    files: &[File],
-    contents: &'a [String],
-) -> Result<(), NoRoom> {
+    source.add(b"a\rb", Answer::Content(b"abc", Ending::Whole))?;
     for ((name, (_, ending)), content) in files.iter().zip(contents) {
         source.add(
             name.as_bytes(),
             Answer::Content(content.as_bytes(), *ending),
         )?;
     }
-    Ok(())
+    Ok(source)
 }
 
 // What a run works on.
@@ -140,22 +139,25 @@ fn run_line<A: Allocator + Copy, const N: usize>(
     Some(run(alloc, tool, &words, streams))
 }
 
-// Asserts that the outputs hold these texts, once they are spelled.
-fn assert_wrote<A: Allocator + Copy, const N: usize>(
+// What a run wrote on standard output and on standard error.
+fn wrote<'s, A: Allocator + Copy, const N: usize>(
+    streams: &'s Stage<'_, A, N>,
+) -> (&'s [u8], &'s [u8]) {
+    let outputs = &streams.outputs;
+    (outputs.out.get_ref().bytes(), outputs.err.get_ref().bytes())
+}
+
+// Asserts that a run of a line, with this outcome, did as its example says.
+fn assert_ended<A: Allocator + Copy, const N: usize>(
     rt: &(impl Abort + AllocGlobal),
     streams: &Stage<A, N>,
-    line: &str,
-    (out, err): (&str, &str),
+    outcome: Option<Result<u8, Stop>>,
+    (line, out, err, status): Example,
 ) -> Result<(), Fail> {
     let (out, err) = (spell(rt.alloc(), out)?, spell(rt.alloc(), err)?);
     assert_eq!(rt;
-        streams.outputs.out.get_ref().bytes(),
-        out.as_bytes(),
-        "{line}"
-    );
-    assert_eq!(rt;
-        streams.outputs.err.get_ref().bytes(),
-        err.as_bytes(),
+        (outcome, wrote(streams)),
+        (Some(Ok(status)), (out.as_bytes(), err.as_bytes())),
         "{line}"
     );
     Ok(())
@@ -169,15 +171,12 @@ fn assert_example(
     files: &[File],
     contents: &[String],
     piece: usize,
-    (line, out, err, status): Example,
+    example: Example,
 ) -> Result<(), Fail> {
-    let mut source = ToldSource::new(rt.alloc(), piece);
-    add_usual(&mut source)?;
-    add_all(&mut source, files, contents)?;
+    let source = source_of(rt.alloc(), piece, files, contents)?;
     let mut streams: Stage<Global, 1024> = stage(Told::new(input, ending, piece), source);
-    let outcome = run_line(rt.alloc(), line, &mut streams);
-    assert_eq!(rt; outcome, Some(Ok(status)), "{line}");
-    assert_wrote(rt, &streams, line, (out, err))
+    let outcome = run_line(rt.alloc(), example.0, &mut streams);
+    assert_ended(rt, &streams, outcome, example)
 }
 
 // The same of each line, in whatever pieces they are read.

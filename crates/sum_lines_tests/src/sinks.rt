@@ -54,25 +54,21 @@ fn writer_of(rt: &impl AllocGlobal, most: usize, fails: Range<u32>, kind: ErrorK
     }
 }
 
-// The first write of a piece by a sink over that writer returns this, by so many writes of the writer, of so many bytes
-// in all. A fault isn't tried again by itself; the next write tries again.
-fn check_first(
-    rt: &impl Abort,
-    mut writer: Writer,
+// Whether the first write of a piece by a sink over the writer returns this, by so many writes of the writer, of so
+// many bytes in all. A fault isn't tried again by itself; the next write tries again.
+fn is_first(
+    writer: &mut Writer,
     piece: &[u8],
     answer: Result<usize, SinkFault>,
     calls: (u32, usize),
-) {
-    let first = offer(&mut FromWrite::new(&mut writer), piece);
-    assert_eq!(rt; first, answer);
-    assert_eq!(rt; (writer.writes, writer.offered), calls);
+) -> bool {
+    let first = offer(&mut FromWrite::new(&mut *writer), piece);
+    let called = (writer.writes, writer.offered);
+    let mut again = Ok(piece.len());
     if first.is_err() && writer.most > 0 {
-        assert_eq!(rt;
-            offer(&mut FromWrite::new(&mut writer), piece),
-            Ok(piece.len())
-        );
+        again = offer(&mut FromWrite::new(&mut *writer), piece);
     }
-    assert_eq!(rt; writer.flushes, 0);
+    (first, again, called, writer.flushes) == (answer, Ok(piece.len()), calls, 0)
 }
 
 #[test]
@@ -85,7 +81,8 @@ fn a_piece_is_one_call_of_a_writer(rt: HostRuntime) {
         (0..1, ErrorKind::WouldBlock, Err(SinkFault), (1, 3)),
         (0..1, ErrorKind::BrokenPipe, Err(SinkFault), (1, 3)),
     ] {
-        check_first(&rt, writer_of(&rt, 3, fails, kind), b"abc", answer, calls);
+        let mut writer = writer_of(&rt, 3, fails, kind);
+        assert!(rt; is_first(&mut writer, b"abc", answer, calls));
     }
     let long = [b'x'; 100_000];
     for (most, piece, answer, calls) in [
@@ -94,14 +91,20 @@ fn a_piece_is_one_call_of_a_writer(rt: HostRuntime) {
         (0, b"abc", Err(SinkFault), (1, 3)),
         (0, b"", Ok(0), (0, 0)),
     ] {
-        check_first(
-            &rt,
-            writer_of(&rt, most, 0..0, interrupted),
-            piece,
-            answer,
-            calls,
-        );
+        let mut writer = writer_of(&rt, most, 0..0, interrupted);
+        assert!(rt; is_first(&mut writer, piece, answer, calls));
     }
+}
+
+// Whether a flush of a buffer over the writer gets this answer, and is asked once.
+fn is_asked_once(writer: &mut Writer, answer: Result<(), SinkFault>) -> bool {
+    let mut sink = Buffered::new(FromWrite::new(writer));
+    let answers = [put(&mut sink, b"abc"), flush(&mut sink)];
+    let writer = sink.into_inner().into_inner();
+    let counts = (writer.writes, writer.offered, writer.flushes);
+    answers == [Ok(()), answer]
+        && counts == (2, 4, 1)
+        && writer.bytes.as_slice() == b"abc".as_slice()
 }
 
 #[test]
@@ -110,16 +113,37 @@ fn a_flush_is_asked_once(rt: HostRuntime) {
         (ErrorKind::Interrupted, Ok(())),
         (ErrorKind::StorageFull, Err(SinkFault)),
     ] {
-        let mut sink = Buffered::new(FromWrite::new(writer_of(&rt, 2, 0..0, kind)));
-        assert_eq!(rt; put(&mut sink, b"abc"), Ok(()));
-        assert_eq!(rt; flush(&mut sink), answer);
-        let writer = sink.into_inner().into_inner();
-        assert_eq!(rt; (writer.writes, writer.offered, writer.flushes), (2, 4, 1));
-        assert_eq!(rt; writer.bytes.as_slice(), b"abc".as_slice());
+        let mut writer = writer_of(&rt, 2, 0..0, kind);
+        assert!(rt; is_asked_once(&mut writer, answer));
         // of a buffer that holds nothing, too
         let mut buffer = Buffered::new(FromWrite::new(writer));
         assert_eq!(rt; flush(&mut buffer), answer);
     }
+}
+
+// The answers of a buffer over the writer: to two pieces and a flush, and to one more.
+fn put_twice(writer: &mut Writer) -> [Result<(), SinkFault>; 5] {
+    let mut sink = Buffered::new(FromWrite::new(writer));
+    [
+        put(&mut sink, b"abc"),
+        put(&mut sink, b"de\n"),
+        flush(&mut sink),
+        put(&mut sink, b"f"),
+        flush(&mut sink),
+    ]
+}
+
+// Whether so many writes bring these bytes, and this is the answer of the first flush alone.
+fn is_one_piece(
+    writer: &mut Writer,
+    answer: Result<(), SinkFault>,
+    bytes: &[u8],
+    writes: u32,
+) -> bool {
+    let answers = put_twice(writer);
+    answers == [Ok(()), Ok(()), answer, Ok(()), Ok(())]
+        && writer.bytes.as_slice() == bytes
+        && writer.writes == writes
 }
 
 // It is one write when it is flushed. A fault in the middle loses what is still buffered, and nothing is tried again.
@@ -131,13 +155,9 @@ fn what_is_buffered_is_one_piece(rt: HostRuntime) {
         (4, 1..1001, Err(SinkFault), b"abcdf", 1002),
     ] {
         let mut writer = writer_of(&rt, most, fails, ErrorKind::Interrupted);
-        let mut buffer = Buffered::new(FromWrite::new(&mut writer));
-        assert_eq!(rt; put(&mut buffer, b"abc"), Ok(()));
-        assert_eq!(rt; put(&mut buffer, b"de\n"), Ok(()));
-        assert_eq!(rt; flush(&mut buffer), answer);
-        assert_eq!(rt; put(&mut buffer, b"f"), Ok(()));
-        assert_eq!(rt; flush(&mut buffer), Ok(()));
-        let _ = buffer.into_inner();
-        assert_eq!(rt; (writer.bytes.as_slice(), writer.writes), (bytes, writes));
+        assert!(rt;
+            is_one_piece(&mut writer, answer, bytes, writes),
+            "{writes}"
+        );
     }
 }

@@ -30,102 +30,121 @@ const ZERO: Style = Style {
     zero: true,
 };
 
-// Writes the line of a digest and a name, and flushes it.
-fn put_example(
-    rt: &(impl Abort + AllocGlobal),
-    sink: &mut Buffered<ToldSink<256>>,
+// What a line is written of.
+#[derive(Drop)]
+struct Entry<'a> {
     style: Style,
     kind: Kind,
-    (digits, name): (&str, &[u8]),
-) -> Result<Result<(), SinkFault>, Fail> {
-    let digits = spell(rt.alloc(), digits)?;
-    let digest = Digest::from_hex(digits.as_bytes()).ok_or("digits")?;
-    assert_eq!(rt; digest.as_slice().len(), kind.len());
-    let written = put_line(sink, style, kind, name, &digest);
-    Ok(written.and_then(|()| flush(sink)))
+    digest: Digest,
+    name: &'a [u8],
 }
 
-// That is this line; and a sink that stops after each count of bytes up to the line's length has so much of it.
+// Writes the line of the entry, and flushes it. No kind has a line of a digest of another length.
+fn put_entry(sink: &mut Buffered<ToldSink<256>>, entry: &Entry) -> Result<(), SinkFault> {
+    if entry.digest.as_slice().len() != entry.kind.len() {
+        return Err(SinkFault);
+    }
+    put_line(sink, entry.style, entry.kind, entry.name, &entry.digest)?;
+    flush(sink)
+}
+
+// Whether a sink that stops after so many bytes has so much of the line, and only one with the whole line no fault.
+fn stops(stop: usize, entry: &Entry, line: &[u8]) -> bool {
+    let mut sink = known_sink(stop);
+    let written = put_entry(&mut sink, entry).is_ok();
+    written == (stop == line.len()) && line.get(..stop) == Some(sink.get_ref().bytes())
+}
+
+// Whether that is so of each count of bytes up to the line's length.
+fn is_line(entry: &Entry, line: &[u8]) -> bool {
+    let mut all = true;
+    for stop in 0..=line.len() {
+        all = all && stops(stop, entry, line);
+    }
+    all
+}
+
+// A worked example: the style, the digits and the name, and the line that is written of them.
+type Example<'a> = (Style, &'a str, &'a [u8], &'a str);
+
 fn check_example(
     rt: &(impl Abort + AllocGlobal),
-    style: Style,
     kind: Kind,
-    example: (&str, &[u8]),
-    line: &str,
+    (style, digits, name, line): Example,
 ) -> Result<(), Fail> {
+    let digits = spell(rt.alloc(), digits)?;
     let line = spell(rt.alloc(), line)?;
-    let want = line.as_bytes();
-    for stop in 0..=want.len() {
-        let mut sink = known_sink(stop);
-        let answer = put_example(rt, &mut sink, style, kind, example)?;
-        let whole = stop == want.len();
-        let wanted = if whole { Ok(()) } else { Err(SinkFault) };
-        assert_eq!(rt; answer, wanted, "{line}, up to {stop}");
-        assert_eq!(rt; sink.get_ref().bytes(), &want[..stop], "{line}");
+    let entry = Entry {
+        style,
+        kind,
+        digest: Digest::from_hex(digits.as_bytes()).ok_or("digits")?,
+        name,
+    };
+    assert!(rt; is_line(&entry, line.as_bytes()), "{line}");
+    Ok(())
+}
+
+fn check(rt: &(impl Abort + AllocGlobal), kind: Kind, examples: &[Example]) -> Result<(), Fail> {
+    for example in examples {
+        check_example(rt, kind, *example)?;
     }
     Ok(())
 }
+
+const OF_MD5: &[Example] = &[
+    (TEXT, "$M", b"a", "$M  a\n"),
+    (TEXT, "$E", b"e", "$E  e\n"),
+    (BINARY, "$M", b"a", "$M *a\n"),
+    (TEXT, "$M", b"q\\\nz", "\\$M  q\\\\\\nz\n"),
+    (ZERO, "$M", b"q\\\nz", "$M  q\\\nz\0"),
+    (TEXT, "$M", b"a\rb", "\\$M  a\\rb\n"),
+    (ZERO, "$M", b"a\rb", "$M  a\rb\0"),
+    (TEXT, "$M", b"\\\\", "\\$M  \\\\\\\\\n"),
+    (TEXT, "$M", b"", "$M  \n"),
+    (TEXT, "$M", b"\r", "\\$M  \\r\n"),
+    (TAG, "$M", b"a", "MD5 (a) = $M\n"),
+];
+
+const OF_BLAKE2B_256: &[Example] = &[
+    (TEXT, "$B", b"e", "$B  e\n"),
+    (TAG, "$B", b"e", "BLAKE2b-256 (e) = $B\n"),
+];
+
+const OF_BLAKE2B: &[Example] = &[(TAG, "$L", b"e", "BLAKE2b (e) = $L\n")];
 
 #[test]
 fn lines(rt: HostRuntime) -> Result<(), Fail> {
-    let md5 = Kind::of(Algo::Md5);
-    let short = Kind::blake2b_bits(256)?;
-    let full = Kind::blake2b_bits(0)?;
-    let examples: [(Style, Kind, &str, &[u8], &str); 14] = [
-        (TEXT, md5, "$M", b"a", "$M  a\n"),
-        (TEXT, md5, "$E", b"e", "$E  e\n"),
-        (BINARY, md5, "$M", b"a", "$M *a\n"),
-        (TEXT, md5, "$M", b"q\\\nz", "\\$M  q\\\\\\nz\n"),
-        (ZERO, md5, "$M", b"q\\\nz", "$M  q\\\nz\0"),
-        (TEXT, md5, "$M", b"a\rb", "\\$M  a\\rb\n"),
-        (ZERO, md5, "$M", b"a\rb", "$M  a\rb\0"),
-        (TEXT, md5, "$M", b"\\\\", "\\$M  \\\\\\\\\n"),
-        (TEXT, md5, "$M", b"", "$M  \n"),
-        (TEXT, md5, "$M", b"\r", "\\$M  \\r\n"),
-        (TAG, md5, "$M", b"a", "MD5 (a) = $M\n"),
-        (TEXT, short, "$B", b"e", "$B  e\n"),
-        (TAG, short, "$B", b"e", "BLAKE2b-256 (e) = $B\n"),
-        (TAG, full, "$L", b"e", "BLAKE2b (e) = $L\n"),
-    ];
-    for (style, kind, digits, name, line) in examples {
-        check_example(&rt, style, kind, (digits, name), line)?;
-    }
-    Ok(())
+    check(&rt, Kind::of(Algo::Md5), OF_MD5)?;
+    check(&rt, Kind::blake2b_bits(256)?, OF_BLAKE2B_256)?;
+    check(&rt, Kind::blake2b_bits(0)?, OF_BLAKE2B)
 }
 
-// The bytes after the first are read back as this name, or are no escaped name. The first stays as it is.
-fn check_read_back(alloc: Global, bytes: &[u8]) -> Result<(bool, Vec<u8>), Fail> {
-    let mut line = bytes.to_vec(alloc)?;
+// Whether the bytes after the first are read back as this name, or are no escaped name. The first stays as it is.
+fn is_read_back(alloc: Global, escaped: &str, want: Option<&str>) -> Result<bool, Fail> {
+    let mut line = escaped.as_bytes().to_vec(alloc)?;
     line.insert(0, b'x')?;
     let read = unescape_in(&mut line, 1);
-    Ok((read, line))
+    Ok(match want {
+        Some(want) => read && line.as_slice() == want.as_bytes(),
+        None => !read && line.starts_with(b"x"),
+    })
 }
+
+const ESCAPED_NAMES: &[(&str, Option<&str>)] = &[
+    ("", Some("x")),
+    ("\\n", Some("x\n")),
+    ("\\r", Some("x\r")),
+    ("q\\\\\\nz", Some("xq\\\nz")),
+    ("\\", None),
+    ("\\x", None),
+    ("\n", None),
+    ("\r", None),
+];
 
 #[test]
 fn escaped_names_are_read_back(rt: HostRuntime) -> Result<(), Fail> {
-    let examples: [(&[u8], Option<&[u8]>); 8] = [
-        (b"", Some(b"x")),
-        (b"\\n", Some(b"x\n")),
-        (b"\\r", Some(b"x\r")),
-        (b"q\\\\\\nz", Some(b"xq\\\nz")),
-        (b"\\", None),
-        (b"\\x", None),
-        (b"\n", None),
-        (b"\r", None),
-    ];
-    for (bytes, want) in examples {
-        let (read, line) = check_read_back(rt.alloc(), bytes)?;
-        assert_eq!(rt; read, want.is_some(), "{}", bytes.escape_ascii());
-        assert!(rt;
-            line.starts_with(want.unwrap_or(b"x")),
-            "{}",
-            bytes.escape_ascii()
-        );
-        assert!(rt;
-            !read || Some(line.as_slice()) == want,
-            "{}",
-            bytes.escape_ascii()
-        );
+    for (escaped, want) in ESCAPED_NAMES {
+        assert!(rt; is_read_back(rt.alloc(), escaped, *want)?, "{escaped}");
     }
     Ok(())
 }

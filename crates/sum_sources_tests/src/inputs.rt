@@ -4,6 +4,7 @@ ghost use Rattle.sum_sources.specs.Contents.{unread};
 
 use crate::goes_on::TwoParts;
 use digest_kinds::{Algo, Digest, Hasher, Kind, Md5Hasher, Sha256Hasher};
+use std::fmt::Display;
 use std::io::{self, ErrorKind, Read};
 use std::process::Abort;
 use std::test::Fail;
@@ -56,17 +57,22 @@ fn abc_read(
 
 const DENIED: Ending = Ending::Broken(Fault::Denied);
 
+// A read into four bytes returns this, and writes this as the first, if it isn't 0, and no other.
+fn reads(rt: &impl Abort, input: &mut impl Input, want: Result<usize, Fault>, first: u8) {
+    let mut buf = [0; 4];
+    let found = input.read(&mut buf);
+    assert_eq!(rt; found, want);
+    assert_eq!(rt; buf, [first, 0, 0, 0]);
+}
+
 // The first read of a reader that fails so often by this error returns this. A fault isn't tried again by itself.
 fn assert_first(rt: &impl Abort, left: u32, error: io::Error, first: Result<usize, Fault>) {
-    let mut buf = [0; 4];
     let mut input = abc_read(3, Ending::Whole, error, left);
-    assert_eq!(rt; input.read(&mut buf), first);
     if first.is_err() {
-        assert_eq!(rt; buf, [0; 4]);
-        assert_eq!(rt; input.read(&mut buf), Ok(1));
+        reads(rt, &mut input, first, 0);
     }
-    assert_eq!(rt; buf, *b"a\0\0\0");
-    assert!(rt; input.into_inner().left == 0);
+    reads(rt, &mut input, Ok(1), b'a');
+    assert_eq!(rt; input.into_inner().left, 0);
 }
 
 // Interruptions; an error goes by its number, and one without a number by its kind (errno(3) has Linux's numbers).
@@ -97,18 +103,16 @@ fn errors(rt: HostRuntime) {
 
 // The input gives "abc", a byte a read, and its end; and this ending between, after so many bytes.
 fn goes_on(rt: &impl Abort, input: &mut impl Input, place: usize, ending: Ending) {
-    let reads: [&[u8]; 5] = [b"a", b"b", b"c", b"", b""];
-    for (i, bytes) in reads.into_iter().enumerate() {
-        let mut buf = [0; 4];
-        if i == place {
-            let end = match ending {
-                Ending::Whole => Ok(0),
-                Ending::Broken(fault) => Err(fault),
-            };
-            assert_eq!(rt; input.read(&mut buf), end, "the ending at {place}");
+    let end = match ending {
+        Ending::Whole => Ok(0),
+        Ending::Broken(fault) => Err(fault),
+    };
+    for (number, byte) in [(0, b'a'), (1, b'b'), (2, b'c'), (3, 0), (4, 0)] {
+        if number == place {
+            reads(rt, input, end, 0);
         }
-        assert_eq!(rt; input.read(&mut buf), Ok(bytes.len()), "{i} of {place}");
-        assert!(rt; buf.starts_with(bytes), "{i} of {place}");
+        let count = usize::from(byte > 0);
+        reads(rt, input, Ok(count), byte);
     }
 }
 
@@ -127,23 +131,25 @@ fn given_once(rt: &impl Abort, place: usize, ending: Ending) {
 #[test]
 fn inputs_that_go_on(rt: HostRuntime) {
     // Python's hashlib, of no byte of "abc", of one, two and three.
-    let digests: [&[u8]; 4] = [
-        b"d41d8cd98f00b204e9800998ecf8427e",
-        b"0cc175b9c0f1b6a831c399e269772661",
-        b"187ef4436122d1cc2f40dc2b92f0eba0",
-        b"900150983cd24fb0d6963f7d28e17f72",
-    ];
-    let error = io::Error::from(ErrorKind::PermissionDenied);
-    for ending in [Ending::Whole, DENIED] {
-        for (place, digits) in digests.into_iter().enumerate() {
-            given_once(&rt, place, ending);
-            goes_on(&rt, &mut Closable::Open(abc(place, ending)), place, ending);
-            goes_on(&rt, &mut abc_read(place, ending, error, 0), place, ending);
-            assert_hashed(&rt, abc(place, ending), ending, digits);
-        }
+    for (place, digits) in [
+        (0, b"d41d8cd98f00b204e9800998ecf8427e"),
+        (1, b"0cc175b9c0f1b6a831c399e269772661"),
+        (2, b"187ef4436122d1cc2f40dc2b92f0eba0"),
+        (3, b"900150983cd24fb0d6963f7d28e17f72"),
+    ] {
+        all_go_on(&rt, place, Ending::Whole, digits);
+        all_go_on(&rt, place, DENIED, digits);
     }
     let mut closed: Closable<Told> = Closable::closed();
     assert!(rt; closed.read(&mut [0; 4]) == Err(Fault::Os(EBADF)));
+}
+
+fn all_go_on(rt: &impl Abort, place: usize, ending: Ending, digits: &[u8]) {
+    let error = io::Error::from(ErrorKind::PermissionDenied);
+    given_once(rt, place, ending);
+    goes_on(rt, &mut Closable::Open(abc(place, ending)), place, ending);
+    goes_on(rt, &mut abc_read(place, ending, error, 0), place, ending);
+    assert_hashed(rt, abc(place, ending), ending, digits);
 }
 
 // Over an input with this ending a hasher is given the bytes with this digest, or there is none. Nothing more is read.
@@ -173,55 +179,97 @@ fn hashed(
     result
 }
 
-// It is that of one update. One buffer serves many inputs: nothing that an earlier one left in it is hashed.
-#[test]
-fn hashing(rt: HostRuntime) -> Result<(), Fail> {
-    let mut buffer = [b'?'; PIECE];
-    let content = vec![in rt.alloc(); 0xa5; 16384]?;
-    for piece in [1, 127, 8191, 8192] {
-        for len in [16384, 8193, 8192, 8191, 0] {
-            let content = content.get(..len).ok_or("short")?;
-            let mut whole = Sha256Hasher::new();
-            assert!(rt; whole.try_update(content).is_ok());
-            let digest = hashed(&rt, content, Ending::Whole, piece, &mut buffer)?;
-            assert!(rt; digest.same(&whole.finish()), "{len} in pieces of {piece}");
-            assert!(rt; content.len() < 100_000);
-            assert!(rt; digest.same(&Kind::of(Algo::Sha256).digest(content)));
-        }
-        for len in (0..=300).chain([9000]) {
-            let content = content.get(..len).ok_or("short")?;
-            let found = hashed(&rt, content, DENIED, piece, &mut buffer);
-            assert!(rt;
-                found.err() == Some(Fault::Denied),
-                "{len} in pieces of {piece}"
-            );
-        }
+// The digest of one update. Without a contract, so that no proof computes it.
+fn of_one_update(mut hasher: impl Hasher + Drop, content: &[u8]) -> Option<Digest> {
+    match hasher.try_update(content) {
+        Ok(()) => Some(hasher.finish()),
+        Err(_) => None,
+    }
+}
+
+// It is that of one update, and of one call.
+fn hashes(
+    rt: &impl Abort,
+    content: &[u8],
+    piece: usize,
+    buffer: &mut [u8; PIECE],
+) -> Result<(), Fail> {
+    let digest = hashed(rt, content, Ending::Whole, piece, buffer)?;
+    let whole = of_one_update(Sha256Hasher::new(), content).ok_or("long")?;
+    let len = content.len();
+    assert!(rt; digest.same(&whole), "{len} in pieces of {piece}");
+    assert!(rt; len < 100_000);
+    assert!(rt; digest.same(&Kind::of(Algo::Sha256).digest(content)));
+    Ok(())
+}
+
+// There is none if the content is broken.
+fn breaks(rt: &impl Abort, content: &[u8], piece: usize, buffer: &mut [u8; PIECE]) {
+    let found = hashed(rt, content, DENIED, piece, buffer);
+    let len = content.len();
+    assert!(rt;
+        found.err() == Some(Fault::Denied),
+        "{len} in pieces of {piece}"
+    );
+}
+
+// So it is of starts of this content. One buffer serves many inputs: nothing that an earlier one left in it is hashed.
+fn starts(
+    rt: &impl Abort,
+    content: &[u8],
+    piece: usize,
+    buffer: &mut [u8; PIECE],
+) -> Result<(), Fail> {
+    for len in [16384, 8193, 8192, 8191, 0] {
+        hashes(rt, content.get(..len).ok_or("short")?, piece, buffer)?;
+    }
+    for len in (0..=300).chain([9000]) {
+        breaks(rt, content.get(..len).ok_or("short")?, piece, buffer);
     }
     Ok(())
 }
 
 #[test]
-fn texts(rt: HostRuntime) -> Result<(), Fail> {
-    for (fault, text) in [
-        (Fault::NotFound, "No such file or directory"),
-        (Fault::Denied, "Permission denied"),
-        (Fault::Os(1), "Operation not permitted"),
-        (Fault::Os(116), "Stale file handle"),
-        (Fault::Os(133), "Memory page has hardware error"),
-        (Fault::Os(134), "Input/output error"),
-        (Fault::Os(-1), "Input/output error"),
-        (Fault::Other, "Input/output error"),
-    ] {
-        assert_eq!(rt; fault.text(), text);
-        let (opening, reading) = (OpenFault::Fault(fault), LineStop::Fault(fault));
-        let texts = format!(in rt.alloc(); "{fault}{opening}{reading}")?;
-        assert_eq!(rt; texts.as_str(), text.repeat(rt.alloc(), 3)?.as_str());
+fn hashing(rt: HostRuntime) -> Result<(), Fail> {
+    let mut buffer = [b'?'; PIECE];
+    let content = vec![in rt.alloc(); 0xa5; 16384]?;
+    for piece in [1, 127, 8191, 8192] {
+        starts(&rt, &content, piece, &mut buffer)?;
     }
-    let (opening, reading, adding) = (OpenFault::Memory, LineStop::Memory, NoRoom);
-    let texts = format!(in rt.alloc(); "{opening}, {reading}, {adding}")?;
-    assert_eq!(rt;
-        texts.as_str(),
-        "memory exhausted, memory exhausted, memory exhausted"
-    );
     Ok(())
+}
+
+// It is shown as this text.
+fn is_shown(rt: &(impl Abort + AllocGlobal), value: &impl Display, text: &str) -> Result<(), Fail> {
+    assert_eq!(rt; value.to_string(rt.alloc())?.as_str(), text);
+    Ok(())
+}
+
+// A fault has this text, and so has what it becomes where a file is opened and where a line is read.
+fn has_text(rt: &(impl Abort + AllocGlobal), fault: Fault, text: &str) -> Result<(), Fail> {
+    assert_eq!(rt; fault.text(), text);
+    is_shown(rt, &fault, text)?;
+    is_shown(rt, &OpenFault::Fault(fault), text)?;
+    is_shown(rt, &LineStop::Fault(fault), text)
+}
+
+const TEXTS: [(Fault, &str); 8] = [
+    (Fault::NotFound, "No such file or directory"),
+    (Fault::Denied, "Permission denied"),
+    (Fault::Os(1), "Operation not permitted"),
+    (Fault::Os(116), "Stale file handle"),
+    (Fault::Os(133), "Memory page has hardware error"),
+    (Fault::Os(134), "Input/output error"),
+    (Fault::Os(-1), "Input/output error"),
+    (Fault::Other, "Input/output error"),
+];
+
+#[test]
+fn texts(rt: HostRuntime) -> Result<(), Fail> {
+    for (fault, text) in TEXTS {
+        has_text(&rt, fault, text)?;
+    }
+    is_shown(&rt, &OpenFault::Memory, "memory exhausted")?;
+    is_shown(&rt, &LineStop::Memory, "memory exhausted")?;
+    is_shown(&rt, &NoRoom, "memory exhausted")
 }

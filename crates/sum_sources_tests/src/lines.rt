@@ -1,9 +1,10 @@
 //! `LineReader`.
 use crate::goes_on::TwoParts;
 use linked_list_allocator::LocalHeap;
+use std::alloc::{Allocator, Global};
 use std::process::Abort;
 use std::test::Fail;
-use sum_sources::{Ending, Fault, LineReader, LineStop, Next, Phase, Told};
+use sum_sources::{Ending, Fault, Input, LineReader, LineStop, Next, Phase, Told};
 
 // Five lines, and they joined.
 const FIVE: [&[u8]; 5] = [
@@ -20,8 +21,37 @@ const JOINED: &[u8] = b"900150983cd24fb0d6963f7d28e17f72  a\n#c\njunk\n\
 // The same line twice, of which a newline ends only the first.
 const TWICE: &[u8] = b"900150983cd24fb0d6963f7d28e17f72  a\n900150983cd24fb0d6963f7d28e17f72  a";
 
+// The next line is this. Without a contract, so that no proof computes it.
+fn gives<A: Allocator>(
+    rt: &impl Abort,
+    reader: &mut LineReader<impl Input>,
+    line: &mut Vec<u8, A>,
+    want: &[u8],
+) {
+    assert_eq!(rt; reader.next_line(line), Ok(Next::Line));
+    assert_eq!(rt; line.as_slice(), want);
+}
+
+// No line is next, for this reason, and so it stays.
+fn ends<A: Allocator>(
+    rt: &impl Abort,
+    reader: &mut LineReader<impl Input>,
+    line: &mut Vec<u8, A>,
+    end: Result<Next, LineStop>,
+) {
+    for _ in 0..3 {
+        assert_eq!(rt; reader.next_line(line), end);
+    }
+}
+
+// So much was returned and read.
+fn is_at(rt: &impl Abort, reader: LineReader<TwoParts>, lines: usize, place: usize, phase: Phase) {
+    assert!(rt; (reader.lines(), reader.taken()) == (lines as u64, place as u64));
+    assert_eq!(rt; reader.into_inner().phase(), phase);
+}
+
 // The reader of a content that has this ending after so many bytes, and goes on with the others, gives just these
-// lines. Then it answers the ending, twice, and has read no further.
+// lines. Then it answers the ending, and has read no further.
 fn reads(
     rt: &(impl Abort + AllocGlobal),
     content: &[u8],
@@ -36,61 +66,49 @@ fn reads(
         let mut line = Vec::new(rt.alloc());
         let mut reader = LineReader::new(TwoParts::new(content, place, ending, piece));
         for want in lines {
-            assert_eq!(rt; reader.next_line(&mut line), Ok(Next::Line), "{place}");
-            assert_eq!(rt; line.as_slice(), *want, "{place}");
+            gives(rt, &mut reader, &mut line, want);
         }
-        for _ in 0..2 {
-            assert_eq!(rt; reader.next_line(&mut line), end, "{place}");
-        }
-        let counts = (reader.lines(), reader.taken());
-        assert_eq!(rt; counts, (lines.len() as u64, place as u64));
-        assert_eq!(rt;
-            reader.into_inner().phase(),
-            Phase::Ended(ending),
-            "{place}"
-        );
+        ends(rt, &mut reader, &mut line, end);
+        is_at(rt, reader, lines.len(), place, Phase::Ended(ending));
     }
 }
 
 #[test]
-fn lines(rt: HostRuntime) -> Result<(), Fail> {
+fn lines(rt: HostRuntime) {
     let other = Ending::Broken(Fault::Other);
     reads(&rt, JOINED, (116, Ending::Whole), &FIVE);
     reads(&rt, FIVE[0], (35, Ending::Whole), &FIVE[..1]);
     reads(&rt, TWICE, (71, other), &FIVE[..1]);
-    for (place, ending, count) in [
-        (0, Ending::Whole, 0),
-        (0, other, 0),
-        (35, Ending::Whole, 1),
-        (35, other, 0),
-        (36, Ending::Whole, 1),
-        (36, other, 1),
-        (43, Ending::Whole, 3),
-        (43, other, 2),
+    for (place, ending, lines) in [
+        (0, Ending::Whole, &FIVE[..0]),
+        (0, other, &FIVE[..0]),
+        (35, Ending::Whole, &FIVE[..1]),
+        (35, other, &FIVE[..0]),
+        (36, Ending::Whole, &FIVE[..1]),
+        (36, other, &FIVE[..1]),
+        (43, Ending::Whole, &FIVE[..3]),
+        (43, other, &FIVE[..2]),
     ] {
-        reads(
-            &rt,
-            JOINED,
-            (place, ending),
-            FIVE.get(..count).ok_or("count")?,
-        );
+        reads(&rt, JOINED, (place, ending), lines);
     }
-    Ok(())
+}
+
+// A line "one" and the start of another, of so many bytes in all. Without a contract, so that no proof computes them.
+fn two_lines(alloc: Global, len: usize) -> Result<Vec<u8>, Fail> {
+    let mut content = Vec::from_slice(alloc, b"one\n")?;
+    content.resize(len, b'x')?;
+    Ok(content)
 }
 
 // The heap has room for the first line and none for the second.
 #[test]
 fn memory_refused(rt: HostRuntime) -> Result<(), Fail> {
-    let mut content = Vec::from_slice(rt.alloc(), b"one\n")?;
-    content.extend_from_slice(&[b'x'; 5000])?;
+    let content = two_lines(rt.alloc(), 5004)?;
     let heap = LocalHeap::new(rt.alloc(), 256)?;
     let mut line = Vec::new(&heap);
     let mut reader = LineReader::new(Told::new(&content, Ending::Whole, 8192));
-    assert!(rt; reader.next_line(&mut line) == Ok(Next::Line));
-    assert_eq!(rt; line.as_slice(), b"one".as_slice());
-    for _ in 0..3 {
-        assert!(rt; reader.next_line(&mut line) == Err(LineStop::Memory));
-    }
+    gives(&rt, &mut reader, &mut line, b"one");
+    ends(&rt, &mut reader, &mut line, Err(LineStop::Memory));
     assert!(rt; reader.lines() == 1);
     Ok(())
 }

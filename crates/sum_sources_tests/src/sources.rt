@@ -1,14 +1,64 @@
 //! Told and real sources.
-use digest_kinds::Md5Hasher;
+use digest_kinds::{Digest, Md5Hasher};
 use linked_list_allocator::LocalHeap;
 use std::alloc::Allocator;
 use std::fs::{self, Metadata, OpenOptions};
 use std::io::{self, ErrorKind};
+use std::process::Abort;
 use std::rt;
 use std::test::Fail;
 use sum_sources::{
     Answer, Ending, Fault, Files, Input, NoRoom, OpenFault, PIECE, Source, ToldSource, hash_input,
 };
+
+// The file of this name has this digest.
+fn hashes<S: Source>(
+    rt: &impl Abort,
+    source: &mut S,
+    name: &[u8],
+    digits: &[u8],
+) -> Result<(), Fail> {
+    let mut file = source.open_file(name)?;
+    let digest = hash_input(&mut file, Md5Hasher::new());
+    source.close_file(file);
+    assert!(rt; Some(digest?) == Digest::from_hex(digits));
+    Ok(())
+}
+
+// No file of this name is opened, by this fault.
+fn refuses<S: Source>(rt: &impl Abort, source: &mut S, name: &[u8], fault: OpenFault) {
+    let found = match source.open_file(name) {
+        Ok(file) => {
+            source.close_file(file);
+            None
+        }
+        Err(found) => Some(found),
+    };
+    assert_eq!(rt; found, Some(fault));
+}
+
+// A source with two answers to a name, of which the first counts, and no room for this name. Without a contract, so
+// that no proof computes it.
+fn notes<'a, A: Allocator + Copy>(
+    rt: &impl Abort,
+    alloc: A,
+    long: &'a [u8],
+) -> Result<ToldSource<'a, A>, Fail> {
+    let mut files = ToldSource::new(alloc, PIECE);
+    files.add(NOTES, Answer::Content(b"abc", Ending::Whole))?;
+    files.add(NOTES, Answer::Fault(Fault::Other))?;
+    assert!(rt; files.add(long, Answer::Fault(Fault::Denied)) == Err(NoRoom));
+    Ok(files)
+}
+
+// The name that was asked after so many others.
+fn asked<A: Allocator + Copy>(rt: &impl Abort, files: &ToldSource<A>, number: usize, name: &[u8]) {
+    assert_eq!(rt; files.asked_name(number), Some(name));
+}
+
+const NOTES: &[u8] = b"notes.txt";
+
+const MD5_OF_ABC: &[u8] = b"900150983cd24fb0d6963f7d28e17f72";
 
 // The lines of the crate's front page, the first answer to a name, and the names asked. What finds no room on the heap
 // changes nothing.
@@ -16,22 +66,24 @@ use sum_sources::{
 fn told_source(rt: HostRuntime) -> Result<(), Fail> {
     let heap = LocalHeap::new(rt.alloc(), 1024)?;
     let long = vec![in rt.alloc(); b'n'; 1024]?;
-    let mut files = ToldSource::new(&heap, PIECE);
-    files.add(b"notes.txt", Answer::Content(b"abc", Ending::Whole))?;
-    files.add(b"notes.txt", Answer::Fault(Fault::Other))?;
-    assert!(rt; files.add(&long, Answer::Fault(Fault::Denied)) == Err(NoRoom));
-    let mut file = files.open_file(b"notes.txt")?;
-    let digest = hash_input(&mut file, Md5Hasher::new())?;
-    files.close_file(file);
-    assert!(rt; digest.same(&"900150983cd24fb0d6963f7d28e17f72".parse()?));
-    assert!(rt; files.open_file(&long).err() == Some(OpenFault::Memory));
-    assert!(rt; files.open_file(b"").err() == Some(OpenFault::Fault(Fault::NotFound)));
-    assert_eq!(rt;
-        files.asked_name(0).ok_or("asked")?,
-        b"notes.txt".as_slice()
-    );
-    assert_eq!(rt; files.asked_name(1).ok_or("asked")?, b"".as_slice());
+    let mut files = notes(&rt, &heap, &long)?;
+    hashes(&rt, &mut files, NOTES, MD5_OF_ABC)?;
+    refuses(&rt, &mut files, &long, OpenFault::Memory);
+    refuses(&rt, &mut files, &[], OpenFault::Fault(Fault::NotFound));
+    asked(&rt, &files, 0, NOTES);
+    asked(&rt, &files, 1, &[]);
     assert!(rt; files.asked_name(2).is_none());
+    Ok(())
+}
+
+// The file of this name holds "abc".
+fn holds_abc<S: Source>(rt: &impl Abort, source: &mut S, name: &[u8]) -> Result<(), Fail> {
+    let mut buf = [0; 8];
+    let mut file = source.open_file(name)?;
+    let counts = (file.read(&mut buf), file.read(&mut [0; 8]));
+    source.close_file(file);
+    assert_eq!(rt; counts, (Ok(3), Ok(0)));
+    assert_eq!(rt; buf, *b"abc\0\0\0\0\0");
     Ok(())
 }
 
@@ -39,24 +91,13 @@ fn told_source(rt: HostRuntime) -> Result<(), Fail> {
 fn real_files(rt: HostRuntime) -> Result<(), Fail> {
     fs::write(&rt, "sum_sources_real", b"abc".as_slice())?;
     let mut files = Files::new(rt.clone()?);
-    let mut buf = [0; 8];
-    let mut file = files.open_file(b"sum_sources_real")?;
-    assert!(rt; file.read(&mut buf) == Ok(3));
-    assert!(rt; buf.starts_with(b"abc"));
-    assert!(rt; file.read(&mut buf) == Ok(0));
-    files.close_file(file);
+    holds_abc(&rt, &mut files, b"sum_sources_real")?;
     for (name, fault) in [
         (b"sum_sources_real/".as_slice(), Fault::Os(20)),
         (b"sum_sources_none", Fault::NotFound),
         (b"\xff", Fault::Other),
     ] {
-        let found = files.open_file(name).err();
-        assert_eq!(rt;
-            found,
-            Some(OpenFault::Fault(fault)),
-            "{}",
-            name.escape_ascii()
-        );
+        refuses(&rt, &mut files, name, OpenFault::Fault(fault));
     }
     fs::remove_file(&rt, "sum_sources_real")?;
     Ok(())
@@ -91,6 +132,6 @@ impl rt::Files for NoMemory {
 fn no_memory_to_open(rt: HostRuntime) {
     let mut files = Files::new(NoMemory);
     for _ in 0..3 {
-        assert!(rt; files.open_file(b"a").err() == Some(OpenFault::Memory));
+        refuses(&rt, &mut files, b"a", OpenFault::Memory);
     }
 }

@@ -1,6 +1,7 @@
 //! Names of tools, and the texts that the program writes of its own.
 use crate::words::words_and;
 use std::alloc::Global;
+use std::process::Abort;
 use std::test::Fail;
 use sum_engine::Stop;
 use sum_lines::{Buffered, ToldSink};
@@ -9,24 +10,31 @@ use sum_words::{
     put_version, read_words,
 };
 
+// Whether the name has this tool, or none, in both ways of reading it. Without a contract, so that a test knows no more
+// of it than it sees; so are the functions below.
+fn is_called(name: &str, tool: Option<Tool>) -> bool {
+    Tool::from_word(name) == tool && name.parse() == tool.ok_or(UnknownTool)
+}
+
+// Whether the tool has this name, is shown as it, and is called by it.
+fn is_named(alloc: Global, tool: Tool, name: &str) -> Result<bool, Fail> {
+    let shown = format!(in alloc; "{tool}")?;
+    Ok(tool.name() == name && shown.as_str() == name && is_called(name, Some(tool)))
+}
+
 #[test]
 fn tools(rt: HostRuntime) -> Result<(), Fail> {
     for tool in Tool::ALL {
-        let name = tool.name();
-        assert_eq!(rt; Tool::from_word(name), Some(tool), "{name}");
-        assert_eq!(rt; name.parse(), Ok(tool), "{name}");
-        assert_eq!(rt; format!(in rt.alloc(); "{tool}")?.as_str(), name);
+        assert!(rt; is_named(rt.alloc(), tool, tool.name())?, "{tool}");
     }
-    assert_eq!(rt; Tool::B2sum.name(), "b2sum");
+    assert!(rt; is_named(rt.alloc(), Tool::B2sum, "b2sum")?);
     for word in ["shasum", "", "md5sum "] {
-        assert_eq!(rt; Tool::from_word(word), None, "{word}");
-        assert_eq!(rt; word.parse::<Tool>(), Err(UnknownTool), "{word}");
+        assert!(rt; is_called(word, None), "{word}");
     }
     Ok(())
 }
 
-// The lines of a run that ends early, of the version, and of no tool and no words. Without a contract, so that a test
-// knows no more of them than it sees.
+// The lines of a run that ends early, of the version, and of no tool and no words.
 fn put_lines() -> Result<ToldSink<256>, Fail> {
     let mut sink = Buffered::new(ToldSink::new(256));
     put_stop(&mut sink, Tool::Sha256sum, Stop::Write)?;
@@ -50,7 +58,7 @@ fn lines(rt: HostRuntime) -> Result<(), Fail> {
     Ok(())
 }
 
-// The help of a tool. Without a contract, as above.
+// The help of a tool.
 fn help_of(tool: Tool) -> Result<ToldSink<1024>, Fail> {
     let mut out = Buffered::new(ToldSink::new(1024));
     put_help(&mut out, tool)?;
@@ -69,7 +77,7 @@ fn help(rt: HostRuntime) -> Result<(), Fail> {
     Ok(())
 }
 
-// The lines of the fault that words have. Without a contract, as above.
+// The lines of the fault that words have.
 fn lines_of_fault(tool: Tool, words: &Words<Global>) -> Result<ToldSink<256>, Fail> {
     let mut err = Buffered::new(ToldSink::new(256));
     match read_words(tool, words) {
@@ -80,57 +88,87 @@ fn lines_of_fault(tool: Tool, words: &Words<Global>) -> Result<ToldSink<256>, Fa
     Ok(err.into_inner())
 }
 
-// Each fault. What was typed is escaped.
+// The words of a line, and behind them one of any bytes, have a fault of these lines.
+fn check_lines(
+    rt: &(impl Abort + AllocGlobal),
+    tool: Tool,
+    (line, last): (&str, &[u8]),
+    lines: &[u8],
+) -> Result<(), Fail> {
+    let words = words_and(rt.alloc(), line, last)?;
+    let found = lines_of_fault(tool, &words)?;
+    assert_eq!(rt; found.bytes(), lines);
+    Ok(())
+}
+
+// The words have a fault of this text.
+fn check_fault(
+    rt: &(impl Abort + AllocGlobal),
+    line: &str,
+    last: &str,
+    text: &str,
+) -> Result<(), Fail> {
+    let lines = format!(in rt.alloc();
+        "b2sum: {text}\nTry 'b2sum --help' for more information.\n"
+    )?;
+    check_lines(rt, Tool::B2sum, (line, last.as_bytes()), lines.as_bytes())
+}
+
+// Each fault, as the words of a line, one more, and the text. What was typed is escaped.
+const FAULTS: &[(&str, &str, &str)] = &[
+    ("a", "--a\\b\nc\rd=e", UNKNOWN),
+    ("a", "--st", "option '--st' is ambiguous"),
+    ("a", "--ta=1", VALUE),
+    ("a", "--len", "option '--length' requires an argument"),
+    ("a", "-bl", "option requires an argument -- 'l'"),
+    ("a", "-\n", "invalid option -- '\\n'"),
+    ("a -l", "\\\n", "invalid length: '\\\\\\n'"),
+    ("-l", "12", "length is not a multiple of 8: '12'"),
+    ("--tag", "-t", "--tag does not support --text mode"),
+    ("-c --tag", "-z", ZERO),
+    ("-c", "--tag", TAG),
+    ("-c", "-b", MODE),
+];
+
+const UNKNOWN: &str = "unrecognized option '--a\\\\b\\nc\\rd'";
+
+const VALUE: &str = "option '--tag' doesn't allow an argument";
+
+const ZERO: &str = "the --zero option is not supported when verifying checksums";
+
+const TAG: &str = "the --tag option is meaningless when verifying checksums";
+
+const MODE: &str = "the --binary and --text options are meaningless when verifying checksums";
+
+// Those of an option that only --check has, as the words and the option.
+const FAULTS_WITHOUT_CHECK: &[(&str, &str, &str)] = &[
+    ("--strict", "--ignore-missing", "--ignore-missing"),
+    ("--quiet -w", "--status", "--status"),
+    ("--status", "-w", "--warn"),
+    ("--status", "--quiet", "--quiet"),
+    ("a", "--str", "--strict"),
+];
+
 #[test]
 fn faults(rt: HostRuntime) -> Result<(), Fail> {
-    let tag = "the --tag option is meaningless when verifying checksums";
-    let mode = "the --binary and --text options are meaningless when verifying checksums";
-    let zero = "the --zero option is not supported when verifying checksums";
-    let only = "option is meaningful only when verifying checksums";
-    let ignore = format!(in rt.alloc(); "the --ignore-missing {only}")?;
-    let status = format!(in rt.alloc(); "the --status {only}")?;
-    let warn = format!(in rt.alloc(); "the --warn {only}")?;
-    let quiet = format!(in rt.alloc(); "the --quiet {only}")?;
-    let strict = format!(in rt.alloc(); "the --strict {only}")?;
-    let length = "option '--length' requires an argument";
-    let letter = "option requires an argument -- 'l'";
-    let uneven = "length is not a multiple of 8: '12'";
-    let name = "unrecognized option '--a\\\\b\\nc\\rd'";
-    let value = "option '--tag' doesn't allow an argument";
-    for (line, last, text) in [
-        ("a", "--a\\b\nc\rd=e", name),
-        ("a", "--st", "option '--st' is ambiguous"),
-        ("a", "--ta=1", value),
-        ("a", "--len", length),
-        ("a", "-bl", letter),
-        ("a", "-\n", "invalid option -- '\\n'"),
-        ("a -l", "\\\n", "invalid length: '\\\\\\n'"),
-        ("-l", "12", uneven),
-        ("--tag", "-t", "--tag does not support --text mode"),
-        ("-c --tag", "-z", zero),
-        ("-c", "--tag", tag),
-        ("-c", "-b", mode),
-        ("--strict", "--ignore-missing", ignore.as_str()),
-        ("--quiet -w", "--status", status.as_str()),
-        ("--status", "-w", warn.as_str()),
-        ("--status", "--quiet", quiet.as_str()),
-        ("a", "--str", strict.as_str()),
-    ] {
-        let words = words_and(rt.alloc(), line, last.as_bytes())?;
-        let lines = format!(in rt.alloc();
-            "b2sum: {text}\nTry 'b2sum --help' for more information.\n"
-        )?;
-        let found = lines_of_fault(Tool::B2sum, &words)?;
-        assert_eq!(rt; found.bytes(), lines.as_bytes(), "{line} {last}");
+    for (line, last, text) in FAULTS {
+        check_fault(&rt, line, last, text)?;
     }
-    let words = words_and(rt.alloc(), "a", b"-\xff\\")?;
-    let lines = b"anysum: unrecognized option '-\xff\\\\'\n\
-        Try 'anysum --help' for more information.\n"
-        .as_slice();
-    assert_eq!(rt; lines_of_fault(Tool::Anysum, &words)?.bytes(), lines);
-    let words = words_and(rt.alloc(), "a", b"b")?;
-    let lines =
-        b"anysum: --check is required\nTry 'anysum --help' for more information.\n".as_slice();
-    assert_eq!(rt; lines_of_fault(Tool::Anysum, &words)?.bytes(), lines);
+    for (line, last, option) in FAULTS_WITHOUT_CHECK {
+        let text = format!(in rt.alloc();
+            "the {option} option is meaningful only when verifying checksums"
+        )?;
+        check_fault(&rt, line, last, text.as_str())?;
+    }
     Ok(())
+}
+
+// Of bytes that are no text, and of a tool that only checks.
+#[test]
+fn faults_of_anysum(rt: HostRuntime) -> Result<(), Fail> {
+    let lines = b"anysum: unrecognized option '-\xff\\\\'\n\
+        Try 'anysum --help' for more information.\n";
+    check_lines(&rt, Tool::Anysum, ("a", b"-\xff\\"), lines)?;
+    let lines = b"anysum: --check is required\nTry 'anysum --help' for more information.\n";
+    check_lines(&rt, Tool::Anysum, ("a", b"b"), lines)
 }

@@ -17,60 +17,57 @@ pub(crate) fn words_and(alloc: Global, line: &str, last: &[u8]) -> Result<Words<
     Ok(words)
 }
 
-// The words in their order, each with a newline behind it. Without a contract, so that a test knows no more of them
-// than it sees.
-fn lines_of(alloc: Global, words: &Words<Global>) -> Result<Vec<u8>, Fail> {
-    let mut lines = Vec::new(alloc);
-    for word in words.iter() {
-        lines.extend_from_slice(word)?;
-        lines.push(b'\n')?;
-    }
-    Ok(lines)
+// Whether these are the words, in their order. Without a contract, so that a test knows no more of them than it sees.
+fn are(words: &Words<Global>, wanted: &[&[u8]]) -> bool {
+    words.iter().eq(wanted.iter().copied())
+        && words.len() == wanted.len()
+        && words.is_empty() == wanted.is_empty()
+        && words.get(2) == wanted.get(2).copied()
+        && words.get(wanted.len()).is_none()
 }
 
-// The operands of the words in this way. Without a contract, as above.
-fn operands_of(alloc: Global, words: &Words<Global>) -> Result<Vec<u8>, Fail> {
-    let mut lines = Vec::new(alloc);
+// Whether these are the operands of words that ask for lines. Without a contract, as above.
+fn are_operands(words: &Words<Global>, wanted: &[&[u8]]) -> bool {
     match read_words(Tool::Md5sum, words) {
-        Ok(Request::Generate(_, operands)) => {
-            for operand in operands {
-                lines.extend_from_slice(operand)?;
-                lines.push(b'\n')?;
-            }
-        }
-        _ => return Err(Fail::from("no lines are asked for")),
+        Ok(Request::Generate(_, operands)) => operands.eq(wanted.iter().copied()),
+        _ => false,
     }
-    Ok(lines)
 }
 
 // An empty word is a word, and one may hold any bytes.
 #[test]
 fn words_of_any_bytes(rt: HostRuntime) -> Result<(), Fail> {
     let words = words_and(rt.alloc(), "--tag  a\0b\n", b"\xff")?;
-    assert!(rt; words.len() == 4 && !words.is_empty());
-    assert!(rt; words.get(2) == Some(b"a\0b\n".as_slice()) && words.get(4).is_none());
-    let lines = lines_of(rt.alloc(), &words)?;
-    assert_eq!(rt; lines.as_slice(), b"--tag\n\na\0b\n\n\xff\n".as_slice());
-    let operands = operands_of(rt.alloc(), &words)?;
-    assert_eq!(rt; operands.as_slice(), b"\na\0b\n\n\xff\n".as_slice());
+    let wanted: [&[u8]; 4] = [b"--tag", b"", b"a\0b\n", b"\xff"];
+    assert!(rt; are(&words, &wanted));
+    assert!(rt; are_operands(&words, &wanted[1..]));
     Ok(())
+}
+
+// Whether these are the items of the words. Without a contract, as above.
+fn are_items(words: &Words<Global>, wanted: &[Item]) -> bool {
+    Items::new(Tool::B2sum, words).eq(wanted.iter().copied())
 }
 
 #[test]
 fn items(rt: HostRuntime) -> Result<(), Fail> {
     let words = words_and(rt.alloc(), "a -bl 8", b"-\xff")?;
-    let mut items = Items::new(Tool::B2sum, &words);
-    assert!(rt; matches!(items.next(), Some(Item::Operand(b"a"))));
-    assert!(rt; matches!(items.next(), Some(Item::Flag(Flag::Binary))));
-    assert!(rt; matches!(items.next(), Some(Item::Length(_))));
-    assert!(rt;
-        matches!(
-            items.next(),
-            Some(Item::Fault(WordFault::NotText(b"-\xff")))
-        )
-    );
-    assert!(rt; items.next().is_none());
+    let wanted = [
+        Item::Operand(b"a"),
+        Item::Flag(Flag::Binary),
+        Item::Length(b"8"),
+        Item::Fault(WordFault::NotText(b"-\xff")),
+    ];
+    assert!(rt; are_items(&words, &wanted));
     Ok(())
+}
+
+// Whether the arguments ask for this tool on these words. Without a contract, as above.
+fn invoke(alloc: Global, arguments: &[&[u8]], tool: Tool, words: &[&[u8]]) -> bool {
+    match read_command_line(alloc, &ToldArguments::new(arguments)) {
+        Ok(CommandLine::Invoke(found, all)) => found == tool && are(&all, words),
+        _ => false,
+    }
 }
 
 // There is room for a word of any length.
@@ -78,13 +75,7 @@ fn items(rt: HostRuntime) -> Result<(), Fail> {
 fn command_lines(rt: HostRuntime) -> Result<(), Fail> {
     let long = vec![in rt.alloc(); 0xff; 102_401]?;
     let arguments: [&[u8]; 4] = [b"\xff", b"md5sum", b"\xff", &long];
-    match read_command_line(rt.alloc(), &ToldArguments::new(&arguments)) {
-        Ok(CommandLine::Invoke(tool, words)) => {
-            assert!(rt; tool == Tool::Md5sum && words.len() == 2);
-            assert!(rt; words.get(0) == Some(b"\xff") && words.get(1) == Some(&long));
-        }
-        _ => return Err(Fail::from("not asked for")),
-    }
+    assert!(rt; invoke(rt.alloc(), &arguments, Tool::Md5sum, &arguments[2..]));
     let arguments: [&[u8]; 1] = [b"digests"];
     let line = read_command_line(rt.alloc(), &ToldArguments::new(&arguments));
     assert!(rt; matches!(line, Ok(CommandLine::UnknownTool)));

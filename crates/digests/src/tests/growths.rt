@@ -1,6 +1,6 @@
 //! Memory that is refused: each growth in turn, on heaps that are each a little larger. A heap gives multiples of 16
 //! bytes, so each growth is refused on some heap.
-use super::{MISSING, REPORTS, Stage, VERDICTS, WARNINGS, run_line, spell, stage};
+use super::{MISSING, REPORTS, Stage, VERDICTS, WARNINGS, run_line, spell, stage, wrote};
 use linked_list_allocator::LocalHeap;
 use std::alloc::{Allocator, Global};
 use std::process::Abort;
@@ -21,17 +21,22 @@ fn asked<A: Allocator + Copy>(streams: &Stage<A, 1024>, names: &[&str]) -> bool 
     streams.inputs.source.asked_name(names.len()).is_none()
 }
 
-// At which of its places a run stands.
+// At which of its places a run with this outcome stands: at the last it has ended with status 1.
 fn place_of<A: Allocator + Copy>(
     alloc: Global,
     streams: &Stage<A, 1024>,
+    outcome: Result<u8, Stop>,
     names: &[&str],
     places: &[Place],
 ) -> Result<usize, Fail> {
-    let outputs = &streams.outputs;
     for (i, (out, err, count)) in places.iter().enumerate() {
-        if outputs.out.get_ref().bytes() == spell(alloc, out)?.as_bytes()
-            && outputs.err.get_ref().bytes() == spell(alloc, err)?.as_bytes()
+        let (out, err) = (spell(alloc, out)?, spell(alloc, err)?);
+        let ended = if i.saturating_add(1) == places.len() {
+            Ok(1)
+        } else {
+            Err(Stop::Memory)
+        };
+        if (outcome, wrote(streams)) == (ended, (out.as_bytes(), err.as_bytes()))
             && asked(streams, names.get(..*count).ok_or("names")?)
         {
             return Ok(i);
@@ -41,8 +46,7 @@ fn place_of<A: Allocator + Copy>(
 }
 
 // Runs a line over the files `a`, `e` and a manifest, on a heap of so many bytes, which the files, the words and the
-// run share. At which of the places it stands: at the last it has ended with status 1. `None` if there was no room for
-// the files or for the words.
+// run share. At which of the places it stands. `None` if there was no room for the files or for the words.
 fn place_within(
     rt: &(impl Abort + AllocGlobal),
     size: usize,
@@ -52,21 +56,25 @@ fn place_within(
 ) -> Result<Option<usize>, Fail> {
     let heap = LocalHeap::new(rt.alloc(), size)?;
     let manifest = spell(rt.alloc(), manifest)?;
-    let Ok(source) = source_on(&heap, list, manifest.as_bytes()) else {
-        return Ok(None);
-    };
+    match source_on(&heap, list, manifest.as_bytes()) {
+        Ok(source) => place_over(rt.alloc(), &heap, source, line, names, places),
+        Err(NoRoom) => Ok(None),
+    }
+}
+
+fn place_over<A: Allocator + Copy>(
+    alloc: Global,
+    heap: A,
+    source: ToldSource<A>,
+    line: &str,
+    names: &[&str],
+    places: &[Place],
+) -> Result<Option<usize>, Fail> {
     let mut streams = stage(Told::new(b"abc", Ending::Whole, 8192), source);
-    let Some(outcome) = run_line(&heap, line, &mut streams) else {
-        return Ok(None);
-    };
-    let place = place_of(rt.alloc(), &streams, names, places)?;
-    let want = if place.saturating_add(1) == places.len() {
-        Ok(1)
-    } else {
-        Err(Stop::Memory)
-    };
-    assert_eq!(rt; outcome, want, "{line} in {size} bytes");
-    Ok(Some(place))
+    match run_line(heap, line, &mut streams) {
+        Some(outcome) => Ok(Some(place_of(alloc, &streams, outcome, names, places)?)),
+        None => Ok(None),
+    }
 }
 
 fn source_on<'a, A: Allocator + Copy>(
@@ -106,36 +114,42 @@ fn assert_each_growth(
     Ok(())
 }
 
+const GENERATION: [Place<'static>; 4] = [
+    ("", "", 0),
+    ("$M  a\n", "", 1),
+    ("$M  a\n", MISSING, 2),
+    ("$M  a\n$E  e\n", MISSING, 3),
+];
+
+const CHECK: [Place<'static>; 5] = [
+    ("", "", 0),
+    ("", "", 1),
+    ("a: OK\n", "", 2),
+    ("a: OK\nx: FAILED open or read\n", MISSING, 3),
+    (REPORTS, WARNINGS, 4),
+];
+
+const TWO_CHECKS: [Place<'static>; 5] = [
+    ("", "", 0),
+    ("", "", 1),
+    ("-: OK\n", "", 1),
+    ("-: OK\n", "", 2),
+    (
+        "-: OK\n-: FAILED\n",
+        "md5sum: WARNING: 1 computed checksum did NOT match\n",
+        2,
+    ),
+];
+
 #[test]
 fn each_growth_refused(rt: HostRuntime) -> Result<(), Fail> {
-    let places = [
-        ("", "", 0),
-        ("$M  a\n", "", 1),
-        ("$M  a\n", MISSING, 2),
-        ("$M  a\n$E  e\n", MISSING, 3),
-    ];
     let script = ("md5sum a x e", "l", "");
-    assert_each_growth(&rt, script, &["a", "x", "e"], &places)?;
-    let places = [
-        ("", "", 0),
-        ("", "", 1),
-        ("a: OK\n", "", 2),
-        ("a: OK\nx: FAILED open or read\n", MISSING, 3),
-        (REPORTS, WARNINGS, 4),
-    ];
+    assert_each_growth(&rt, script, &["a", "x", "e"], &GENERATION)?;
     let script = ("md5sum -c l", "l", VERDICTS);
-    assert_each_growth(&rt, script, &["l", "a", "x", "e"], &places)?;
+    assert_each_growth(&rt, script, &["l", "a", "x", "e"], &CHECK)?;
     // The name takes more room than a line, so what the first check gave back doesn't hold it.
     let name = "a_list_whose_name_takes_more_room_than_any_line_of_it";
-    let line = format!(in rt.alloc(); "md5sum -c {name} {name}")?;
-    let wrong = "md5sum: WARNING: 1 computed checksum did NOT match\n";
-    let places = [
-        ("", "", 0),
-        ("", "", 1),
-        ("-: OK\n", "", 1),
-        ("-: OK\n", "", 2),
-        ("-: OK\n-: FAILED\n", wrong, 2),
-    ];
-    let script = (line.as_str(), name, "$M  -\n");
-    assert_each_growth(&rt, script, &[name, name], &places)
+    let line = "md5sum -c a_list_whose_name_takes_more_room_than_any_line_of_it \
+        a_list_whose_name_takes_more_room_than_any_line_of_it";
+    assert_each_growth(&rt, (line, name, "$M  -\n"), &[name, name], &TWO_CHECKS)
 }

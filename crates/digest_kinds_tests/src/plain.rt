@@ -1,5 +1,4 @@
 //! The compression function F as RFC 7693 has it, one G after another: what the lanes are compared with.
-use crate::compression::IV;
 use byteorder::{ByteOrder, LittleEndian};
 
 // The order in which the rounds take the words of a block (RFC 7693, 2.7).
@@ -17,18 +16,29 @@ const SIGMA: [[usize; 16]; 10] = [
     [10, 2, 8, 4, 7, 6, 1, 5, 15, 11, 9, 14, 3, 12, 13, 0],
 ];
 
-// G (RFC 7693, 3.1): mixes the words `x` and `y` into `v` at these places.
-fn mix(v: &mut [u64; 16], places: [usize; 4], x: u64, y: u64) {
-    let [a, b, c, d] = places;
-    let (a, b, c, d) = (a % 16, b % 16, c % 16, d % 16);
-    v[a] = v[a].wrapping_add(v[b]).wrapping_add(x);
-    v[d] = (v[d] ^ v[a]).rotate_right(32);
-    v[c] = v[c].wrapping_add(v[d]);
-    v[b] = (v[b] ^ v[c]).rotate_right(24);
-    v[a] = v[a].wrapping_add(v[b]).wrapping_add(y);
-    v[d] = (v[d] ^ v[a]).rotate_right(16);
-    v[c] = v[c].wrapping_add(v[d]);
-    v[b] = (v[b] ^ v[c]).rotate_right(63);
+// IV (RFC 7693, 2.6).
+const IV: [u64; 8] = [
+    0x6a09e667f3bcc908,
+    0xbb67ae8584caa73b,
+    0x3c6ef372fe94f82b,
+    0xa54ff53a5f1d36f1,
+    0x510e527fade682d1,
+    0x9b05688c2b3e6c1f,
+    0x1f83d9abfb41bd6b,
+    0x5be0cd19137e2179,
+];
+
+// G (RFC 7693, 3.1): mixes the words `x` and `y` into these four.
+fn mix([mut a, mut b, mut c, mut d]: [u64; 4], x: u64, y: u64) -> [u64; 4] {
+    a = a.wrapping_add(b).wrapping_add(x);
+    d = (d ^ a).rotate_right(32);
+    c = c.wrapping_add(d);
+    b = (b ^ c).rotate_right(24);
+    a = a.wrapping_add(b).wrapping_add(y);
+    d = (d ^ a).rotate_right(16);
+    c = c.wrapping_add(d);
+    b = (b ^ c).rotate_right(63);
+    [a, b, c, d]
 }
 
 // The places that a round mixes: four columns, and then four diagonals (RFC 7693, 3.2).
@@ -47,9 +57,16 @@ const PLACES: [[usize; 4]; 8] = [
 fn round(m: &[u64; 16], v: &mut [u64; 16], order: &[usize; 16]) {
     for (places, words) in PLACES.iter().zip(order.chunks(2)) {
         if let [x, y] = words {
-            mix(v, *places, m[*x % 16], m[*y % 16]);
+            mix_at(v, *places, m[*x % 16], m[*y % 16]);
         }
     }
+}
+
+// G at these places of `v`.
+fn mix_at(v: &mut [u64; 16], [a, b, c, d]: [usize; 4], x: u64, y: u64) {
+    let (a, b, c, d) = (a % 16, b % 16, c % 16, d % 16);
+    let words = mix([v[a], v[b], v[c], v[d]], x, y);
+    [v[a], v[b], v[c], v[d]] = words;
 }
 
 // The working vector before the first round.
@@ -68,7 +85,7 @@ fn start(h: &[u64; 8], t: u128, last: bool) -> [u64; 16] {
 }
 
 // F (RFC 7693, 3.2).
-pub(super) fn compress(h: &[u64; 8], block: &[u8; 128], t: u128, last: bool) -> [u64; 8] {
+pub(crate) fn compress(h: &[u64; 8], block: &[u8; 128], t: u128, last: bool) -> [u64; 8] {
     let mut m = [0; 16];
     LittleEndian::read_u64_into(block, &mut m);
     let mut v = start(h, t, last);
