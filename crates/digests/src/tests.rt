@@ -81,8 +81,8 @@ fn spell_all(alloc: Global, files: &[File]) -> Result<Vec<String>, Fail> {
     Ok(contents)
 }
 
-// A source of the files that most examples have, which are `a`, `e` and two names with special bytes, and of these. There
-// is no `x`.
+// A source of the files that most examples have (`a`, `e` and two names with special bytes), and of these. There is no
+// `x`.
 fn source_of<'a>(
     alloc: Global,
     piece: usize,
