@@ -23,6 +23,7 @@ FILES = {
     "sum_sources/src/log.rt": {"unsafe"},
     "sum_sources/src/sources/files.rt": {"fs", "io", "rt"},
     "sum_words/src/arguments.rt": {"env", "rt"},
+    "sum_words/src/arguments_log.rt": {"env"},
     "sum_words/src/command_line.rt": {"env"},
 }
 
@@ -51,4 +52,4 @@ class Border(Case):
     def test_what_main_makes(self):
         """`main` makes values of those types alone whose constructors `tools/believed.py --text` shows."""
         made = re.findall(r"\b(\w+)::new\(", text_of("crates", "digests", "src", "main.rt"))
-        self.assertEqual({*made, "Buffered"}, set(MADE))
+        self.assertEqual({*made, "Buffered", "Reader"}, set(MADE))

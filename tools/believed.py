@@ -33,7 +33,7 @@ PROMISES = os.path.join(TOP, "docs", "PROMISES.md")
 # What is believed besides the laws, in the order of the page: a function's crate and name, and what the page calls it.
 CLAIMS = [("digests", "run", "The headline"), ("digests", "command", "The program")]
 # The types whose values `main` makes, itself or by `Streams::new`. The contracts of these constructors are shown, too.
-MADE = ("Streams", "Stdin", "Files", "Buffered", "FromWrite", "SystemArguments")
+MADE = ("Streams", "Reader", "Inputs", "Files", "Buffered", "FromWrite", "SystemArguments")
 COMPUTED = {"parse_line": "parse_is_grammar", "form": "one_form"}  # what a law holds against a relation, and the law
 MARKS = "<!-- made by tools/believed.py: what stands below -->\n", "\n<!-- and above this line -->"
 

@@ -36,7 +36,7 @@ Performs-flushed run a b outputs x (Err stop) ran flushes kept = rw flushes.0 (�
 pub CallPerforms-finished : (status : ℕ) (tool : Option Tool) (run : World → Behavior) (a b : StreamsState)
     (outputs : OutputsState) (answer : Result ℕ Stop) → Performs run status_of a b answer
     → FailuresMatch a.outputs b.outputs answer → FinishesRun tool answer b.outputs outputs status
-    → CallPerforms tool run a (record b { outputs = outputs }) status
+    → CallPerforms tool (Performs run status_of) a (record b { outputs = outputs }) status
 CallPerforms-finished status tool run a b outputs (Ok x) ran failed (later, m, flushes, kept, reports) = (
   later,
   record b { outputs = m },

@@ -12,14 +12,14 @@ use Rattle.sum_sources.specs.declared.fault.Fault.TheVariants.{NotFound, Other}
 use Rattle.sum_engine.specs.Behavior.{World, Whole, Broken, out_text, err_text, asks}
 use Rattle.hex.specs.Hex.{encode_with, decode_pairs}
 use Rattle.sum_lines.specs.{grammar.LineParts.plain_parts, grammar.LineParts.tagged_parts, grammar.ParsedLines.entry_of}
-use Rattle.sum_sources.specs.{ManifestLines.raw_lines, Contents.Content, Contents.limit, Contents.empty_content, Sources.Answer, Sources.Pair}
+use Rattle.sum_sources.specs.{ManifestLines.raw_lines, Contents.Content, Contents.limit, Contents.empty_content, Sources.Answer, Sources.Answers, Sources.TellsAll, Inputs.answers_with}
 use Rattle.sum_words.specs.declared.{tool.Tool.Tool, tool.Tool.TheVariants.Md5sum, tool.Tool.TheVariants.B2sum, tool.Tool.TheVariants.Anysum}
 use Rattle.sum_words.specs.Items.{ByteString, name_or_fault, option_of_letter}
 use Rattle.sum_words.proofs.WorkedExamples.{words}
 use Rattle.sum_engine.specs.declared.stop.Stop.{Stop}
-use Rattle.sum_engine.specs.Execution.{StreamsState, IsFlushed, world_at, PerformsSteps, Performs, ReadsToEndIf}
+use Rattle.sum_engine.specs.Execution.{StreamsState, IsFlushed, asked, PerformsSteps, Performs, ReadsToEndIf}
 use Rattle.sum_engine.proofs.BehaviorLemmas.{events_extend}
-use Rattle.digests.specs.{Meaning.meaning, Meaning.status_of, InMemory.IsInMemory, InMemory.world_of, InMemory.MeansInMemory}
+use Rattle.digests.specs.{Meaning.meaning, Meaning.status_of, InMemory.MeansInMemory}
 
 -- what a worked example unfolds, so that its texts are computed
 unfoldable meaning_on_literals : ⊤
@@ -58,7 +58,7 @@ record Outcome : Type 0 where
 -- the outcome of a tool's words, if the file `l` has the first content and standard input the second
 abbrev outcome : Tool → List ByteString → Content → Content → Outcome
 outcome tool words l input =
-    let w : World = record { answer = λ n. answer_with l; next = 0; stdin = input } in
+    let w : World = record { answer = answers_with input (λ name k. answer_with l name); opened = [] } in
     let run = meaning tool words w in
     record { out = out_text run; err = err_text run; asks = asks run; good = run.good }
 
@@ -216,16 +216,15 @@ mixed_tags = refl
 
 -- ---- files in memory
 
--- the file `a` holds abc, and `e` is empty
-abbrev two_files : List Pair
-two_files = record { name = codes "a"; answer = Ok (whole_content (codes "abc")); from = 0 }
-    ∷ record { name = codes "e"; answer = Ok empty_content; from = 0 } ∷ []
+-- nothing is on standard input
+abbrev pub two_files : Answers
+two_files = answers_with empty_content (λ name k. answer_with empty_content name)
 
 -- the digest lines of both
 abbrev two_lines : ByteString
 two_lines = lines ("900150983cd24fb0d6963f7d28e17f72  a" ∷ "d41d8cd98f00b204e9800998ecf8427e  e" ∷ [])
 
-two_meant : let run = meaning Md5sum (words "a e") (world_of two_files empty_content) in
+two_meant : let run = meaning Md5sum (words "a e") (record { answer = two_files; opened = [] }) in
     (run.good ≡ true) × (out_text run ≡ two_lines)
 unfolding meaning_on_literals
 two_meant = (refl, refl)
@@ -233,17 +232,17 @@ two_meant = (refl, refl)
 -- `md5sum a e` ran over these files, of whatever type they are, and didn't stop: the status is 0, and standard output
 -- got both lines
 run_in_memory : (a b : StreamsState) (status : ℕ) (r : Result ℕ Stop) → MeansInMemory b
-    → IsInMemory two_files empty_content a.inputs → a.inputs.source.openings ≡ [] → a.inputs.stdin.taken ≡ false
-    → IsFlushed a.outputs → Performs (meaning Md5sum (words "a e")) status_of a b r
+    → TellsAll a.inputs.told two_files → a.inputs.openings ≡ [] → IsFlushed a.outputs
+    → Performs (meaning Md5sum (words "a e")) status_of a b r
     → ReadsToEndIf (r ≡ Ok 0) a.inputs b.inputs → r ≡ Ok status
     → (status ≡ 0) × (b.outputs.out.sink.written ≡ a.outputs.out.sink.written ++ two_lines)
-run_in_memory a b status r law told new untaken flushed did reads is =
-    let run = meaning Md5sum (words "a e") (world_of two_files empty_content) in
-    let same : world_at (world_of two_files empty_content) a.inputs ≡ world_of two_files empty_content =
-    rw (new, untaken) refl in
-    let there = subst (λ (w : World). let run = meaning Md5sum (words "a e") w in
-    PerformsSteps run.steps (status_of run.good) a b r) same
-    (law Md5sum (words "a e") two_files empty_content a r told flushed did reads) in
+run_in_memory a b status r law told new flushed did reads is =
+    let run = meaning Md5sum (words "a e") (record { answer = two_files; opened = [] }) in
+    let none : asked a.inputs ≡ [] = rw new refl in
+    let there = subst (λ (opened : List ByteString).
+    let run = meaning Md5sum (words "a e") (record { answer = two_files; opened = opened }) in
+    PerformsSteps run.steps (status_of run.good) a b r) none
+    (law Md5sum (words "a e") two_files a r told flushed did reads) in
     let all = subst (λ (r : Result ℕ Stop). PerformsSteps run.steps (status_of run.good) a b r) is there in
     let out : b.outputs.out.sink.written ≡ a.outputs.out.sink.written ++ out_text run =
     (events_extend run a b all.1).2 in

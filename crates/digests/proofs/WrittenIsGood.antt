@@ -6,10 +6,9 @@ use Rattle.digest_kinds.specs.Kinds.{digest}
 use Rattle.sum_engine.specs.declared.{check.judge.Verdict.TheVariants.Right, settings.Settings.Settings}
 use Rattle.sum_engine.specs.{check.Reports.out_by, Generation.generate_behavior}
 use Rattle.sum_lines.specs.Escape.{own_profile}
-use Rattle.sum_engine.specs.Behavior.{World, answer_to, after, digest_or_fault, out_text, asks, ByteString}
+use Rattle.sum_engine.specs.Behavior.{World, answer_to, after, digest_or_fault, out_text, asks, times, ByteString}
 use Rattle.sum_sources.specs.Sources.{Answer}
 use Rattle.sum_engine.proofs.{ListedEntryLemmas.Item, ListedEntryLemmas.written_text, ListedEntryLemmas.Listed, GoodLemmas.manifest_good}
-use Rattle.sum_engine.proofs.WorldLemmas.{after-steady}
 use Rattle.sum_words.specs.Tools.{name_of, Algos}
 use Rattle.digests.specs.Meaning.{operands_behavior}
 use Rattle.digests.proofs.CheckWords.{request-check_words}
@@ -34,7 +33,7 @@ module _ (algos : Algos) (files later : ByteString → Answer) where
   -- a file that can be listed is read to its end
   read-is : (w : World) (s : Settings) (name : ByteString) → HasFiles w files → IsListable files name
       → digest_or_fault s.kind (answer_to w name) ≡ Ok (digest s.kind (bytes_of (files name)))
-  read-is w s name has h = rw has (search rules)
+  read-is w s name has h = rw (has name (times name w.opened) h.no_dash) (search rules)
 
   -- so its line is written, and for all names their lines, one after another
   lines-are : (s : Settings) (tool : ByteString) (names : List ByteString) (w : World) → HasFiles w files
@@ -46,7 +45,7 @@ module _ (algos : Algos) (files later : ByteString → Answer) where
       let asked = asks (generate_behavior s tool w name) in
       let first : out_text (generate_behavior s tool w name) ≡ written_text (item files s name) =
       rw (read-is w s name has (All-head (IsListable files) name names all), newlines, append-nil) refl in
-      let others = lines-are s tool names (after w asked) (after-steady files w asked has) newlines
+      let others = lines-are s tool names (after w asked) has newlines
       (All-tail (IsListable files) name names all) in
       rw (flat_map-append, first, others) refl
 

@@ -1,5 +1,5 @@
 -- What generation wrote is good: a later check of it reports OK for each file, if the files stay as they were.
-use Rattle.std.specs.Prelude.{◌≡◌, ◌<◌, false, List, [], ◌∷◌, ◌++◌, IsTrue, length, map, flat_map, codes, if◌then◌else◌, All, Ok, option_to_list}
+use Rattle.std.specs.Prelude.{ℕ, ◌≡◌, ◌<◌, false, List, [], ◌∷◌, ◌++◌, IsTrue, length, map, flat_map, codes, if◌then◌else◌, All, Ok, option_to_list}
 use Rattle.digest_kinds.specs.Kinds.{has_len}
 use Rattle.sum_engine.specs.declared.{check.judge.Verdict.TheVariants.Right, settings.Settings.Settings, settings.CheckSettings.CheckSettings}
 use Rattle.sum_engine.specs.{check.Reports.out_by, Generation.generate_behavior}
@@ -39,9 +39,9 @@ pub record IsCheckable (algos : Algos) (files later : ByteString → Answer) (g 
   pub listable : All (IsListable files) g.names
   pub same : All (λ name. later name ≡ files name) g.names
 
--- a world in which these are the files, whatever was asked
+-- a world in which these are the files, whatever was opened
 abbrev pub HasFiles : World → (ByteString → Answer) → Type 0
-HasFiles w files = w.answer ≡ (λ asked. files)
+HasFiles w files = (name : ByteString) (k : ℕ) → is_dash name ≡ false → w.answer name k ≡ files name
 
 -- the options that ask for a check with these settings
 abbrev pub check_options : CheckSettings → List Flag

@@ -1,26 +1,34 @@
--- The headline for files in memory: what a run does that is told of all that it can read.
-use Rattle.std.specs.Prelude.{ℕ, ◌≡◌, List, Some, Result, Ok}
-use Rattle.sum_sources.specs.Sources.{Pair, first_answer}
-use Rattle.sum_engine.specs.Behavior.{ByteString, Content, World}
+-- The headline for files in memory: what a run does whose source has all answers in memory.
+use Rattle.std.specs.Prelude.{ℕ, ◌≡◌, ◌⊎◌, List, Option, None, Some, Result, Ok}
+use Rattle.sum_sources.specs.Sources.{Answers, TellsAll}
+use Rattle.sum_engine.specs.Behavior.{ByteString, World}
 use Rattle.sum_engine.specs.declared.stop.Stop.{Stop}
-use Rattle.sum_engine.specs.Execution.{InputsState, StreamsState, IsFlushed, world_at, ReadsToEndIf, PerformsSteps, Performs}
+use Rattle.sum_engine.specs.Execution.{StreamsState, IsFlushed, asked, ReadsToEndIf, PerformsSteps, Performs}
+use Rattle.sum_words.specs.{Arguments.ArgumentsState, CommandLines.command_line, CommandLines.NeedsMemory, Texts.unknown_tool_line, Texts.not_read_line}
 use Rattle.sum_words.specs.declared.tool.Tool.{Tool}
 use Rattle.digests.specs.Meaning.{meaning, status_of}
-
--- the files and standard input are in memory: those of these pairs, and this content
-pub record IsInMemory (pairs : List Pair) (content : Content) (a : InputsState) : Type 0 where
-  pub files : a.source.told ≡ Some pairs
-  pub stdin : a.stdin.told ≡ Some content
-
--- the world of these
-abbrev pub world_of : List Pair → Content → World
-world_of pairs stdin = record { answer = first_answer pairs; next = 0; stdin = stdin }
+use Rattle.digests.specs.Program.{CallPerforms, CallRefuses, ProgramPerforms}
 
 -- a tool ran on these words, as its contract says, over files in memory, and left the streams b. So exactly the
--- behavior was performed that the words mean in the world of these files
+-- behavior was performed that the words mean by these answers
 abbrev pub MeansInMemory : StreamsState → Type 0
-MeansInMemory b = (tool : Tool) (words : List ByteString) (pairs : List Pair) (stdin : Content) (a : StreamsState)
-    (r : Result ℕ Stop) → IsInMemory pairs stdin a.inputs → IsFlushed a.outputs
+MeansInMemory b = (tool : Tool) (words : List ByteString) (answer : Answers) (a : StreamsState) (r : Result ℕ Stop)
+    → TellsAll a.inputs.told answer → IsFlushed a.outputs
     → Performs (meaning tool words) status_of a b r → ReadsToEndIf (r ≡ Ok 0) a.inputs b.inputs
-    → let all = meaning tool words (world_at (world_of pairs stdin) a.inputs) in
+    → let all = meaning tool words (record { answer = answer; opened = asked a.inputs }) in
     PerformsSteps all.steps (status_of all.good) a b r
+
+-- a call of a tool on its words, or of no known tool, in one world
+abbrev pub CommandPerformsIn : World → Option (Tool × List ByteString) → StreamsState → StreamsState → ℕ → Type 0
+CommandPerformsIn w None = CallRefuses unknown_tool_line
+CommandPerformsIn w (Some (tool, words)) = let all = meaning tool words w in
+    CallPerforms (Some tool) (PerformsSteps all.steps (status_of all.good))
+
+-- the program was called, as its contract says, with arguments in memory and over files in memory, and left the streams
+-- b. So it did exactly what these arguments ask for by these answers; or they need memory, and weren't read
+abbrev pub ProgramInMemory : ArgumentsState → StreamsState → Type 0
+ProgramInMemory given b = (arguments : List ByteString) (answer : Answers) (a : StreamsState) (status : ℕ)
+    → given.told ≡ Some arguments → TellsAll a.inputs.told answer → IsFlushed a.outputs
+    → ProgramPerforms given a b status → ReadsToEndIf (status ≡ 0) a.inputs b.inputs
+    → CommandPerformsIn (record { answer = answer; opened = asked a.inputs }) (command_line arguments) a b status
+    ⊎ (NeedsMemory arguments × CallRefuses not_read_line a b status)

@@ -2,16 +2,16 @@
 ghost use Rattle.digests.specs.Program.{ProgramPerforms};
 ghost use Rattle.digests.specs.refinement.FinishRun.{Refuses};
 ghost use Rattle.digests.specs.refinement.Messages.{message_text};
-ghost use Rattle.std.specs.Prelude.{◌≡◌};
+ghost use Rattle.std.specs.Prelude.{◌≡◌, []};
 ghost use Rattle.sum_engine.specs.Execution.{IsFlushed, ReadsToEndIf, failures};
 
 use crate::finish::finish_run;
 use crate::messages::{Message, put_err_message};
 use crate::run::run;
 use std::alloc::Allocator;
-use sum_engine::{Inputs, Outputs, Streams, outcome_after};
+use sum_engine::{Outputs, Reader, Streams, outcome_after};
 use sum_lines::Sink;
-use sum_sources::{Input, Source};
+use sum_sources::Source;
 use sum_words::{Arguments, CommandLine, NotRead, read_command_line};
 
 /// Does what the program was called for, and returns its exit status. If the program was called by a tool's name, as by
@@ -22,14 +22,16 @@ use sum_words::{Arguments, CommandLine, NotRead, read_command_line};
 /// for an argument after the tool's place or for one longer than 4,096 bytes, it may write `digests: words not read` in
 /// place of all else, and the status is 1. After a stop of a tool's run, or if the last flush fails, it writes
 /// `TOOL: memory exhausted` or `TOOL: write error`, or a prefix of that if standard error fails, and the status is 1.
-pub fn command<A: Allocator + Copy, G: Arguments, I: Input + Drop, S: Source, O: Sink, E: Sink>(
+pub fn command<A: Allocator + Copy, G: Arguments, S: Source, O: Sink, E: Sink>(
     alloc: A,
-    arguments: &G,
-    streams: &mut Streams<Inputs<I, S>, Outputs<O, E>>,
+    arguments: &mut G,
+    streams: &mut Streams<Reader<S>, Outputs<O, E>>,
 ) -> u8
-    // If the arguments are in memory and both outputs flushed: their behavior, in every world that agrees with what
-    // was read.
-    ensures behavior { ProgramPerforms (G.known arguments.now) streams.old streams.new result }
+    requires { (G.state arguments.old).given ≡ [] }
+    // If both outputs are flushed: the behavior of every list of arguments that agrees with what was given, in every
+    // world that agrees with what was read.
+    ensures behavior { ProgramPerforms (G.state arguments.new) streams.old streams.new result }
+    ensures told { (G.state arguments.new).told ≡ (G.state arguments.old).told }
     ensures flushed { IsFlushed streams.old.outputs → IsFlushed streams.new.outputs }
     // One way: status 0 only if no call of either output failed.
     ensures no_failures { result ≡ 0 → failures streams.new.outputs ≡ failures streams.old.outputs }

@@ -1,23 +1,34 @@
-//! The laws of a run over files in memory, and of what the tools wrote. Each is the contract of a function that does
-//! nothing.
+//! The laws of a run and of the program over files in memory, and of what the tools wrote. Each is the contract of a
+//! function that does nothing.
 ghost use Rattle.digests.specs.GenerationRuns.{AreGood, GenerationRun};
-ghost use Rattle.digests.specs.InMemory.{MeansInMemory};
+ghost use Rattle.digests.specs.InMemory.{MeansInMemory, ProgramInMemory};
 ghost use Rattle.std.specs.Prelude.{List, [], ◌∷◌};
 
 use sum_engine::laws::some_world_agrees;
-use sum_engine::{Inputs, Outputs, Streams};
+use sum_engine::{Outputs, Reader, Streams};
 use sum_lines::Sink;
-use sum_sources::{Input, Source};
+use sum_sources::Source;
+use sum_words::Arguments;
+use sum_words::laws::some_list_agrees;
 
 /// The headline for files in memory, of whatever types. Say that `run` left these streams, and that before it both
-/// outputs were flushed, and the files and the standard input were in memory. Then the outputs got exactly the bytes,
-/// and `run` returned exactly the status, that the words mean by the whole contents of these; or it stopped, and a
-/// prefix of the run happened.
-pub fn told_performs<I: Input, S: Source, O: Sink, E: Sink>(
-    streams: &Streams<Inputs<I, S>, Outputs<O, E>>,
-)
+/// outputs were flushed, and all answers of the source were in memory. Then the outputs got exactly the bytes, and `run`
+/// returned exactly the status, that the words mean by these answers; or it stopped, and a prefix of the run happened.
+pub fn told_performs<S: Source, O: Sink, E: Sink>(streams: &Streams<Reader<S>, Outputs<O, E>>)
     ensures { MeansInMemory streams.now }
 {
+    some_world_agrees(&streams.inputs);
+}
+
+/// The same for the program and arguments in memory. Say that `command` left these arguments and streams. Then the tool
+/// and the words are those of the list in memory.
+pub fn told_program_performs<G: Arguments, S: Source, O: Sink, E: Sink>(
+    arguments: &G,
+    streams: &Streams<Reader<S>, Outputs<O, E>>,
+)
+    ensures { ProgramInMemory (G.state arguments.now) streams.now }
+{
+    some_list_agrees(arguments);
     some_world_agrees(&streams.inputs);
 }
 

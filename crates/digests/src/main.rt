@@ -18,16 +18,16 @@ use standard_input::standard_input;
 use std::process::ExitCode;
 use sum_engine::Streams;
 use sum_lines::FromWrite;
-use sum_sources::{Files, Stdin};
+use sum_sources::{Files, Inputs};
 use sum_words::SystemArguments;
 
 fn main(rt: HostRuntime) -> ExitCode {
     let mut streams = Streams::new(
-        Stdin::new(standard_input(rt.stdin())),
-        Files::new(rt),
+        Inputs::new(standard_input(rt.stdin()), Files::new(rt)),
         FromWrite::new(rt.stdout()),
         FromWrite::new(rt.stderr()),
     );
-    let status = command(rt.alloc(), &SystemArguments::new(rt), &mut streams);
+    let mut arguments = SystemArguments::new(rt);
+    let status = command(rt.alloc(), &mut arguments, &mut streams);
     ExitCode::from(status)
 }

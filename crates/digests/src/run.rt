@@ -10,10 +10,10 @@ ghost use Rattle.sum_words.specs.refinement.OptionScan.{result_value};
 use crate::messages::{Message, put_err_message, put_out_message};
 use std::alloc::Allocator;
 use sum_engine::{
-    CheckSettings, Inputs, Outputs, Settings, Stop, Streams, check_one, generate_one, outcome_after,
+    CheckSettings, Outputs, Reader, Settings, Stop, Streams, check_one, generate_one, outcome_after,
 };
 use sum_lines::Sink;
-use sum_sources::{Input, Source};
+use sum_sources::Source;
 use sum_words::{Operands, Request, Tool, WordFault, Words, read_words};
 
 /// Runs a tool on its words, and returns the status: 0 if all is good, else 1 (coreutils manual, "md5sum invocation").
@@ -22,11 +22,11 @@ use sum_words::{Operands, Request, Tool, WordFault, Words, read_words};
 /// `Stop::Memory` only if the source was refused memory, or bytes of a manifest were still to come. The first steps of
 /// the behavior happened: those before an operand or, in checking, before a line of a manifest or its end.
 /// `Stop::Write` only if an output failed. A prefix of the trace happened.
-pub fn run<A: Allocator + Copy, I: Input + Drop, S: Source, O: Sink, E: Sink>(
+pub fn run<A: Allocator + Copy, S: Source, O: Sink, E: Sink>(
     alloc: A,
     tool: Tool,
     words: &Words<A>,
-    streams: &mut Streams<Inputs<I, S>, Outputs<O, E>>,
+    streams: &mut Streams<Reader<S>, Outputs<O, E>>,
 ) -> Result<u8, Stop>
     // If both outputs are flushed: the behavior that the words mean, in every world that agrees with what was read.
     ensures behavior { Performs (meaning tool words.now) status_of streams.old streams.new result }
@@ -42,11 +42,11 @@ pub fn run<A: Allocator + Copy, I: Input + Drop, S: Source, O: Sink, E: Sink>(
 }
 
 // Does what a request, or a fault in the words, asks for.
-fn run_request<A: Allocator + Copy, I: Input + Drop, S: Source, O: Sink, E: Sink>(
+fn run_request<A: Allocator + Copy, S: Source, O: Sink, E: Sink>(
     alloc: A,
     tool: Tool,
     asked: Result<Request, WordFault>,
-    streams: &mut Streams<Inputs<I, S>, Outputs<O, E>>,
+    streams: &mut Streams<Reader<S>, Outputs<O, E>>,
 ) -> Result<u8, Stop>
     ensures behavior { Performs (request_behavior tool (result_value asked.entry))
         status_of streams.old
@@ -85,12 +85,12 @@ enum Job {
 }
 
 // Does a job with one operand.
-fn run_operand<A: Allocator + Copy, I: Input + Drop, S: Source, O: Sink, E: Sink>(
+fn run_operand<A: Allocator + Copy, S: Source, O: Sink, E: Sink>(
     alloc: A,
     job: &Job,
     tool: Tool,
     name: &[u8],
-    streams: &mut Streams<Inputs<I, S>, Outputs<O, E>>,
+    streams: &mut Streams<Reader<S>, Outputs<O, E>>,
 ) -> Result<bool, Stop>
     ensures behavior { Performs (λ w. operand_behavior job.now (name_of tool) w name.now)
         (λ good. good)
@@ -115,12 +115,12 @@ fn first_name<'a>(operands: &mut Operands<'a>) -> &'a [u8]
 }
 
 // Does a job with all operands, one after another.
-fn run_operands<A: Allocator + Copy, I: Input + Drop, S: Source, O: Sink, E: Sink>(
+fn run_operands<A: Allocator + Copy, S: Source, O: Sink, E: Sink>(
     alloc: A,
     job: &Job,
     tool: Tool,
     operands: Operands,
-    streams: &mut Streams<Inputs<I, S>, Outputs<O, E>>,
+    streams: &mut Streams<Reader<S>, Outputs<O, E>>,
 ) -> Result<u8, Stop>
     ensures behavior { Performs (λ w. operands_behavior (operand_behavior job.now (name_of tool)) w
         (or_dash operands.entry)) status_of

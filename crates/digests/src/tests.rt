@@ -11,9 +11,9 @@ use crate::run::run;
 use std::alloc::{Allocator, Global};
 use std::process::Abort;
 use std::test::Fail;
-use sum_engine::{Inputs, Outputs, Stop, Streams};
+use sum_engine::{Outputs, Reader, Stop, Streams};
 use sum_lines::ToldSink;
-use sum_sources::{Answer, Ending, Fault, Input, NoRoom, Stdin, Told, ToldSource};
+use sum_sources::{Answer, Ending, Fault, Input, Inputs, NoRoom, Told, ToldSource};
 use sum_words::{Tool, Words};
 
 // A manifest with a line of each verdict: right, a comment, bad, missing, wrong.
@@ -105,7 +105,7 @@ fn source_of<'a>(
 
 // What a run works on.
 type Stage<'a, A, const N: usize> = Streams<
-    Inputs<Told<'a>, ToldSource<'a, A>>,
+    Reader<Inputs<Told<'a>, ToldSource<'a, A>>>,
     Outputs<ToldSink<N>, ToldSink<N>>,
 >;
 
@@ -116,8 +116,7 @@ fn stage<'a, A: Allocator + Copy, const N: usize>(
     requires { (⟦<Told<'a> as Input>⟧.state input).reads ≡ unread }
 {
     Streams::new(
-        Stdin::new(input),
-        source,
+        Inputs::new(input, source),
         ToldSink::new(N),
         ToldSink::new(N),
     )

@@ -2,14 +2,14 @@
 #![tactic(auto)]
 
 use digest_kinds::{Algo, Algos};
-use sum_engine::{CheckSettings, Inputs, Verdict, Verdicts};
+use sum_engine::{CheckSettings, Reader, Verdict, Verdicts};
 use sum_sources::{Fault, Files, FromRead};
 
 fn main(rt: HostRuntime) -> anyhow::Result<()> {
     let mut settings = CheckSettings::new(Algos::One(Algo::Sha256));
     settings.strict = true;
     let mut verdicts = Verdicts::new(settings, true, FromRead::new(rt.stdin()));
-    let mut inputs = Inputs::of_files(Files::new(rt));
+    let mut inputs = Reader::new(Files::new(rt));
     let mut line = Vec::new(rt.alloc());
     for _ in 0..u64::MAX {
         let Some(found) = verdicts.next(&mut line, &mut inputs)? else {

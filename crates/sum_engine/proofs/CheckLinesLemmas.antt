@@ -71,7 +71,7 @@ going_found q labels vector found a b h = let p = returned h.written h.returns i
 
 -- a text was written, or a prefix of it, and no memory was refused
 wrote_cause : {A : Type 0} {a b : StreamsState} {err out : List ℕ} {y : A} {x : Result A Stop} {allowed : List ℕ}
-    → b.inputs.source.refusals ≡ a.inputs.source.refusals → WritesAndReturns a.outputs b.outputs err out y x
+    → b.inputs.refusals ≡ a.inputs.refusals → WritesAndReturns a.outputs b.outputs err out y x
     → StopHasCause allowed a b x
 wrote_cause {A} {a} {b} {err} {out} {y} {allowed = allowed} same h = rw h.returns (by h.written h.writes)
   where
@@ -140,7 +140,6 @@ module _ {I : Type 0} (state : I → InputState) (first : CheckerValue I) (m : S
     pub so_far : StopHasCause {A = Bool} (0 ∷ 1 ∷ []) m n (Ok true)
     pub reads : ReadsToEndIf (q.verdicts.counts.unread ≡ 0) m.inputs n.inputs
     pub same : IsSameInput (state first.verdicts.reader.input) (state q.verdicts.reader.input)
-    pub stdin : first.verdicts.rules.from_stdin ≡ true → n.inputs.stdin ≡ m.inputs.stdin
 
   -- it begins so
   pub HasComeTo-none : first.outcome ≡ None → HasComeTo first m
@@ -156,7 +155,6 @@ module _ {I : Type 0} (state : I → InputState) (first : CheckerValue I) (m : S
     so_far = search rules;
     reads = reads_none m.inputs;
     same = search rules;
-    stdin = λ from. refl;
   }
 
   -- after a step more, which returned x, P holds if it follows of what happened before and of the step
@@ -192,7 +190,6 @@ module _ {I : Type 0} (state : I → InputState) (first : CheckerValue I) (m : S
         reads = reads_then (none_unread q.verdicts next.verdicts advances.found advances.verdict.counts)
             h.reads advances.verdict.reads;
         same = search rules;
-        stdin = λ from. advances.verdict.stdin (ap (λ r. r.from_stdin) h.rules ∙ from) ∙ h.stdin from;
       }
 
   -- The step that ends completes the manifest's behavior. One that stops leaves a prefix of it after a write fault,
@@ -220,7 +217,6 @@ module _ {I : Type 0} (state : I → InputState) (first : CheckerValue I) (m : S
     cause = cause_ends x h.so_far (step_cause advances);
     reads = reads_then (λ good. none_unread q.verdicts last.verdicts advances.found advances.verdict.counts
         (found good).1) h.reads advances.verdict.reads;
-    stdin = λ from. advances.verdict.stdin (ap (λ r. r.from_stdin) h.rules ∙ from) ∙ h.stdin from;
   }
     where
       found : x ≡ Ok true → (advances.found ≡ Ok None) × (last.verdicts.counts.unread ≡ 0)

@@ -1,11 +1,11 @@
 -- `check_one`: a manifest is opened, its checker runs to its end, and it is closed.
-use Rattle.std.proofs.Common.{◌≡◌, ℕ, Bool, false, List, [], ◌∷◌, Result, Ok, Err, Some, refl}
+use Rattle.std.proofs.Common.{◌≡◌, ℕ, Bool, false, List, [], ◌∷◌, Result, Ok, Err, Some, refl, codes, if◌then◌else◌}
 use Rattle.sum_sources.specs.{Contents.unread, Sources.and_opening}
 use Rattle.sum_lines.proofs.EventLemmas.{Gets-none}
-use Rattle.sum_engine.specs.Behavior.{Fault, World, is_dash, answer_to, after, Step, events_of, Answer, InputState, clip}
+use Rattle.sum_engine.specs.Behavior.{Fault, World, is_dash, answer_to, after, Step, events_of, Answer, InputState, SourceState, clip}
 use Rattle.sum_engine.specs.{check.CheckerLaws.RunsManifest, check.Rules.rules_of, check.Rules.labels_of, check.Judge.own_profile}
 use Rattle.sum_engine.specs.{check.Checking.CheckSettings, check.Checking.check_behavior_by, check.Checking.check_behavior, Generation.name_fault_line}
-use Rattle.sum_engine.specs.Execution.{Stop, Memory, InputsState, OutputsState, StreamsState, world_at, Happened, Performs}
+use Rattle.sum_engine.specs.Execution.{Stop, Memory, OutputsState, StreamsState, world_at, Happened, Performs}
 use Rattle.sum_engine.specs.{refinement.FlushedWrites.WritesAndReturns, refinement.Names.MemoryWasRefused}
 use Rattle.sum_engine.proofs.{ExecutionLemmas.Happened-by, ExecutionLemmas.kept_performs, WorldLemmas.world_after}
 use Rattle.sum_engine.proofs.{BehaviorLemmas.behind_step, BehaviorLemmas.Performs-step, BehaviorLemmas.Performs-refused, CheckLinesLemmas.manifest_behavior}
@@ -15,6 +15,10 @@ use Rattle.sum_engine.proofs.OpenedNameLemmas.{WasOpened, fault_asks, fault_answ
 abbrev pub opening : List ℕ → Step
 opening name = record { names = name ∷ []; err = []; out = []; remaining = 0 }
 
+-- the name that reports show
+abbrev pub shown : List ℕ → List ℕ
+shown name = if is_dash name then codes "standard input" else name
+
 -- the manifest of that name is checked, from the streams a
 module _ (settings : CheckSettings) (tool name : List ℕ) (a : StreamsState) where
   -- what a call does
@@ -22,11 +26,11 @@ module _ (settings : CheckSettings) (tool name : List ℕ) (a : StreamsState) wh
   Performed b x = Performs (λ w. check_behavior settings tool w name) (λ g. g) a b x
 
   -- the same streams with other inputs
-  abbrev from_inputs : InputsState → StreamsState
+  abbrev from_inputs : SourceState → StreamsState
   from_inputs inputs = record a { inputs = inputs }
 
   -- it was opened, run and closed: the opening happened, and the behavior of the content comes behind it
-  pub check_opened : {Whole : Type 0} (m n : InputsState) (s t : InputState) (b : StreamsState) (x : Result Bool Stop)
+  pub check_opened : {Whole : Type 0} (m n : SourceState) (s t : InputState) (b : StreamsState) (x : Result Bool Stop)
       → s.reads ≡ unread → WasOpened Whole a.inputs m b.inputs n name t
       → RunsManifest (rules_of settings (is_dash name)) (labels_of settings tool name) s t (from_inputs m) b x
       → Performed (record b { inputs = n }) x
@@ -38,22 +42,22 @@ module _ (settings : CheckSettings) (tool name : List ℕ) (a : StreamsState) wh
       let all = manifest_behavior (rules_of settings (is_dash name)) (labels_of settings tool name) (clip c)
       (world_at w m) in
       let whole = check_behavior settings tool (world_at w a.inputs) name in
-      kept_performs whole.steps whole.good a b n x o.asked o.taken o.refusals
+      kept_performs whole.steps whole.good a b n x o.asked o.refusals
       (rw (answer, ← world_after w a.inputs m (name ∷ []) o.asks)
       (behind_step b all.good (opening name) all.steps x did ran))
 
   -- it could not be opened, and the line of its fault was written, or a prefix of it
-  pub refused : (m : InputsState) (f : Fault) (outputs : OutputsState) (x : Result Bool Stop) → is_dash name ≡ false
-      → m ≡ record a.inputs { source = and_opening a.inputs.source name (Some (Err f)) }
-      → WritesAndReturns a.outputs outputs (name_fault_line own_profile tool name f) [] false x
+  pub refused : (m : SourceState) (f : Fault) (outputs : OutputsState) (x : Result Bool Stop)
+      → m ≡ and_opening a.inputs name (Some (Err f))
+      → WritesAndReturns a.outputs outputs (name_fault_line own_profile tool (shown name) f) [] false x
       → Performed (record a { inputs = m; outputs = outputs }) x
-  refused m f outputs x file opens said =
+  refused m f outputs x opens said =
       Performs-step (λ w. check_behavior settings tool w name) (λ g. g) false a
-      (record a { inputs = m; outputs = outputs }) (fault_asks a.inputs m name f file opens)
-      (λ w agrees. let answer = fault_answer a.inputs m name f file opens w agrees in rw (answer, file) refl) said
+      (record a { inputs = m; outputs = outputs }) (fault_asks a.inputs m name f opens)
+      (λ w agrees. let answer = fault_answer a.inputs m name f opens w agrees in rw answer refl) said
 
   -- there was no memory to open it
-  pub no_room : (m : InputsState) → MemoryWasRefused a.inputs m → Performed (from_inputs m) (Err Memory)
+  pub no_room : (m : SourceState) → MemoryWasRefused a.inputs m → Performed (from_inputs m) (Err Memory)
   no_room m refused =
       Performs-refused (λ w. check_behavior settings tool w name) (λ g. g) a (from_inputs m)
       (λ w. begins (after w (name ∷ [])) (answer_to w name)) refused refl

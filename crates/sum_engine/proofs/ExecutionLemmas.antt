@@ -4,10 +4,10 @@ use Rattle.std.specs.Prelude.{◌⊎◌, Any}
 use Rattle.std.proofs.lemmas.{List.map-append, List.Elements.filter_map-append}
 use Rattle.sum_lines.specs.Sinks.{Gets}
 use Rattle.sum_lines.proofs.EventLemmas.{Gets-none, Gets-then}
-use Rattle.sum_engine.specs.Behavior.{Event, Step, OutputEvent, output_events, open_name, to_err, to_out, err_event, out_event}
+use Rattle.sum_engine.specs.Behavior.{Event, Step, SourceState, OutputEvent, output_events, open_name, to_err, to_out, err_event, out_event}
 use Rattle.sum_engine.specs.refinement.FlushedWrites.{WritesBoth, WritesAndReturns, outcome_after}
 use Rattle.sum_engine.specs.refinement.Names.{MemoryWasRefused}
-use Rattle.sum_engine.specs.Execution.{InputsState, StreamsState, IsFlushed, StopHasCause, asked, AsksNames, Stop, Memory, Write, Happened, RunsOutOfMemory, with_refusals, PerformsSteps}
+use Rattle.sum_engine.specs.Execution.{StreamsState, IsFlushed, StopHasCause, asked, AsksNames, Stop, Memory, Write, Happened, RunsOutOfMemory, with_refusals, PerformsSteps}
 use Rattle.sum_engine.proofs.WorldLemmas.{asks_none, asks_then}
 
 -- ---- what of a step's events is of each kind
@@ -74,9 +74,9 @@ step_performed {A} {a} {b} {names} {err} {out} {x} remaining asked flushed said 
 
 -- memory ran out at the first step, and nothing happened but perhaps a refusal
 pub refused_first : {a b : StreamsState} {steps : List Step} (next : Step) (later : List Step) → steps ≡ next ∷ later
-    → with_refusals a.inputs.source.refusals b ≡ a
-    → (b.inputs.source.refusals ≡ a.inputs.source.refusals + 1)
-    ⊎ ((b.inputs.source.refusals ≡ a.inputs.source.refusals) × (0 < next.remaining)) → RunsOutOfMemory steps a b
+    → with_refusals a.inputs.refusals b ≡ a
+    → (b.inputs.refusals ≡ a.inputs.refusals + 1)
+    ⊎ ((b.inputs.refusals ≡ a.inputs.refusals) × (0 < next.remaining)) → RunsOutOfMemory steps a b
 refused_first {a} next later are same cause = record {
   done = [];
   next = next;
@@ -89,8 +89,8 @@ refused_first {a} next later are same cause = record {
 -- ---- the cause of a stop
 
 -- memory was refused once, or not at all
-pub one_at_most : (a b : InputsState) → MemoryWasRefused a b ⊎ (b ≡ a)
-    → Any (λ n. b.source.refusals ≡ a.source.refusals + n) (0 ∷ 1 ∷ [])
+pub one_at_most : (a b : SourceState) → MemoryWasRefused a b ⊎ (b ≡ a)
+    → Any (λ n. b.refusals ≡ a.refusals + n) (0 ∷ 1 ∷ [])
 one_at_most a b (inl refused) = (1, 1, search arith, refl, rw refused refl)
 one_at_most a b (inr same) = (0, 0, search arith, refl, rw same (omega arith))
 
@@ -101,13 +101,12 @@ pub stop_after : {A B C : Type 0} {allowed : List ℕ} {a b c : StreamsState} {x
 stop_after Memory h k = search rules
 stop_after Write h k = search rules
 
--- ---- a file was closed, or standard input put back
+-- ---- a file was closed
 
 -- what was performed before that was performed by then
-pub kept_performs : {A : Type 0} (steps : List Step) (x : A) (a b : StreamsState) (n : InputsState) (r : Result A Stop)
-    → asked n ≡ asked b.inputs → n.stdin.taken ≡ b.inputs.stdin.taken
-    → n.source.refusals ≡ b.inputs.source.refusals → PerformsSteps steps x a b r
+pub kept_performs : {A : Type 0} (steps : List Step) (x : A) (a b : StreamsState) (n : SourceState) (r : Result A Stop)
+    → asked n ≡ asked b.inputs → n.refusals ≡ b.inputs.refusals → PerformsSteps steps x a b r
     → PerformsSteps steps x a (record b { inputs = n }) r
-kept_performs steps x a b n (Ok outcome) asked taken refusals did = search rules
-kept_performs steps x a b n (Err Write) asked taken refusals did = let h = did.3 in (did.0, did.1, did.2, search rules)
-kept_performs steps x a b n (Err Memory) asked taken refusals did = search rules
+kept_performs steps x a b n (Ok outcome) asked refusals did = search rules
+kept_performs steps x a b n (Err Write) asked refusals did = let h = did.3 in (did.0, did.1, did.2, search rules)
+kept_performs steps x a b n (Err Memory) asked refusals did = search rules

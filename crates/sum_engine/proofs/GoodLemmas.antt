@@ -1,5 +1,5 @@
 -- A manifest of lines that were written for whole files is good: by induction on its lines.
-use Rattle.std.proofs.Common.{rules, ◌≡◌, ℕ, suc, ◌+◌, ◌<◌, true, List, [], ◌∷◌, ◌++◌, length, map, refl, ap, ◌∙◌, append_assoc, arith, inl, append-nil, flat_map, All, Ok}
+use Rattle.std.proofs.Common.{rules, ◌≡◌, ℕ, suc, ◌+◌, ◌<◌, true, false, List, [], ◌∷◌, ◌++◌, length, map, refl, ap, ◌∙◌, append_assoc, arith, inl, append-nil, flat_map, All, Ok}
 use Rattle.std.proofs.lemmas.{Bool.ne_eqb, List.Elements.All-head, List.Elements.All-tail, Slice.Eq.bytes_eq-Decides}
 use Rattle.std.proofs.Math.Bool.{and-false, or-true}
 use Rattle.sum_engine.specs.check.Rules.{LabelsValue, Rules, rules_of, labels_of}
@@ -7,12 +7,12 @@ use Rattle.sum_engine.specs.check.Judge.{Algos, Form, Right, LineVerdictValue, j
 use Rattle.sum_engine.specs.check.Reports.{Report, Counts, out_by, out_of, err_of, counts_of, end_text, good}
 use Rattle.sum_engine.specs.check.Checking.{CheckSettings, line_steps, content_behavior, check_behavior_by, check_behavior}
 use Rattle.sum_engine.specs.check.Checker.{step_then}
-use Rattle.sum_engine.specs.Behavior.{Whole, World, answer_to, after, Behavior, out_text, err_text, is_dash, Answer}
+use Rattle.sum_engine.specs.Behavior.{Whole, World, answer_to, after, Behavior, out_text, err_text, is_dash, Answer, times}
 use Rattle.sum_sources.specs.Contents.{Content, limit}
 use Rattle.sum_sources.proofs.ContentLemmas.{limit-value, clip-short}
 use Rattle.sum_lines.proofs.ParsedLineLemmas.{parse_is_grammar}
 use Rattle.sum_engine.proofs.ListedEntryLemmas.{Item, written_text, Listed, prefix, spelled_for, ReadableSoFar, back, whole, lines-are}
-use Rattle.sum_engine.proofs.{WorldLemmas.after-steady, CheckOneLemmas.opening}
+use Rattle.sum_engine.proofs.CheckOneLemmas.{opening}
 
 -- ---- each verdict is Right
 
@@ -29,20 +29,24 @@ abbrev pub rights : ℕ → List Item → List LineVerdictValue
 rights n [] = []
 rights n (i ∷ is) = right (n + 1) i ∷ rights (n + 1) is
 
+-- these are the files, whatever was opened before
+abbrev pub Steady : (List ℕ → Answer) → World → Type 0
+Steady files w = (name : List ℕ) (k : ℕ) → is_dash name ≡ false → w.answer name k ≡ files name
+
 -- a written line is judged so: its item's file has the digest that it spells
 judged : (r : Rules) (files : List ℕ → Answer) (w : World) (n : ℕ) (f : Form) (i : Item)
-    → w.answer ≡ (λ asked. files) → Listed r.algo files i
+    → Steady files w → Listed r.algo files i
     → IsEntry escape r.algo f (prefix i) (spelled_for i)
     → line_verdict r w n (parse_line own_profile r.algo f (prefix i)) ≡ right n i
 judged r files w n f i steady h e =
     let is = parse_is_grammar own_profile r.algo f (prefix i) in
     let verdict : judge r w (spelled_for i) ≡ Right =
-    rw steady (search (rules, clip-short, limit-value, and-false, bytes_eq-Decides)) in
+    rw (steady i.name (times i.name w.opened) h.no_dash) (search (rules, clip-short, limit-value, and-false, bytes_eq-Decides)) in
     rw ((is.when_entry (spelled_for i)).1 e, verdict) refl
 
 -- and all of them, each in the world that those before it leave
 right-verdicts : (r : Rules) (files : List ℕ → Answer) (before : List (List ℕ)) (is : List Item) (w : World) (n : ℕ)
-    → w.answer ≡ (λ asked. files) → ReadableSoFar r.algo before → All (Listed r.algo files) is
+    → Steady files w → ReadableSoFar r.algo before → All (Listed r.algo files) is
     → verdicts (now r) (form r.algo (before ++ map prefix is)) w n (map prefix is) ≡ rights n is
 right-verdicts r files before [] w n steady u all = refl
 right-verdicts r files before (i ∷ is) w n steady u all =
@@ -50,7 +54,7 @@ right-verdicts r files before (i ∷ is) w n steady u all =
     let h : Listed algos files i = All-head (Listed algos files) i is all in
     let b = back algos files before (map prefix is) i h u in
     let rest = right-verdicts r files (before ++ (prefix i ∷ [])) is (after w (i.name ∷ [])) (n + 1)
-    (after-steady files w (i.name ∷ []) steady) b.2 (All-tail (Listed algos files) i is all) in
+    steady b.2 (All-tail (Listed algos files) i is all) in
     rw (judged r files w (n + 1) _ i steady h b.1) (ap (λ js. right (n + 1) i ∷ js) (rw append_assoc at rest))
 
 -- ---- what is reported, and the end
@@ -103,7 +107,7 @@ pub record Found (check : CheckSettings) (tool : List ℕ) (w : World) (manifest
 
 -- a manifest with at least one line is good, and each of its names is reported as right
 pub manifest_good : (check : CheckSettings) (tool manifest : List ℕ) (files : List ℕ → Answer) (w : World)
-    (is : List Item) → w.answer ≡ (λ asked. files) → All (Listed check.algo files) is → 0 < length is
+    (is : List Item) → Steady files w → All (Listed check.algo files) is → 0 < length is
     → length (flat_map written_text is) < limit → answer_to w manifest ≡ Ok (whole is) → Found check tool w manifest is
 manifest_good check tool manifest files w [] steady all some fits given = absurd (omega arith)
 manifest_good check tool manifest files w (i ∷ is) steady all some fits given =
@@ -113,7 +117,7 @@ manifest_good check tool manifest files w (i ∷ is) steady all some fits given 
     let c : Content = whole (i ∷ is) in
     let js = rights 0 (i ∷ is) in
     let verdicts : all_verdicts (now r) next c ≡ js = rw (lines-are check.algo files (i ∷ is) all)
-    (right-verdicts r files [] (i ∷ is) next 0 (after-steady files w (manifest ∷ []) steady) (inl refl) all) in
+    (right-verdicts r files [] (i ∷ is) next 0 steady (inl refl) all) in
     let of : Content → List LineVerdictValue → Behavior =
     λ c js. step_then (opening manifest) (content_behavior r labels c js) in
     let here = ap (check_behavior_by r labels manifest next) given

@@ -8,13 +8,13 @@ use Rattle.sum_sources.proofs.LineLemmas.{line-some}
 use Rattle.sum_engine.specs.{check.Rules.Rules, check.CheckStates.CheckState, check.CheckStates.HandlesLine, check.CheckStates.next_judged}
 use Rattle.sum_engine.specs.check.Judge.{lines_under, line_verdict, asks_of, form_then, line_form, own_profile}
 use Rattle.sum_engine.specs.check.Verdicts.{LineVerdict, line_verdict_value, InEachCheck, IsNextVerdict, AsksFor, VerdictsValue, counts_after, state_at}
-use Rattle.sum_engine.specs.Behavior.{World, Content, InputState, after}
-use Rattle.sum_engine.specs.{Execution.InputsState, Execution.Agrees, Execution.world_at, refinement.Names.NoRoom, refinement.Names.MemoryWasRefused}
+use Rattle.sum_engine.specs.Behavior.{World, Content, InputState, SourceState, after}
+use Rattle.sum_engine.specs.{Execution.Agrees, Execution.world_at, refinement.Names.NoRoom, refinement.Names.MemoryWasRefused}
 use Rattle.sum_engine.specs.refinement.Judging.{TakesLine, parsed_at, found_verdict}
 use Rattle.sum_engine.proofs.{WorldLemmas.world_after, RemainingLemmas.remaining_next}
 
 -- without memory the world is where it was
-refused_world : (w : World) (a b : InputsState) → MemoryWasRefused a b ⊎ (b ≡ a) → world_at w b ≡ world_at w a
+refused_world : (w : World) (a b : SourceState) → MemoryWasRefused a b ⊎ (b ≡ a) → world_at w b ≡ world_at w a
 refused_world w a b (inl refused) = ap (world_at w) refused
 refused_world w a b (inr same) = ap (world_at w) same
 
@@ -25,7 +25,7 @@ lines_now r c h = rw h refl
 -- ---- a line was read
 
 -- the reader of p read a line, and became this one; the line was then judged, which led to q
-module _ {I : Type 0} (state : I → InputState) (p q : VerdictsValue I) (reader : LineReader I) (a b : InputsState)
+module _ {I : Type 0} (state : I → InputState) (p q : VerdictsValue I) (reader : LineReader I) (a b : SourceState)
     (line vector : List ℕ) (lines : AdvancesLines state p.reader reader (Ok Line))
     (bounds : IsBounded reader) (reads : IsReading state p.reader → ReadsOn state p.reader reader (Ok Line) line)
   where

@@ -1,20 +1,20 @@
 -- One step of a checker, `Checker::step`: the next verdict was found, and its text was written.
 use Rattle.std.proofs.Common.{◌≡◌, ℕ, ◌<◌, Bool, false, List, [], length, None, Some, Result, Ok, Err, inl, inr, refl, ap, ◌∙◌, ◌∷◌}
 use Rattle.std.specs.Prelude.{◌⊎◌}
-use Rattle.sum_engine.specs.Behavior.{Ending, Whole, Broken, World, Step, Content, InputState}
+use Rattle.sum_engine.specs.Behavior.{Ending, Whole, Broken, World, Step, Content, InputState, SourceState}
 use Rattle.sum_sources.specs.LineReaders.{remaining}
 use Rattle.sum_engine.specs.{check.Rules.LabelsValue, check.CheckStates.CheckState, check.CheckStates.remaining_verdicts, check.CheckStates.remaining_behavior}
 use Rattle.sum_engine.specs.check.Reports.{err_of, out_of, end_text, good}
 use Rattle.sum_engine.specs.check.Verdicts.{VerdictsValue, state_at, InEachCheck, AdvancesVerdicts, VerdictResult, line_verdict_value, IsNextVerdict, HasNoVerdictLeft}
 use Rattle.sum_engine.specs.check.Checker.{ReportsFound, Progress, Going, Ended, TakesStep}
-use Rattle.sum_engine.specs.Execution.{Stop, InputsState, StreamsState, AsksNames, RunsOutOfMemory, world_at}
+use Rattle.sum_engine.specs.Execution.{Stop, StreamsState, AsksNames, RunsOutOfMemory, world_at}
 use Rattle.sum_engine.specs.{refinement.FlushedWrites.WritesAndReturns, refinement.Names.MemoryWasRefused}
 use Rattle.sum_engine.proofs.{ExecutionLemmas.step_performed, ExecutionLemmas.refused_first, CountLemmas.counts_then-nil}
 use Rattle.sum_engine.proofs.RemainingLemmas.{line_step, behavior_by, first_step, found_first, going-before}
 use Rattle.sum_sources.specs.declared.line_reader.LineStop.TheVariants as line_stops
 
 -- what follows of the states of a check
-InEachCheck-map : {I : Type 0} {state : I → InputState} {p q : VerdictsValue I} {a b : InputsState}
+InEachCheck-map : {I : Type 0} {state : I → InputState} {p q : VerdictsValue I} {a b : SourceState}
     {P R : CheckState → CheckState → Type 0} → InEachCheck state p q a b P
     → ((c : Content) (v w : World) → P (state_at p (remaining p.reader c) v) (state_at q (remaining q.reader c) w)
     → R (state_at p (remaining p.reader c) v) (state_at q (remaining q.reader c) w))

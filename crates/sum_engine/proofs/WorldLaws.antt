@@ -1,25 +1,33 @@
--- The law that some world agrees with what was read: by the laws of inputs and of sources.
-use Rattle.std.proofs.Common.{◌≡◌, IfSome, refl}
-use Rattle.sum_sources.specs.{Contents.HasContent, Contents.IsOf, Sources.HasAnswers, Sources.SourceState, InputLaws.closable_has_content}
-use Rattle.sum_sources.specs.declared.inputs.stdin.StdinPlace.{StdinPlace}
-use Rattle.sum_sources.specs.declared.inputs.stdin.StdinPlace.TheVariants.{Untaken, Taken, Returned}
-use Rattle.sum_engine.specs.{Behavior.Content, Behavior.InputState, Behavior.empty_content, Execution.stdin_of, WorldLaws.SomeWorldAgrees}
+-- The law that some world agrees with what was read: by the law of sources.
+use Rattle.std.proofs.Common.{◌≡◌, [], Option, None, Some, Result, Ok, Err, IfSome, refl}
+use Rattle.sum_sources.specs.{Contents.Reads, InputLaws.some_content, declared.fault.Fault.TheVariants.NotFound}
+use Rattle.sum_sources.specs.Sources.{told_at, gave_at, IsOfAnswer, GivesTold}
+use Rattle.sum_engine.specs.Behavior.{Answer, Fault, SourceState}
+use Rattle.sum_engine.specs.WorldLaws.{SomeWorldAgrees}
 
--- standard input has a content
-stdin_has : {I : Type 0} (state : I → InputState) → ((i : I) → HasContent (state i)) → (s : StdinPlace I)
-    → (c : Content) × IfSome (stdin_of state s).told (λ told. c ≡ told)
-    × IfSome (stdin_of state s).reads (λ r. IsOf r c)
-stdin_has state has (Untaken i) = let (c, is, of) = has i in (c, is, tt)
-stdin_has state has Taken = (empty_content, refl, tt)
-stdin_has state has (Returned given) = closable_has_content state has given
+-- an answer that is told, or that gave this
+abbrev answer_of : Option Answer → Option (Result Reads Fault) → Answer
+answer_of (Some told) gave = told
+answer_of None None = Err NotFound
+answer_of None (Some (Ok r)) = Ok (some_content r.bytes r.phase).0
+answer_of None (Some (Err f)) = Err f
 
-pub some_world : {I : Type 0} (source : SourceState) (state : I → InputState) (s : StdinPlace I) → HasAnswers source
-    → ((i : I) → HasContent (state i)) → SomeWorldAgrees (record { source = source; stdin = stdin_of state s })
-some_world source state s (answer, may, are) has =
-    let (c, is, of) = stdin_has state has s in
-    record {
-      world = record { answer = answer; next = 0; stdin = c };
-      agrees = record { answers = are; stdin = of };
-      files = may;
-      stdin = is;
-    }
+is_told : (told : Option Answer) (gave : Option (Result Reads Fault)) → IfSome told (λ t. answer_of told gave ≡ t)
+is_told (Some told) gave = refl
+is_told None gave = tt
+
+is_given : (told : Option Answer) (gave : Option (Result Reads Fault))
+    → IfSome told (λ told. IfSome gave (IsOfAnswer told)) → IfSome gave (IsOfAnswer (answer_of told gave))
+is_given (Some told) gave h = h
+is_given None None h = tt
+is_given None (Some (Ok r)) h = let (c, of) = some_content r.bytes r.phase in (c, refl, of)
+is_given None (Some (Err f)) h = refl
+
+pub some_world : (a : SourceState) → GivesTold a → SomeWorldAgrees a
+some_world a gives = (
+  record { answer = λ name k. answer_of (told_at a.told name k) (gave_at a.openings name k); opened = [] },
+  record {
+    told = λ name k. is_told (told_at a.told name k) (gave_at a.openings name k);
+    gave = λ name k. is_given (told_at a.told name k) (gave_at a.openings name k) (gives name k);
+  },
+)

@@ -1,45 +1,35 @@
--- What a call can ask, the source's files and standard input; and what it does: a list of steps, between which memory
--- may run out.
-use Rattle.std.specs.Prelude.{ℕ, ◌+◌, ◌&&◌, Bool, List, [], ◌∷◌, ◌++◌, map, flat_map, Option, None, Some, codes, Result, Ok, Err, if◌then◌else◌, bytes_eq}
+-- What a call can ask of its source, and what it does: a list of steps, between which memory may run out.
+use Rattle.std.specs.Prelude.{ℕ, ◌&&◌, Bool, List, [], ◌∷◌, ◌++◌, map, flat_map, Option, None, Some, Result, Ok, Err}
 pub use Rattle.digest_kinds.specs.Bytes.{ByteString}
 pub use Rattle.sum_lines.specs.Sinks.{OutputEvent, output_events}
 use Rattle.digest_kinds.specs.Kinds.{KindValue, digest}
 pub use Rattle.sum_sources.specs.declared.fault.Fault.{Fault}
 pub use Rattle.sum_sources.specs.declared.fault.Ending.{Ending}
 pub use Rattle.sum_sources.specs.declared.fault.Ending.TheVariants.{Whole, Broken}
-pub use Rattle.sum_sources.specs.Contents.{Content, InputState, Reads, IsOf, clip, empty_content}
-pub use Rattle.sum_sources.specs.Sources.{Answer, SourceState}
+pub use Rattle.sum_sources.specs.Contents.{Content, InputState, Reads, IsOf, clip}
+pub use Rattle.sum_sources.specs.Sources.{Answer, Answers, SourceState, times}
+pub use Rattle.sum_sources.specs.Inputs.{is_dash}
 
--- what the outside may be: what each opening gives, by how many came before and by its name (a file may change in
--- between); and what standard input gives
+-- what the outside may be: what each opening gives, by its name and by how many openings of that name came before (a
+-- file may change in between)
 pub record World : Type 0 where
-  pub answer : ℕ → ByteString → Answer
-  pub next : ℕ  -- how many openings came before
-  pub stdin : Content
-
--- the name of standard input
-abbrev pub is_dash : ByteString → Bool
-is_dash name = bytes_eq name (codes "-")
+  pub answer : Answers
+  pub opened : List ByteString  -- the names that were opened before
 
 -- what opening a name gives
 abbrev pub answer_to : World → ByteString → Answer
-answer_to w name = if is_dash name then Ok w.stdin else w.answer w.next name
+answer_to w name = w.answer name (times name w.opened)
 
--- the world once this name was opened: standard input is given once, and is empty from then on
-abbrev pub after_one : World → ByteString → World
-after_one w name = if is_dash name then record w { stdin = empty_content } else record w { next = w.next + 1 }
-
--- the world after these names were asked, one after another
+-- the world after these names were opened, one after another
 abbrev pub after : World → List ByteString → World
-after w [] = w
-after w (name ∷ names) = after (after_one w name) names
+after w names = record w { opened = w.opened ++ names }
 
 -- what reading an answer gives: the digest of all its bytes, or the fault of opening or reading it
 abbrev pub digest_or_fault : KindValue → Answer → Result (ByteString) Fault
 digest_or_fault kind (Err f) = Err f
 digest_or_fault kind (Ok c) = elim (clip c).ending [ Whole ↦ Ok (digest kind (clip c).bytes) | Broken f ↦ Err f ]
 
--- a name is opened (`-` is standard input); or standard error, or standard output, is offered a piece or writes a byte
+-- a name is opened; or standard error, or standard output, is offered a piece or writes a byte
 pub data Event : Type 0 where
   open_name : ByteString → Event
   to_err to_out : OutputEvent → Event

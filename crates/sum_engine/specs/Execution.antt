@@ -1,41 +1,20 @@
 -- The state of a call's streams, and what a call performs of a behavior: the form of the headline.
-use Rattle.std.specs.Prelude.{ℕ, ◌≡◌, ◌≢◌, ◌+◌, ◌⊎◌, Bool, true, false, [], Option, None, Some, IfSome, IfOk, Result, Ok, Err, ◌<◌, ◌||◌, List, ◌∷◌, ◌++◌, map, length, filter, not, filter_map, All, Any, if◌then◌else◌}
-use Rattle.std.specs.List.{list_any}
+use Rattle.std.specs.Prelude.{ℕ, ◌≡◌, ◌≢◌, ◌+◌, ◌⊎◌, Bool, [], Some, IfSome, IfOk, Result, Ok, Err, ◌<◌, List, ◌∷◌, ◌++◌, filter_map, All, Any}
 use Rattle.sum_sources.specs.declared.fault.Ending.TheVariants as ending
-use Rattle.sum_sources.specs.declared.{inputs.phase.Phase.TheVariants.Ended, inputs.phase.Phase.TheVariants.Past, inputs.stdin.StdinPlace.StdinPlace}
-pub use Rattle.sum_sources.specs.Sources.{Opening, AnswersAre}
-use Rattle.sum_sources.specs.StandardInput.{unless_closed}
-use Rattle.sum_sources.specs.declared.inputs.stdin.StdinPlace.TheVariants.{Untaken, Taken, Returned}
+use Rattle.sum_sources.specs.declared.{inputs.phase.Phase.TheVariants.Ended, inputs.phase.Phase.TheVariants.Past}
+pub use Rattle.sum_sources.specs.Sources.{Opening, IsOfAnswer, names_of, told_at, gave_at}
 use Rattle.sum_lines.specs.{Sinks.Gets, Buffers.BufferState}
 pub use Rattle.sum_engine.specs.declared.streams.Streams.{Streams}
 pub use Rattle.sum_engine.specs.declared.stop.Stop.{Stop}
 pub use Rattle.sum_engine.specs.declared.stop.Stop.TheVariants.{Memory, Write}
-use Rattle.sum_engine.specs.Behavior.{ByteString, World, is_dash, Event, Step, Behavior, trace, opened_name, err_event, out_event, Content, Reads, IsOf, empty_content, InputState, SourceState, Fault}
-
--- standard input: its content, if that is in memory; whether it was taken; what was read of it, once it was put back
-pub record StdinState : Type 0 where
-  pub told : Option Content
-  pub taken : Bool
-  pub reads : Option Reads
-
--- the state of a standard input. While it is taken, an empty one stands in for it
-abbrev pub stdin_of : {I : Type 0} → (I → InputState) → StdinPlace I → StdinState
-stdin_of state (Untaken i) = record { told = (state i).told; taken = false; reads = None }
-stdin_of state Taken = record { told = Some empty_content; taken = true; reads = None }
-stdin_of state (Returned given) = let s = unless_closed state given in
-    record { told = s.told; taken = true; reads = Some s.reads }
-
--- where names are opened
-pub record InputsState : Type 0 where
-  pub source : SourceState
-  pub stdin : StdinState
+use Rattle.sum_engine.specs.Behavior.{ByteString, World, Event, Step, Behavior, trace, opened_name, err_event, out_event, Reads, SourceState, Fault}
 
 pub record OutputsState : Type 0 where
   pub out : BufferState
   pub err : BufferState
 
 abbrev pub StreamsState : Type 0
-StreamsState = Streams InputsState OutputsState
+StreamsState = Streams SourceState OutputsState
 
 -- both outputs are flushed
 abbrev pub IsFlushed : OutputsState → Type 0
@@ -52,9 +31,9 @@ FailuresMatch a b (Err Write) =
 FailuresMatch a b r = failures b ≡ failures a
 
 -- out of memory may refuse the source as often as one of these numbers says, and any other result none
-abbrev pub RefusalsMatch : {A : Type 0} → List ℕ → InputsState → InputsState → Result A Stop → Type 0
-RefusalsMatch allowed a b (Err Memory) = Any (λ n. b.source.refusals ≡ a.source.refusals + n) allowed
-RefusalsMatch allowed a b r = b.source.refusals ≡ a.source.refusals
+abbrev pub RefusalsMatch : {A : Type 0} → List ℕ → SourceState → SourceState → Result A Stop → Type 0
+RefusalsMatch allowed a b (Err Memory) = Any (λ n. b.refusals ≡ a.refusals + n) allowed
+RefusalsMatch allowed a b r = b.refusals ≡ a.refusals
 
 -- what holds of a call that may stop: flushed outputs stay flushed, and a stop has its cause
 pub record StopHasCause {A : Type 0} (allowed : List ℕ) (a b : StreamsState) (r : Result A Stop) : Type 0 where
@@ -64,15 +43,18 @@ pub record StopHasCause {A : Type 0} (allowed : List ℕ) (a b : StreamsState) (
 
 -- ---- what was read
 
--- a world agrees with all that was read so far
-pub record Agrees (w : World) (a : InputsState) : Type 0 where
-  pub answers : AnswersAre w.answer 0 a.source.openings
-  pub stdin : IfSome a.stdin.reads (λ r. IsOf r w.stdin)
+-- a world agrees with what is in memory, and with all that was read so far
+pub record Agrees (w : World) (a : SourceState) : Type 0 where
+  pub told : (name : ByteString) (k : ℕ) → IfSome (told_at a.told name k) (λ told. w.answer name k ≡ told)
+  pub gave : (name : ByteString) (k : ℕ) → IfSome (gave_at a.openings name k) (IsOfAnswer (w.answer name k))
+
+-- the names that were opened so far
+abbrev pub asked : SourceState → List ByteString
+asked a = names_of a.openings
 
 -- the world from here on
-abbrev pub world_at : World → InputsState → World
-world_at w a =
-    record w { next = length a.source.openings; stdin = if a.stdin.taken then empty_content else w.stdin }
+abbrev pub world_at : World → SourceState → World
+world_at w a = record w { opened = asked a }
 
 -- no read came after an end or a fault, or for no bytes; and if Whole holds, the end was found
 abbrev pub IsAtEndIf : Type 0 → Reads → Type 0
@@ -82,29 +64,18 @@ IsAtEndIf Whole r = (r.phase ≢ Past) × (Whole → r.phase ≡ Ended ending.Wh
 abbrev pub ReadsFile : Type 0 → Opening → Type 0
 ReadsFile Whole o = (gave : Result Reads Fault) × (o.gave ≡ Some gave) × IfOk gave (IsAtEndIf Whole)
 
--- standard input was taken, read so, and put back
-abbrev pub ReadsStdin : Type 0 → StdinState → StdinState → Type 0
-ReadsStdin Whole a b = (r : Reads) × (a.reads ≡ None)
-    × (b ≡ record { told = a.told; taken = true; reads = Some r }) × IsAtEndIf Whole r
-
--- READ TO THE END, if Whole holds, and never past it: so a call read each file that it opened, and standard input if it
--- took that. What was opened before stays as it was
-pub record ReadsToEndIf (Whole : Type 0) (a b : InputsState) : Type 0 where
-  pub told : b.source.told ≡ a.source.told
-  pub openings : (more : List Opening) × (b.source.openings ≡ a.source.openings ++ more) × All (ReadsFile Whole) more
-  pub stdin : (b.stdin ≡ a.stdin) ⊎ ReadsStdin Whole a.stdin b.stdin
+-- READ TO THE END, if Whole holds, and never past it: so a call read each file that it opened. What was opened before
+-- stays as it was
+pub record ReadsToEndIf (Whole : Type 0) (a b : SourceState) : Type 0 where
+  pub told : b.told ≡ a.told
+  pub openings : (more : List Opening) × (b.openings ≡ a.openings ++ more) × All (ReadsFile Whole) more
 
 -- ---- what happened
 
--- the names that were opened so far
-abbrev pub asked : InputsState → List ByteString
-asked a = map (λ o. o.name) a.source.openings
-
--- these names were asked, and the source was refused no memory
-pub record AsksNames (a b : InputsState) (names : List ByteString) : Type 0 where
-  pub asked : asked b ≡ asked a ++ filter (λ name. not (is_dash name)) names
-  pub taken : b.stdin.taken ≡ a.stdin.taken || list_any is_dash names
-  pub refusals : b.source.refusals ≡ a.source.refusals
+-- these names were opened, and the source was refused no memory
+pub record AsksNames (a b : SourceState) (names : List ByteString) : Type 0 where
+  pub asked : asked b ≡ asked a ++ names
+  pub refusals : b.refusals ≡ a.refusals
 
 -- these events happened: the names were asked, and each output was offered its pieces and wrote its bytes
 pub record Happened (a b : StreamsState) (es : List Event) : Type 0 where
@@ -114,7 +85,7 @@ pub record Happened (a b : StreamsState) (es : List Event) : Type 0 where
 
 -- the streams, but for the source's count of refusals
 abbrev pub with_refusals : ℕ → StreamsState → StreamsState
-with_refusals n b = record b { inputs = record b.inputs { source = record b.inputs.source { refusals = n } } }
+with_refusals n b = record b { inputs = record b.inputs { refusals = n } }
 
 -- out of memory: the steps before the next one happened, and nothing of that, but for a refusal of the source; or bytes
 -- of the manifest remained
@@ -123,9 +94,9 @@ pub record RunsOutOfMemory (steps : List Step) (a b : StreamsState) : Type 0 whe
   pub next : Step
   pub later : List Step
   pub are : steps ≡ done ++ next ∷ later
-  pub happened : Happened a (with_refusals a.inputs.source.refusals b) (trace done)
-  pub cause : (b.inputs.source.refusals ≡ a.inputs.source.refusals + 1)
-      ⊎ ((b.inputs.source.refusals ≡ a.inputs.source.refusals) × (0 < next.remaining))
+  pub happened : Happened a (with_refusals a.inputs.refusals b) (trace done)
+  pub cause : (b.inputs.refusals ≡ a.inputs.refusals + 1)
+      ⊎ ((b.inputs.refusals ≡ a.inputs.refusals) × (0 < next.remaining))
 
 -- THE HEADLINE, for a call that is to return x: it returns x, and the whole trace happened; or a write failed after a
 -- prefix of the trace; or memory ran out at a step, and exactly the steps before it happened

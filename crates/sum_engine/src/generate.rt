@@ -6,25 +6,25 @@ ghost use Rattle.sum_engine.specs.refinement.FlushedWrites.{WritesAndFlushesBoth
 ghost use Rattle.sum_lines.specs.Lines.{line};
 
 use crate::hash_name::hash_name;
-use crate::inputs::Inputs;
 use crate::put_flushed::{outcome_after, put_name_fault_line};
+use crate::reader::Reader;
 use crate::settings::Settings;
 use crate::stop::Stop;
 use crate::streams::{Outputs, Streams};
 use digest_kinds::Digest;
 use sum_lines::{Sink, SinkFault, put_line};
-use sum_sources::{Input, Source};
+use sum_sources::Source;
 
-/// Hashes the file of this name (`-` is standard input). Its line goes to `out`, or a line with the fault to `err`
+/// Hashes the file of this name. Its line goes to `out`, or a line with the fault to `err`
 /// (coreutils manual, "md5sum invocation"), and is flushed. Returns true only if the file was read to its end.
 ///
 /// `Stop::Memory` only if the source was refused memory to open the file; nothing is then written. `Stop::Write` if an
 /// output fails; a prefix of the line was then written.
-pub fn generate_one<I: Input + Drop, S: Source, O: Sink, E: Sink>(
+pub fn generate_one<S: Source, O: Sink, E: Sink>(
     settings: &Settings,
     tool: &str,
     name: &[u8],
-    streams: &mut Streams<Inputs<I, S>, Outputs<O, E>>,
+    streams: &mut Streams<Reader<S>, Outputs<O, E>>,
 ) -> Result<bool, Stop>
     // If both outputs are flushed: the behavior of hashing that name, in every world that agrees with what was read.
     ensures behavior { Performs (λ w. generate_behavior settings.now tool.now w name.now)

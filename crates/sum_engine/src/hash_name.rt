@@ -2,9 +2,9 @@
 ghost use Rattle.std.specs.Prelude.{◌≡◌};
 ghost use Rattle.sum_engine.specs.refinement.Names.{HashesName, fault_in};
 
-use crate::inputs::Inputs;
+use crate::reader::Reader;
 use digest_kinds::{Digest, Kind};
-use sum_sources::{Fault, Input, NoRoom, OpenFault, Source};
+use sum_sources::{Fault, NoRoom, OpenFault, Source};
 
 /// Why a name has no digest.
 #[derive(Clone, Copy, Debug, PartialEq, Eq)]
@@ -43,12 +43,12 @@ impl HashFault {
     }
 }
 
-/// Opens the file of this name (`-` is standard input) and hashes it. `HashFault::Memory` if the source was refused
+/// Opens the file of this name and hashes it. `HashFault::Memory` if the source was refused
 /// memory; the name then doesn't count as asked.
-pub(crate) fn hash_name<I: Input + Drop, S: Source>(
+pub(crate) fn hash_name<S: Source>(
     kind: Kind,
     name: &[u8],
-    inputs: &mut Inputs<I, S>,
+    inputs: &mut Reader<S>,
 ) -> Result<Digest, HashFault>
     ensures { HashesName kind name.now inputs.old inputs.new result }
 {

@@ -3,16 +3,15 @@ ghost use Rattle.sum_engine.specs.WorldLaws.{SomeWorldAgrees};
 ghost use Rattle.sum_engine.specs.check.CheckerLaws.{StepsJoin, EventsExtend, SameFront};
 ghost use Rattle.sum_engine.specs.check.OldVerdicts.{OldVerdicts, OlderDiffers};
 
-use crate::inputs::Inputs;
-use sum_sources::{Input, Source};
+use crate::reader::Reader;
+use sum_sources::Source;
 
-/// Some world agrees with all that was read so far. If the files and the standard input are in memory, theirs does.
-pub fn some_world_agrees<I: Input, S: Source>(inputs: &Inputs<I, S>)
+/// Some world agrees with all that was read so far.
+pub fn some_world_agrees<S: Source>(inputs: &Reader<S>)
     ensures { SomeWorldAgrees inputs.now }
 {
-    // Read, so that the proof sees the parts.
+    // Read, so that the proof sees the source.
     let _source = &inputs.source;
-    let _stdin = &inputs.stdin;
 }
 
 /// After k calls of `step` that each handled a line, exactly the first k steps of the manifest's behavior happened: the

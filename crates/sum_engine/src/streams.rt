@@ -1,11 +1,10 @@
 //! The streams of a call.
 ghost use Rattle.std.specs.Prelude.{◌≡◌, []};
-ghost use Rattle.sum_engine.specs.Execution.{stdin_of};
 
-use crate::inputs::Inputs;
+use crate::reader::Reader;
 use std::marker::Model;
 use sum_lines::{Buffered, Sink};
-use sum_sources::{Input, Source, Stdin};
+use sum_sources::Source;
 
 /// Both outputs.
 #[derive(Debug, Drop)]
@@ -27,24 +26,23 @@ impl<O: Sink, E: Sink> Model for Outputs<O, E> {
 /// What a call reads from and writes to. What contracts say of bytes assumes outputs that are flushed at the call.
 #[derive(Debug, Drop)]
 pub struct Streams<In, Out> {
-    /// Where it opens and reads: [`Inputs`].
+    /// Where it opens and reads: [`Reader`].
     pub inputs: In,
     /// Where it writes: [`Outputs`].
     pub outputs: Out,
 }
 
-impl<I: Input, S: Source, O: Sink, E: Sink> Streams<Inputs<I, S>, Outputs<O, E>> {
+impl<S: Source, O: Sink, E: Sink> Streams<Reader<S>, Outputs<O, E>> {
     /// Streams of these parts, with an empty buffer over each output.
-    pub fn new(stdin: Stdin<I>, source: S, out: O, err: E) -> Self
-        ensures inputs { result.inputs
-            ≡ record { source = S.state source; stdin = stdin_of I.state stdin } }
+    pub fn new(source: S, out: O, err: E) -> Self
+        ensures inputs { result.inputs ≡ S.state source }
         ensures outputs { result.outputs ≡ record {
           out = record { sink = O.state out; buffered = [] };
           err = record { sink = E.state err; buffered = [] };
         } }
     {
         Streams {
-            inputs: Inputs::new(stdin, source),
+            inputs: Reader::new(source),
             outputs: Outputs {
                 out: Buffered::new(out),
                 err: Buffered::new(err),

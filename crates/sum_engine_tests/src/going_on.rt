@@ -37,7 +37,7 @@ fn stage<'a>(
 // That so much was written; and how many files were opened, and were closed at their end and at their fault.
 fn assert_as(rt: &impl Abort, streams: &Stage, (out, err): (&str, &str), counts: (u64, u64, u64)) {
     assert_wrote(rt, streams, out, err);
-    assert_eq!(rt; streams.inputs.source.counts(), counts);
+    assert_eq!(rt; streams.inputs.source.source().counts(), counts);
 }
 
 // No digest of what precedes a fault, none of what follows an end, and none of an earlier file of that name.

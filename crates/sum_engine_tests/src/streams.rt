@@ -6,20 +6,23 @@ use digest_kinds::{Algo, Algos, Kind};
 use std::alloc::{Allocator, Global};
 use std::process::Abort;
 use sum_engine::{
-    CheckSettings, Checker, Inputs, Outputs, Progress, Settings, Stop, Streams, check_one,
+    CheckSettings, Checker, Outputs, Progress, Reader, Settings, Stop, Streams, check_one,
     generate_one,
 };
 use sum_lines::{Mode, Style, ToldSink};
-use sum_sources::{Answer, Ending, Input, NoRoom, Source, Stdin, Told, ToldSource};
+use sum_sources::{Answer, Ending, Input, Inputs, NoRoom, Source, Told, ToldSource};
 
 /// Streams whose outputs are in memory.
-pub(crate) type Known<I, S> = Streams<Inputs<I, S>, Outputs<ToldSink<1000>, ToldSink<1000>>>;
+pub(crate) type Known<I, S> = Streams<
+    Reader<Inputs<I, S>>,
+    Outputs<ToldSink<1000>, ToldSink<1000>>,
+>;
 
-pub(crate) fn known<I: Input, S: Source>(input: I, source: S) -> Known<I, S>
+pub(crate) fn known<I: Input + Drop, S: Source>(input: I, source: S) -> Known<I, S>
     requires { (I.state input).reads ≡ unread }
 {
     let (out, err) = (ToldSink::new(1000), ToldSink::new(1000));
-    Streams::new(Stdin::new(input), source, out, err)
+    Streams::new(Inputs::new(input, source), out, err)
 }
 
 /// The plain check of MD5 digests.
@@ -109,7 +112,7 @@ pub(crate) fn step<L: Allocator, A: Allocator + Copy>(
 }
 
 /// Asserts that the outputs hold these texts.
-pub(crate) fn assert_wrote<I: Input, S: Source>(
+pub(crate) fn assert_wrote<I: Input + Drop, S: Source>(
     rt: &impl Abort,
     streams: &Known<I, S>,
     out: &str,

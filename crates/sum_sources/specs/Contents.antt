@@ -23,8 +23,8 @@ unread = record { bytes = []; phase = Unfinished }
 
 -- the state of an input: which file it is, and what its reads gave
 pub record InputState : Type 0 where
-  pub opening : ℕ  -- how many openings of its source came before that of this file
   pub name : ByteString  -- by which it was opened
+  pub opening : ℕ  -- how many openings of that name came before at its source
   pub told : Option Content  -- its content, if that is in memory
   pub reads : Reads
 

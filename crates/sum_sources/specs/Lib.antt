@@ -2,6 +2,8 @@ pub mod Contents
 pub mod Faults
 pub mod InMemory
 pub mod InputLaws
+pub mod Inputs
+pub mod InputsLaws
 pub mod LineReaders
 pub mod LogNotes
 pub mod Logs

@@ -1,47 +1,53 @@
--- The law of sources: each has answers to its openings.
-use Rattle.std.proofs.Common.{ℕ, zero, suc, [], ◌∷◌, refl, List, Ok, Err, None, Some}
+-- The law of sources: what an opening gave is of the answer in memory.
+use Rattle.std.proofs.Common.{◌≡◌, ℕ, zero, suc, [], ◌∷◌, refl, List, Ok, Err, None, Some, bytes_eq, Bool, true, false}
 use Rattle.std.specs.Prelude.{length, Option, Result, IfSome}
-use Rattle.sum_sources.specs.{Contents.Fault, Contents.Reads, Faults.NotFound, Logs.untold, InputLaws.some_content, InputLaws.told_is_of}
-use Rattle.sum_sources.specs.Sources.{Answer, Opening, first_answer, SourceState, IsOfAnswer, AnswersAre, HasAnswers}
-use Rattle.sum_sources.specs.InMemory.{Answers, ToldFiles, told_gave, told_openings, told_source}
+use Rattle.std.proofs.lemmas.Slice.Eq.{bytes_eq-Decides}
+use Rattle.sum_sources.specs.{Contents.Fault, Contents.Reads, Faults.ByteString, Logs.untold, InputLaws.told_is_of}
+use Rattle.sum_sources.specs.Sources.{Answer, Opening, told_at, gave_at, SourceState, IsOfAnswer, GivesTold}
+use Rattle.sum_sources.specs.InMemory.{ToldFiles, told_gave, told_openings, past, told_files, told_source}
 
--- ---- sources in memory
+pub told_gave_is : (answer : Option Answer) (gave : Option (Result Reads Fault))
+    → IfSome answer (λ told. IfSome (told_gave answer gave) (IsOfAnswer told))
+told_gave_is None gave = tt
+told_gave_is (Some (Err f)) gave = refl
+told_gave_is (Some (Ok c)) (Some (Ok r)) = (c, refl, told_is_of c (length r.bytes) r.phase)
+told_gave_is (Some (Ok c)) (Some (Err f)) = tt
+told_gave_is (Some (Ok c)) None = tt
 
-pub told_gave_is : (answer : Answer) (gave : Option (Result Reads Fault))
-    → IfSome (told_gave answer gave) (IsOfAnswer answer)
-told_gave_is (Err f) gave = refl
-told_gave_is (Ok c) (Some (Ok r)) = (c, refl, told_is_of c (length r.bytes) r.phase)
-told_gave_is (Ok c) (Some (Err f)) = tt
-told_gave_is (Ok c) None = tt
+-- of a source in memory
+pub told_openings_give : (answer : ByteString → ℕ → Option Answer) (os : List Opening) (name : ByteString) (k : ℕ)
+    → IfSome (answer name k) (λ told. IfSome (gave_at (told_openings answer os) name k) (IsOfAnswer told))
+told_openings_give answer [] name k = by (answer name k)
+  where
+    by : (a : Option Answer) → IfSome a (λ told. IfSome (gave_at [] name k) (IsOfAnswer told))
+    by None = tt
+    by (Some told) = tt
+told_openings_give answer (o ∷ os) name zero =
+    by (bytes_eq o.name name) refl (told_openings_give (past o.name answer) os name zero)
+  where
+    by : (b : Bool) → bytes_eq o.name name ≡ b
+        → IfSome (past o.name answer name zero)
+        (λ told. IfSome (gave_at (told_openings (past o.name answer) os) name zero) (IsOfAnswer told))
+        → IfSome (answer name zero)
+        (λ told. IfSome (gave_at (told_openings answer (o ∷ os)) name zero) (IsOfAnswer told))
+    by true is later =
+        let same : o.name ≡ name = (bytes_eq-Decides o.name name).0 is in
+        rw (is, same) (told_gave_is (answer name 0) o.gave)
+    by false is later = rw is (rw is at later)
+told_openings_give answer (o ∷ os) name (suc k) =
+    by (bytes_eq o.name name) refl (told_openings_give (past o.name answer) os name)
+  where
+    by : (b : Bool) → bytes_eq o.name name ≡ b
+        → ((k : ℕ) → IfSome (past o.name answer name k)
+        (λ told. IfSome (gave_at (told_openings (past o.name answer) os) name k) (IsOfAnswer told)))
+        → IfSome (answer name (suc k))
+        (λ told. IfSome (gave_at (told_openings answer (o ∷ os)) name (suc k)) (IsOfAnswer told))
+    by true is later = let here = later k in rw is (rw is at here)
+    by false is later = let here = later (suc k) in rw is (rw is at here)
 
-pub told_are : (answer : Answers) (n : ℕ) (os : List Opening) → AnswersAre answer n (told_openings answer n os)
-told_are answer n [] = tt
-told_are answer n (o ∷ os) = (told_gave_is (answer n o.name) o.gave, told_are answer (suc n) os)
+pub told_gives : (s : ToldFiles) → GivesTold (told_source s)
+told_gives s = told_openings_give (told_at (told_files s)) s.openings
 
-pub told_has_answers : (s : ToldFiles) → HasAnswers (told_source s)
-told_has_answers s = (first_answer s.pairs, refl, told_are (first_answer s.pairs) 0 s.openings)
-
--- ---- sources that aren't in memory
-
--- an answer of which this is
-pub some_answer : (gave : Option (Result Reads Fault)) → (answer : Answer) × IfSome gave (IsOfAnswer answer)
-some_answer None = (Err NotFound, tt)
-some_answer (Some (Ok r)) = let (c, of) = some_content r.bytes r.phase in (Ok c, (c, refl, of))
-some_answer (Some (Err f)) = (Err f, refl)
-
-abbrev pub some_answers : List Opening → Answers
-some_answers [] n name = Err NotFound
-some_answers (o ∷ os) zero name = (some_answer o.gave).0
-some_answers (o ∷ os) (suc n) name = some_answers os n name
-
-pub shifted : (answer : Answers) (n : ℕ) (os : List Opening) → AnswersAre (λ k. answer (suc k)) n os
-    → AnswersAre answer (suc n) os
-shifted answer n [] h = tt
-shifted answer n (o ∷ os) h = (h.0, shifted answer (suc n) os h.1)
-
-pub some_are : (os : List Opening) → AnswersAre (some_answers os) 0 os
-some_are [] = tt
-some_are (o ∷ os) = ((some_answer o.gave).1, shifted (some_answers (o ∷ os)) 0 os (some_are os))
-
-pub untold_has_answers : (s : SourceState) → HasAnswers (untold s)
-untold_has_answers s = (some_answers s.openings, tt, some_are s.openings)
+-- of one that isn't
+pub untold_gives : (s : SourceState) → GivesTold (untold s)
+untold_gives s name k = tt

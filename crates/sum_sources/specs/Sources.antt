@@ -1,8 +1,8 @@
 -- Sources of files: what was asked of one, and what it answered.
-use Rattle.std.specs.Prelude.{ℕ, suc, slice_get, slice_set, ◌≡◌, ◌+◌, List, [], ◌∷◌, ◌++◌, length, Option, None, Some, Result, Ok, Err, ⊤, IfSome, MatchResult, ◌&&◌, if◌then◌else◌, bytes_eq, nat_le}
+use Rattle.std.specs.Prelude.{ℕ, zero, suc, slice_get, ◌≡◌, ◌+◌, List, [], ◌∷◌, ◌++◌, map, filter, filter_map, length, Option, None, Some, Result, Ok, Err, IfSome, MatchResult, ◌&&◌, if◌then◌else◌, bytes_eq, nat_le}
 use Rattle.std.specs.{Option.option_and_then, Result.result_ok}
 use Rattle.sum_sources.specs.Contents.{Content, InputState, Reads, IsOf, unread}
-use Rattle.sum_sources.specs.Faults.{Fault, NotFound, ByteString}
+use Rattle.sum_sources.specs.Faults.{Fault, ByteString}
 use Rattle.sum_sources.specs.declared.sources.source.OpenFault.{OpenFault}
 use Rattle.sum_sources.specs.declared.sources.source.OpenFault.TheVariants as faults
 
@@ -10,50 +10,86 @@ use Rattle.sum_sources.specs.declared.sources.source.OpenFault.TheVariants as fa
 abbrev pub Answer : Type 0
 Answer = Result Content Fault
 
+-- answers to each opening, by its name and by how many openings of that name came before
+abbrev pub Answers : Type 0
+Answers = ByteString → ℕ → Answer
+
 -- an opening
 pub record Opening : Type 0 where
   pub name : ByteString
   pub gave : Option (Result Reads Fault)  -- what was read of the file, once it is closed; or the fault of opening it
 
+-- the names that were opened
+abbrev pub names_of : List Opening → List ByteString
+names_of os = map (λ o. o.name) os
+
+-- how often a name is among others
+abbrev pub times : ByteString → List ByteString → ℕ
+times name names = length (filter (λ other. bytes_eq other name) names)
+
+-- what the openings of a name gave, in their order; and what the one gave that has k of them before it
+abbrev pub gave_of : List Opening → ByteString → List (Option (Result Reads Fault))
+gave_of os name = filter_map (λ o. if bytes_eq o.name name then Some o.gave else None) os
+
+abbrev pub gave_at : List Opening → ByteString → ℕ → Option (Result Reads Fault)
+gave_at os name k = option_and_then (λ gave. gave) (slice_get (gave_of os name) k)
+
+-- ---- what is in memory
+
+-- a name, and the answer to its openings from that one on that has so many of the name before it; None stands for an
+-- answer that isn't in memory
+pub record Pair : Type 0 where
+  pub name : ByteString
+  pub from : ℕ
+  pub answer : Option Answer
+
+-- what a source has in memory: the first pair that fits an opening answers it; and if none fits, `other` does
+pub record ToldAnswers : Type 0 where
+  pub pairs : List Pair
+  pub other : Option Answer
+
+abbrev pub first_answer : List Pair → Option Answer → ByteString → ℕ → Option Answer
+first_answer [] other name k = other
+first_answer (p ∷ ps) other name k =
+    if bytes_eq p.name name && nat_le p.from k then p.answer else first_answer ps other name k
+
+-- the answer to an opening, if it is in memory
+abbrev pub told_at : ToldAnswers → ByteString → ℕ → Option Answer
+told_at t name k = first_answer t.pairs t.other name k
+
+-- these are all answers, and they are in memory
+abbrev pub TellsAll : ToldAnswers → Answers → Type 0
+TellsAll t answer = (name : ByteString) (k : ℕ) → told_at t name k ≡ Some (answer name k)
+
+-- nothing is in memory
+abbrev pub none_told : ToldAnswers
+none_told = record { pairs = []; other = None }
+
+-- ---- the state
+
+-- the state of a source
+pub record SourceState : Type 0 where
+  pub told : ToldAnswers
+  pub openings : List Opening  -- in their order
+  pub refusals : ℕ  -- how many openings were refused memory
+
 -- this is of an answer: what was read is of its content, or this is the fault
 abbrev pub IsOfAnswer : Answer → Result Reads Fault → Type 0
 IsOfAnswer answer gave = MatchResult gave (λ r. (c : Content) × (answer ≡ Ok c) × IsOf r c) (λ f. answer ≡ Err f)
 
--- these openings, of which the first has n before it, gave these answers; a file may change from one to the next
-abbrev pub AnswersAre : (ℕ → ByteString → Answer) → ℕ → List Opening → Type 0
-AnswersAre answer n [] = ⊤
-AnswersAre answer n (o ∷ os) = IfSome o.gave (IsOfAnswer (answer n o.name)) × AnswersAre answer (suc n) os
+-- what an opening gave is of the answer in memory, if that is there
+abbrev pub GivesTold : SourceState → Type 0
+GivesTold s = (name : ByteString) (k : ℕ)
+    → IfSome (told_at s.told name k) (λ told. IfSome (gave_at s.openings name k) (IsOfAnswer told))
 
--- a name in memory, the answer to it, and from which opening on: so many came before the pair was added
-pub record Pair : Type 0 where
-  pub name : ByteString
-  pub answer : Answer
-  pub from : ℕ
-
--- the answer to the opening that has n before it: that of the first pair with its name that was added by then, if any
-abbrev pub first_answer : List Pair → ℕ → ByteString → Answer
-first_answer [] n name = Err NotFound
-first_answer (p ∷ ps) n name = if nat_le p.from n && bytes_eq p.name name then p.answer else first_answer ps n name
-
--- the state of a source
-pub record SourceState : Type 0 where
-  pub told : Option (List Pair)  -- its answers, if these are in memory
-  pub openings : List Opening  -- in their order
-  pub refusals : ℕ  -- how many openings were refused memory
-
--- its openings have answers: those in memory, if they are there
-abbrev pub HasAnswers : SourceState → Type 0
-HasAnswers s = (answer : ℕ → ByteString → Answer) × IfSome s.told (λ pairs. answer ≡ first_answer pairs)
-    × AnswersAre answer 0 s.openings
-
--- the content that is in memory for a name, by how many openings came before
-abbrev pub content_at : SourceState → ℕ → ByteString → Option Content
-content_at s n name = option_and_then (λ pairs. result_ok (first_answer pairs n name)) s.told
+-- the content that is in memory of the file of an opening
+abbrev pub content_at : SourceState → ByteString → ℕ → Option Content
+content_at s name k = option_and_then result_ok (told_at s.told name k)
 
 -- a name is opened: this is the file, and nothing was read of it yet
 abbrev pub opened_file : SourceState → ByteString → InputState
-opened_file s name = let n = length s.openings in
-    record { opening = n; name = name; told = content_at s n name; reads = unread }
+opened_file s name = let k = times name (names_of s.openings) in
+    record { opening = k; name = name; told = content_at s name k; reads = unread }
 
 -- one opening more
 abbrev pub and_opening : SourceState → ByteString → Option (Result Reads Fault) → SourceState
@@ -67,10 +103,16 @@ after_opening s name (Err faults.Memory) = record s { refusals = s.refusals + 1 
 
 -- a file that this source opened is open
 pub record IsOpen (s : SourceState) (file : InputState) : Type 0 where
-  pub opening : slice_get s.openings file.opening ≡ Some (record { name = file.name; gave = None })
-  pub told : file.told ≡ content_at s file.opening file.name
+  pub opening : slice_get (gave_of s.openings file.name) file.opening ≡ Some None
+  pub told : file.told ≡ content_at s file.name file.opening
+
+-- the openings once the file was closed of that opening of a name which has k of them before it
+abbrev pub closed_at : List Opening → ByteString → ℕ → Reads → List Opening
+closed_at [] name k r = []
+closed_at (o ∷ os) name zero r = if bytes_eq o.name name then record o { gave = Some (Ok r) } ∷ os
+    else o ∷ closed_at os name zero r
+closed_at (o ∷ os) name (suc k) r = o ∷ closed_at os name (if bytes_eq o.name name then k else suc k) r
 
 -- the source after this file was closed
 abbrev pub after_closing : SourceState → InputState → SourceState
-after_closing s file =
-    record s { openings = slice_set s.openings file.opening (record { name = file.name; gave = Some (Ok file.reads) }) }
+after_closing s file = record s { openings = closed_at s.openings file.name file.opening file.reads }

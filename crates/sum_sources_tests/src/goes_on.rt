@@ -7,7 +7,8 @@ ghost use Rattle.sum_sources.specs.Logs.{no_reads};
 use std::alloc::Allocator;
 use std::collections::VecDeque;
 use sum_sources::{
-    Ending, Fault, Input, NoRoom, Note, OpenFault, Phase, ReadLog, Source, SourceLog, Told,
+    Ending, Fault, Input, NoRoom, Note, OpenFault, Openings, Phase, ReadLog, ReadNote, Reads,
+    Source, SourceLog, Told, next_file,
 };
 
 /// An input of two parts. After the end or the fault of the first part it goes on with the second.
@@ -25,7 +26,7 @@ impl<'a> TwoParts<'a> {
     pub fn new(content: &'a [u8], place: usize, ending: Ending, piece: usize) -> TwoParts<'a>
         ensures { (⟦<TwoParts<'a> as Input>⟧.state result).reads ≡ unread }
     {
-        TwoParts::opened(content, place, ending, piece, ReadLog::new())
+        TwoParts::opened(content, place, ending, piece, ReadLog::of(&Reads))
     }
 
     fn opened(
@@ -60,7 +61,7 @@ impl<'a> Input for TwoParts<'a> {
 
     fn read(&mut self, buf: &mut [u8]) -> Result<usize, Fault> {
         let result = self.told.read(buf);
-        self.log = self.log.and(buf, &result);
+        self.log = self.log.and(&ReadNote(buf, &result));
         self.phase = self.phase.after(buf.len(), &result);
         let goes_on = match result {
             Ok(n) => n == 0 && !buf.is_empty(),
@@ -93,7 +94,7 @@ impl<'a, A: Allocator> InTurn<'a, A> {
         InTurn {
             files: VecDeque::new(alloc),
             piece,
-            log: SourceLog::new(),
+            log: SourceLog::of(&Openings),
             opened: 0,
             ended: 0,
             failed: 0,
@@ -118,7 +119,7 @@ impl<'a, A: Allocator> Source for InTurn<'a, A> {
     type File = TwoParts<'a>;
 
     ghost use Rattle.sum_sources.specs.Logs.{untold};
-    ghost use Rattle.sum_sources.specs.SourceLaws.{untold_has_answers};
+    ghost use Rattle.sum_sources.specs.SourceLaws.{untold_gives};
 
     ghost state = { λ s. untold s.log };
 
@@ -127,7 +128,7 @@ impl<'a, A: Allocator> Source for InTurn<'a, A> {
             self.log = self.log.and(&Note::Failed(name, Fault::NotFound));
             return Err(OpenFault::Fault(Fault::NotFound));
         };
-        let log = self.log.file(name);
+        let log = next_file(&self.log, name);
         self.log = self.log.and(&Note::Opened(name));
         self.opened = self.opened.saturating_add(1);
         Ok(TwoParts::opened(content, place, ending, self.piece, log))
@@ -142,5 +143,5 @@ impl<'a, A: Allocator> Source for InTurn<'a, A> {
         }
     }
 
-    ghost has_answers = { λ s. untold_has_answers s.log };
+    ghost gives_told = { λ s. untold_gives s.log };
 }

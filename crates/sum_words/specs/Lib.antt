@@ -3,6 +3,8 @@ pub mod WordFaults
 pub mod Items
 pub mod Request
 pub mod Texts
+pub mod Arguments
+pub mod ArgumentsLaws
 pub mod CommandLines
 pub mod Words
 pub mod refinement

@@ -1,82 +1,121 @@
 //! The arguments of the process.
-ghost use Rattle.digest_kinds.specs.Bytes.{ByteString};
-ghost use Rattle.std.specs.Prelude.{◌≡◌, ◌≤◌, List, Option, None, IfOk, IfSome, length, map};
-ghost use Rattle.sum_words.specs.CommandLines.{Fills};
+ghost use Rattle.std.specs.Prelude.{◌≡◌, ◌≤◌, [], IfOk, None, Some, List, length, map};
+ghost use Rattle.sum_words.specs.Arguments.{ArgumentsState, AreOf, ByteString, and_fill};
+ghost use Rattle.sum_words.specs.ArgumentsLaws.{AreOf-prop};
+ghost use Rattle.sum_words.specs.refinement.CommandLine.{Fills};
 
+use crate::arguments_log::{Filled, Fillings};
+use ghost_log::Log;
 use std::env::FillError;
-use std::marker::Model;
 use std::rt::Env;
 
 /// A list of arguments, the name by which the program was called first.
 pub trait Arguments {
-    /// The arguments, if they are known.
-    ghost known: { Self → Option (List ByteString) } = { λ _. None };
+    /// What its calls gave. A list that isn't in memory keeps it for proofs alone.
+    ghost state: { Self → ArgumentsState };
 
-    /// Copies the argument at this place, counted from 0, to the front of the buffer, and returns its length.
-    /// `FillError::NotPresent` past the last argument. `FillError::TooLong` if the argument is longer than the buffer.
-    fn fill(&self, place: usize, buffer: &mut [u8]) -> Result<usize, FillError>
+    /// Copies the argument at this place, counted from 0, to the front of the buffer, and returns its length. The
+    /// arguments are asked for in their order. `FillError::NotPresent` past the last. `FillError::TooLong` if the
+    /// argument is longer than the buffer.
+    fn fill(&mut self, place: usize, buffer: &mut [u8]) -> Result<usize, FillError>
+        requires { place ≡ length (state self.old).given }
         ensures count { IfOk result (λ n. n ≤ length buffer.new) }
-        // If the arguments are known: the buffer starts with this one, or the error says why it doesn't.
-        ensures bytes { IfSome (known self.now) (λ all. Fills all place buffer.new result) };
+        ensures given { state self.new ≡ and_fill (state self.old) buffer.new result };
+
+    /// Law: some list agrees with what its calls gave.
+    ghost has_list: { (s : Self) → (all : List ByteString) × AreOf (state s) all };
 }
 
-/// The arguments that the system gives. Contracts don't know them.
+/// The arguments that the system gives.
 #[derive(Debug, Drop)]
 pub struct SystemArguments<R> {
     rt: R,
+    log: Log<Fillings>,
 }
 
 impl<R: Env> SystemArguments<R> {
     /// The arguments that this runtime has.
-    pub fn new(rt: R) -> Self {
-        SystemArguments { rt }
+    pub fn new(rt: R) -> Self
+        ensures { (⟦<SystemArguments<R> as Arguments>⟧.state result).given ≡ [] }
+    {
+        SystemArguments {
+            rt,
+            log: Log::of(&Fillings),
+        }
     }
 }
 
 impl<R: Env> Arguments for SystemArguments<R> {
-    fn fill(&self, place: usize, buffer: &mut [u8]) -> Result<usize, FillError> {
-        self.rt.arg(place, buffer)
+    ghost state = { λ s. record s.log { told = None } };
+
+    fn fill(&mut self, place: usize, buffer: &mut [u8]) -> Result<usize, FillError> {
+        let filled = self.rt.arg(place, buffer);
+        self.log = self.log.and(&Filled(buffer, &filled));
+        filled
     }
+
+    ghost use Rattle.sum_words.specs.ArgumentsLaws.{untold_has_list};
+
+    ghost has_list = { λ s. untold_has_list s.log };
 }
 
-/// A list of arguments in memory. Contracts know it.
+/// A list of arguments in memory.
 #[derive(Debug, Drop)]
 pub struct ToldArguments<'a> {
     arguments: &'a [&'a [u8]],
-}
-
-impl<'a> Model for ToldArguments<'a> {
-    ghost use Rattle.digest_kinds.specs.Bytes.{ByteString};
-    ghost use Rattle.std.specs.Prelude.{List, map};
-
-    ghost Value = { List ByteString };
-
-    ghost view = { λ s. map (λ a. a.now) s.arguments.now };
+    log: Log<Fillings>,
+    ghost agrees: { AreOf log (map (λ a. a.now) arguments.now) } by { AreOf-prop log (map (λ a. a.now) arguments.now) },
 }
 
 impl<'a> ToldArguments<'a> {
     /// These arguments, the name by which the program was called first.
     pub fn new(arguments: &'a [&'a [u8]]) -> Self
-        ensures { result ≡ map (λ a. a.now) arguments.entry.now }
+        ensures { ⟦<ToldArguments<'a> as Arguments>⟧.state result ≡ record {
+          told = Some (map (λ a. a.now) arguments.entry.now);
+          given = [];
+          fault = None;
+        } }
     {
-        ToldArguments { arguments }
+        ToldArguments {
+            arguments,
+            log: Log::of(&Fillings),
+        }
     }
 }
 
 impl<'a> Arguments for ToldArguments<'a> {
-    ghost use Rattle.std.specs.Prelude.{Some};
+    ghost use Rattle.std.specs.Prelude.{refl};
 
-    ghost known = { λ s. Some s };
+    ghost state = { λ s. record s.log { told = Some (map (λ a. a.now) s.arguments.now) } };
 
-    fn fill(&self, place: usize, buffer: &mut [u8]) -> Result<usize, FillError> {
-        let Some(argument) = self.arguments.get(place) else {
-            return Err(FillError::NotPresent);
-        };
-        let len = argument.len();
-        if buffer.len() < len {
-            return Err(FillError::TooLong);
-        }
-        buffer[..len].copy_from_slice(argument);
-        Ok(len)
+    fn fill(&mut self, place: usize, buffer: &mut [u8]) -> Result<usize, FillError> {
+        let filled = fill_from(self.arguments, place, buffer);
+        self.log = self.log.and(&Filled(buffer, &filled));
+        filled
     }
+
+    ghost has_list = { λ s. (
+      map (λ a. a.now) s.arguments.now,
+      record {
+        told = refl;
+        given = s.agrees.given;
+        fault = s.agrees.fault;
+      },
+    ) };
+}
+
+// Copies the argument at this place to the front of the buffer.
+fn fill_from(arguments: &[&[u8]], place: usize, buffer: &mut [u8]) -> Result<usize, FillError>
+    ensures count { IfOk result (λ n. n ≤ length buffer.new) }
+    ensures fills { Fills (map (λ a. a.now) arguments.now) place buffer.new result }
+{
+    let Some(argument) = arguments.get(place) else {
+        return Err(FillError::NotPresent);
+    };
+    let len = argument.len();
+    if buffer.len() < len {
+        return Err(FillError::TooLong);
+    }
+    buffer[..len].copy_from_slice(argument);
+    Ok(len)
 }

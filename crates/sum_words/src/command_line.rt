@@ -1,16 +1,18 @@
 //! The command line: which tool is asked for, and on which words.
 ghost use Rattle.std.specs.List.{after_last};
-ghost use Rattle.std.specs.Option.{option_map, option_and_then};
-ghost use Rattle.std.specs.Prelude.{◌≡◌, ◌==◌, ◌≤◌, ◌<◌, ◌*◌, vec_len, take, drop, length, slice_get, IfOk, IfSome, OnOk, OnErr};
+ghost use Rattle.std.specs.Option.{option_map};
+ghost use Rattle.std.specs.Prelude.{◌≡◌, ◌==◌, ◌≤◌, ◌<◌, ◌*◌, ◌∷◌, ◌++◌, [], vec_len, take, length, List, Any, IfOk, IfSome, OnOk, OnErr, MatchResult};
+ghost use Rattle.std.specs.declared.env.FillError.TheVariants.{TooLong};
+ghost use Rattle.sum_words.specs.Arguments.{AreOf};
 ghost use Rattle.sum_words.specs.CommandLines.{command_line, NeedsMemory};
-ghost use Rattle.sum_words.specs.Tools.{tool_called};
-ghost use Rattle.sum_words.specs.refinement.CommandLine.{ArgumentIs, IsLonger, command_line_value};
+ghost use Rattle.sum_words.specs.Tools.{ByteString};
+ghost use Rattle.sum_words.specs.refinement.CommandLine.{Fails, Gives, FindsTool, command_line_value};
 
 use crate::arguments::Arguments;
 use crate::tool::Tool;
 use crate::words::Words;
 use memchr::memrchr;
-use std::alloc::{AllocError, Allocator};
+use std::alloc::Allocator;
 use std::env::FillError;
 use thiserror::Error;
 
@@ -32,35 +34,30 @@ pub enum CommandLine<A: Allocator> {
 }
 
 /// Reads the command line. The tool is named by the last part of the program's name, as in `/bin/md5sum`. If that is no
-/// tool's name, the next argument names it. The arguments after the tool's place are its words.
+/// tool's name, the next argument names it. The arguments after the tool's place are its words. If they name no tool,
+/// no further argument is read.
 ///
 /// `NotRead` if memory is refused. Memory is needed only if an argument follows the tool's place, or if one is longer
 /// than 4,096 bytes.
 pub fn read_command_line<A: Allocator + Copy, G: Arguments>(
     alloc: A,
-    arguments: &G,
+    arguments: &mut G,
 ) -> Result<CommandLine<A>, NotRead>
-    // If the arguments are known: what they ask for.
-    ensures line { IfOk result (λ line. IfSome (G.known arguments.now) (λ all.
-        command_line all ≡ command_line_value line)) }
-    // If the arguments are known: they need memory.
-    ensures not_read { OnErr result (IfSome (G.known arguments.now) NeedsMemory) }
+    requires { (G.state arguments.old).given ≡ [] }
+    // Of every list of arguments that agrees with what the calls gave: what it asks for, or that it needs memory.
+    ensures line { (all : List ByteString) → AreOf (G.state arguments.new) all → MatchResult result
+        (λ line. command_line all ≡ command_line_value line) (λ _. NeedsMemory all) }
+    ensures told { (G.state arguments.new).told ≡ (G.state arguments.old).told }
 {
     let mut room = Room {
         page: [0; PAGE],
         more: Vec::new(alloc),
     };
-    let mut tool = tool_called_by_name(arguments, &mut room)?;
-    let mut first = 1;
-    if tool.is_none() {
-        tool = tool_called_by_word(arguments, &mut room)?;
-        first = 2;
-    }
+    let Some((tool, first)) = find_tool(arguments, &mut room)? else {
+        return Ok(CommandLine::UnknownTool);
+    };
     let words = words_from(alloc, arguments, first, &mut room)?;
-    match tool {
-        Some(tool) => Ok(CommandLine::Invoke(tool, words)),
-        None => Ok(CommandLine::UnknownTool),
-    }
+    Ok(CommandLine::Invoke(tool, words))
 }
 
 // Room for one argument: a page, and a vector that grows for a longer one.
@@ -74,12 +71,14 @@ impl<A: Allocator> Room<A> {
     // The argument at this place. `None` past the last.
     fn argument<G: Arguments>(
         &mut self,
-        arguments: &G,
+        arguments: &mut G,
         place: usize,
     ) -> Result<Option<&[u8]>, NotRead>
-        ensures bytes { IfOk result (λ o.
-            ArgumentIs (G.known arguments.now) place (option_map (λ s. s.now) o)) }
-        ensures not_read { OnErr result (IsLonger (G.known arguments.now) place 4096) }
+        requires { place ≡ length (G.state arguments.old).given }
+        ensures gives { IfOk result (λ o. Gives (G.state arguments.old) (G.state arguments.new)
+            (option_map (λ s. s.now) o)) }
+        ensures not_read { OnErr result
+            (Fails TooLong 4096 (G.state arguments.old) (G.state arguments.new)) }
     {
         match arguments.fill(place, &mut self.page) {
             Ok(len) => Ok(Some(&self.page[..len])),
@@ -94,55 +93,74 @@ impl<A: Allocator> Room<A> {
     }
 }
 
-// Copies the argument at this place to the front of the vector, and returns its length. `None` past the last.
+// Copies the argument at this place, which is longer than a page, to the front of the vector, and returns its length.
+// `None` past the last.
 fn fill_growing<A: Allocator, G: Arguments>(
-    arguments: &G,
+    arguments: &mut G,
     place: usize,
     more: &mut Vec<u8, A>,
 ) -> Result<Option<usize>, NotRead>
+    requires place { place ≡ length (G.state arguments.old).given }
+    requires long { Fails TooLong 4096 (G.state arguments.old) (G.state arguments.old) }
     ensures within { IfOk result (λ o. IfSome o (λ n. n ≤ vec_len more.new)) }
-    ensures bytes { IfOk result (λ o. ArgumentIs (G.known arguments.now) place
+    ensures gives { IfOk result (λ o. Gives (G.state arguments.old) (G.state arguments.new)
         (option_map (λ n. take n more.new.items) o)) }
-    ensures not_read { OnErr result (IsLonger (G.known arguments.now) place (vec_len more.old)) }
+    ensures not_read { OnErr result
+        (Fails TooLong 4096 (G.state arguments.old) (G.state arguments.new)) }
 {
+    if more.len() < PAGE {
+        grow(more)?;
+    }
     'longer: loop {
         match arguments.fill(place, more.as_mut_slice()) {
             Ok(len) => return Ok(Some(len)),
             Err(FillError::NotPresent) => return Ok(None),
-            Err(FillError::TooLong) => {
-                let Ok(()) = grow(more) else {
-                    return Err(NotRead);
-                };
-            }
+            Err(FillError::TooLong) => grow(more)?,
         }
     }
 }
 
-// Makes the vector longer, and at least twice as long as it was.
-fn grow<A: Allocator>(more: &mut Vec<u8, A>) -> Result<(), AllocError>
+// Makes the vector longer, at least twice as long as it was, and longer than a page.
+fn grow<A: Allocator>(more: &mut Vec<u8, A>) -> Result<(), NotRead>
     ensures longer { OnOk result (vec_len more.old < vec_len more.new) }
     ensures twice { OnOk result (2 * vec_len more.old ≤ vec_len more.new) }
+    ensures page { OnOk result (4096 < vec_len more.new) }
 {
     let len = more.len();
     let Some(twice) = len.checked_mul(2) else {
-        return Err(AllocError);
+        return Err(NotRead);
     };
-    more.resize(twice.max(2 * PAGE), 0)
+    match more.resize(twice.max(2 * PAGE), 0) {
+        Ok(()) => Ok(()),
+        Err(_) => Err(NotRead),
+    }
 }
 
-// The tool that the last part of the program's name names.
-#[tactic(auto, using(std::proofs::lemmas::Option::slice_get_cases))]
-fn tool_called_by_name<A: Allocator, G: Arguments>(
-    arguments: &G,
+// The tool, and the place of the first word. The last part of the program's name names it, or else the next argument.
+fn find_tool<A: Allocator, G: Arguments>(
+    arguments: &mut G,
     room: &mut Room<A>,
-) -> Result<Option<Tool>, NotRead>
-    ensures tool { IfOk result (λ tool. IfSome (G.known arguments.now) (λ all.
-        tool ≡ option_and_then (λ path. tool_called (after_last (λ b. b == 47) path))
-        (slice_get all 0))) }
-    ensures not_read { OnErr result (IfSome (G.known arguments.now) NeedsMemory) }
+) -> Result<Option<(Tool, usize)>, NotRead>
+    requires { (G.state arguments.old).given ≡ [] }
+    ensures tool { IfOk result (FindsTool (G.state arguments.new)) }
+    ensures first { IfOk result (λ o. IfSome o (λ found. found.1 ≤ 2)) }
+    ensures not_read { OnErr result ((all : List ByteString) → AreOf (G.state arguments.new) all
+        → Any (λ argument. 4096 < length argument) all) }
+    ensures told { (G.state arguments.new).told ≡ (G.state arguments.old).told }
 {
-    let path = room.argument(arguments, 0)?;
-    Ok(path.and_then(|path| Tool::of_name(last_part(path))))
+    let Some(path) = room.argument(arguments, 0)? else {
+        return Ok(None);
+    };
+    if let Some(tool) = Tool::of_name(last_part(path)) {
+        return Ok(Some((tool, 1)));
+    }
+    let Some(word) = room.argument(arguments, 1)? else {
+        return Ok(None);
+    };
+    match Tool::of_name(word) {
+        Some(tool) => Ok(Some((tool, 2))),
+        None => Ok(None),
+    }
 }
 
 // What follows the last slash of a path. All of the path if there is no slash.
@@ -155,32 +173,21 @@ fn last_part(path: &[u8]) -> &[u8]
     }
 }
 
-// The tool that the first word names.
-#[tactic(auto, using(std::proofs::lemmas::Option::slice_get_cases))]
-fn tool_called_by_word<A: Allocator, G: Arguments>(
-    arguments: &G,
-    room: &mut Room<A>,
-) -> Result<Option<Tool>, NotRead>
-    ensures tool { IfOk result (λ tool. IfSome (G.known arguments.now) (λ all.
-        tool ≡ option_and_then tool_called (slice_get all 1))) }
-    ensures not_read { OnErr result (IfSome (G.known arguments.now) NeedsMemory) }
-{
-    let word = room.argument(arguments, 1)?;
-    Ok(word.and_then(Tool::of_name))
-}
-
 // The arguments from this place on.
-#[tactic(auto, using(crate::proofs::CommandLineLemmas::word_steps))]
 fn words_from<A: Allocator + Copy, G: Arguments>(
     alloc: A,
-    arguments: &G,
+    arguments: &mut G,
     first: usize,
     room: &mut Room<A>,
 ) -> Result<Words<A>, NotRead>
-    requires { first < usize.MAX }
-    ensures words { IfOk result (λ words. IfSome (G.known arguments.now) (λ all.
-        words ≡ drop first all)) }
-    ensures not_read { OnErr result (IfSome (G.known arguments.now) (λ all. first < length all)) }
+    requires place { first ≡ length (G.state arguments.old).given }
+    requires few { first < usize.MAX }
+    ensures words { IfOk result (λ words. (all : List ByteString) → AreOf (G.state arguments.new) all
+        → all ≡ (G.state arguments.old).given ++ words) }
+    ensures not_read { OnErr result ((all : List ByteString) → AreOf (G.state arguments.new) all
+        → (word : ByteString) × (rest : List ByteString)
+        × (all ≡ (G.state arguments.old).given ++ word ∷ rest)) }
+    ensures told { (G.state arguments.new).told ≡ (G.state arguments.old).told }
 {
     let mut words = Words::new(alloc);
     'places: for place in first..usize::MAX {

@@ -23,6 +23,7 @@
 #![tactic(auto)]
 
 mod arguments;
+mod arguments_log;
 mod command_line;
 pub mod laws;
 mod messages;

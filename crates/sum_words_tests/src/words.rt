@@ -64,7 +64,7 @@ fn items(rt: HostRuntime) -> Result<(), Fail> {
 
 // Whether the arguments ask for this tool on these words. Without a contract, as above.
 fn invoke(alloc: Global, arguments: &[&[u8]], tool: Tool, words: &[&[u8]]) -> bool {
-    match read_command_line(alloc, &ToldArguments::new(arguments)) {
+    match read_command_line(alloc, &mut ToldArguments::new(arguments)) {
         Ok(CommandLine::Invoke(found, all)) => found == tool && are(&all, words),
         _ => false,
     }
@@ -77,7 +77,7 @@ fn command_lines(rt: HostRuntime) -> Result<(), Fail> {
     let arguments: [&[u8]; 4] = [b"\xff", b"md5sum", b"\xff", &long];
     assert!(rt; invoke(rt.alloc(), &arguments, Tool::Md5sum, &arguments[2..]));
     let arguments: [&[u8]; 1] = [b"digests"];
-    let line = read_command_line(rt.alloc(), &ToldArguments::new(&arguments));
+    let line = read_command_line(rt.alloc(), &mut ToldArguments::new(&arguments));
     assert!(rt; matches!(line, Ok(CommandLine::UnknownTool)));
     Ok(())
 }

@@ -14,11 +14,16 @@ type Place<'a> = (&'a str, &'a str, usize);
 // Whether these are the names that were asked.
 fn asked<A: Allocator + Copy>(streams: &Stage<A, 1024>, names: &[&str]) -> bool {
     for (i, name) in names.iter().enumerate() {
-        if streams.inputs.source.asked_name(i) != Some(name.as_bytes()) {
+        if streams.inputs.source.source().asked_name(i) != Some(name.as_bytes()) {
             return false;
         }
     }
-    streams.inputs.source.asked_name(names.len()).is_none()
+    streams
+        .inputs
+        .source
+        .source()
+        .asked_name(names.len())
+        .is_none()
 }
 
 // At which of its places a run with this outcome stands: at the last it has ended with status 1.

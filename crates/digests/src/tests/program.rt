@@ -6,18 +6,18 @@ use std::alloc::{Allocator, Global};
 use std::io::{self, ErrorKind, Write};
 use std::process::Abort;
 use std::test::Fail;
-use sum_engine::{Inputs, Outputs, Streams};
+use sum_engine::{Outputs, Reader, Streams};
 use sum_lines::{FromWrite, Sink, ToldSink};
-use sum_sources::{Ending, Stdin, Told, ToldSource};
+use sum_sources::{Ending, Inputs, Told, ToldSource};
 use sum_words::ToldArguments;
 
 // The program itself. Without a contract, so that the proofs of its callers are spared that of `command`.
 fn status_of<A: Allocator + Copy, O: Sink, E: Sink>(
     heap: A,
     arguments: &[&[u8]],
-    streams: &mut Streams<Inputs<Told, ToldSource<Global>>, Outputs<O, E>>,
+    streams: &mut Streams<Reader<Inputs<Told, ToldSource<Global>>>, Outputs<O, E>>,
 ) -> u8 {
-    command(heap, &ToldArguments::new(arguments), streams)
+    command(heap, &mut ToldArguments::new(arguments), streams)
 }
 
 // Calls the program with these arguments, over the usual files, a list `l` and standard input, and these outputs.
@@ -31,8 +31,10 @@ fn call<A: Allocator + Copy, O: Sink + Drop, E: Sink + Drop>(
     let list = [("l", ("$M  a\n", Ending::Whole))];
     let contents = spell_all(alloc, &list)?;
     let mut streams = Streams::new(
-        Stdin::new(Told::new(b"abc", Ending::Whole, 2)),
-        source_of(alloc, 100, &list, &contents)?,
+        Inputs::new(
+            Told::new(b"abc", Ending::Whole, 2),
+            source_of(alloc, 100, &list, &contents)?,
+        ),
         out,
         err,
     );

@@ -19,7 +19,6 @@ pub record RunsManifest (r : Rules) (labels : LabelsValue) (s t : InputState) (a
   pub same : IsSameInput s t
   pub cause : StopHasCause (0 ∷ 1 ∷ []) a b x
   pub reads : ReadsToEndIf (x ≡ Ok true) a.inputs b.inputs
-  pub stdin : r.from_stdin ≡ true → b.inputs.stdin ≡ a.inputs.stdin
 
 -- ---- the laws
 

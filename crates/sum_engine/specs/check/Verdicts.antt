@@ -6,8 +6,8 @@ use Rattle.sum_sources.specs.LineReaders.{AdvancesLines, IsBounded, IsReading, c
 use Rattle.sum_sources.specs.declared.{line_reader.LineReader.LineReader, line_reader.LineStop.TheVariants.Fault, line_reader.LineStop.TheVariants.Memory}
 pub use Rattle.sum_sources.specs.declared.line_reader.LineStop.{LineStop}
 use Rattle.sum_sources.specs.declared.{line_reader.Next.TheVariants.NoMore, line_reader.Next.Next}
-use Rattle.sum_engine.specs.Behavior.{ByteString, Ending, Whole, Broken, World, after, Content, InputState, IsOf}
-use Rattle.sum_engine.specs.Execution.{InputsState, Agrees, world_at, ReadsToEndIf, AsksNames}
+use Rattle.sum_engine.specs.Behavior.{ByteString, Ending, Whole, Broken, World, after, Content, InputState, SourceState, IsOf}
+use Rattle.sum_engine.specs.Execution.{Agrees, world_at, ReadsToEndIf, AsksNames}
 use Rattle.sum_engine.specs.{refinement.Names.MemoryWasRefused, check.Rules.Rules, check.Judge.Form, check.Judge.LineVerdictValue, check.Judge.asks_of}
 pub use Rattle.sum_engine.specs.declared.check.judge.LineVerdict.{LineVerdict}
 use Rattle.sum_engine.specs.check.Reports.{Counts, is_unread}
@@ -44,7 +44,7 @@ state_at p c w = record {
 
 -- P holds between the check's states at two values and inputs, if the input was unread at the start: of each content of
 -- the manifest, and in each world, that agrees with what was read by then
-pub record InEachCheck {I : Type 0} (state : I → InputState) (p q : VerdictsValue I) (a b : InputsState)
+pub record InEachCheck {I : Type 0} (state : I → InputState) (p q : VerdictsValue I) (a b : SourceState)
     (P : CheckState → CheckState → Type 0) : Type 0 where
   pub holds : IsReading state p.reader → (c : Content) → IsOf (state q.reader.input).reads c → (w : World) → Agrees w b
       → P (state_at p (remaining p.reader c) (world_at w a)) (state_at q (remaining q.reader c) (world_at w b))
@@ -120,14 +120,14 @@ IsNotUnread (Ok (Some v)) = is_unread v.verdict ≡ false
 IsNotUnread x = ⊤
 
 -- what such a call asks: the name of the line's verdict, or none; or the source was refused memory
-abbrev pub AsksFor : ByteString → InputsState → InputsState → VerdictResult → Type 0
+abbrev pub AsksFor : ByteString → SourceState → SourceState → VerdictResult → Type 0
 AsksFor vector a b (Ok (Some v)) = AsksNames a b (asks_of (line_verdict_value vector v))
 AsksFor vector a b (Err Memory) = MemoryWasRefused a b ⊎ (b ≡ a)
 AsksFor vector a b x = AsksNames a b []
 
 -- what such a call does
 pub record AdvancesVerdicts {I : Type 0} (state : I → InputState) (vector : ByteString) (p q : VerdictsValue I)
-    (a b : InputsState) (x : VerdictResult) : Type 0 where
+    (a b : SourceState) (x : VerdictResult) : Type 0 where
   pub rules : q.rules ≡ p.rules
   pub counts : q.counts ≡ counts_after p.counts x
   pub number : (v : LineVerdict) → x ≡ Ok (Some v) → q.reader.lines ≡ p.reader.lines + 1
@@ -142,5 +142,3 @@ pub record AdvancesVerdicts {I : Type 0} (state : I → InputState) (vector : By
       → IsOf (state p.reader.input).reads c
   pub asked : AsksFor vector a b x
   pub reads : ReadsToEndIf (IsNotUnread x) a b
-  -- the lines of standard input don't name it
-  pub stdin : p.rules.from_stdin ≡ true → b.stdin ≡ a.stdin

@@ -1,6 +1,6 @@
 //! Checking one manifest.
 ghost use Rattle.std.specs.Prelude.{◌≡◌, true, [], ◌∷◌, None, Ok, codes, if◌then◌else◌};
-ghost use Rattle.sum_engine.specs.Behavior.{is_dash};
+ghost use Rattle.sum_sources.specs.Inputs.{is_dash};
 ghost use Rattle.sum_engine.specs.Execution.{IsFlushed, FailuresMatch, RefusalsMatch, Performs, ReadsToEndIf};
 ghost use Rattle.sum_engine.specs.check.CheckerLaws.{RunsManifest};
 ghost use Rattle.sum_engine.specs.check.Checking.{check_behavior};
@@ -8,28 +8,28 @@ ghost use Rattle.sum_engine.specs.check.Verdicts.{IsAtStart};
 
 use crate::check::checker::Checker;
 use crate::check::progress::Progress;
-use crate::inputs::{Inputs, is_dash};
 use crate::put_flushed::{outcome_after, put_name_fault_line};
+use crate::reader::Reader;
 use crate::settings::CheckSettings;
 use crate::stop::Stop;
 use crate::streams::{Outputs, Streams};
 use std::alloc::Allocator;
 use sum_lines::Sink;
-use sum_sources::{Input, OpenFault, Source};
+use sum_sources::{Input, OpenFault, Source, is_dash};
 
-/// Checks the manifest of this name (`-` is standard input) and returns whether it is good. The reports of its lines
+/// Checks the manifest of this name and returns whether it is good. The reports of its lines
 /// and its summary go to `out` and `err` (coreutils manual, "md5sum invocation", `--check`). A manifest that can't
 /// be opened, or read to its end, isn't good, and its fault goes to `err`.
 ///
 /// `Stop::Memory` only if the source was refused memory, or bytes of the manifest were still to come; the reports of
 /// the lines handled so far were then written. `Stop::Write` if an output fails; a prefix of the reports and the
 /// summary, in their order, was then written.
-pub fn check_one<A: Allocator + Copy, J: Input + Drop, S: Source, O: Sink, E: Sink>(
+pub fn check_one<A: Allocator + Copy, S: Source, O: Sink, E: Sink>(
     alloc: A,
     settings: CheckSettings,
     tool: &str,
     name: &[u8],
-    streams: &mut Streams<Inputs<J, S>, Outputs<O, E>>,
+    streams: &mut Streams<Reader<S>, Outputs<O, E>>,
 ) -> Result<bool, Stop>
     // If both outputs are flushed: the behavior of checking that name, in every world that agrees with what was read.
     ensures behavior { Performs (λ w. check_behavior settings tool.now w name.now) (λ good. good)
@@ -41,16 +41,17 @@ pub fn check_one<A: Allocator + Copy, J: Input + Drop, S: Source, O: Sink, E: Si
     ensures refusals { RefusalsMatch (0 ∷ 1 ∷ []) streams.old.inputs streams.new.inputs result }
     ensures failures { FailuresMatch streams.old.outputs streams.new.outputs result }
 {
+    let shown = shown_name(name);
     let input = match streams.inputs.open(name) {
         Ok(opened) => opened,
         Err(OpenFault::Memory) => return Err(Stop::Memory),
         Err(OpenFault::Fault(fault)) => {
-            let written = put_name_fault_line(&mut streams.outputs, tool, name, fault);
+            let written = put_name_fault_line(&mut streams.outputs, tool, shown, fault);
             return outcome_after(written, false);
         }
     };
     let from_stdin = is_dash(name);
-    let checker = Checker::new(settings, tool, shown_name(name), from_stdin, input);
+    let checker = Checker::new(settings, tool, shown, from_stdin, input);
     let (result, input) = run_to_end(alloc, checker, streams);
     streams.inputs.close(input);
     result
@@ -68,10 +69,10 @@ fn shown_name(name: &[u8]) -> &[u8]
 }
 
 // Steps through the manifest of a new checker to its end, and gives the manifest's input back.
-fn run_to_end<'a, A: Allocator, I: Input, J: Input + Drop, S: Source, O: Sink, E: Sink>(
+fn run_to_end<'a, A: Allocator, I: Input, S: Source, O: Sink, E: Sink>(
     alloc: A,
     mut checker: Checker<'a, I>,
-    streams: &mut Streams<Inputs<J, S>, Outputs<O, E>>,
+    streams: &mut Streams<Reader<S>, Outputs<O, E>>,
 ) -> (Result<bool, Stop>, I)
     requires start { IsAtStart I.state checker.verdicts checker.verdicts.reader.input }
     requires outcome { checker.outcome ≡ None }
@@ -85,10 +86,10 @@ fn run_to_end<'a, A: Allocator, I: Input, J: Input + Drop, S: Source, O: Sink, E
 }
 
 // Steps through a manifest from its first line: each step handles one line, and the last one the end.
-fn check_lines<'a, A: Allocator, I: Input, J: Input + Drop, S: Source, O: Sink, E: Sink>(
+fn check_lines<'a, A: Allocator, I: Input, S: Source, O: Sink, E: Sink>(
     checker: &mut Checker<'a, I>,
     line: &mut Vec<u8, A>,
-    streams: &mut Streams<Inputs<J, S>, Outputs<O, E>>,
+    streams: &mut Streams<Reader<S>, Outputs<O, E>>,
 ) -> Result<bool, Stop>
     requires start { IsAtStart I.state checker.old.verdicts checker.old.verdicts.reader.input }
     requires outcome { checker.old.outcome ≡ None }

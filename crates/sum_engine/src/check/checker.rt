@@ -10,8 +10,8 @@ use crate::check::report::put_report;
 use crate::check::rules::Labels;
 use crate::check::summary::put_summary;
 use crate::check::verdicts::Verdicts;
-use crate::inputs::Inputs;
 use crate::put_flushed::{outcome_after, put_name_fault_line};
+use crate::reader::Reader;
 use crate::settings::CheckSettings;
 use crate::stop::Stop;
 use crate::streams::{Outputs, Streams};
@@ -48,7 +48,7 @@ impl<'a, I: Input> Checker<'a, I> {
 
     /// A checker of the manifest that `input` gives. Its diagnostics begin with `tool`, for example `md5sum`, and show
     /// the name `manifest`. `from_stdin` says whether the manifest came from standard input: a line that names `-` is
-    /// then improperly formatted. In any other manifest `-` is the standard input of the streams.
+    /// then improperly formatted. In any other manifest `-` is opened as any name.
     pub fn new(
         settings: CheckSettings,
         tool: &'a str,
@@ -99,10 +99,10 @@ impl<'a, I: Input> Checker<'a, I> {
     /// `Stop::Memory` only if the source was refused memory, or bytes of the manifest were still to come; nothing is
     /// then written. `Stop::Write` if an output fails; a prefix of the step's texts was then written. After `Ended` and
     /// after a stop each step returns the same again and writes nothing.
-    pub fn step<A: Allocator, J: Input + Drop, S: Source, O: Sink, E: Sink>(
+    pub fn step<A: Allocator, S: Source, O: Sink, E: Sink>(
         &mut self,
         line: &mut Vec<u8, A>,
-        streams: &mut Streams<Inputs<J, S>, Outputs<O, E>>,
+        streams: &mut Streams<Reader<S>, Outputs<O, E>>,
     ) -> Result<Progress, Stop>
         // An outcome is returned again; checker and streams stay as they are.
         ensures outcome { KeepsOutcome outcome_in_step self.old.outcome self.new.outcome

@@ -10,10 +10,10 @@ ghost use Rattle.sum_engine.specs.refinement.Names.{MemoryWasRefused};
 
 use crate::check::rules::CheckRules;
 use crate::hash_name::{HashFault, hash_name};
-use crate::inputs::{Inputs, is_dash};
+use crate::reader::Reader;
 use digest_kinds::{Digest, Kind};
 use std::ops::Range;
-use sum_sources::{Fault, Input, NoRoom, Source};
+use sum_sources::{Fault, NoRoom, Source, is_dash};
 
 /// What checking finds of a manifest's line.
 #[derive(Clone, Copy, Debug, PartialEq, Eq)]
@@ -69,17 +69,16 @@ pub(crate) struct ListedEntry<'a> {
 }
 
 /// The verdict of an entry. `NoRoom` if the source is out of memory; nothing was then asked.
-pub(crate) fn judge<I: Input + Drop, S: Source>(
+pub(crate) fn judge<S: Source>(
     rules: CheckRules,
     listed: &ListedEntry,
-    inputs: &mut Inputs<I, S>,
+    inputs: &mut Reader<S>,
 ) -> Result<Verdict, NoRoom>
     ensures verdict { (w : World) → Agrees w inputs.new
         → IfOk result (λ v. v ≡ judge rules (world_at w inputs.old) (listed_entry listed.now)) }
     ensures asked { MatchResult result (λ v. AsksNames inputs.old inputs.new
         (asks_of (record { number = 0; verdict = v; name = listed.now.name.now })))
         (λ _. MemoryWasRefused inputs.old inputs.new) }
-    ensures stdin { rules.from_stdin ≡ true → inputs.new.stdin ≡ inputs.old.stdin }
     ensures reads { ReadsToEndIf (IfOk result (λ v. is_unread v ≡ false)) inputs.old inputs.new }
 {
     if rules.from_stdin && is_dash(listed.name) {

@@ -6,7 +6,7 @@ ghost use Rattle.sum_engine.specs.check.Rules.{rules_of};
 use crate::check::judge::{LineVerdict, ListedEntry, Verdict, judge};
 use crate::check::rules::CheckRules;
 use crate::check::summary::{Counts, is_good};
-use crate::inputs::Inputs;
+use crate::reader::Reader;
 use crate::settings::CheckSettings;
 use std::alloc::Allocator;
 use std::marker::Model;
@@ -114,15 +114,15 @@ impl<I: Input> Verdicts<I> {
     /// Reads the next line, and finds its verdict; `None` if no line is left and the manifest ended whole. `line` is
     /// grown for the line, and then contains the name of its entry, at the range in the result. Its content before
     /// doesn't matter. `inputs` is where files are opened. In a manifest that didn't come from standard input, the name
-    /// `-` means the standard input in `inputs`.
+    /// `-` is opened there as any other.
     ///
     /// `LineStop::Fault` if that fault broke the manifest. `LineStop::Memory` only if the source was refused memory, or
     /// bytes of the manifest were still to come. After either, and after `None`, each call returns the same and changes
     /// nothing but perhaps `line`.
-    pub fn next<A: Allocator, J: Input + Drop, S: Source>(
+    pub fn next<A: Allocator, S: Source>(
         &mut self,
         line: &mut Vec<u8, A>,
-        inputs: &mut Inputs<J, S>,
+        inputs: &mut Reader<S>,
     ) -> Result<Option<LineVerdict>, LineStop>
         // An outcome is returned again; all but `line` stays as it is.
         ensures outcome { KeepsOutcome outcome_in_next self.old.outcome self.new.outcome
@@ -165,10 +165,10 @@ impl<I: Input> Verdicts<I> {
     }
 
     // The verdict of the line that was read last, which is counted. `NoRoom` if the source is out of memory.
-    fn judge_line<A: Allocator, J: Input + Drop, S: Source>(
+    fn judge_line<A: Allocator, S: Source>(
         &mut self,
         line: &mut Vec<u8, A>,
-        inputs: &mut Inputs<J, S>,
+        inputs: &mut Reader<S>,
     ) -> Result<LineVerdict, NoRoom>
         requires few { total self.old.counts < self.old.reader.lines }
         ensures verdict { (w : World) → Agrees w inputs.new
@@ -179,7 +179,6 @@ impl<I: Input> Verdicts<I> {
             (λ v. AsksNames inputs.old inputs.new (asks_of (line_verdict_value line.new.items v)))
             (λ _. MemoryWasRefused inputs.old inputs.new) }
         ensures takes { TakesLine self.old self.new line.old.items line.new.items result }
-        ensures stdin { self.old.rules.from_stdin ≡ true → inputs.new.stdin ≡ inputs.old.stdin }
         ensures reads { ReadsToEndIf (IsNotUnread (found_verdict result)) inputs.old inputs.new }
     {
         let (reading, form) = read_line(self.rules.algo, self.form, line);

@@ -24,4 +24,4 @@ remaining_capacity s = s.limit - s.len
 
 -- its state as a sink
 abbrev pub told_sink_state : {N : ℕ} → ToldSink N → SinkState
-told_sink_state s = record s.log.state { written = bytes_of s }
+told_sink_state s = record s.log { written = bytes_of s }

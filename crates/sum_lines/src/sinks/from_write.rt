@@ -3,8 +3,9 @@ ghost use Rattle.std.specs.Option.{ForSome};
 ghost use Rattle.std.specs.Prelude.{◌≡◌, ◌+◌, ◌++◌, Some, unwrap_or, []};
 
 use crate::sinks::sink::{Sink, SinkFault};
-use crate::sinks::writes::Writes;
+use crate::sinks::writes::{Offer, Writes};
 use digest_kinds::INTERRUPTIONS;
+use ghost_log::Log;
 use std::io::{ErrorKind, Write};
 use std::snapshot::Snapshot;
 
@@ -14,9 +15,9 @@ pub struct FromWrite<W: Write> {
     writer: W,
     // the writer as it was at first, and what it took since: only proofs see them
     first: Snapshot<W>,
-    log: Writes,
+    log: Log<Writes>,
     ghost known: { ForSome (W.contents first.value) (λ bytes. W.contents writer
-        ≡ Some (bytes ++ log.state.written)) },
+        ≡ Some (bytes ++ log.written)) },
 }
 
 impl<W: Write> FromWrite<W> {
@@ -30,7 +31,7 @@ impl<W: Write> FromWrite<W> {
         FromWrite {
             first: Snapshot::of(&writer),
             writer,
-            log: Writes::new(),
+            log: Log::of(&Writes),
         }
     }
 
@@ -39,7 +40,7 @@ impl<W: Write> FromWrite<W> {
         ensures writer { result ≡ self.writer }
         ensures known { ForSome (W.contents self.first.value) (λ bytes.
             W.contents result
-            ≡ Some (over_writer (W.contents self.first.value) self.log.state).written) }
+            ≡ Some (over_writer (W.contents self.first.value) self.log).written) }
     {
         self.writer
     }
@@ -48,10 +49,10 @@ impl<W: Write> FromWrite<W> {
     fn fault(&mut self) -> SinkFault
         ensures writer { self.new.writer ≡ self.old.writer }
         ensures first { self.new.first ≡ self.old.first }
-        ensures log { self.new.log.state
-            ≡ record self.old.log.state { failures = self.old.log.state.failures + 1 } }
+        ensures log { self.new.log
+            ≡ record self.old.log { failures = self.old.log.failures + 1 } }
     {
-        self.log = self.log.and_failure();
+        self.log = self.log.and(&SinkFault);
         SinkFault
     }
 }
@@ -59,20 +60,20 @@ impl<W: Write> FromWrite<W> {
 impl<W: Write> Sink for FromWrite<W> {
     ghost use Rattle.sum_lines.specs.refinement.SinkStates.{over_writer};
 
-    ghost state = { λ s. over_writer (W.contents s.first.value) s.log.state };
+    ghost state = { λ s. over_writer (W.contents s.first.value) s.log };
 
     /// Writes a piece that isn't empty to the writer, again after each interruption. `SinkFault` if the writer fails,
     /// accepts nothing of it, or is interrupted for the 1,000th time in a row ([`INTERRUPTIONS`]).
     fn write(&mut self, piece: &[u8]) -> Result<usize, SinkFault> {
         if piece.is_empty() {
-            self.log = self.log.and(piece, &[]);
+            self.log = self.log.and(&Offer(piece, &[]));
             return Ok(0);
         }
         for _ in 0..INTERRUPTIONS {
             match self.writer.write(piece) {
                 Ok(0) => break,
                 Ok(count) => {
-                    self.log = self.log.and(piece, &piece[..count]);
+                    self.log = self.log.and(&Offer(piece, &piece[..count]));
                     return Ok(count);
                 }
                 Err(error) => {
@@ -82,7 +83,7 @@ impl<W: Write> Sink for FromWrite<W> {
                 }
             }
         }
-        self.log = self.log.and(piece, &[]);
+        self.log = self.log.and(&Offer(piece, &[]));
         Err(self.fault())
     }
 

@@ -2,7 +2,8 @@
 ghost use Rattle.std.specs.Prelude.{◌≡◌, ◌≤◌, ◌+◌, ◌<◌, [], length, min, IfOk, IsErr, OnErr, ◌↔◌};
 
 use crate::sinks::sink::{Sink, SinkFault};
-use crate::sinks::writes::Writes;
+use crate::sinks::writes::{Offer, Writes};
+use ghost_log::Log;
 
 /// A sink that keeps up to N bytes, and fails when it is full.
 #[derive(Debug, Drop)]
@@ -10,7 +11,7 @@ pub struct ToldSink<const N: usize> {
     bytes: [u8; N],
     len: usize,
     limit: usize,
-    log: Writes,
+    log: Log<Writes>,
     ghost in_range: { (len ≤ limit) × (limit ≤ N) },
 }
 
@@ -27,7 +28,7 @@ impl<const N: usize> ToldSink<N> {
             bytes: [0; N],
             len: 0,
             limit: stop.min(N),
-            log: Writes::new(),
+            log: Log::of(&Writes),
         }
     }
 
@@ -62,18 +63,18 @@ impl<const N: usize> Sink for ToldSink<N> {
             ≡ remaining_capacity self.old) }
     {
         if piece.is_empty() {
-            self.log = self.log.and(piece, &[]);
+            self.log = self.log.and(&Offer(piece, &[]));
             return Ok(0);
         }
         let count = piece.len().min(self.limit - self.len);
         if count == 0 {
-            self.log = self.log.and(piece, &[]).and_failure();
+            self.log = self.log.and(&Offer(piece, &[])).and(&SinkFault);
             return Err(SinkFault);
         }
         let bytes = &mut self.bytes[..];
         bytes[self.len..self.len + count].copy_from_slice(&piece[..count]);
         self.len += count;
-        self.log = self.log.and(piece, &piece[..count]);
+        self.log = self.log.and(&Offer(piece, &piece[..count]));
         Ok(count)
     }
 

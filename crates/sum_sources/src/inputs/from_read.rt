@@ -6,7 +6,7 @@ ghost use Rattle.sum_sources.specs.Logs.{no_reads};
 
 use crate::Fault;
 use crate::fault::fault_of;
-use crate::inputs::read_log::ReadLog;
+use crate::inputs::read_log::{ReadLog, ReadNote, Reads};
 use std::io::{ErrorKind, Read};
 use std::marker::Model;
 
@@ -31,7 +31,7 @@ impl<R: Read> FromRead<R> {
     pub fn new(reader: R) -> Self
         ensures { result ≡ record { reader = reader; log = no_reads } }
     {
-        FromRead::with_log(reader, ReadLog::new())
+        FromRead::with_log(reader, ReadLog::of(&Reads))
     }
 
     // The file that a source opened.
@@ -70,7 +70,7 @@ impl<R: Read> FromRead<R> {
             Err(error) if error.kind() == ErrorKind::Interrupted => return None,
             Err(error) => Err(fault_of(&error)),
         };
-        self.log = self.log.and(buf, &read);
+        self.log = self.log.and(&ReadNote(buf, &read));
         Some(read)
     }
 
@@ -80,7 +80,7 @@ impl<R: Read> FromRead<R> {
         ensures log { self.new ≡ record self.old { log = and_read self.old.log buf.now result } }
     {
         let result = Err(fault);
-        self.log = self.log.and(buf, &result);
+        self.log = self.log.and(&ReadNote(buf, &result));
         result
     }
 }

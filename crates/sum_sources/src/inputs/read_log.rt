@@ -1,58 +1,35 @@
 //! What the reads of an input gave, for proofs alone.
-ghost use Rattle.std.specs.Prelude.{◌≡◌};
-ghost use Rattle.sum_sources.specs.Contents.{and_read};
-ghost use Rattle.sum_sources.specs.Logs.{no_reads, input_log};
-
-use crate::Fault;
-use crate::log::{Log, Says};
+use crate::{Fault, Input};
+use ghost_log::{Log, Notes};
 use std::marker::Model;
 
-/// Which file an input is, and what its reads gave so far. Only proofs see it: it takes no room, and its methods do
-/// nothing.
-#[derive(Debug, Drop)]
-pub struct ReadLog {
-    log: Log,
-}
+/// An input before its first read, which no source opened.
+#[derive(Drop)]
+pub struct Reads;
 
-impl Model for ReadLog {
+impl Model for Reads {
     ghost use Rattle.sum_sources.specs.Contents.{InputState};
+    ghost use Rattle.sum_sources.specs.Logs.{no_reads};
 
     ghost Value = { InputState };
 
-    ghost view = { λ s. s.log.state.input };
+    ghost view = { λ _. no_reads };
 }
 
-struct NoReads;
+/// Which file an input is, and what its reads gave so far.
+pub type ReadLog = Log<Reads>;
 
-impl Says<()> for NoReads {
-    ghost says = { λ _. input_log no_reads };
+/// A read that returned `result`, and left this in its buffer.
+#[derive(Clone, Copy)]
+pub struct ReadNote<'a>(pub &'a [u8], pub &'a Result<usize, Fault>);
+
+impl<'a> Notes<ReadNote<'a>> for Reads {
+    ghost use Rattle.sum_sources.specs.Contents.{and_read};
+
+    ghost noted = { λ s x. and_read s x.0.now x.1.now };
 }
 
-struct AndRead;
-
-impl<'a> Says<(&'a ReadLog, &'a [u8], &'a Result<usize, Fault>)> for AndRead {
-    ghost says = { λ x. input_log (and_read x.0.now x.1.now x.2.now) };
-}
-
-impl ReadLog {
-    // The reads that this log has.
-    pub(crate) fn of_log(log: Log) -> ReadLog
-        ensures { result ≡ log.state.input }
-    {
-        ReadLog { log }
-    }
-
-    /// No reads, of what no source opened.
-    pub fn new() -> ReadLog
-        ensures { result ≡ no_reads }
-    {
-        ReadLog::of_log(Log::of::<(), NoReads>(&()))
-    }
-
-    /// These reads, and then one that returned `read`, and left `buf` in its buffer.
-    pub fn and(&self, buf: &[u8], read: &Result<usize, Fault>) -> ReadLog
-        ensures { result ≡ and_read self.now buf.now read.now }
-    {
-        ReadLog::of_log(Log::of::<_, AndRead>(&(self, buf, read)))
-    }
+// It is this input.
+impl<'a, I: Input> Notes<&'a I> for Reads {
+    ghost noted = { λ _ x. I.state x.now };
 }

@@ -3,7 +3,7 @@ ghost use Rattle.std.specs.Prelude.{◌≡◌, ◌≤◌, [], length, max, IfOk}
 ghost use Rattle.sum_sources.specs.StandardInput.{told_file};
 ghost use Rattle.sum_sources.specs.refinement.ToldSteps.{GivesFrom, ToldInvariant};
 
-use crate::inputs::read_log::ReadLog;
+use crate::inputs::read_log::{ReadLog, ReadNote, Reads};
 use crate::{Ending, Fault, Input, Phase};
 
 /// An input of bytes in memory. At its end, or its fault, each read gives that again.
@@ -36,7 +36,7 @@ impl<'a> Told<'a> {
           name = [];
         } }
     {
-        Told::opened(content, ending, piece, ReadLog::new())
+        Told::opened(content, ending, piece, ReadLog::of(&Reads))
     }
 
     // The same, for a source that opened it.
@@ -104,7 +104,7 @@ impl<'a> Input for Told<'a> {
     fn read(&mut self, buf: &mut [u8]) -> Result<usize, Fault> {
         let result = give(self.bytes, self.ending, self.piece, &mut self.given, buf);
         self.phase = self.phase.after(buf.len(), &result);
-        self.log = self.log.and(buf, &result);
+        self.log = self.log.and(&ReadNote(buf, &result));
         result
     }
 

@@ -4,7 +4,7 @@ ghost use Rattle.std.specs.Str.{IsUtf8};
 ghost use Rattle.sum_sources.specs.Logs.{no_openings};
 
 use crate::fault::fault_of;
-use crate::sources::source_log::{Note, SourceLog};
+use crate::sources::source_log::{Note, Openings, SourceLog, next_file};
 use crate::{Fault, FromRead, OpenFault, Source};
 use std::io::{self, ErrorKind, Read};
 use std::marker::Model;
@@ -32,7 +32,7 @@ impl<R: rt::Files + Drop> Files<R> {
     {
         Files {
             rt,
-            log: SourceLog::new(),
+            log: SourceLog::of(&Openings),
         }
     }
 }
@@ -50,7 +50,7 @@ where
     type File = FromRead<R::File>;
 
     ghost use Rattle.sum_sources.specs.Logs.{untold};
-    ghost use Rattle.sum_sources.specs.SourceLaws.{untold_has_answers};
+    ghost use Rattle.sum_sources.specs.SourceLaws.{untold_gives};
 
     ghost state = { λ s. untold s };
 
@@ -63,7 +63,7 @@ where
         };
         match fs::open(&self.rt, path) {
             Ok(file) => {
-                let log = self.log.file(name);
+                let log = next_file(&self.log, name);
                 self.log = self.log.and(&Note::Opened(name));
                 Ok(FromRead::with_log(file, log))
             }
@@ -83,5 +83,5 @@ where
         self.log = self.log.and(&Note::Closed(file.log()));
     }
 
-    ghost has_answers = { untold_has_answers };
+    ghost gives_told = { untold_gives };
 }

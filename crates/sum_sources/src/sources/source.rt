@@ -1,6 +1,6 @@
 //! The trait of a source of files, and why a file could not be opened.
 ghost use Rattle.std.specs.Prelude.{◌≡◌, IfOk};
-ghost use Rattle.sum_sources.specs.Sources.{SourceState, HasAnswers, IsOpen, opened_file, after_opening, after_closing};
+ghost use Rattle.sum_sources.specs.Sources.{SourceState, GivesTold, IsOpen, opened_file, after_opening, after_closing};
 
 use crate::{Fault, Input};
 use thiserror::Error;
@@ -34,6 +34,6 @@ pub trait Source {
         requires { IsOpen (state self.old) (Self.File.state file) }
         ensures { state self.new ≡ after_closing (state self.old) (Self.File.state file) };
 
-    /// Law: what it answered is of some answers, of those in memory if they are there.
-    ghost has_answers: { (s : Self) → HasAnswers (state s) };
+    /// Law: what an opening gave is of the answer in memory, if that is there.
+    ghost gives_told: { (s : Self) → GivesTold (state s) };
 }

@@ -1,24 +1,27 @@
 //! What a source of files was asked, and what it answered, for proofs alone.
 ghost use Rattle.std.specs.Prelude.{◌≡◌};
-ghost use Rattle.sum_sources.specs.Logs.{no_openings, input_log, source_log};
-ghost use Rattle.sum_sources.specs.Sources.{SourceState, opened_file};
+ghost use Rattle.sum_sources.specs.Sources.{opened_file};
 
-use crate::Fault;
-use crate::inputs::read_log::ReadLog;
-use crate::log::{Log, Says};
+use crate::inputs::read_log::{ReadLog, Reads};
+use crate::{Fault, Input, Source};
+use ghost_log::{Log, Notes};
 use std::marker::Model;
 
-/// The openings of a source. Only proofs see it: it takes no room, and its methods do nothing.
-#[derive(Debug, Drop)]
-pub struct SourceLog {
-    log: Log,
-}
+/// A source before its first opening.
+#[derive(Drop)]
+pub struct Openings;
 
-impl Model for SourceLog {
+impl Model for Openings {
+    ghost use Rattle.sum_sources.specs.Logs.{no_openings};
+    ghost use Rattle.sum_sources.specs.Sources.{SourceState};
+
     ghost Value = { SourceState };
 
-    ghost view = { λ s. s.log.state.source };
+    ghost view = { λ _. no_openings };
 }
+
+/// The openings of a source.
+pub type SourceLog = Log<Openings>;
 
 /// What happens to a source.
 #[derive(Clone, Copy)]
@@ -33,51 +36,40 @@ pub enum Note<'a> {
     Refused,
 }
 
-struct NoOpenings;
+impl<'a> Notes<Note<'a>> for Openings {
+    ghost use Rattle.sum_sources.specs.LogNotes.{noted as and_note};
 
-impl Says<()> for NoOpenings {
-    ghost says = { λ _. source_log no_openings };
+    ghost noted = { λ s x. and_note s x };
 }
 
-struct AndNote;
+/// This file was closed.
+#[derive(Clone, Copy)]
+pub struct ClosedFile<'a, F>(pub &'a F);
 
-impl<'a> Says<(&'a SourceLog, &'a Note<'a>)> for AndNote {
-    ghost use Rattle.sum_sources.specs.LogNotes.{noted};
+impl<'a, F: Input> Notes<ClosedFile<'a, F>> for Openings {
+    ghost use Rattle.sum_sources.specs.Sources.{after_closing};
 
-    ghost says = { λ x. source_log (noted x.0.now x.1.now) };
+    ghost noted = { λ s x. after_closing s (F.state x.0.now) };
 }
 
-struct NextFile;
+// The openings of a source, but for those of `-`.
+#[derive(Clone, Copy)]
+pub(crate) struct OthersOf<'a, S>(pub(crate) &'a S);
 
-impl<'a> Says<(&'a SourceLog, &'a [u8])> for NextFile {
-    ghost says = { λ x. input_log (opened_file x.0.now x.1.now) };
+impl<'a, S: Source> Notes<OthersOf<'a, S>> for Openings {
+    ghost use Rattle.sum_sources.specs.Inputs.{without_dash};
+
+    ghost noted = { λ _ x. without_dash (S.state x.0.now) };
 }
 
-impl SourceLog {
-    ghost use Rattle.sum_sources.specs.LogNotes.{noted};
+// It is the file that the source opens next, by this name.
+impl<'a> Notes<(&'a SourceLog, &'a [u8])> for Reads {
+    ghost noted = { λ _ x. opened_file x.0.now x.1.now };
+}
 
-    /// No openings.
-    pub fn new() -> SourceLog
-        ensures { result ≡ no_openings }
-    {
-        SourceLog {
-            log: Log::of::<(), NoOpenings>(&()),
-        }
-    }
-
-    /// These openings, and then what is noted.
-    pub fn and(&self, note: &Note<'_>) -> SourceLog
-        ensures { result ≡ noted self.now note.now }
-    {
-        SourceLog {
-            log: Log::of::<_, AndNote>(&(self, note)),
-        }
-    }
-
-    /// No reads yet of the file that is opened next, by this name.
-    pub fn file(&self, name: &[u8]) -> ReadLog
-        ensures { result ≡ opened_file self.now name.now }
-    {
-        ReadLog::of_log(Log::of::<_, NextFile>(&(self, name)))
-    }
+/// No reads yet of the file that a source with this log opens next, by this name.
+pub fn next_file(log: &SourceLog, name: &[u8]) -> ReadLog
+    ensures { result ≡ opened_file log.now name.now }
+{
+    Log::of(&Reads).and(&(log, name))
 }

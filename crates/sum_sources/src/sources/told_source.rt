@@ -1,11 +1,11 @@
 //! A source of files in memory.
 ghost use Rattle.std.specs.Option.{option_map};
-ghost use Rattle.std.specs.Prelude.{◌≡◌, ◌++◌, ◌∷◌, [], OnOk, OnErr, MatchBool, length, map, max, slice_get};
+ghost use Rattle.std.specs.Prelude.{◌≡◌, ◌≤◌, ◌++◌, ◌∷◌, [], OnOk, OnErr, MatchBool, length, map, max, slice_get};
 ghost use Rattle.sum_sources.specs.InMemory.{told_source};
-ghost use Rattle.sum_sources.specs.Sources.{first_answer};
+ghost use Rattle.sum_sources.specs.Sources.{first_answer, names_of, times};
 ghost use Rattle.sum_sources.specs.refinement.ToldPairs.{pair_of, answer_value};
 
-use crate::sources::source_log::{Note, SourceLog};
+use crate::sources::source_log::{Note, Openings, SourceLog, next_file};
 use crate::{Ending, Fault, Input, NoRoom, OpenFault, Source, Told};
 use std::alloc::Allocator;
 use std::marker::Model;
@@ -23,7 +23,7 @@ pub enum Answer<'a> {
 struct StoredPair<'a, A: Allocator> {
     name: Vec<u8, A>,
     answer: Answer<'a>,
-    // how many names were asked before it was added
+    // how often its name was asked before it was added
     from: usize,
 }
 
@@ -54,12 +54,27 @@ impl<'a, A: Allocator + Copy> Model for ToldSource<'a, A> {
     ghost invariant = { λ s. map (λ v. v.items) s.asked.items ≡ map (λ o. o.name) s.log.openings };
 }
 
-// The answer of the first pair with the name that was added when so many names had been asked.
-fn answer_to<'a, A: Allocator>(pairs: &[StoredPair<'a, A>], asked: usize, name: &[u8]) -> Answer<'a>
-    ensures { answer_value result ≡ first_answer (map pair_of pairs.now) asked name.now }
+// How often a name is among these.
+fn times<A: Allocator>(names: &[Vec<u8, A>], name: &[u8]) -> usize
+    ensures value { result ≡ times name.now (map (λ v. v.items) names.now) }
+    ensures at_most { result ≤ length names.now }
+{
+    let mut count = 0;
+    for other in names {
+        if other.as_slice() == name {
+            count += 1;
+        }
+    }
+    count
+}
+
+// The answer of the first pair with the name that was added when it had been asked so often.
+fn answer_to<'a, A: Allocator>(pairs: &[StoredPair<'a, A>], name: &[u8], times: usize) -> Answer<'a>
+    ensures { Some (answer_value result)
+        ≡ first_answer (map pair_of pairs.now) (Some (Err Fault.NotFound)) name.now times }
 {
     for pair in pairs {
-        if pair.from <= asked && pair.name.as_slice() == name {
+        if pair.name.as_slice() == name && pair.from <= times {
             return pair.answer;
         }
     }
@@ -76,7 +91,7 @@ impl<'a, A: Allocator + Copy> ToldSource<'a, A> {
             asked: Vec::new(alloc),
             alloc,
             piece: piece.max(1),
-            log: SourceLog::new(),
+            log: SourceLog::of(&Openings),
         }
     }
 
@@ -86,13 +101,13 @@ impl<'a, A: Allocator + Copy> ToldSource<'a, A> {
         ensures ok { OnOk result (self.new ≡ record self.old {
           pairs = self.old.pairs ++ record {
             name = name.now;
-            answer = answer_value answer.entry;
-            from = length self.old.openings;
+            from = times name.now (names_of self.old.openings);
+            answer = Some (answer_value answer.entry);
           } ∷ [];
         }) }
         ensures err { OnErr result (self.new ≡ self.old) }
     {
-        let from = self.asked.len();
+        let from = times(&self.asked, name);
         let Ok(name) = Vec::from_slice(self.alloc, name) else {
             return Err(NoRoom);
         };
@@ -127,25 +142,25 @@ fn add_name<A: Allocator + Copy>(alloc: A, asked: &mut Vec<Vec<u8, A>, A>, name:
 }
 
 impl<'a, A: Allocator + Copy> Source for ToldSource<'a, A> {
-    ghost use Rattle.sum_sources.specs.SourceLaws.{told_has_answers};
+    ghost use Rattle.sum_sources.specs.SourceLaws.{told_gives};
 
     type File = Told<'a>;
 
     ghost state = { λ s. told_source s };
 
     fn open_file(&mut self, name: &[u8]) -> Result<Told<'a>, OpenFault> {
-        let before = self.asked.len();
+        let before = times(&self.asked, name);
         if !add_name(self.alloc, &mut self.asked, name) {
             self.log = self.log.and(&Note::Refused);
             return Err(OpenFault::Memory);
         }
-        match answer_to(&self.pairs, before, name) {
+        match answer_to(&self.pairs, name, before) {
             Answer::Fault(fault) => {
                 self.log = self.log.and(&Note::Failed(name, fault));
                 Err(OpenFault::Fault(fault))
             }
             Answer::Content(content, ending) => {
-                let file = Told::opened(content, ending, self.piece, self.log.file(name));
+                let file = Told::opened(content, ending, self.piece, next_file(&self.log, name));
                 self.log = self.log.and(&Note::Opened(name));
                 Ok(file)
             }
@@ -156,5 +171,5 @@ impl<'a, A: Allocator + Copy> Source for ToldSource<'a, A> {
         self.log = self.log.and(&Note::Closed(file.log()));
     }
 
-    ghost has_answers = { told_has_answers };
+    ghost gives_told = { told_gives };
 }

@@ -1,16 +1,32 @@
--- Relates what was read of the command line to the list of arguments, if that is known.
-use Rattle.std.specs.Prelude.{ℕ, ◌≡◌, ◌<◌, List, length, slice_get, Option, None, Some, IfSome, IsSomeAnd}
+-- Relates what was read of the command line to what the calls for arguments gave.
+use Rattle.std.specs.Prelude.{ℕ, ◌≡◌, ◌<◌, ◌≤◌, List, [], ◌∷◌, ◌++◌, length, take, slice_get, Option, None, Some, IsSomeAnd, Result, Ok, Err}
+use Rattle.std.specs.declared.{env.FillError.FillError, env.FillError.TheVariants.NotPresent, env.FillError.TheVariants.TooLong}
 use Rattle.sum_words.specs.declared.command_line.CommandLine.{CommandLine}
-use Rattle.sum_words.specs.{Items.ByteString, Tools.Tool}
+use Rattle.sum_words.specs.{Arguments.ArgumentsState, Arguments.AreOf, CommandLines.command_line, Items.ByteString, Tools.Tool}
 use Rattle.sum_words.specs.declared.command_line.CommandLine.TheVariants.{UnknownTool, Invoke}
 
--- the argument at a place is this one, or there is none
-abbrev pub ArgumentIs : Option (List ByteString) → ℕ → Option ByteString → Type 0
-ArgumentIs known place o = IfSome known (λ all. slice_get all place ≡ o)
+-- what a `fill` returns: the buffer starts with the argument at the place, or that is longer, or there is none
+abbrev pub Fills : List ByteString → ℕ → ByteString → Result ℕ FillError → Type 0
+Fills all place buffer (Ok n) = slice_get all place ≡ Some (take n buffer)
+Fills all place buffer (Err TooLong) = IsSomeAnd (slice_get all place) (λ argument. length buffer < length argument)
+Fills all place buffer (Err NotPresent) = slice_get all place ≡ None
 
--- there is an argument at a place, and it is longer than so many bytes
-abbrev pub IsLonger : Option (List ByteString) → ℕ → ℕ → Type 0
-IsLonger known place n = IfSome known (λ all. IsSomeAnd (slice_get all place) (λ a. n < length a))
+-- no argument was given: the last call had this fault, with a buffer of at least so many bytes
+pub record Fails (fault : FillError) (least : ℕ) (a b : ArgumentsState) : Type 0 where
+  pub size : ℕ
+  pub state : b ≡ record a { fault = Some (fault, size) }
+  pub at_least : least ≤ size
+
+-- this argument was given, or there is none
+abbrev pub Gives : ArgumentsState → ArgumentsState → Option ByteString → Type 0
+Gives a b (Some argument) = b ≡ record a { given = a.given ++ argument ∷ []; fault = None }
+Gives a b None = Fails NotPresent 0 a b
+
+-- the tool and the place of its words, by the arguments that were given; or no list that agrees names a tool
+abbrev pub FindsTool : ArgumentsState → Option (Tool × ℕ) → Type 0
+FindsTool s (Some (tool, first)) =
+    (first ≡ length s.given) × ((rest : List ByteString) → command_line (s.given ++ rest) ≡ Some (tool, rest))
+FindsTool s None = (all : List ByteString) → AreOf s all → command_line all ≡ None
 
 -- the value of a `CommandLine`
 abbrev pub command_line_value : {A : Type 0} → CommandLine A → Option (Tool × List ByteString)

@@ -1,9 +1,14 @@
 use Rattle.std.proofs.Common.{◌-◌, ◌^◌, ◌≤◌, vec_len}
+use Rattle.std.specs.declared.env.FillError.TheVariants.{TooLong}
+use Rattle.sum_words.specs.refinement.CommandLine.{Fails}
 use Rattle.sum_words.proofs.command_line.fill_growing.Given as goal
 
--- the buffer only grows
+-- the buffer is longer than a page, and a call failed with one that is
 abbrev pub invariant-longer : goal.invariant-longer
-invariant-longer g l = vec_len l.initial.more ≤ vec_len l.more
+invariant-longer g l = record {
+  page : 4096 ≤ vec_len l.more;
+  fails : Fails TooLong 4096 (g.G.Arguments.state l.fn.arguments) (g.G.Arguments.state l.arguments);
+}
 
 -- the room that the buffer may still get
 abbrev pub decreases-longer : goal.decreases-longer

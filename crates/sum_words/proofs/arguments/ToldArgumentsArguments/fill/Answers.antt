@@ -1,7 +1,9 @@
-use Rattle.std.proofs.Common.{arith, take_at}
-use Rattle.std.proofs.lemmas.Option.{slice_get_read, slice_get-map}
+use Rattle.sum_words.proofs.CommandLineLemmas.{agrees_after}
 use Rattle.sum_words.proofs.arguments.ToldArgumentsArguments.fill.Goals as goal
 
--- the buffer starts with the argument
-pub returns-clause-bytes : goal.returns-clause-bytes
-returns-clause-bytes c = rw (← c.self.view_is, slice_get-map) (grind (arith, slice_get_read, take_at))
+-- the list agrees with this call, too
+pub invariant_of-self : goal.invariant_of-self
+invariant_of-self c = record {
+  agrees = rw c.and-self.ensures (agrees_after c.args.self.now.log _ _ _ c.args.self.now.agrees
+      (rw c.requires at c.fill_from-filled.ensures.fills));
+}

@@ -1,19 +1,19 @@
-use Rattle.std.proofs.Common.{rules, refl, ap, ◌∙◌, ◌≡◌, Ok, Err, map, length}
-use Rattle.sum_sources.specs.{Sources.first_answer, StandardInput.told_file, refinement.ToldPairs.pair_of}
-use Rattle.sum_sources.proofs.ToldSourceLemmas.{value, opened_state, count_asked, count_told}
+use Rattle.std.proofs.Common.{rules, refl, ap, ◌∙◌, ◌≡◌, Some, Ok, Err, map}
+use Rattle.sum_sources.specs.{Faults.NotFound, Sources.first_answer, Sources.times, Sources.names_of, StandardInput.told_file, refinement.ToldPairs.pair_of}
+use Rattle.sum_sources.proofs.ToldSourceLemmas.{value, opened_state, told_names}
 use Rattle.sum_sources.proofs.sources.told_source.ToldSourceSource.open_file.Goals.{In-Fault, In-Content}
 use Rattle.sum_sources.proofs.sources.told_source.ToldSourceSource.open_file.Given as given
 use Rattle.sum_sources.proofs.sources.told_source.ToldSourceSource.open_file.Goals as goal
 
--- the answer to the opening that has so many before it: a fault, or a content
-fault : (g : given.Over) (c : In-Fault g) → first_answer (map pair_of c.self.inside.pairs.items)
-    (length c.self.inside.log.openings) c.args.name.now ≡ Err c.in-Fault.fault
-fault g c = rw (← count_asked _ _ _ c.self.invariant) (search rules)
+-- the answer to the opening that has so many of its name before it: a fault, or a content
+fault : (g : given.Over) (c : In-Fault g) → first_answer (map pair_of c.self.inside.pairs.items) (Some (Err NotFound))
+    c.args.name.now (times c.args.name.now (names_of c.self.inside.log.openings)) ≡ Some (Err c.in-Fault.fault)
+fault g c = rw (← c.self.invariant) (search rules)
 
 content : (g : given.Over) (c : In-Content g) → first_answer (map pair_of c.self.inside.pairs.items)
-    (length c.self.inside.log.openings) c.args.name.now
-    ≡ Ok (record { bytes = c.in-Content.content.now; ending = c.in-Content.ending })
-content g c = rw (← count_asked _ _ _ c.self.invariant) (search rules)
+    (Some (Err NotFound)) c.args.name.now (times c.args.name.now (names_of c.self.inside.log.openings))
+    ≡ Some (Ok (record { bytes = c.in-Content.content.now; ending = c.in-Content.ending }))
+content g c = rw (← c.self.invariant) (search rules)
 
 -- and so the state shows it
 pub returns-in-Fault-clause-state : goal.returns-in-Fault-clause-state
@@ -33,4 +33,4 @@ pub returns-in-Content-clause-file : goal.returns-in-Content-clause-file
 returns-in-Content-clause-file g c =
     let is = content g (goal.at.returns-in-Content-clause-file g c).In-Content in
     ap told_file c.opened-file.ensures
-    ∙ rw (c.file.ensures, ← c.self.view_is, count_told, is) refl
+    ∙ rw (c.next_file.ensures, ← c.self.view_is, told_names, is) refl

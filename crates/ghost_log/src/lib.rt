@@ -1,0 +1,87 @@
+//! Logs that only proofs see: they take no room, and their calls do nothing.
+//!
+//! A log's state is a value of its type parameter, as clauses see it. No code can hold it: only a contract says what a
+//! log's state is, so a contract that speaks of it tells a caller nothing, unless a trait's clause reads it.
+//!
+//! ```rust
+//! let log: Log<Writes> = Log::of(&Writes);
+//! let log = log.and(&SinkFault);
+//! ```
+#![tactic(auto)]
+
+ghost use Rattle.std.specs.Borrow.{ftrue};
+ghost use Rattle.std.specs.Prelude.{◌≡◌};
+
+use std::fmt;
+use std::fmt::{Debug, Formatter, Write};
+use std::marker::{Model, PhantomData};
+
+/// What a log's state becomes when something is noted.
+pub trait Notes<X> {
+    ghost noted: { Self → X → Self };
+}
+
+/// A log. Clauses see its state.
+#[derive(Drop)]
+pub struct Log<T> {
+    of: PhantomData<T>,
+    ghost state: { T },
+}
+
+impl<T> Model for Log<T> {
+    ghost Value = { T };
+
+    ghost view = { λ l. l.state };
+
+    ghost also_owns = { λ _. ftrue };
+}
+
+unsafe impl<T> Sync for Log<T> {}
+
+impl<T> Debug for Log<T> {
+    fn fmt<W: Write>(&self, f: &mut Formatter<W>) -> fmt::Result {
+        f.write_str("Log")
+    }
+}
+
+// The state of a log, made of a value.
+trait Says<X, T> {
+    ghost says: { X → T };
+}
+
+struct It;
+
+impl<T> Says<T, T> for It {
+    ghost says = { λ x. x };
+}
+
+struct AndNote;
+
+impl<'a, X, T: Notes<X>> Says<(&'a Log<T>, &'a X), T> for AndNote {
+    ghost says = { λ x. T.noted x.0.now x.1.now };
+}
+
+impl<T> Log<T> {
+    // A log with the state that `M` makes of `x`.
+    fn made<X, M: Says<X, T>>(x: &X) -> Log<T>
+        ensures { result ≡ M.says x.now }
+    {
+        Log { of: PhantomData }
+    }
+
+    /// A log whose state is this value.
+    pub fn of(first: &T) -> Log<T>
+        ensures { result ≡ first.now }
+    {
+        Log::made::<_, It>(first)
+    }
+
+    /// This log, and then a note.
+    pub fn and<X>(&self, note: &X) -> Log<T>
+    where
+        T: Notes<X>,
+        ensures { result ≡ T.noted self.now note.now }
+    {
+        Log::made::<_, AndNote>(&(self, note))
+    }
+}

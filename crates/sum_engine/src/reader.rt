@@ -1,0 +1,66 @@
+//! Where a call opens and reads.
+ghost use Rattle.std.specs.Prelude.{◌≡◌, length, IfOk};
+ghost use Rattle.sum_sources.specs.Contents.{HashesInput};
+ghost use Rattle.sum_sources.specs.Sources.{IsOpen, after_closing, after_opening, opened_file};
+
+use digest_kinds::{AnyHasher, Digest, Kind};
+use std::marker::{Model, PhantomData};
+use sum_sources::{Fault, Input, OpenFault, PIECE, Source, hash_input_over};
+
+/// A source, and what its files are read into.
+#[derive(Debug, Drop)]
+pub struct Reader<S: Source> {
+    /// Where names are opened.
+    pub source: S,
+    // Files are read into this, one after another.
+    buffer: [u8; PIECE],
+    // A struct whose view speaks of a source has to name the type of its files.
+    files: PhantomData<S::File>,
+}
+
+impl<S: Source> Model for Reader<S> {
+    ghost use Rattle.sum_sources.specs.Sources.{SourceState};
+
+    ghost Value = { SourceState };
+
+    ghost view = { λ reader. S.state reader.source };
+}
+
+impl<S: Source> Reader<S> {
+    /// A reader of this source.
+    pub fn new(source: S) -> Self
+        ensures { result ≡ S.state source }
+    {
+        Reader {
+            source,
+            buffer: [0; PIECE],
+            files: PhantomData,
+        }
+    }
+
+    /// Opens the file of that name in the source.
+    pub(crate) fn open(&mut self, name: &[u8]) -> Result<S::File, OpenFault>
+        ensures state { self.new ≡ after_opening self.old name.now result }
+        ensures file { IfOk result (λ file. S.File.state file ≡ opened_file self.old name.now) }
+    {
+        self.source.open_file(name)
+    }
+
+    /// Has the source close a file.
+    pub(crate) fn close(&mut self, file: S::File)
+        requires { IsOpen self.old (S.File.state file) }
+        ensures { self.new ≡ after_closing self.old (S.File.state file) }
+    {
+        self.source.close_file(file);
+    }
+
+    /// Hashes an open file, piece by piece, to its end. The caller passes in the open file, which isn't opened again
+    /// after a fault.
+    pub(crate) fn hash<F: Input>(&mut self, file: &mut F, kind: Kind) -> Result<Digest, Fault>
+        ensures hashes { HashesInput kind (F.state file.old) (F.state file.new) result }
+        ensures len { IfOk result (λ d. length d ≡ kind.len) }
+        ensures same { self.new ≡ self.old }
+    {
+        hash_input_over(file, AnyHasher::new(kind), &mut self.buffer)
+    }
+}

@@ -1,0 +1,228 @@
+-- `Inputs`: what an opening and a closing keep.
+use Rattle.std.proofs.Common.{arith, ◌≡◌, ◌<◌, ℕ, zero, suc, true, false, List, [], ◌∷◌, ◌++◌, length, slice_set, Option, None, Some, Result, Ok, IfSome, refl, ap, sym, ◌∙◌, append-nil, codes, bytes_eq, length-append, length-set}
+use Rattle.std.specs.Prelude.{slice_get, filter, not, if◌then◌else◌}
+use Rattle.std.specs.List.{cons_option}
+use Rattle.std.specs.{Option.option_and_then, Option.option_map, Result.result_ok}
+use Rattle.std.proofs.Math.Logic.{∥∥₁_elim, ∥∥₁_prop}
+use Rattle.std.proofs.lemmas.Slice.Eq.{bytes_eq-Decides}
+use Rattle.sum_sources.specs.Contents.{Content, InputState, Reads, Fault, HasContent, unread}
+use Rattle.sum_sources.specs.StandardInput.{unless_closed, Gives, put_back}
+use Rattle.sum_sources.specs.Sources.{Answer, Answers, TellsAll, Opening, SourceState, ToldAnswers, names_of, times, gave_of, closed_at, content_at, opened_file, IsOpen}
+use Rattle.sum_sources.specs.Inputs.{is_dash, with_stdin, answers_with, inputs_state, without_dash}
+use Rattle.sum_sources.specs.InputsLaws.{told-dash, told-other}
+use Rattle.sum_sources.specs.refinement.InputsStates.{IsPlaceOf, GivesContent, stdin_content, InputsInvariant}
+use Rattle.sum_sources.specs.declared.inputs.stdin.StdinPlace.{StdinPlace}
+use Rattle.sum_sources.specs.declared.inputs.stdin.StdinPlace.TheVariants.{Untaken, Taken, Returned}
+use Rattle.sum_sources.specs.declared.inputs.closable.Closable.{Closable}
+use Rattle.sum_sources.proofs.GaveLemmas.{either, same_name, gave-times, gave-append, gave-closed, gave-others}
+
+-- a test of two names is one of them the other way round
+turned : (a b : List ℕ) → bytes_eq a b ≡ false → bytes_eq b a ≡ false
+turned a b apart = either (bytes_eq b a)
+    (λ is. let no = sym apart ∙ (bytes_eq-Decides a b).1 (sym (same_name b a is)) in cc) (λ is. is)
+
+-- ---- what holds of each opening of a name
+
+-- of one more, that is open, nothing has to
+gives-more : (P : ℕ → Result Reads Fault → Type 0) (gs : List (Option (Result Reads Fault))) (k : ℕ)
+    → IfSome (option_and_then (λ gave. gave) (slice_get gs k)) (P k)
+    → IfSome (option_and_then (λ gave. gave) (slice_get (gs ++ None ∷ []) k)) (P k)
+gives-more P [] zero h = tt
+gives-more P [] (suc k) h = tt
+gives-more P (g ∷ gs) zero h = h
+gives-more P (g ∷ gs) (suc k) h = gives-more (λ j. P (suc j)) gs k h
+
+-- what is closed has to be so
+gives-closed : (P : ℕ → Result Reads Fault → Type 0) (gs : List (Option (Result Reads Fault))) (i k : ℕ) (r : Reads)
+    → P i (Ok r) → IfSome (option_and_then (λ gave. gave) (slice_get gs k)) (P k)
+    → IfSome (option_and_then (λ gave. gave) (slice_get (slice_set gs i (Some (Ok r))) k)) (P k)
+gives-closed P [] i k r one h = h
+gives-closed P (g ∷ gs) zero zero r one h = one
+gives-closed P (g ∷ gs) zero (suc k) r one h = h
+gives-closed P (g ∷ gs) (suc i) zero r one h = h
+gives-closed P (g ∷ gs) (suc i) (suc k) r one h = gives-closed (λ j. P (suc j)) gs i k r one h
+
+-- ---- what is in memory
+
+-- of standard input
+pub content-dash : (untaken : InputState) (log source : SourceState) (k : ℕ)
+    → content_at (inputs_state untaken log source) (codes "-") k ≡ stdin_content untaken.told k
+content-dash untaken log source k = rw told-dash (by (stdin_content untaken.told k))
+  where
+    by : (c : Option Content) → option_and_then result_ok (option_map {U = Answer} Ok c) ≡ c
+    by None = refl
+    by (Some c) = refl
+
+-- and of another name
+pub content-other : (untaken : InputState) (log source : SourceState) (name : List ℕ) (k : ℕ) → is_dash name ≡ false
+    → content_at (inputs_state untaken log source) name k ≡ content_at source name k
+content-other untaken log source name k is = ap (option_and_then result_ok) (told-other untaken.told source.told name k is)
+
+-- of both, if all is in memory
+pub both_told : (stdin : Content) (t : ToldAnswers) (answer : Answers) → TellsAll t answer
+    → TellsAll (with_stdin (Some stdin) t) (answers_with stdin answer)
+both_told stdin t answer tells name zero = either (is_dash name)
+    (λ is. rw (← same_name (codes "-") name is) refl) (λ is. told-other (Some stdin) t name zero is ∙ rw is (tells name zero))
+both_told stdin t answer tells name (suc k) = either (is_dash name)
+    (λ is. rw (← same_name (codes "-") name is) (told-dash (Some stdin) t (suc k)))
+    (λ is. told-other (Some stdin) t name (suc k) is ∙ rw is (tells name (suc k)))
+
+-- ---- the invariant
+
+-- the openings of a source, but for those of `-`
+others-dash : (os : List Opening) → gave_of (filter (λ o. not (is_dash o.name)) os) (codes "-") ≡ []
+others-dash [] = refl
+others-dash (o ∷ os) = either (is_dash o.name) (λ is. rw is (others-dash os))
+    (λ is. rw (is, turned (codes "-") o.name is) (others-dash os))
+
+others-same : (os : List Opening) (name : List ℕ) → is_dash name ≡ false
+    → gave_of (filter (λ o. not (is_dash o.name)) os) name ≡ gave_of os name
+others-same [] name apart = refl
+others-same (o ∷ os) name apart = either (is_dash o.name)
+    (λ is. let other : bytes_eq o.name name ≡ false = rw (← same_name (codes "-") o.name is) apart in
+    rw (is, other) (others-same os name apart))
+    (λ is. rw is (ap (cons_option (if bytes_eq o.name name then Some o.gave else None)) (others-same os name apart)))
+
+-- nothing was read of standard input yet
+pub kept_new : {I : Type 0} (state : I → InputState) (i : I) (source : SourceState)
+    → InputsInvariant state (Untaken i) (state i) (without_dash source).openings source.openings
+kept_new state i source = record {
+  place = (refl, others-dash source.openings);
+  given = λ k. rw (others-dash source.openings) tt;
+  files = others-same source.openings;
+}
+
+-- what a mere proof proves
+pub mapped : {P Q : Type 0} → ∥ P ∥₁ → (P → Q) → ∥ Q ∥₁
+mapped p f = ∥∥₁_elim p ∥∥₁_prop (λ x. ∣ f x ∣₁)
+
+module _ {I : Type 0} {state : I → InputState} {stdin : StdinPlace I} {untaken : InputState} {os fs : List Opening}
+    (kept : InputsInvariant state stdin untaken os fs)
+  where
+    -- another name was opened, in the source
+    pub kept_opening : (name : List ℕ) (gave : Option (Result Reads Fault)) → is_dash name ≡ false
+        → InputsInvariant state stdin untaken (os ++ record { name = name; gave = gave } ∷ [])
+        (fs ++ record { name = name; gave = gave } ∷ [])
+    kept_opening name gave apart =
+        let o : Opening = record { name = name; gave = gave } in
+        let same : gave_of (os ++ o ∷ []) (codes "-") ≡ gave_of os (codes "-") =
+        gave-append os (o ∷ []) (codes "-") ∙ rw (turned (codes "-") name apart) (append-nil _) in
+        record {
+          place = rw same kept.place;
+          given = rw same kept.given;
+          files = λ other is. gave-append os (o ∷ []) other
+              ∙ ap (λ gs. gs ++ gave_of (o ∷ []) other) (kept.files other is) ∙ sym (gave-append fs (o ∷ []) other);
+        }
+
+    -- `-` was opened
+    pub kept_stdin : (name : List ℕ) (new : StdinPlace I) (given : Closable I) → is_dash name ≡ true
+        → Gives state stdin new given
+        → InputsInvariant state new untaken (os ++ record { name = name; gave = None } ∷ []) fs
+    kept_stdin name new given is gives =
+        let o : Opening = record { name = name; gave = None } in
+        let same : codes "-" ≡ name = same_name (codes "-") name is in
+        let more : gave_of (os ++ o ∷ []) (codes "-") ≡ gave_of os (codes "-") ++ None ∷ [] =
+        gave-append os (o ∷ []) (codes "-") ∙ rw (← same) refl in
+        record {
+          place = rw more (taken _ stdin gives kept.place);
+          given = λ k. rw more (gives-more (λ k. GivesContent (stdin_content untaken.told k)) _ k (kept.given k));
+          files = λ other apart. gave-append os (o ∷ []) other ∙ rw (← same, apart, append-nil) (kept.files other apart);
+        }
+      where
+        some : (gs : List (Option (Result Reads Fault))) → 0 < length (gs ++ None ∷ [])
+        some gs = rw length-append (omega arith)
+
+        taken : (gs : List (Option (Result Reads Fault))) (old : StdinPlace I) → Gives state old new given
+            → IsPlaceOf state old untaken gs → IsPlaceOf state new untaken (gs ++ None ∷ [])
+        taken gs (Untaken i) gives was = rw gives.0 (some gs)
+        taken gs Taken gives was = rw gives.0 (some gs)
+        taken gs (Returned g) gives was = rw gives.0 (some gs)
+
+    -- another name was closed, in the source
+    pub kept_closing : (name : List ℕ) (k : ℕ) (r : Reads) → is_dash name ≡ false
+        → InputsInvariant state stdin untaken (closed_at os name k r) (closed_at fs name k r)
+    kept_closing name k r apart =
+        let same = gave-others os name (codes "-") k r (turned (codes "-") name apart) in
+        record {
+          place = rw same kept.place;
+          given = rw same kept.given;
+          files = λ other is. either (bytes_eq name other)
+              (λ one. rw (← same_name name other one)
+              (gave-closed os name k r ∙ ap (λ gs. slice_set gs k (Some (Ok r))) (kept.files name apart)
+              ∙ sym (gave-closed fs name k r)))
+              (λ two. gave-others os name other k r two ∙ kept.files other is ∙ sym (gave-others fs name other k r two));
+        }
+
+    -- standard input was put back
+    pub kept_back : (name : List ℕ) (k : ℕ) (r : Reads) (given : Closable I) → is_dash name ≡ true
+        → GivesContent (stdin_content untaken.told k) (Ok r)
+        → InputsInvariant state (put_back stdin given) untaken (closed_at os name k r) fs
+    kept_back name k r given is one =
+        let same : codes "-" ≡ name = same_name (codes "-") name is in
+        let now = gave-closed os (codes "-") k r in
+        rw (← same) (record {
+          place = rw now (back _ stdin kept.place);
+          given = λ j. rw now (gives-closed (λ k. GivesContent (stdin_content untaken.told k)) _ k j r one (kept.given j));
+          files = λ other apart. gave-others os (codes "-") other k r apart ∙ kept.files other apart;
+        })
+      where
+        back : (gs : List (Option (Result Reads Fault))) (old : StdinPlace I) → IsPlaceOf state old untaken gs
+            → IsPlaceOf state (put_back old given) untaken (slice_set gs k (Some (Ok r)))
+        back gs (Untaken i) was = (was.0, rw was.1 refl)
+        back gs Taken was = rw (length-set gs k) was
+        back gs (Returned g) was = rw (length-set gs k) was
+
+-- ---- what was opened, and what is closed
+
+module _ {I : Type 0} {state : I → InputState} {stdin : StdinPlace I} (untaken : InputState)
+    (log source : SourceState) (kept : InputsInvariant state stdin untaken log.openings source.openings)
+  where
+    -- how often a name was opened
+    times_there : (name : List ℕ) → is_dash name ≡ false → times name (names_of source.openings) ≡ times name (names_of log.openings)
+    times_there name apart =
+        sym (gave-times source.openings name) ∙ ap length (sym (kept.files name apart)) ∙ gave-times log.openings name
+
+    -- standard input, as it was given
+    pub stdin_opened : (name : List ℕ) (new : StdinPlace I) (given : Closable I)
+        → is_dash name ≡ true → Gives state stdin new given
+        → record (unless_closed state given) { name = name; opening = times name (names_of log.openings) }
+        ≡ opened_file (inputs_state untaken log source) name
+    stdin_opened name new given is gives =
+        let same : codes "-" ≡ name = same_name (codes "-") name is in
+        rw (← same, content-dash, ← gave-times log.openings (codes "-")) (by _ stdin gives kept.place)
+      where
+        by : (gs : List (Option (Result Reads Fault))) (old : StdinPlace I) → Gives state old new given
+            → IsPlaceOf state old untaken gs
+            → record (unless_closed state given) { name = codes "-"; opening = length gs }
+            ≡ record { name = codes "-"; opening = length gs; told = stdin_content untaken.told (length gs); reads = unread }
+        by gs (Untaken i) gives was = rw (gives.1, was.1, gives.2, was.0) refl
+        by (g ∷ gs) Taken gives was = rw gives.1 refl
+        by [] Taken gives was = absurd (omega (arith, was))
+        by (g ∷ gs) (Returned r) gives was = rw gives.1 refl
+        by [] (Returned r) gives was = absurd (omega (arith, was))
+
+    -- a file of the source
+    pub file_opened : (name : List ℕ) → is_dash name ≡ false → opened_file source name ≡ opened_file (inputs_state untaken log source) name
+    file_opened name apart =
+        rw (content-other untaken log source name _ apart, times_there name apart) refl
+
+    -- a file of the source is open there
+    pub open_there : (file : InputState) → is_dash file.name ≡ false → IsOpen (inputs_state untaken log source) file → IsOpen source file
+    open_there file apart here = record {
+      opening = rw (← kept.files file.name apart) here.opening;
+      told = here.told ∙ content-other untaken log source file.name file.opening apart;
+    }
+
+    -- what was read of standard input
+    pub stdin_gives : (file : InputState) → HasContent file → is_dash file.name ≡ true
+        → IsOpen (inputs_state untaken log source) file
+        → GivesContent (stdin_content untaken.told file.opening) (Ok file.reads)
+    stdin_gives file has is here =
+        let same : codes "-" ≡ file.name = same_name (codes "-") file.name is in
+        let told : file.told ≡ stdin_content untaken.told file.opening =
+        rw (← same) at here.told ∙ content-dash untaken log source file.opening in
+        by (stdin_content untaken.told file.opening) told
+      where
+        by : (c : Option Content) → file.told ≡ c → GivesContent c (Ok file.reads)
+        by None told = tt
+        by (Some c) told = let fits = rw told at has.1 in (c, refl, rw (sym fits) has.2)

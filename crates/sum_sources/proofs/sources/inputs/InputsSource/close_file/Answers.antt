@@ -1,0 +1,40 @@
+use Rattle.std.proofs.Common.{◌≡◌, ◌∙◌, ap, true, false}
+use Rattle.std.proofs.Math.Logic.{∥∥₁_elim}
+use Rattle.std.proofs.Props.{props}
+use Rattle.sum_sources.specs.Inputs.{is_dash, is_stdin, opened_state, opened_has_content}
+use Rattle.sum_sources.proofs.InputsLemmas.{mapped, kept_closing, kept_back, open_there, stdin_gives}
+use Rattle.sum_sources.proofs.sources.inputs.InputsSource.close_file.Goals as goal
+
+-- standard input was put back
+pub invariant_of-self : goal.invariant_of-self
+invariant_of-self g c =
+    let file = opened_state g.I.Input.state g.S.File.Input.state c.args.file.place in
+    let dash : is_dash file.name ≡ true = c.args.file.named ∙ ap is_stdin c.in-Stdin.is in
+    let has = opened_has_content g.I.Input.state g.S.File.Input.state g.met.I.Input.has_content
+    g.met.S.File.Input.has_content c.args.file.place in
+    record {
+      is = rw (c.and-self.ensures, c.put_back.ensures) (mapped c.args.self.now.is (λ kept.
+          kept_back kept file.name file.opening file.reads c.in-Stdin.given dash
+          (stdin_gives c.args.self.now.untaken c.args.self.now.log (g.S.Source.state c.args.self.now.source) kept
+          file has dash c.requires)));
+    }
+
+-- a file of the source is open there
+pub close_file-requires : goal.close_file-requires
+close_file-requires g c =
+    let file = opened_state g.I.Input.state g.S.File.Input.state in
+    let other : is_dash (file c.args.file.place).name ≡ false = c.args.file.named ∙ ap is_stdin c.in-File.is in
+    rw c.in-File.is at (∥∥₁_elim c.args.self.now.is (hlevel props) (λ kept.
+    open_there c.args.self.now.untaken c.args.self.now.log (g.S.Source.state c.args.self.now.source) kept
+    (file c.args.file.place) other c.requires))
+
+-- and is closed there
+pub invariant_of-self-in-File : goal.invariant_of-self-in-File
+invariant_of-self-in-File g c =
+    let file = opened_state g.I.Input.state g.S.File.Input.state in
+    let other : is_dash (file c.args.file.place).name ≡ false = c.args.file.named ∙ ap is_stdin c.in-File.is in
+    record {
+      is = rw (c.and-self.ensures, c.close_file.ensures, c.in-File.is) (mapped c.args.self.now.is (λ kept.
+          kept_closing kept (g.S.File.Input.state c.in-File.file).name (g.S.File.Input.state c.in-File.file).opening
+          (g.S.File.Input.state c.in-File.file).reads (rw c.in-File.is at other)));
+    }

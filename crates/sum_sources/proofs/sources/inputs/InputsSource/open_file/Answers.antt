@@ -1,0 +1,45 @@
+use Rattle.std.proofs.Common.{◌∙◌, sym, ap}
+use Rattle.std.proofs.Math.Logic.{∥∥₁_elim}
+use Rattle.std.proofs.Props.{props}
+use Rattle.sum_sources.specs.Inputs.{opened_state}
+use Rattle.sum_sources.proofs.InputsLemmas.{mapped, kept_opening, kept_stdin, stdin_opened, file_opened}
+use Rattle.sum_sources.proofs.sources.inputs.InputsSource.open_file.Goals as goal
+
+-- ---- `-`
+
+pub invariant_of-self : goal.invariant_of-self
+invariant_of-self g c = record {
+  is = rw c.and-self.ensures (mapped c.args.self.now.is (λ kept.
+      kept_stdin kept c.args.name.now _ c.take.result (sym c.is_dash.ensures ∙ c.if-is_dash.true) c.take.ensures));
+}
+
+pub returns-then-is_dash-clause-file : goal.returns-then-is_dash-clause-file
+returns-then-is_dash-clause-file g c = ∥∥₁_elim c.args.self.now.is (hlevel props) (λ kept.
+    ap (opened_state g.I.Input.state g.S.File.Input.state) c.of_stdin-opened.ensures ∙ rw c.next_file.ensures
+    (stdin_opened c.args.self.now.untaken c.args.self.now.log
+    (g.S.Source.state c.args.self.now.source) kept c.args.name.now _ c.take.result (sym c.is_dash.ensures ∙ c.if-is_dash.true) c.take.ensures))
+
+pub returns-then-is_dash-clause-stdin : goal.returns-then-is_dash-clause-stdin
+returns-then-is_dash-clause-stdin g c =
+    rw (sym c.is_dash.ensures ∙ c.if-is_dash.true, c.of_stdin-opened.ensures) c.take.ensures
+
+-- ---- another name
+
+pub invariant_of-self-in-Ok : goal.invariant_of-self-in-Ok
+invariant_of-self-in-Ok g c = record {
+  is = rw (c.and-self-in-Ok.ensures, c.in-Ok.ensures.state) (mapped c.args.self.now.is (λ kept.
+      kept_opening kept c.args.name.now _ (sym c.is_dash.ensures ∙ c.if-is_dash.false)));
+}
+
+pub invariant_of-self-in-Err-Fault : goal.invariant_of-self-in-Err-Fault
+invariant_of-self-in-Err-Fault g c = record {
+  is = rw (c.and-self-in-Err-Fault.ensures, rw c.in-Err-Fault.field-0-is at c.in-Err-Fault.ensures.state)
+      (mapped c.args.self.now.is (λ kept.
+      kept_opening kept c.args.name.now _ (sym c.is_dash.ensures ∙ c.if-is_dash.false)));
+}
+
+pub returns-in-Ok-clause-file : goal.returns-in-Ok-clause-file
+returns-in-Ok-clause-file g c = ∥∥₁_elim c.args.self.now.is (hlevel props) (λ kept.
+    c.of_file.ensures ∙ c.in-Ok.ensures.file
+    ∙ file_opened c.args.self.now.untaken c.args.self.now.log
+    (g.S.Source.state c.args.self.now.source) kept c.args.name.now (sym c.is_dash.ensures ∙ c.if-is_dash.false))

@@ -1,0 +1,60 @@
+-- Standard input and a source of files, as one source.
+use Rattle.std.specs.Prelude.{ℕ, zero, suc, Bool, true, false, ◌∷◌, codes, bytes_eq, filter, not, Option, Some, Ok, if◌then◌else◌}
+use Rattle.std.specs.Option.{option_map}
+use Rattle.sum_sources.specs.{Contents.Content, Contents.InputState, Contents.HasContent, Contents.empty_content, Faults.ByteString}
+use Rattle.sum_sources.specs.{InputLaws.closable_has_content, StandardInput.unless_closed, StandardInput.Gives, Sources.Answers, Sources.ToldAnswers, Sources.SourceState}
+use Rattle.sum_sources.specs.declared.inputs.stdin.StdinPlace.{StdinPlace}
+use Rattle.sum_sources.specs.declared.sources.opened.Place.{Place}
+use Rattle.sum_sources.specs.declared.sources.opened.Place.TheVariants.{Stdin, File}
+
+-- the name of standard input
+abbrev pub is_dash : ByteString → Bool
+is_dash name = bytes_eq (codes "-") name
+
+-- what is in memory of both: the first opening of `-` gives standard input, and each later one an empty content
+abbrev pub with_stdin : Option Content → ToldAnswers → ToldAnswers
+with_stdin stdin t = record t {
+  pairs = record { name = codes "-"; from = 1; answer = Some (Ok empty_content) }
+      ∷ record { name = codes "-"; from = 0; answer = option_map Ok stdin } ∷ t.pairs;
+}
+
+-- the answers of both, if all are in memory
+abbrev pub given_once : Content → ℕ → Content
+given_once stdin zero = stdin
+given_once stdin (suc k) = empty_content
+
+abbrev pub answers_with : Content → Answers → Answers
+answers_with stdin answer name k = if is_dash name then Ok (given_once stdin k) else answer name k
+
+-- the state of both: standard input before it was taken, what was opened so far, and the source
+abbrev pub inputs_state : InputState → SourceState → SourceState → SourceState
+inputs_state untaken log source = record source {
+  told = with_stdin untaken.told source.told;
+  openings = log.openings;
+}
+
+-- a source, but for what it opened by the name `-` itself
+abbrev pub without_dash : SourceState → SourceState
+without_dash s = record s { openings = filter (λ o. not (is_dash o.name)) s.openings }
+
+-- the state of what was opened
+abbrev pub opened_state : {I F : Type 0} → (I → InputState) → (F → InputState) → Place I F → InputState
+opened_state stdin file (Stdin given log) =
+    record (unless_closed stdin given) { name = log.name; opening = log.opening }
+opened_state stdin file (File f) = file f
+
+abbrev pub is_stdin : {I F : Type 0} → Place I F → Bool
+is_stdin (Stdin given log) = true
+is_stdin (File f) = false
+
+-- what was opened is what taking standard input gives
+abbrev pub TakesStdin : {I F : Type 0} → (I → InputState) → StdinPlace I → StdinPlace I → Place I F → Type 0
+TakesStdin state old new (Stdin given log) = Gives state old new given
+TakesStdin state old new (File f) = ⊥
+
+-- its reads are of a content
+pub opened_has_content : {I F : Type 0} (stdin : I → InputState) (file : F → InputState)
+    → ((i : I) → HasContent (stdin i)) → ((f : F) → HasContent (file f)) → (p : Place I F)
+    → HasContent (opened_state stdin file p)
+opened_has_content stdin file has has_file (Stdin given log) = closable_has_content stdin has given
+opened_has_content stdin file has has_file (File f) = has_file f

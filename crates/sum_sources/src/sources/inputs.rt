@@ -1,0 +1,123 @@
+//! Standard input and a source of files, as one source.
+ghost use Rattle.std.specs.Prelude.{◌≡◌};
+ghost use Rattle.sum_sources.specs.Inputs.{is_dash};
+ghost use Rattle.sum_sources.specs.refinement.InputsStates.{InputsInvariant};
+
+use crate::inputs::read_log::{ReadLog, Reads};
+use crate::sources::opened::{Opened, Place};
+use crate::sources::source_log::{ClosedFile, Note, Openings, OthersOf, SourceLog, next_file};
+use crate::{Input, OpenFault, Source, Stdin};
+use ghost_log::Log;
+use std::marker::PhantomData;
+
+/// Standard input and a source of files, as one source. Standard input is the file that is opened under the name `-`:
+/// the first opening gives it, and each later one gives an empty input. Other names are opened in the source.
+#[derive(Debug, Drop)]
+pub struct Inputs<I: Input, S: Source> {
+    stdin: Stdin<I>,
+    source: S,
+    // Standard input before it was taken.
+    untaken: ReadLog,
+    log: SourceLog,
+    // A struct that speaks of a source has to name the type of its files.
+    files: PhantomData<S::File>,
+    ghost is: { ∥ InputsInvariant I.state stdin untaken log.openings (S.state source).openings ∥₁ },
+}
+
+impl<I: Input, S: Source> Inputs<I, S> {
+    ghost use Rattle.sum_sources.specs.Contents.{unread};
+    ghost use Rattle.sum_sources.specs.Inputs.{inputs_state, with_stdin, without_dash};
+    ghost use Rattle.sum_sources.specs.declared.inputs.stdin.StdinPlace.TheVariants.{Untaken};
+
+    /// This standard input, of which nothing was read, and this source. What the source opened by the name `-` before
+    /// doesn't count.
+    pub fn new(stdin: I, source: S) -> Self
+        requires { (I.state stdin).reads ≡ unread }
+        ensures parts { (result.stdin ≡ Untaken stdin) × (result.source ≡ source) }
+        ensures state { inputs_state result.untaken result.log (S.state source)
+            ≡ record (without_dash (S.state source)) {
+              told = with_stdin (I.state stdin).told (S.state source).told;
+            } }
+    {
+        let untaken = Log::of(&Reads).and(&&stdin);
+        let log = Log::of(&Openings).and(&OthersOf(&source));
+        Inputs {
+            stdin: Stdin::new(stdin),
+            source,
+            untaken,
+            log,
+            files: PhantomData,
+        }
+    }
+
+    /// The source of files.
+    pub fn source(&self) -> &S
+        ensures { result.now ≡ self.now.source }
+    {
+        &self.source
+    }
+}
+
+/// Whether the name is that of standard input, `-`.
+pub fn is_dash(name: &[u8]) -> bool
+    ensures { result ≡ is_dash name.now }
+{
+    b"-".as_slice() == name
+}
+
+impl<I: Input + Drop, S: Source> Source for Inputs<I, S> {
+    ghost use Rattle.sum_sources.specs.Inputs.{inputs_state};
+    ghost use Rattle.sum_sources.specs.InputsLaws.{inputs_give};
+
+    type File = Opened<I, S::File>;
+
+    ghost state = { λ s. inputs_state s.untaken s.log (S.state s.source) };
+
+    ghost use Rattle.std.specs.Prelude.{IfOk, MatchBool, MatchResult};
+    ghost use Rattle.sum_sources.specs.Inputs.{opened_state, TakesStdin};
+    ghost use Rattle.sum_sources.specs.Sources.{after_opening, opened_file};
+
+    /// Opens the name: `-` gives what [`Stdin::take`] gives, and any other name is opened in the source.
+    fn open_file(&mut self, name: &[u8]) -> Result<Opened<I, S::File>, OpenFault>
+        ensures state { inputs_state self.new.untaken self.new.log (S.state self.new.source)
+            ≡ after_opening
+            (inputs_state self.old.untaken self.old.log (S.state self.old.source)) name.now
+            result }
+        ensures file { IfOk result (λ file. opened_state I.state S.File.state file.place
+            ≡ opened_file
+            (inputs_state self.old.untaken self.old.log (S.state self.old.source)) name.now) }
+        // Standard input is the input that it was made of, and nothing else takes it.
+        ensures stdin { MatchBool (is_dash name.now)
+            (MatchResult result
+            (λ file. TakesStdin I.state self.old.stdin self.new.stdin file.place) (λ _. ⊥))
+            (self.new.stdin ≡ self.old.stdin) }
+    {
+        if is_dash(name) {
+            let opened = Opened::of_stdin(self.stdin.take(), next_file(&self.log, name));
+            self.log = self.log.and(&Note::Opened(name));
+            return Ok(opened);
+        }
+        match self.source.open_file(name) {
+            Ok(file) => {
+                self.log = self.log.and(&Note::Opened(name));
+                Ok(Opened::of_file(file))
+            }
+            Err(OpenFault::Fault(fault)) => {
+                self.log = self.log.and(&Note::Failed(name, fault));
+                Err(OpenFault::Fault(fault))
+            }
+            Err(OpenFault::Memory) => Err(OpenFault::Memory),
+        }
+    }
+
+    fn close_file(&mut self, file: Opened<I, S::File>) {
+        self.log = self.log.and(&ClosedFile(&file));
+        let Opened { place } = file;
+        match place {
+            Place::Stdin(given, _) => self.stdin.put_back(given),
+            Place::File(file) => self.source.close_file(file),
+        }
+    }
+
+    ghost gives_told = { λ s. inputs_give I.state s.stdin s.untaken s.log (S.state s.source) s.is (S.gives_told s.source) };
+}

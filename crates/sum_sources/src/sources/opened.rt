@@ -1,0 +1,60 @@
+//! What a name gives that is opened.
+ghost use Rattle.std.specs.Prelude.{◌≡◌};
+ghost use Rattle.sum_sources.specs.Inputs.{is_dash, is_stdin, opened_state};
+
+use crate::inputs::read_log::ReadLog;
+use crate::{Fault, Given, Input};
+
+#[derive(Debug)]
+pub(crate) enum Place<I, F> {
+    /// Standard input. The log has its name and its opening.
+    Stdin(Given<I>, ReadLog),
+    File(F),
+}
+
+/// What [`Inputs`](crate::Inputs) opened: standard input, or a file. It can't be dropped, so whoever opened it closes
+/// it.
+#[derive(Debug)]
+pub struct Opened<I: Input, F: Input> {
+    pub(crate) place: Place<I, F>,
+    ghost named: { is_dash (opened_state I.state F.state place).name ≡ is_stdin place },
+}
+
+impl<I: Input, F: Input> Opened<I, F> {
+    ghost use Rattle.std.specs.Prelude.{true, false};
+
+    // Standard input, by the opening that the log has.
+    pub(crate) fn of_stdin(given: Given<I>, log: ReadLog) -> Self
+        requires { is_dash log.name ≡ true }
+        ensures { result.place ≡ Place.Stdin given log }
+    {
+        Opened {
+            place: Place::Stdin(given, log),
+        }
+    }
+
+    // A file.
+    pub(crate) fn of_file(file: F) -> Self
+        requires { is_dash (F.state file).name ≡ false }
+        ensures { opened_state I.state F.state result.place ≡ F.state file }
+    {
+        Opened {
+            place: Place::File(file),
+        }
+    }
+}
+
+impl<I: Input, F: Input> Input for Opened<I, F> {
+    ghost use Rattle.sum_sources.specs.Inputs.{opened_has_content};
+
+    ghost state = { λ o. opened_state I.state F.state o.place };
+
+    fn read(&mut self, buf: &mut [u8]) -> Result<usize, Fault> {
+        match &mut self.place {
+            Place::Stdin(given, _) => given.read(buf),
+            Place::File(file) => file.read(buf),
+        }
+    }
+
+    ghost has_content = { λ o. opened_has_content I.state F.state I.has_content F.has_content o.place };
+}

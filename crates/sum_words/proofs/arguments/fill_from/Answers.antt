@@ -1,0 +1,7 @@
+use Rattle.std.proofs.Common.{arith, take_at}
+use Rattle.std.proofs.lemmas.Option.{slice_get_read, slice_get-map}
+use Rattle.sum_words.proofs.arguments.fill_from.Goals as goal
+
+-- the buffer starts with the argument
+pub returns-clause-fills : goal.returns-clause-fills
+returns-clause-fills c = rw slice_get-map (grind (arith, slice_get_read, take_at))
