@@ -3,7 +3,7 @@ use Rattle.std.proofs.Common.{◌≡◌, ℕ, zero, suc, Bool, true, false, List
 use Rattle.std.proofs.lemmas.{Slice.Eq.bytes_eq-Decides, List.Elements.filter_map-append}
 use Rattle.std.specs.Prelude.{slice_get}
 use Rattle.sum_sources.specs.Contents.{Reads, InputState, IsSameInput, Fault}
-use Rattle.sum_sources.specs.Sources.{Opening, SourceState, IsOpen, names_of, times, gave_of, closed_at, opened_file, and_opening}
+use Rattle.sum_sources.specs.Sources.{Opening, SourceState, ToldAnswers, IsOpen, names_of, times, gave_of, closed_at, opened_file, and_opening}
 
 -- a test of names that answers so
 pub same_name : (a b : List ℕ) → bytes_eq a b ≡ true → a ≡ b
@@ -43,9 +43,9 @@ gave-seam before later name gave =
     (gave-here (gave_of before name) (gave_of later name) gave)
 
 -- what was opened last is open
-pub is_open_last : (a m : SourceState) (name : List ℕ) (s t : InputState) → s ≡ opened_file a name
-    → m ≡ and_opening a name None → IsSameInput s t → IsOpen m t
-is_open_last a m name s t is opens same = record {
+pub is_open_last : (tells : ToldAnswers) (a m : SourceState) (name : List ℕ) (s t : InputState)
+    → s ≡ opened_file tells a name → m ≡ and_opening a name None → IsSameInput s t → IsOpen tells m t
+is_open_last tells a m name s t is opens same = record {
   opening = rw (same, is, opens) (gave-seam a.openings [] name None);
   told = rw (same, is, opens) refl;
 }

@@ -5,12 +5,12 @@ use Rattle.std.specs.List.{cons_option}
 use Rattle.std.specs.{Option.option_and_then, Option.option_map, Result.result_ok}
 use Rattle.std.proofs.Math.Logic.{∥∥₁_elim, ∥∥₁_prop}
 use Rattle.std.proofs.lemmas.Slice.Eq.{bytes_eq-Decides}
-use Rattle.sum_sources.specs.Contents.{Content, InputState, Reads, Fault, HasContent, unread}
+use Rattle.sum_sources.specs.Contents.{Content, InputState, Reads, Fault, HasContent, unread, empty_content}
 use Rattle.sum_sources.specs.StandardInput.{unless_closed, Gives, put_back}
-use Rattle.sum_sources.specs.Sources.{Answer, Answers, TellsAll, Opening, SourceState, ToldAnswers, names_of, times, gave_of, closed_at, content_at, opened_file, IsOpen}
-use Rattle.sum_sources.specs.Inputs.{is_dash, with_stdin, answers_with, inputs_state, without_dash}
-use Rattle.sum_sources.specs.InputsLaws.{told-dash, told-other}
-use Rattle.sum_sources.specs.refinement.InputsStates.{IsPlaceOf, GivesContent, stdin_content, InputsInvariant}
+use Rattle.sum_sources.specs.Sources.{Answer, Answers, Pair, TellsAll, Opening, SourceState, ToldAnswers, names_of, times, gave_of, closed_at, content_at, opened_file, IsOpen}
+use Rattle.sum_sources.specs.Inputs.{is_dash, given_once, with_stdin, tells_both, answers_with, inputs_state, without_dash}
+use Rattle.sum_sources.specs.InputsLaws.{given_told}
+use Rattle.sum_sources.specs.refinement.InputsStates.{IsPlaceOf, GivesContent, InputsInvariant}
 use Rattle.sum_sources.specs.declared.inputs.stdin.StdinPlace.{StdinPlace}
 use Rattle.sum_sources.specs.declared.inputs.stdin.StdinPlace.TheVariants.{Untaken, Taken, Returned}
 use Rattle.sum_sources.specs.declared.inputs.closable.Closable.{Closable}
@@ -45,27 +45,28 @@ gives-closed P (g ∷ gs) (suc i) (suc k) r one h = gives-closed (λ j. P (suc j
 -- ---- what is in memory
 
 -- of standard input
-pub content-dash : (untaken : InputState) (log source : SourceState) (k : ℕ)
-    → content_at (inputs_state untaken log source) (codes "-") k ≡ stdin_content untaken.told k
-content-dash untaken log source k = rw told-dash (by (stdin_content untaken.told k))
+pub content-dash : (tells : ToldAnswers) (untaken : InputState) (log source : SourceState) (k : ℕ)
+    → content_at (tells_both tells) (inputs_state untaken log source) (codes "-") k
+    ≡ given_once untaken.told (Some empty_content) k
+content-dash tells untaken log source k = rw given_told (by (given_once untaken.told (Some empty_content) k))
   where
     by : (c : Option Content) → option_and_then result_ok (option_map {U = Answer} Ok c) ≡ c
     by None = refl
     by (Some c) = refl
 
 -- and of another name
-pub content-other : (untaken : InputState) (log source : SourceState) (name : List ℕ) (k : ℕ) → is_dash name ≡ false
-    → content_at (inputs_state untaken log source) name k ≡ content_at source name k
-content-other untaken log source name k is = ap (option_and_then result_ok) (told-other untaken.told source.told name k is)
+pub content-other : (tells : ToldAnswers) (untaken : InputState) (log source : SourceState) (name : List ℕ) (k : ℕ)
+    → is_dash name ≡ false
+    → content_at (tells_both tells) (inputs_state untaken log source) name k ≡ content_at tells source name k
+content-other tells untaken log source name k is = rw is refl
 
 -- of both, if all is in memory
-pub both_told : (stdin : Content) (t : ToldAnswers) (answer : Answers) → TellsAll t answer
-    → TellsAll (with_stdin (Some stdin) t) (answers_with stdin answer)
-both_told stdin t answer tells name zero = either (is_dash name)
-    (λ is. rw (← same_name (codes "-") name is) refl) (λ is. told-other (Some stdin) t name zero is ∙ rw is (tells name zero))
-both_told stdin t answer tells name (suc k) = either (is_dash name)
-    (λ is. rw (← same_name (codes "-") name is) (told-dash (Some stdin) t (suc k)))
-    (λ is. told-other (Some stdin) t name (suc k) is ∙ rw is (tells name (suc k)))
+pub both_told : (stdin : Content) (tells : ToldAnswers) (told : List Pair) (answer : Answers)
+    → TellsAll tells told answer
+    → TellsAll (tells_both tells) (with_stdin (Some stdin) told) (answers_with stdin answer)
+both_told stdin tells told answer all name zero = either (is_dash name) (λ is. rw is refl) (λ is. rw is (all name zero))
+both_told stdin tells told answer all name (suc k) =
+    either (is_dash name) (λ is. rw is refl) (λ is. rw is (all name (suc k)))
 
 -- ---- the invariant
 
@@ -125,7 +126,7 @@ module _ {I : Type 0} {state : I → InputState} {stdin : StdinPlace I} {untaken
         gave-append os (o ∷ []) (codes "-") ∙ rw (← same) refl in
         record {
           place = rw more (taken _ stdin gives kept.place);
-          given = λ k. rw more (gives-more (λ k. GivesContent (stdin_content untaken.told k)) _ k (kept.given k));
+          given = λ k. rw more (gives-more (λ k. GivesContent (given_once untaken.told (Some empty_content) k)) _ k (kept.given k));
           files = λ other apart. gave-append os (o ∷ []) other ∙ rw (← same, apart, append-nil) (kept.files other apart);
         }
       where
@@ -155,14 +156,14 @@ module _ {I : Type 0} {state : I → InputState} {stdin : StdinPlace I} {untaken
 
     -- standard input was put back
     pub kept_back : (name : List ℕ) (k : ℕ) (r : Reads) (given : Closable I) → is_dash name ≡ true
-        → GivesContent (stdin_content untaken.told k) (Ok r)
+        → GivesContent (given_once untaken.told (Some empty_content) k) (Ok r)
         → InputsInvariant state (put_back stdin given) untaken (closed_at os name k r) fs
     kept_back name k r given is one =
         let same : codes "-" ≡ name = same_name (codes "-") name is in
         let now = gave-closed os (codes "-") k r in
         rw (← same) (record {
           place = rw now (back _ stdin kept.place);
-          given = λ j. rw now (gives-closed (λ k. GivesContent (stdin_content untaken.told k)) _ k j r one (kept.given j));
+          given = λ j. rw now (gives-closed (λ k. GivesContent (given_once untaken.told (Some empty_content) k)) _ k j r one (kept.given j));
           files = λ other apart. gave-others os (codes "-") other k r apart ∙ kept.files other apart;
         })
       where
@@ -174,7 +175,7 @@ module _ {I : Type 0} {state : I → InputState} {stdin : StdinPlace I} {untaken
 
 -- ---- what was opened, and what is closed
 
-module _ {I : Type 0} {state : I → InputState} {stdin : StdinPlace I} (untaken : InputState)
+module _ {I : Type 0} {state : I → InputState} {stdin : StdinPlace I} (tells : ToldAnswers) (untaken : InputState)
     (log source : SourceState) (kept : InputsInvariant state stdin untaken log.openings source.openings)
   where
     -- how often a name was opened
@@ -186,15 +187,15 @@ module _ {I : Type 0} {state : I → InputState} {stdin : StdinPlace I} (untaken
     pub stdin_opened : (name : List ℕ) (new : StdinPlace I) (given : Closable I)
         → is_dash name ≡ true → Gives state stdin new given
         → record (unless_closed state given) { name = name; opening = times name (names_of log.openings) }
-        ≡ opened_file (inputs_state untaken log source) name
+        ≡ opened_file (tells_both tells) (inputs_state untaken log source) name
     stdin_opened name new given is gives =
         let same : codes "-" ≡ name = same_name (codes "-") name is in
-        rw (← same, content-dash, ← gave-times log.openings (codes "-")) (by _ stdin gives kept.place)
+        rw (← same, content-dash tells untaken log source, ← gave-times log.openings (codes "-")) (by _ stdin gives kept.place)
       where
         by : (gs : List (Option (Result Reads Fault))) (old : StdinPlace I) → Gives state old new given
             → IsPlaceOf state old untaken gs
             → record (unless_closed state given) { name = codes "-"; opening = length gs }
-            ≡ record { name = codes "-"; opening = length gs; told = stdin_content untaken.told (length gs); reads = unread }
+            ≡ record { name = codes "-"; opening = length gs; told = given_once untaken.told (Some empty_content) (length gs); reads = unread }
         by gs (Untaken i) gives was = rw (gives.1, was.1, gives.2, was.0) refl
         by (g ∷ gs) Taken gives was = rw gives.1 refl
         by [] Taken gives was = absurd (omega (arith, was))
@@ -202,26 +203,28 @@ module _ {I : Type 0} {state : I → InputState} {stdin : StdinPlace I} (untaken
         by [] (Returned r) gives was = absurd (omega (arith, was))
 
     -- a file of the source
-    pub file_opened : (name : List ℕ) → is_dash name ≡ false → opened_file source name ≡ opened_file (inputs_state untaken log source) name
+    pub file_opened : (name : List ℕ) → is_dash name ≡ false
+        → opened_file tells source name ≡ opened_file (tells_both tells) (inputs_state untaken log source) name
     file_opened name apart =
-        rw (content-other untaken log source name _ apart, times_there name apart) refl
+        rw (content-other tells untaken log source name _ apart, times_there name apart) refl
 
     -- a file of the source is open there
-    pub open_there : (file : InputState) → is_dash file.name ≡ false → IsOpen (inputs_state untaken log source) file → IsOpen source file
+    pub open_there : (file : InputState) → is_dash file.name ≡ false
+        → IsOpen (tells_both tells) (inputs_state untaken log source) file → IsOpen tells source file
     open_there file apart here = record {
       opening = rw (← kept.files file.name apart) here.opening;
-      told = here.told ∙ content-other untaken log source file.name file.opening apart;
+      told = here.told ∙ content-other tells untaken log source file.name file.opening apart;
     }
 
     -- what was read of standard input
     pub stdin_gives : (file : InputState) → HasContent file → is_dash file.name ≡ true
-        → IsOpen (inputs_state untaken log source) file
-        → GivesContent (stdin_content untaken.told file.opening) (Ok file.reads)
+        → IsOpen (tells_both tells) (inputs_state untaken log source) file
+        → GivesContent (given_once untaken.told (Some empty_content) file.opening) (Ok file.reads)
     stdin_gives file has is here =
         let same : codes "-" ≡ file.name = same_name (codes "-") file.name is in
-        let told : file.told ≡ stdin_content untaken.told file.opening =
-        rw (← same) at here.told ∙ content-dash untaken log source file.opening in
-        by (stdin_content untaken.told file.opening) told
+        let told : file.told ≡ given_once untaken.told (Some empty_content) file.opening =
+        rw (← same) at here.told ∙ content-dash tells untaken log source file.opening in
+        by (given_once untaken.told (Some empty_content) file.opening) told
       where
         by : (c : Option Content) → file.told ≡ c → GivesContent c (Ok file.reads)
         by None told = tt

@@ -1,17 +1,16 @@
 -- `ToldSource`: its openings give what its answers give.
 use Rattle.std.proofs.Common.{◌≡◌, ℕ, zero, suc, List, [], ◌∷◌, ◌++◌, length, map, Option, Some, None, Ok, Err, refl, ap, arith, bytes_eq}
 use Rattle.std.specs.Result.{result_ok}
-use Rattle.std.specs.Option.{option_and_then}
 use Rattle.std.proofs.lemmas.{List.take_min, List.length-take}
 use Rattle.sum_sources.specs.{Contents.Content, Contents.Reads, StandardInput.told_reads, StandardInput.ToldContent, StandardInput.told_file, refinement.ToldPairs.pair_of}
 use Rattle.sum_sources.specs.Phases.{Phase, Unfinished, Ended, Past}
-use Rattle.sum_sources.specs.Sources.{Answer, Opening, names_of, times, told_at, closed_at, SourceState, IsOpen}
+use Rattle.sum_sources.specs.Sources.{Answer, Answers, Opening, names_of, times, closed_at, SourceState, IsOpen}
 use Rattle.sum_sources.specs.declared.sources.told_source.ToldSource.TheInside.{Inside}
-use Rattle.sum_sources.specs.InMemory.{ToldFiles, told_files, told_gave, told_openings, past, told_source}
+use Rattle.sum_sources.specs.InMemory.{ToldFiles, first_answer, tells_first, told_gave, told_openings, past, told_source}
 use Rattle.sum_sources.proofs.GaveLemmas.{either, same_name}
 
 -- one opening more
-told_append : (answer : List ℕ → ℕ → Option Answer) (os : List Opening) (o : Opening)
+told_append : (answer : Answers) (os : List Opening) (o : Opening)
     → told_gave (answer o.name (times o.name (names_of os))) o.gave ≡ o.gave
     → told_openings answer (os ++ o ∷ []) ≡ told_openings answer os ++ o ∷ []
 told_append answer [] o one = rw one refl
@@ -21,7 +20,7 @@ told_append answer (x ∷ xs) o one =
     (λ is. later (rw is (rw is at one))) (λ is. later (rw is (rw is at one))))
 
 -- a file is closed
-told_closed : (answer : List ℕ → ℕ → Option Answer) (os : List Opening) (name : List ℕ) (k : ℕ) (r : Reads)
+told_closed : (answer : Answers) (os : List Opening) (name : List ℕ) (k : ℕ) (r : Reads)
     → told_gave (answer name k) (Some (Ok r)) ≡ Some (Ok r)
     → told_openings answer (closed_at os name k r) ≡ closed_at (told_openings answer os) name k r
 told_closed answer [] name k r one = refl
@@ -45,21 +44,20 @@ told_again c n Past = grind (arith, length-take, take_min)
 told_again c n (Ended e) = refl
 
 -- a file in memory, which its source opened, gave what its answer gives
-closed_told : (v : ToldFiles) (file : ToldContent) → IsOpen (told_source v) (told_file file)
-    → told_gave (told_at (told_files v) file.name file.opening) (Some (Ok (told_file file).reads))
+closed_told : (v : ToldFiles) (file : ToldContent) → IsOpen tells_first (told_source v) (told_file file)
+    → told_gave (first_answer v.pairs file.name file.opening) (Some (Ok (told_file file).reads))
     ≡ Some (Ok (told_file file).reads)
-closed_told v file here = by (told_at (told_files v) file.name file.opening) here.told
+closed_told v file here = by (first_answer v.pairs file.name file.opening) here.told
   where
-    by : (x : Option Answer) → Some file.content ≡ option_and_then result_ok x
+    by : (x : Answer) → Some file.content ≡ result_ok x
         → told_gave x (Some (Ok (told_file file).reads)) ≡ Some (Ok (told_file file).reads)
-    by (Some (Ok c)) is =
+    by (Ok c) is =
         let same : file.content ≡ c = cc in
         rw (← same) (ap (λ r. Some (Ok r)) (told_again file.content file.given file.phase))
-    by (Some (Err f)) is = cc
-    by None is = cc
+    by (Err f) is = cc
 
 -- openings keep their names
-pub told_names : (answer : List ℕ → ℕ → Option Answer) (os : List Opening)
+pub told_names : (answer : Answers) (os : List Opening)
     → names_of (told_openings answer os) ≡ names_of os
 told_names answer [] = refl
 told_names answer (o ∷ os) = ap (λ names. o.name ∷ names) (told_names (past o.name answer) os)
@@ -79,12 +77,12 @@ with v os = record (told_source v) { openings = os }
 
 -- after one opening more
 pub opened_state : (v : ToldFiles) (o : Opening)
-    → told_gave (told_at (told_files v) o.name (times o.name (names_of v.openings))) o.gave ≡ o.gave
+    → told_gave (first_answer v.pairs o.name (times o.name (names_of v.openings))) o.gave ≡ o.gave
     → told_source (record v { openings = v.openings ++ o ∷ [] }) ≡ with v ((told_source v).openings ++ o ∷ [])
 opened_state v o one = ap (with v) (told_append _ v.openings o one)
 
 -- and after a file was closed
-pub closed_state : (v : ToldFiles) (file : ToldContent) → IsOpen (told_source v) (told_file file)
+pub closed_state : (v : ToldFiles) (file : ToldContent) → IsOpen tells_first (told_source v) (told_file file)
     → told_source (record v { openings = closed_at v.openings file.name file.opening (told_file file).reads })
     ≡ with v (closed_at (told_source v).openings file.name file.opening (told_file file).reads)
 closed_state v file here =

@@ -1,8 +1,8 @@
 -- Standard input and a source of files, as one source.
-use Rattle.std.specs.Prelude.{ℕ, zero, suc, Bool, true, false, ◌∷◌, codes, bytes_eq, filter, not, Option, Some, Ok, if◌then◌else◌}
+use Rattle.std.specs.Prelude.{ℕ, zero, suc, Bool, true, false, ◌∷◌, codes, bytes_eq, filter, not, Option, None, Some, Ok, List, [], if◌then◌else◌}
 use Rattle.std.specs.Option.{option_map}
 use Rattle.sum_sources.specs.{Contents.Content, Contents.InputState, Contents.HasContent, Contents.empty_content, Faults.ByteString}
-use Rattle.sum_sources.specs.{InputLaws.closable_has_content, StandardInput.unless_closed, StandardInput.Gives, Sources.Answers, Sources.ToldAnswers, Sources.SourceState}
+use Rattle.sum_sources.specs.{InputLaws.closable_has_content, StandardInput.unless_closed, StandardInput.Gives, Sources.Answer, Sources.Answers, Sources.Pair, Sources.ToldAnswers, Sources.SourceState}
 use Rattle.sum_sources.specs.declared.inputs.stdin.StdinPlace.{StdinPlace}
 use Rattle.sum_sources.specs.declared.sources.opened.Place.{Place}
 use Rattle.sum_sources.specs.declared.sources.opened.Place.TheVariants.{Stdin, File}
@@ -12,19 +12,21 @@ abbrev pub is_dash : ByteString → Bool
 is_dash name = bytes_eq (codes "-") name
 
 -- what is in memory of both: the first opening of `-` gives standard input, and each later one an empty content
-abbrev pub with_stdin : Option Content → ToldAnswers → ToldAnswers
-with_stdin stdin t = record t {
-  pairs = record { name = codes "-"; from = 1; answer = Some (Ok empty_content) }
-      ∷ record { name = codes "-"; from = 0; answer = option_map Ok stdin } ∷ t.pairs;
-}
+abbrev pub given_once : {A : Type 0} → A → A → ℕ → A
+given_once first later zero = first
+given_once first later (suc k) = later
 
--- the answers of both, if all are in memory
-abbrev pub given_once : Content → ℕ → Content
-given_once stdin zero = stdin
-given_once stdin (suc k) = empty_content
+abbrev pub with_stdin : Option Content → List Pair → List Pair
+with_stdin stdin told = record { name = codes "-"; from = 0; answer = option_map Ok stdin } ∷ told
 
+abbrev pub tells_both : ToldAnswers → ToldAnswers
+tells_both tells [] name k = None
+tells_both tells (stdin ∷ told) name k =
+    if is_dash name then given_once stdin.answer (Some (Ok empty_content)) k else tells told name k
+
+-- the answers of both, if all are known
 abbrev pub answers_with : Content → Answers → Answers
-answers_with stdin answer name k = if is_dash name then Ok (given_once stdin k) else answer name k
+answers_with stdin answer name k = if is_dash name then given_once (Ok stdin) (Ok empty_content) k else answer name k
 
 -- the state of both: standard input before it was taken, what was opened so far, and the source
 abbrev pub inputs_state : InputState → SourceState → SourceState → SourceState

@@ -6,12 +6,12 @@ use Rattle.std.proofs.Math.Logic.{∥∥₁_elim}
 use std.HLevel.{Σ_prop_path}
 use Rattle.std.proofs.Props.{props}
 use Rattle.std.proofs.lemmas.{Bool.Decides.nat_tests, Slice.Eq.bytes_eq-Decides, List.append_cancel_left}
-use Rattle.sum_sources.specs.Contents.{Content, InputState, Reads, Fault, IsReadTo, IsOf}
+use Rattle.sum_sources.specs.Contents.{Content, InputState, Reads, Fault, IsReadTo, IsOf, empty_content}
 use Rattle.sum_sources.specs.Phases.{Phase, Unfinished, Ended, Past}
 use Rattle.sum_sources.specs.Faults.{ByteString}
-use Rattle.sum_sources.specs.Sources.{Answer, ToldAnswers, told_at, gave_at, IsOfAnswer, GivesTold, SourceState}
-use Rattle.sum_sources.specs.Inputs.{is_dash, with_stdin, inputs_state}
-use Rattle.sum_sources.specs.refinement.InputsStates.{InputsInvariant, GivesContent, stdin_content}
+use Rattle.sum_sources.specs.Sources.{Answer, ToldAnswers, gave_at, IsOfAnswer, GivesTold, SourceState}
+use Rattle.sum_sources.specs.Inputs.{is_dash, given_once, with_stdin, tells_both, inputs_state}
+use Rattle.sum_sources.specs.refinement.InputsStates.{InputsInvariant, GivesContent}
 use Rattle.sum_sources.specs.declared.inputs.stdin.StdinPlace.{StdinPlace}
 
 -- ---- that something was read of a content has one proof at most
@@ -40,20 +40,13 @@ gives-prop None gave = Prim.hlevel props
 gives-prop (Some told) None = Prim.hlevel props
 gives-prop (Some told) (Some gave) = IsOfAnswer-prop told gave
 
--- ---- what is in memory
-
--- of standard input
-pub told-dash : (stdin : Option Content) (t : ToldAnswers) (k : ℕ)
-    → told_at (with_stdin stdin t) (codes "-") k ≡ option_map Ok (stdin_content stdin k)
-told-dash stdin t zero = refl
-told-dash stdin t (suc k) = let some : nat_le 1 (suc k) ≡ true = Prim.grind (arith, nat_tests) in rw some refl
-
--- of another name
-pub told-other : (stdin : Option Content) (t : ToldAnswers) (name : ByteString) (k : ℕ) → is_dash name ≡ false
-    → told_at (with_stdin stdin t) name k ≡ told_at t name k
-told-other stdin t name k is = rw is refl
-
 -- ---- the law
+
+-- what is known of `-`
+pub given_told : (stdin : Option Content) (k : ℕ) → given_once (option_map Ok stdin) (Some (Ok empty_content)) k
+    ≡ option_map {U = Answer} Ok (given_once stdin (Some empty_content) k)
+given_told stdin zero = refl
+given_told stdin (suc k) = refl
 
 -- what an opening of `-` gave
 pub by_content : (content : Option Content) (gave : Option (Result Reads Fault)) → IfSome gave (GivesContent content)
@@ -62,20 +55,20 @@ by_content None gave h = tt
 by_content (Some c) None h = tt
 by_content (Some c) (Some g) h = h
 
-pub gives_by : {I : Type 0} (state : I → InputState) (stdin : StdinPlace I) (untaken : InputState)
-    (log source : SourceState) → InputsInvariant state stdin untaken log.openings source.openings → GivesTold source
-    → GivesTold (inputs_state untaken log source)
-gives_by state stdin untaken log source kept law name k = by (is_dash name) refl
+pub gives_by : {I : Type 0} (state : I → InputState) (tells : ToldAnswers) (stdin : StdinPlace I) (untaken : InputState)
+    (log source : SourceState) → InputsInvariant state stdin untaken log.openings source.openings → GivesTold tells source
+    → GivesTold (tells_both tells) (inputs_state untaken log source)
+gives_by state tells stdin untaken log source kept law name k = by (is_dash name) refl
   where
-    by : (b : Bool) → is_dash name ≡ b → IfSome (told_at (with_stdin untaken.told source.told) name k)
+    by : (b : Bool) → is_dash name ≡ b → IfSome (tells_both tells (with_stdin untaken.told source.told) name k)
         (λ told. IfSome (gave_at log.openings name k) (IsOfAnswer told))
     by true is =
         let same : codes "-" ≡ name = (bytes_eq-Decides (codes "-") name).0 is in
-        rw (← same, told-dash) (by_content (stdin_content untaken.told k) _ (kept.given k))
-    by false is = rw (told-other untaken.told source.told name k is, kept.files name is) (law name k)
+        rw (← same, given_told) (by_content (given_once untaken.told (Some empty_content) k) _ (kept.given k))
+    by false is = rw (is, kept.files name is) (law name k)
 
-pub inputs_give : {I : Type 0} (state : I → InputState) (stdin : StdinPlace I) (untaken : InputState)
+pub inputs_give : {I : Type 0} (state : I → InputState) (tells : ToldAnswers) (stdin : StdinPlace I) (untaken : InputState)
     (log source : SourceState) → ∥ InputsInvariant state stdin untaken log.openings source.openings ∥₁
-    → GivesTold source → GivesTold (inputs_state untaken log source)
-inputs_give state stdin untaken log source kept law name k =
-    ∥∥₁_elim kept (gives-prop _ _) (λ kept. gives_by state stdin untaken log source kept law name k)
+    → GivesTold tells source → GivesTold (tells_both tells) (inputs_state untaken log source)
+inputs_give state tells stdin untaken log source kept law name k =
+    ∥∥₁_elim kept (gives-prop _ _) (λ kept. gives_by state tells stdin untaken log source kept law name k)

@@ -1,6 +1,6 @@
 -- What the logs keep that only proofs see.
 use Rattle.std.specs.Prelude.{[], None}
-use Rattle.sum_sources.specs.{Contents.InputState, Contents.unread, Sources.SourceState, Sources.none_told}
+use Rattle.sum_sources.specs.{Contents.InputState, Contents.unread, Sources.SourceState}
 
 -- no read of an input that no source opened, and that isn't in memory
 abbrev pub no_reads : InputState
@@ -8,8 +8,8 @@ no_reads = record { opening = 0; name = []; told = None; reads = unread }
 
 -- no opening of a source that isn't in memory
 abbrev pub no_openings : SourceState
-no_openings = record { told = none_told; openings = []; refusals = 0 }
+no_openings = record { told = []; openings = []; refusals = 0 }
 
 -- the state of a source that has this log, and isn't in memory
 abbrev pub untold : SourceState → SourceState
-untold s = record s { told = none_told }
+untold s = record s { told = [] }

@@ -1,5 +1,5 @@
 -- Sources of files: what was asked of one, and what it answered.
-use Rattle.std.specs.Prelude.{ℕ, zero, suc, slice_get, ◌≡◌, ◌+◌, List, [], ◌∷◌, ◌++◌, map, filter, filter_map, length, Option, None, Some, Result, Ok, Err, IfSome, MatchResult, ◌&&◌, if◌then◌else◌, bytes_eq, nat_le}
+use Rattle.std.specs.Prelude.{ℕ, zero, suc, slice_get, ◌≡◌, ◌+◌, List, [], ◌∷◌, ◌++◌, map, filter, filter_map, length, Option, None, Some, Result, Ok, Err, IfSome, MatchResult, if◌then◌else◌, bytes_eq}
 use Rattle.std.specs.{Option.option_and_then, Result.result_ok}
 use Rattle.sum_sources.specs.Contents.{Content, InputState, Reads, IsOf, unread}
 use Rattle.sum_sources.specs.Faults.{Fault, ByteString}
@@ -36,40 +36,30 @@ gave_at os name k = option_and_then (λ gave. gave) (slice_get (gave_of os name)
 
 -- ---- what is in memory
 
--- a name, and the answer to its openings from that one on that has so many of the name before it; None stands for an
--- answer that isn't in memory
+-- what a source has in memory: a name, and the answer, if it is known, to the openings of it that have at least so many
+-- before them
 pub record Pair : Type 0 where
   pub name : ByteString
   pub from : ℕ
   pub answer : Option Answer
 
--- what a source has in memory: the first pair that fits an opening answers it; and if none fits, `other` does
-pub record ToldAnswers : Type 0 where
-  pub pairs : List Pair
-  pub other : Option Answer
+-- the answers of a source, each if it is known, by what it has in memory: any function
+abbrev pub ToldAnswers : Type 0
+ToldAnswers = List Pair → ByteString → ℕ → Option Answer
 
-abbrev pub first_answer : List Pair → Option Answer → ByteString → ℕ → Option Answer
-first_answer [] other name k = other
-first_answer (p ∷ ps) other name k =
-    if bytes_eq p.name name && nat_le p.from k then p.answer else first_answer ps other name k
+-- all answers are known, and they are these
+abbrev pub TellsAll : ToldAnswers → List Pair → Answers → Type 0
+TellsAll tells told answer = (name : ByteString) (k : ℕ) → tells told name k ≡ Some (answer name k)
 
--- the answer to an opening, if it is in memory
-abbrev pub told_at : ToldAnswers → ByteString → ℕ → Option Answer
-told_at t name k = first_answer t.pairs t.other name k
-
--- these are all answers, and they are in memory
-abbrev pub TellsAll : ToldAnswers → Answers → Type 0
-TellsAll t answer = (name : ByteString) (k : ℕ) → told_at t name k ≡ Some (answer name k)
-
--- nothing is in memory
-abbrev pub none_told : ToldAnswers
-none_told = record { pairs = []; other = None }
+-- none is known
+abbrev pub tells_none : ToldAnswers
+tells_none told name k = None
 
 -- ---- the state
 
 -- the state of a source
 pub record SourceState : Type 0 where
-  pub told : ToldAnswers
+  pub told : List Pair  -- what it has in memory, which no call changes
   pub openings : List Opening  -- in their order
   pub refusals : ℕ  -- how many openings were refused memory
 
@@ -77,19 +67,19 @@ pub record SourceState : Type 0 where
 abbrev pub IsOfAnswer : Answer → Result Reads Fault → Type 0
 IsOfAnswer answer gave = MatchResult gave (λ r. (c : Content) × (answer ≡ Ok c) × IsOf r c) (λ f. answer ≡ Err f)
 
--- what an opening gave is of the answer in memory, if that is there
-abbrev pub GivesTold : SourceState → Type 0
-GivesTold s = (name : ByteString) (k : ℕ)
-    → IfSome (told_at s.told name k) (λ told. IfSome (gave_at s.openings name k) (IsOfAnswer told))
+-- what an opening gave is of the answer, if that is known
+abbrev pub GivesTold : ToldAnswers → SourceState → Type 0
+GivesTold tells s = (name : ByteString) (k : ℕ)
+    → IfSome (tells s.told name k) (λ told. IfSome (gave_at s.openings name k) (IsOfAnswer told))
 
--- the content that is in memory of the file of an opening
-abbrev pub content_at : SourceState → ByteString → ℕ → Option Content
-content_at s name k = option_and_then result_ok (told_at s.told name k)
+-- the content of the file of an opening, if it is known
+abbrev pub content_at : ToldAnswers → SourceState → ByteString → ℕ → Option Content
+content_at tells s name k = option_and_then result_ok (tells s.told name k)
 
 -- a name is opened: this is the file, and nothing was read of it yet
-abbrev pub opened_file : SourceState → ByteString → InputState
-opened_file s name = let k = times name (names_of s.openings) in
-    record { opening = k; name = name; told = content_at s name k; reads = unread }
+abbrev pub opened_file : ToldAnswers → SourceState → ByteString → InputState
+opened_file tells s name = let k = times name (names_of s.openings) in
+    record { opening = k; name = name; told = content_at tells s name k; reads = unread }
 
 -- one opening more
 abbrev pub and_opening : SourceState → ByteString → Option (Result Reads Fault) → SourceState
@@ -102,9 +92,9 @@ after_opening s name (Err (faults.Fault f)) = and_opening s name (Some (Err f))
 after_opening s name (Err faults.Memory) = record s { refusals = s.refusals + 1 }
 
 -- a file that this source opened is open
-pub record IsOpen (s : SourceState) (file : InputState) : Type 0 where
+pub record IsOpen (tells : ToldAnswers) (s : SourceState) (file : InputState) : Type 0 where
   pub opening : slice_get (gave_of s.openings file.name) file.opening ≡ Some None
-  pub told : file.told ≡ content_at s file.name file.opening
+  pub told : file.told ≡ content_at tells s file.name file.opening
 
 -- the openings once the file was closed of that opening of a name which has k of them before it
 abbrev pub closed_at : List Opening → ByteString → ℕ → Reads → List Opening

@@ -1,9 +1,9 @@
 //! Laws of standard input in memory, and of the lines of a content.
 ghost use Rattle.std.specs.Prelude.{◌≡◌, ℕ, Some, ◌++◌, List, All};
 ghost use Rattle.sum_sources.specs.Contents.{Content};
-ghost use Rattle.sum_sources.specs.Inputs.{answers_with, with_stdin};
+ghost use Rattle.sum_sources.specs.Inputs.{answers_with, tells_both, with_stdin};
 ghost use Rattle.sum_sources.specs.ManifestLines.{HasNoNewline, bytes_of_lines, last_line, raw_lines};
-ghost use Rattle.sum_sources.specs.Sources.{Answers, TellsAll, ToldAnswers};
+ghost use Rattle.sum_sources.specs.Sources.{Answers, Pair, TellsAll, ToldAnswers};
 ghost use Rattle.sum_sources.specs.declared.fault.Ending.{Ending as EndingValue};
 
 /// All bytes can be cut into pieces that a newline ends, and a tail. Neither a piece nor the tail has a newline. The
@@ -21,6 +21,7 @@ pub fn raw_lines_of_bytes()
 /// If standard input and the answers of a source are in memory, so are those of both as one source: the first opening
 /// of `-` gives standard input, each later one an empty content, and every other name what it gives in the source.
 pub fn inputs_tell()
-    ensures { (stdin : Content) (t : ToldAnswers) (answer : Answers) → TellsAll t answer
-        → TellsAll (with_stdin (Some stdin) t) (answers_with stdin answer) }
+    ensures { (stdin : Content) (tells : ToldAnswers) (told : List Pair) (answer : Answers)
+        → TellsAll tells told answer
+        → TellsAll (tells_both tells) (with_stdin (Some stdin) told) (answers_with stdin answer) }
 {}

@@ -2,7 +2,7 @@
 use Rattle.std.specs.Prelude.{ℕ, zero, suc, ◌≡◌, ◌<◌, false, List, [], codes, length, Option, Some, IfSome, Result, Ok}
 use Rattle.sum_sources.specs.{Contents.Content, Contents.InputState, Contents.Reads, Contents.Fault, Contents.empty_content, Faults.ByteString}
 use Rattle.sum_sources.specs.Sources.{Opening, gave_of, gave_at, IsOfAnswer}
-use Rattle.sum_sources.specs.Inputs.{is_dash}
+use Rattle.sum_sources.specs.Inputs.{is_dash, given_once}
 use Rattle.sum_sources.specs.declared.inputs.stdin.StdinPlace.{StdinPlace}
 use Rattle.sum_sources.specs.declared.inputs.stdin.StdinPlace.TheVariants.{Untaken}
 
@@ -11,11 +11,6 @@ abbrev pub IsPlaceOf : {I : Type 0} → (I → InputState) → StdinPlace I → 
     → List (Option (Result Reads Fault)) → Type 0
 IsPlaceOf state (Untaken i) untaken gave = ((state i).told ≡ untaken.told) × (gave ≡ [])
 IsPlaceOf state place untaken gave = 0 < length gave
-
--- the content in memory of the opening of `-` that has k before it
-abbrev pub stdin_content : Option Content → ℕ → Option Content
-stdin_content stdin zero = stdin
-stdin_content stdin (suc k) = Some empty_content
 
 -- what an opening gave is of the content in memory, if that is there
 abbrev pub GivesContent : Option Content → Result Reads Fault → Type 0
@@ -26,6 +21,6 @@ pub record InputsInvariant {I : Type 0} (state : I → InputState) (stdin : Stdi
     (openings source : List Opening) : Type 0 where
   pub place : IsPlaceOf state stdin untaken (gave_of openings (codes "-"))
   -- what `-` gave is of the content in memory
-  pub given : (k : ℕ) → IfSome (gave_at openings (codes "-") k) (GivesContent (stdin_content untaken.told k))
+  pub given : (k : ℕ) → IfSome (gave_at openings (codes "-") k) (GivesContent (given_once untaken.told (Some empty_content) k))
   -- each other name was opened in the source, and nothing else was
   pub files : (name : ByteString) → is_dash name ≡ false → gave_of openings name ≡ gave_of source name

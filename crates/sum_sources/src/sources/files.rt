@@ -51,8 +51,11 @@ where
 
     ghost use Rattle.sum_sources.specs.Logs.{untold};
     ghost use Rattle.sum_sources.specs.SourceLaws.{untold_gives};
+    ghost use Rattle.sum_sources.specs.Sources.{tells_none};
 
     ghost state = { λ s. untold s };
+
+    ghost tells = { tells_none };
 
     /// Opens the file. A name that isn't UTF-8 is `Fault::Other`, since the runtime's paths are texts. Any other fault
     /// is the system's. `OpenFault::Memory` if the runtime has no memory for the call.

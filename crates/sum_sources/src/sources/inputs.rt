@@ -66,12 +66,14 @@ pub fn is_dash(name: &[u8]) -> bool
 }
 
 impl<I: Input + Drop, S: Source> Source for Inputs<I, S> {
-    ghost use Rattle.sum_sources.specs.Inputs.{inputs_state};
+    ghost use Rattle.sum_sources.specs.Inputs.{inputs_state, tells_both};
     ghost use Rattle.sum_sources.specs.InputsLaws.{inputs_give};
 
     type File = Opened<I, S::File>;
 
     ghost state = { λ s. inputs_state s.untaken s.log (S.state s.source) };
+
+    ghost tells = { tells_both S.tells };
 
     ghost use Rattle.std.specs.Prelude.{IfOk, MatchBool, MatchResult};
     ghost use Rattle.sum_sources.specs.Inputs.{opened_state, TakesStdin};
@@ -84,7 +86,7 @@ impl<I: Input + Drop, S: Source> Source for Inputs<I, S> {
             (inputs_state self.old.untaken self.old.log (S.state self.old.source)) name.now
             result }
         ensures file { IfOk result (λ file. opened_state I.state S.File.state file.place
-            ≡ opened_file
+            ≡ opened_file (tells_both S.tells)
             (inputs_state self.old.untaken self.old.log (S.state self.old.source)) name.now) }
         // Standard input is the input that it was made of, and nothing else takes it.
         ensures stdin { MatchBool (is_dash name.now)
@@ -119,5 +121,5 @@ impl<I: Input + Drop, S: Source> Source for Inputs<I, S> {
         }
     }
 
-    ghost gives_told = { λ s. inputs_give I.state s.stdin s.untaken s.log (S.state s.source) s.is (S.gives_told s.source) };
+    ghost gives_told = { λ s. inputs_give I.state S.tells s.stdin s.untaken s.log (S.state s.source) s.is (S.gives_told s.source) };
 }

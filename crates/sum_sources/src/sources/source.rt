@@ -1,6 +1,6 @@
 //! The trait of a source of files, and why a file could not be opened.
 ghost use Rattle.std.specs.Prelude.{◌≡◌, IfOk};
-ghost use Rattle.sum_sources.specs.Sources.{SourceState, GivesTold, IsOpen, opened_file, after_opening, after_closing};
+ghost use Rattle.sum_sources.specs.Sources.{SourceState, ToldAnswers, GivesTold, IsOpen, opened_file, after_opening, after_closing};
 
 use crate::{Fault, Input};
 use thiserror::Error;
@@ -22,18 +22,21 @@ pub trait Source {
     /// What was asked of it, and what it answered. A source that isn't in memory keeps it for proofs alone.
     ghost state: { Self → SourceState };
 
+    /// Which answers are known by what it has in memory: any function.
+    ghost tells: { ToldAnswers };
+
     /// Opens the file of that name. `OpenFault::Fault` if it can't be opened. `OpenFault::Memory` only if memory was
     /// refused; then the name isn't recorded as asked.
     fn open_file(&mut self, name: &[u8]) -> Result<Self::File, OpenFault>
         ensures state { state self.new ≡ after_opening (state self.old) name.now result }
         ensures file { IfOk result (λ file. Self.File.state file
-            ≡ opened_file (state self.old) name.now) };
+            ≡ opened_file tells (state self.old) name.now) };
 
     /// Closes a file that this source opened, and keeps what was read of it.
     fn close_file(&mut self, file: Self::File)
-        requires { IsOpen (state self.old) (Self.File.state file) }
+        requires { IsOpen tells (state self.old) (Self.File.state file) }
         ensures { state self.new ≡ after_closing (state self.old) (Self.File.state file) };
 
-    /// Law: what an opening gave is of the answer in memory, if that is there.
-    ghost gives_told: { (s : Self) → GivesTold (state s) };
+    /// Law: what an opening gave is of the answer, if that is known.
+    ghost gives_told: { (s : Self) → GivesTold tells (state s) };
 }

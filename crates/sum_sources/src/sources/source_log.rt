@@ -1,6 +1,6 @@
 //! What a source of files was asked, and what it answered, for proofs alone.
 ghost use Rattle.std.specs.Prelude.{◌≡◌};
-ghost use Rattle.sum_sources.specs.Sources.{opened_file};
+ghost use Rattle.sum_sources.specs.Sources.{opened_file, tells_none};
 
 use crate::inputs::read_log::{ReadLog, Reads};
 use crate::{Fault, Input, Source};
@@ -64,12 +64,12 @@ impl<'a, S: Source> Notes<OthersOf<'a, S>> for Openings {
 
 // It is the file that the source opens next, by this name.
 impl<'a> Notes<(&'a SourceLog, &'a [u8])> for Reads {
-    ghost noted = { λ _ x. opened_file x.0.now x.1.now };
+    ghost noted = { λ _ x. opened_file tells_none x.0.now x.1.now };
 }
 
 /// No reads yet of the file that a source with this log opens next, by this name.
 pub fn next_file(log: &SourceLog, name: &[u8]) -> ReadLog
-    ensures { result ≡ opened_file log.now name.now }
+    ensures { result ≡ opened_file tells_none log.now name.now }
 {
     Log::of(&Reads).and(&(log, name))
 }

@@ -1,8 +1,8 @@
 //! A source of files in memory.
 ghost use Rattle.std.specs.Option.{option_map};
 ghost use Rattle.std.specs.Prelude.{◌≡◌, ◌≤◌, ◌++◌, ◌∷◌, [], OnOk, OnErr, MatchBool, length, map, max, slice_get};
-ghost use Rattle.sum_sources.specs.InMemory.{told_source};
-ghost use Rattle.sum_sources.specs.Sources.{first_answer, names_of, times};
+ghost use Rattle.sum_sources.specs.InMemory.{first_answer, told_source};
+ghost use Rattle.sum_sources.specs.Sources.{names_of, times};
 ghost use Rattle.sum_sources.specs.refinement.ToldPairs.{pair_of, answer_value};
 
 use crate::sources::source_log::{Note, Openings, SourceLog, next_file};
@@ -70,8 +70,7 @@ fn times<A: Allocator>(names: &[Vec<u8, A>], name: &[u8]) -> usize
 
 // The answer of the first pair with the name that was added when it had been asked so often.
 fn answer_to<'a, A: Allocator>(pairs: &[StoredPair<'a, A>], name: &[u8], times: usize) -> Answer<'a>
-    ensures { Some (answer_value result)
-        ≡ first_answer (map pair_of pairs.now) (Some (Err Fault.NotFound)) name.now times }
+    ensures { answer_value result ≡ first_answer (map pair_of pairs.now) name.now times }
 {
     for pair in pairs {
         if pair.name.as_slice() == name && pair.from <= times {
@@ -142,11 +141,14 @@ fn add_name<A: Allocator + Copy>(alloc: A, asked: &mut Vec<Vec<u8, A>, A>, name:
 }
 
 impl<'a, A: Allocator + Copy> Source for ToldSource<'a, A> {
+    ghost use Rattle.sum_sources.specs.InMemory.{tells_first};
     ghost use Rattle.sum_sources.specs.SourceLaws.{told_gives};
 
     type File = Told<'a>;
 
     ghost state = { λ s. told_source s };
+
+    ghost tells = { tells_first };
 
     fn open_file(&mut self, name: &[u8]) -> Result<Told<'a>, OpenFault> {
         let before = times(&self.asked, name);

@@ -1,8 +1,8 @@
 use Rattle.std.proofs.Common.{◌≡◌, drop, map, Some, Err}
-use Rattle.sum_sources.specs.{Faults.NotFound, Sources.first_answer, refinement.ToldPairs.pair_of}
+use Rattle.sum_sources.specs.{InMemory.first_answer, refinement.ToldPairs.pair_of}
 use Rattle.sum_sources.proofs.sources.told_source.answer_to.Given as goal
 
 -- none of the pairs so far has the name
 abbrev pub invariant-loop-pair : goal.invariant-loop-pair
-invariant-loop-pair g l = first_answer (map pair_of (drop l.pair-index l.pairs)) (Some (Err NotFound)) l.name l.times
-    ≡ first_answer (map pair_of l.pairs) (Some (Err NotFound)) l.name l.times
+invariant-loop-pair g l = first_answer (map pair_of (drop l.pair-index l.pairs)) l.name l.times
+    ≡ first_answer (map pair_of l.pairs) l.name l.times

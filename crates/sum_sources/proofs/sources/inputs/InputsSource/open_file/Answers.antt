@@ -16,7 +16,7 @@ invariant_of-self g c = record {
 pub returns-then-is_dash-clause-file : goal.returns-then-is_dash-clause-file
 returns-then-is_dash-clause-file g c = ∥∥₁_elim c.args.self.now.is (hlevel props) (λ kept.
     ap (opened_state g.I.Input.state g.S.File.Input.state) c.of_stdin-opened.ensures ∙ rw c.next_file.ensures
-    (stdin_opened c.args.self.now.untaken c.args.self.now.log
+    (stdin_opened g.S.Source.tells c.args.self.now.untaken c.args.self.now.log
     (g.S.Source.state c.args.self.now.source) kept c.args.name.now _ c.take.result (sym c.is_dash.ensures ∙ c.if-is_dash.true) c.take.ensures))
 
 pub returns-then-is_dash-clause-stdin : goal.returns-then-is_dash-clause-stdin
@@ -41,5 +41,5 @@ invariant_of-self-in-Err-Fault g c = record {
 pub returns-in-Ok-clause-file : goal.returns-in-Ok-clause-file
 returns-in-Ok-clause-file g c = ∥∥₁_elim c.args.self.now.is (hlevel props) (λ kept.
     c.of_file.ensures ∙ c.in-Ok.ensures.file
-    ∙ file_opened c.args.self.now.untaken c.args.self.now.log
+    ∙ file_opened g.S.Source.tells c.args.self.now.untaken c.args.self.now.log
     (g.S.Source.state c.args.self.now.source) kept c.args.name.now (sym c.is_dash.ensures ∙ c.if-is_dash.false))
