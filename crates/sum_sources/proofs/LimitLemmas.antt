@@ -1,10 +1,15 @@
 -- `read_limited`: what an input's end, its fault and the limit say of its contents.
-use Rattle.std.proofs.Common.{◌≡◌, ℕ, zero, suc, ◌+◌, ◌-◌, ◌^◌, ◌<◌, ◌≤◌, [], ◌∷◌, ◌++◌, List, max, length, take, Ok, Err, refl, arith, length-append, ap, append-nil, append_assoc, sym, ◌∙◌}
+use Rattle.std.proofs.Common.{◌≡◌, ℕ, zero, suc, ◌+◌, ◌-◌, ◌^◌, ◌<◌, ◌≤◌, [], ◌∷◌, ◌++◌, List, max, length, take, Result, Ok, Err, refl, arith, length-append, ap, append-nil, append_assoc, sym, ◌∙◌}
+use Rattle.std.specs.Result.{result_unwrap_or}
 use Rattle.std.proofs.Math.Seq.{take-append_seam}
-use Rattle.std.proofs.lemmas.List.{length-take-le, take-append-le}
-use Rattle.sum_sources.specs.Contents.{Content, Reads, InputState, IsOf, clip, limit, Ending, Whole, Other, Fault, Broken, and_read}
+use Rattle.std.proofs.lemmas.List.{length-take-le, take-append-le, drop-append-le}
+use Rattle.sum_sources.specs.Contents.{Content, Reads, InputState, IsOf, clip, limit, Ending, Whole, Other, Fault, Broken, and_read, reads_past}
 use Rattle.sum_sources.specs.{refinement.LimitedReads.FindsEnding, refinement.LimitedReads.AddsLimited, Phases.Unfinished, Phases.Ended}
 use Rattle.sum_sources.proofs.ContentLemmas.{limit-value, clip-short}
+
+-- an input, of which the bytes past the first m count
+abbrev pub past : ℕ → InputState → InputState
+past m s = record s { reads = reads_past m s.reads }
 
 -- more bytes are of no content that the bytes before weren't of
 pub before_more : (a b : Reads) (more : List ℕ) → a.phase ≡ Unfinished → b ≡ record a { bytes = a.bytes ++ more }
@@ -12,6 +17,11 @@ pub before_more : (a b : Reads) (more : List ℕ) → a.phase ≡ Unfinished →
 before_more a b more going is c of =
     let (rest, begins) = rw (is, going) at of in
     rw going (more ++ rest, begins ∙ append_assoc a.bytes more rest)
+
+-- a read adds the same past the first m bytes
+pub past_read : (m : ℕ) (a b : InputState) (given : List ℕ) (r : Result ℕ Fault) → m ≤ length a.reads.bytes
+    → b ≡ and_read a given r → past m b ≡ and_read (past m a) given r
+past_read m a b given r low is = rw (is, drop-append-le m a.reads.bytes (take (result_unwrap_or r 0) given) low) refl
 
 module _ (a b : InputState) (t : ℕ) (going : a.reads.phase ≡ Unfinished) (few : t < 2 ^ 61) where
   -- its ending was read

@@ -1,13 +1,13 @@
 -- What was read so far of a line, and what reading on adds to it.
-use Rattle.std.proofs.Common.{◌≡◌, ℕ, zero, suc, ◌+◌, ◌-◌, ◌^◌, ◌<◌, ◌≤◌, true, false, List, [], ◌∷◌, ◌++◌, length, take, drop, None, Some, Result, Ok, Err, refl, ap, sym, ◌∙◌, append_assoc, ◌==◌, arith, length-append}
+use Rattle.std.proofs.Common.{◌≡◌, ℕ, zero, suc, ◌+◌, ◌-◌, ◌^◌, ◌<◌, ◌≤◌, true, false, List, [], ◌∷◌, ◌++◌, length, take, drop, None, Some, Result, subst, length-drop, Ok, Err, refl, ap, sym, ◌∙◌, append_assoc, ◌==◌, arith, length-append}
 use Rattle.std.specs.Prelude.{nat_lt, if◌then◌else◌}
 use Rattle.std.proofs.Math.Seq.{take-append-add, drop-append_seam}
 use Rattle.std.proofs.lemmas.{List.drop_all, List.Elements.All-append}
 use Rattle.std.specs.Str.Lines.{strip_carriage_return}
 use Rattle.sum_sources.specs.ManifestLines.{Next, Line, NoMore, LineStop, HasNoNewline, IsNextLine}
-use Rattle.sum_sources.specs.Contents.{Ending, Whole, Broken, Content, InputState, IsOf, Other, clip, limit}
-use Rattle.sum_sources.specs.LineReaders.{LineReaderValue, consumed_count, past, remaining, IsUnderWay, IsReading, ReadsOn}
-use Rattle.sum_sources.specs.{Phases.Ended, Phases.Past, refinement.LimitedReads.FindsEnding, refinement.LimitedReads.AddsLimited}
+use Rattle.sum_sources.specs.Contents.{Ending, Whole, Broken, Content, InputState, Reads, Fault, IsOf, Other, clip, limit, reads_past}
+use Rattle.sum_sources.specs.LineReaders.{LineReaderValue, consumed_count, past, reads_of, remaining, IsUnderWay, IsReading, ReadsOn}
+use Rattle.sum_sources.specs.{Phases.Ended, Phases.Past, refinement.LimitedReads.FindsEnding, refinement.LimitedReads.AddsLimited, refinement.LimitedReads.AddsPast, refinement.LimitedReads.CountsBytes}
 use Rattle.sum_sources.specs.refinement.LineStates.{FillsReader, TakesPiece}
 use Rattle.sum_sources.specs.declared.line_reader.LineStop.TheVariants as stops
 use Rattle.sum_sources.proofs.{ContentLemmas.with_prefix, ContentLemmas.limit-value, LimitLemmas.before_more, LineLemmas.lines-nil, LineLemmas.IsNextLine-ended}
@@ -45,29 +45,44 @@ module _ {I : Type 0} {state : I → InputState} {r : LineReaderValue I} (u : Is
   few_ahead = omega (arith, u.taken, ap length u.ahead.1, length-append {A = ℕ})
 
   -- what remains begins with what is ahead
-  begins_at : (k d : Content) → k ≡ with_prefix (state r.input).reads.bytes d
+  begins_at : (k d : Content) → k ≡ with_prefix (reads_of state r).bytes d
       → past (consumed_count r) k ≡ with_prefix r.ahead (past r.taken k)
   begins_at k d is =
       let (consumed, read) = u.ahead in
       let at : consumed_count r ≡ length consumed =
       omega (arith, u.taken, ap length read, length-append consumed r.ahead) in
-      let keeps : drop (consumed_count r) ((state r.input).reads.bytes ++ d.bytes) ≡ r.ahead ++ d.bytes =
+      let keeps : drop (consumed_count r) ((reads_of state r).bytes ++ d.bytes) ≡ r.ahead ++ d.bytes =
       rw (at, read, append_assoc, drop-append_seam) refl in
-      rw (is, keeps, ← u.taken, drop-append_seam) refl
+      let over : drop r.taken ((reads_of state r).bytes ++ d.bytes) ≡ d.bytes =
+      ap (λ n. drop n ((reads_of state r).bytes ++ d.bytes)) (sym u.taken) ∙ drop-append_seam (reads_of state r).bytes d.bytes in
+      rw (is, keeps, over) refl
 
-  begins : r.taken < 2 ^ 61 → (c : Content) → IsOf (state r.input).reads c
+  begins : r.taken < 2 ^ 61 → (c : Content) → IsOf (reads_of state r) c
       → remaining r c ≡ with_prefix r.ahead (past r.taken (clip c))
   begins few c of =
       let (rest, is) = rw u.phase at of in
       let (d, keeps) = clip-prefix _ (record { bytes = rest; ending = c.ending }) (rw u.taken few) in
       begins_at (clip c) d (ap (λ bs. clip (record { bytes = bs; ending = c.ending })) is ∙ keeps)
 
+-- a read adds the same past what was read before the reader was made
+pub adds_of : {I : Type 0} {state : I → InputState} (s s' : LineReaderValue I) {result : Result ℕ Fault}
+    → IsUnderWay state s → CountsBytes s.taken s'.taken (state s.input) (state s'.input)
+    → AddsPast s.taken (state s.input).reads (state s'.input).reads s'.ahead result
+    → AddsLimited s.taken (reads_of state s) (reads_of state s') s'.ahead result
+adds_of {state = state} s s' {result} u counts adds =
+    let before = length (state s.input).reads.bytes - s.taken in
+    let low : s.taken ≤ length (state s.input).reads.bytes =
+    omega (arith, u.taken, length-drop before (state s.input).reads.bytes) in
+    let same : before ≡ length (state s'.input).reads.bytes - s'.taken = omega (arith, counts.bytes, low) in
+    subst (λ m. AddsLimited s.taken (reads_of state s) (reads_past m (state s'.input).reads) s'.ahead result) same
+    (adds.adds before (omega arith) u.phase)
+
 -- these bytes were read of what remained
 pub record HasRead {I : Type 0} (state : I → InputState) (old s : LineReaderValue I) (bytes : List ℕ) : Type 0 where
   pub under_way : IsUnderWay state s
   pub count : consumed_count s ≡ consumed_count old + length bytes
-  pub remains : (c : Content) → IsOf (state s.input).reads c → remaining old c ≡ with_prefix bytes (remaining s c)
-  pub before : (c : Content) → IsOf (state s.input).reads c → IsOf (state old.input).reads c
+  pub remains : (c : Content) → IsOf (reads_of state s) c → remaining old c ≡ with_prefix bytes (remaining s c)
+  pub before : (c : Content) → IsOf (reads_of state s) c → IsOf (reads_of state old) c
 
 -- a piece goes from one part of a content's bytes to another
 regroup : (a b c : List ℕ) (d : Content) → with_prefix a (with_prefix (b ++ c) d)
@@ -101,19 +116,20 @@ module _ {I : Type 0} {state : I → InputState} {old s s' : LineReaderValue I} 
 
     -- bytes were read of the input
     pub HasRead-filled : (n : ℕ) → 0 < n → s.ahead ≡ []
-        → AddsLimited s.taken (state s.input).reads (state s'.input).reads s'.ahead (Ok n) → FillsReader s s' (Ok n)
+        → AddsLimited s.taken (reads_of state s) (reads_of state s') s'.ahead (Ok n) → FillsReader s s' (Ok n)
         → HasRead state old s' bytes
     HasRead-filled zero some none fills counts = absurd (omega arith)
     HasRead-filled (suc n) some none fills counts =
         let u = h.under_way in
         let earlier = before_more _ _ s'.ahead u.phase fills in
-        let at : consumed_count s' ≡ length (state s.input).reads.bytes = omega (arith, counts.0, counts.1, u.taken) in
+        let at : consumed_count s' ≡ length (reads_of state s).bytes = omega (arith, counts.0, counts.1, u.taken) in
         let same : consumed_count s ≡ consumed_count s' = omega (arith, at, u.taken, ap length none) in
         record {
           under_way = record {
-            phase = rw fills u.phase;
-            taken = rw fills (simp length-append (omega (arith, counts.0, counts.1, u.taken)));
-            ahead = ((state s.input).reads.bytes, rw fills refl);
+            phase = ap (λ (r : Reads). r.phase) fills ∙ u.phase;
+            taken = ap (λ (r : Reads). length r.bytes) fills
+                ∙ simp length-append (omega (arith, counts.0, counts.1, u.taken));
+            ahead = ((reads_of state s).bytes, ap (λ (r : Reads). r.bytes) fills);
           };
           count = omega (arith, same, h.count);
           remains = λ c of. h.remains c (earlier c of) ∙ ap (λ n. with_prefix bytes (past n (clip c))) same;
@@ -154,9 +170,9 @@ ends_line {state = state} {old = old} {s' = s'} {line = line} {line' = line'} h 
 -- a reader whose final answer is right
 settled : {I : Type 0} {state : I → InputState} {n : LineReaderValue I} (answer : Result Next LineStop)
     → n.final_answer ≡ Some answer
-    → ((line : List ℕ) (c : Content) → IsOf (state n.input).reads c
+    → ((line : List ℕ) (c : Content) → IsOf (reads_of state n) c
     → IsNextLine (remaining n c) (remaining n c) answer line)
-    → (answer ≡ Ok NoMore → (state n.input).reads.phase ≡ Ended Whole) → ¬ ((state n.input).reads.phase ≡ Past)
+    → (answer ≡ Ok NoMore → (reads_of state n).phase ≡ Ended Whole) → ¬ ((reads_of state n).phase ≡ Past)
     → IsReading state n
 settled answer final right end past = record {
   under_way = λ going. cc;
@@ -171,7 +187,7 @@ pub ends_memory : {I : Type 0} {state : I → InputState} {old s n : LineReaderV
     → n ≡ record s { final_answer = Some (Err stops.Memory) } → (bytes : List ℕ)
     → ReadsOn state old n (Err stops.Memory) bytes
 ends_memory {state = state} {s = s} h few some is bytes =
-    let left : (c : Content) → IsOf (state s.input).reads c → 0 < length (remaining s c).bytes = λ c of.
+    let left : (c : Content) → IsOf (reads_of state s) c → 0 < length (remaining s c).bytes = λ c of.
     omega (arith, some, ap (λ (c : Content). length c.bytes) (begins h.under_way few c of), length-append {A = ℕ}) in
     rw is (record {
       line = λ c of. omega (arith, left c of, h.count, adds_up _ _ _ _ (h.remains c of) h.count);
@@ -198,14 +214,14 @@ whole_by (Broken f) is = cc
 pub ends : {I : Type 0} {state : I → InputState} {old s : LineReaderValue I} (m : LineReaderValue I)
     {n : LineReaderValue I} {line bytes : List ℕ} (e : Ending) (answer : Result Next LineStop)
     → HasRead state old s line → s.ahead ≡ []
-    → FindsEnding s.taken (state s.input).reads (state m.input).reads e → length m.ahead ≡ 0 → s.taken ≤ m.taken
+    → FindsEnding s.taken (reads_of state s) (reads_of state m) e → length m.ahead ≡ 0 → s.taken ≤ m.taken
     → n ≡ record m { final_answer = Some (answer_by e) } → IsNextLine (with_prefix line (just e)) (just e) answer bytes
     → ((next : Next) → answer ≡ Ok next → m.taken ≡ s.taken) → ReadsOn state old n answer bytes
 ends {state = state} {old = old} {s = s} m {line = line} e answer h none finds none' more is next same =
     let taken = h.under_way.taken in
-    let now : (c : Content) → IsOf (state m.input).reads c → remaining m c ≡ just e =
+    let now : (c : Content) → IsOf (reads_of state m) c → remaining m c ≡ just e =
     λ c of. over _ _ e (finds.content taken c of) (omega (arith, taken, none', more)) in
-    let was : (c : Content) → IsOf (state m.input).reads c → remaining old c ≡ with_prefix line (just e) =
+    let was : (c : Content) → IsOf (reads_of state m) c → remaining old c ≡ with_prefix line (just e) =
     λ c of. h.remains c (finds.before c of) ∙ ap (with_prefix line)
     (over _ _ e (finds.content taken c of) (omega (arith, taken, ap length none))) in
     rw is (record {
@@ -217,6 +233,23 @@ ends {state = state} {old = old} {s = s} m {line = line} e answer h none finds n
           (λ is. finds.end (whole_by e is)) finds.past;
       before = λ c of. h.before c (finds.before c of);
     })
+
+-- a line is counted
+pub counted : {I : Type 0} {state : I → InputState} {old new : LineReaderValue I} {result : Result Next LineStop}
+    {bytes : List ℕ} (n : ℕ) → ReadsOn state old new result bytes
+    → ReadsOn state old (record new { lines = n }) result bytes
+counted n h = record {
+  line = h.line;
+  sum = h.sum;
+  reading = record {
+    under_way = λ going. let u = h.reading.under_way going in
+        record { phase = u.phase; taken = u.taken; ahead = u.ahead };
+    final = h.reading.final;
+    end = h.reading.end;
+    past = h.reading.past;
+  };
+  before = h.before;
+}
 
 -- a final answer is returned again
 pub settled_again : {I : Type 0} {state : I → InputState} {r : LineReaderValue I} (answer : Result Next LineStop)

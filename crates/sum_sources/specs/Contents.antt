@@ -1,5 +1,5 @@
 -- Contents of inputs: what reads gave, of which content they are, the limit of 2^61 bytes, and digests.
-use Rattle.std.specs.Prelude.{ℕ, ◌≡◌, ◌-◌, ◌^◌, [], ◌++◌, take, length, Option, Result, ⊤, nat_lt, if◌then◌else◌, IfSome, IfOk, MatchResult}
+use Rattle.std.specs.Prelude.{ℕ, ◌≡◌, ◌-◌, ◌^◌, [], ◌++◌, take, drop, length, Option, Result, ⊤, nat_lt, if◌then◌else◌, IfSome, IfOk, MatchResult}
 use Rattle.std.specs.Result.{result_unwrap_or}
 use Rattle.digest_kinds.specs.{Bytes.ByteString, Kinds.digest, Kinds.KindValue}
 use Rattle.sum_sources.specs.Phases.{Phase, Unfinished, Ended, Past, phase_after}
@@ -55,6 +55,10 @@ IsReadTo Past bytes c = ⊤
 abbrev pub IsOf : Reads → Content → Type 0
 IsOf r c = IsReadTo r.phase r.bytes c
 
+-- what was read past the first n bytes
+abbrev pub reads_past : ℕ → Reads → Reads
+reads_past n r = record r { bytes = drop n r.bytes }
+
 -- the reads of an input are of a content: of the one in memory, if it is there
 abbrev pub HasContent : InputState → Type 0
 HasContent s = (c : Content) × IfSome s.told (λ d. c ≡ d) × IsOf s.reads c
@@ -66,9 +70,9 @@ IsSameInput a b = b ≡ record a { reads = b.reads }
 -- what a call does that hashes an input
 pub record HashesInput (kind : KindValue) (old new : InputState) (result : Result ByteString Fault) : Type 0 where
   pub same : IsSameInput old new
-  -- if it was unread: the digest of each content that its reads are of, or the fault by which that ends
-  pub digest : old.reads ≡ unread → (c : Content) → IsOf new.reads c → MatchResult result
-      (λ d. ((clip c).ending ≡ Whole) × (d ≡ digest kind (clip c).bytes)) (λ f. (clip c).ending ≡ Broken f)
+  -- if it hadn't ended: of each content that the reads of the call are of, the digest, or the fault by which it ends
+  pub digest : old.reads.phase ≡ Unfinished → (c : Content) → IsOf (reads_past (length old.reads.bytes) new.reads) c
+      → MatchResult result (λ d. ((clip c).ending ≡ Whole) × (d ≡ digest kind (clip c).bytes)) (λ f. (clip c).ending ≡ Broken f)
   -- a digest is returned only at its end, and it is never read past its end or its fault
   pub end : old.reads.phase ≡ Unfinished → IfOk result (λ _. new.reads.phase ≡ Ended Whole)
   pub past : old.reads.phase ≡ Unfinished → ¬ (new.reads.phase ≡ Past)

@@ -1,6 +1,6 @@
 -- The state of a reader of lines, and what a call changes in it.
 use Rattle.std.specs.Prelude.{ℕ, ◌≡◌, ◌+◌, ◌-◌, ◌^◌, ◌≤◌, ◌⊎◌, ◌++◌, length, drop, Option, None, Some, Result, Ok}
-use Rattle.sum_sources.specs.Contents.{Content, Whole, InputState, IsOf, IsSameInput, clip}
+use Rattle.sum_sources.specs.Contents.{Content, Whole, InputState, Reads, IsOf, IsSameInput, clip, reads_past}
 use Rattle.sum_sources.specs.{Faults.ByteString, Phases.Unfinished, Phases.Ended, Phases.Past}
 use Rattle.sum_sources.specs.ManifestLines.{Next, Line, NoMore, LineStop, HasNoNewline, IsNextLine, lines_after}
 
@@ -26,22 +26,26 @@ pub record IsBounded {I : Type 0} (r : LineReaderValue I) : Type 0 where
 abbrev pub past : ℕ → Content → Content
 past n c = record { bytes = drop n c.bytes; ending = c.ending }
 
+-- what was read of the input since the reader was made
+abbrev pub reads_of : {I : Type 0} → (I → InputState) → LineReaderValue I → Reads
+reads_of state r = let reads = (state r.input).reads in reads_past (length reads.bytes - r.taken) reads
+
 -- what remains of a content, as far as the limit allows
 abbrev pub remaining : {I : Type 0} → LineReaderValue I → Content → Content
 remaining r c = past (consumed_count r) (clip c)
 
 -- the input hasn't ended, and what it gave past what was consumed is ahead
 pub record IsUnderWay {I : Type 0} (state : I → InputState) (r : LineReaderValue I) : Type 0 where
-  pub phase : (state r.input).reads.phase ≡ Unfinished
-  pub taken : length (state r.input).reads.bytes ≡ r.taken
-  pub ahead : (consumed : ByteString) × ((state r.input).reads.bytes ≡ consumed ++ r.ahead)
+  pub phase : (reads_of state r).phase ≡ Unfinished
+  pub taken : length (reads_of state r).bytes ≡ r.taken
+  pub ahead : (consumed : ByteString) × ((reads_of state r).bytes ≡ consumed ++ r.ahead)
 
--- a reader of an input that was unread when the reader was made
+-- a reader of an input that hadn't ended when the reader was made
 pub record IsReading {I : Type 0} (state : I → InputState) (r : LineReaderValue I) : Type 0 where
   pub under_way : r.final_answer ≡ None → IsUnderWay state r
   -- a final answer stays right
   pub final : (answer : Result Next LineStop) → r.final_answer ≡ Some answer → (line : ByteString) (c : Content)
-      → IsOf (state r.input).reads c → IsNextLine (remaining r c) (remaining r c) answer line
+      → IsOf (reads_of state r) c → IsNextLine (remaining r c) (remaining r c) answer line
   -- the input is at its end if no line remains, and is never read past its end or its fault
   pub end : r.final_answer ≡ Some (Ok NoMore) → (state r.input).reads.phase ≡ Ended Whole
   pub past : ¬ ((state r.input).reads.phase ≡ Past)
@@ -52,18 +56,18 @@ abbrev pub IsFinalAnswerAfter : Result Next LineStop → Option (Result Next Lin
 IsFinalAnswerAfter (Ok Line) later = (later ≡ None) ⊎ (later ≡ Some (Ok NoMore))
 IsFinalAnswerAfter answer later = later ≡ Some answer
 
--- the next line was read of an input that was unread when the reader was made, and reading goes on
+-- the next line was read of an input that hadn't ended when the reader was made, and reading goes on
 pub record ReadsOn {I : Type 0} (state : I → InputState) (old new : LineReaderValue I) (result : Result Next LineStop)
     (bytes : ByteString) : Type 0 where
-  -- of each content that what was read is of: the next line, or an end
-  pub line : (c : Content) → IsOf (state new.input).reads c
+  -- of each content that what was read since then is of: the next line, or an end
+  pub line : (c : Content) → IsOf (reads_of state new) c
       → IsNextLine (remaining old c) (remaining new c) result bytes
   -- if the result is `Ok`, bytes consumed and bytes that remain add up to the same
-  pub sum : (next : Next) → result ≡ Ok next → (c : Content) → IsOf (state new.input).reads c
+  pub sum : (next : Next) → result ≡ Ok next → (c : Content) → IsOf (reads_of state new) c
       → consumed_count new + length (remaining new c).bytes ≡ consumed_count old + length (remaining old c).bytes
   pub reading : IsReading state new
-  -- what was read by now is of no content that what was read before wasn't of
-  pub before : (c : Content) → IsOf (state new.input).reads c → IsOf (state old.input).reads c
+  -- reads only narrow what they are of
+  pub before : (c : Content) → IsOf (reads_of state new) c → IsOf (reads_of state old) c
 
 -- what a call of next_line changes in a reader
 pub record AdvancesLines {I : Type 0} (state : I → InputState) (old new : LineReaderValue I)

@@ -83,11 +83,10 @@ fn drop_return<A: Allocator>(line: &mut Vec<u8, A>)
 }
 
 impl<I: Input> LineReader<I> {
-    ghost use Rattle.sum_sources.specs.Contents.{unread};
     ghost use Rattle.sum_sources.specs.LineReaders.{consumed_count, IsBounded, AdvancesLines, IsReading, ReadsOn};
     ghost use Rattle.sum_sources.specs.ManifestLines.{lines_after};
     ghost use Rattle.sum_sources.specs.Phases.{Unfinished};
-    ghost use Rattle.sum_sources.specs.refinement.LimitedReads.{AddsLimited, CountsBytes};
+    ghost use Rattle.sum_sources.specs.refinement.LimitedReads.{AddsPast, CountsBytes};
     ghost use Rattle.sum_sources.specs.refinement.LineStates.{FillsReader, TakesPiece};
 
     /// A reader of the lines of `input`. If the input has `LIMIT` bytes or more, its first `LIMIT - 1` bytes count, and
@@ -95,7 +94,8 @@ impl<I: Input> LineReader<I> {
     pub fn new(input: I) -> Self
         ensures is { result
             ≡ record { input = input; ahead = []; taken = 0; lines = 0; final_answer = None } }
-        ensures reading { (I.state input).reads ≡ unread → IsReading I.state result }
+        // If the input hasn't ended: the lines of what remains of it.
+        ensures reading { (I.state input).reads.phase ≡ Unfinished → IsReading I.state result }
     {
         LineReader {
             input,
@@ -134,9 +134,8 @@ impl<I: Input> LineReader<I> {
     fn fill(&mut self) -> Result<usize, Fault>
         requires empty { self.old.ahead ≡ [] }
         requires going { self.old.final_answer ≡ None }
-        ensures reads { (I.state self.old.input).reads.phase ≡ Unfinished
-            → AddsLimited self.old.taken
-            (I.state self.old.input).reads (I.state self.new.input).reads self.new.ahead result }
+        ensures reads { AddsPast self.old.taken (I.state self.old.input).reads
+            (I.state self.new.input).reads self.new.ahead result }
         ensures counts { CountsBytes self.old.taken self.new.taken (I.state self.old.input)
             (I.state self.new.input) }
         ensures reader { FillsReader self.old self.new result }
@@ -226,7 +225,7 @@ impl<I: Input> LineReader<I> {
     /// `LineStop::Memory` if memory for the line was refused; bytes of the manifest were then still to come. After any
     /// of these the content of `line` is unspecified, and every later call returns the same and doesn't read the input.
     pub fn next_line<A: Allocator>(&mut self, line: &mut Vec<u8, A>) -> Result<Next, LineStop>
-        // Of each content that what was read of the input is of: the next line of what remained.
+        // Of each content that what was read since `new` is of: the next line of what remained.
         ensures line { IsReading I.state self.old
             → ReadsOn I.state self.old self.new result line.new.items }
         // A final answer is returned again, and the reader stays as it is.
@@ -244,8 +243,8 @@ impl<I: Input> LineReader<I> {
         }
         line.clear();
         let result = self.read_on(line);
+        drop_return(line);
         if let Ok(Next::Line) = result {
-            drop_return(line);
             self.lines += 1;
         }
         result

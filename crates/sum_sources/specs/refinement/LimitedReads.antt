@@ -1,7 +1,7 @@
 -- What a read up to the limit adds to what was read.
 use Rattle.std.specs.Prelude.{ℕ, zero, suc, ◌≡◌, ◌≢◌, ◌+◌, ◌^◌, ◌<◌, ◌≤◌, ◌++◌, length, Result, Ok, Err, IfOk}
-use Rattle.sum_sources.specs.Contents.{Content, Ending, Whole, Broken, Reads, InputState, IsOf, IsSameInput, clip, Fault}
-use Rattle.sum_sources.specs.{Faults.ByteString, Phases.Ended, Phases.Past}
+use Rattle.sum_sources.specs.Contents.{Content, Ending, Whole, Broken, Reads, InputState, IsOf, IsSameInput, clip, reads_past, Fault}
+use Rattle.sum_sources.specs.{Faults.ByteString, Phases.Unfinished, Phases.Ended, Phases.Past}
 
 -- an input was found to end so, as far as the limit allows, if it had given so many bytes
 pub record FindsEnding (taken : ℕ) (a b : Reads) (e : Ending) : Type 0 where
@@ -15,6 +15,11 @@ abbrev pub AddsLimited : ℕ → Reads → Reads → ByteString → Result ℕ F
 AddsLimited taken a b bytes (Ok zero) = FindsEnding taken a b Whole
 AddsLimited taken a b bytes (Ok (suc n)) = b ≡ record a { bytes = a.bytes ++ bytes }
 AddsLimited taken a b bytes (Err f) = FindsEnding taken a b (Broken f)
+
+-- so does such an input of which only the bytes past the first m count
+pub record AddsPast (taken : ℕ) (a b : Reads) (bytes : ByteString) (result : Result ℕ Fault) : Type 0 where
+  pub adds : (m : ℕ) → m ≤ length a.bytes → a.phase ≡ Unfinished
+      → AddsLimited taken (reads_past m a) (reads_past m b) bytes result
 
 -- the counts of bytes before and after such a read
 pub record CountsLimited (old new : ℕ) (result : Result ℕ Fault) : Type 0 where

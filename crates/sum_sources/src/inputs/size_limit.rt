@@ -1,8 +1,7 @@
 //! Reading up to the limit of 2^61 bytes.
-ghost use Rattle.std.specs.Prelude.{◌≡◌, ◌<◌, ◌^◌, length, take};
+ghost use Rattle.std.specs.Prelude.{◌<◌, ◌^◌, ◌≡◌, length, take};
 ghost use Rattle.std.specs.Result.{result_unwrap_or};
-ghost use Rattle.sum_sources.specs.Phases.{Unfinished};
-ghost use Rattle.sum_sources.specs.refinement.LimitedReads.{CountsLimited, CountsBytes, AddsLimited};
+ghost use Rattle.sum_sources.specs.refinement.LimitedReads.{CountsLimited, CountsBytes, AddsPast};
 
 use crate::{Fault, Input, PIECE};
 use digest_kinds::LIMIT;
@@ -18,8 +17,7 @@ pub(crate) fn read_limited<I: Input>(
     ensures count { CountsLimited taken.old taken.new result }
     ensures size { length buffer.new ≡ 8192 }
     ensures input { CountsBytes taken.old taken.new (I.state input.old) (I.state input.new) }
-    ensures reads { (I.state input.old).reads.phase ≡ Unfinished
-        → AddsLimited taken.old (I.state input.old).reads (I.state input.new).reads
+    ensures reads { AddsPast taken.old (I.state input.old).reads (I.state input.new).reads
         (take (result_unwrap_or result 0) buffer.new) result }
 {
     // If no byte more counts, one byte shows whether the input ends there.

@@ -1,15 +1,19 @@
-use Rattle.std.proofs.Common.{rules, arith, refl, ap, ◌≡◌, List, ℕ, length, ◌∙◌}
+use Rattle.std.proofs.Common.{rules, arith, refl, ap, ◌≡◌, ◌≤◌, ◌++◌, List, ℕ, length, length-append, drop, ◌∙◌}
+use Rattle.std.proofs.Math.Seq.{drop-append_seam}
 use Rattle.std.proofs.lemmas.Result.{err_from_is_err_and}
-use Rattle.sum_sources.specs.Contents.{Content, Ending, Reads, IsOf, clip}
+use Rattle.sum_sources.specs.Contents.{Content, Ending, Reads, IsOf, clip, reads_past}
 use Rattle.sum_sources.specs.{Phases.Unfinished, refinement.LimitedReads.FindsEnding}
 use Rattle.sum_sources.proofs.inputs.hash_input.hash_input_over.Goals as goal
 
 -- the ending was read after these bytes
-ended : {t : ℕ} {a b : Reads} {e : Ending} (m : List ℕ) → a ≡ record { bytes = m; phase = Unfinished } → length m ≡ t
-    → (a.phase ≡ Unfinished → FindsEnding t a b e) → (c : Content) → IsOf b c
-    → clip c ≡ record { bytes = m; ending = e }
-ended m was size ends c of =
-    (ends (ap (λ (r : Reads). r.phase) was)).content (ap (λ (r : Reads). length r.bytes) was ∙ size) c of ∙ rw was refl
+ended : {t : ℕ} {a b : Reads} {e : Ending} (front m : List ℕ) → a ≡ record { bytes = front ++ m; phase = Unfinished }
+    → length m ≡ t
+    → ((k : ℕ) → k ≤ length a.bytes → a.phase ≡ Unfinished → FindsEnding t (reads_past k a) (reads_past k b) e)
+    → (c : Content) → IsOf (reads_past (length front) b) c → clip c ≡ record { bytes = m; ending = e }
+ended {a = a} front m was size ends c of =
+    let low : length front ≤ length a.bytes = rw was (rw length-append (omega arith)) in
+    let rest : drop (length front) a.bytes ≡ m = rw was (drop-append_seam front m) in
+    (ends (length front) low (ap (λ (r : Reads). r.phase) was)).content (ap length rest ∙ size) c of ∙ rw rest refl
 
 -- a read failed, or the limit was reached
 pub returns-in_err-n-clause-hashed : goal.returns-in_err-n-clause-hashed
@@ -17,13 +21,13 @@ returns-in_err-n-clause-hashed g c =
     let fault = err_from_is_err_and c.from_residual.result c.from_residual.ensures.1 in
     let i = c.loop-hasher.invariant in
     let counted = g.met.H.Hasher.counts c.loop-hasher.hasher i.read.0 i.read.1 in
-    let ends = c.in_err-n.ensures.reads in
+    let ends = c.in_err-n.ensures.reads.adds in
     rw fault.1 (record {
       same = search rules;
       digest = λ new d of.
-          rw (fault.2, ended i.read.0 (i.read.2 new) (omega (arith, i.taken, counted)) ends d of) refl;
+          rw (fault.2, ended _ i.read.0 (i.read.2 new) (omega (arith, i.taken, counted)) ends d of) refl;
       end = λ going. tt;
-      past = λ going. (ends (i.phase going)).past;
+      past = λ going. (ends 0 (omega arith) (i.phase going)).past;
     })
 
 -- the end was read, and the hasher holds all that was read before
@@ -31,12 +35,12 @@ pub returns-then-n-eq0-clause-hashed : goal.returns-then-n-eq0-clause-hashed
 returns-then-n-eq0-clause-hashed g c =
     let i = c.loop-hasher.invariant in
     let counted = g.met.H.Hasher.counts c.loop-hasher.hasher i.read.0 i.read.1 in
-    let ends = rw c.if-n-eq0.true at c.in_ok-n.ensures.reads in
+    let ends = (rw c.if-n-eq0.true at c.in_ok-n.ensures.reads).adds in
     record {
       same = search rules;
       digest = λ new d of.
-          rw (← i.kind, ended i.read.0 (i.read.2 new) (omega (arith, i.taken, counted)) ends d of)
+          rw (← i.kind, ended _ i.read.0 (i.read.2 new) (omega (arith, i.taken, counted)) ends d of)
           (refl, c.finish.ensures.value i.read.0 i.read.1);
-      end = λ going. (ends (i.phase going)).end refl;
-      past = λ going. (ends (i.phase going)).past;
+      end = λ going. (ends 0 (omega arith) (i.phase going)).end refl;
+      past = λ going. (ends 0 (omega arith) (i.phase going)).past;
     }

@@ -1,12 +1,13 @@
-use Rattle.std.proofs.Common.{◌≡◌, ℕ, ◌^◌, ◌<◌, ◌-◌, List}
-use Rattle.sum_sources.specs.{Contents.unread, Contents.IsSameInput, Phases.Unfinished}
+use Rattle.std.proofs.Common.{◌≡◌, ℕ, ◌^◌, ◌<◌, ◌-◌, ◌++◌, List}
+use Rattle.sum_sources.specs.{Contents.IsSameInput, Phases.Unfinished}
 use Rattle.sum_sources.proofs.inputs.hash_input.hash_input_over.Given as goal
 
 -- the hasher's message is what was read of the input
 abbrev pub invariant-loop-hasher : goal.invariant-loop-hasher
 invariant-loop-hasher g l = record {
-  read : (m : List ℕ) × g.H.Hasher.holds l.hasher m × ((g.I.Input.state l.fn.input).reads ≡ unread
-      → (g.I.Input.state l.input).reads ≡ record { bytes = m; phase = Unfinished });
+  read : (m : List ℕ) × g.H.Hasher.holds l.hasher m × ((g.I.Input.state l.fn.input).reads.phase ≡ Unfinished
+      → (g.I.Input.state l.input).reads
+      ≡ record { bytes = (g.I.Input.state l.fn.input).reads.bytes ++ m; phase = Unfinished });
   phase : (g.I.Input.state l.fn.input).reads.phase ≡ Unfinished → (g.I.Input.state l.input).reads.phase ≡ Unfinished;
   same : IsSameInput (g.I.Input.state l.fn.input) (g.I.Input.state l.input);
   taken : g.H.Hasher.taken_of l.hasher ≡ l.taken;

@@ -3,7 +3,7 @@ use Rattle.std.proofs.Common.{ap, arith, ◌≡◌, length}
 use Rattle.sum_sources.specs.LineReaders.{IsBounded}
 use Rattle.sum_sources.specs.declared.line_reader.LineReader.TheInside.{Inside}
 use Rattle.sum_sources.specs.refinement.LineStates.{line_reader_view, final_answer_in, LineReaderInvariant}
-use Rattle.sum_sources.proofs.ReadOnLemmas.{settled_again}
+use Rattle.sum_sources.proofs.ReadOnLemmas.{counted, settled_again}
 use Rattle.sum_sources.proofs.line_reader.LineReader.next_line.Goals as goal
 
 -- the end is returned again
@@ -13,6 +13,12 @@ returns-in-Done-clause-line g c = settled_again _ _ (rw (← c.self.view_is) (ap
 -- a stop is returned again
 pub returns-in-Stopped-clause-line : goal.returns-in-Stopped-clause-line
 returns-in-Stopped-clause-line g c = settled_again _ _ (rw (← c.self.view_is) (ap final_answer_in c.in-Stopped.is))
+
+-- a line is counted
+pub returns-in-Ok-Line-clause-line : goal.returns-in-Ok-Line-clause-line
+returns-in-Ok-Line-clause-line g c = λ reading.
+    let read = c.read_on-result.ensures.line reading in
+    counted {new = line_reader_view c.self-2.inside} _ (rw (c.drop_return.ensures, c.self-2.view_is) read)
 
 -- what the fields keep
 bounded : {I : Type 0} (s : Inside I) → length s.buf ≡ 8192 → LineReaderInvariant s → IsBounded (line_reader_view s)

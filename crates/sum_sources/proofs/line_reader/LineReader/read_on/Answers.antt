@@ -2,7 +2,7 @@ use Rattle.std.proofs.Common.{rules, arith, refl, ap, sym, append-nil, ◌≡◌
 use Rattle.std.proofs.lemmas.{Grind.common_steps, List.nil_from_length}
 use Rattle.sum_sources.specs.{ManifestLines.HasNoNewline, ManifestLines.Line, ManifestLines.NoMore, Contents.Whole, Contents.Broken}
 use Rattle.sum_sources.specs.LineReaders.{IsReading, LineReaderValue}
-use Rattle.sum_sources.proofs.ReadOnLemmas.{HasRead, HasRead-more, HasRead-filled, ends_line, ends_memory, no_line, ends}
+use Rattle.sum_sources.proofs.ReadOnLemmas.{adds_of, HasRead, HasRead-more, HasRead-filled, ends_line, ends_memory, no_line, ends}
 use Rattle.sum_sources.proofs.{LineLemmas.IsNextLine-last, LineLemmas.IsNextLine-fault, line_reader.LineReader.read_on.Goals.In-Ok-false}
 use Rattle.sum_sources.specs.declared.line_reader.LineStop.TheVariants as stops
 use Rattle.sum_sources.proofs.line_reader.LineReader.read_on.Given as given
@@ -47,7 +47,8 @@ loop-self-preserved g c =
     let fills = c.in-Ok.ensures in
     record {
       read = λ reading. let h = read reading in
-          HasRead-filled h _ (search rules) none (fills.reads h.under_way.phase) fills.reader;
+          HasRead-filled h _ (search rules) none
+          (adds_of _ c.fill.new.self h.under_way fills.counts fills.reads) fills.reader;
       going = search rules;
       sum = search rules;
       plain = plain;
@@ -65,7 +66,8 @@ returns-then-is_empty-clause-line g c =
     let counts = rw c.in-Ok-eq0.field-0-test at c.in-Ok-eq0.ensures.reader in
     λ reading.
     let h = read reading in
-    ends c.fill.new.self Whole (Ok NoMore) h none (fills h.under_way.phase) counts.0 (omega (arith, counts.1))
+    ends c.fill.new.self Whole (Ok NoMore) h none
+    (adds_of _ c.fill.new.self h.under_way c.in-Ok-eq0.ensures.counts fills) counts.0 (omega (arith, counts.1))
     (rw (← c.self-in-loop-self.view_is) refl)
     (rw (nil_from_length c.take_piece.new.line.items (search rules)) (no_line Whole []))
     (λ next is. omega (arith, counts.1))
@@ -78,7 +80,8 @@ returns-in-Ok-eq0-clause-line g c =
     let counts = rw c.in-Ok-eq0.field-0-test at c.in-Ok-eq0.ensures.reader in
     λ reading.
     let h = read reading in
-    ends c.fill.new.self Whole (Ok Line) h none (fills h.under_way.phase) counts.0 (omega (arith, counts.1))
+    ends c.fill.new.self Whole (Ok Line) h none
+    (adds_of _ c.fill.new.self h.under_way c.in-Ok-eq0.ensures.counts fills) counts.0 (omega (arith, counts.1))
     (rw (← c.self-in-loop-self.view_is) refl) (IsNextLine-last _ plain (search rules))
     (λ next is. omega (arith, counts.1))
 
@@ -89,7 +92,8 @@ returns-in-Err-fill-clause-line g c =
     let e = c.in-Err-fill.ensures in
     λ reading.
     let h = read reading in
-    ends c.fill.new.self (Broken _) (Err (stops.Fault _)) h none (e.reads h.under_way.phase) (ap length e.reader.0)
+    ends c.fill.new.self (Broken _) (Err (stops.Fault _)) h none
+    (adds_of _ c.fill.new.self h.under_way e.counts e.reads) (ap length e.reader.0)
     e.reader.1
     (ap (λ a. record c.fill.new.self { final_answer = a }) e.reader.2)
     (IsNextLine-fault _ _ plain) (λ next is. cc)
