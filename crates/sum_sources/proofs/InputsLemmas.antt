@@ -6,7 +6,7 @@ use Rattle.std.specs.{Option.option_and_then, Option.option_map, Result.result_o
 use Rattle.std.proofs.Math.Logic.{∥∥₁_elim, ∥∥₁_prop}
 use Rattle.std.proofs.lemmas.Slice.Eq.{bytes_eq-Decides}
 use Rattle.sum_sources.specs.Contents.{Content, InputState, Reads, Fault, HasContent, unread, empty_content}
-use Rattle.sum_sources.specs.StandardInput.{unless_closed, Gives, put_back}
+use Rattle.sum_sources.specs.StandardInput.{unless_closed, GivesUnread, given_by, put_back, taken}
 use Rattle.sum_sources.specs.Sources.{Answer, Answers, Pair, TellsAll, Opening, SourceState, ToldAnswers, names_of, times, gave_of, closed_at, content_at, opened_file, IsOpen}
 use Rattle.sum_sources.specs.Inputs.{is_dash, given_once, with_stdin, tells_both, answers_with, inputs_state, without_dash}
 use Rattle.sum_sources.specs.InputsLaws.{given_told}
@@ -14,6 +14,8 @@ use Rattle.sum_sources.specs.refinement.InputsStates.{IsPlaceOf, GivesContent, I
 use Rattle.sum_sources.specs.declared.inputs.stdin.StdinPlace.{StdinPlace}
 use Rattle.sum_sources.specs.declared.inputs.stdin.StdinPlace.TheVariants.{Untaken, Taken, Returned}
 use Rattle.sum_sources.specs.declared.inputs.closable.Closable.{Closable}
+use Rattle.sum_sources.specs.declared.inputs.closable.Closable.TheVariants.{Closed}
+use Rattle.sum_sources.specs.{Contents.Whole, Phases.Unfinished}
 use Rattle.sum_sources.proofs.GaveLemmas.{either, same_name, gave-times, gave-append, gave-closed, gave-others}
 
 -- a test of two names is one of them the other way round
@@ -85,10 +87,10 @@ others-same (o ∷ os) name apart = either (is_dash o.name)
     (λ is. rw is (ap (cons_option (if bytes_eq o.name name then Some o.gave else None)) (others-same os name apart)))
 
 -- nothing was read of standard input yet
-pub kept_new : {I : Type 0} (state : I → InputState) (i : I) (source : SourceState)
-    → InputsInvariant state (Untaken i) (state i) (without_dash source).openings source.openings
-kept_new state i source = record {
-  place = (refl, others-dash source.openings);
+pub kept_new : {I : Type 0} (state : I → InputState) (stdin : StdinPlace I) (source : SourceState)
+    → InputsInvariant state stdin (unless_closed state (given_by stdin)) (without_dash source).openings source.openings
+kept_new state stdin source = record {
+  place = rw (others-dash source.openings) refl;
   given = λ k. rw (others-dash source.openings) tt;
   files = others-same source.openings;
 }
@@ -116,28 +118,28 @@ module _ {I : Type 0} {state : I → InputState} {stdin : StdinPlace I} {untaken
         }
 
     -- `-` was opened
-    pub kept_stdin : (name : List ℕ) (new : StdinPlace I) (given : Closable I) → is_dash name ≡ true
-        → Gives state stdin new given
+    pub kept_stdin : (name : List ℕ) (new : StdinPlace I) → is_dash name ≡ true → new ≡ taken stdin
         → InputsInvariant state new untaken (os ++ record { name = name; gave = None } ∷ []) fs
-    kept_stdin name new given is gives =
+    kept_stdin name new is takes =
         let o : Opening = record { name = name; gave = None } in
         let same : codes "-" ≡ name = same_name (codes "-") name is in
         let more : gave_of (os ++ o ∷ []) (codes "-") ≡ gave_of os (codes "-") ++ None ∷ [] =
         gave-append os (o ∷ []) (codes "-") ∙ rw (← same) refl in
         record {
-          place = rw more (taken _ stdin gives kept.place);
+          place = rw (more, takes) (later _ stdin);
           given = λ k. rw more (gives-more (λ k. GivesContent (given_once untaken.told (Some empty_content) k)) _ k (kept.given k));
           files = λ other apart. gave-append os (o ∷ []) other ∙ rw (← same, apart, append-nil) (kept.files other apart);
         }
       where
-        some : (gs : List (Option (Result Reads Fault))) → 0 < length (gs ++ None ∷ [])
-        some gs = rw length-append (omega arith)
+        empty : (old : StdinPlace I) → given_by (taken old) ≡ Closed Whole Unfinished
+        empty (Untaken given) = refl
+        empty Taken = refl
+        empty (Returned given) = refl
 
-        taken : (gs : List (Option (Result Reads Fault))) (old : StdinPlace I) → Gives state old new given
-            → IsPlaceOf state old untaken gs → IsPlaceOf state new untaken (gs ++ None ∷ [])
-        taken gs (Untaken i) gives was = rw gives.0 (some gs)
-        taken gs Taken gives was = rw gives.0 (some gs)
-        taken gs (Returned g) gives was = rw gives.0 (some gs)
+        later : (gs : List (Option (Result Reads Fault))) (old : StdinPlace I)
+            → IsPlaceOf state (taken old) untaken (gs ++ None ∷ [])
+        later [] old = empty old
+        later (g ∷ gs) old = empty old
 
     -- another name was closed, in the source
     pub kept_closing : (name : List ℕ) (k : ℕ) (r : Reads) → is_dash name ≡ false
@@ -167,11 +169,19 @@ module _ {I : Type 0} {state : I → InputState} {stdin : StdinPlace I} {untaken
           files = λ other apart. gave-others os (codes "-") other k r apart ∙ kept.files other apart;
         })
       where
+        same : (old : StdinPlace I) → given_by (put_back old given) ≡ given_by old
+        same (Untaken i) = refl
+        same Taken = refl
+        same (Returned g) = refl
+
         back : (gs : List (Option (Result Reads Fault))) (old : StdinPlace I) → IsPlaceOf state old untaken gs
             → IsPlaceOf state (put_back old given) untaken (slice_set gs k (Some (Ok r)))
-        back gs (Untaken i) was = (was.0, rw was.1 refl)
-        back gs Taken was = rw (length-set gs k) was
-        back gs (Returned g) was = rw (length-set gs k) was
+        back [] old was = rw (same old) was
+        back (g ∷ gs) old was = by k
+          where
+            by : (k : ℕ) → IsPlaceOf state (put_back old given) untaken (slice_set (g ∷ gs) k (Some (Ok r)))
+            by zero = same old ∙ was
+            by (suc k) = same old ∙ was
 
 -- ---- what was opened, and what is closed
 
@@ -184,23 +194,19 @@ module _ {I : Type 0} {state : I → InputState} {stdin : StdinPlace I} (tells :
         sym (gave-times source.openings name) ∙ ap length (sym (kept.files name apart)) ∙ gave-times log.openings name
 
     -- standard input, as it was given
-    pub stdin_opened : (name : List ℕ) (new : StdinPlace I) (given : Closable I)
-        → is_dash name ≡ true → Gives state stdin new given
+    pub stdin_opened : (name : List ℕ) (given : Closable I)
+        → is_dash name ≡ true → given ≡ given_by stdin → GivesUnread state stdin
         → record (unless_closed state given) { name = name; opening = times name (names_of log.openings) }
         ≡ opened_file (tells_both tells) (inputs_state untaken log source) name
-    stdin_opened name new given is gives =
+    stdin_opened name given is gives fresh =
         let same : codes "-" ≡ name = same_name (codes "-") name is in
-        rw (← same, content-dash tells untaken log source, ← gave-times log.openings (codes "-")) (by _ stdin gives kept.place)
+        rw (← same, content-dash tells untaken log source, ← gave-times log.openings (codes "-")) (rw gives (by _ fresh kept.place))
       where
-        by : (gs : List (Option (Result Reads Fault))) (old : StdinPlace I) → Gives state old new given
-            → IsPlaceOf state old untaken gs
-            → record (unless_closed state given) { name = codes "-"; opening = length gs }
+        by : (gs : List (Option (Result Reads Fault))) → GivesUnread state stdin → IsPlaceOf state stdin untaken gs
+            → record (unless_closed state (given_by stdin)) { name = codes "-"; opening = length gs }
             ≡ record { name = codes "-"; opening = length gs; told = given_once untaken.told (Some empty_content) (length gs); reads = unread }
-        by gs (Untaken i) gives was = rw (gives.1, was.1, gives.2, was.0) refl
-        by (g ∷ gs) Taken gives was = rw gives.1 refl
-        by [] Taken gives was = absurd (omega (arith, was))
-        by (g ∷ gs) (Returned r) gives was = rw gives.1 refl
-        by [] (Returned r) gives was = absurd (omega (arith, was))
+        by [] new was = rw (new, was) refl
+        by (g ∷ gs) new was = rw was refl
 
     -- a file of the source
     pub file_opened : (name : List ℕ) → is_dash name ≡ false

@@ -1,8 +1,8 @@
 -- Standard input and a source of files, as one source.
-use Rattle.std.specs.Prelude.{ℕ, zero, suc, Bool, true, false, ◌∷◌, codes, bytes_eq, filter, not, Option, None, Some, Ok, List, [], if◌then◌else◌}
+use Rattle.std.specs.Prelude.{ℕ, zero, suc, Bool, true, false, ◌≡◌, ◌∷◌, codes, bytes_eq, filter, not, Option, None, Some, Ok, List, [], if◌then◌else◌}
 use Rattle.std.specs.Option.{option_map}
 use Rattle.sum_sources.specs.{Contents.Content, Contents.InputState, Contents.HasContent, Contents.empty_content, Faults.ByteString}
-use Rattle.sum_sources.specs.{InputLaws.closable_has_content, StandardInput.unless_closed, StandardInput.Gives, Sources.Answer, Sources.Answers, Sources.Pair, Sources.ToldAnswers, Sources.SourceState}
+use Rattle.sum_sources.specs.{InputLaws.closable_has_content, StandardInput.unless_closed, StandardInput.given_by, StandardInput.taken, Sources.Answer, Sources.Answers, Sources.Pair, Sources.ToldAnswers, Sources.SourceState}
 use Rattle.sum_sources.specs.declared.inputs.stdin.StdinPlace.{StdinPlace}
 use Rattle.sum_sources.specs.declared.sources.opened.Place.{Place}
 use Rattle.sum_sources.specs.declared.sources.opened.Place.TheVariants.{Stdin, File}
@@ -50,9 +50,9 @@ is_stdin (Stdin given log) = true
 is_stdin (File f) = false
 
 -- what was opened is what taking standard input gives
-abbrev pub TakesStdin : {I F : Type 0} → (I → InputState) → StdinPlace I → StdinPlace I → Place I F → Type 0
-TakesStdin state old new (Stdin given log) = Gives state old new given
-TakesStdin state old new (File f) = ⊥
+abbrev pub TakesStdin : {I F : Type 0} → StdinPlace I → StdinPlace I → Place I F → Type 0
+TakesStdin old new (Stdin given log) = (given ≡ given_by old) × (new ≡ taken old)
+TakesStdin old new (File f) = ⊥
 
 -- its reads are of a content
 pub opened_has_content : {I F : Type 0} (stdin : I → InputState) (file : F → InputState)

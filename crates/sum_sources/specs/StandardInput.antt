@@ -32,14 +32,19 @@ unless_closed state (Open i) = state i
 unless_closed state (Closed e phase) = let c : Content = record { bytes = []; ending = e } in
     record { opening = 0; name = []; told = Some c; reads = told_reads c 0 phase }
 
--- as long as it wasn't taken, nothing was read of it
-abbrev pub IsUnreadUntilTaken : {I : Type 0} → (I → InputState) → StdinPlace I → Type 0
-IsUnreadUntilTaken {I} state place = (i : I) → place ≡ Untaken i → (state i).reads ≡ unread
+-- what taking gives: the input the first time, and an empty one afterwards
+abbrev pub given_by : {I : Type 0} → StdinPlace I → Closable I
+given_by (Untaken given) = given
+given_by place = Closed Whole Unfinished
 
--- taking gives the input the first time, of which nothing was read; and an empty one afterwards
-abbrev pub Gives : {I : Type 0} → (I → InputState) → StdinPlace I → StdinPlace I → Closable I → Type 0
-Gives state (Untaken i) new given = (new ≡ Taken) × (given ≡ Open i) × ((state i).reads ≡ unread)
-Gives state old new given = (new ≡ old) × (given ≡ Closed Whole Unfinished)
+-- nothing was read of what taking gives
+abbrev pub GivesUnread : {I : Type 0} → (I → InputState) → StdinPlace I → Type 0
+GivesUnread state place = (unless_closed state (given_by place)).reads ≡ unread
+
+-- standard input after it was taken
+abbrev pub taken : {I : Type 0} → StdinPlace I → StdinPlace I
+taken (Untaken given) = Taken
+taken place = place
 
 -- what was taken is put back, and kept if nothing was before
 abbrev pub put_back : {I : Type 0} → StdinPlace I → Closable I → StdinPlace I

@@ -20,7 +20,6 @@ mod line_reader;
 mod sources;
 
 pub use fault::{EBADF, Ending, Fault, NoRoom};
-pub use inputs::closable::Closable;
 pub use inputs::from_read::FromRead;
 pub use inputs::hash_input::{hash_input, hash_input_over};
 pub use inputs::input::{Input, PIECE};

@@ -1,16 +1,16 @@
 -- What standard input and a source of files keep, as one source.
-use Rattle.std.specs.Prelude.{ℕ, zero, suc, ◌≡◌, ◌<◌, false, List, [], codes, length, Option, Some, IfSome, Result, Ok}
-use Rattle.sum_sources.specs.{Contents.Content, Contents.InputState, Contents.Reads, Contents.Fault, Contents.empty_content, Faults.ByteString}
+use Rattle.std.specs.Prelude.{ℕ, zero, suc, ◌≡◌, false, List, [], ◌∷◌, codes, Option, Some, IfSome, Result, Ok}
+use Rattle.sum_sources.specs.{Contents.Content, Contents.InputState, Contents.Reads, Contents.Fault, Contents.empty_content, Contents.Whole, Faults.ByteString, Phases.Unfinished, StandardInput.given_by, StandardInput.unless_closed}
 use Rattle.sum_sources.specs.Sources.{Opening, gave_of, gave_at, IsOfAnswer}
 use Rattle.sum_sources.specs.Inputs.{is_dash, given_once}
 use Rattle.sum_sources.specs.declared.inputs.stdin.StdinPlace.{StdinPlace}
-use Rattle.sum_sources.specs.declared.inputs.stdin.StdinPlace.TheVariants.{Untaken}
+use Rattle.sum_sources.specs.declared.inputs.closable.Closable.TheVariants.{Closed}
 
--- standard input is untaken exactly as long as `-` wasn't opened
+-- before `-` is opened, what taking gives is what it was at first; afterwards it is empty
 abbrev pub IsPlaceOf : {I : Type 0} → (I → InputState) → StdinPlace I → InputState
     → List (Option (Result Reads Fault)) → Type 0
-IsPlaceOf state (Untaken i) untaken gave = ((state i).told ≡ untaken.told) × (gave ≡ [])
-IsPlaceOf state place untaken gave = 0 < length gave
+IsPlaceOf state place untaken [] = (unless_closed state (given_by place)).told ≡ untaken.told
+IsPlaceOf state place untaken (g ∷ gs) = given_by place ≡ Closed Whole Unfinished
 
 -- what an opening gave is of the content in memory, if that is there
 abbrev pub GivesContent : Option Content → Result Reads Fault → Type 0

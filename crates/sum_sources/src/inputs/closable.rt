@@ -1,27 +1,16 @@
 //! An input that may be closed.
-ghost use Rattle.std.specs.Prelude.{◌≡◌, pos};
 ghost use Rattle.sum_sources.specs.InputLaws.{closable_has_content};
 ghost use Rattle.sum_sources.specs.StandardInput.{unless_closed};
 
-use crate::fault::EBADF;
 use crate::{Ending, Fault, Input, Phase};
 
 /// An input that may be closed.
 #[derive(Debug, Drop)]
-pub enum Closable<I> {
+pub(crate) enum Closable<I> {
     /// This input.
     Open(I),
     /// An input without bytes, which ends so. The phase says how far it was read.
     Closed(Ending, Phase),
-}
-
-impl<I> Closable<I> {
-    /// A closed input that was not read yet. Each read fails with `Fault::Os(EBADF)`, *Bad file descriptor*.
-    pub fn closed() -> Self
-        ensures { result ≡ Closable.Closed (Ending.Broken (Fault.Os (pos 9))) Phase.Unfinished }
-    {
-        Closable::Closed(Ending::Broken(Fault::Os(EBADF)), Phase::Unfinished)
-    }
 }
 
 impl<I: Input> Input for Closable<I> {

@@ -1,5 +1,5 @@
 //! What the reads of an input gave, for proofs alone.
-use crate::{Fault, Input};
+use crate::Fault;
 use ghost_log::{Log, Notes};
 use std::marker::Model;
 
@@ -27,9 +27,4 @@ impl<'a> Notes<ReadNote<'a>> for Reads {
     ghost use Rattle.sum_sources.specs.Contents.{and_read};
 
     ghost noted = { λ s x. and_read s x.0.now x.1.now };
-}
-
-// It is this input.
-impl<'a, I: Input> Notes<&'a I> for Reads {
-    ghost noted = { λ _ x. I.state x.now };
 }

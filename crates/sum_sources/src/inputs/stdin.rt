@@ -1,33 +1,37 @@
 //! Standard input, which a run gets once.
 ghost use Rattle.std.specs.Prelude.{◌≡◌};
-ghost use Rattle.sum_sources.specs.StandardInput.{Gives, put_back};
+ghost use Rattle.sum_sources.specs.StandardInput.{GivesUnread, given_by, put_back, taken};
 
-use crate::{Closable, Ending, Fault, Input, Phase};
+use crate::fault::EBADF;
+use crate::inputs::closable::Closable;
+use crate::inputs::read_log::Reads;
+use crate::{Ending, Fault, Input, Phase};
+use ghost_log::Notes;
 use std::marker::Model;
 use std::mem;
 
 #[derive(Debug, Drop)]
 enum StdinPlace<I> {
-    Untaken(I),
+    Untaken(Closable<I>),
     Taken,
     Returned(Closable<I>),
 }
 
-/// Standard input. Its input is given once, and is put back. Until then nothing was read of it.
+/// Standard input. Its input is given once, and is put back. Before it is given, nothing was read of it.
 #[derive(Debug, Drop)]
 pub struct Stdin<I: Input> {
     place: StdinPlace<I>,
 }
 
 impl<I: Input> Model for Stdin<I> {
-    ghost use Rattle.sum_sources.specs.StandardInput.{IsUnreadUntilTaken};
+    ghost use Rattle.sum_sources.specs.StandardInput.{GivesUnread};
     ghost use Rattle.sum_sources.specs.declared.inputs.stdin.StdinPlace.{StdinPlace};
 
     ghost Value = { StdinPlace I };
 
     ghost view = { λ s. s.place };
 
-    ghost invariant = { λ s. IsUnreadUntilTaken I.state s.place };
+    ghost invariant = { λ s. GivesUnread I.state s.place };
 }
 
 /// What [`Stdin::take`] gives: the input of standard input the first time, and an empty one afterwards. It can't be
@@ -46,15 +50,31 @@ impl<I> Model for Given<I> {
 }
 
 impl<I: Input> Stdin<I> {
+    ghost use Rattle.std.specs.Prelude.{pos};
     ghost use Rattle.sum_sources.specs.Contents.{unread};
+    ghost use Rattle.sum_sources.specs.declared.inputs.closable.Closable.TheVariants.{Open, Closed};
 
     /// Standard input that gives `input`, of which nothing was read, when it is taken.
     pub fn new(input: I) -> Self
         requires { (I.state input).reads ≡ unread }
-        ensures { result ≡ StdinPlace.Untaken input }
+        ensures { result ≡ StdinPlace.Untaken (Open input) }
     {
         Stdin {
-            place: StdinPlace::Untaken(input),
+            place: StdinPlace::Untaken(Closable::Open(input)),
+        }
+    }
+
+    /// Standard input that is closed. Each read of what it gives when it is taken fails with `Fault::Os(EBADF)`, *Bad
+    /// file descriptor*.
+    pub fn closed() -> Self
+        ensures { result
+            ≡ StdinPlace.Untaken (Closed (Ending.Broken (Fault.Os (pos 9))) Phase.Unfinished) }
+    {
+        Stdin {
+            place: StdinPlace::Untaken(Closable::Closed(
+                Ending::Broken(Fault::Os(EBADF)),
+                Phase::Unfinished,
+            )),
         }
     }
 }
@@ -62,10 +82,11 @@ impl<I: Input> Stdin<I> {
 impl<I: Input + Drop> Stdin<I> {
     /// Returns its input the first time, an empty input afterwards.
     pub fn take(&mut self) -> Given<I>
-        ensures { Gives I.state self.old self.new result }
+        ensures given { (result ≡ given_by self.old) × GivesUnread I.state self.old }
+        ensures taken { self.new ≡ taken self.old }
     {
         let input = match mem::replace(&mut self.place, StdinPlace::Taken) {
-            StdinPlace::Untaken(input) => Closable::Open(input),
+            StdinPlace::Untaken(input) => input,
             place => {
                 self.place = place;
                 Closable::Closed(Ending::Whole, Phase::Unfinished)
@@ -83,6 +104,13 @@ impl<I: Input + Drop> Stdin<I> {
             self.place = StdinPlace::Returned(input);
         }
     }
+}
+
+// It is what is taken of this standard input.
+impl<'a, I: Input> Notes<&'a Stdin<I>> for Reads {
+    ghost use Rattle.sum_sources.specs.StandardInput.{given_by, unless_closed};
+
+    ghost noted = { λ _ x. unless_closed I.state (given_by x.now) };
 }
 
 impl<I: Input> Input for Given<I> {

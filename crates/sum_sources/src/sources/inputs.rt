@@ -25,24 +25,21 @@ pub struct Inputs<I: Input, S: Source> {
 }
 
 impl<I: Input, S: Source> Inputs<I, S> {
-    ghost use Rattle.sum_sources.specs.Contents.{unread};
     ghost use Rattle.sum_sources.specs.Inputs.{inputs_state, with_stdin, without_dash};
-    ghost use Rattle.sum_sources.specs.declared.inputs.stdin.StdinPlace.TheVariants.{Untaken};
+    ghost use Rattle.sum_sources.specs.StandardInput.{given_by, unless_closed};
 
-    /// This standard input, of which nothing was read, and this source. What the source opened by the name `-` before
-    /// doesn't count.
-    pub fn new(stdin: I, source: S) -> Self
-        requires { (I.state stdin).reads ≡ unread }
-        ensures parts { (result.stdin ≡ Untaken stdin) × (result.source ≡ source) }
+    /// This standard input and this source. What the source opened by the name `-` before doesn't count.
+    pub fn new(stdin: Stdin<I>, source: S) -> Self
+        ensures parts { (result.stdin ≡ stdin) × (result.source ≡ source) }
         ensures state { inputs_state result.untaken result.log (S.state source)
             ≡ record (without_dash (S.state source)) {
-              told = with_stdin (I.state stdin).told (S.state source).told;
+              told = with_stdin (unless_closed I.state (given_by stdin)).told (S.state source).told;
             } }
     {
         let untaken = Log::of(&Reads).and(&&stdin);
         let log = Log::of(&Openings).and(&OthersOf(&source));
         Inputs {
-            stdin: Stdin::new(stdin),
+            stdin,
             source,
             untaken,
             log,
@@ -91,7 +88,7 @@ impl<I: Input + Drop, S: Source> Source for Inputs<I, S> {
         // Standard input is the input that it was made of, and nothing else takes it.
         ensures stdin { MatchBool (is_dash name.now)
             (MatchResult result
-            (λ file. TakesStdin I.state self.old.stdin self.new.stdin file.place) (λ _. ⊥))
+            (λ file. TakesStdin self.old.stdin self.new.stdin file.place) (λ _. ⊥))
             (self.new.stdin ≡ self.old.stdin) }
     {
         if is_dash(name) {

@@ -10,18 +10,19 @@ use Rattle.sum_sources.proofs.sources.inputs.InputsSource.open_file.Goals as goa
 pub invariant_of-self : goal.invariant_of-self
 invariant_of-self g c = record {
   is = rw c.and-self.ensures (mapped c.args.self.now.is (λ kept.
-      kept_stdin kept c.args.name.now _ c.take.result (sym c.is_dash.ensures ∙ c.if-is_dash.true) c.take.ensures));
+      kept_stdin kept c.args.name.now _ (sym c.is_dash.ensures ∙ c.if-is_dash.true) c.take.ensures.taken));
 }
 
 pub returns-then-is_dash-clause-file : goal.returns-then-is_dash-clause-file
 returns-then-is_dash-clause-file g c = ∥∥₁_elim c.args.self.now.is (hlevel props) (λ kept.
     ap (opened_state g.I.Input.state g.S.File.Input.state) c.of_stdin-opened.ensures ∙ rw c.next_file.ensures
     (stdin_opened g.S.Source.tells c.args.self.now.untaken c.args.self.now.log
-    (g.S.Source.state c.args.self.now.source) kept c.args.name.now _ c.take.result (sym c.is_dash.ensures ∙ c.if-is_dash.true) c.take.ensures))
+    (g.S.Source.state c.args.self.now.source) kept c.args.name.now c.take.result (sym c.is_dash.ensures ∙ c.if-is_dash.true)
+    c.take.ensures.given.0 c.take.ensures.given.1))
 
 pub returns-then-is_dash-clause-stdin : goal.returns-then-is_dash-clause-stdin
 returns-then-is_dash-clause-stdin g c =
-    rw (sym c.is_dash.ensures ∙ c.if-is_dash.true, c.of_stdin-opened.ensures) c.take.ensures
+    rw (sym c.is_dash.ensures ∙ c.if-is_dash.true, c.of_stdin-opened.ensures) (c.take.ensures.given.0, c.take.ensures.taken)
 
 -- ---- another name
 
