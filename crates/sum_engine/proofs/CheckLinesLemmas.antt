@@ -1,7 +1,7 @@
 -- `check_lines`: a new checker runs to its end. What happened so far and what remains is the whole behavior
 -- (`HasComeTo`). A step that goes on keeps this. The step that ends or stops proves the contract by it.
-use Rattle.std.proofs.Common.{rules, ◌^◌, ◌-◌, ◌<◌, ◌≡◌, ℕ, Bool, List, [], ◌∷◌, ◌++◌, Result, Ok, Err, Some, None, true, refl, ap, ◌∙◌, subst, arith, append-nil}
-use Rattle.sum_sources.specs.{Contents.IsSameInput, LineReaders.remaining, LineReaders.IsReading}
+use Rattle.std.proofs.Common.{rules, ◌^◌, ◌-◌, ◌+◌, ◌<◌, ◌≡◌, ℕ, length, Bool, List, [], ◌∷◌, ◌++◌, Result, Ok, Err, Some, None, true, refl, ap, ◌∙◌, subst, arith, append-nil}
+use Rattle.sum_sources.specs.{Contents.IsSameInput, Contents.IsOf, Contents.reads_past, LineReaders.remaining, LineReaders.IsReading}
 use Rattle.sum_engine.specs.Behavior.{World, Step, Behavior, Content, InputState, clip}
 use Rattle.sum_engine.specs.{check.Rules.Rules, check.Rules.LabelsValue, check.Judge.all_verdicts, check.Checking.content_behavior}
 use Rattle.sum_engine.specs.check.CheckStates.{CheckState, initial_state, remaining_behavior}
@@ -140,6 +140,8 @@ module _ {I : Type 0} (state : I → InputState) (first : CheckerValue I) (m : S
     pub so_far : StopHasCause {A = Bool} (0 ∷ 1 ∷ []) m n (Ok true)
     pub reads : ReadsToEndIf (q.verdicts.counts.unread ≡ 0) m.inputs n.inputs
     pub same : IsSameInput (state first.verdicts.reader.input) (state q.verdicts.reader.input)
+    pub taken : q.verdicts.reader.taken + length (state first.verdicts.reader.input).reads.bytes
+        ≡ first.verdicts.reader.taken + length (state q.verdicts.reader.input).reads.bytes
 
   -- it begins so
   pub HasComeTo-none : first.outcome ≡ None → HasComeTo first m
@@ -155,6 +157,7 @@ module _ {I : Type 0} (state : I → InputState) (first : CheckerValue I) (m : S
     so_far = search rules;
     reads = reads_none m.inputs;
     same = search rules;
+    taken = refl;
   }
 
   -- after a step more, which returned x, P holds if it follows of what happened before and of the step
@@ -190,6 +193,7 @@ module _ {I : Type 0} (state : I → InputState) (first : CheckerValue I) (m : S
         reads = reads_then (none_unread q.verdicts next.verdicts advances.found advances.verdict.counts)
             h.reads advances.verdict.reads;
         same = search rules;
+        taken = omega (arith, h.taken, advances.verdict.reader.taken);
       }
 
   -- The step that ends completes the manifest's behavior. One that stops leaves a prefix of it after a write fault,
@@ -201,7 +205,12 @@ module _ {I : Type 0} (state : I → InputState) (first : CheckerValue I) (m : S
       → RunsManifest first.verdicts.rules first.labels (state first.verdicts.reader.input)
       (state last.verdicts.reader.input) m o x
   HasComeTo-last q last n o vector x start h advances step = record {
-    behavior = λ unread c of flushed w agrees.
+    behavior = λ going c of flushed w agrees.
+        let was = (state first.verdicts.reader.input).reads in
+        let now = (state last.verdicts.reader.input).reads in
+        let none : first.verdicts.reader.taken ≡ 0 = rw start.reader refl in
+        let before : length was.bytes ≡ length now.bytes - last.verdicts.reader.taken =
+        omega (arith, none, h.taken, advances.verdict.reader.taken) in
         let ended : HoldsUpTo last.verdicts o (λ a d. PerformsSteps (left a).steps (left a).good m o x) =
         one_more_step last o vector (ends x) h advances step (λ a b d along step.
         done_last o step.step step.later x along step.is step.performs) in
@@ -209,9 +218,9 @@ module _ {I : Type 0} (state : I → InputState) (first : CheckerValue I) (m : S
         ≡ manifest_behavior first.verdicts.rules first.labels (clip c) (world_at w m.inputs) =
         behavior-initial first.verdicts.rules first.labels start c (world_at w m.inputs) in
         subst (λ (b : Behavior). PerformsSteps b.steps b.good m o x) all
-        ((ended flushed).holds (start.reading unread) c of w agrees);
-    manifest = λ unread.
-        let reading = advances.verdict.reading (h.reading (start.reading unread)) in
+        ((ended flushed).holds (start.reading going) c (subst (λ n. IsOf (reads_past n now) c) before of) w agrees);
+    manifest = λ going.
+        let reading = advances.verdict.reading (h.reading (start.reading going)) in
         (reading.past, λ good. reading.end (advances.verdict.end (found good).0));
     same = search rules;
     cause = cause_ends x h.so_far (step_cause advances);

@@ -36,7 +36,7 @@ module _ (settings : CheckSettings) (tool name : List ℕ) (a : StreamsState) wh
       → Performed (record b { inputs = n }) x
   check_opened m n s t b x fresh o run = λ flushed w agrees.
       let (c, answer, of) = o.answer w agrees in
-      let ran = run.behavior fresh c of flushed w (o.agrees w agrees) in
+      let ran = (rw fresh at run.behavior) refl c of flushed w (o.agrees w agrees) in
       let did : Happened a (from_inputs m) (events_of (opening name)) =
       Happened-by (name ∷ []) [] [] o.asks Gets-none Gets-none in
       let all = manifest_behavior (rules_of settings (is_dash name)) (labels_of settings tool name) (clip c)

@@ -4,7 +4,7 @@ use Rattle.std.specs.Prelude.{length, MatchResult}
 use Rattle.std.proofs.lemmas.{List.map-append, List.Elements.All-cons}
 use Rattle.digest_kinds.specs.Kinds.{KindValue, digest}
 use Rattle.sum_sources.specs.Contents.{Reads, IsOf, IsSameInput, HashesInput, clip}
-use Rattle.sum_sources.specs.Sources.{Opening, opened_file, and_opening, after_opening, after_closing, IsOpen}
+use Rattle.sum_sources.specs.Sources.{Opening, ToldAnswers, opened_file, and_opening, after_opening, after_closing, IsOpen}
 use Rattle.sum_sources.specs.declared.sources.source.OpenFault.{OpenFault}
 use Rattle.sum_sources.proofs.GaveLemmas.{closed-seam, gave-seam}
 use Rattle.sum_engine.specs.Behavior.{World, Answer, Content, Whole, Broken, Fault, InputState, SourceState, answer_to}
@@ -26,10 +26,10 @@ pub record WasOpened (Whole : Type 0) (a m b n : SourceState) (name : List ℕ) 
   pub answer : (w : World) → Agrees w n
       → (c : Content) × (answer_to (world_at w a) name ≡ Ok c) × IsOf t.reads c
 
-pub was_opened : {Whole : Type 0} {a m b n : SourceState} {name : List ℕ} {s t : InputState} → s ≡ opened_file a name
-    → m ≡ and_opening a name None → IsSameInput s t → IsAtEndIf Whole t.reads → ReadsToEndIf Whole m b
+pub was_opened : {Whole : Type 0} (tells : ToldAnswers) {a m b n : SourceState} {name : List ℕ} {s t : InputState}
+    → s ≡ opened_file tells a name → m ≡ and_opening a name None → IsSameInput s t → IsAtEndIf Whole t.reads → ReadsToEndIf Whole m b
     → n ≡ after_closing b t → WasOpened Whole a m b n name t
-was_opened {Whole} {a} {m} {b} {n} {name} {s} {t} is opens same read reads closes =
+was_opened {Whole} tells {a} {m} {b} {n} {name} {s} {t} is opens same read reads closes =
     let before = a.openings in
     let later = reads.openings.0 in
     let unclosed : Opening = record { name = name; gave = None } in
@@ -49,13 +49,14 @@ was_opened {Whole} {a} {m} {b} {n} {name} {s} {t} is opens same read reads close
       };
       asked = rw (then, now) (simp map-append);
       refusals = rw closes refl;
-      agrees = λ w agrees. agrees_open before later closed agrees (rw closes refl) now then;
+      agrees = λ w agrees. agrees_open before later closed agrees now then;
       answer = λ w agrees. opening_agrees agrees before later name (Ok t.reads) then;
     }
 
 -- what was opened is still open after some calls
-pub still_open : {Whole : Type 0} (a : SourceState) {m b : SourceState} {name : List ℕ} {s t : InputState} → s ≡ opened_file a name
-    → m ≡ and_opening a name None → IsSameInput s t → ReadsToEndIf Whole m b → IsOpen b t
+pub still_open : {Whole : Type 0} {tells : ToldAnswers} (a : SourceState) {m b : SourceState} {name : List ℕ}
+    {s t : InputState} → s ≡ opened_file tells a name → m ≡ and_opening a name None → IsSameInput s t
+    → ReadsToEndIf Whole m b → IsOpen tells b t
 still_open a {name = name} is opens same reads = record {
   opening = rw (same, is, reads.openings.1, opens, append_assoc) (gave-seam a.openings reads.openings.0 name None);
   told = rw (same, is, reads.told, opens) refl;
@@ -85,12 +86,12 @@ hash_is : (kind : KindValue) (r : Reads) (found : Result (List ℕ) Fault)
 hash_is kind r (Ok d) hashes x (c, is, of) = let h = hashes c of in rw is (search rules)
 hash_is kind r (Err f) hashes x (c, is, of) = let h = hashes c of in rw is (search rules)
 
-module _ {name : List ℕ} {a m b n : SourceState} {s : InputState} (t : InputState)
-    (is : s ≡ opened_file a name) (opens : m ≡ and_opening a name None) (kept : b ≡ m) (closes : n ≡ after_closing b t)
+module _ (tells : ToldAnswers) {name : List ℕ} {a m b n : SourceState} {s : InputState} (t : InputState)
+    (is : s ≡ opened_file tells a name) (opens : m ≡ and_opening a name None) (kept : b ≡ m) (closes : n ≡ after_closing b t)
   where
     -- it was opened, and only read before it was closed
     hashed_once : {Whole : Type 0} → IsSameInput s t → IsAtEndIf Whole t.reads → WasOpened Whole a m m n name t
-    hashed_once same read = was_opened is opens same read (reads_none m)
+    hashed_once same read = was_opened tells is opens same read (reads_none m)
         (closes ∙ ap (λ (m : SourceState). after_closing m t) kept)
 
     -- it was hashed, or that failed
@@ -101,14 +102,14 @@ module _ {name : List ℕ} {a m b n : SourceState} {s : InputState} (t : InputSt
         let phase = ap (λ (r : Reads). r.phase) fresh in
         let o : WasOpened (Unit {0}) a m m n name t = hashed_once h.same (h.past phase, λ u. h.end phase) in
         let hash = λ (w : World) (agrees : Agrees w n).
-        hash_is kind t.reads (Ok d) (h.digest fresh) _ (o.answer w agrees) in
+        hash_is kind t.reads (Ok d) ((rw fresh at h.digest) refl) _ (o.answer w agrees) in
         search rules
     name_hashed {kind} (Err f) h len =
         let fresh = ap (λ (s : InputState). s.reads) is in
         let phase = ap (λ (r : Reads). r.phase) fresh in
         let o : WasOpened ⊥ a m m n name t = hashed_once h.same (h.past phase, λ u. absurd u) in
         let hash = λ (w : World) (agrees : Agrees w n).
-        hash_is kind t.reads (Err f) (h.digest fresh) _ (o.answer w agrees) in
+        hash_is kind t.reads (Err f) ((rw fresh at h.digest) refl) _ (o.answer w agrees) in
         search rules
 
 -- it could not be opened

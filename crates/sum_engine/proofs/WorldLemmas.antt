@@ -108,7 +108,6 @@ gave-open P (x ∷ gs) more g (suc k) h = gave-open P gs more g k h
 -- a world that agrees with what was read after a call agrees with what was read before it
 pub agrees_before : {Whole : Type 0} {w : World} {b c : SourceState} → Agrees w c → ReadsToEndIf Whole b c → Agrees w b
 agrees_before {w = w} {b = b} {c = c} h reads = record {
-  told = rw reads.told at h.told;
   gave = λ name k.
       let both = rw (reads.openings.1, gave-append b.openings reads.openings.0 name) at (h.gave name k) in
       gave-front (IsOfAnswer (w.answer name k)) (gave_of b.openings name) (gave_of reads.openings.0 name) k both;
@@ -116,10 +115,9 @@ agrees_before {w = w} {b = b} {c = c} h reads = record {
 
 -- and with what was read before a file was closed
 pub agrees_open : {w : World} {b c : SourceState} (before later : List Opening) (o : Opening) → Agrees w c
-    → c.told ≡ b.told → b.openings ≡ before ++ record o { gave = None } ∷ later → c.openings ≡ before ++ o ∷ later
+    → b.openings ≡ before ++ record o { gave = None } ∷ later → c.openings ≡ before ++ o ∷ later
     → Agrees w b
-agrees_open {w} {b} {c} before later o h told was is = record {
-  told = rw told at h.told;
+agrees_open {w} {b} {c} before later o h was is = record {
   gave = λ name k.
       let here = rw (is, gave-append before (o ∷ later) name) at (h.gave name k) in
       rw (was, gave-append before (record o { gave = None } ∷ later) name) (either (bytes_eq o.name name)

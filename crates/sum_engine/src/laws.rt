@@ -1,14 +1,20 @@
 //! Laws of what was read; and over whole checks: what the steps of a [`Checker`](crate::Checker) do together.
-ghost use Rattle.sum_engine.specs.WorldLaws.{SomeWorldAgrees};
+ghost use Rattle.sum_engine.specs.Behavior.{SourceState};
+ghost use Rattle.sum_engine.specs.WorldLaws.{SomeWorldAgrees, ToldAgree};
 ghost use Rattle.sum_engine.specs.check.CheckerLaws.{StepsJoin, EventsExtend, SameFront};
 ghost use Rattle.sum_engine.specs.check.OldVerdicts.{OldVerdicts, OlderDiffers};
 
 use crate::reader::Reader;
 use sum_sources::Source;
 
-/// Some world agrees with all that was read so far.
-pub fn some_world_agrees<S: Source>(inputs: &Reader<S>)
-    ensures { SomeWorldAgrees inputs.now }
+/// Some world agrees with all that was read so far, whatever that is.
+pub fn some_world_agrees()
+    ensures { (a : SourceState) → SomeWorldAgrees a }
+{}
+
+/// If all answers of a source are known, they agree with all that was read so far.
+pub fn told_agree<S: Source>(inputs: &Reader<S>)
+    ensures { ToldAgree S.tells inputs.now }
 {
     // Read, so that the proof sees the source.
     let _source = &inputs.source;

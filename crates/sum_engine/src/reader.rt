@@ -41,14 +41,14 @@ impl<S: Source> Reader<S> {
     /// Opens the file of that name in the source.
     pub(crate) fn open(&mut self, name: &[u8]) -> Result<S::File, OpenFault>
         ensures state { self.new ≡ after_opening self.old name.now result }
-        ensures file { IfOk result (λ file. S.File.state file ≡ opened_file self.old name.now) }
+        ensures file { IfOk result (λ file. S.File.state file ≡ opened_file S.tells self.old name.now) }
     {
         self.source.open_file(name)
     }
 
     /// Has the source close a file.
     pub(crate) fn close(&mut self, file: S::File)
-        requires { IsOpen self.old (S.File.state file) }
+        requires { IsOpen S.tells self.old (S.File.state file) }
         ensures { self.new ≡ after_closing self.old (S.File.state file) }
     {
         self.source.close_file(file);

@@ -2,7 +2,7 @@
 use Rattle.std.specs.Prelude.{ℕ, ◌≡◌, ◌+◌, ◌≤◌, ◌↔◌, Bool, true, List, [], ◌∷◌, take, length, Result, ◌++◌, Ok, slice_index_or}
 use Rattle.sum_lines.specs.grammar.Shapes.{IsPlain, KindValue}
 use Rattle.sum_engine.specs.Execution.{Stop, StreamsState, StopHasCause, IsAtEndIf, ReadsToEndIf, AsksNames, Happened, PerformsSteps, Performs}
-use Rattle.sum_sources.specs.Contents.{unread, IsSameInput}
+use Rattle.sum_sources.specs.{Contents.IsSameInput, Contents.reads_past, declared.inputs.phase.Phase.TheVariants.Unfinished}
 use Rattle.sum_engine.specs.Behavior.{ByteString, IsOf, InputState, Behavior, trace, out_text, err_text, asks, World, Content, clip}
 use Rattle.sum_engine.specs.{check.Rules.Rules, check.Rules.LabelsValue, check.Checking.content_behavior}
 use Rattle.sum_engine.specs.check.Judge.{lines_under, all_verdicts, verdicts, past_lines, escape, EntryValue, IsEntry, form}
@@ -12,10 +12,10 @@ use Rattle.sum_engine.specs.check.Checker.{Going, Ended, IsStep, ends}
 -- a new checker of an input s ran to its end, returned x, and left the input as t
 pub record RunsManifest (r : Rules) (labels : LabelsValue) (s t : InputState) (a b : StreamsState)
     (x : Result Bool Stop) : Type 0 where
-  -- of an input that was unread: it performed the behavior of each content that agrees with what was read
-  pub behavior : s.reads ≡ unread → (c : Content) → IsOf t.reads c
+  -- of an input that hadn't ended: it performed the behavior of each content that agrees with what the call read
+  pub behavior : s.reads.phase ≡ Unfinished → (c : Content) → IsOf (reads_past (length s.reads.bytes) t.reads) c
       → Performs (λ w. content_behavior r labels (clip c) (all_verdicts r w (clip c))) (λ good. good) a b x
-  pub manifest : s.reads ≡ unread → IsAtEndIf (x ≡ Ok true) t.reads
+  pub manifest : s.reads.phase ≡ Unfinished → IsAtEndIf (x ≡ Ok true) t.reads
   pub same : IsSameInput s t
   pub cause : StopHasCause (0 ∷ 1 ∷ []) a b x
   pub reads : ReadsToEndIf (x ≡ Ok true) a.inputs b.inputs

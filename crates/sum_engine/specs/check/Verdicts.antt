@@ -1,9 +1,8 @@
 -- The verdicts of a manifest, one call after another; no text is written.
 use Rattle.std.specs.Prelude.{◌≡◌, ◌+◌, ◌≤◌, ◌<◌, ◌⊎◌, [], ◌∷◌, length, slice_range, Bool, true, false, Option, None, Some, IfSome, Result, Ok, Err, ⊤}
 use Rattle.sum_lines.specs.declared.reading.read_line.Form.TheVariants.{Undecided}
-use Rattle.sum_sources.specs.Contents.{unread}
-use Rattle.sum_sources.specs.LineReaders.{AdvancesLines, IsBounded, IsReading, consumed_count, remaining}
-use Rattle.sum_sources.specs.declared.{line_reader.LineReader.LineReader, line_reader.LineStop.TheVariants.Fault, line_reader.LineStop.TheVariants.Memory}
+use Rattle.sum_sources.specs.LineReaders.{AdvancesLines, IsBounded, IsReading, consumed_count, reads_of, remaining}
+use Rattle.sum_sources.specs.declared.{inputs.phase.Phase.TheVariants.Unfinished, line_reader.LineReader.LineReader, line_reader.LineStop.TheVariants.Fault, line_reader.LineStop.TheVariants.Memory}
 pub use Rattle.sum_sources.specs.declared.line_reader.LineStop.{LineStop}
 use Rattle.sum_sources.specs.declared.{line_reader.Next.TheVariants.NoMore, line_reader.Next.Next}
 use Rattle.sum_engine.specs.Behavior.{ByteString, Ending, Whole, Broken, World, after, Content, InputState, SourceState, IsOf}
@@ -25,7 +24,7 @@ pub record VerdictsValue (I : Type 0) : Type 0 where
 -- the verdicts are at the first line of that input
 pub record IsAtStart {I : Type 0} (state : I → InputState) (p : VerdictsValue I) (input : I) : Type 0 where
   pub reader : p.reader ≡ record { input = input; ahead = []; taken = 0; lines = 0; final_answer = None }
-  pub reading : (state input).reads ≡ unread → IsReading state p.reader
+  pub reading : (state input).reads.phase ≡ Unfinished → IsReading state p.reader
   pub form : p.form ≡ Undecided
   pub counts : p.counts ≡ no_counts
   pub outcome : p.outcome ≡ None
@@ -42,11 +41,11 @@ state_at p c w = record {
   world = w;
 }
 
--- P holds between the check's states at two values and inputs, if the input was unread at the start: of each content of
--- the manifest, and in each world, that agrees with what was read by then
+-- P holds between the check's states at two values and inputs, if the input hadn't ended at the start: of each content
+-- of the manifest, and in each world, that agrees with what was read of it since then
 pub record InEachCheck {I : Type 0} (state : I → InputState) (p q : VerdictsValue I) (a b : SourceState)
     (P : CheckState → CheckState → Type 0) : Type 0 where
-  pub holds : IsReading state p.reader → (c : Content) → IsOf (state q.reader.input).reads c → (w : World) → Agrees w b
+  pub holds : IsReading state p.reader → (c : Content) → IsOf (reads_of state q.reader) c → (w : World) → Agrees w b
       → P (state_at p (remaining p.reader c) (world_at w a)) (state_at q (remaining q.reader c) (world_at w b))
 
 -- ---- what a call returns
@@ -136,9 +135,9 @@ pub record AdvancesVerdicts {I : Type 0} (state : I → InputState) (vector : By
   pub found : Result Next LineStop
   pub reader : AdvancesLines state p.reader q.reader found
   pub bounds : IsBounded q.reader
-  -- if the input was unread at the start: what was read by now is of no content that what was read before wasn't of
+  -- if the input hadn't ended at the start: reads only narrow what they are of
   pub reading : IsReading state p.reader → IsReading state q.reader
-  pub before : IsReading state p.reader → (c : Content) → IsOf (state q.reader.input).reads c
-      → IsOf (state p.reader.input).reads c
+  pub before : IsReading state p.reader → (c : Content) → IsOf (reads_of state q.reader) c
+      → IsOf (reads_of state p.reader) c
   pub asked : AsksFor vector a b x
   pub reads : ReadsToEndIf (IsNotUnread x) a b

@@ -18,11 +18,11 @@ close-requires g c = still_open {Whole = ⊥} _ c.in_ok-file.ensures.file c.in_o
 -- it was hashed
 pub returns-in-Ok : goal.returns-in-Ok
 returns-in-Ok g c =
-    name_hashed _ c.in_ok-file.ensures.file c.in_ok-file.ensures.state c.hash-found.ensures.same c.close.ensures
+    name_hashed g.S.Source.tells _ c.in_ok-file.ensures.file c.in_ok-file.ensures.state c.hash-found.ensures.same c.close.ensures
     (Ok _) c.in-Ok.ensures.hashes c.in-Ok.ensures.len
 
 -- reading it failed
 pub returns-in-Err : goal.returns-in-Err
 returns-in-Err g c =
-    name_hashed _ c.in_ok-file.ensures.file c.in_ok-file.ensures.state c.hash-found.ensures.same c.close.ensures
+    name_hashed g.S.Source.tells _ c.in_ok-file.ensures.file c.in_ok-file.ensures.state c.hash-found.ensures.same c.close.ensures
     (Err _) c.in-Err.ensures.hashes tt

@@ -1,4 +1,4 @@
-use Rattle.std.proofs.Common.{◌≡◌, ap, ◌∙◌}
+use Rattle.std.proofs.Common.{refl, ◌≡◌, ap, ◌∙◌}
 use Rattle.sum_engine.specs.{check.Rules.labels_of, check.Rules.rules_of, Behavior.InputState}
 use Rattle.sum_engine.proofs.{CheckOneLemmas.check_opened, CheckOneLemmas.no_room, CheckOneLemmas.refused, FlushedWriteLemmas.writes_and_returns}
 use Rattle.sum_engine.proofs.{OpenedNameLemmas.was_opened, OpenedNameLemmas.still_open, WorldLemmas.reads_fault}
@@ -48,8 +48,8 @@ returns-clause-behavior g c =
     check_opened settings c.args.tool.now name c.args.streams.now c.open.new.self c.close.new.self
     (g.S.File.Input.state c.in-Ok.opened) _ c.run_to_end-result.new.streams
     c.run_to_end-result.result.0 unread
-    (was_opened c.in-Ok.ensures.file c.in-Ok.ensures.state (rw made.start.reader at checked.same)
-    ((rw made.start.reader at checked.manifest) unread) checked.reads c.close.ensures)
+    (was_opened g.S.Source.tells c.in-Ok.ensures.file c.in-Ok.ensures.state (rw made.start.reader at checked.same)
+    ((rw (made.start.reader, unread) at checked.manifest) refl) checked.reads c.close.ensures)
     (rw (rules, labels, made.start.reader) at checked)
 
 pub returns-clause-reads : goal.returns-clause-reads
@@ -57,5 +57,5 @@ returns-clause-reads g c =
     let checked = c.run_to_end-result.ensures in
     let start = c.new-checker.ensures.start.reader in
     let unread = ap (λ (s : InputState). s.reads) c.in-Ok.ensures.file in
-    (was_opened c.in-Ok.ensures.file c.in-Ok.ensures.state (rw start at checked.same)
-    ((rw start at checked.manifest) unread) checked.reads c.close.ensures).reads
+    (was_opened g.S.Source.tells c.in-Ok.ensures.file c.in-Ok.ensures.state (rw start at checked.same)
+    ((rw (start, unread) at checked.manifest) refl) checked.reads c.close.ensures).reads
