@@ -1,6 +1,6 @@
 -- The headline for files in memory: what a run does whose source has all answers in memory.
 use Rattle.std.specs.Prelude.{ℕ, ◌≡◌, ◌⊎◌, List, Option, None, Some, Result, Ok}
-use Rattle.sum_sources.specs.Sources.{Answers, TellsAll}
+use Rattle.sum_sources.specs.Sources.{Answers, ToldAnswers, TellsAll}
 use Rattle.sum_engine.specs.Behavior.{ByteString, World}
 use Rattle.sum_engine.specs.declared.stop.Stop.{Stop}
 use Rattle.sum_engine.specs.Execution.{StreamsState, IsFlushed, asked, ReadsToEndIf, PerformsSteps, Performs}
@@ -9,11 +9,11 @@ use Rattle.sum_words.specs.declared.tool.Tool.{Tool}
 use Rattle.digests.specs.Meaning.{meaning, status_of}
 use Rattle.digests.specs.Program.{CallPerforms, CallRefuses, ProgramPerforms}
 
--- a tool ran on these words, as its contract says, over files in memory, and left the streams b. So exactly the
--- behavior was performed that the words mean by these answers
-abbrev pub MeansInMemory : StreamsState → Type 0
-MeansInMemory b = (tool : Tool) (words : List ByteString) (answer : Answers) (a : StreamsState) (r : Result ℕ Stop)
-    → TellsAll a.inputs.told answer → IsFlushed a.outputs
+-- a tool ran on these words, as its contract says, over a source all of whose answers are known, and left the streams
+-- b. So exactly the behavior was performed that the words mean by these answers
+abbrev pub MeansInMemory : ToldAnswers → StreamsState → Type 0
+MeansInMemory tells b = (tool : Tool) (words : List ByteString) (answer : Answers) (a : StreamsState) (r : Result ℕ Stop)
+    → TellsAll tells a.inputs.told answer → IsFlushed a.outputs
     → Performs (meaning tool words) status_of a b r → ReadsToEndIf (r ≡ Ok 0) a.inputs b.inputs
     → let all = meaning tool words (record { answer = answer; opened = asked a.inputs }) in
     PerformsSteps all.steps (status_of all.good) a b r
@@ -24,11 +24,11 @@ CommandPerformsIn w None = CallRefuses unknown_tool_line
 CommandPerformsIn w (Some (tool, words)) = let all = meaning tool words w in
     CallPerforms (Some tool) (PerformsSteps all.steps (status_of all.good))
 
--- the program was called, as its contract says, with arguments in memory and over files in memory, and left the streams
+-- the program was called, as its contract says, with arguments in memory and over such a source, and left the streams
 -- b. So it did exactly what these arguments ask for by these answers; or they need memory, and weren't read
-abbrev pub ProgramInMemory : ArgumentsState → StreamsState → Type 0
-ProgramInMemory given b = (arguments : List ByteString) (answer : Answers) (a : StreamsState) (status : ℕ)
-    → given.told ≡ Some arguments → TellsAll a.inputs.told answer → IsFlushed a.outputs
+abbrev pub ProgramInMemory : ToldAnswers → ArgumentsState → StreamsState → Type 0
+ProgramInMemory tells given b = (arguments : List ByteString) (answer : Answers) (a : StreamsState) (status : ℕ)
+    → given.told ≡ Some arguments → TellsAll tells a.inputs.told answer → IsFlushed a.outputs
     → ProgramPerforms given a b status → ReadsToEndIf (status ≡ 0) a.inputs b.inputs
     → CommandPerformsIn (record { answer = answer; opened = asked a.inputs }) (command_line arguments) a b status
     ⊎ (NeedsMemory arguments × CallRefuses not_read_line a b status)

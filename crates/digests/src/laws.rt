@@ -4,7 +4,7 @@ ghost use Rattle.digests.specs.GenerationRuns.{AreGood, GenerationRun};
 ghost use Rattle.digests.specs.InMemory.{MeansInMemory, ProgramInMemory};
 ghost use Rattle.std.specs.Prelude.{List, [], ◌∷◌};
 
-use sum_engine::laws::some_world_agrees;
+use sum_engine::laws::told_agree;
 use sum_engine::{Outputs, Reader, Streams};
 use sum_lines::Sink;
 use sum_sources::Source;
@@ -12,12 +12,12 @@ use sum_words::Arguments;
 use sum_words::laws::some_list_agrees;
 
 /// The headline for files in memory, of whatever types. Say that `run` left these streams, and that before it both
-/// outputs were flushed, and all answers of the source were in memory. Then the outputs got exactly the bytes, and `run`
+/// outputs were flushed, and all answers of the source are known. Then the outputs got exactly the bytes, and `run`
 /// returned exactly the status, that the words mean by these answers; or it stopped, and a prefix of the run happened.
 pub fn told_performs<S: Source, O: Sink, E: Sink>(streams: &Streams<Reader<S>, Outputs<O, E>>)
-    ensures { MeansInMemory streams.now }
+    ensures { MeansInMemory S.tells streams.now }
 {
-    some_world_agrees(&streams.inputs);
+    told_agree(&streams.inputs);
 }
 
 /// The same for the program and arguments in memory. Say that `command` left these arguments and streams. Then the tool
@@ -26,10 +26,10 @@ pub fn told_program_performs<G: Arguments, S: Source, O: Sink, E: Sink>(
     arguments: &G,
     streams: &Streams<Reader<S>, Outputs<O, E>>,
 )
-    ensures { ProgramInMemory (G.state arguments.now) streams.now }
+    ensures { ProgramInMemory S.tells (G.state arguments.now) streams.now }
 {
     some_list_agrees(arguments);
-    some_world_agrees(&streams.inputs);
+    told_agree(&streams.inputs);
 }
 
 /// A tool accepts what it wrote. Say that `md5sum a b` wrote the manifest `SUMS`. Then `md5sum --check -- SUMS` ends
