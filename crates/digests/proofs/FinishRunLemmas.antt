@@ -2,7 +2,7 @@
 use Rattle.std.proofs.Common.{◌≡◌, List, [], ◌∷◌, ◌++◌, Result, Ok, Err, refl}
 use Rattle.std.specs.Prelude.{⊤}
 use Rattle.sum_lines.specs.Sinks.{ByteString, SinkState, Gets, GivesAll}
-use Rattle.sum_lines.specs.Buffers.{BufferState}
+use Rattle.sum_lines.specs.Buffers.{BufferState, IsFlushed}
 use Rattle.sum_engine.specs.refinement.FlushedWrites.{WritesAndFlushes}
 
 -- nothing has no prefix but nothing
@@ -10,16 +10,16 @@ no_prefix : {A : Type 0} (prefix rest : List A) → [] ≡ prefix ++ rest → pr
 no_prefix [] rest h = refl
 no_prefix (b ∷ bs) rest h = cc
 
--- a flush of a buffer that buffers nothing gives the sink nothing, also if it fails
+-- a flush of a flushed buffer gives the sink nothing, also if it fails
 pub flushed_none : {E : Type 0} {a : BufferState} (b : SinkState) (r : Result (Unit {0}) E)
-    → GivesAll a.sink b a.buffered r → a.buffered ≡ [] → Gets a.sink b []
-flushed_none b (Ok u) given none = let all = rw none at given in all.0
-flushed_none b (Err e) given none =
-    let (prefix, rest, is, gets) = rw none at given.0 in
+    → GivesAll a.sink b a.buffered r → IsFlushed a → Gets a.sink b []
+flushed_none b (Ok u) given flushed = let all = rw flushed.0 at given in all.0
+flushed_none b (Err e) given flushed =
+    let (prefix, rest, is, gets) = rw flushed.0 at given.0 in
     rw (no_prefix prefix rest is) at gets
 
 -- a line was written and flushed, or that failed
 pub writes_line : {E : Type 0} (a b : BufferState) (line : ByteString) (r : Result (Unit {0}) E)
-    → WritesAndFlushes a b line r → a.buffered ≡ [] → (x : Result ⊤ ⊤) × GivesAll a.sink b.sink line x
-writes_line a b line (Ok u) wrote none = (Ok tt, wrote.gives none)
-writes_line a b line (Err e) wrote none = (Err tt, wrote.gives none)
+    → WritesAndFlushes a b line r → IsFlushed a → (x : Result ⊤ ⊤) × GivesAll a.sink b.sink line x
+writes_line a b line (Ok u) wrote flushed = (Ok tt, wrote.gives flushed.0)
+writes_line a b line (Err e) wrote flushed = (Err tt, wrote.gives flushed.0)

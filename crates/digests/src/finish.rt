@@ -1,7 +1,7 @@
 //! The end of a run: both outputs are flushed once more, and a stop is reported in a line.
 ghost use Rattle.digests.specs.Program.{tool_stop_line};
 ghost use Rattle.digests.specs.refinement.FinishRun.{FinishesRun, FlushesBoth, KeepsBoth};
-ghost use Rattle.std.specs.Prelude.{◌≡◌, [], Ok};
+ghost use Rattle.std.specs.Prelude.{◌≡◌, [], Ok, OnOk};
 ghost use Rattle.sum_engine.specs.Execution.{IsFlushed, failures};
 ghost use Rattle.sum_engine.specs.refinement.FlushedWrites.{WritesAndFlushes};
 
@@ -42,6 +42,8 @@ fn flush_both<O: Sink, E: Sink>(
     ensures outcome { FlushesBoth outputs.old outputs.new outcome result }
     ensures bytes { IsFlushed outputs.old → KeepsBoth outputs.old outputs.new }
     ensures flushed { IsFlushed outputs.old → IsFlushed outputs.new }
+    // However they were before.
+    ensures flushed_on_ok { OnOk result (IsFlushed outputs.new) }
 {
     let status = outcome?;
     outputs.out.flush()?;

@@ -1,7 +1,7 @@
 -- A text that is written and flushed.
 use Rattle.std.proofs.Common.{rules, ◌≡◌, ℕ, List, [], ◌++◌, ◌+◌, Result, Ok, Err, MatchResult, append-nil}
 use Rattle.std.specs.Result.{IsErr}
-use Rattle.sum_lines.specs.{Sinks.SinkState, Sinks.GivesAll, Buffers.BufferState, Buffers.Accepts, Buffers.FailsToWrite}
+use Rattle.sum_lines.specs.{Sinks.SinkState, Sinks.GivesAll, Buffers.BufferState, Buffers.IsFlushed, Buffers.Accepts, Buffers.FailsToWrite}
 use Rattle.sum_lines.proofs.SinkLemmas.{given_after, not_given}
 use Rattle.sum_engine.specs.refinement.FlushedWrites.{WritesAndFlushes, WritesAndFlushesBoth, outcome_after, WritesAndReturns}
 use Rattle.sum_engine.specs.Execution.{OutputsState, Stop}
@@ -14,18 +14,18 @@ failures_of : {E : Type 0} (a b : SinkState) (text : List ℕ) (r : Result (Unit
 failures_of a b text (Ok u) given = given.1
 failures_of a b text (Err e) given = given.1
 
--- the buffered bytes and a text were given, and nothing is buffered
+-- the buffered bytes and a text were given, and the output is flushed
 given_flushed : {E : Type 0} (a b : BufferState) (text : List ℕ) (r : Result (Unit {0}) E)
-    → GivesAll a.sink b.sink (a.buffered ++ text) r → b.buffered ≡ [] → WritesAndFlushes a b text r
+    → GivesAll a.sink b.sink (a.buffered ++ text) r → IsFlushed b → WritesAndFlushes a b text r
 given_flushed a b text r given flushed = record {
   failures = failures_of a.sink b.sink (a.buffered ++ text) r given;
-  flushed = λ none. flushed;
+  flushed = λ before. flushed;
   gives = λ none. rw none at given;
 }
 
 -- a text was written, and then flushed, or that failed
 pub written_flushed : {E : Type 0} {a b : BufferState} (c : BufferState) (text : List ℕ) (r : Result (Unit {0}) E)
-    → Accepts a b text → GivesAll b.sink c.sink b.buffered r → c.buffered ≡ [] → WritesAndFlushes a c text r
+    → Accepts a b text → GivesAll b.sink c.sink b.buffered r → IsFlushed c → WritesAndFlushes a c text r
 written_flushed {a = a} c text r wrote given flushed =
     given_flushed a c text r (given_after c.sink text r wrote given) flushed
 
@@ -33,7 +33,7 @@ written_flushed {a = a} c text r wrote given flushed =
 pub not_flushed : {E : Type 0} {a b : BufferState} (text : List ℕ) (r : Result (Unit {0}) E) → FailsToWrite a b text
     → IsErr r → WritesAndFlushes a b text r
 not_flushed text (Ok u) failed err = cc
-not_flushed {a = a} {b} text (Err e) failed err = given_flushed a b text (Err e) (not_given failed) failed.buffered
+not_flushed {a = a} {b} text (Err e) failed err = given_flushed a b text (Err e) (not_given failed) failed.flushed
 
 -- ---- both outputs
 

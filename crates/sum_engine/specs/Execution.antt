@@ -1,9 +1,10 @@
 -- The state of a call's streams, and what a call performs of a behavior: the form of the headline.
-use Rattle.std.specs.Prelude.{ℕ, ◌≡◌, ◌≢◌, ◌+◌, ◌⊎◌, Bool, [], Some, IfSome, IfOk, Result, Ok, Err, ◌<◌, List, ◌∷◌, ◌++◌, filter_map, All, Any}
+use Rattle.std.specs.Prelude.{ℕ, ◌≡◌, ◌≢◌, ◌+◌, ◌⊎◌, Bool, Some, IfSome, IfOk, Result, Ok, Err, ◌<◌, List, ◌∷◌, ◌++◌, filter_map, All, Any}
 use Rattle.sum_sources.specs.declared.fault.Ending.TheVariants as ending
 use Rattle.sum_sources.specs.declared.{inputs.phase.Phase.TheVariants.Ended, inputs.phase.Phase.TheVariants.Past}
 pub use Rattle.sum_sources.specs.Sources.{Opening, IsOfAnswer, names_of, gave_at}
 use Rattle.sum_lines.specs.{Sinks.Gets, Buffers.BufferState}
+use Rattle.sum_lines.specs.Buffers as buffers
 pub use Rattle.sum_engine.specs.declared.streams.Streams.{Streams}
 pub use Rattle.sum_engine.specs.declared.stop.Stop.{Stop}
 pub use Rattle.sum_engine.specs.declared.stop.Stop.TheVariants.{Memory, Write}
@@ -18,7 +19,7 @@ StreamsState = Streams SourceState OutputsState
 
 -- both outputs are flushed
 abbrev pub IsFlushed : OutputsState → Type 0
-IsFlushed m = (m.out.buffered ≡ []) × (m.err.buffered ≡ [])
+IsFlushed m = buffers.IsFlushed m.out × buffers.IsFlushed m.err
 
 -- how often a call of standard output failed, and how often one of standard error
 abbrev pub failures : OutputsState → ℕ × ℕ

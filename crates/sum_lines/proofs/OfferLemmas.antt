@@ -90,4 +90,5 @@ HasGiven-failed {b = b} (x ∷ xs) h some is =
     rw is (
       (h.events, byte_events (x ∷ xs), h.cut, record { offered = offered; written = h.written }),
       ap (λ n. n + 1) h.failures,
+      refl,
     )

@@ -47,8 +47,8 @@ FailsToWrite-in xs ys more first failed is = let own = first.cut in let then = f
   cut = grind (arith, append_assoc);
   proper = omega (arith, failed.proper, length-append failed.rest more);
   gives = rw (output_events-append first.given failed.given first.full)
-      (GetsPrefix-then first.gives.0 failed.gives.0, failed.gives.1 ∙ ap (λ n. n + 1) first.gives.1);
-  buffered = failed.buffered;
+      (GetsPrefix-then first.gives.0 failed.gives.0, failed.gives.1 ∙ ap (λ n. n + 1) first.gives.1, failed.gives.2);
+  flushed = failed.flushed;
 }
 
 -- a text's first part was accepted, and then the rest was written, or that failed
@@ -101,7 +101,7 @@ accept_failed {a} piece (inl (full, none, gives)) some = record {
   cut = refl;
   proper = some;
   gives = gives;
-  buffered = none;
+  flushed = (none, gives.2);
 }
 accept_failed piece (inr (room, same, ok)) some = cc
 
@@ -155,7 +155,7 @@ pub given_after : {E : Type 0} {a b : BufferState} (c : SinkState) (text : List 
 given_after {b = b} c text (Ok u) h given = rw (h.cut, output_events-append h.given b.buffered h.full)
     (Gets-then h.gives.0 given.0, given.1 ∙ h.gives.1)
 given_after {b = b} c text (Err e) h given = rw (h.cut, output_events-append h.given b.buffered h.full)
-    (GetsPrefix-then h.gives.0 given.0, given.1 ∙ ap (λ n. n + 1) h.gives.1)
+    (GetsPrefix-then h.gives.0 given.0, given.1 ∙ ap (λ n. n + 1) h.gives.1, given.2)
 
 -- a write of a text failed, so not all was given
 pub not_given : {a b : BufferState} {text : List ℕ} → FailsToWrite a b text
@@ -163,4 +163,4 @@ pub not_given : {a b : BufferState} {text : List ℕ} → FailsToWrite a b text
 not_given h =
     let (prefix, rest, is, gets) = h.gives.0 in
     rw (h.cut, output_events-append h.given h.rest h.full, is)
-    ((prefix, rest ++ output_events h.rest, append_assoc prefix rest (output_events h.rest), gets), h.gives.1)
+    ((prefix, rest ++ output_events h.rest, append_assoc prefix rest (output_events h.rest), gets), h.gives.1, h.gives.2)

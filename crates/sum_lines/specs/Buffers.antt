@@ -1,11 +1,15 @@
 -- A buffer over a sink, and what a call that writes a text to it does.
-use Rattle.std.specs.Prelude.{◌≡◌, ◌<◌, ◌≤◌, ◌%◌, [], ◌++◌, length, ⊤, Result, Ok, Err}
+use Rattle.std.specs.Prelude.{true, ◌≡◌, ◌<◌, ◌≤◌, ◌%◌, [], ◌++◌, length, ⊤, Result, Ok, Err}
 use Rattle.sum_lines.specs.Sinks.{ByteString, SinkState, GivesAll}
 
 -- a buffer's state: that of the sink below it, and the bytes that are buffered
 pub record BufferState : Type 0 where
   pub sink : SinkState
   pub buffered : ByteString
+
+-- nothing is buffered, and the sink below it is flushed
+abbrev pub IsFlushed : BufferState → Type 0
+IsFlushed b = (b.buffered ≡ []) × (b.sink.flushed ≡ true)
 
 -- a text was accepted: of the buffered bytes and the text, all but the last piece was given to the sink in full pieces,
 -- and the last piece is buffered
@@ -27,7 +31,7 @@ pub record FailsToWrite (a b : BufferState) (text : ByteString) : Type 0 where
   pub cut : a.buffered ++ text ≡ given ++ rest
   pub proper : 0 < length rest
   pub gives : GivesAll {E = ⊤} a.sink b.sink given (Err tt)
-  pub buffered : b.buffered ≡ []
+  pub flushed : IsFlushed b
 
 -- a call that accepts all of the text, or fails; with an empty text it doesn't fail
 abbrev pub WritesAll : {E : Type 0} → BufferState → BufferState → ByteString → Result ⊤ E → Type 0

@@ -1,25 +1,28 @@
 -- What a sink is offered, and what it writes.
 pub use Rattle.digest_kinds.specs.Bytes.{ByteString}
-use Rattle.std.specs.Prelude.{ℕ, ◌≡◌, ◌<◌, ◌≤◌, ◌+◌, ◌/◌, List, [], ◌∷◌, ◌++◌, length, take, flat_map, filter_map, ⊤, ◌⊎◌, Option, None, Some, Result, Ok, Err}
+use Rattle.std.specs.Prelude.{ℕ, Bool, true, false, ◌≡◌, ◌<◌, ◌≤◌, ◌+◌, ◌/◌, List, [], ◌∷◌, ◌++◌, length, take, flat_map, filter_map, ⊤, ◌⊎◌, Option, None, Some, Result, Ok, Err}
 use Rattle.std.specs.Simd.{first_chunks}
 
 -- a sink's state: the pieces that it was offered, one by each write; the bytes of them that it accepted, which are
--- written at once; how many calls failed
+-- written at once; how many calls failed; whether it is flushed. It is so before its first call, and after a flush or a
+-- call that failed, by which what was held back is lost; a write that succeeds ends that
 pub record SinkState : Type 0 where
   pub offered : List ByteString
   pub written : ByteString
   pub failures : ℕ
+  pub flushed : Bool
 
 -- one write, which offers a piece: its first bytes are accepted, at least one if it isn't empty; or the write fails
 abbrev pub WritesSome : {E : Type 0} → SinkState → SinkState → ByteString → Result ℕ E → Type 0
 WritesSome a b piece (Ok n) = (n ≤ length piece) × (0 < length piece → 0 < n)
-    × (b ≡ record a { offered = a.offered ++ piece ∷ []; written = a.written ++ take n piece })
-WritesSome a b piece (Err e) = b ≡ record a { offered = a.offered ++ piece ∷ []; failures = a.failures + 1 }
+    × (b ≡ record a { offered = a.offered ++ piece ∷ []; written = a.written ++ take n piece; flushed = false })
+WritesSome a b piece (Err e) = b
+    ≡ record a { offered = a.offered ++ piece ∷ []; failures = a.failures + 1; flushed = true }
 
 -- one flush, which offers nothing, or fails
 abbrev pub Flushes : {E : Type 0} → SinkState → SinkState → Result ⊤ E → Type 0
-Flushes a b (Ok u) = b ≡ a
-Flushes a b (Err e) = b ≡ record a { failures = a.failures + 1 }
+Flushes a b (Ok u) = b ≡ record a { flushed = true }
+Flushes a b (Err e) = b ≡ record a { failures = a.failures + 1; flushed = true }
 
 -- ---- a text, piece by piece
 
@@ -62,7 +65,9 @@ pub record Gets (a b : SinkState) (es : List OutputEvent) : Type 0 where
 abbrev pub GetsPrefix : SinkState → SinkState → List OutputEvent → Type 0
 GetsPrefix a b es = (prefix rest : List OutputEvent) × (es ≡ prefix ++ rest) × Gets a b prefix
 
--- a call that gives a sink a text: all of its events happened; or a call of the sink failed after a prefix of them
+-- a call that gives a sink a text: all of its events happened; or a call of the sink failed after a prefix of them,
+-- which leaves the sink flushed
 abbrev pub GivesAll : {E : Type 0} → SinkState → SinkState → ByteString → Result ⊤ E → Type 0
 GivesAll a b text (Ok u) = Gets a b (output_events text) × (b.failures ≡ a.failures)
-GivesAll a b text (Err e) = GetsPrefix a b (output_events text) × (b.failures ≡ a.failures + 1)
+GivesAll a b text (Err e) =
+    GetsPrefix a b (output_events text) × (b.failures ≡ a.failures + 1) × (b.flushed ≡ true)

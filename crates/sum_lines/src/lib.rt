@@ -24,6 +24,6 @@ pub use sinks::buffered::{Buffered, CAPACITY, put_all};
 pub use sinks::from_write::FromWrite;
 pub use sinks::sink::{Sink, SinkFault};
 pub use sinks::told_sink::ToldSink;
-pub use sinks::writes::{Offer, Writes};
+pub use sinks::writes::{Flushed, Offer, Writes};
 pub use writing::parts::{Part, put_number, put_parts};
 pub use writing::put_line::{Mode, Style, mark_and_name, put_line};

@@ -2,13 +2,14 @@
 use Rattle.std.specs.Prelude.{◌≡◌, ◌⊎◌, ◌+◌, [], Result, Ok, Err, MatchResult, ⊤}
 use Rattle.sum_lines.specs.Sinks.{ByteString, output_events, Gets, GetsPrefix, GivesAll}
 use Rattle.sum_lines.specs.Buffers.{BufferState}
+use Rattle.sum_lines.specs.Buffers as buffers
 use Rattle.sum_engine.specs.Execution.{OutputsState, IsFlushed, FailuresMatch, Stop, Write}
 
 -- a call that gives the output a text, if the output is flushed before; then it is flushed after. A fault has one
 -- failure more of the output
 pub record WritesAndFlushes {E : Type 0} (a b : BufferState) (text : ByteString) (r : Result ⊤ E) : Type 0 where
   pub failures : MatchResult r (λ u. b.sink.failures ≡ a.sink.failures) (λ e. b.sink.failures ≡ a.sink.failures + 1)
-  pub flushed : a.buffered ≡ [] → b.buffered ≡ []
+  pub flushed : buffers.IsFlushed a → buffers.IsFlushed b
   pub gives : a.buffered ≡ [] → GivesAll a.sink b.sink text r
 
 -- standard error got the first text, and then standard output the second; or a prefix of both in this order

@@ -1,6 +1,6 @@
 //! A buffer over a sink.
 ghost use Rattle.std.specs.Prelude.{◌≡◌, ◌<◌, ◌≤◌, ◌-◌, ◌+◌, ◌++◌, [], length, min, take, MatchResult};
-ghost use Rattle.sum_lines.specs.Buffers.{Accepts, FailsToWrite, WritesAll};
+ghost use Rattle.sum_lines.specs.Buffers.{Accepts, FailsToWrite, IsFlushed, WritesAll};
 ghost use Rattle.sum_lines.specs.Sinks.{GivesAll};
 ghost use Rattle.sum_lines.specs.refinement.SinkStates.{MakesRoom};
 
@@ -36,7 +36,7 @@ impl<S: Sink> Model for Buffered<S> {
 }
 
 impl<S: Sink> Buffered<S> {
-    /// An empty buffer over `sink`.
+    /// An empty buffer over `sink`. It is flushed if the sink is.
     pub fn new(sink: S) -> Self
         ensures { result ≡ record { sink = S.state sink; buffered = [] } }
     {
@@ -64,7 +64,7 @@ impl<S: Sink> Buffered<S> {
     /// Offers the sink all that is buffered, in one piece, and flushes the sink. `SinkFault` if that fails.
     pub fn flush(&mut self) -> Result<(), SinkFault>
         ensures gives { GivesAll self.old.sink self.new.sink self.old.buffered result }
-        ensures flushed { self.new.buffered ≡ [] }
+        ensures flushed { IsFlushed self.new }
     {
         self.give_buffered()?;
         self.sink.flush()
@@ -73,7 +73,7 @@ impl<S: Sink> Buffered<S> {
     // Gives the sink what is buffered.
     fn give_buffered(&mut self) -> Result<(), SinkFault>
         ensures gives { GivesAll self.old.sink self.new.sink self.old.buffered result }
-        ensures flushed { self.new.buffered ≡ [] }
+        ensures buffered { self.new.buffered ≡ [] }
     {
         let len = self.len;
         self.len = 0;

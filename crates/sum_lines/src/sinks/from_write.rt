@@ -1,9 +1,9 @@
 //! A sink over a writer of the standard library.
 ghost use Rattle.std.specs.Option.{ForSome};
-ghost use Rattle.std.specs.Prelude.{◌≡◌, ◌+◌, ◌++◌, Some, unwrap_or, []};
+ghost use Rattle.std.specs.Prelude.{true, ◌≡◌, ◌+◌, ◌++◌, Some, unwrap_or, []};
 
 use crate::sinks::sink::{Sink, SinkFault};
-use crate::sinks::writes::{Offer, Writes};
+use crate::sinks::writes::{Flushed, Offer, Writes};
 use digest_kinds::INTERRUPTIONS;
 use ghost_log::Log;
 use std::io::{ErrorKind, Write};
@@ -26,7 +26,12 @@ impl<W: Write> FromWrite<W> {
     /// A sink over the writer. It has written what the writer is known to hold.
     pub fn new(writer: W) -> Self
         ensures { ⟦<FromWrite<W> as Sink>⟧.state result
-            ≡ record { offered = []; written = unwrap_or (W.contents writer) []; failures = 0 } }
+            ≡ record {
+              offered = [];
+              written = unwrap_or (W.contents writer) [];
+              failures = 0;
+              flushed = true;
+            } }
     {
         FromWrite {
             first: Snapshot::of(&writer),
@@ -50,7 +55,7 @@ impl<W: Write> FromWrite<W> {
         ensures writer { self.new.writer ≡ self.old.writer }
         ensures first { self.new.first ≡ self.old.first }
         ensures log { self.new.log
-            ≡ record self.old.log { failures = self.old.log.failures + 1 } }
+            ≡ record self.old.log { failures = self.old.log.failures + 1; flushed = true } }
     {
         self.log = self.log.and(&SinkFault);
         SinkFault
@@ -90,7 +95,10 @@ impl<W: Write> Sink for FromWrite<W> {
     /// Flushes the writer, once. `SinkFault` if that fails.
     fn flush(&mut self) -> Result<(), SinkFault> {
         match self.writer.flush() {
-            Ok(()) => Ok(()),
+            Ok(()) => {
+                self.log = self.log.and(&Flushed);
+                Ok(())
+            }
             Err(_) => Err(self.fault()),
         }
     }

@@ -11,16 +11,16 @@ pub struct SinkFault;
 
 /// Writes the bytes that it accepts at once, and buffers none. [`Buffered`](crate::Buffered) buffers bytes for a sink.
 ///
-/// A call that returns `SinkFault` counts as one failure more.
+/// A call that returns `SinkFault` counts as one more failure. What was held back below the sink is then lost.
 pub trait Sink {
-    /// The pieces that it was offered, one by each write; the bytes of them that it accepted; and how many of its calls
-    /// have failed.
+    /// The pieces that it was offered, one by each write; the bytes of them that it accepted; how many of its calls have
+    /// failed; and whether it is flushed.
     ghost state: { Self → SinkState };
 
     /// Accepts the first bytes of the piece and returns how many. Of an empty piece that is none. Of any other it is at
     /// least one, or the call returns `SinkFault` and accepts nothing.
     fn write(&mut self, piece: &[u8]) -> Result<usize, SinkFault>
-        // What was offered and written, and the count of failures.
+        // What was offered and written, the count of failures, and whether the sink is flushed.
         ensures bytes { WritesSome (state self.old) (state self.new) piece.now result }
         ensures empty { piece.now ≡ [] → result ≡ Ok 0 };
 

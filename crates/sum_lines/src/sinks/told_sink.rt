@@ -1,8 +1,8 @@
 //! A sink that keeps its bytes in an array.
-ghost use Rattle.std.specs.Prelude.{◌≡◌, ◌≤◌, ◌+◌, ◌<◌, [], length, min, IfOk, IsErr, OnErr, ◌↔◌};
+ghost use Rattle.std.specs.Prelude.{true, ◌≡◌, ◌≤◌, ◌+◌, ◌<◌, [], length, min, IfOk, IsErr, OnErr, ◌↔◌};
 
 use crate::sinks::sink::{Sink, SinkFault};
-use crate::sinks::writes::{Offer, Writes};
+use crate::sinks::writes::{Flushed, Offer, Writes};
 use ghost_log::Log;
 
 /// A sink that keeps up to N bytes, and fails when it is full.
@@ -23,6 +23,7 @@ impl<const N: usize> ToldSink<N> {
         ensures empty { bytes_of result ≡ [] }
         ensures room { remaining_capacity result ≡ min stop N }
         ensures failures { (⟦<ToldSink<N> as Sink>⟧.state result).failures ≡ 0 }
+        ensures flushed { (⟦<ToldSink<N> as Sink>⟧.state result).flushed ≡ true }
     {
         ToldSink {
             bytes: [0; N],
@@ -78,12 +79,14 @@ impl<const N: usize> Sink for ToldSink<N> {
         Ok(count)
     }
 
-    /// It succeeds and changes nothing.
+    /// Succeeds, and changes neither the bytes nor the room.
     fn flush(&mut self) -> Result<(), SinkFault>
         ensures ok { result ≡ Ok tt }
-        ensures same { self.new ≡ self.old }
+        // All but the log stays.
+        ensures same { self.new ≡ record self.old { log = self.new.log } }
         ensures bytes { Flushes (told_sink_state self.old) (told_sink_state self.new) result }
     {
+        self.log = self.log.and(&Flushed);
         Ok(())
     }
 }

@@ -3,18 +3,18 @@ use crate::sinks::sink::SinkFault;
 use ghost_log::Notes;
 use std::marker::Model;
 
-/// A sink before its first call. What it is offered, what is written of that, and how often a call fails is kept in a
-/// log of it, which only proofs see.
+/// A sink before its first call. What it is offered, what is written of that, how often a call fails, and whether it is
+/// flushed is kept in a log of it, which only proofs see.
 #[derive(Drop)]
 pub struct Writes;
 
 impl Model for Writes {
-    ghost use Rattle.std.specs.Prelude.{[]};
+    ghost use Rattle.std.specs.Prelude.{true, []};
     ghost use Rattle.sum_lines.specs.Sinks.{SinkState};
 
     ghost Value = { SinkState };
 
-    ghost view = { λ _. record { offered = []; written = []; failures = 0 } };
+    ghost view = { λ _. record { offered = []; written = []; failures = 0; flushed = true } };
 }
 
 /// A piece was offered, and these bytes of it were written.
@@ -22,18 +22,29 @@ impl Model for Writes {
 pub struct Offer<'a>(pub &'a [u8], pub &'a [u8]);
 
 impl<'a> Notes<Offer<'a>> for Writes {
-    ghost use Rattle.std.specs.Prelude.{◌++◌, ◌∷◌, []};
+    ghost use Rattle.std.specs.Prelude.{false, ◌++◌, ◌∷◌, []};
 
     ghost noted = { λ s x. record {
       offered = s.offered ++ x.0.now ∷ [];
       written = s.written ++ x.1.now;
       failures = s.failures;
+      flushed = false;
     } };
 }
 
-// A call failed.
-impl Notes<SinkFault> for Writes {
-    ghost use Rattle.std.specs.Prelude.{◌+◌};
+/// A flush succeeded.
+#[derive(Clone, Copy)]
+pub struct Flushed;
 
-    ghost noted = { λ s _. record s { failures = s.failures + 1 } };
+impl Notes<Flushed> for Writes {
+    ghost use Rattle.std.specs.Prelude.{true};
+
+    ghost noted = { λ s _. record s { flushed = true } };
+}
+
+// A call failed, so nothing is held back.
+impl Notes<SinkFault> for Writes {
+    ghost use Rattle.std.specs.Prelude.{true, ◌+◌};
+
+    ghost noted = { λ s _. record s { failures = s.failures + 1; flushed = true } };
 }
