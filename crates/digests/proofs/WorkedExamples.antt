@@ -12,7 +12,7 @@ use Rattle.sum_sources.specs.declared.fault.Fault.TheVariants.{NotFound, Other}
 use Rattle.sum_engine.specs.Behavior.{World, Whole, Broken, out_text, err_text, asks}
 use Rattle.hex.specs.Hex.{encode_with, decode_pairs}
 use Rattle.sum_lines.specs.{grammar.LineParts.plain_parts, grammar.LineParts.tagged_parts, grammar.ParsedLines.entry_of}
-use Rattle.sum_sources.specs.{ManifestLines.raw_lines, Contents.Content, Contents.limit, Contents.empty_content, Sources.Answer, Sources.Answers, Sources.TellsAll, Inputs.answers_with}
+use Rattle.sum_sources.specs.{ManifestLines.raw_lines, Contents.Content, Contents.limit, Contents.empty_content, Sources.Answer, Sources.Answers, Sources.ToldAnswers, Sources.TellsAll, Inputs.answers_with}
 use Rattle.sum_words.specs.declared.{tool.Tool.Tool, tool.Tool.TheVariants.Md5sum, tool.Tool.TheVariants.B2sum, tool.Tool.TheVariants.Anysum}
 use Rattle.sum_words.specs.Items.{ByteString, name_or_fault, option_of_letter}
 use Rattle.sum_words.proofs.WorkedExamples.{words}
@@ -231,12 +231,12 @@ two_meant = (refl, refl)
 
 -- `md5sum a e` ran over these files, of whatever type they are, and didn't stop: the status is 0, and standard output
 -- got both lines
-run_in_memory : (a b : StreamsState) (status : ℕ) (r : Result ℕ Stop) → MeansInMemory b
-    → TellsAll a.inputs.told two_files → a.inputs.openings ≡ [] → IsFlushed a.outputs
+run_in_memory : (a b : StreamsState) (status : ℕ) (r : Result ℕ Stop) (tells : ToldAnswers) → MeansInMemory tells b
+    → TellsAll tells a.inputs.told two_files → a.inputs.openings ≡ [] → IsFlushed a.outputs
     → Performs (meaning Md5sum (words "a e")) status_of a b r
     → ReadsToEndIf (r ≡ Ok 0) a.inputs b.inputs → r ≡ Ok status
     → (status ≡ 0) × (b.outputs.out.sink.written ≡ a.outputs.out.sink.written ++ two_lines)
-run_in_memory a b status r law told new flushed did reads is =
+run_in_memory a b status r tells law told new flushed did reads is =
     let run = meaning Md5sum (words "a e") (record { answer = two_files; opened = [] }) in
     let none : asked a.inputs ≡ [] = rw new refl in
     let there = subst (λ (opened : List ByteString).

@@ -11,12 +11,12 @@ use std::os::fd::AsFd;
 use std::rt;
 use sum_engine::{Outputs, Reader, Streams};
 use sum_lines::FromWrite;
-use sum_sources::{Closable, Files, FromRead, Inputs};
+use sum_sources::{Files, FromRead, Inputs};
 use sum_words::{Arguments, SystemArguments};
 
 /// The streams over standard input, files and both outputs that the system gives.
 pub type SystemStreams<F, I, O, E> = Streams<
-    Reader<Inputs<Closable<FromRead<I>>, Files<F>>>,
+    Reader<Inputs<FromRead<I>, Files<F>>>,
     Outputs<FromWrite<O>, FromWrite<E>>,
 >;
 

@@ -5,21 +5,22 @@ ghost use Rattle.sum_sources.specs.declared.fault.Ending.TheVariants.{Broken};
 ghost use Rattle.sum_sources.specs.declared.fault.Fault.TheVariants.{Os};
 ghost use Rattle.sum_sources.specs.declared.inputs.closable.Closable.TheVariants.{Open, Closed};
 ghost use Rattle.sum_sources.specs.declared.inputs.phase.Phase.TheVariants.{Unfinished};
+ghost use Rattle.sum_sources.specs.declared.inputs.stdin.StdinPlace.TheVariants.{Untaken};
 
 use std::io::{self, Read};
 use std::os::fd::AsFd;
-use sum_sources::{Closable, EBADF, FromRead};
+use sum_sources::{EBADF, FromRead, Stdin};
 
 /// Standard input, before its first read. This function has to notice a closed one before any file is opened: the
 /// system would give its number to the next file, and that file's bytes would be read as standard input. The contract
 /// doesn't say which of the two it returns.
-pub fn standard_input<I: Read + AsFd + Drop>(stdin: I) -> Closable<FromRead<I>>
-    ensures { (result ≡ Closed (Broken (Os (pos 9))) Unfinished)
-        ⊎ (result ≡ Open (record { reader = stdin; log = no_reads })) }
+pub fn standard_input<I: Read + AsFd + Drop>(stdin: I) -> Stdin<FromRead<I>>
+    ensures { (result ≡ Untaken (Closed (Broken (Os (pos 9))) Unfinished))
+        ⊎ (result ≡ Untaken (Open (record { reader = stdin; log = no_reads }))) }
 {
     match stdin.as_fd().try_clone_to_owned() {
-        Err(error) if is_closed(&error) => Closable::closed(),
-        _ => Closable::Open(FromRead::new(stdin)),
+        Err(error) if is_closed(&error) => Stdin::closed(),
+        _ => Stdin::new(FromRead::new(stdin)),
     }
 }
 

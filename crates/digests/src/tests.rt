@@ -13,7 +13,7 @@ use std::process::Abort;
 use std::test::Fail;
 use sum_engine::{Outputs, Reader, Stop, Streams};
 use sum_lines::ToldSink;
-use sum_sources::{Answer, Ending, Fault, Input, Inputs, NoRoom, Told, ToldSource};
+use sum_sources::{Answer, Ending, Fault, Input, Inputs, NoRoom, Stdin, Told, ToldSource};
 use sum_words::{Tool, Words};
 
 // A manifest with a line of each verdict: right, a comment, bad, missing, wrong.
@@ -116,7 +116,7 @@ fn stage<'a, A: Allocator + Copy, const N: usize>(
     requires { (⟦<Told<'a> as Input>⟧.state input).reads ≡ unread }
 {
     Streams::new(
-        Inputs::new(input, source),
+        Inputs::new(Stdin::new(input), source),
         ToldSink::new(N),
         ToldSink::new(N),
     )

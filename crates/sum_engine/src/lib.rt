@@ -7,8 +7,12 @@
 //! let mut source = ToldSource::new(rt.alloc(), 8192);
 //! source.add(b"abc.txt", Answer::Content(b"abc", Ending::Whole))?;
 //! let list = b"900150983cd24fb0d6963f7d28e17f72  abc.txt\n";
-//! let inputs = Inputs::new(Told::new(list, Ending::Whole, 8192), source);
-//! let mut streams = Streams::new(inputs, ToldSink::<99>::new(99), ToldSink::<99>::new(99));
+//! let stdin = Stdin::new(Told::new(list, Ending::Whole, 8192));
+//! let mut streams = Streams::new(
+//!     Inputs::new(stdin, source),
+//!     ToldSink::<99>::new(99),
+//!     ToldSink::<99>::new(99),
+//! );
 //! let settings = CheckSettings::new(Algos::One(Algo::Md5));
 //! let good = check_one(rt.alloc(), settings, "md5sum", b"-", &mut streams);
 //! assert!(rt; good == Ok(true));

@@ -8,7 +8,7 @@ use std::process::Abort;
 use std::test::Fail;
 use sum_engine::{Outputs, Reader, Streams};
 use sum_lines::{FromWrite, Sink, ToldSink};
-use sum_sources::{Ending, Inputs, Told, ToldSource};
+use sum_sources::{Ending, Inputs, Stdin, Told, ToldSource};
 use sum_words::ToldArguments;
 
 // The program itself. Without a contract, so that the proofs of its callers are spared that of `command`.
@@ -32,7 +32,7 @@ fn call<A: Allocator + Copy, O: Sink + Drop, E: Sink + Drop>(
     let contents = spell_all(alloc, &list)?;
     let mut streams = Streams::new(
         Inputs::new(
-            Told::new(b"abc", Ending::Whole, 2),
+            Stdin::new(Told::new(b"abc", Ending::Whole, 2)),
             source_of(alloc, 100, &list, &contents)?,
         ),
         out,
