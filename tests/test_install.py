@@ -13,7 +13,7 @@ from tracing import needs_strace, strace
 
 CURRENT, MAN, OWN = "lib/digests/current", "share/man/man1", "--only-own-names"
 BASH, FISH, ZSH = "share/bash-completion/completions", "share/fish/vendor_completions.d", "share/zsh/site-functions"
-WAITS = b"install: waiting for another one to end\n"
+EARLIER, WAITS = "share/digests/installed", b"install: waiting for another one to end\n"
 
 
 def paths_of(own_names):
@@ -88,9 +88,8 @@ class Install(Installing):
         shutil.rmtree(self.top)
         closed = ["find", self.prefix, "!", "-perm", "-a=r", "-o", "-type", "d", "!", "-perm", "-a=rx"]
         self.assertEqual(self.run_command(closed), Ran(0, b"", b""))
-        for tool, (_, of_nothing, of_abc) in TOOLS.items():
-            ran = self.run_command([self.at(f"bin/{tool}"), "a", "e"])
-            self.assertEqual(ran, Ran(0, f"{of_abc}  a\n{of_nothing}  e\n".encode(), b""))
+        for tool, (_, _, digest) in TOOLS.items():
+            self.assertEqual(self.run_command([self.at(f"bin/{tool}"), "a"]), Ran(0, f"{digest}  a\n".encode(), b""))
 
     def test_each_over_another(self):
         """With own names, nothing is called by GNU's. Directories that others may use stay."""
@@ -112,7 +111,7 @@ class Install(Installing):
         self.assertIn("nothing is installed", self.installs("--remove", status=1))
 
     def test_what_is_in_the_place(self):
-        """All that others have is named, and nothing changes. A file is in the place of a directory, too."""
+        """All that others have is named, and nothing changes. One sentence says how an earlier form is removed."""
         self.theirs(CURRENT, *paths_of(False) - {"bin/b2sum", "bin/sha1sum"})
         os.mkdir(self.at("bin/sha1sum"))
         os.symlink("../lib/digests/current/bin/digests", self.at("bin/b2sum"))
@@ -120,10 +119,11 @@ class Install(Installing):
         named = {self.at(path) for path in [CURRENT, *paths_of(False)]}
         self.assertEqual(set(self.installs(status=1).splitlines()[1:]), named)
         self.assertEqual(self.tree(), before)
-        for path in ("bin", "lib", "lib/digests", "share"):
+        for path, *words in (["bin"], ["lib"], ["lib/digests"], ["share"], [EARLIER], [EARLIER, "--remove"]):
             shutil.rmtree(self.prefix)
             self.theirs(path)
-            self.assertIn(f"install: {self.prefix}/{path}", self.installs(status=1))
+            said = f"{self.prefix} has .*--remove of the clone" if path == EARLIER else f"{self.prefix}/{path}"
+            self.assertRegex(self.installs(*words, status=1), said)
             self.assertEqual(self.tree(), {path: b"theirs"})
 
     def test_what_appears_meanwhile(self):
@@ -173,7 +173,6 @@ class Install(Installing):
             os.symlink(other, self.at("bin"))
             self.installs()
             self.expect_works()
-            self.assertEqual(set(os.listdir(other)), {"digests", *NAMES})
             self.installs("--remove")
             self.assertEqual((self.tree(), os.listdir(other)), ({"bin": other}, []))
 
@@ -206,13 +205,6 @@ class Install(Installing):
             self.assertEqual(run.stderr.readline(), WAITS)
             os.close(handle)
         self.assertEqual((run.returncode, self.tree()), (0, {}))
-
-    def test_an_earlier_form(self):
-        """One sentence says how it is removed."""
-        self.theirs("share/digests/installed")
-        for words in ([], ["--remove"]):
-            self.assertRegex(self.installs(*words, status=1), r"\Ainstall: .*--remove of the clone.*\n\Z")
-        self.assertEqual(self.tree(), {"share/digests/installed": b"theirs"})
 
     def test_wrong_words(self):
         """One line names what is wrong."""

@@ -3,52 +3,39 @@
 import os
 import shutil
 
-from harness import Ran
 from repository import FAST
-from test_install import OWN, Installing
+from test_install import MAN, OWN, Installing
 from tracing import faults, needs_strace, strace
 
 CALLS = "mkdir,symlink,rename,unlink,unlinkat,rmdir,chmod,write,flock"
-THEIRS = ["bin/theirs", "share/man/man1/theirs.1", "lib/digests/theirs"]
 
 
 class Ends(Installing):
-    def ended(self, *words):
-        """Ends runs with these words, each over what is installed. Goes on after each, with what has ended it, or with
-        nothing if it has come to its end."""
-        self.theirs(*THEIRS)
-        command, before = [self.in_top("install"), *words, self.prefix], self.tree()
+    @needs_strace
+    def test_each_end(self):
+        """By a call that fails, or a kill. What others have stays."""
         traced = [strace(), "-qq", "-o", self.path("trace"), "-e"]
-        shutil.copytree(self.prefix, f"{self.folder}/before", symlinks=True)
-        self.assertEqual(self.run_command([*traced, f"trace={CALLS}", *command], env=self.env).status, 0)
-        for fault in faults(self.read("trace").decode()):
-            shutil.rmtree(self.prefix)
-            shutil.copytree(f"{self.folder}/before", self.prefix, symlinks=True)
-            ran = self.run_command([*traced, fault, *command], env=self.env)
-            if "KILL" in fault:
-                self.assertEqual(ran, Ran(-9, b"", b""), fault)
-            elif ran.status:
-                self.assertRegex(ran.err, rb"\Ainstall: /.*: (No space left on device|Input/output error)\n\Z")
-            if "write:error" in fault:
-                self.assertEqual(self.tree(), before)
-            yield ran.status and fault
-
-    @needs_strace
-    def test_installing(self):
-        self.installs(OWN)
-        for fault in self.ended("--cpu", FAST):
-            self.expect_works()
-            if fault:
-                self.installs("--cpu", FAST)
-            self.expect_installed(FAST, theirs=THEIRS)
-
-    @needs_strace
-    def test_removing(self):
-        self.installs()
-        for fault in self.ended("--remove"):
-            if fault:
-                self.script("install", "--remove", self.prefix)
-            self.assertEqual(self.tree(), {path: b"theirs" for path in THEIRS})
+        for words in (["--cpu", FAST], ["--remove"]):
+            self.prefix = f"{self.folder}/for {words[0]}"
+            self.installs(OWN)
+            self.theirs("bin/theirs", f"{MAN}/theirs.1", "lib/digests/theirs")
+            shutil.copytree(self.prefix, f"{self.prefix} before", symlinks=True)
+            command, old = [self.in_top("install"), *words, self.prefix], self.tree()
+            self.assertEqual(self.run_command([*traced, f"trace={CALLS}", *command], env=self.env).status, 0)
+            new = self.tree()
+            for fault in faults(self.read("trace").decode()):
+                shutil.rmtree(self.prefix)
+                shutil.copytree(f"{self.prefix} before", self.prefix, symlinks=True)
+                ran = self.run_command([*traced, fault, *command], env=self.env)
+                self.assertTrue(ran.status or self.tree() == new)
+                if ran.status == 1:
+                    self.assertRegex(ran.err, rb"\Ainstall: /.*: (No space left on device|Input/output error)\n\Z")
+                if "write:error" in fault:
+                    self.assertEqual(self.tree(), old)
+                if words != ["--remove"]:
+                    self.expect_works()
+                self.script("install", *words, self.prefix)
+                self.assertEqual(self.tree(), new)
 
     def test_syncing(self):
         """A run whose data may not be on the disk says so, and the next one syncs again."""
@@ -71,12 +58,13 @@ class PowerCut(Installing):
         os.remove(self.path("commands/sync"))
         self.use("disk")
         there = self.prefix
-        for words, expect in (([OWN], lambda: self.expect_installed(own_names=True)),
-                              (["--cpu", FAST], lambda: self.expect_installed(FAST)),
-                              (["--remove"], lambda: self.assertEqual(self.tree(), {}))):
+        for words in ([OWN], ["--cpu", FAST], ["--remove"]):
             self.prefix = there
             self.installs(*words)
+            tree = self.tree()
             for number in "12":
                 shutil.copy(self.path(f"disk.{number}"), self.path(f"after {words[0]}.{number}"))
             self.use(f"after {words[0]}")
-            expect()
+            self.assertEqual(self.tree(), tree)
+            if words != ["--remove"]:
+                self.expect_works()
