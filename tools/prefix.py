@@ -84,10 +84,12 @@ def look(things):
 
 
 def holds(folder, things):
-    """Whether a directory has these things."""
+    """Whether a directory has these things, and they can be read and run."""
     paths = {f"{folder}/{path}": thing for path, thing in things.items()}
-    return all(thing == (link_at(path) or os.path.isfile(path) and pathlib.Path(path).read_bytes())
-               for path, thing in paths.items())
+    with contextlib.suppress(OSError):
+        return os.access(f"{folder}/bin/digests", os.X_OK) and all(
+            thing == (link_at(path) or pathlib.Path(path).read_bytes()) for path, thing in paths.items())
+    return False
 
 
 def write(folder, things):
