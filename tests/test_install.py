@@ -209,10 +209,10 @@ class Install(Installing):
 
     def test_wrong_words(self):
         """One line names what is wrong."""
-        for *words, named in (["PREFIX"], ["", "PREFIX"], ["x", "y", "y"], ["-x", "x", "-x"], ["--cpu", "o", "x", "'o'"]):
+        for *words, it in (["PREFIX"], ["", "PREFIX"], ["x", "y", "y"], ["-x", "x", "-x"], ["--cpu", "o", "x", "'o'"]):
             ran = self.script("install", *words)
             self.assertEqual((ran.status, ran.out, ran.err.count(b"\n")), (2, b"", 1), words)
-            self.assertRegex(ran.err.decode(), rf"\Ainstall: .*{named}")
+            self.assertRegex(ran.err.decode(), rf"\Ainstall: .*{it}")
         self.assertFalse(os.path.exists(self.path("x")))
 
 
