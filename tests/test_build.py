@@ -5,7 +5,7 @@ import re
 import shutil
 
 from harness import TOP, Case, Ran
-from repository import BOTH, DEFAULT, FAST, OF_A, Repository
+from repository import ASKED, BOTH, DEFAULT, FAST, OF_A, Repository
 
 
 class Build(Repository):
@@ -55,6 +55,20 @@ class Build(Repository):
                 self.assertFalse(os.path.exists(self.path("prefix")))
             os.utime(self.sources[0], (1, 1))
             self.expect_built("mended, with an older time")
+
+    def test_after_a_power_cut(self):
+        """An empty program is neither run nor installed, but built anew. What isn't synced doesn't count as built."""
+        self.build()
+        for names, calls in ((["out/digests"], BOTH), (["out/default/digests", "crates/digests/out/digests"], ASKED)):
+            for name in names:
+                self.put(name, "")
+            said = self.expect_built(names, calls)
+            self.assertTrue(all(f"digests: {name} is empty\n" in said for name in names), said)
+        os.remove(self.in_top("out/built"))
+        self.write_command("sync", "#!/bin/sh\n[ \"$*\" != '-f out' ]\n")
+        self.assertEqual(self.script("tools/build").status, 1)
+        os.remove(self.path("commands/sync"))
+        self.expect_built("it wasn't synced", ASKED)
 
     def test_without_the_kit(self):
         """One line says what is missing and where README has it, before anything is made."""

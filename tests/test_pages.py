@@ -8,7 +8,7 @@ import shutil
 
 import harness
 import pages
-from harness import NAMES, Case, Ran
+from harness import GNU_TOOLS, NAMES, Case, Ran
 from options import takes
 from recipes import made_by, sections_of
 from reference import REASONS
@@ -34,6 +34,15 @@ class Pages(Case):
             for long in map(bytes.decode, helped):
                 self.assertFalse(takes(harness.PROGRAM, tool, "-c", f"--{long}"), (tool, long))
                 self.assertIn(f"--{long}", sections_of(tool)["DESCRIPTION"])
+
+    def test_own_names(self):
+        """Pages beside GNU's have names of their own, and refer to each other by these."""
+        own = pages.pages(harness.PROGRAM, own=True)
+        for name in GNU_TOOLS:
+            head = rf"\.TH DIGESTS-{name.upper()} 1 .*\n\.SH NAME\ndigests\\-{name} \\- "
+            self.assertRegex(own[f"digests-{name}"], head)
+        called = re.findall(r"(\S+)(?:md5|sha\d+|b2)sum\\fR\(1\)", "".join(own.values()))
+        self.assertEqual(set(called), {r"\%\fBdigests\-"})
 
     def test_as_a_person_sees_them(self):
         if shutil.which("man") is None:

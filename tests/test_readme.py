@@ -5,9 +5,10 @@ import os
 import re
 import shutil
 
+import harness
 from harness import NAMES, TOP, Ran, shortest
 from rattle import text_of
-from recipes import PAGES, sessions_of_readme, type_session
+from recipes import PAGES, made_by, sessions_of_readme, type_session
 from repository import Repository
 from terminal import Terminal
 
@@ -57,7 +58,7 @@ class Stranger(Repository):
             with self.subTest(step=step.__name__):
                 step()
         self.assertEqual(self.shell(away), Ran(0, b"", b""))
-        self.assertFalse(os.path.exists(self.prefix))
+        self.assertEqual([names for _, _, names in os.walk(self.prefix) if names], [])
         self.assertEqual(self.shell("git status --short"), Ran(0, b"", b""))
 
     def see_the_pages(self):
@@ -65,9 +66,10 @@ class Stranger(Repository):
         if shutil.which("man") is None:
             self.skipTest("man isn't installed")
         for name in PAGES:
-            page = os.path.join(self.prefix, f"share/man/man1/{name}.1")
+            page = os.path.realpath(os.path.join(self.prefix, f"share/man/man1/{name}.1"))
             ran = self.shell(f"MANWIDTH=80 man -l '{page}'")
             self.assertEqual((ran.status, ran.err, ran.out.split(b"(")[0]), (0, b"", name.upper().encode()))
+            self.assertEqual(self.read(page).decode(), made_by(harness.PROGRAM)[name])
             self.assertEqual(self.shell(f"man -w {name}").out.decode().strip(), page)
 
     def complete_in_bash(self):

@@ -1,5 +1,6 @@
 """The tools, and the options of each as the program has them: its help names them, and it takes or refuses them."""
 
+import functools
 import re
 import subprocess
 import sys
@@ -50,6 +51,7 @@ def takes(program, tool, *words):
     return "\nTry '" not in ran.stderr
 
 
+@functools.lru_cache(maxsize=None)
 def options_of(program, tool):
     """The options that the help of a tool lists, in its order."""
     helped = subprocess.run([program, tool, "--help"], stdin=subprocess.DEVNULL, stdout=subprocess.PIPE,

@@ -226,6 +226,18 @@ class Case(unittest.TestCase):
             self.skipTest("there is no /dev/full")
         return open("/dev/full", "wb")
 
+    def disk(self, image, at):
+        """Mounts the image of a disk until the test ends; makes it, if it isn't there."""
+        if os.getuid() != 0 or shutil.which("mkfs.ext4") is None:
+            self.skipTest("only root mounts a disk, which mkfs.ext4 makes")
+        if not os.path.exists(self.path(image)):
+            self.write(image, bytes(2 ** 25))
+            self.assertEqual(self.run_command(["mkfs.ext4", "-q", self.path(image)]).status, 0)
+        os.makedirs(at, exist_ok=True)
+        if self.run_command(["mount", "-o", "loop", self.path(image), at]).status:
+            self.skipTest("no disk can be mounted here")
+        self.addCleanup(self.run_command, ["umount", at])
+
     def terminal(self):
         """A new terminal that changes no byte: the side that shows, and the side that the program writes to."""
         shows, writes = pty.openpty()

@@ -17,8 +17,6 @@ BOTH = [*ASKED, f"digests run --cpu {FAST} -- sha256sum"]
 # What `digests md5sum a` comes to.
 OF_A = Ran(0, f"{M}  a\n".encode(), b"")
 
-RT = text_of("tests", "support", "rt.sh")
-
 
 class Repository(Case):
     of_the_repository = True
@@ -36,7 +34,7 @@ class Repository(Case):
                         for crate in ("low", "digests") for part in ("src", "specs", "proofs")]
         self.notes = os.path.join(self.folder, "notes")
         os.mkdir(self.path("commands"))
-        self.write_command("rt", RT)
+        self.write_command("rt", text_of("tests", "support", "rt.sh"))
         self.env = {**os.environ, "PATH": f"{self.folder}/commands:{os.environ['PATH']}", "RT_NOTES": self.notes,
                     "RT_PROGRAM": harness.PROGRAM, "RT_FAST": harness.PROGRAM}
 

@@ -1,6 +1,8 @@
 """Runs under `strace`, which shows a program's calls to the system and can make them fail."""
 
+import collections
 import functools
+import itertools
 import os
 import re
 import shutil
@@ -60,3 +62,11 @@ def sizes(calls, descriptor):
     """The bytes that each call to write to this descriptor took."""
     found = (re.match(rf"writev?\({descriptor},.*= (\d+)$", call) for call in calls)
     return [int(match[1]) for match in found if match]
+
+
+def faults(trace):
+    """Options that let some calls of a trace fail, or kill the run there: three of each kind, if there are as many."""
+    counts = collections.Counter(re.findall(r"(?m)^(\w+)\(", trace))
+    places = [(call, at) for call, all in counts.items() for at in sorted({1, all // 3 + 1, all * 2 // 3 + 1})]
+    ends = itertools.cycle(("error=ENOSPC", "signal=KILL", "error=EIO"))
+    return [f"inject={call}:{end}:when={at}" for (call, at), end in zip(places, ends)]
