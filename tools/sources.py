@@ -67,16 +67,13 @@ def code_of(path):
     return code_in(text_of(path), NO_CODE if path.endswith(".rt") else NO_DEFINITION, path)
 
 
-def modules_of_tests(root):
-    """The modules that the root of a crate declares for its tests, and nowhere else."""
-    return [name for name in re.findall(r"(?m)^#\[cfg\(test\)\]\nmod (\w+);$", root)
-            if len(re.findall(rf"\bmod\s+{name}\b", root)) == 1]
-
-
 def sources():
-    """The files of the program's crates, but for the modules of tests."""
-    crates = crates_of_program()
+    """The files of the program's crates, without the modules that a crate's root declares for tests alone."""
+    crates, roots = crates_of_program(), {}
     ours = [it for it in files("src", ".rt") if it[0] in crates]
-    roots = [(crate, code_of(path)) for crate, file, path in ours if file in ("lib", "main")]
-    tests = {crate: modules_of_tests("\n".join(root for owner, root in roots if owner == crate)) for crate, _ in roots}
-    return [it for it in ours if it[1].split("/")[0] not in tests[it[0]]]
+    for crate, file, path in ours:
+        roots[crate] = roots.get(crate, "") + (code_of(path) if file in ("lib", "main") else "")
+
+    def is_of_tests(module, root):
+        return f"\n#[cfg(test)]\nmod {module};\n" in root and len(re.findall(rf"\bmod\s+{module}\b", root)) == 1
+    return [it for it in ours if not is_of_tests(it[1].split("/")[0], roots[it[0]])]
