@@ -20,14 +20,6 @@ UNMISSED = {
 }
 
 
-def public(items):
-    """The public functions of items, and of types among them: each with its name, after that of its type."""
-    for it in items:
-        found = [(it, it.name)] if it.kind == "fn" else [
-            (member, f"{it.name}::{member.name}") for member in it.members if (it.kind, it.trait) == ("impl", None)]
-        yield from (pair for pair in found if pair[0].public)
-
-
 class Callers(Case):
     of_the_repository = True
     maxDiff = None
@@ -38,8 +30,10 @@ class Callers(Case):
         rows = re.findall(r"(?m)^\|(\w+)\|`([\w:]+)`\|(.*)\|$", text_of("docs", "TESTING.md"))
         refused = {(crate, name, label) for crate, name, says in rows for label in re.findall(r"(\w+)(?=:| or )", says)}
         found = {}
-        for it, name in public(Code().items):
-            for label in re.findall(r"\bensures\b(?:\s+(\w+))?\s*\{", it.code) if it.name not in missed else ():
-                if (it.crate, name, label or "result") not in refused:
-                    found.setdefault(it.crate, []).append(f"{name}.{label or 'result'}")
+        for of in Code().items:
+            for it in [of] if of.kind == "fn" else of.members if (of.kind, of.trait) == ("impl", None) else ():
+                name = it.name if it is of else f"{of.name}::{it.name}"
+                for label in re.findall(r"\bensures\b(?:\s+(\w+))?\s*\{", it.code) if it.public else ():
+                    if it.name not in missed and (it.crate, name, label or "result") not in refused:
+                        found.setdefault(it.crate, []).append(f"{name}.{label or 'result'}")
         self.assertEqual({crate: " ".join(sorted(names)) for crate, names in found.items()}, UNMISSED)
