@@ -23,7 +23,7 @@ POWERS = set("""
     bind bind_udp connect connect_timeout connect_unix incoming lookup_host shutdown unix_pair unix_socket
     kill spawn spawn_scoped spawn_with try_wait wait wait_with_output abort exit expect expect_err forever
     elapsed fill_bytes monotonic process_cpu_time since_1970 sleep thread_cpu_time
-    fill_buf is_terminal peek read_exact read_to_end read_to_string read_until seek write_all write_some write_vectored
+    fill_buf is_terminal peek read_exact read_to_end read_to_string read_until rewind seek write_all write_some
 """.split())
 # What other code has, too. In the files that name one of the above, these can be the system's.
 CALLS = set("alloc flush lines memory open open_file read read_line reader stderr stdin stdout write".split())
