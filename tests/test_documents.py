@@ -1,4 +1,4 @@
-"""What documents say of the repository: tables, quoted contracts, paths, and commands that they show."""
+"""What documents say of the code: tables, lists, quoted contracts and names, and commands."""
 
 import glob
 import os
@@ -37,52 +37,35 @@ class Documents(Case):
         self.assertEqual(sorted(named), sorted((crate, file[:-len(".edit")]) for crate, file in there),
                          "tools/refusals.py makes the table anew")
 
-    def test_paths_that_are_named(self):
-        """Each path of the repository that a document names is there, from the top or from a crate's folder."""
-        found = 0
-        for name in [os.path.join(TOP, "README.md"), *glob.glob(os.path.join(TOP, "docs", "*.md"))]:
-            for path in set(re.findall(r"`([a-z][\w.]*/[\w./]+)`", text_of(name))):
-                if not re.search(r"(^|/)(out|stage|NAME|C|TOOL)\b", path):
-                    there = [glob.glob(os.path.join(TOP, above, path + ending))
-                             for above in ("", "crates", "crates/*", "crates/*/specs") for ending in ("", ".antt")]
-                    self.assertTrue(any(there), f"{name} names {path}")
-                    found += 1
-        self.assertGreater(found, 50)
-
     def test_names_that_are_quoted(self):
-        """Each name of code that a page quotes stands in a file of the repository, or belongs to others."""
-        others = set("ANTT.md CONTRACTS.md MODELS.md TERMS.md BufWriter clap libc MANPATH liblibc_c.a libos_c.a start_io "
-                     "sha512t256sum untested".split())
-        files = self.run_command(["git", "ls-files", "-co", "--exclude-standard"], cwd=TOP).out.decode().split("\n")
-        code = "\n".join([*files, *(text_of(file) for file in files if re.match(r"(crates|tools|tests|bench)/|(digests|install|test)$", file)
-                                    and not file.endswith((".md", ".txt")) and os.path.isfile(os.path.join(TOP, file)))])
-        words = set(re.findall(r"\w+", code)) | set(re.findall(r"[\w-]+", code))
-        for name in [os.path.join(TOP, "README.md"), *glob.glob(os.path.join(TOP, "docs", "*.md"))]:
-            for quoted in re.findall(r"`([A-Za-z_]\w*(?:(?:::|\.)\w+)*)(?:\(\))?`", text_of(name)):
-                missing = set(re.findall(r"\w+", quoted)) - words
-                self.assertTrue(not missing or quoted in others, f"{name} names {quoted}")
+        """Each word of a name or a path that a page quotes stands in a file of the repository or in a file's name, or
+        belongs to others."""
+        listed = self.run_command(["git", "ls-files", "-co", "--exclude-standard"], cwd=TOP).out.decode().split()
+        code = [name for name in listed if re.match(r"(crates|tools|tests|bench)/|(digests|install|test)$", name)
+                and not name.endswith((".md", ".txt")) and os.path.isfile(os.path.join(TOP, name))]
+        words = set(re.findall(r"\w+", "\n".join([*listed, *map(text_of, code)])))
+        words.update("ANTT BufWriter CONTRACTS MANPATH MODELS OLD TERMS clap libc liblibc_c libos_c sha512t256sum "
+                     "start_io untested XDG_DATA_DIRS".split())
+        for page in (name for name in listed if re.match(r"README.md$|docs/.*\.md$", name)):
+            for quoted in re.findall(r"`([A-Za-z_]\w*(?:(?:::|[./])\w+)*)(?:\(\)|/)?`", text_of(page)):
+                self.assertEqual(set(re.findall(r"\w+", quoted)) - words, set(), f"{page} names {quoted}")
 
     def test_a_second_audit(self):
-        """The command of docs/AUDITING.md shows a definition and a contract that changed since a commit."""
-        command = re.search(r"(?m)^    (git diff OLD .*)$", text_of("docs", "AUDITING.md"))[1]
-        git = ["git", "-c", "user.name=a", "-c", "user.email=a@b", "-c", "init.defaultBranch=a"]
-        self.assertEqual(self.run_command([*git, "clone", "-q", TOP, self.path("clone")]).status, 0)
-        for name in ("digests/specs/Meaning.antt", "digests/src/run.rt", "sum_lines/proofs/Lib.antt"):
-            path = f"clone/crates/{name}"
-            sign = "--" if name.endswith(".antt") else "//"
-            self.write(path, self.read(path) + f"\n{sign} {os.path.basename(name)}\n".encode())
-        self.run_command([*git, "commit", "-qam", "a change"], cwd=self.path("clone"))
-        ran = self.run_command(["sh", "-c", command.replace("OLD", "HEAD~1")], cwd=self.path("clone"))
-        self.assertEqual((ran.status, ran.err), (0, b""))
-        self.assertEqual(set(re.findall(rb"(?m)^\+(?:--|//) (\w+\.\w+)$", ran.out)), {b"Meaning.antt", b"run.rt"})
+        """The command of docs/AUDITING.md finds the files of the contracts, those of what `main` makes too."""
+        command = re.search(r"(?m)^    git diff OLD .*\$\((.*)\)$", text_of("docs", "AUDITING.md"))[1]
+        ran = self.run_command(["sh", "-c", command], cwd=TOP)
+        wanted = {f"crates/digests/src/{name}.rt".encode() for name in ("run", "command", "standard_input")}
+        self.assertLessEqual({*wanted, b"crates/sum_sources/src/inputs/closable.rt"}, set(ran.out.split()))
 
-    def test_a_text_and_its_places(self):
-        """The command of docs/CHANGING.md finds the files that spell a text."""
-        words = re.search(r"(?m)^ +grep -rnF 'No such file' (.*)$", text_of("docs", "CHANGING.md"))[1]
-        ran = self.run_command(["sh", "-c", f"grep -rlF 'No such file' {words}"], cwd=TOP)
-        self.assertEqual((ran.status, ran.err), (0, b""))
-        found = {os.path.splitext(line)[0] for line in ran.out.decode().splitlines()}
-        self.assertLessEqual({f"crates/sum_sources/{name}" for name in ("specs/Faults", "src/fault")}, found)
+    def test_the_library(self):
+        """docs/LIBRARY.md has each public call as the sources have it, and each name that a crate's root exports."""
+        self.assertEqual(self.run_command([os.path.join(TOP, "tools", "library.py"), "--check"]), Ran(0, b"", b""))
+        page = text_of("docs", "LIBRARY.md")
+        hidden = {it.name for it in Code().items if "doc(hidden)" in it.attributes}
+        for crate in re.findall(r"(?m)^### `(\w+)`$", page):
+            for use in re.findall(r"pub use [\w:]+::(\{[^}]*\}|\w+);", text_of("crates", crate, "src", "lib.rt")):
+                for name in set(re.findall(r"\w+", use)) - hidden:
+                    self.assertRegex(page, rf"(?m)^- `(fn|struct|enum|trait|const|type|use \w+::) ?{name}\b")
 
     def test_sums(self):
         """Those of the newest version in CHANGELOG are those of what is built, as docs/PACKAGING.md checks them."""

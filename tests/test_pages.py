@@ -1,16 +1,13 @@
 """The manual pages: what they say of options and of faults is what the program does. test_recipes.py types what they
 show."""
 
-import glob
-import os
 import re
-import shutil
 
 import harness
 import pages
-from harness import GNU_TOOLS, NAMES, Case, Ran
+from harness import GNU_TOOLS, NAMES, Case
 from options import takes
-from recipes import made_by, sections_of
+from recipes import sections_of
 from reference import REASONS
 
 
@@ -43,19 +40,6 @@ class Pages(Case):
             self.assertRegex(own[f"digests-{name}"], head)
         called = re.findall(r"(\S+)(?:md5|sha\d+|b2)sum\\fR\(1\)", "".join(own.values()))
         self.assertEqual(set(called), {r"\%\fBdigests\-"})
-
-    def test_as_a_person_sees_them(self):
-        if shutil.which("man") is None:
-            self.skipTest("man isn't installed")
-        for name, text in {**made_by(harness.PROGRAM), **pages.pages(harness.PROGRAM, own=True)}.items():
-            self.write(f"{name}.1", text)
-        files = glob.glob(os.path.join(os.fsdecode(self.folder), "*.1"))
-        for page in files:
-            env = {**os.environ, "MANWIDTH": "80", "LC_ALL": "C.UTF-8", "TERM": "dumb"}
-            ran = self.run_command(["man", "--warnings", "-l", page], env=env)
-            self.assertEqual((ran.status, ran.err), (0, b""), page)
-        if shutil.which("mandoc"):
-            self.assertEqual(self.run_command(["mandoc", "-T", "lint", *files]), Ran(0, b"", b""))
 
 
 class Said(Case):

@@ -5,14 +5,10 @@ import os
 import re
 import shutil
 
-import harness
-from harness import NAMES, TOP, Ran, shortest
+from harness import NAMES, TOP, Ran
 from rattle import text_of
-from recipes import PAGES, made_by, sessions_of_readme, type_session
+from recipes import PAGES, sessions_of_readme, type_session
 from repository import Repository
-from terminal import Terminal
-
-LOADER = "/usr/share/bash-completion/bash_completion"
 
 
 def commands(title):
@@ -54,31 +50,11 @@ class Stranger(Repository):
         self.assertEqual((ran.status, ran.err, ran.out.count(b"\n")), (0, b"", 2))
         for name in NAMES:
             self.assertEqual(self.shell(f"{name} --version").out.decode(), f"{name} (digests), profile 2\n")
-        for step in (self.see_the_pages, self.complete_in_bash):
-            with self.subTest(step=step.__name__):
-                step()
+        for name in PAGES if shutil.which("man") else ():
+            page = self.shell(f"man -w {name}").out.decode().strip()
+            self.assertEqual(page, os.path.realpath(os.path.join(self.prefix, f"share/man/man1/{name}.1")))
+            ran = self.shell(f"MANWIDTH=80 LC_ALL=C.UTF-8 man --warnings -l '{page}'")
+            self.assertEqual((ran.status, ran.err, ran.out.split(b"(")[0]), (0, b"", name.upper().encode()))
         self.assertEqual(self.shell(away), Ran(0, b"", b""))
         self.assertEqual([names for _, _, names in os.walk(self.prefix) if names], [])
         self.assertEqual(self.shell("git status --short"), Ran(0, b"", b""))
-
-    def see_the_pages(self):
-        """By the page's path, and by its name alone."""
-        if shutil.which("man") is None:
-            self.skipTest("man isn't installed")
-        for name in PAGES:
-            page = os.path.realpath(os.path.join(self.prefix, f"share/man/man1/{name}.1"))
-            ran = self.shell(f"MANWIDTH=80 man -l '{page}'")
-            self.assertEqual((ran.status, ran.err, ran.out.split(b"(")[0]), (0, b"", name.upper().encode()))
-            self.assertEqual(self.read(page).decode(), made_by(harness.PROGRAM)[name])
-            self.assertEqual(self.shell(f"man -w {name}").out.decode().strip(), page)
-
-    def complete_in_bash(self):
-        """The package for completions finds the file by the tool's name."""
-        if shutil.which("bash") is None or not os.path.exists(LOADER):
-            self.skipTest("bash-completion isn't installed")
-        os.mkdir(self.path("here"))
-        terminal = Terminal("bash", self.folder, f"XDG_DATA_DIRS='{self.prefix}/share'; . {LOADER}", PAGES)
-        self.addCleanup(terminal.close)
-        self.assertEqual(terminal.completed("b2sum -l 25"), ["-l", "256"])
-        self.assertEqual(terminal.completed(f"digests {shortest('sha1sum')}"), ["sha1sum"])
-        self.assertEqual(terminal.completed("anysum -c --st"), ["-c", "--status", "--strict"])

@@ -325,29 +325,6 @@ class Recipes(Typed):
                 self.until(lambda: sorted(os.listdir(here)) == before, f"{number} leaves nothing of {recipe}")
                 os.remove(begun)
 
-    def test_a_folder_that_may_not_be_read(self):
-        """No list is made, and nothing passes for listed or for UTF-8."""
-        how = self.nobody()
-        if how:
-            for name in PAGES:
-                os.remove(self.path(f"commands/{name}"))
-                os.symlink("a copy", self.path(f"commands/{name}"))
-            shutil.copy(harness.PROGRAM, self.path("commands/a copy"))  # its own folder may be closed to others
-        os.mkdir(self.path("temporary"))
-        self.env["TMPDIR"] = os.fsdecode(self.path("temporary"))
-        for recipe, sort, shell in self.each_recipe("list", "list on all", "unlisted", "not UTF-8"):
-            self.make(more=["shut/more", b"shut/bad\xff"])
-            if sort == "unlisted":
-                self.put("SUMS", "".join(f"0  {name}\n" for name in GOOD))
-            os.chmod(self.path("here/shut"), 0)
-            for name in ("here", "temporary") if how else ():
-                os.chown(self.path(name), how["user"], how["group"])
-            ran = self.type(recipe, shell, **how)
-            self.assertEqual((ran.status, ran.out), (1, b""), recipe)
-            self.assertRegex(ran.err, rb"\Afind: [^\n]*\./shut[^\n]*: Permission denied\n\Z")
-            self.assertEqual(self.is_there("SUMS"), sort == "unlisted")
-            os.chmod(self.path("here/shut"), 0o755)
-
 
 class Examples(Typed):
     def each_tool(self):

@@ -2,7 +2,7 @@
 """What a reader has to believe: what the contract of a function says, down to the last definition that it reaches.
 
     tools/believed.py            prints, for the headline and the program, the files, each with its lines
-    tools/believed.py --text     prints it all, the laws, and the constructors that `main` calls: the contract first,
+    tools/believed.py --text     prints it all, the laws, and the contracts of what `main` makes: the contract first,
                                  each definition before those that it stands on
     tools/believed.py --write    makes the tables of docs/PROMISES.md anew
 
@@ -32,8 +32,8 @@ from rattle import TOP, Code, Specs, crates, text_of  # noqa: E402  (nothing is 
 PROMISES = os.path.join(TOP, "docs", "PROMISES.md")
 # What is believed besides the laws, in the order of the page: a function's crate and name, and what the page calls it.
 CLAIMS = [("digests", "run", "The headline"), ("digests", "command", "The program")]
-# The types whose values `main` makes, itself or by `Streams::new`. The contracts of these constructors are shown, too.
-MADE = ("Streams", "Reader", "Inputs", "Files", "Buffered", "FromWrite", "SystemArguments")
+# A call: its type, if it is one of a type's functions, and its name.
+CALL = re.compile(r"(?<![.\w])(?:([A-Z]\w*)(?:::<[^()]*>)?::)?([a-z]\w*)(?:::<[^()]*>)?\(")
 COMPUTED = {"parse_line": "parse_is_grammar", "form": "one_form"}  # what a law holds against a relation, and the law
 MARKS = "<!-- made by tools/believed.py: what stands below -->\n", "\n<!-- and above this line -->"
 
@@ -90,16 +90,30 @@ def in_files(definitions):
     return {file: files[file] for file in sorted(order.static_order(), key=lambda file: -listed.index(file[0]))}
 
 
+def made():
+    """The functions of ours that `main` calls, and those that functions of its crate call too, but for the claims."""
+    items, claimed = code().items, [claim[:2] for claim in CLAIMS]
+    left, found = [it for it in items if (it.crate, it.file, it.name) == ("digests", "main.rt", "main")], []
+    while left:
+        for owner, name in CALL.findall(left.pop(0).body):
+            blocks = [it.members for it in items if owner and (it.kind, it.name, it.trait) == ("impl", owner, None)]
+            called = [it for it in sum(blocks, [] if owner else items) if (it.kind, it.name) == ("fn", name)]
+            called = [it for it in called if it.crate == "digests"] or called
+            new = [it for it in called if it not in found and (it.crate, it.name) not in claimed]
+            left += [it for it in new if it.crate == "digests"]
+            found += new
+    return found
+
+
 def claims():
-    """The headline and the program; the laws; and the constructors that `main` calls."""
+    """The headline and the program; the laws; and what `main` makes."""
     before, earlier, specs = set(), [], every_definition()
     functions = [(title, f" (`{name}` of `{crate}`)", [code().function(crate, name)]) for crate, name, title in CLAIMS]
-    made = [member for name in MADE for it in code().items if (it.kind, it.name, it.trait) == ("impl", name, None)
-            for member in it.members if member.name == "new"]
-    for title, of, functions in [*functions, ("The laws", "", code().laws()), ("What `main` makes", "", made)]:
+    for title, of, functions in [*functions, ("The laws", "", code().laws()), ("What `main` makes", "", made())]:
         contracts = [item for function in functions for item in code().reached(function)]
         reached = specs.reached(cited(contracts), computed()) - computed().keys()
-        items = list({id(it): it for it in [*contracts, *declared(contracts), *declared(reached)]}.values())
+        ordered = sorted(reached, key=lambda it: (it.module.name, it.place))
+        items = list({id(it): it for it in [*contracts, *declared(contracts), *declared(ordered)]}.values())
         apart = specs.reached(cited(contracts)) - reached - before
         new = [it for it in items if it not in earlier]
         yield Claim(title, of, items, reached, apart, new, in_files(reached - before))

@@ -2,31 +2,10 @@
 the definitions of `specs/` (`.antt`) say and name. What can't be read raises a ValueError, so that nothing is left out
 unseen. A name counts also where its text binds it: so what is reached may be too much, and never too little."""
 
-import glob
-import os
 import re
 from typing import NamedTuple
 
-TOP = os.path.dirname(os.path.dirname(os.path.realpath(__file__)))
-
-
-def text_of(*names):
-    """The text of a file, whose path begins at the top."""
-    with open(os.path.join(TOP, *names), encoding="utf-8") as it:
-        return it.read()
-
-
-def crates():
-    """The crates of crates.txt, in its order."""
-    return re.findall(r"(?m)^(\w+):", text_of("crates.txt"))
-
-
-def files(folder, ending):
-    """The files of all crates' folders of that name, in subfolders too: each one's crate, path there, and path."""
-    for path in sorted(glob.glob(os.path.join(TOP, "crates", "*", folder, "**", "*" + ending), recursive=True)):
-        crate, _, file = os.path.relpath(path[:-len(ending)], os.path.join(TOP, "crates")).split(os.sep, 2)
-        yield crate, file, path
-
+from sources import TOP, WORD, code_of, crates, files, sources, text_of  # noqa: F401  (some are passed on)
 
 # Code.
 
@@ -41,6 +20,11 @@ ENSURES = re.compile(r"\s*\b(?:ensures|requires)\b(?:\s+\w+)?\s*(?=\{)")
 CLAUSE = re.compile(ENSURES.pattern + r"|\bghost\s+(?!use\b)\w+\s*[:=]\s*(?=\{)|(?<=\})\s*=\s*(?=\{)")
 # The module of definitions of a type of the code, of its variants, or of the constants of a file.
 DECLARED = re.compile(r"Rattle\.(\w+)\.specs\.declared\.([\w.]+?)\.(\w+?)(?:\.The(?:Variants|Inside))?")
+
+
+# A type or trait of ours is found by its name, so it may have no other.
+OTHER_USE = re.compile(r"\S[ \t]*\bghost\s+use\b|\bghost(?! use )\s+use\b|"
+                       r"(?<!\bghost )\buse\s+(?!std\b)[^;]*\bas\s+(?!_\s*[;,}])")
 
 
 def behind_brace(text, start):
@@ -71,23 +55,22 @@ def end_of(text, start, kind):
 
 
 def without_comments(path):
-    """The text of a file of code without its comments, and the lines of the `///` comments by the places there that
-    they precede: of the item, or of the attributes above it."""
+    """The text of a file of code without its lines of comments, the code in it, and the lines of the `///` comments by
+    the places there that they precede: of the item, or of the attributes above it."""
     kept, place, above, comments = [], 0, [], {}
-    for line in text_of(path).split("\n"):
+    for line, code in zip(text_of(path).split("\n"), code_of(path).split("\n")):
         bare = line.strip()
-        if bare.startswith("//"):
+        if bare.startswith("//") and not code.strip():
             above += [bare[4:]] if bare.startswith("///") else []
             continue
         if above:
             comments[place], above = above, []
-        kept.append(line)
+        kept.append((line, code))
         place += len(line) + 1
-    text = "\n".join(kept)
-    # A type or trait is found by its name, so no other may have it.
-    if re.search(r"^\s*(?:pub(?:\([^)]*\))? )?use [^;]* as [^_]|/\*", text, re.MULTILINE):
-        raise ValueError(f"{path} gives a name to what has another, or has a comment that isn't known here")
-    return text, comments
+    text, code = map("\n".join, zip(*kept))
+    if OTHER_USE.search(code):
+        raise ValueError(f"{path} gives a name to what has another, or has a `ghost use` that doesn't begin its line")
+    return text, code, comments
 
 
 def uses_of(before, text):
@@ -97,8 +80,8 @@ def uses_of(before, text):
 
 
 class Item(NamedTuple):
-    """A function with its contract, a trait, a type, an `impl` (which has the name of its type) or a constant, as the
-    code has it; the `///` comment and the attributes above it; and the items in it."""
+    """A function with its contract, a trait, a type, an `impl` (which has the name of its type) or a constant: its text
+    and the code in it, and a function's body; the `///` comment and the attributes above it; and the items in it."""
 
     kind: str
     name: str
@@ -107,6 +90,8 @@ class Item(NamedTuple):
     crate: str
     file: str
     text: str
+    code: str
+    body: str
     comment: list
     attributes: str
     members: list
@@ -115,57 +100,59 @@ class Item(NamedTuple):
     @property
     def head(self):
         """What precedes the contract or the body, on one line."""
-        head = re.sub(r"\s+", " ", self.text[:BEHIND_HEAD.search(self.text + "\n{").start()])
+        head = re.sub(r"\s+", " ", self.text[:BEHIND_HEAD.search(self.code + "\n{").start()])
         return re.sub(r",? \)", ")", head).replace("( ", "(").replace("[ ", "[").removeprefix("pub ")
 
     @property
     def uses(self):
-        return {**self.outside, **uses_of(r"^\s+", self.text)}
+        return {**self.outside, **uses_of(r"^\s+", self.code)}
 
     @property
     def clauses(self):
-        return [self.text[it.end() + 1 : behind_brace(self.text, it.end()) - 1] for it in CLAUSE.finditer(self.text)]
+        return [self.code[it.end() + 1 : behind_brace(self.code, it.end()) - 1] for it in CLAUSE.finditer(self.code)]
 
     @property
     def around(self):
         """What is outside the clauses."""
         around, end = "", 0
-        for it in CLAUSE.finditer(self.text):
-            around += self.text[end : it.end()]
-            end = behind_brace(self.text, it.end())
-        return re.sub(r"\bghost use [^;]*;", "", around + self.text[end:])
+        for it in CLAUSE.finditer(self.code):
+            around += self.code[end : it.end()]
+            end = behind_brace(self.code, it.end())
+        return re.sub(r"\bghost use [^;]*;", "", around + self.code[end:])
 
     def origins(self):
         """Where the names in it come from that a `ghost use` brings in."""
-        return origins_in(self.text, self.uses)
+        return origins_in(self.code, self.uses)
 
 
 class Code:
-    """The items of all crates, but for those of tests."""
+    """The items of the program's crates, but for those of tests."""
 
     def __init__(self):
         self.items = []
-        for crate, file, path in files("src", ".rt"):
-            if "tests" not in f"{crate}/{file}":
-                self.read(path, crate, f"{file}.rt")
+        for crate, file, path in sources():
+            self.read(path, crate, f"{file}.rt")
         self.called = [it for it in self.items if it.kind not in ("fn", "const", "impl") or it.trait == "Model"]
 
     def read(self, path, crate, file):
-        text, comments = without_comments(path)
-        uses = uses_of("^", text)
+        text, code, comments = without_comments(path)
+        uses = uses_of("^", code)
 
-        def item(start, kind, name, trait, public, members=()):
-            attributes = re.search(r"(?:^ *#\[.*\](?: //.*)?\n)*\Z", text[:text.rfind("\n", 0, start) + 1], re.MULTILINE)
-            above = comments.get(attributes.start(), [])
-            it = text[start : end_of(text, start, kind)]
-            return Item(kind, name, trait, public, crate, file, it, above, attributes[0], list(members), uses)
+        def item(start, kind, name, trait, public, uses, members=()):
+            before, end = text[:text.rfind("\n", 0, start) + 1], end_of(code, start, kind)
+            attributes = re.search(r"(?:^ *#\[.*\](?: //.*)?\n)*\Z", before, re.MULTILINE)
+            body = code[end:behind_brace(code, end)] if kind == "fn" and code[end:].lstrip()[:1] == "{" else ""
+            return Item(kind, name, trait, public, crate, file, text[start:end], code[start:end], body,
+                        comments.get(attributes.start(), []), attributes[0], list(members), uses)
 
-        for it in ITEM.finditer(text):
+        for it in ITEM.finditer(code):
             kind = it["kind"] or "impl"
-            end = end_of(text, it.start(), kind)
-            inner = MEMBER.finditer(text, it.start(), end) if kind in ("trait", "impl") else ()
-            members = [item(at.start() + 4, at[2], at[3], None, bool(at[1]) or kind == "trait") for at in inner]
-            self.items.append(item(it.start(), kind, it["name"] or it["of"], it["trait"], bool(it["public"]), members))
+            end = end_of(code, it.start(), kind)
+            inner = MEMBER.finditer(code, it.start(), end) if kind in ("trait", "impl") else ()
+            inside = {**uses, **uses_of(r"^\s+", code[it.start() : end])}
+            members = [item(at.start() + 4, at[2], at[3], None, bool(at[1]) or kind == "trait", inside) for at in inner]
+            name, trait, public = it["name"] or it["of"], it["trait"], bool(it["public"])
+            self.items.append(item(it.start(), kind, name, trait, public, uses, members))
 
     def laws(self):
         """Each law: a function of a module `laws`."""
@@ -199,8 +186,7 @@ class Code:
         crate, file, owner = found.groups()
         wanted = crate, file.replace(".", "/") + ".rt", name if owner == "TheConstants" else owner
         item = next(it for it in self.items if (it.crate, it.file, it.name) == wanted)
-        value = re.sub(r'"(?:\\.|[^"\\])*"', "", item.text.partition("=")[2])
-        if item.kind == "const" and re.search(r"\b[A-Z][A-Z_]+\b", value):
+        if item.kind == "const" and re.search(r"\b[A-Z][A-Z_]+\b", item.code.partition("=")[2]):
             raise ValueError(f"a constant that names another can't be read: {item.text}")
         return self.reached(item)
 
@@ -220,7 +206,6 @@ class Code:
 
 START = re.compile(r"(?:abbrev|unfoldable|irreducible|infixl|infixr|infix|pub|record|data)(?= (?!use |mod ))")
 NAMED = re.compile(r"(?:(?:abbrev|unfoldable|irreducible) )*(?:pub )?(?:(record|data) )?([^\s:({]+)")
-WORD = r'[^\s(){}\[\];,.:λ→×⊎"]+'
 # A comment, a text, or a name with what follows it after a dot.
 TOKEN = re.compile(rf'--[^\n]*|"(?:\\.|[^"\\])*"|({WORD})(?:\.({WORD}))?(?:\.{WORD})*')
 

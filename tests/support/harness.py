@@ -5,7 +5,6 @@ import datetime
 import errno
 import functools
 import hashlib
-import itertools
 import os
 import pty
 import pwd
@@ -76,11 +75,6 @@ def hasher(tag, content=b"", size=64):
     if tag == "BLAKE2b":
         return hashlib.blake2b(content, digest_size=size)
     return hashlib.new(re.sub("[-/]", "_", tag.lower()).replace("sha_", "sha"), content)  # SHA-512/256 as sha512_256
-
-
-def shortest(name, names=NAMES):
-    """The shortest beginning of a name that no other one has."""
-    return next(cut for cut in itertools.accumulate(name) if [it for it in names if it.startswith(cut)] == [name])
 
 
 @functools.lru_cache

@@ -35,7 +35,7 @@ class Terminal:
                                         stderr=slave, cwd=os.path.join(folder, "here"), env=env,
                                         start_new_session=True)
         os.close(slave)
-        self.shown, self.keys = b"", ALL
+        self.shown = b""
         self.wait_for(lambda: PROMPT in self.shown)
 
     def wait_for(self, condition):
@@ -53,7 +53,7 @@ class Terminal:
         if os.path.exists(self.words):
             os.remove(self.words)
         self.shown = b""
-        os.write(self.master, f"{line}{self.keys}\n".encode())
+        os.write(self.master, f"{line}{ALL}\n".encode())
         self.wait_for(lambda: PROMPT in self.shown and os.path.exists(self.words))
         with open(self.words, encoding="utf-8") as file:
             return file.read().splitlines()
