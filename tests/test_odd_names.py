@@ -5,6 +5,7 @@ import os
 
 import harness
 from harness import E, M, Case, Ran, gnu
+from reference import NO_TEXT
 from reference_words import help_text
 
 NAME = b"r\xe9sum\xe9.txt"
@@ -12,7 +13,7 @@ NAME = b"r\xe9sum\xe9.txt"
 
 def unread(name, tool=b"md5sum"):
     """The line about a name that can't be opened."""
-    return tool + b": " + name + b": Input/output error\n"
+    return tool + b": " + name + b": " + NO_TEXT + b"\n"
 
 
 class OddNames(Case):

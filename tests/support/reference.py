@@ -19,6 +19,9 @@ SIZES = {tag: size for tag, size in ALGORITHMS.values() if tag}
 NOT_FOUND = b"No such file or directory"
 OTHER = b"Input/output error"
 
+# The reason of a name that isn't UTF-8.
+NO_TEXT = os.strerror(errno.EILSEQ).encode()
+
 # The reasons of Linux's numbers that have a text in the C library. EIO, and any number that isn't here, has that of EIO.
 REASONS = {number: os.strerror(number).encode() for number in range(1, 141)
            if number != errno.EIO and os.strerror(number) != f"Unknown error {number}"}
@@ -142,7 +145,7 @@ class World:
         try:
             file = os.open(name.decode(), os.O_RDONLY)
         except UnicodeDecodeError:
-            return Fault(OTHER, True)
+            return Fault(NO_TEXT, True)
         except OSError as error:
             return Fault.of(error, True)
         try:

@@ -26,6 +26,9 @@ const OTHER: &str = "Input/output error";
 /// The system's number for a descriptor that isn't open.
 pub const EBADF: i32 = 9;
 
+/// The system's number for text that isn't valid in its encoding.
+pub(crate) const EILSEQ: i32 = 84;
+
 // No such file or directory.
 const ENOENT: i32 = 2;
 

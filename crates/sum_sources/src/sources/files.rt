@@ -3,7 +3,7 @@ ghost use Rattle.std.specs.Prelude.{◌≡◌, IfOk};
 ghost use Rattle.std.specs.Str.{IsUtf8};
 ghost use Rattle.sum_sources.specs.Logs.{no_openings};
 
-use crate::fault::fault_of;
+use crate::fault::{EILSEQ, fault_of};
 use crate::sources::source_log::{Note, Openings, SourceLog, next_file};
 use crate::{Fault, FromRead, OpenFault, Source};
 use std::io::{self, ErrorKind, Read};
@@ -57,12 +57,14 @@ where
 
     ghost tells = { tells_none };
 
-    /// Opens the file. A name that isn't UTF-8 is `Fault::Other`, since the runtime's paths are texts. Any other fault
-    /// is the system's. `OpenFault::Memory` if the runtime has no memory for the call.
+    /// Opens the file. A name that isn't UTF-8 is `Fault::Os(EILSEQ)`, *Invalid or incomplete multibyte or wide
+    /// character*, since the runtime's paths are texts. Any other fault is the system's. `OpenFault::Memory` if the
+    /// runtime has no memory for the call.
     fn open_file(&mut self, name: &[u8]) -> Result<FromRead<R::File>, OpenFault> {
         let Ok(path) = str::from_utf8(name) else {
-            self.log = self.log.and(&Note::Failed(name, Fault::Other));
-            return Err(OpenFault::Fault(Fault::Other));
+            let fault = Fault::Os(EILSEQ);
+            self.log = self.log.and(&Note::Failed(name, fault));
+            return Err(OpenFault::Fault(fault));
         };
         match fs::open(&self.rt, path) {
             Ok(file) => {
