@@ -120,8 +120,11 @@ impl<'a, A: Allocator> Source for InTurn<'a, A> {
 
     ghost use Rattle.sum_sources.specs.Logs.{untold};
     ghost use Rattle.sum_sources.specs.SourceLaws.{untold_gives};
+    ghost use Rattle.sum_sources.specs.Sources.{tells_none};
 
     ghost state = { λ s. untold s.log };
+
+    ghost tells = { tells_none };
 
     fn open_file(&mut self, name: &[u8]) -> Result<TwoParts<'a>, OpenFault> {
         let Some((content, place, ending)) = self.files.pop_front() else {

@@ -3,14 +3,15 @@ ghost use Rattle.std.specs.Prelude.{◌≡◌};
 ghost use Rattle.sum_sources.specs.Contents.{unread};
 
 use crate::goes_on::TwoParts;
+use crate::rest::hash_past_header;
 use digest_kinds::{Algo, Digest, Hasher, Kind, Md5Hasher, Sha256Hasher};
 use std::fmt::Display;
 use std::io::{self, ErrorKind, Read};
 use std::process::Abort;
 use std::test::Fail;
 use sum_sources::{
-    Closable, EBADF, Ending, Fault, FromRead, Input, LineStop, NoRoom, OpenFault, PIECE, Phase,
-    Stdin, Told, hash_input, hash_input_over,
+    EBADF, Ending, Fault, FromRead, Input, LineStop, NoRoom, OpenFault, PIECE, Phase, Stdin, Told,
+    hash_input, hash_input_over,
 };
 
 // A reader of an input. It fails by the error so often before, and at each fault of the input.
@@ -140,14 +141,15 @@ fn inputs_that_go_on(rt: HostRuntime) {
         all_go_on(&rt, place, Ending::Whole, digits);
         all_go_on(&rt, place, DENIED, digits);
     }
-    let mut closed: Closable<Told> = Closable::closed();
-    assert!(rt; closed.read(&mut [0; 4]) == Err(Fault::Os(EBADF)));
+    let mut stdin: Stdin<Told> = Stdin::closed();
+    let mut closed = stdin.take();
+    reads(&rt, &mut closed, Err(Fault::Os(EBADF)), 0);
+    stdin.put_back(closed);
 }
 
 fn all_go_on(rt: &impl Abort, place: usize, ending: Ending, digits: &[u8]) {
     let error = io::Error::from(ErrorKind::PermissionDenied);
     given_once(rt, place, ending);
-    goes_on(rt, &mut Closable::Open(abc(place, ending)), place, ending);
     goes_on(rt, &mut abc_read(place, ending, error, 0), place, ending);
     assert_hashed(rt, abc(place, ending), ending, digits);
 }
@@ -237,6 +239,20 @@ fn hashing(rt: HostRuntime) -> Result<(), Fail> {
         starts(&rt, &content, piece, &mut buffer)?;
     }
     Ok(())
+}
+
+// What follows the header "a: " has this digest. Without a contract, so that no proof computes it.
+fn hashes_rest(rt: &impl Abort, content: &[u8], digits: &[u8]) {
+    let mut input = Told::new(content, Ending::Whole, PIECE);
+    let digest = hash_past_header(&mut input, Md5Hasher::new());
+    assert!(rt; digest.ok() == Digest::from_hex(digits));
+}
+
+// RFC 1321 has the digests of "abc" and of nothing.
+#[test]
+fn hashing_past_header(rt: HostRuntime) {
+    hashes_rest(&rt, b"a: abc", b"900150983cd24fb0d6963f7d28e17f72");
+    hashes_rest(&rt, b"a: ", b"d41d8cd98f00b204e9800998ecf8427e");
 }
 
 // It is shown as this text.

@@ -1,10 +1,12 @@
 //! Tests of `sum_sources`: what no contract says, and each call once with its answer.
 #![tactic(auto)]
 
+pub mod fronts;
 pub mod goes_on;
 #[cfg(test)]
 mod inputs;
 #[cfg(test)]
 mod lines;
+pub mod rest;
 #[cfg(test)]
 mod sources;

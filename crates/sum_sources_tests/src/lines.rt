@@ -1,5 +1,6 @@
 //! `LineReader`.
 use crate::goes_on::TwoParts;
+use crate::rest::line_past_header;
 use linked_list_allocator::LocalHeap;
 use std::alloc::{Allocator, Global};
 use std::process::Abort;
@@ -98,6 +99,17 @@ fn two_lines(alloc: Global, len: usize) -> Result<Vec<u8>, Fail> {
     let mut content = Vec::from_slice(alloc, b"one\n")?;
     content.resize(len, b'x')?;
     Ok(content)
+}
+
+#[test]
+fn lines_past_header(rt: HostRuntime) -> Result<(), Fail> {
+    let mut line = Vec::new(rt.alloc());
+    let input = Told::new(b"a: one\ntwo\n", Ending::Whole, 8192);
+    let mut reader = line_past_header(input, &mut line).ok_or("short")?;
+    assert_eq!(rt; line.as_slice(), b"one".as_slice());
+    gives(&rt, &mut reader, &mut line, b"two");
+    ends(&rt, &mut reader, &mut line, Ok(Next::NoMore));
+    Ok(())
 }
 
 // The heap has room for the first line and none for the second.

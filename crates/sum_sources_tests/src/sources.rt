@@ -1,4 +1,5 @@
 //! Told and real sources.
+use crate::fronts::Fronts;
 use digest_kinds::{Digest, Md5Hasher};
 use linked_list_allocator::LocalHeap;
 use std::alloc::Allocator;
@@ -8,7 +9,8 @@ use std::process::Abort;
 use std::rt;
 use std::test::Fail;
 use sum_sources::{
-    Answer, Ending, Fault, Files, Input, NoRoom, OpenFault, PIECE, Source, ToldSource, hash_input,
+    Answer, Ending, Fault, Files, Input, Inputs, NoRoom, OpenFault, PIECE, Source, Stdin, Told,
+    ToldSource, hash_input,
 };
 
 // The file of this name has this digest.
@@ -88,6 +90,19 @@ fn holds_abc<S: Source>(rt: &impl Abort, source: &mut S, name: &[u8]) -> Result<
     assert_eq!(rt; counts, (Ok(3), Ok(0)));
     assert_eq!(rt; buf, *b"abc\0\0\0\0\0");
     Ok(())
+}
+
+// A file of a source that computes its answers has as many bytes as its name, also where standard input is one more.
+#[test]
+fn computed_source(rt: HostRuntime) -> Result<(), Fail> {
+    hashes(&rt, &mut Fronts::new(b"abcd"), b"xyz", MD5_OF_ABC)?;
+    let stdin: Stdin<Told> = Stdin::closed();
+    hashes(
+        &rt,
+        &mut Inputs::new(stdin, Fronts::new(b"abcd")),
+        b"xyz",
+        MD5_OF_ABC,
+    )
 }
 
 #[test]

@@ -1,0 +1,2 @@
+pub mod FrontsLemmas
+pub mod RestLemmas

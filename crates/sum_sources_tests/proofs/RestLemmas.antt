@@ -1,0 +1,56 @@
+-- An input of which the first three bytes, its header, don't count.
+use Rattle.std.proofs.Common.{◌≡◌, ◌∷◌, ◌-◌, ◌≤◌, ℕ, [], List, length, drop, None, Ok, Err, Result, refl, ap, ◌∙◌, arith}
+use Rattle.std.specs.Prelude.{IfOk}
+use Rattle.std.proofs.lemmas.List.{drop-append-le, length-take-le}
+use Rattle.digest_kinds.specs.{Bytes.ByteString, Kinds.digest, Kinds.KindValue}
+use Rattle.sum_sources.specs.Contents.{Content, InputState, Reads, HashesInput, IsOf, and_read, clip, reads_past, unread}
+use Rattle.sum_sources.specs.LineReaders.{AdvancesLines, IsReading, LineReaderValue, ReadsOn, past, remaining}
+use Rattle.sum_sources.specs.ManifestLines.{lines}
+use Rattle.sum_sources.specs.declared.{fault.Fault.Fault, fault.Ending.TheVariants.Whole, inputs.phase.Phase.Phase, line_reader.Next.TheVariants.Line}
+use Rattle.sum_sources.specs.declared.inputs.phase.Phase.TheVariants.{Unfinished, Ended, Past}
+
+-- if reads are of a content, those past the first bytes are of its rest
+rest_is_of : (m : ℕ) (r : Reads) (c : Content) → m ≤ length r.bytes → IsOf r c → IsOf (reads_past m r) (past m c)
+rest_is_of m r c low of = by r.phase refl
+  where
+    by : (phase : Phase) → r.phase ≡ phase → IsOf (reads_past m r) (past m c)
+    by Unfinished is =
+        let (rest, begins) = rw is at of in rw is (rest, ap (drop m) begins ∙ drop-append-le m r.bytes rest low)
+    by (Ended e) is = let all = rw is at of in rw is (ap (past m) all)
+    by Past is = rw is tt
+
+-- what ends whole isn't cut
+clip_whole : (c : Content) → (clip c).ending ≡ Whole → clip c ≡ c
+clip_whole c whole = grind arith
+
+-- after the header
+pub header_read : (a m : InputState) (buf : List ℕ) (n : ℕ) → a.reads ≡ unread → m ≡ and_read a buf (Ok n)
+    → length buf ≡ 3 → n ≡ 3 → (m.reads.phase ≡ Unfinished) × (length m.reads.bytes ≡ 3)
+header_read a m buf n new is size all =
+    rw (is, new, all, size) (refl, length-take-le 3 buf (omega (arith, size)))
+
+-- the digest of the rest
+pub digest_past_header : {kind : KindValue} {m e : InputState} (result : Result ByteString Fault)
+    → (m.reads.phase ≡ Unfinished) × (length m.reads.bytes ≡ 3) → HashesInput kind m e result
+    → (c : Content) → IsOf e.reads c → IfOk result (λ d. d ≡ digest kind (drop 3 c.bytes))
+digest_past_header (Err f) at hashes c of = tt
+digest_past_header {kind = kind} {e = e} (Ok d) at hashes c of =
+    let end = hashes.end at.0 in
+    let all = rw end at of in
+    let (whole, is) = hashes.digest at.0 (past 3 c) (rw (at.1, end) (ap (past 3) all)) in
+    is ∙ ap (λ (c : Content). digest kind c.bytes) (clip_whole _ whole)
+
+-- the first line of the rest
+pub line_past_header : {I : Type 0} {state : I → InputState} {m : I} (old new : LineReaderValue I) {bytes : List ℕ}
+    → ((state m).reads.phase ≡ Unfinished) × (length (state m).reads.bytes ≡ 3)
+    → old ≡ record { input = m; ahead = []; taken = 0; lines = 0; final_answer = None }
+    → ((state m).reads.phase ≡ Unfinished → IsReading state old)
+    → (IsReading state old → ReadsOn state old new (Ok Line) bytes) → AdvancesLines state old new (Ok Line)
+    → (c : Content) → IsOf (state new.input).reads c
+    → lines (clip (past 3 c)) ≡ bytes ∷ lines (remaining new (past 3 c))
+line_past_header {state = state} old new at is reading reads advances c of =
+    let sum = rw (is, at.1) at advances.taken in
+    let low : 3 ≤ length (state new.input).reads.bytes = omega (arith, sum) in
+    let past_three : length (state new.input).reads.bytes - new.taken ≡ 3 = omega (arith, sum) in
+    let next = (reads (reading at.0)).line (past 3 c) (rw past_three (rest_is_of 3 (state new.input).reads c low of)) in
+    rw is at next.0

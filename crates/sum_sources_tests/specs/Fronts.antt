@@ -1,0 +1,36 @@
+-- A source that computes its answers: each file holds the front of one text that is as long as the file's name.
+use Rattle.std.specs.Prelude.{length, take, List, [], ◌∷◌, None, Some, Ok, Err}
+use Rattle.std.specs.Option.{option_map}
+use Rattle.digest_kinds.specs.Bytes.{ByteString}
+use Rattle.sum_sources.specs.Contents.{Content}
+use Rattle.sum_sources.specs.declared.fault.Ending.TheVariants.{Whole}
+use Rattle.std.proofs.Math.Logic.{∥∥₁_elim}
+use Rattle.sum_sources.specs.InputsLaws.{gives-prop}
+use Rattle.sum_sources.specs.Sources.{Answer, GivesTold, Pair, SourceState, ToldAnswers, gave_at}
+
+-- a content that ends whole
+abbrev pub whole : ByteString → Content
+whole bytes = record { bytes = bytes; ending = Whole }
+
+-- what the source has in memory: its text, in one pair
+abbrev pub told_text : ByteString → List Pair
+told_text text = record { name = []; from = 0; answer = Some (Ok (whole text)) } ∷ []
+
+-- the front of the text that is as long as the name
+abbrev pub front_answer : Answer → ByteString → Answer
+front_answer (Ok text) name = Ok (whole (take (length name) text.bytes))
+front_answer (Err f) name = Err f
+
+abbrev pub tells_fronts : ToldAnswers
+tells_fronts [] name k = None
+tells_fronts (text ∷ others) name k = option_map (λ text. front_answer text name) text.answer
+
+-- the state of a source of this text, by its log
+abbrev pub fronts_state : ByteString → SourceState → SourceState
+fronts_state text log = record log { told = told_text text }
+
+-- its law
+pub fronts_give : (text : ByteString) (log : SourceState) → ∥ GivesTold tells_fronts (fronts_state text log) ∥₁
+    → GivesTold tells_fronts (fronts_state text log)
+fronts_give text log kept name k = ∥∥₁_elim kept
+    (gives-prop (tells_fronts (told_text text) name k) (gave_at log.openings name k)) (λ kept. kept name k)

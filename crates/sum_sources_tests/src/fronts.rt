@@ -1,0 +1,75 @@
+//! A source in memory that computes its answers.
+ghost use Rattle.std.specs.Prelude.{◌≡◌};
+ghost use Rattle.sum_sources.specs.Sources.{GivesTold};
+ghost use Rattle.sum_sources.specs.StandardInput.{told_file};
+ghost use Rattle.sum_sources.specs.refinement.ToldPairs.{told_value};
+ghost use Rattle.sum_sources_tests.specs.Fronts.{fronts_state, tells_fronts};
+
+use sum_sources::{
+    Ending, Fault, Input, Note, OpenFault, Openings, PIECE, ReadLog, ReadNote, Source, SourceLog,
+    Told, next_file,
+};
+
+/// The front of a text.
+#[derive(Drop)]
+pub struct Front<'a> {
+    told: Told<'a>,
+    log: ReadLog,
+    ghost same: { log.reads ≡ (told_file (told_value told)).reads },
+}
+
+impl<'a> Input for Front<'a> {
+    ghost use Rattle.sum_sources.specs.InputLaws.{told_file_has_content};
+
+    ghost state = { λ s. record (told_file (told_value s.told)) { name = s.log.name; opening = s.log.opening } };
+
+    fn read(&mut self, buf: &mut [u8]) -> Result<usize, Fault> {
+        let result = self.told.read(buf);
+        self.log = self.log.and(&ReadNote(buf, &result));
+        result
+    }
+
+    ghost has_content = { λ s. told_file_has_content (told_value s.told) };
+}
+
+/// A source of which every name is a file: the front of one text, as long as the name, or all of it.
+#[derive(Drop)]
+pub struct Fronts<'a> {
+    text: &'a [u8],
+    log: SourceLog,
+    ghost is: { ∥ GivesTold tells_fronts (fronts_state text.now log) ∥₁ },
+}
+
+impl<'a> Fronts<'a> {
+    /// The source of this text.
+    pub fn new(text: &'a [u8]) -> Fronts<'a> {
+        Fronts {
+            text,
+            log: SourceLog::of(&Openings),
+        }
+    }
+}
+
+impl<'a> Source for Fronts<'a> {
+    ghost use Rattle.sum_sources_tests.specs.Fronts.{fronts_give};
+
+    type File = Front<'a>;
+
+    ghost state = { λ s. fronts_state s.text.now s.log };
+
+    ghost tells = { tells_fronts };
+
+    fn open_file(&mut self, name: &[u8]) -> Result<Front<'a>, OpenFault> {
+        let log = next_file(&self.log, name);
+        self.log = self.log.and(&Note::Opened(name));
+        let front = &self.text[..name.len().min(self.text.len())];
+        let told = Told::new(front, Ending::Whole, PIECE);
+        Ok(Front { told, log })
+    }
+
+    fn close_file(&mut self, file: Front<'a>) {
+        self.log = self.log.and(&Note::Closed(&file.log));
+    }
+
+    ghost gives_told = { λ s. fronts_give s.text.now s.log s.is };
+}

@@ -1,0 +1,51 @@
+//! Callers that read the header of an input themselves, and hand on the rest of it.
+ghost use Rattle.std.specs.Prelude.{◌≡◌, ◌∷◌, [], drop, IfOk, IfSome};
+ghost use Rattle.digest_kinds.specs.Kinds.{digest};
+ghost use Rattle.sum_sources.specs.Contents.{Content, IsOf, clip, unread};
+ghost use Rattle.sum_sources.specs.LineReaders.{past, remaining};
+ghost use Rattle.sum_sources.specs.ManifestLines.{lines};
+
+use digest_kinds::{Digest, Hasher};
+use std::alloc::Allocator;
+use sum_sources::{Fault, Input, LineReader, Next, hash_input};
+
+/// Returns the digest of what follows the first three bytes of `input`. Fails with `Fault::Other` if one read doesn't
+/// give these.
+pub fn hash_past_header<I: Input, H: Hasher + Drop>(
+    input: &mut I,
+    hasher: H,
+) -> Result<Digest, Fault>
+    requires new { (I.state input.old).reads ≡ unread }
+    requires hasher { H.holds hasher [] }
+    // Of each content that all reads of the input are of, the header's included.
+    ensures { (c : Content) → IsOf (I.state input.new).reads c
+        → IfOk result (λ d. d ≡ digest (H.kind_of hasher) (drop 3 c.bytes)) }
+{
+    let mut header = [0; 3];
+    if input.read(&mut header)? < 3 {
+        return Err(Fault::Other);
+    }
+    hash_input(input, hasher)
+}
+
+/// Puts the line that follows the first three bytes of `input` into `line`, and returns the reader of the lines after
+/// it; or nothing if one read doesn't give these bytes or no line follows them.
+pub fn line_past_header<I: Input + Drop, A: Allocator>(
+    mut input: I,
+    line: &mut Vec<u8, A>,
+) -> Option<LineReader<I>>
+    requires { (I.state input).reads ≡ unread }
+    // Of each content that all reads of the input are of, the header's included.
+    ensures { IfSome result (λ r. (c : Content) → IsOf (I.state r.input).reads c
+        → lines (clip (past 3 c)) ≡ line.new.items ∷ lines (remaining r (past 3 c))) }
+{
+    let mut header = [0; 3];
+    let Ok(3) = input.read(&mut header) else {
+        return None;
+    };
+    let mut reader = LineReader::new(input);
+    match reader.next_line(line) {
+        Ok(Next::Line) => Some(reader),
+        _ => None,
+    }
+}
