@@ -11,7 +11,8 @@ pub struct SinkFault;
 
 /// Writes the bytes that it accepts at once, and buffers none. [`Buffered`](crate::Buffered) buffers bytes for a sink.
 ///
-/// A call that returns `SinkFault` counts as one more failure. What was held back below the sink is then lost.
+/// A call that returns `SinkFault` counts as one more failure. It leaves the sink flushed: what was held back below the
+/// sink is lost.
 pub trait Sink {
     /// The pieces that it was offered, one by each write; the bytes of them that it accepted; how many of its calls have
     /// failed; and whether it is flushed.
