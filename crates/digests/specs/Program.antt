@@ -1,6 +1,8 @@
 -- What the program does, from the list of its arguments to its status.
-use Rattle.std.specs.Prelude.{ℕ, ◌≡◌, ◌⊎◌, false, List, [], ⊤, Option, None, Some, Result, Ok, Err}
-use Rattle.sum_lines.specs.Sinks.{GivesAll}
+use Rattle.std.specs.Prelude.{ℕ, pos, ◌≡◌, ◌⊎◌, false, List, [], ⊤, Option, None, Some, Result, Ok, Err, unwrap_or}
+use Rattle.sum_sources.specs.{Contents.Content, Inputs.with_stdin, Sources.ToldAnswers, Sources.none_told}
+use Rattle.sum_sources.specs.declared.{fault.Ending.TheVariants.Broken, fault.Fault.TheVariants.Os}
+use Rattle.sum_lines.specs.{Buffers.BufferState, Sinks.GivesAll}
 use Rattle.sum_engine.specs.Behavior.{single_step, ByteString}
 use Rattle.sum_engine.specs.Execution.{OutputsState, StreamsState, IsFlushed, FailuresMatch, Performs}
 use Rattle.sum_words.specs.Arguments.{ArgumentsState, AreOf}
@@ -42,3 +44,24 @@ abbrev pub ProgramPerforms : ArgumentsState → StreamsState → StreamsState �
 ProgramPerforms given a b status = IsFlushed a.outputs → (arguments : List ByteString) → AreOf given arguments
     → CommandPerforms (command_line arguments) a b status
     ⊎ (NeedsMemory arguments × CallRefuses not_read_line a b status)
+
+-- ---- the program as the system starts it
+
+-- an output of which no call was made, over a writer that is known to hold this
+abbrev pub fresh_output : Option ByteString → BufferState
+fresh_output held = record { sink = record { offered = []; written = unwrap_or held []; failures = 0 }; buffered = [] }
+
+-- streams of which nothing was opened, read or written: what is in memory, and what the outputs' writers hold
+abbrev pub fresh_streams : ToldAnswers → Option ByteString → Option ByteString → StreamsState
+fresh_streams told out err = record {
+  inputs = record { told = told; openings = []; refusals = 0 };
+  outputs = record { out = fresh_output out; err = fresh_output err };
+}
+
+-- a closed standard input: no bytes, and then the fault EBADF (9)
+abbrev pub closed_stdin : Content
+closed_stdin = record { bytes = []; ending = Broken (Os (pos 9)) }
+
+-- nothing is in memory but standard input, if that is closed
+abbrev pub IsStdinAlone : ToldAnswers → Type 0
+IsStdinAlone told = (told ≡ with_stdin None none_told) ⊎ (told ≡ with_stdin (Some closed_stdin) none_told)

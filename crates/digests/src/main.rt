@@ -8,26 +8,16 @@ pub mod command;
 mod finish;
 pub mod laws;
 mod messages;
+pub mod program;
 pub mod run;
 pub mod standard_input;
 #[cfg(test)]
 mod tests;
 
-use command::command;
-use standard_input::standard_input;
+use program::program;
 use std::process::ExitCode;
-use sum_engine::Streams;
-use sum_lines::FromWrite;
-use sum_sources::{Files, Inputs};
-use sum_words::SystemArguments;
 
 fn main(rt: HostRuntime) -> ExitCode {
-    let mut streams = Streams::new(
-        Inputs::new(standard_input(rt.stdin()), Files::new(rt)),
-        FromWrite::new(rt.stdout()),
-        FromWrite::new(rt.stderr()),
-    );
-    let mut arguments = SystemArguments::new(rt);
-    let status = command(rt.alloc(), &mut arguments, &mut streams);
-    ExitCode::from(status)
+    let ended = program(rt.alloc(), rt, rt, rt.stdin(), rt.stdout(), rt.stderr());
+    ExitCode::from(ended.status)
 }

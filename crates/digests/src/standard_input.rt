@@ -6,14 +6,14 @@ ghost use Rattle.sum_sources.specs.declared.fault.Fault.TheVariants.{Os};
 ghost use Rattle.sum_sources.specs.declared.inputs.closable.Closable.TheVariants.{Open, Closed};
 ghost use Rattle.sum_sources.specs.declared.inputs.phase.Phase.TheVariants.{Unfinished};
 
-use std::io;
+use std::io::{self, Read};
 use std::os::fd::AsFd;
 use sum_sources::{Closable, EBADF, FromRead};
 
 /// Standard input, before its first read. This function has to notice a closed one before any file is opened: the
 /// system would give its number to the next file, and that file's bytes would be read as standard input. The contract
 /// doesn't say which of the two it returns.
-pub fn standard_input(stdin: io::Stdin) -> Closable<FromRead<io::Stdin>>
+pub fn standard_input<I: Read + AsFd + Drop>(stdin: I) -> Closable<FromRead<I>>
     ensures { (result ≡ Closed (Broken (Os (pos 9))) Unfinished)
         ⊎ (result ≡ Open (record { reader = stdin; log = no_reads })) }
 {

@@ -1,0 +1,29 @@
+use Rattle.std.proofs.Common.{arith, ◌≡◌, [], Option}
+use Rattle.sum_engine.specs.{Behavior.ByteString, Execution.StreamsState}
+use Rattle.digests.specs.Program.{fresh_output, fresh_streams}
+use Rattle.digests.proofs.program.program.Goals as goal
+
+-- streams are fresh if nothing was opened, and their outputs are fresh
+are_fresh : (a b : StreamsState) (out err : Option ByteString) → a.inputs.openings ≡ [] → a.inputs.refusals ≡ 0
+    → a.outputs ≡ record { out = fresh_output out; err = fresh_output err } → b.inputs.told ≡ a.inputs.told
+    → a ≡ fresh_streams b.inputs.told out err
+are_fresh a b out err openings refusals outputs told = grind arith
+
+-- the streams were fresh
+pub returns-clause-behavior : goal.returns-clause-behavior
+returns-clause-behavior g c =
+    let did = c.command-status.ensures in
+    let start = c.new-streams.result in
+    let out = g.O.Write.contents c.args.out in
+    let err = g.E.Write.contents c.args.err in
+    let openings : start.inputs.openings ≡ [] = grind (arith, c.new-2.ensures.state) in
+    let refusals : start.inputs.refusals ≡ 0 = grind (arith, c.new-2.ensures.state) in
+    let outputs : start.outputs ≡ record { out = fresh_output out; err = fresh_output err } = cc in
+    rw (are_fresh start c.command-status.new.streams out err openings refusals outputs did.reads.told) at did.behavior
+
+-- so what was opened was opened since
+pub returns-clause-reads : goal.returns-clause-reads
+returns-clause-reads g c =
+    let (more, are, read) = c.command-status.ensures.reads.openings in
+    let openings : c.new-streams.result.inputs.openings ≡ [] = grind (arith, c.new-2.ensures.state) in
+    rw (rw openings at are) read

@@ -1,0 +1,76 @@
+//! The program over what the system gives it. `main` calls nothing else of ours.
+ghost use Rattle.digests.specs.Program.{IsStdinAlone, ProgramPerforms, fresh_streams};
+ghost use Rattle.std.specs.Prelude.{All, ◌≡◌};
+ghost use Rattle.sum_engine.specs.Execution.{IsFlushed, ReadsFile, failures};
+
+use crate::command::command;
+use crate::standard_input::standard_input;
+use std::alloc::Allocator;
+use std::io::{Read, Write};
+use std::os::fd::AsFd;
+use std::rt;
+use sum_engine::{Outputs, Reader, Streams};
+use sum_lines::FromWrite;
+use sum_sources::{Closable, Files, FromRead, Inputs};
+use sum_words::{Arguments, SystemArguments};
+
+/// The streams over standard input, files and both outputs that the system gives.
+pub type SystemStreams<F, I, O, E> = Streams<
+    Reader<Inputs<Closable<FromRead<I>>, Files<F>>>,
+    Outputs<FromWrite<O>, FromWrite<E>>,
+>;
+
+/// How a call of the program ended: its exit status, and the arguments and streams as they are then.
+#[derive(Drop)]
+pub struct Ended<G, S> {
+    pub status: u8,
+    pub arguments: G,
+    pub streams: S,
+}
+
+/// Does what [`command`] does with the arguments that `env` has, over this standard input, the files that `files` opens
+/// and these outputs. Nothing is read, opened or written before, and both outputs are flushed at the end.
+pub fn program<A, R, F, I, O, E>(
+    alloc: A,
+    env: R,
+    files: F,
+    stdin: I,
+    out: O,
+    err: E,
+) -> Ended<SystemArguments<R>, SystemStreams<F, I, O, E>>
+where
+    A: Allocator + Copy,
+    R: rt::Env,
+    F: rt::Files + Drop,
+    I: Read + AsFd + Drop,
+    O: Write,
+    E: Write,
+    // The behavior of every list of arguments that agrees with what was given, in every world that agrees with what was
+    // read.
+    ensures behavior { let start = fresh_streams result.streams.inputs.told
+        (O.contents out) (E.contents err) in
+        ProgramPerforms (⟦<SystemArguments<R> as Arguments>⟧.state result.arguments) start
+        result.streams result.status }
+    // At the start, as `behavior` assumes, and at the end.
+    ensures flushed { let start = fresh_streams result.streams.inputs.told
+        (O.contents out) (E.contents err) in
+        IsFlushed start.outputs × IsFlushed result.streams.outputs }
+    ensures stdin { IsStdinAlone result.streams.inputs.told }
+    // One way: status 0 only if no call of either output failed.
+    ensures no_failures { result.status ≡ 0 → failures result.streams.outputs ≡ (0, 0) }
+    // Status 0 only if all that was opened was read to its end; and never further.
+    ensures reads { All (ReadsFile (result.status ≡ 0)) result.streams.inputs.openings }
+{
+    let mut arguments = SystemArguments::new(env);
+    let mut streams = Streams::new(
+        Inputs::new(standard_input(stdin), Files::new(files)),
+        FromWrite::new(out),
+        FromWrite::new(err),
+    );
+    let status = command(alloc, &mut arguments, &mut streams);
+    Ended {
+        status,
+        arguments,
+        streams,
+    }
+}
