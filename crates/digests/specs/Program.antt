@@ -49,7 +49,10 @@ ProgramPerforms given a b status = IsFlushed a.outputs → (arguments : List Byt
 
 -- an output of which no call was made, over a writer that is known to hold this
 abbrev pub fresh_output : Option ByteString → BufferState
-fresh_output held = record { sink = record { offered = []; written = unwrap_or held []; failures = 0; flushed = true }; buffered = [] }
+fresh_output held = record {
+  sink = record { offered = []; written = unwrap_or held []; failures = 0; flushed = true };
+  buffered = [];
+}
 
 -- streams of which nothing was opened, read or written: what is in memory, and what the outputs' writers hold
 abbrev pub fresh_streams : List Pair → Option ByteString → Option ByteString → StreamsState

@@ -5,6 +5,7 @@ ghost use Rattle.sum_sources.specs.Contents.{unread};
 mod growths;
 mod hostile;
 mod program;
+mod stops;
 mod worked_examples;
 
 use crate::run::run;
@@ -115,10 +116,21 @@ fn stage<'a, A: Allocator + Copy, const N: usize>(
 ) -> Stage<'a, A, N>
     requires { (⟦<Told<'a> as Input>⟧.state input).reads ≡ unread }
 {
+    stage_until(input, source, (N, N))
+}
+
+// The same, with outputs that stop after so many bytes.
+fn stage_until<'a, A: Allocator + Copy, const N: usize>(
+    input: Told<'a>,
+    source: ToldSource<'a, A>,
+    stops: (usize, usize),
+) -> Stage<'a, A, N>
+    requires { (⟦<Told<'a> as Input>⟧.state input).reads ≡ unread }
+{
     Streams::new(
         Inputs::new(Stdin::new(input), source),
-        ToldSink::new(N),
-        ToldSink::new(N),
+        ToldSink::new(stops.0),
+        ToldSink::new(stops.1),
     )
 }
 

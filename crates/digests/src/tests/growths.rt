@@ -152,7 +152,11 @@ fn each_growth_refused(rt: HostRuntime) -> Result<(), Fail> {
     assert_each_growth(&rt, script, &["a", "x", "e"], &GENERATION)?;
     let script = ("md5sum -c l", "l", VERDICTS);
     assert_each_growth(&rt, script, &["l", "a", "x", "e"], &CHECK)?;
-    // The name takes more room than a line, so what the first check gave back doesn't hold it.
+    // What the first check gave back holds the name `l5`, so its second opening isn't refused.
+    let script = ("md5sum -c l5 l5", "l5", "$M  -\n");
+    let places = [TWO_CHECKS[0], TWO_CHECKS[1], TWO_CHECKS[3], TWO_CHECKS[4]];
+    assert_each_growth(&rt, script, &["l5", "l5"], &places)?;
+    // It doesn't hold a name that takes more room than a line.
     let name = "a_list_whose_name_takes_more_room_than_any_line_of_it";
     let line = "md5sum -c a_list_whose_name_takes_more_room_than_any_line_of_it \
         a_list_whose_name_takes_more_room_than_any_line_of_it";
