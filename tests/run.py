@@ -22,7 +22,7 @@ import harness  # noqa: E402  (it is in support/)
 
 
 def built_programs():
-    """The programs of this repository, the default level's first. Only `./digests` looks whether they are stale."""
+    """The programs of this repository, the default level's first. Only `./digests` checks whether they are stale."""
     out = os.path.join(harness.TOP, "out")
     levels = sorted(os.listdir(out)) if os.path.isdir(out) else []
     found = [os.path.join(out, level, "digests") for level in levels]
@@ -86,7 +86,7 @@ def print_counts(title, counts, seconds):
 
 
 def take_usual_settings():
-    """Has the tests run under the same settings whoever calls them: what they start is ended by each signal and finds
+    """Makes the tests run under the same settings, whoever calls them: what they start is ended by any signal and finds
     the three streams open, and others may read the files that they make."""
     # As nohup and a shell's background ignore some: what is caught here isn't passed on. The two that Python ignores
     # itself, some tests pass on.

@@ -1,5 +1,5 @@
 """Each line is there as soon as it is complete. A reader sees it while the program still waits for the next file. A run
-that is ended leaves every line that it had completed. In one file both outputs have the order of the run."""
+that is killed leaves every line that it had completed. In one file, both outputs are in the order of the run."""
 
 import mmap
 import os
@@ -11,7 +11,7 @@ from harness import E, M, VERDICTS, X_MISSING, Case, as_bytes, bad, unread, wron
 
 
 class FirstLines(Case):
-    """A pipe with a name, which nobody feeds yet, holds the program at the next name."""
+    """A named pipe, which nobody feeds yet, holds the program at the next name."""
 
     def setUp(self):
         super().setUp()
@@ -43,8 +43,8 @@ class Ended(Case):
     """Runs that are ended from outside."""
 
     def ended_at_the_pipe(self, words, number):
-        """Runs `digests` with standard output into the file `out`, and ends it by this signal once it waits for the
-        pipe with a name: what the file holds then."""
+        """Runs `digests` with standard output into the file `out`, and ends it with this signal once it waits for the
+        named pipe: what the file then holds."""
         with open(self.path("out"), "wb") as out:
             started = self.start(words, stdout=out)
         with self.fed("p"):

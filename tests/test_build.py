@@ -10,7 +10,7 @@ from repository import ASKED, BOTH, DEFAULT, FAST, OF_A, Repository
 
 class Build(Repository):
     def expect_built(self, why, calls=BOTH):
-        """A call builds, and a second one finds nothing to build; answers what the first said."""
+        """A call builds, and a second one finds nothing to build; returns what the first one said."""
         ran = self.script("digests", "md5sum", "a")
         self.assertEqual((ran.status, ran.out, self.calls), (0, OF_A.out, calls), why)
         self.assertEqual((self.script("digests", "md5sum", "a"), self.calls), (OF_A, []), why)
@@ -38,7 +38,7 @@ class Build(Repository):
         self.expect_built("crates.txt")
 
     def test_a_failed_build(self):
-        """It says why, with the status 1, however often; the old program is neither run nor installed."""
+        """It says why, with status 1, every time; the old program is neither run nor installed."""
         log = self.in_top("out/build.log")
         end = f"rt: this is why\ndigests: the build failed; all that the toolchain said is in {log}\n"
         for old in (False, True):

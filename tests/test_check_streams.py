@@ -143,7 +143,7 @@ class Sizes(Case):
         self.assertLess(peak, 50 * MEGA)
 
     def test_want_of_memory(self):
-        """A line that is longer than the memory that may be had: what came before it is reported."""
+        """A line longer than the memory that is available: what came before it is reported."""
         with open(self.path("l"), "wb") as file:
             file.write(as_bytes([f"{M}  a"]))
             file.seek(2000 * MEGA, os.SEEK_CUR)
@@ -152,8 +152,8 @@ class Sizes(Case):
         self.assertEqual(ran, Ran(1, b"a: OK\n", b"md5sum: memory exhausted\n"))
 
     def test_want_of_memory_and_a_full_output(self):
-        """The run ends at what comes first, and says that one: a line for which there is no memory, or a report that
-        can't be written. What is full isn't asked for anything where memory was short before the first report."""
+        """The run ends at what comes first, and reports that: a line for which there is no memory, or a report that
+        can't be written. The full output isn't used if memory was short before the first report."""
         for before, said in (("", b"md5sum: memory exhausted\n"), (f"{M}  a\n", b"md5sum: write error\n")):
             with self.full() as full:
                 with open(self.path("l"), "wb") as file:

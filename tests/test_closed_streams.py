@@ -1,5 +1,5 @@
-"""Closed standard streams. A closed standard input is a fault, whichever file gets its number from the system. A closed
-output is a write error if there is something to write."""
+"""Closed standard streams. A closed standard input is a fault, whichever file gets its descriptor from the system. A
+closed output is a write error if there is something to write."""
 
 import hashlib
 import os
@@ -13,7 +13,7 @@ FAULT = "md5sum: -: Bad file descriptor"
 
 def hostile_manifests():
     """Manifests whose entry `-` has the digest of what a reader of the manifest itself would still find in it: nothing
-    if the manifest fits into the reading buffer of 8,192 bytes, else what follows that."""
+    if the manifest fits into the reading buffer of 8,192 bytes, otherwise what follows that."""
     yield as_bytes([f"{E}  -"])
     yield as_bytes(["#" * 5000, f"{E}  -"])
     for behind in (b"#" + b"t" * 99 + b"\n", b"#\n" * 5000):
@@ -98,7 +98,7 @@ class ClosedOutputs(Closing):
             ("md5sum", [0, 2], 1, b"", b""), ("md5sum a", [0, 1, 2], 1, b"", b""), ("md5sum", [0, 1, 2], 1, b"", b""))
 
     def test_checking(self):
-        """It is good if no report was to be written, and a write error else. What was listed isn't written to, and
+        """It is good if no report was to be written, and otherwise a write error. What was listed isn't written to, and
         standard input is no file."""
         self.write("good", [f"{M}  a"])
         self.write("l", VERDICTS)

@@ -1,4 +1,4 @@
-"""The completions, in real shells: they offer what the program takes at that place."""
+"""The completions, in real shells: they offer what the program accepts at that place."""
 
 import os
 import shutil

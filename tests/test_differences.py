@@ -43,7 +43,7 @@ class Messages(Described):
             self.expect_both(["md5sum", name], *said)
 
     def test_the_name_in_front(self):
-        """It is the tool's; GNU's tools begin a message as they were called."""
+        """It is the tool's; GNU's tools begin a message with the name by which they were called."""
         os.symlink(harness.PROGRAM, self.path("md5sum"))
         missing = "x: No such file or directory\n"
         for called, wanted in ((os.fsdecode(self.path("md5sum")), "md5sum"), (gnu("md5sum"), gnu("md5sum"))):
@@ -53,8 +53,8 @@ class Messages(Described):
             self.assertEqual(self.run_command([f"./other{status}", "a"]).status, status)
 
     def test_reasons(self):
-        """GNU's tools don't say why a list can't be read, and a closed standard input is a fault once more at their
-        end. A name that isn't UTF-8 is one with us alone. `test_reasons` has what both say alike."""
+        """GNU's tools don't say why a list can't be read, and at their end a closed standard input is one more fault. A
+        name that isn't UTF-8 is a fault only with ours. `test_reasons` has what both say alike."""
         said = [(1, b"", [f"md5sum: d: {reason}"]) for reason in ("Is a directory", "read error")]
         self.expect_both("md5sum -c d", *said)
         closed = ["md5sum: -: Bad file descriptor", "md5sum: standard input: Bad file descriptor"]
@@ -93,7 +93,7 @@ class Messages(Described):
             self.assertEqual((ours.status, theirs.status, theirs.out), (1, 0, f"{harness.B}  e\n".encode()))
 
     def test_several_lengths(self):
-        """The last alone is looked at, and none beside `--help` or `--version`; GNU's tool refuses others, too."""
+        """Only the last is looked at, and none with `--help` or `--version`; GNU's tool refuses others, too."""
         for words in ("-l x -l 256 e", "-l 7 -l 256 e", "-l x --help", "-l 7 --help", "-l 7 --version"):
             ours, theirs = self.ours_and_theirs(f"b2sum {words}")
             self.assertEqual((ours.status, ours.err, theirs.status, theirs.out), (0, b"", 1, b""), words)
@@ -244,7 +244,7 @@ class Checks(Described):
         self.expect_both("md5sum -c list", (0, ["\\q\\\\\\rz: OK"], b""), (0, ["q\\\rz: OK"], b""))
 
     def test_statuses(self):
-        """Status 0 means the same, and comes alike."""
+        """Status 0 means the same thing, and is returned in the same cases."""
         self.write("good", [f"{M}  a", f"{E}  e"])
         self.write("none", ["#", "", "junk"])
         self.write("damaged", [f"{M}  a", "junk"])

@@ -14,7 +14,7 @@ READS = 4  # of a file of two pieces and a part: three that give bytes, and the 
 
 @needs_strace
 class FailedRead(Traced):
-    """Each read of one file in turn, while the other files can be read, and this one the next time."""
+    """Each read of one file fails in turn, while the other files can be read, and this one the next time."""
 
     def setUp(self):
         super().setUp()
@@ -24,7 +24,7 @@ class FailedRead(Traced):
 
     def expect_each(self, name, words, outs, err, stdin=os.devnull):
         """Runs `digests` with these words once for each read of this file, which fails: with an error of the device,
-        or as one that would have to wait. Both are no end of the file. Of `outs` each belongs to one read."""
+        or as one that would have to wait. Neither is the end of the file. Each of `outs` belongs to one read."""
         for number in (errno.EIO, errno.EAGAIN):
             error, reason = errno.errorcode[number], REASONS.get(number, OTHER)
             for read, out in enumerate(outs, 1):
@@ -34,7 +34,7 @@ class FailedRead(Traced):
                     self.assertEqual(ran, Ran(1, as_bytes(out), err % reason), (words, error, read))
 
     def test_hashing(self):
-        """No digest comes of a part of the file."""
+        """A part of the file gives no digest."""
         fault = b"md5sum: f: %s\n"
         self.expect_each("f", "md5sum f a f", [[f"{M}  a", self.line]] * READS, fault)
         self.expect_each("f", "md5sum", [b""] * READS, b"md5sum: -: %s\n", stdin="f")

@@ -1,4 +1,4 @@
-"""Calls to the system that are interrupted again and again, and how many writes a run makes. All of it by `strace`,
+"""System calls that are interrupted again and again, and the number of writes that a run makes. All of it by `strace`,
 which makes a call fail."""
 
 import os

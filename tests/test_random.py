@@ -9,7 +9,7 @@ import reference
 import reference_words
 from harness import Case
 
-# What names are made of: whatever lines, escapes and words treat in a way of their own.
+# What names are made of: whatever lines, escapes and words treat specially.
 CHARACTERS = ["a", "b", "n", "r", "0", "f", "é", " ", "\t", "*", "\\", "\n", "\r", "(", ")", "=", "#", "-"]
 
 # Names under which no file can be read.
@@ -40,7 +40,7 @@ class AtRandom(Case):
             made.bind("socket")
 
     def cases(self):
-        """Makes each case its files. A case depends on its own seed alone, one more than that of the case before."""
+        """Makes the files of each case. A case depends on its own seed alone, one more than that of the case before."""
         for self.seed in range(harness.SEED, harness.SEED + harness.CASES):
             self.random, self.files = random.Random(self.seed), {}
             names = ["a", "e", "-b", " a", "*a", "a)", "q\\\nz", "a\rb", *(self.a_text() for _ in range(8))]

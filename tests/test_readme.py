@@ -18,8 +18,8 @@ def commands(title):
 
 
 class Stranger(Repository):
-    """A fresh clone, README's commands, an installation, and its end. In the place of the kit's command is one that
-    proves nothing."""
+    """A fresh clone, README's commands, an installation, and its end. The kit's command is replaced by one that proves
+    nothing."""
 
     def setUp(self):
         super().setUp()

@@ -98,7 +98,7 @@ class Reasons(Case):
                          | {errno.ENOENT: NOT_FOUND, errno.EACCES: REASONS[errno.EACCES]}, REASONS)
 
     def fails_by(self, number, call, path):
-        """What stands in front of a tool so that this call for this file fails by this number."""
+        """What stands in front of a tool so that this call for this file fails with this number."""
         return [strace(), "-qq", "-o", os.devnull, "-P", path, "-e", f"trace={call}", "-e",
                 f"inject={call}:error={number}"]
 

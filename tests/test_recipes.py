@@ -1,5 +1,5 @@
-"""What the manual pages show to be typed. Each recipe and example is typed as it is there, over trees in which all is
-well and over others. Its status is 0 only if all that it is for was done."""
+"""The commands that the manual pages show. Each recipe and example is typed as it is there, over trees in which all is
+well and over others. Its status is 0 only if everything that it is for was done."""
 
 import os
 import re
@@ -31,7 +31,7 @@ SORTS = {
     "not UTF-8": r" sed -nz ",
 }
 
-# What the recipes, and the script in the place of `pv`, call besides a tool: without one of these no recipe is typed.
+# What the recipes, and the script that replaces `pv`, call besides a tool: without one of these no recipe is typed.
 COMMANDS = ("bash", "cat", "comm", "find", "grep", "mktemp", "mv", "nproc", "rm", "sed", "sh", "sort", "split", "tee",
             "tr", "wc", "xargs")
 
@@ -87,7 +87,7 @@ class Typed(Case):
                     "TMPDIR": self.folder}
 
     def command(self, name, script):
-        """Puts a script in the place of a command."""
+        """Replaces a command by a script."""
         path = self.path(f"commands/{name}")
         if os.path.lexists(path):
             os.remove(path)
@@ -278,7 +278,7 @@ class Recipes(Typed):
         self.passes(self.recipe("check one"), b"./image.iso: OK\n")
 
     def test_a_part_that_fails(self):
-        """A command of a pipe that gives less than it was to give: the recipe fails, and makes nothing."""
+        """A command of a pipeline that outputs less than it should: the recipe fails, and makes nothing."""
         find = f"'{shutil.which('find')}' \"$@\"; exit 1"
         lists, images = ("list", "list on all"), ("write by pv", "write at once")
         for command, script, *sorts in (
@@ -307,7 +307,7 @@ class Recipes(Typed):
         self.fails(self.recipe("check by pv"))
 
     def test_a_run_that_is_ended(self):
-        """It leaves nothing that was there for a time."""
+        """It leaves nothing temporary behind."""
         here = self.path("here")
         for recipe, sort, shell in self.each_recipe("list", "list on all", "unlisted", "write by pv", "write at once"):
             command = {"write by pv": "pv", "write at once": "tee"}.get(sort, "find")

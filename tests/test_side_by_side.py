@@ -1,4 +1,4 @@
-"""Runs side by side into one file or one pipe, as people hash a tree with all processors: no line is torn."""
+"""Parallel runs into one file or one pipe, as when a tree is hashed with all processors: no line is torn."""
 
 import hashlib
 import os
@@ -47,7 +47,7 @@ class SideBySide(Case):
         return self.run_command(["sh", "-c", script, *words], cwd=self.tree, **how)
 
     def expect_lines(self, got, wanted):
-        """Expects these lines in any order: none is torn, is missing or stands there twice."""
+        """Expects these lines in any order: none is torn, missing or duplicated."""
         self.same(sorted(got.splitlines()), sorted(wanted))
 
     def expect_whole_lines(self, script):
@@ -75,7 +75,7 @@ class SideBySide(Case):
         self.expect_lines(self.read("said"), wanted)
 
     def expect_together(self, runs, output, size, status, wanted, **how):
-        """Runs all of these words at once, with this output into one pipe, which is read so many bytes at a time."""
+        """Runs all of these words at once, with this output into one pipe, which is read this many bytes at a time."""
         reads, writes = os.pipe()
         self.addCleanup(os.close, reads)
         started = [self.start(words, **{output: writes}, **how) for words in runs]

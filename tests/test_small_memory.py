@@ -1,5 +1,5 @@
-"""Runs with hardly any memory, at every limit between one at which nothing starts and one at which all is there: a run
-does what it should, or says that memory is short; it never does something else."""
+"""Runs with hardly any memory, at every limit between one at which nothing starts and one at which there is enough: a
+run does what it should, or says that memory is short; it never does anything else."""
 
 import os
 
@@ -41,12 +41,12 @@ class SmallMemory(Case):
 
     @staticmethod
     def has_started(ran):
-        """Whether the program itself ran: else the shell or the system's loader of programs says why not, and the
+        """Whether the program itself ran: otherwise the shell or the system's loader of programs says why not, and the
         status isn't one of the program's."""
         return ran.status in (0, 1)
 
     def sweep(self, words, right, *wrongs):
-        """Tries every limit: what was answered is right, or one of the wrongs, or the program didn't start. The first
+        """Tries every limit: the result is right, or one of the wrongs, or the program didn't start. Returns the first
         limit from which on it was right."""
         first = None
         for limit in self.limits():
@@ -67,7 +67,7 @@ class SmallMemory(Case):
         self.assertNotEqual(many, right, "a short run needs as much memory as one of many words")
 
     def test_help_version_and_faults(self):
-        """The texts need no memory but that for the words, so they never answer that it is exhausted."""
+        """The texts need no memory besides that for the words, so they never report that it is exhausted."""
         self.sweep("sha256sum --help", Ran(0, as_bytes(help_text("sha256sum")), b""), Ran(1, b"", NOT_READ))
         self.sweep("sha256sum --version", Ran(0, b"sha256sum (digests), profile 2\n", b""), Ran(1, b"", NOT_READ))
         err = ["md5sum: unrecognized option '--foo'", "Try 'md5sum --help' for more information."]

@@ -104,7 +104,7 @@ class Outputs(Case):
 
 
 class EachByteTheLast(Case):
-    """An output that takes so many bytes and no more: a file of limited size."""
+    """An output that takes this many bytes and no more: a file of limited size."""
 
     def run_limited(self, words, size, limited, stdin=b""):
         """Runs with one output (`stdout` or `stderr`) in a file that takes `size` bytes; its signal is ignored."""
@@ -122,7 +122,7 @@ class EachByteTheLast(Case):
             self.assertEqual(self.run_limited("md5sum a e", size, "stdout"), (wanted, whole[:size]))
 
     def test_a_signal_that_is_not_ignored(self):
-        """It ends the program, without a word."""
+        """It ends the program, without a message."""
         with open(self.path("limited"), "wb") as file:
             ran = self.run_words("md5sum a e", stdout=file, preexec_fn=limits(file_size=10))
         self.assertEqual((ran, self.read("limited")), (Ran(-signal.SIGXFSZ, b"", b""), b"900150983c"))

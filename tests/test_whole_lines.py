@@ -171,8 +171,8 @@ class ShortWrites(Case):
             self.skipTest("the size of a pipe can't be set here")
 
     def taken_in_parts(self, words, output):
-        """Runs `digests` with this output into a small pipe. Whenever it waits inside a write it is halted and goes
-        on: the system then answers with what it took so far. The status, and all that came through."""
+        """Runs `digests` with this output into a small pipe. Whenever it waits inside a write, it is stopped and
+        continued: the system then returns what it took so far. Returns the status, and everything that came through."""
         reads, writes, size = self.small_pipe()
         started = self.start(words, **{"stdout": subprocess.DEVNULL, "stderr": subprocess.DEVNULL, output: writes})
         os.close(writes)
@@ -206,8 +206,8 @@ class ShortWrites(Case):
         self.assertEqual(status, 0)
 
     def test_a_pipe_that_does_not_wait(self):
-        """If the output has room for one more line and then answers that it has none, that line is there whole,
-        nothing of the next one does, and it is a write error."""
+        """If the output has room for one more line and then reports that it has none, that line is there whole, nothing
+        of the next one is, and it is a write error."""
         reads, writes, size = self.small_pipe()
         os.set_blocking(writes, False)
         line = as_bytes([f"{M}  a"])

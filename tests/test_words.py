@@ -105,7 +105,7 @@ class EachByte(Case):
     """Each byte but NUL, which no word can hold."""
 
     def test_by_the_rules(self):
-        """As a word, behind one dash and two, before and behind `--`, and as a length."""
+        """As a word, after one dash and two, before and after `--`, and as a length."""
         os.chdir(self.folder)
         self.addCleanup(os.chdir, harness.TOP)
         for number in range(1, 256):
@@ -118,7 +118,7 @@ class EachByte(Case):
                 self.assertEqual(self.run_words(["b2sum", *line], b"abc"), expected, line)
 
     def test_beside_gnu(self):
-        """Behind two dashes what isn't UTF-8 has GNU's lines."""
+        """After two dashes, what isn't UTF-8 gives GNU's lines."""
         if gnu("md5sum") is None:
             self.skipTest("there is no GNU md5sum here")
         for number in range(128, 256):

@@ -127,7 +127,7 @@ def shown(item):
 
 
 def size(believed):
-    """The lines of definitions, or of items of the code."""
+    """The number of lines of definitions, or of items of the code."""
     return sum(it.size if hasattr(it, "size") else len(re.findall(r"(?m)^.*\S", shown(it))) for it in believed)
 
 
@@ -138,8 +138,8 @@ def counted(claim):
 
 
 def text():
-    """A list of the parts, and these: of each crate, the highest first, the items of the code without their comments
-    and the definitions of its files, after what the files say of themselves; all that only once."""
+    """A list of the parts, and then the parts: for each crate, the highest first, the items of the code without their
+    comments and the definitions of its files, after what the files say of themselves; all of it only once."""
     all_claims = list(claims())
     several = of_several(it for claim in all_claims for definitions in claim.files.values() for it in definitions)
     for claim in all_claims:
@@ -184,8 +184,8 @@ def rows_of(page):
 
 
 def tables(page):
-    """The tables of the page, a row a file, as they have to be. What files say is taken from the page, and is `?` if it
-    isn't there."""
+    """The tables of the page as they should be, one row per file. What files say is taken from the page, and is `?` if
+    it isn't there."""
     lines = []
     for claim in list(claims())[:len(CLAIMS)]:
         where = "besides the above:" if lines else "in these files:"
@@ -203,7 +203,7 @@ def tables(page):
 
 
 def page():
-    """The text of the page, and the text that it has to have."""
+    """The text of the page, and the text that it should have."""
     written = text_of(PROMISES)
     begin, end = written.index(MARKS[0]) + len(MARKS[0]), written.index(MARKS[1])
     return written, written[:begin] + tables(written) + written[end:]

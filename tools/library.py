@@ -1,7 +1,7 @@
 #!/usr/bin/env python3
 """Writes the list of public calls in docs/LIBRARY.md from the comments and signatures in the sources: `library.py
-[--check]`. With --check nothing is written, and the status is 1 if the page isn't what would be written. What is
-`#[doc(hidden)]` is public for the crates here alone, and left out."""
+[--check]`. With --check nothing is written, and the status is 1 if the page isn't what would be written. Items marked
+`#[doc(hidden)]` are public only for the crates here, and are left out."""
 
 import os
 import re

@@ -1,4 +1,4 @@
-"""The tools, and the options of each as the program has them: its help names them, and it takes or refuses them."""
+"""The tools, and the options of each as the program has them: its help names them, and it accepts or refuses them."""
 
 import functools
 import re
@@ -45,7 +45,7 @@ class Option(NamedTuple):
 
 
 def takes(program, tool, *words):
-    """Whether the program takes these words, with which it reads nothing but an empty standard input."""
+    """Whether the program accepts these words, with which it reads nothing but an empty standard input."""
     ran = subprocess.run([program, tool, *words], stdin=subprocess.DEVNULL, stdout=subprocess.PIPE,
                          stderr=subprocess.PIPE, universal_newlines=True)
     return "\nTry '" not in ran.stderr
@@ -69,7 +69,7 @@ def options_of(program, tool):
 
 
 def cuts(option, options):
-    """The words that mean a long option: its name, and the beginnings of it that no other name has."""
+    """The words that mean a long option: its name, and those prefixes of it that no other name has."""
     others = [other.long for other in options if other != option]
     names = (option.long[:length] for length in range(1, len(option.long) + 1))
     return [f"--{name}" for name in names if name == option.long or not any(other.startswith(name) for other in others)]

@@ -25,7 +25,7 @@ def version():
 
 
 def typed(text):
-    """Marks all but the {names} as typed as it is."""
+    """Marks everything but the {names} as typed."""
     return re.sub(r"(?:^|(?<=\}))[^{}]+", lambda found: f"`{found[0]}`", text)
 
 
@@ -46,7 +46,7 @@ def page_title(name, own):
 
 
 def page_of(name, own, source, words, made):
-    """The page of that name by its text in pages/, with these words in the place of @such@, and with made parts."""
+    """The page of this name, from its text in pages/, with these words in place of @such@ and with generated parts."""
     sections, of_gnu = [], name in TOOLS and TOOLS[name].of_gnu
     called = {name, "GNU" if of_gnu else "ours", "own" if own and name != "anysum" else ""}
     text = re.sub(r"`(\w+)`\(1\)", lambda it: f"`{page_title(it[1], own)}`(1)", text_of("tools", "pages", source))
@@ -68,7 +68,7 @@ def taken(known, *where):
 
 
 def usage(call, known, *first):
-    """A line of the synopsis, cut if it is too long: these words, and these options without --help and the like."""
+    """A line of the synopsis, broken if it is too long: these words, and these options without --help and the like."""
     known = [option for option in known if not option.at_once]
     letters = "".join(option.short for option in known if option.short and not option.value)
     words = [f"[-{letters}]"] if letters else []
@@ -84,7 +84,7 @@ def usage(call, known, *first):
 
 
 def option_item(option, said):
-    """An option's names, and what is said of it."""
+    """An option's names, and what is said about it."""
     value = f" {{{option.value}}}" if option.value else ""
     short = f"`-{option.short}`{value}, " if option.short else ""
     long = f"`--{option.long}`" + (f"`=`{{{option.value}}}" if option.value else "")
@@ -120,7 +120,7 @@ def page_of_tool(tool, own, known, said):
 
 
 def page_of_program(own):
-    """The page of the program that has all tools in it."""
+    """The page of the program that contains all tools."""
     tools = [item(f"`{tool}`", f"{it.tag} ({it.standard}), {it.bits} bits{FEWER * (tool == 'b2sum')}" if it.tag else
                   "checks lists of all these", str(max(map(len, TOOLS)) + 3)) for tool, it in TOOLS.items()]
     uses = ["`digests` {TOOL} [{OPTION}]... [{FILE}]..."] + ["{TOOL} [{OPTION}]... [{FILE}]..."] * (not own)

@@ -1,6 +1,7 @@
-"""Reads the crates for the makers of pages: what the code (`.rt`) declares, with its comments and contracts, and what
-the definitions of `specs/` (`.antt`) say and name. What can't be read raises a ValueError, so that nothing is left out
-unseen. A name counts also where its text binds it: so what is reached may be too much, and never too little."""
+"""Reads the crates for the scripts that make pages: what the code (`.rt`) declares, with its comments and contracts,
+and what the definitions of `specs/` (`.antt`) say and name. What can't be read raises a ValueError, so that nothing is
+left out unnoticed. A name counts even where its text binds it, so what is reached may be too much, but never too
+little."""
 
 import re
 from typing import NamedTuple

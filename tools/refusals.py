@@ -1,5 +1,5 @@
 #!/usr/bin/env python3
-"""Makes the table of docs/TESTING.md anew: which clause refuses which wrong version.
+"""Regenerates the table of docs/TESTING.md: which clause refuses which wrong version.
 
     tools/refusals.py         calls `rt must-fail`
     tools/refusals.py FILE    takes a file with the output of that call, or of the gate"""
@@ -55,14 +55,15 @@ def labels_of(code, crate, function):
     own = [it for it in code.items if (it.crate, it.kind) == (crate, "fn") and not owner]
     its = [it for it in own + [member for block in blocks + traits for member in block.members] if it.name == name]
     labels = {label or "result" for it in its for label in re.findall(r"\bensures\b(?:\s+(\w+))?\s*\{", it.text)}
-    # Of a trait of std's no clause stands here.
+    # The clauses of a trait of std aren't here.
     return labels or {"result" for it in blocks if it.trait and not traits}
 
 
 def goal_of(name, whole, labels):
-    """What a goal shows: a clause, what a callee requires, what a loop or a type keeps, or a part of the function's
-    proof. None for a clause that isn't one of these. The goal of a clause that stands alone, or of the only one that
-    speaks of this return, doesn't name it: then it may be each. The end of a name that isn't whole may be cut."""
+    """What a goal shows: a clause, what a callee requires, the invariant of a loop or a type, or a part of the
+    function's proof. None for a clause that isn't one of these. The goal of a clause that stands alone, or of the only
+    one about this return, doesn't name it: then it may be any of them. The end of a name that isn't whole may be
+    cut."""
     if name.startswith("returns"):
         _, marked, label = name.rpartition("-clause-")
         if not marked:

@@ -1,4 +1,4 @@
-"""Manual pages in the macros of man(7). In a text `this` is typed as it is, and {this} is a name of others."""
+"""Manual pages in the macros of man(7). In a text `this` is typed as it is, and {this} is a placeholder."""
 
 import re
 import textwrap
@@ -14,8 +14,8 @@ def escaped(text):
 
 
 def inline(text):
-    """A text with its marks as changes of the font; hyphens are those of words, except in what is typed. Such a word is
-    never cut, which roff wants said where the word begins: inside it that sign would be a place to cut at."""
+    """A text with its marks as changes of the font; hyphens are those of words, except in what is typed. A typed word
+    is never broken, which roff must be told where the word begins: inside it that sign would be a place to break it."""
     parts = re.split(r"(`[^`]*`|\{[^}]*\})", text)
     for place, part in enumerate(parts):
         if part.startswith("`"):
@@ -34,12 +34,12 @@ def paragraph(text):
 
 
 def guarded(line):
-    """A line that isn't taken for a macro."""
+    """The line, guarded against being taken for a macro."""
     return "\\&" + line if line[:1] in (".", "'") else line
 
 
 def item(mark, text, width=""):
-    """What a list says of a mark."""
+    """An item of a list: a mark and its text."""
     return [f".TP {width}".rstrip(), inline(mark), *paragraph(text)]
 
 
@@ -48,7 +48,7 @@ def bullet(text):
 
 
 def shown(*commands):
-    """Lines as they are, moved to the right."""
+    """Lines as they are, indented."""
     return [".PP", ".RS 4", ".nf", *(guarded(escaped(command)) for command in commands), ".fi", ".RE"]
 
 

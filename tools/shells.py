@@ -1,5 +1,5 @@
-"""Completions for bash, fish and zsh, of the program and of the tools that are called by their own names. The shells'
-own text is in completions/; what the options and tools are takes the place of @NAME@ there."""
+"""Completions for bash, fish and zsh, of the program and of the tools that are called by their own names. The shell
+code is in completions/; the options and tools take the place of @NAME@ there."""
 
 import re
 
@@ -17,7 +17,7 @@ def quoted(text):
 
 
 def zsh_option(option):
-    """What _arguments gets of an option: what it keeps out, its words, its text and its value."""
+    """What _arguments gets for an option: what it excludes, its words, its text and its value."""
     text = f"[{option.help}]"
     if option.at_once:
         return quoted(f"(- *)--{option.long}{text}")

@@ -9,7 +9,7 @@ TOP = os.path.dirname(os.path.dirname(os.path.realpath(__file__)))
 
 
 def text_of(*names):
-    """The text of a file, whose path begins at the top."""
+    """The text of a file, whose path is relative to the top."""
     with open(os.path.join(TOP, *names), encoding="utf-8", newline="") as it:
         return it.read()
 

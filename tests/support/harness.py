@@ -124,7 +124,7 @@ def limits(file_size=None, memory=None):
 
 
 class TooLong(Exception):
-    """A test took longer than its limit. It is no fault of the system's, which tests expect in places."""
+    """A test took longer than its limit. It isn't an error of the system, which tests expect in places."""
 
 
 class Case(unittest.TestCase):
@@ -251,7 +251,7 @@ class Case(unittest.TestCase):
         return reads
 
     def shown(self, descriptor, text, seconds=SOON):
-        """Waits until a terminal or pipe has given so many bytes as the text has, and compares them."""
+        """Waits until a terminal or pipe has given as many bytes as the text has, and compares them."""
         wanted, got = as_bytes(text), b""
         stop = time.monotonic() + seconds
         while len(got) < len(wanted):
@@ -283,8 +283,8 @@ class Case(unittest.TestCase):
             time.sleep(0.001)
 
     def fed(self, name):
-        """A pipe with a name, opened for writing once the program has it open for reading. What the program does
-        before it comes to that name is then over, and nothing comes until the caller writes or closes."""
+        """A named pipe, opened for writing once the program has it open for reading. What the program does before it
+        comes to that name is then over, and nothing comes until the caller writes or closes."""
         opened = []
 
         def is_read():

@@ -1,4 +1,4 @@
-"""What the manual pages and README show to be typed, for the tests of it."""
+"""The commands that the manual pages and README show, for their tests."""
 
 import functools
 import re

@@ -1,8 +1,8 @@
-"""The rules of the tools, read once more: what hashing and checking write and answer, by Python's own means. The words
-that ask for it are read in `reference_words.py`.
+"""The rules of the tools, implemented a second time: what hashing and checking write and return, by Python's own means.
+The words that ask for it are read in `reference_words.py`.
 
-It follows the manual and the decisions in `docs/DECISIONS.md` and knows nothing of the crates: a rule that both
-misread, they would have to misread alike. Files are those of the current folder."""
+It follows the manual and the decisions in `docs/DECISIONS.md` and knows nothing of the crates: to agree on a misread
+rule, both would have to misread it in the same way. Files are those of the current folder."""
 
 import errno
 import os
@@ -28,7 +28,7 @@ REASONS = {number: os.strerror(number).encode() for number in range(1, 141)
 
 
 def digest(tag, size, content):
-    """The digest of so many bytes, by hashlib."""
+    """The digest of this many bytes, by hashlib."""
     return hasher(tag, content, size).digest()
 
 

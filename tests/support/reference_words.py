@@ -1,4 +1,5 @@
-"""The rules of the words, read once more: what a command line asks for, and what it writes and answers for that."""
+"""The rules of the words, implemented a second time: what a command line asks for, and what it then writes and
+returns."""
 
 import os
 import re

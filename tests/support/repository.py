@@ -1,5 +1,5 @@
-"""A small copy of the repository, in a folder with a space in its name, for tests of building and installing. In the
-place of the command `rt` is a script, so that nothing is proved."""
+"""A small copy of the repository, in a folder with a space in its name, for tests of building and installing. The
+command `rt` is replaced by a script, so that nothing is proved."""
 
 import os
 import shutil

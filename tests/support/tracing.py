@@ -1,4 +1,4 @@
-"""Runs under `strace`, which shows a program's calls to the system and can make them fail."""
+"""Runs under `strace`, which shows a program's system calls and can make them fail."""
 
 import collections
 import functools

@@ -76,7 +76,7 @@ work_vector h t last = let v = h ++ iv in
     let v = slice_set v 13 (v ! 13 ⊻ (t / 2 ^ 64)) in
     if last then slice_set v 14 (bit_not w64 (v ! 14)) else v
 
--- the compression function F (3.2): m has the sixteen words of the block, each of eight bytes, the lowest byte first
+-- the compression function F (3.2): m has the sixteen words of the block, each of eight bytes, little-endian
 unfoldable pub compress : List ℕ → ByteString → ℕ → Bool → List ℕ
 compress h block t last = let m = map (little_number 8) (first_chunks 8 16 block) in
     let v = fold (round m) (work_vector h t last) (range_with_len 0 12) in

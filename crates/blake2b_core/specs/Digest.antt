@@ -5,7 +5,7 @@ use Rattle.byteorder.specs.Endian.{little_bytes}
 use Rattle.blake2b_core.specs.Bytes.{ByteString}
 pub use Rattle.blake2b_core.specs.Compression.{◌!◌, ◌⊻◌, iv, compress}
 
--- how many whole blocks, of 128 bytes, precede the last block of the message m; the empty message has one block, too
+-- the number of whole 128-byte blocks before the last block of the message m; the empty message has one block, too
 abbrev pub before_last : ByteString → ℕ
 before_last m = (length m - 1) / 128
 
@@ -14,7 +14,7 @@ unfoldable pub hash_after : ℕ → ByteString → ℕ → List ℕ
 hash_after n m k = fold (λ h i. compress h (take 128 (drop (128 * i) m)) (128 * (i + 1)) false)
     (slice_set iv 0 (iv ! 0 ⊻ (0x01010000 ⊻ n))) (range_with_len 0 k)
 
--- the digest of the message m, of n bytes, 1 to 64: zeros fill up the last block
+-- the digest, of n bytes (1 to 64), of the message m: the last block is padded with zeros
 unfoldable pub blake2b : ℕ → ByteString → ByteString
 blake2b n m = let rest = drop (128 * before_last m) m in
     let last = rest ++ replicate (128 - length rest) 0 in

@@ -3,7 +3,8 @@ use Rattle.std.specs.Prelude.{◌≡◌, ℕ, ◌+◌, ◌<◌, ◌≤◌, [], �
 use Rattle.byteorder.specs.Endian.{big_bytes}
 use Rattle.blake2b_core.specs.{Bytes.ByteString, Digest.blake2b}
 
--- digests that are known: that of "abc" is the example of RFC 7693, and other programs compute the two of nothing
+-- known digests: that of "abc" is the example of RFC 7693, and the two of the empty message are what other programs
+-- compute
 pub record HasVectors : Type 0 where
   pub empty : blake2b 64 [] ≡ big_bytes 32 0x786a02f742015903c6c6fd852552d272912f4740e15847618a86e217f71f5419
       ++ big_bytes 32 0xd25e1031afee585313896444934eb04b903a685b1448b755d56f701afe9be2ce

@@ -6,7 +6,7 @@ ghost use Rattle.std.specs.Prelude.{◌≡◌, ℕ, ◌<◌};
 
 use std::simd::u64x4;
 
-// The exclusive ors of the lanes, rotated to the right.
+// The exclusive or of each pair of lanes, rotated to the right.
 #[inline(always)]
 #[tactic(auto, using(crate::proofs::ColumnLemmas::shifts_rotate))]
 fn xor_rotate(x: u64x4, y: u64x4, bits: u64) -> u64x4
@@ -18,7 +18,7 @@ fn xor_rotate(x: u64x4, y: u64x4, bits: u64) -> u64x4
     (x >> u64x4::splat(bits)) | (x << u64x4::splat(64 - bits))
 }
 
-// The sums of the lanes.
+// The sum of each pair of lanes.
 #[inline(always)]
 fn sums(x: u64x4, y: u64x4) -> u64x4
     ensures { (j : ℕ) → j < 4 → result ! j ≡ x ! j ⊞ y ! j }
@@ -43,7 +43,7 @@ pub(crate) fn mixed_columns(v: [u64x4; 4], x: u64x4, y: u64x4) -> [u64x4; 4]
     [a, b, c, d]
 }
 
-// The words of a row, rotated to the left by so many places.
+// The words of a row, rotated to the left by this many places.
 #[inline(always)]
 fn rotated_row(row: u64x4, places: usize) -> u64x4
     requires some { 0 < places }

@@ -39,7 +39,7 @@ fn schedule(m: Simd<u64, 16>, r: usize) -> Simd<u64, 16>
     }
 }
 
-// Round `r`: four columns, then four diagonals. Each takes two words, which are neighbours in its order.
+// Round `r`: four columns, then four diagonals. Each takes two words, which are adjacent in its order.
 #[inline(always)]
 fn round(m: Simd<u64, 16>, v: [u64x4; 4], r: usize) -> [u64x4; 4]
     ensures { words result ≡ round m (words v) r }
@@ -90,7 +90,7 @@ fn feed_forward(h: &mut [u64; 8], v: [u64x4; 4])
     *h = [h0, h1, h2, h3, h4, h5, h6, h7];
 }
 
-// The compression function F, which leaves the new state in the place of the old one.
+// The compression function F, which replaces the old state by the new one.
 pub(crate) fn advance(h: &mut [u64; 8], block: &[u8; 128], t: u128, last: bool)
     ensures { h.new ≡ compress h.old block.now t last }
 {
@@ -112,8 +112,8 @@ pub(crate) fn advance(h: &mut [u64; 8], block: &[u8; 128], t: u128, last: bool)
     feed_forward(h, v);
 }
 
-/// The compression function F (RFC 7693, 3.2): the state after `block`, from the state `h` before it. `t` is the number
-/// of message bytes up to the end of this block, and `last` says whether it is the last.
+/// Computes the compression function F (RFC 7693, 3.2): the state after `block`, from the state `h` before it. `t` is
+/// the number of message bytes up to the end of this block, and `last` says whether it is the last.
 pub fn compress(h: &[u64; 8], block: &[u8; 128], t: u128, last: bool) -> [u64; 8]
     ensures { result ≡ compress h.now block.now t last }
 {

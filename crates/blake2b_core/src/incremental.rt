@@ -5,15 +5,16 @@ use crate::compression::compress;
 use crate::one_shot::{BLOCK, followed_blocks, initial, padded_block, state_after};
 use crate::output::Output;
 
-/// A message that comes in pieces has fewer bytes than this. FIPS 180-4 defines SHA-1, SHA-224 and SHA-256 for messages
-/// of fewer than 2^64 bits, which is 2^61 bytes. BLAKE2b would allow more, but has the same bound here.
+/// The bound on messages that come in pieces: they have fewer bytes than this. FIPS 180-4 defines SHA-1, SHA-224 and
+/// SHA-256 for messages of fewer than 2^64 bits, which is 2^61 bytes. BLAKE2b would allow more, but has the same bound
+/// here.
 pub const LIMIT: u64 = 1 << 61;
 
 /// The message would have [`LIMIT`] bytes or more.
 #[derive(Clone, Copy, Debug, PartialEq, Eq)]
 pub struct MessageTooLong;
 
-/// A BLAKE2b digest in the making: the message so far, of which at most one block is buffered.
+/// Computes a BLAKE2b digest of a message that comes in pieces. At most one block of the message is buffered.
 #[derive(Debug, Drop)]
 pub struct Blake2b {
     // The state after the blocks before the buffered one.
@@ -33,7 +34,8 @@ impl Blake2b {
     ghost use Rattle.blake2b_core.specs.Digest.{blake2b};
     ghost use Rattle.blake2b_core.specs.refinement.Holding.{Holds, HoldsSoFar, digest_len, taken};
 
-    /// The state of the empty message, for a digest of `len` bytes. `None` if and only if `len` is 0 or over 64.
+    /// Creates the state of the empty message, for a digest of `len` bytes. Returns `None` if and only if `len` is 0 or
+    /// over 64.
     pub fn new(len: usize) -> Option<Blake2b>
         ensures none { IsNone result ↔ ((len ≡ 0) ⊎ (64 < len)) }
         ensures holds { IfSome result (λ s. Holds s []) }
@@ -51,21 +53,21 @@ impl Blake2b {
         })
     }
 
-    /// The digest's length in bytes, 1 to 64.
+    /// Returns the digest's length in bytes, 1 to 64.
     pub fn len(&self) -> usize
         ensures { result ≡ digest_len self.now }
     {
         self.len
     }
 
-    /// The length of the message so far, in bytes.
+    /// Returns the length of the message so far, in bytes.
     pub fn taken(&self) -> u64
         ensures { result ≡ taken self.now }
     {
         self.taken
     }
 
-    // Buffers bytes, after those that are buffered.
+    // Adds bytes to those that are buffered.
     fn buffer_bytes(&mut self, bytes: &[u8])
         requires room { self.old.buffer_len + length bytes.now ≤ 128 }
         requires fits { self.old.taken + length bytes.now < 2 ^ 61 }
@@ -82,7 +84,7 @@ impl Blake2b {
         self.taken += bytes.len() as u64;
     }
 
-    // If some bytes are buffered and the piece has more than there is room for: fills the buffer up and compresses it.
+    // If some bytes are buffered and the piece has more than fit in the buffer: fills the buffer and compresses it.
     // Returns how many bytes it took.
     fn fill(&mut self, piece: &[u8]) -> usize
         requires { self.old.taken + length piece.now < 2 ^ 61 }
@@ -129,10 +131,10 @@ impl Blake2b {
         BLOCK * blocks.len()
     }
 
-    /// Appends a piece to the message, which has to stay below `LIMIT` bytes.
+    /// Appends a piece to the message, which must stay below `LIMIT` bytes.
     pub fn update(&mut self, piece: &[u8])
         requires { taken self.old + length piece.now < 2 ^ 61 }
-        // For each message that the state may have taken: it has then taken that and the piece.
+        // If the state may have taken a message, it may then have taken that message and the piece.
         ensures holds { (m : ByteString) → Holds self.old m → Holds self.new (m ++ piece.now) }
         ensures taken { taken self.new ≡ taken self.old + length piece.now }
         ensures len { digest_len self.new ≡ digest_len self.old }
@@ -143,8 +145,8 @@ impl Blake2b {
         self.buffer_bytes(&rest[absorbed..]);
     }
 
-    /// Appends a piece to the message. `MessageTooLong` if and only if it would have `LIMIT` bytes or more. It is then
-    /// as before.
+    /// Appends a piece to the message. Returns `MessageTooLong` if and only if the message would have `LIMIT` bytes or
+    /// more. It is then unchanged.
     pub fn try_update(&mut self, piece: &[u8]) -> Result<(), MessageTooLong>
         ensures fits { IsOk result ↔ (taken self.old + length piece.now < 2 ^ 61) }
         ensures holds { OnOk result ((m : ByteString) → Holds self.old m
@@ -160,7 +162,7 @@ impl Blake2b {
         Ok(())
     }
 
-    /// The digest of the message (RFC 7693, 3.3).
+    /// Returns the digest of the message (RFC 7693, 3.3).
     pub fn finish(self) -> Output
         ensures digest { (m : ByteString) → Holds self m → result ≡ blake2b (digest_len self) m }
         ensures len { length result ≡ digest_len self }

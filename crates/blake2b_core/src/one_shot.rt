@@ -8,7 +8,7 @@ ghost use Rattle.std.specs.Simd.{first_chunks};
 use crate::compression::{IV, advance, compress};
 use crate::output::Output;
 
-// How many bytes a block has.
+// The number of bytes in a block.
 pub(crate) const BLOCK: usize = 128;
 
 // The state before the first block of a message whose digest has `len` bytes.
@@ -22,7 +22,8 @@ pub(crate) fn initial(len: usize) -> [u64; 8]
     h
 }
 
-// The whole blocks at the front of `bytes`, each of which a byte follows. So none of them is a message's last block.
+// The whole blocks at the front of `bytes` that are followed by at least one byte, so that none is a message's last
+// block.
 #[tactic(auto, using(std::proofs::lemmas::Grind::common_steps, crate::proofs::BlockLemmas::first_chunks_take))]
 pub(crate) fn followed_blocks(bytes: &[u8]) -> &[[u8; 128]]
     ensures value { result.now ≡ first_chunks 128 (before_last bytes.now) bytes.now }
@@ -47,7 +48,7 @@ pub(crate) fn state_after(mut h: [u64; 8], followed: &[[u8; 128]], before: u64) 
     h
 }
 
-// The bytes, and zeros that fill them up to a block.
+// The bytes, padded with zeros to a whole block.
 pub(crate) fn padded_block(bytes: &[u8]) -> [u8; 128]
     requires { length bytes.now ≤ 128 }
     ensures { result ≡ bytes.now ++ replicate (128 - length bytes.now) 0 }
@@ -57,8 +58,8 @@ pub(crate) fn padded_block(bytes: &[u8]) -> [u8; 128]
     block
 }
 
-/// The BLAKE2b digest of `len` bytes of a message, without a key (RFC 7693, 3.3). `None` if and only if `len` is 0 or
-/// over 64.
+/// Computes the BLAKE2b digest of `len` bytes of a message, without a key (RFC 7693, 3.3). Returns `None` if and only
+/// if `len` is 0 or over 64.
 pub fn blake2b(len: usize, message: &[u8]) -> Option<Output>
     ensures none { IsNone result ↔ ((len ≡ 0) ⊎ (64 < len)) }
     ensures digest { IfSome result (λ d. d ≡ blake2b len message.now) }

@@ -37,7 +37,7 @@ impl Output {
         Output { bytes, len }
     }
 
-    /// The digest's bytes, 1 to 64 of them.
+    /// Returns the digest's bytes, 1 to 64 of them.
     pub fn as_slice(&self) -> &[u8]
         ensures value { result.now ≡ self.now }
         ensures at_least { 1 ≤ length self.now }

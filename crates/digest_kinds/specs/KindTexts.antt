@@ -4,7 +4,7 @@ use Rattle.std.specs.{Char.is_ascii_digit, Result.result_ok, Str.Parse.digits_va
 use Rattle.digest_kinds.specs.Bytes.{ByteString, ◌>>=◌, after_while}
 use Rattle.digest_kinds.specs.Kinds.{Algo, Blake2b, KindValue, blake2b_of_bits, full_kind, full_len, has_len, tag}
 
--- the text that names a kind: the tag and, for a BLAKE2b digest that isn't full, its bits, as `BLAKE2b-256`
+-- the text that names a kind: the tag and, for a BLAKE2b digest that isn't full, its bits, as in `BLAKE2b-256`
 abbrev pub kind_text : KindValue → ByteString
 kind_text kind = tag kind.algo ++ (if kind.len == full_len kind.algo then [] else codes "-" ++ decimal (8 * kind.len))
 
@@ -13,7 +13,7 @@ abbrev pub IsWidth : KindValue → ByteString → Type 0
 IsWidth kind width = ((width ≡ []) × (kind.len ≡ full_len kind.algo))
     ⊎ ((width ≡ codes "-" ++ decimal (8 * kind.len)) × (kind.algo ≡ Blake2b) × IsTrue (has_len Blake2b kind.len))
 
--- a text names a kind: it is the tag and a width; so `BLAKE2b` and `BLAKE2b-512` name one kind
+-- a text names a kind: it is the tag and a width; so `BLAKE2b` and `BLAKE2b-512` name the same kind
 abbrev pub NamesKind : ByteString → KindValue → Type 0
 NamesKind text kind = (width : ByteString) × (text ≡ tag kind.algo ++ width) × IsWidth kind width
 

@@ -18,7 +18,7 @@ abbrev pub all_algos : List Algo
 all_algos = Md5 ∷ Sha1 ∷ Sha224 ∷ Sha256 ∷ Sha384 ∷ Sha512 ∷ Blake2b ∷ []
 
 -- an algorithm's tag in lines, the length in bytes of its full digest, and its digest of n bytes of a message; only
--- BLAKE2b has digests of more than one length, so only it reads n
+-- BLAKE2b has digests of more than one length, so only it uses n
 abbrev pub about : Algo → ByteString × ℕ × (ℕ → ByteString → ByteString)
 about Md5 = (codes "MD5", 16, λ n m. md5 m)
 about Sha1 = (codes "SHA1", 20, λ n m. sha1 m)
@@ -58,7 +58,7 @@ blake2b_kind n = record { algo = Blake2b; len = n }
 abbrev pub digest : KindValue → ByteString → ByteString
 digest k m = (about k.algo).2 k.len m
 
--- the kind of BLAKE2b digests of so many bits, 0 for 512; TooLong above 512, NotBytes if the bits are no whole bytes
+-- the kind of BLAKE2b digests of this many bits (0 means 512); TooLong above 512, NotBytes if they aren't whole bytes
 abbrev pub blake2b_of_bits : ℕ → Result KindValue LengthFault
 blake2b_of_bits bits = if nat_lt 512 bits then Err TooLong
     else if bits == 0 then Ok (full_kind Blake2b)

@@ -49,11 +49,12 @@ impl Algo {
         Algo::Blake2b,
     ];
 
-    /// The algorithm whose tag is a prefix of the bytes, `None` if there is none. No tag is a prefix of another, so
-    /// there is at most one ([`tags_apart`](crate::laws::tags_apart)).
+    /// Returns the algorithm whose tag is a prefix of the bytes, or `None` if there is none. No tag is a prefix of
+    /// another, so there is at most one ([`tags_apart`](crate::laws::tags_apart)).
     #[tactic(auto, using(crate::proofs::TagLemmas::found_tagged))]
     pub fn of_tag_prefix(bytes: &[u8]) -> Option<Algo>
-        // The algorithm that is returned is such a one, and any such one is returned.
+        // The returned algorithm's tag is a prefix of the bytes, and if an algorithm's tag is, that algorithm is
+        // returned.
         ensures tagged { IfSome result (λ a. BeginsWithTag bytes.now a) }
         ensures found { (a : Algo) → BeginsWithTag bytes.now a → result ≡ Some a }
     {
@@ -70,7 +71,7 @@ impl Algo {
             .find(|algo| bytes.starts_with(algo.tag().as_bytes()))
     }
 
-    /// The tag, by which a tagged line names the algorithm.
+    /// Returns the tag, by which a tagged line names the algorithm.
     pub fn tag(self) -> &'static str
         ensures { result.now ≡ tag self }
     {
@@ -111,7 +112,7 @@ impl FromStr for Algo {
 
     type Err = UnknownTag;
 
-    // The text is the tag of the algorithm that is returned, and of each tag its algorithm is returned.
+    // The text is the tag of the returned algorithm, and for each tag its algorithm is returned.
     ghost from_str_gives = { λ s r. IfOk r (λ a. s ≡ tag a) × ((a : Algo) → s ≡ tag a → r ≡ Ok a) };
 
     /// The algorithm with this tag.

@@ -45,8 +45,8 @@ impl Digest {
         }
     }
 
-    /// The digest that the digits spell, in either case; `None` if and only if the text isn't 2 to 128 hexadecimal
-    /// digits of an even count.
+    /// Returns the digest that the digits spell, in either case, or `None` if and only if the text isn't an even number
+    /// of hexadecimal digits, from 2 to 128.
     pub fn from_hex(text: &[u8]) -> Option<Digest>
         ensures value { IfSome result (λ digest. decode_of text.now ≡ Ok digest) }
         ensures found { IsSome result ↔ IsDigits text.now }
@@ -60,7 +60,7 @@ impl Digest {
         Some(Digest { bytes, len })
     }
 
-    /// The digest's bytes, 1 to 64 of them.
+    /// Returns the digest's bytes, 1 to 64 of them.
     pub fn as_slice(&self) -> &[u8]
         ensures value { result.now ≡ self.now }
         ensures at_least { 1 ≤ length self.now }
@@ -69,14 +69,15 @@ impl Digest {
         &self.bytes[..self.len]
     }
 
-    /// Whether the two digests have the same bytes.
+    /// Returns whether the two digests have the same bytes.
     pub fn same(&self, other: &Digest) -> bool
         ensures { IsTrue result ↔ (self.now ≡ other.now) }
     {
         self == other
     }
 
-    /// Writes the digits, in lower case, to the front of `out`, and returns their number. The rest of `out` stays.
+    /// Writes the digits, in lower case, to the front of `out`, and returns their number. The rest of `out` is
+    /// unchanged.
     pub fn hex_into(&self, out: &mut [u8; 128]) -> usize
         ensures number { result ≡ 2 * length self.now }
         ensures at_most { result ≤ 128 }
@@ -89,7 +90,7 @@ impl Digest {
     }
 }
 
-/// A text that isn't 2 to 128 hexadecimal digits of an even count.
+/// The text isn't an even number of hexadecimal digits, from 2 to 128.
 #[derive(Clone, Copy, Debug, PartialEq, Eq, Error)]
 #[error("not 2 to 128 hexadecimal digits of an even count")]
 pub struct NotDigits;
@@ -100,7 +101,7 @@ impl FromStr for Digest {
     ghost from_str_gives = { λ s r. IfOk r (λ digest. decode_of s ≡ Ok digest)
         × (IsOk r ↔ IsDigits s) };
 
-    /// The digest that the digits spell, as [`Digest::from_hex`].
+    /// Returns the digest that the digits spell, as [`Digest::from_hex`] does.
     fn from_str(s: &str) -> Result<Digest, NotDigits> {
         Digest::from_hex(s.as_bytes()).ok_or(NotDigits)
     }
@@ -155,7 +156,7 @@ impl Ord for Digest {
 
     ghost matches_eq = { texts_ties };
 
-    /// Compares the bytes, the first before the others.
+    /// Compares the bytes lexicographically.
     fn cmp(&self, other: &Digest) -> Ordering {
         self.as_slice().cmp(other.as_slice())
     }
@@ -178,7 +179,7 @@ impl Hash for Digest {
 impl AsSlice<u8> for Digest {
     ghost items = { λ d. d };
 
-    /// The digest's bytes. This is the kit's `AsRef<[u8]>`.
+    /// Returns the digest's bytes. This is the kit's `AsRef<[u8]>`.
     fn as_slice(&self) -> &[u8] {
         Digest::as_slice(self)
     }

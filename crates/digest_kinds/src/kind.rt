@@ -10,7 +10,7 @@ use crate::hashers::hasher::Hasher;
 use std::marker::Model;
 use thiserror::Error;
 
-/// Why no BLAKE2b digest has so many bits: `TooLong` if they are more than 512, and otherwise `NotBytes` if they are no
+/// Why no BLAKE2b digest has this many bits: `TooLong` above 512, and otherwise `NotBytes` if the number isn't a
 /// multiple of 8.
 #[derive(Clone, Copy, Debug, PartialEq, Eq, Error)]
 pub enum LengthFault {
@@ -41,7 +41,7 @@ impl Model for Kind {
 }
 
 impl Kind {
-    /// The algorithm with its full digest.
+    /// Returns the algorithm with its full digest.
     pub fn of(algo: Algo) -> Kind
         ensures { result ≡ full_kind algo }
     {
@@ -51,8 +51,8 @@ impl Kind {
         }
     }
 
-    /// BLAKE2b with a digest of so many bits (RFC 7693, 2.1), 0 for the full 512. `TooLong` if they are more than 512,
-    /// and otherwise `NotBytes` if they are no multiple of 8.
+    /// Returns BLAKE2b with a digest of this many bits (RFC 7693, 2.1); 0 means the full 512. Fails with `TooLong`
+    /// above 512, and otherwise with `NotBytes` if the number isn't a multiple of 8.
     pub fn blake2b_bits(bits: u64) -> Result<Kind, LengthFault>
         ensures { result ≡ blake2b_of_bits bits }
     {
@@ -68,7 +68,7 @@ impl Kind {
         Ok(Kind::blake2b((bits / 8) as usize))
     }
 
-    /// BLAKE2b with a digest of `len` bytes. `None` if and only if `len` is 0 or over 64.
+    /// Returns BLAKE2b with a digest of `len` bytes, or `None` if and only if `len` is 0 or over 64.
     pub fn blake2b_bytes(len: usize) -> Option<Kind>
         ensures none { IsNone result ↔ ((len ≡ 0) ⊎ (64 < len)) }
         ensures value { IfSome result (λ kind. kind ≡ blake2b_kind len) }
@@ -98,7 +98,7 @@ impl Kind {
         self.algo
     }
 
-    /// The digest of a message, which has fewer than [`LIMIT`](crate::LIMIT) bytes.
+    /// Computes the digest of a message, which must have fewer than [`LIMIT`](crate::LIMIT) bytes.
     pub fn digest(self, message: &[u8]) -> Digest
         requires { length message.now < 2 ^ 61 }
         ensures { result ≡ digest self message.now }
@@ -108,21 +108,21 @@ impl Kind {
         hasher.finish()
     }
 
-    /// The algorithm's tag, by which a tagged line names it.
+    /// Returns the algorithm's tag, by which a tagged line names it.
     pub fn tag(self) -> &'static str
         ensures { result.now ≡ tag self.algo }
     {
         self.algo.tag()
     }
 
-    /// The number of bits of the digest.
+    /// Returns the number of bits of the digest.
     pub fn bits(self) -> u64
         ensures { result ≡ 8 * self.len }
     {
         8 * self.len as u64
     }
 
-    /// The number of bytes of the digest, from 1 to 64.
+    /// Returns the number of bytes of the digest, from 1 to 64.
     pub fn len(self) -> usize
         ensures value { result ≡ self.len }
         ensures at_least { 1 ≤ result }

@@ -1,4 +1,4 @@
-//! The texts that name kinds, as `SHA256` and `BLAKE2b-256`.
+//! The texts that name kinds, such as `SHA256` and `BLAKE2b-256`.
 
 ghost use Rattle.digest_kinds.specs.Bytes.{after_while};
 ghost use Rattle.digest_kinds.specs.KindTexts.{NamesKind, kind_and_rest, kind_of_digits, kind_text, short_number};
@@ -16,7 +16,7 @@ use std::str::FromStr;
 use std::{fmt, str};
 use thiserror::Error;
 
-/// A kind that begins some bytes, and what follows it.
+/// A kind whose text some bytes begin with, and what follows that text.
 #[derive(Clone, Copy, Debug)]
 pub struct KindPrefix<'a> {
     /// The kind.
@@ -26,8 +26,8 @@ pub struct KindPrefix<'a> {
 }
 
 impl Kind {
-    /// The text that names the kind: the algorithm's tag and, for a BLAKE2b kind of fewer than 64 bytes, a `-` and its
-    /// bits, as `BLAKE2b-256`. It may be in `buffer`, whose old content doesn't matter.
+    /// Returns the text that names the kind: the algorithm's tag and, for a BLAKE2b kind of fewer than 64 bytes, a `-`
+    /// and its bits, as in `BLAKE2b-256`. It may be in `buffer`, whose previous content doesn't matter.
     #[tactic(auto, using(crate::proofs::KindTextLemmas::length_bits))]
     pub fn text_into(self, buffer: &mut [u8; 11]) -> &str
         ensures { result.now ≡ kind_text self }
@@ -42,8 +42,9 @@ impl Kind {
         text
     }
 
-    /// The kind whose text begins the bytes, and what follows that text. The bytes begin with the algorithm's tag.
-    /// `None` if and only if a `-` follows BLAKE2b's tag, and no number of bits of a BLAKE2b digest follows the `-`.
+    /// Returns the kind whose text the bytes begin with, and what follows that text. The bytes must begin with the
+    /// algorithm's tag. Returns `None` if and only if a `-` follows BLAKE2b's tag, and no number of bits of a BLAKE2b
+    /// digest follows the `-`.
     pub fn of_tag_prefix(algo: Algo, bytes: &[u8]) -> Option<KindPrefix<'_>>
         requires { BeginsWithTag bytes.now algo }
         ensures { option_map (λ w. (w.kind, w.rest.now)) result
@@ -74,7 +75,7 @@ fn put_bits(bits: u64, buffer: &mut [u8; 11]) -> usize
     end
 }
 
-// The same for BLAKE2b, if the bytes are what follows its tag.
+// As `Kind::of_tag_prefix` for BLAKE2b, where the bytes are what follows its tag.
 fn blake2b_prefix(bytes: &[u8]) -> Option<KindPrefix<'_>>
     ensures { option_map (λ w. (w.kind, w.rest.now)) result ≡ kind_and_rest Algo.Blake2b bytes.now }
 {
@@ -112,7 +113,7 @@ fn count_digits(bytes: &[u8]) -> usize
         .count()
 }
 
-// BLAKE2b with as many bits as the digits write, a multiple of 8 up to 512.
+// BLAKE2b with the number of bits that the digits write, a multiple of 8 up to 512.
 fn kind_of_digits(digits: &[u8]) -> Option<Kind>
     requires { AllPass is_ascii_digit digits.now }
     ensures { result ≡ kind_of_digits digits.now }
@@ -144,13 +145,13 @@ pub struct UnknownKind;
 impl FromStr for Kind {
     type Err = UnknownKind;
 
-    // The text names the kind that is returned, and of each text that names a kind that kind is returned.
+    // The text names the returned kind, and for each text that names a kind, that kind is returned.
     ghost from_str_gives = { λ s r. IfOk r (NamesKind s)
         × ((kind : KindValue) → NamesKind s kind → r ≡ Ok kind) };
 
-    /// The kind that the text names: a tag as `SHA256`, or BLAKE2b with its bits, as `BLAKE2b-256`. `BLAKE2b` and
-    /// `BLAKE2b-512` name the same kind, as in tagged lines. So the text that `Display` writes gives the kind back
-    /// ([`texts_name_kinds`](crate::laws::texts_name_kinds)).
+    /// Returns the kind that the text names: a tag such as `SHA256`, or BLAKE2b with its bits, as in `BLAKE2b-256`.
+    /// `BLAKE2b` and `BLAKE2b-512` name the same kind, as in tagged lines. Parsing the text that `Display` writes gives
+    /// the kind back ([`texts_name_kinds`](crate::laws::texts_name_kinds)).
     fn from_str(s: &str) -> Result<Kind, UnknownKind> {
         let Some(algo) = Algo::of_tag_prefix(s.as_bytes()) else {
             return Err(UnknownKind);

@@ -1,11 +1,11 @@
 //! Digest algorithms, their digests, and hashers that compute them.
 //!
 //! A [`Kind`] is an algorithm with its digest's length. A [`Hasher`] takes a message piece by piece and returns its
-//! [`Digest`]. For BLAKE2b, without a key, the definition of that is `blake2b_core`'s, after RFC 7693. For MD5
-//! (RFC 1321), SHA-1 and SHA-2 (FIPS 180-4) it is the kit's, and published vectors test that it is the standard's.
+//! [`Digest`]. For BLAKE2b, without a key, the digest is defined in `blake2b_core`, after RFC 7693. For MD5 (RFC 1321),
+//! SHA-1 and SHA-2 (FIPS 180-4) the definition is the kit's, and published vectors test that it is the standard's.
 //!
-//! What all other crates say of algorithms and digests belongs here, and nothing of lines, files or tools. The crate
-//! calls `blake2b_core`, the kit's digests, `hex`, `itoa` and `std`, and it takes no memory.
+//! Everything that the other crates say about algorithms and digests belongs here, and nothing about lines, files or
+//! tools. The crate calls `blake2b_core`, the kit's digests, `hex`, `itoa` and `std`, and it takes no memory.
 //!
 //! ```rust
 //! let kind: Kind = "BLAKE2b-256".parse()?;

@@ -32,7 +32,7 @@ fn in_chunks(rt: &impl Abort, message: &[u8], size: usize) -> Output {
     state.finish()
 }
 
-// In two pieces, with an empty one before them and one behind.
+// The digest of a message in two pieces, with an empty piece before them and one after them.
 fn in_two(rt: &impl Abort, message: &[u8], cut: usize) -> Output {
     let (first, second) = message.split_at(cut.min(message.len()));
     let mut state = Blake2b::new(64).expect(rt, "a length");
@@ -71,7 +71,7 @@ fn pieces(rt: HostRuntime) {
     }
 }
 
-// The word at `x`, which then goes one step on along a sequence that visits every word.
+// The word at `x`, which then advances along a sequence that visits every word.
 fn next_word(x: &mut u64) -> u64 {
     let word = *x;
     *x = word

@@ -1,4 +1,4 @@
--- What generation wrote is good: a later check of it reports OK for each file, if the files stay as they were.
+-- What generation wrote is good: a later check of it reports OK for each file, if the files remain unchanged.
 use Rattle.std.specs.Prelude.{ℕ, ◌≡◌, ◌<◌, false, List, [], ◌∷◌, ◌++◌, IsTrue, length, map, flat_map, codes, if◌then◌else◌, All, Ok, option_to_list}
 use Rattle.digest_kinds.specs.Kinds.{has_len}
 use Rattle.sum_engine.specs.declared.{check.judge.Verdict.TheVariants.Right, settings.Settings.Settings, settings.CheckSettings.CheckSettings}
@@ -11,7 +11,7 @@ use Rattle.sum_words.specs.{Tools.algos_of, Tools.Algos, Items.ByteString, Items
 use Rattle.digests.specs.Meaning.{operands_behavior, meaning, status_of}
 use Rattle.sum_words.specs.declared.parsing.options.Flag.TheVariants as flags
 
--- a name that isn't empty, holds no NUL and isn't `-`, and whose file is whole and not too long
+-- a name can be listed: it isn't empty, has no NUL and isn't `-`, and its file is whole and not too long
 pub record IsListable (answer : ByteString → Answer) (name : ByteString) : Type 0 where
   pub some : 0 < length name
   pub no_nul : All (λ b. 0 < b) name
@@ -26,12 +26,12 @@ pub record GenerationRun : Type 0 where
   pub tool : ByteString
   pub names : List ByteString
 
--- what a run writes on standard output in a world
+-- the text that a run writes to standard output in a world
 abbrev pub generation_output : World → GenerationRun → ByteString
 generation_output w g = out_text (operands_behavior (generate_behavior g.settings g.tool) w g.names)
 
 -- what a run wrote of these files can be checked later: its lines end with newlines, and the checking tool reads them;
--- its files can be listed, and are then the same
+-- its files can be listed, and are the same later
 pub record IsCheckable (algos : Algos) (files later : ByteString → Answer) (g : GenerationRun) : Type 0 where
   pub newlines : g.settings.style.zero ≡ false
   pub has : IsTrue (has_len g.settings.kind.algo g.settings.kind.len)
@@ -49,7 +49,7 @@ check_options check = flags.Check ∷ option_to_list (report_flag check.report)
     ++ (if check.strict then flags.Strict ∷ [] else [])
     ++ (if check.ignore_missing then flags.IgnoreMissing ∷ [] else [])
 
--- the words of such a check of one manifest, as `--check --quiet -- SUMS`
+-- the words of a check of one manifest with these settings, as in `--check --quiet -- SUMS`
 abbrev pub check_words : CheckSettings → ByteString → List ByteString
 check_words check manifest =
     map (λ flag. codes "--" ++ full_name flag) (check_options check) ++ codes "--" ∷ manifest ∷ []
@@ -60,7 +60,7 @@ pub record ReportsAllOk (report : Report) (run : Behavior) (names : List ByteStr
   pub out : out_text run ≡ flat_map (out_by own_profile report Right) names
   pub err : err_text run ≡ []
 
--- what these runs wrote, one after another, for one name or more is good as a manifest, if it isn't too long
+-- what these runs wrote, one after another, for at least one name, is good as a manifest if it isn't too long
 abbrev pub AreGood : List GenerationRun → Type 0
 AreGood gs = let names = flat_map (λ g. g.names) gs in
     (t : Tool) (check : CheckSettings) (manifest : ByteString) (files later : ByteString → Answer) (w v : World)

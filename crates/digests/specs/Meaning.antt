@@ -28,7 +28,7 @@ request_behavior t (Ok (Check s names)) w = operands_behavior (check_behavior s 
 abbrev pub meaning : Tool → List ByteString → World → Behavior
 meaning t words w = request_behavior t (request t words) w
 
--- the status: 0 if all is good, else 1
+-- the status: 0 if all is good, otherwise 1
 abbrev pub status_of : Bool → ℕ
 status_of good = if good then 0 else 1
 

@@ -11,7 +11,7 @@ use Rattle.sum_words.specs.declared.tool.Tool.{Tool}
 use Rattle.sum_words.specs.Texts.{Stop, stop_line, unknown_tool_line, not_read_line}
 use Rattle.digests.specs.Meaning.{meaning, status_of}
 
--- the line for a stop, if there is a tool, whose name it begins with
+-- the line for a stop, which begins with the tool's name; no line if there is no tool
 abbrev pub tool_stop_line : Option Tool → Stop → ByteString
 tool_stop_line None stop = []
 tool_stop_line (Some tool) stop = stop_line tool stop

@@ -14,13 +14,13 @@ use sum_lines::Sink;
 use sum_sources::Source;
 use sum_words::{Arguments, CommandLine, NotRead, read_command_line};
 
-/// Does what the program was called for, and returns its exit status. If the program was called by a tool's name, as by
-/// a link, it is that tool. If not, the first word names the tool. If both outputs are flushed at the call, they are
-/// flushed at the end.
+/// Does what the program was called for, and returns its exit status. If the program was called by a tool's name, as
+/// through a link, it is that tool; otherwise the first word names the tool. If both outputs are flushed at the call,
+/// they are flushed at the end.
 ///
 /// If no tool is named, it writes `digests: unknown tool` to standard error, and the status is 1. If memory is needed,
-/// for an argument after the tool's place or for one longer than 4,096 bytes, it may write `digests: words not read` in
-/// place of all else, and the status is 1. After a stop of a tool's run, or if the last flush fails, it writes
+/// for an argument after the tool's place or for one longer than 4,096 bytes, it may write `digests: words not read`
+/// and nothing else, and the status is 1. After a stop of a tool's run, or if the last flush fails, it writes
 /// `TOOL: memory exhausted` or `TOOL: write error`, or a prefix of that if standard error fails, and the status is 1.
 pub fn command<A: Allocator + Copy, G: Arguments, S: Source, O: Sink, E: Sink>(
     alloc: A,
@@ -33,9 +33,9 @@ pub fn command<A: Allocator + Copy, G: Arguments, S: Source, O: Sink, E: Sink>(
     ensures behavior { ProgramPerforms (G.state arguments.new) streams.old streams.new result }
     ensures told { (G.state arguments.new).told ≡ (G.state arguments.old).told }
     ensures flushed { IsFlushed streams.old.outputs → IsFlushed streams.new.outputs }
-    // One way: status 0 only if no call of either output failed.
+    // The status is 0 only if no call of either output failed. The converse isn't stated.
     ensures no_failures { result ≡ 0 → failures streams.new.outputs ≡ failures streams.old.outputs }
-    // Status 0 only if all that was opened was read to its end; and never further.
+    // The status is 0 only if everything that was opened was read to its end; nothing was read further.
     ensures reads { ReadsToEndIf (result ≡ 0) streams.old.inputs streams.new.inputs }
 {
     match read_command_line(alloc, arguments) {

@@ -10,9 +10,8 @@ use sum_engine::{Outputs, Stop};
 use sum_lines::{Buffered, Sink, SinkFault};
 use sum_words::Tool;
 
-/// Ends a run with this outcome. It flushes both outputs once more, unless the run stopped. After a stop or a flush
-/// that failed it writes the line for a stop. Returns the exit status: that of the run, or 1 after a stop or such a
-/// flush.
+/// Ends a run with this outcome. It flushes both outputs once more, unless the run stopped. After a stop or a failed
+/// flush, it writes the line for a stop. Returns the exit status: that of the run, or 1 after a stop or a failed flush.
 pub(crate) fn finish_run<O: Sink, E: Sink>(
     tool: Option<Tool>,
     outcome: Result<u8, Stop>,

@@ -11,7 +11,7 @@ use sum_sources::Source;
 use sum_words::Arguments;
 use sum_words::laws::some_list_agrees;
 
-/// The headline for files in memory, of whatever types. Say that `run` left these streams, and that before it both
+/// The headline for files in memory, of any types. Suppose that `run` left these streams, and that before it both
 /// outputs were flushed, and all answers of the source are known. Then the outputs got exactly the bytes, and `run`
 /// returned exactly the status, that the words mean by these answers; or it stopped, and a prefix of the run happened.
 pub fn told_performs<S: Source, O: Sink, E: Sink>(streams: &Streams<Reader<S>, Outputs<O, E>>)
@@ -32,19 +32,19 @@ pub fn told_program_performs<G: Arguments, S: Source, O: Sink, E: Sink>(
     told_agree(&streams.inputs);
 }
 
-/// A tool accepts what it wrote. Say that `md5sum a b` wrote the manifest `SUMS`. Then `md5sum --check -- SUMS` ends
-/// with status 0, and writes `a: OK` and `b: OK` and nothing else. Other settings of checking may precede `--`: with
-/// `--quiet` or `--status` nothing is written.
+/// A tool accepts what it wrote. Suppose that `md5sum a b` wrote the manifest `SUMS`. Then `md5sum --check -- SUMS`
+/// ends with status 0, and writes `a: OK` and `b: OK` and nothing else. Other settings of checking may precede `--`:
+/// with `--quiet` or `--status` nothing is written.
 ///
-/// The manifest was written for one name or more and without `-z`. No name is empty, is `-` or contains a NUL. Each
-/// file could be read to its end, has fewer than 2^61 bytes and stays as it was. The manifest has fewer than 2^61
-/// bytes, too. `anysum` accepts it as the tool does, if its lines are tagged.
+/// The premises: the manifest was written for at least one name and without `-z`. No name is empty, is `-` or contains
+/// a NUL. Each file could be read to its end, has fewer than 2^61 bytes and remains unchanged. The manifest has fewer
+/// than 2^61 bytes, too. `anysum` accepts it as the tool does, if its lines are tagged.
 pub fn written_is_good()
     ensures { (g : GenerationRun) → AreGood (g ∷ []) }
 {}
 
-/// Several such manifests of one tool can be joined to one of fewer than 2^61 bytes, and the tool accepts it, too.
-/// Tagged ones of any tools can be joined for `anysum`.
+/// Several such manifests of one tool can be joined into one of fewer than 2^61 bytes, and the tool accepts it, too.
+/// Tagged manifests of any tools can be joined for `anysum`.
 pub fn joined_is_good()
     ensures { (gs : List GenerationRun) → AreGood gs }
 {}

@@ -1,4 +1,4 @@
-//! Messages: each text that the program writes beside lines and reports, written to an output and flushed.
+//! Messages: the texts that the program writes besides lines and reports, each written to an output and flushed.
 ghost use Rattle.digests.specs.refinement.Messages.{message_text};
 ghost use Rattle.std.specs.Prelude.{[]};
 ghost use Rattle.sum_engine.specs.refinement.FlushedWrites.{WritesAndFlushes, WritesAndFlushesBoth};
@@ -10,7 +10,7 @@ use sum_words::{
     Tool, WordFault, put_fault, put_help, put_not_read, put_stop, put_unknown, put_version,
 };
 
-/// A text that isn't of one operand.
+/// A text that doesn't belong to one operand.
 #[derive(Clone, Copy)]
 pub(crate) enum Message<'a> {
     /// The two lines of a fault in the words.
@@ -25,8 +25,8 @@ pub(crate) enum Message<'a> {
     Stop(Tool, Stop),
 }
 
-/// Writes a message to standard error and flushes it. If both outputs are flushed before, exactly the text is written;
-/// if that fails, a prefix of it.
+/// Writes a message to standard error and flushes it. If both outputs are flushed before, exactly the text is written
+/// or, if that fails, a prefix of it.
 pub(crate) fn put_err_message<O: Sink, E: Sink>(
     outputs: &mut Outputs<O, E>,
     text: Message,

@@ -16,12 +16,12 @@ use sum_lines::Sink;
 use sum_sources::Source;
 use sum_words::{Operands, Request, Tool, WordFault, Words, read_words};
 
-/// Runs a tool on its words, and returns the status: 0 if all is good, else 1 (coreutils manual, "md5sum invocation").
-/// If both outputs are flushed at the call, they are flushed when it returns.
+/// Runs a tool on its words, and returns the status: 0 if all is good, otherwise 1 (coreutils manual, "md5sum
+/// invocation"). If both outputs are flushed at the call, they are flushed when it returns.
 ///
-/// `Stop::Memory` only if the source was refused memory, or bytes of a manifest were still to come. The first steps of
-/// the behavior happened: those before an operand or, in checking, before a line of a manifest or its end.
-/// `Stop::Write` only if an output failed. A prefix of the trace happened.
+/// Returns `Stop::Memory` only if the source was refused memory, or bytes of a manifest were still to come. The first
+/// steps of the behavior then happened: those before an operand or, in checking, before a line of a manifest or its
+/// end. Returns `Stop::Write` only if an output failed. A prefix of the trace then happened.
 pub fn run<A: Allocator + Copy, S: Source, O: Sink, E: Sink>(
     alloc: A,
     tool: Tool,
@@ -31,11 +31,11 @@ pub fn run<A: Allocator + Copy, S: Source, O: Sink, E: Sink>(
     // If both outputs are flushed: the behavior that the words mean, in every world that agrees with what was read.
     ensures behavior { Performs (meaning tool words.now) status_of streams.old streams.new result }
     ensures flushed { IsFlushed streams.old.outputs → IsFlushed streams.new.outputs }
-    // Refusals rise only as the request allows.
+    // The count of refusals rises only as the request allows.
     ensures refusals { RefusalsMatch (allowed_refusals (request tool words.now)) streams.old.inputs
         streams.new.inputs result }
     ensures failures { FailuresMatch streams.old.outputs streams.new.outputs result }
-    // Status 0 only if all that was opened was read to its end; and never further.
+    // The status is 0 only if everything that was opened was read to its end; nothing was read further.
     ensures reads { ReadsToEndIf (result ≡ Ok 0) streams.old.inputs streams.new.inputs }
 {
     run_request(alloc, tool, read_words(tool, words), streams)

@@ -1,4 +1,4 @@
-//! Standard input as the program is started with it.
+//! The standard input that the program is started with.
 ghost use Rattle.std.specs.Prelude.{◌≡◌, ◌⊎◌, pos};
 ghost use Rattle.sum_sources.specs.Logs.{no_reads};
 ghost use Rattle.sum_sources.specs.declared.fault.Ending.TheVariants.{Broken};
@@ -11,8 +11,8 @@ use std::io::{self, Read};
 use std::os::fd::AsFd;
 use sum_sources::{EBADF, FromRead, Stdin};
 
-/// Standard input, before its first read. This function has to notice a closed one before any file is opened: the
-/// system would give its number to the next file, and that file's bytes would be read as standard input. The contract
+/// Standard input, before its first read. This function must notice a closed one before any file is opened: the system
+/// would give its descriptor to the next file, and that file's bytes would be read as standard input. The contract
 /// doesn't say which of the two it returns.
 pub fn standard_input<I: Read + AsFd + Drop>(stdin: I) -> Stdin<FromRead<I>>
     ensures { (result ≡ Untaken (Closed (Broken (Os (pos 9))) Unfinished))

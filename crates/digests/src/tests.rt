@@ -68,7 +68,7 @@ fn spell(alloc: Global, text: &str) -> Result<String, Fail> {
     Ok(all)
 }
 
-// A text so many times. Without a contract, so that no proof computes it.
+// A text, repeated this many times. Without a contract, so that no proof computes it.
 fn repeat(alloc: Global, text: &str, count: usize) -> Result<String, Fail> {
     Ok(text.repeat(alloc, count)?)
 }
@@ -134,8 +134,8 @@ fn stage_until<'a, A: Allocator + Copy, const N: usize>(
     )
 }
 
-// Runs a line, whose first word is the tool and whose words are parted by single spaces. `None` if there is no room for
-// the words. Without a contract, so that the proofs of its callers are spared that of `run`.
+// Runs a line, whose first word is the tool and whose words are separated by single spaces. Returns `None` if there is
+// no room for the words. Without a contract, so that the proofs of its callers are spared that of `run`.
 fn run_line<A: Allocator + Copy, const N: usize>(
     alloc: A,
     line: &str,

@@ -1,4 +1,4 @@
-//! Files of which bytes follow a fault or an end, and a name that is opened again as another file.
+//! Files with more bytes after a fault or an end, and a name that is another file when it is opened again.
 use crate::streams::{Known, assert_wrote, check, generate, known, plain};
 use std::alloc::Global;
 use std::process::Abort;

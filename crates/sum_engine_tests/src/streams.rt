@@ -37,7 +37,7 @@ pub(crate) const ALL: &str = "900150983cd24fb0d6963f7d28e17f72  a\n\
     900150983cd24fb0d6963f7d28e17f72 *x\n\
     900150983cd24fb0d6963f7d28e17f72  e\n";
 
-/// What its check has written after so many steps.
+/// What its check has written after this many steps.
 pub(crate) const AFTER: [(&str, &str); 7] = [
     ("", ""),
     ("a: OK\n", ""),

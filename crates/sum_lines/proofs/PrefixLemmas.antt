@@ -37,7 +37,7 @@ pub opened-some : (s inner : List ℕ) → option_or (strip_prefix (32 ∷ 40 �
     → (gap : Bool) × (s ≡ opening gap inner)
 opened-some s inner h = grind arith
 
--- and a parenthesis that is so placed is found
+-- and a parenthesis in such a place is found
 pub opened-at : (gap : Bool) (inner : List ℕ) → let s = opening gap inner in
     option_or (strip_prefix (32 ∷ 40 ∷ []) s) (strip_prefix (40 ∷ []) s) ≡ Some inner
 opened-at gap inner = grind arith

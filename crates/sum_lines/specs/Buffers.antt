@@ -33,7 +33,7 @@ pub record FailsToWrite (a b : BufferState) (text : ByteString) : Type 0 where
   pub gives : GivesAll {E = ⊤} a.sink b.sink given (Err tt)
   pub flushed : IsFlushed b
 
--- a call that accepts all of the text, or fails; with an empty text it doesn't fail
+-- a call accepts all of the text, or fails; with an empty text it doesn't fail
 abbrev pub WritesAll : {E : Type 0} → BufferState → BufferState → ByteString → Result ⊤ E → Type 0
 WritesAll a b text (Ok u) = Accepts a b text
 WritesAll a b text (Err e) = FailsToWrite a b text

@@ -1,4 +1,4 @@
--- How names are escaped, byte by byte. A profile says in what the versions of the tools differ.
+-- How names are escaped, byte by byte. A profile says in which ways the versions of the tools differ.
 use Rattle.std.specs.Prelude.{ℕ, ◌==◌, ◌&&◌, Bool, true, not, [], ◌∷◌, flat_map, bytes_eq, codes, if◌then◌else◌}
 pub use Rattle.digest_kinds.specs.Bytes.{ByteString}
 

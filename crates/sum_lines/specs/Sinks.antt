@@ -3,8 +3,8 @@ pub use Rattle.digest_kinds.specs.Bytes.{ByteString}
 use Rattle.std.specs.Prelude.{ℕ, Bool, true, false, ◌≡◌, ◌<◌, ◌≤◌, ◌+◌, ◌/◌, List, [], ◌∷◌, ◌++◌, length, take, flat_map, filter_map, ⊤, ◌⊎◌, Option, None, Some, Result, Ok, Err}
 use Rattle.std.specs.Simd.{first_chunks}
 
--- a sink's state: the pieces that it was offered, one by each write; the bytes of them that it accepted, which are
--- written at once; how many calls failed; whether it is flushed. It is so before its first call, and after a flush or a
+-- a sink's state: the pieces that it was offered, one per write; the bytes of them that it accepted, which are written
+-- at once; the number of calls that failed; whether it is flushed. It is so before its first call, and after a flush or a
 -- call that failed, by which what was held back is lost; a write that succeeds ends that
 pub record SinkState : Type 0 where
   pub offered : List ByteString
@@ -48,8 +48,8 @@ byte_events (b ∷ left) = write_byte b left ∷ byte_events left
 abbrev pub output_events : ByteString → List OutputEvent
 output_events text = flat_map (λ piece. offer_piece piece ∷ byte_events piece) (pieces text)
 
--- What a sink was offered grew by the pieces of these events and, after a byte, perhaps by what was left then. That is
--- so if a write accepted only a part: what is left is offered again. Nothing else was offered.
+-- what a sink was offered grew by the pieces of these events and, after a byte, perhaps by what was left then: if a
+-- write accepted only a part, what is left is offered again. Nothing else was offered
 abbrev pub OffersEach : List ByteString → List ByteString → List OutputEvent → Type 0
 OffersEach old new [] = new ≡ old
 OffersEach old new (offer_piece piece ∷ es) = OffersEach (old ++ piece ∷ []) new es
@@ -65,7 +65,7 @@ pub record Gets (a b : SinkState) (es : List OutputEvent) : Type 0 where
 abbrev pub GetsPrefix : SinkState → SinkState → List OutputEvent → Type 0
 GetsPrefix a b es = (prefix rest : List OutputEvent) × (es ≡ prefix ++ rest) × Gets a b prefix
 
--- a call that gives a sink a text: all of its events happened; or a call of the sink failed after a prefix of them,
+-- a call gives a sink a text: all of its events happened; or a call of the sink failed after a prefix of them,
 -- which leaves the sink flushed
 abbrev pub GivesAll : {E : Type 0} → SinkState → SinkState → ByteString → Result ⊤ E → Type 0
 GivesAll a b text (Ok u) = Gets a b (output_events text) × (b.failures ≡ a.failures)

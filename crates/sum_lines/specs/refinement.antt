@@ -1,5 +1,5 @@
 -- How values of the code relate to those of the definitions. The headline reaches none of this; the contracts of some
--- public calls name some.
+-- public calls name some of it.
 pub mod PartTexts
 pub mod Beginnings
 pub mod SinkStates

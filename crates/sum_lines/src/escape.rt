@@ -8,7 +8,7 @@ use crate::sinks::sink::{Sink, SinkFault};
 use memchr::memchr3;
 use std::alloc::Allocator;
 
-/// Whether the escaped name differs from the name.
+/// Returns whether the escaped name differs from the name.
 pub fn needs_escape(name: &[u8]) -> bool
     ensures { result ≡ escape_differs own_profile name.now }
 {
@@ -16,7 +16,7 @@ pub fn needs_escape(name: &[u8]) -> bool
 }
 
 /// Writes the escaped name: `\\` for a backslash, `\n` for a newline, `\r` for a carriage return, each other byte as
-/// it is. `SinkFault` as `put_all`.
+/// it is. Returns `SinkFault` as `put_all` does.
 #[tactic(auto, using(crate::proofs::SinkLemmas::at_first))]
 pub fn put_escaped<S: Sink>(sink: &mut Buffered<S>, name: &[u8]) -> Result<(), SinkFault>
     ensures { WritesAll sink.old sink.new (escape name.now) result }
@@ -31,7 +31,7 @@ pub fn put_escaped<S: Sink>(sink: &mut Buffered<S>, name: &[u8]) -> Result<(), S
     put_all(sink, rest)
 }
 
-// The place of the first byte that isn't its own escape; `None` if the name is its own escape.
+// The place of the first byte that isn't its own escape, or `None` if the name is its own escape.
 #[tactic(auto, using(crate::proofs::EscapeLemmas::escape_cut, crate::proofs::EscapeLemmas::differs_by))]
 fn next_special(name: &[u8]) -> Option<usize>
     ensures within { IfSome result (λ at. at < length name.now) }
@@ -55,12 +55,12 @@ fn put_escape<S: Sink>(sink: &mut Buffered<S>, byte: u8) -> Result<(), SinkFault
     }
 }
 
-/// Unescapes the bytes of the line from the place `from` on, which is at most its length. True if they were the escape
-/// of a name: they are now that name. False if they are the escape of no name: what they are now is open. The bytes
-/// before that place stay, and the line gets no longer.
+/// Unescapes the bytes of the line from the place `from` on, which is at most its length. Returns true if they were the
+/// escape of a name; they are now that name. Returns false if they were the escape of no name; what they are now is
+/// unspecified. The bytes before that place are unchanged, and the line doesn't get longer.
 pub fn unescape_in<A: Allocator>(line: &mut Vec<u8, A>, from: usize) -> bool
     requires { from ≤ vec_len line.old }
-    // For each name: the bytes were its escape if and only if the call returns true and leaves it there.
+    // For each name: the bytes were its escape if and only if the call returns true and leaves the name in their place.
     ensures name { (n : ByteString) → (drop from line.old.items ≡ escape n)
         ↔ ((result ≡ true) × (line.new.items ≡ take from line.old.items ++ n)) }
     ensures before { take from line.new.items ≡ take from line.old.items }
@@ -75,7 +75,7 @@ pub fn unescape_in<A: Allocator>(line: &mut Vec<u8, A>, from: usize) -> bool
     }
 }
 
-// Unescapes in place: leaves the name at the front and returns its length; `None` if the bytes are no escape.
+// Unescapes in place: leaves the name at the front and returns its length, or `None` if the bytes are no escape.
 fn unescape(bytes: &mut [u8]) -> Option<usize>
     ensures len { IfSome result (λ len. len ≤ length bytes.old) }
     ensures name { IfSome result (λ len. bytes.old ≡ escape (take len bytes.new)) }
@@ -92,7 +92,7 @@ fn unescape(bytes: &mut [u8]) -> Option<usize>
     Some(write)
 }
 
-// The byte whose escape begins the bytes, and the length of its escape; `None` if no escape begins them.
+// The byte whose escape the bytes begin with, and the length of that escape, or `None` if they begin with no escape.
 fn first_escaped(bytes: &[u8]) -> Option<(u8, usize)>
     ensures escape { IfSome result (λ r. bytes.now ≡ escape_of own_profile r.0 ++ drop r.1 bytes.now) }
     ensures width { IfSome result (λ r. (0 < r.1) × (r.1 ≤ length bytes.now)) }

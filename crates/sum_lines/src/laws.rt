@@ -4,8 +4,8 @@ ghost use Rattle.std.specs.Prelude.{◌≡◌, ◌<◌, ◌≤◌, ◌∷◌, []
 ghost use Rattle.sum_lines.specs.Sinks.{ByteString, pieces};
 ghost use Rattle.sum_lines.specs.grammar.LineLaws.{AreApart, HasOneEntry, HasOneForm, ParsesByGrammar, IsReadBack, KeepsForm, KeepsParse};
 
-/// For given algorithms and a given form a line spells at most one entry. No line is both plain and tagged, even if the
-/// two have other algorithms.
+/// For given algorithms and a given form, a line spells at most one entry. No line is both plain and tagged, even with
+/// different algorithms.
 pub fn one_entry()
     ensures entry { HasOneEntry }
     ensures apart { AreApart }
@@ -17,7 +17,7 @@ pub fn one_form()
     ensures { HasOneForm }
 {}
 
-/// What is computed of a line is what the line grammar says of it, whichever the profile. It is ignored, an entry, or
+/// What is computed for a line is what the line grammar says of it, under every profile: it is ignored, an entry, or
 /// bad, each if and only if the grammar says so.
 #[tactic(auto, using(crate::proofs::ParsedLineLemmas::parse_is_grammar))]
 pub fn parse_is_grammar()
@@ -32,14 +32,14 @@ pub fn same_parse()
 {}
 
 /// A line that is written is read back: it spells the kind, the digest and the name that it was written for. It is read
-/// by its own algorithm or, if it is tagged, by any. The name isn't empty and has no NUL, the style isn't zero, and no
-/// earlier line makes the manifest `Reversed`.
+/// by its own algorithm or, if it is tagged, by any. The premises: the name isn't empty and has no NUL, the style isn't
+/// zero, and no earlier line makes the manifest `Reversed`.
 #[tactic(auto, using(crate::proofs::PutLineLemmas::read_back))]
 pub fn read_back()
     ensures { IsReadBack }
 {}
 
-/// A text of at most 8,192 bytes, and of one at least, is one piece. So it is offered whole.
+/// A text of 1 to 8,192 bytes is one piece. So it is offered whole.
 #[tactic(auto, using(crate::proofs::EventLemmas::one_piece))]
 pub fn one_piece()
     ensures { (text : ByteString) → 0 < length text → length text ≤ 8192 → pieces text ≡ text ∷ [] }

@@ -1,6 +1,6 @@
 //! Lines of checksums: how they are written to a sink, how a name is escaped in them, and how they are read.
 //!
-//! The format of a line belongs here, and the sinks that lines are written to, but nothing of files or of whole
+//! The format of a line and the sinks that lines are written to belong here, but nothing about files or whole
 //! manifests. The crate calls `digest_kinds`, `hex`, `itoa`, `memchr` and `std`, and it takes no memory.
 //!
 //! ```rust

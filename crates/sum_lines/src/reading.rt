@@ -1,4 +1,4 @@
-//! How a line of a manifest is read.
+//! Reading a line of a manifest.
 
 pub(crate) mod beginnings;
 pub(crate) mod line_parts;

@@ -1,4 +1,4 @@
-//! The trait of a sink, to which bytes are written, and the sinks.
+//! Sinks, to which bytes are written: the trait, its implementations, and the buffer over a sink.
 
 pub(crate) mod buffered;
 pub(crate) mod from_write;

@@ -1,4 +1,4 @@
-//! How a line is written.
+//! Writing a line.
 
 pub(crate) mod parts;
 pub(crate) mod put_line;

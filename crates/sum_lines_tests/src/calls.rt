@@ -17,7 +17,7 @@ pub(crate) fn flush(sink: &mut Buffered<impl Sink>) -> Result<(), SinkFault> {
     sink.flush()
 }
 
-// A buffer over a sink in memory that stops after so many bytes.
+// A buffer over a sink in memory that stops after this many bytes.
 pub(crate) fn known_sink(stop: usize) -> Buffered<ToldSink<256>> {
     Buffered::new(ToldSink::new(stop))
 }

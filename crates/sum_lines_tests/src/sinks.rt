@@ -7,8 +7,8 @@ use std::ops::Range;
 use std::process::Abort;
 use sum_lines::{Buffered, FromWrite, Sink, SinkFault};
 
-// A writer that accepts at most so many bytes of a piece. Of its writes those of these numbers fail by this error, and
-// so does each flush unless the error is an interruption.
+// A writer that accepts at most this many bytes of a piece. Its writes with these numbers fail with this error, and so
+// does each flush unless the error is an interruption.
 #[derive(Drop)]
 struct Writer {
     most: usize,
@@ -54,8 +54,8 @@ fn writer_of(rt: &impl AllocGlobal, most: usize, fails: Range<u32>, kind: ErrorK
     }
 }
 
-// Whether the first write of a piece by a sink over the writer returns this, by so many writes of the writer, of so
-// many bytes in all. A fault isn't tried again by itself; the next write tries again.
+// Whether the first write of a piece by a sink over the writer returns this, with this many writes of the writer, of
+// this many bytes in all. A fault isn't tried again by itself; the next write tries again.
 fn is_first(
     writer: &mut Writer,
     piece: &[u8],
@@ -133,7 +133,7 @@ fn put_twice(writer: &mut Writer) -> [Result<(), SinkFault>; 5] {
     ]
 }
 
-// Whether so many writes bring these bytes, and this is the answer of the first flush alone.
+// Whether this many writes bring these bytes, the first flush returns this, and every other call succeeds.
 fn is_one_piece(
     writer: &mut Writer,
     answer: Result<(), SinkFault>,

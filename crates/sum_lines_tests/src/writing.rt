@@ -48,14 +48,15 @@ fn put_entry(sink: &mut Buffered<ToldSink<256>>, entry: &Entry) -> Result<(), Si
     flush(sink)
 }
 
-// Whether a sink that stops after so many bytes has so much of the line, and only one with the whole line no fault.
+// Whether a sink that stops after this many bytes has that much of the line, and gives no fault only if it has all of
+// it.
 fn stops(stop: usize, entry: &Entry, line: &[u8]) -> bool {
     let mut sink = known_sink(stop);
     let written = put_entry(&mut sink, entry).is_ok();
     written == (stop == line.len()) && line.get(..stop) == Some(sink.get_ref().bytes())
 }
 
-// Whether that is so of each count of bytes up to the line's length.
+// Whether the same holds for each number of bytes up to the line's length.
 fn is_line(entry: &Entry, line: &[u8]) -> bool {
     let mut all = true;
     for stop in 0..=line.len() {

@@ -1,4 +1,4 @@
-//! Inputs: over readers that fail, in memory, and such that go on after an end or a fault.
+//! Inputs: over readers that fail, in memory, and ones that go on after an end or a fault.
 ghost use Rattle.std.specs.Prelude.{◌≡◌};
 ghost use Rattle.sum_sources.specs.Contents.{unread};
 
@@ -35,7 +35,7 @@ impl<'a> Read for Reader<'a> {
     }
 }
 
-// "abc", a byte a read, with this ending after so many.
+// "abc", one byte per read, with this ending after this many.
 fn abc(place: usize, ending: Ending) -> TwoParts<'static>
     ensures { (⟦<TwoParts<'static> as Input>⟧.state result).reads ≡ unread }
 {
@@ -102,7 +102,7 @@ fn errors(rt: HostRuntime) {
     }
 }
 
-// The input gives "abc", a byte a read, and its end; and this ending between, after so many bytes.
+// The input gives "abc", one byte per read, and its end; and this ending in between, after this many bytes.
 fn goes_on(rt: &impl Abort, input: &mut impl Input, place: usize, ending: Ending) {
     let end = match ending {
         Ending::Whole => Ok(0),
@@ -215,7 +215,8 @@ fn breaks(rt: &impl Abort, content: &[u8], piece: usize, buffer: &mut [u8; PIECE
     );
 }
 
-// So it is of starts of this content. One buffer serves many inputs: nothing that an earlier one left in it is hashed.
+// The same holds for prefixes of this content. One buffer serves many inputs: nothing that an earlier one left in it is
+// hashed.
 fn starts(
     rt: &impl Abort,
     content: &[u8],
@@ -255,7 +256,7 @@ fn hashing_past_header(rt: HostRuntime) {
     hashes_rest(&rt, b"a: ", b"d41d8cd98f00b204e9800998ecf8427e");
 }
 
-// It is shown as this text.
+// The value is displayed as this text.
 fn is_shown(rt: &(impl Abort + AllocGlobal), value: &impl Display, text: &str) -> Result<(), Fail> {
     assert_eq!(rt; value.to_string(rt.alloc())?.as_str(), text);
     Ok(())

@@ -7,7 +7,7 @@ use std::process::Abort;
 use std::test::Fail;
 use sum_sources::{Ending, Fault, Input, LineReader, LineStop, Next, Phase, Told};
 
-// Five lines, and they joined.
+// Five lines, and the same lines joined.
 const FIVE: [&[u8]; 5] = [
     b"900150983cd24fb0d6963f7d28e17f72  a",
     b"#c",
@@ -33,7 +33,7 @@ fn gives<A: Allocator>(
     assert_eq!(rt; line.as_slice(), want);
 }
 
-// No line is next, for this reason, and so it stays.
+// There is no next line, for this reason, and that doesn't change.
 fn ends<A: Allocator>(
     rt: &impl Abort,
     reader: &mut LineReader<impl Input>,
@@ -45,13 +45,13 @@ fn ends<A: Allocator>(
     }
 }
 
-// So much was returned and read.
+// This much was returned and read.
 fn is_at(rt: &impl Abort, reader: LineReader<TwoParts>, lines: usize, place: usize, phase: Phase) {
     assert!(rt; (reader.lines(), reader.taken()) == (lines as u64, place as u64));
     assert_eq!(rt; reader.into_inner().phase(), phase);
 }
 
-// The reader of a content that has this ending after so many bytes, and goes on with the others, gives just these
+// The reader of a content that has this ending after this many bytes, and goes on with the others, gives just these
 // lines. Then it answers the ending, and has read no further.
 fn reads(
     rt: &(impl Abort + AllocGlobal),
@@ -94,7 +94,7 @@ fn lines(rt: HostRuntime) {
     }
 }
 
-// A line "one" and the start of another, of so many bytes in all. Without a contract, so that no proof computes them.
+// A line "one" and the start of another, of this many bytes in all. Without a contract, so that no proof computes them.
 fn two_lines(alloc: Global, len: usize) -> Result<Vec<u8>, Fail> {
     let mut content = Vec::from_slice(alloc, b"one\n")?;
     content.resize(len, b'x')?;

@@ -55,7 +55,7 @@ fn notes<'a, A: Allocator + Copy>(
     Ok(files)
 }
 
-// The name that was asked after so many others.
+// The name that was asked after this many others.
 fn asked<A: Allocator + Copy>(rt: &impl Abort, files: &ToldSource<A>, number: usize, name: &[u8]) {
     assert_eq!(rt; files.asked_name(number), Some(name));
 }
@@ -145,7 +145,7 @@ impl rt::Files for NoMemory {
     fn remove_dir_all<B: Allocator>(&self, _: B, _: &str) -> io::Result<()> { refuse() }
 }
 
-// Want of memory is answered as such, the first time and each time.
+// Lack of memory is reported as such, the first time and every time.
 #[test]
 fn no_memory_to_open(rt: HostRuntime) {
     let mut files = Files::new(NoMemory);

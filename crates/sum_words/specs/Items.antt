@@ -53,7 +53,7 @@ has_option t flag = not (takes_value flag)
 abbrev pub flags_of : Tool → List Flag
 flags_of t = filter (has_option t) all_flags
 
--- how the next word is read: by itself, or as the value of an option that is spelled so
+-- how the next word is read: by itself, or as the value of an option with this spelling
 pub data NextWord : Type 0 where
   a_word : NextWord
   a_value : Spelling → NextWord
@@ -66,13 +66,13 @@ name_part text = before_first (λ b. b == byte "=") text
 abbrev pub value_part : ByteString → Option ByteString
 value_part text = option_map (λ i. drop (i + 1) text) (position (λ b. b == byte "=") text)
 
--- the only option in a list, or the fault of a name that begins no option or several
+-- the only option in a list, or the fault of a name with which no option begins, or several do
 abbrev pub only_or_fault : ByteString → List Flag → Result Flag WordFaultValue
 only_or_fault name [] = Err (unknown_long name)
 only_or_fault name (flag ∷ []) = Ok flag
 only_or_fault name several = Err (ambiguous_long name)
 
--- a tool's option that a name means: it has this full name, or else it is the only one whose full name begins so
+-- a tool's option that a name means: it has this full name, or else it is the only one whose full name begins with it
 unfoldable pub name_or_fault : Tool → ByteString → Result Flag WordFaultValue
 name_or_fault t name = option_map_or Ok (find (λ flag. bytes_eq name (full_name flag)) (flags_of t))
     (only_or_fault name (filter (λ flag. starts_with ◌==◌ (full_name flag) name) (flags_of t)))
@@ -106,7 +106,7 @@ word_items t word rest = if not (is_option_word word) then operand word ∷ rest
     else if not (starts_with ◌==◌ word (codes "--")) then cluster t (chars (drop 1 word)) rest
     else long_option (name_or_fault t (name_part (drop 2 word))) (value_part (drop 2 word)) rest
 
--- the items of words, if the first is read so; all words after a "--" that is no option's value are operands
+-- the items of words, if the first is read in this way; all words after a "--" that is no option's value are operands
 abbrev pub items_from : Tool → List ByteString → NextWord → List ItemValue
 items_from t [] a_word = []
 items_from t (w ∷ ws) a_word =

@@ -49,7 +49,7 @@ length_kind value = let bits = digits_value 10 value in
     if bytes_eq value [] || not (all_ascii_digits value) || nat_lt 512 bits then Err (length_invalid value)
     else ok_or (result_ok (blake2b_of_bits bits)) (length_not_bytes value)
 
--- the first fault of the given options together, if they have one
+-- the first fault of the given options in combination, if they have one
 abbrev pub fault_of_options : List Flag → Option WordFaultValue
 fault_of_options given = let check = has flags.Check given in
     if has flags.Tag given && is_last flags.Text mode_flags given then Some tag_with_text

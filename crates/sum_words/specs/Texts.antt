@@ -18,7 +18,7 @@ abbrev pub purpose : Algos → ByteString
 purpose (One algo) = codes "Print or check " ++ tag algo ++ codes " checksums."
 purpose Any = codes "Check checksums of tagged lines."
 
--- the letter of an option in the help, or as many spaces if it has none
+-- the letter of an option in the help, or spaces in its place if it has none
 abbrev pub letter_column : Flag → ByteString
 letter_column flag =
     if bytes_eq (row_of flag).0 [] then codes "      " else codes "  -" ++ (row_of flag).0 ++ codes ", "

@@ -1,4 +1,4 @@
--- What may be wrong with the words of a command line, and how it is said.
+-- What may be wrong with the words of a command line, and how it is reported.
 use Rattle.std.specs.Prelude.{ℕ, ◌++◌, codes, encode_utf8}
 use Rattle.sum_lines.specs.Escape.{escape, ByteString}
 pub use Rattle.sum_words.specs.declared.parsing.options.Spelling.{Spelling}

@@ -7,7 +7,7 @@ abbrev pub pieces_cut : ByteString → ℕ → List ℕ → List ByteString
 pieces_cut bytes from [] = []
 pieces_cut bytes from (end ∷ ends) = take (end - from) (drop from bytes) ∷ pieces_cut bytes end ends
 
--- the places rise, from this one to the end of the bytes
+-- the places increase, from this one to the end of the bytes
 abbrev pub CutsAt : ByteString → ℕ → List ℕ → Type 0
 CutsAt bytes from [] = from ≡ length bytes
 CutsAt bytes from (end ∷ ends) = (from ≤ end) × CutsAt bytes end ends

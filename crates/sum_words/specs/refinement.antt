@@ -1,4 +1,4 @@
--- How the code's values stand for those of the definitions. The headline and the program's contract reach none of it.
+-- How the code's values represent those of the definitions. The headline and the program's contract reach none of it.
 pub mod ItemIterator
 pub mod OptionScan
 pub mod CommandLine

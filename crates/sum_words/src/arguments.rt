@@ -9,7 +9,7 @@ use ghost_log::Log;
 use std::env::FillError;
 use std::rt::Env;
 
-/// A list of arguments, the name by which the program was called first.
+/// A list of arguments, which begins with the name by which the program was called.
 pub trait Arguments {
     /// What its calls gave. A list that isn't in memory keeps it for proofs alone.
     ghost state: { Self → ArgumentsState };
@@ -34,7 +34,7 @@ pub struct SystemArguments<R> {
 }
 
 impl<R: Env> SystemArguments<R> {
-    /// The arguments that this runtime has.
+    /// Creates the list of this runtime's arguments.
     pub fn new(rt: R) -> Self
         ensures { (⟦<SystemArguments<R> as Arguments>⟧.state result).given ≡ [] }
     {
@@ -68,7 +68,7 @@ pub struct ToldArguments<'a> {
 }
 
 impl<'a> ToldArguments<'a> {
-    /// These arguments, the name by which the program was called first.
+    /// Creates a list of these arguments, which begin with the name by which the program was called.
     pub fn new(arguments: &'a [&'a [u8]]) -> Self
         ensures { ⟦<ToldArguments<'a> as Arguments>⟧.state result ≡ record {
           told = Some (map (λ a. a.now) arguments.entry.now);

@@ -29,12 +29,12 @@ pub struct NotRead;
 pub enum CommandLine<A: Allocator> {
     /// Neither the name that the program was called by nor the first word names a tool.
     UnknownTool,
-    /// A tool on its words.
+    /// This tool, with its words.
     Invoke(Tool, Words<A>),
 }
 
-/// Reads the command line. The tool is named by the last part of the program's name, as in `/bin/md5sum`. If that is no
-/// tool's name, the next argument names it. The arguments after the tool's place are its words. If they name no tool,
+/// Reads the command line. The tool is named by the last part of the program's name, as in `/bin/md5sum`. If that isn't
+/// a tool's name, the next argument names it. The arguments after the tool's place are its words. If they name no tool,
 /// no further argument is read.
 ///
 /// `NotRead` if memory is refused. Memory is needed only if an argument follows the tool's place, or if one is longer
@@ -68,7 +68,7 @@ struct Room<A: Allocator> {
 }
 
 impl<A: Allocator> Room<A> {
-    // The argument at this place. `None` past the last.
+    // The argument at this place, or `None` past the last.
     fn argument<G: Arguments>(
         &mut self,
         arguments: &mut G,
@@ -163,7 +163,7 @@ fn find_tool<A: Allocator, G: Arguments>(
     }
 }
 
-// What follows the last slash of a path. All of the path if there is no slash.
+// What follows the last slash of a path, or all of the path if there is no slash.
 fn last_part(path: &[u8]) -> &[u8]
     ensures { result.now ≡ after_last (λ b. b == 47) path.now }
 {

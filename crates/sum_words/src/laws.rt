@@ -12,8 +12,8 @@ pub fn some_list_agrees<G: Arguments>(arguments: &G)
     ensures { (all : List ByteString) × AreOf (G.state arguments.now) all }
 {}
 
-/// A word is plain if it is `-` or doesn't begin with a dash. The plain words in front are operands in their order,
-/// whatever follows them. After `--` every word is an operand.
+/// A word is plain if it is `-` or doesn't begin with a dash. The plain words at the front are operands, in order,
+/// whatever follows them. After `--`, every word is an operand.
 #[tactic(auto, using(crate::proofs::PlainWordLemmas::plain_words))]
 pub fn plain_words_are_operands()
     ensures plain { (t : Tool) (words more : List ByteString) →

@@ -34,7 +34,7 @@ impl Tool {
         Tool::Anysum,
     ];
 
-    /// The tool of this name. `None` if no tool has it.
+    /// Returns the tool of this name, if there is one.
     #[tactic(auto, unfolding(crate::specs::Tools::tool_called))]
     pub fn from_word(word: &str) -> Option<Tool>
         ensures { (tool : Tool) → (result ≡ Some tool) ↔ (name_of tool ≡ word.now) }
@@ -42,7 +42,7 @@ impl Tool {
         Tool::of_name(word.as_bytes())
     }
 
-    /// The tool whose name these bytes are. `None` if no tool has this name.
+    /// Returns the tool whose name these bytes are, if there is one.
     #[tactic(auto, unfolding(crate::specs::Tools::tool_called))]
     pub fn of_name(name: &[u8]) -> Option<Tool>
         ensures tool { result ≡ tool_called name.now }
@@ -72,14 +72,14 @@ impl Tool {
         }
     }
 
-    /// The tool's name, as it is typed and as each of its messages begins.
+    /// Returns the tool's name, as it is typed and as it begins each of its messages.
     pub fn name(self) -> &'static str
         ensures { result.now ≡ name_of self }
     {
         self.row().0
     }
 
-    /// The algorithms of the tool's digests: all for `anysum`, one for each other tool.
+    /// Returns the algorithms of the tool's digests: all for `anysum`, one for each other tool.
     pub fn algos(self) -> Algos
         ensures { result ≡ algos_of self }
     {
@@ -97,7 +97,7 @@ impl FromStr for Tool {
 
     ghost from_str_gives = { λ word r. (tool : Tool) → (r ≡ Ok tool) ↔ (name_of tool ≡ word) };
 
-    /// The tool of this name, as [`Tool::from_word`] has it.
+    /// Returns the tool of this name, as [`Tool::from_word`] does.
     fn from_str(word: &str) -> Result<Tool, UnknownTool> {
         Tool::from_word(word).ok_or(UnknownTool)
     }

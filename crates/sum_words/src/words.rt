@@ -9,7 +9,7 @@ use std::alloc::Allocator;
 use std::marker::Model;
 pub use sum_sources::NoRoom;
 
-/// A list of words, seen as a list of byte strings. A word may have any bytes.
+/// A list of words, seen as a list of byte strings. A word may contain any bytes.
 #[derive(Debug, Drop)]
 pub struct Words<A: Allocator> {
     // The words, one after another.
@@ -30,7 +30,7 @@ impl<A: Allocator> Model for Words<A> {
 }
 
 impl<A: Allocator + Copy> Words<A> {
-    /// A list without a word.
+    /// Creates an empty list.
     pub fn new(alloc: A) -> Self
         ensures { result ≡ [] }
     {
@@ -42,7 +42,7 @@ impl<A: Allocator + Copy> Words<A> {
 }
 
 impl<A: Allocator> Words<A> {
-    /// Adds a text at the end. `NoRoom` if memory is refused. The list is then unchanged.
+    /// Adds a string at the end. Returns `NoRoom` if memory is refused; the list is then unchanged.
     pub fn add(&mut self, word: &str) -> Result<(), NoRoom>
         ensures ok { OnOk result (self.new ≡ self.old ++ word.now ∷ []) }
         ensures err { OnErr result (self.new ≡ self.old) }
@@ -50,7 +50,7 @@ impl<A: Allocator> Words<A> {
         self.add_bytes(word.as_bytes())
     }
 
-    /// Adds a word at the end. `NoRoom` if memory is refused. The list is then unchanged.
+    /// Adds a word at the end. Returns `NoRoom` if memory is refused; the list is then unchanged.
     #[tactic(auto, using(crate::proofs::WordBytesLemmas::pieces))]
     pub fn add_bytes(&mut self, word: &[u8]) -> Result<(), NoRoom>
         ensures ok { OnOk result (self.new ≡ self.old ++ word.now ∷ []) }
@@ -67,7 +67,7 @@ impl<A: Allocator> Words<A> {
         Ok(())
     }
 
-    /// How many words the list has.
+    /// Returns how many words the list has.
     #[tactic(auto, using(crate::proofs::WordBytesLemmas::pieces))]
     pub fn len(&self) -> usize
         ensures { result ≡ length self.now }
@@ -75,14 +75,14 @@ impl<A: Allocator> Words<A> {
         self.ends.len()
     }
 
-    /// Whether the list has no word.
+    /// Returns whether the list is empty.
     pub fn is_empty(&self) -> bool
         ensures { result ≡ (length self.now == 0) }
     {
         self.len() == 0
     }
 
-    /// An iterator over the words.
+    /// Returns an iterator over the words.
     pub fn iter(&self) -> WordsIter<'_>
         ensures { result ≡ self.now }
     {
@@ -93,7 +93,7 @@ impl<A: Allocator> Words<A> {
         }
     }
 
-    /// The word at this place, counted from 0. `None` past the last.
+    /// Returns the word at this place, counted from 0, or `None` past the last.
     pub fn get(&self, i: usize) -> Option<&[u8]>
         ensures { option_copied result ≡ slice_get self.now i }
     {
@@ -135,7 +135,7 @@ impl<'a> Iterator for WordsIter<'a> {
     }
 }
 
-// The piece of the bytes at a place. `None` past the last.
+// The piece of the bytes at a place, or `None` past the last.
 #[tactic(auto, using(crate::proofs::WordBytesLemmas::piece_steps))]
 fn piece_at<'a>(bytes: &'a [u8], ends: &'a [usize], i: usize) -> Option<&'a [u8]>
     requires { CutsAt bytes.now 0 ends.now }

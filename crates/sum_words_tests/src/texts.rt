@@ -11,7 +11,7 @@ use sum_words::{
 };
 
 // Whether the name has this tool, or none, in both ways of reading it. Without a contract, so that a test knows no more
-// of it than it sees; so are the functions below.
+// of it than it sees; the same goes for the functions below.
 fn is_called(name: &str, tool: Option<Tool>) -> bool {
     Tool::from_word(name) == tool && name.parse() == tool.ok_or(UnknownTool)
 }
@@ -88,7 +88,7 @@ fn lines_of_fault(tool: Tool, words: &Words<Global>) -> Result<ToldSink<256>, Fa
     Ok(err.into_inner())
 }
 
-// The words of a line, and behind them one of any bytes, have a fault of these lines.
+// The words of a line, followed by one of any bytes, have a fault of these lines.
 fn check_lines(
     rt: &(impl Abort + AllocGlobal),
     tool: Tool,

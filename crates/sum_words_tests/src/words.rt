@@ -7,7 +7,7 @@ use sum_words::{
     read_command_line, read_words,
 };
 
-/// The words of a line, parted by single spaces, and behind them one of any bytes.
+/// The words of a line, separated by single spaces, followed by one of any bytes.
 pub(crate) fn words_and(alloc: Global, line: &str, last: &[u8]) -> Result<Words<Global>, NoRoom> {
     let mut words = Words::new(alloc);
     for word in line.split(' ') {

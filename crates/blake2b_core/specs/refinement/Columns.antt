@@ -1,4 +1,4 @@
--- Joins the definition of a round, one G after another, to the code, which mixes four columns at once. The working
+-- Relates the definition of a round, one G after another, to the code, which mixes four columns at once. The working
 -- vector is four rows of four words.
 use Rattle.std.specs.Prelude.{ℕ, ◌+◌, ◌/◌, ◌%◌, List, [], map, fold, slice_index_or}
 use Rattle.std.specs.{List.range_with_len, Simd.first_chunks}

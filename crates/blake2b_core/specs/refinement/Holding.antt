@@ -1,10 +1,10 @@
--- Joins `new`, `update` and `finish` of `Blake2b`: which message a state may have taken. The kit says for that: the
--- state holds the message.
+-- Relates `new`, `update` and `finish` of `Blake2b`: which message a state may have taken. The kit's term for this is
+-- that the state holds the message.
 use Rattle.std.specs.Prelude.{◌≡◌, ℕ, ◌+◌, ◌*◌, ◌<◌, List, [], length, take, drop, slice_index_or}
 use Rattle.blake2b_core.specs.{Bytes.ByteString, Digest.hash_after}
 use Rattle.blake2b_core.specs.declared.incremental.Blake2b.{Blake2b}
 
--- bs are blocks of the message m, one after another from block k on
+-- bs are consecutive blocks of the message m, from block k on
 abbrev pub AreBlocksFrom : ByteString → ℕ → List ByteString → Type 0
 AreBlocksFrom m k bs = (i : ℕ) → i < length bs → slice_index_or bs i [] ≡ take 128 (drop (128 * (k + i)) m)
 
@@ -12,7 +12,7 @@ AreBlocksFrom m k bs = (i : ℕ) → i < length bs → slice_index_or bs i [] �
 abbrev pub digest_len : Blake2b → ℕ
 digest_len s = s.len
 
--- how many bytes it has taken
+-- the number of bytes that the state has taken
 abbrev pub taken : Blake2b → ℕ
 taken s = s.taken
 

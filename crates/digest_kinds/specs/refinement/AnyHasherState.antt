@@ -30,7 +30,7 @@ hasher_in (Sha384 h) = over_kit algos.Sha384 (Holds384 h.inner) h.taken
 hasher_in (Sha512 h) = over_kit algos.Sha512 (Holds512 h.inner) h.taken
 hasher_in (Blake2b h) = record { holds = HoldsBlake2b h; kind = blake2b_kind (digest_len h); taken = taken_blake2b h }
 
--- it has taken as many bytes as its message has
+-- the number of bytes that a hasher has taken is the length of its message
 pub taken-length : (h : AnyHasher) (m : ByteString) → (hasher_in h).holds m → (hasher_in h).taken ≡ length m
 taken-length (Blake2b h) m held = held.so_far.taken
 taken-length h m held = held.1

@@ -30,7 +30,7 @@ pub enum AnyHasher {
     Blake2b(Blake2b),
 }
 
-// The result for the hasher that is in the value, whichever it is.
+// Evaluates the expression for the hasher in the value, whichever it is.
 macro_rules! each {
     ($any:expr, $hasher:ident => $result:expr) => {
         match $any {
@@ -46,7 +46,7 @@ macro_rules! each {
 }
 
 impl AnyHasher {
-    /// A hasher of the empty message for digests of this kind.
+    /// Creates a hasher of the empty message for digests of this kind.
     pub fn new(kind: Kind) -> AnyHasher
         ensures holds { ⟦<AnyHasher as Hasher>⟧.holds result [] }
         ensures kind { ⟦<AnyHasher as Hasher>⟧.kind_of result ≡ kind }

@@ -10,7 +10,7 @@ pub use blake2b_core::{LIMIT, MessageTooLong};
 
 /// Takes a message piece by piece, and returns its digest.
 pub trait Hasher {
-    // The hasher has taken this message. A hasher need not store it, so this is a relation.
+    // The hasher may have taken this message. A hasher need not store it, so this is a relation.
     ghost holds: { Self → ByteString → Type 0 };
 
     // The kind of its digest.
@@ -19,24 +19,24 @@ pub trait Hasher {
     // How many bytes it has taken.
     ghost taken_of: { Self → ℕ };
 
-    /// The kind of the digest that `finish` returns.
+    /// Returns the kind of the digest that `finish` returns.
     fn kind(&self) -> Kind
         ensures { result ≡ kind_of self.now };
 
-    /// The number of bytes taken so far.
+    /// Returns the number of bytes taken so far.
     fn taken(&self) -> u64
         ensures { result ≡ taken_of self.now };
 
-    /// Takes the message's next piece. The whole message has to stay below [`LIMIT`](crate::LIMIT) bytes.
+    /// Takes the message's next piece. The whole message must stay below [`LIMIT`](crate::LIMIT) bytes.
     fn update(&mut self, piece: &[u8])
         requires { taken_of self.old + length piece.now < 2 ^ 61 }
-        // For each message that it may have taken: it has then taken that and the piece.
+        // If it may have taken a message, it may then have taken that message and the piece.
         ensures holds { (m : ByteString) → holds self.old m → holds self.new (m ++ piece.now) }
         ensures taken { taken_of self.new ≡ taken_of self.old + length piece.now }
         ensures kind { kind_of self.new ≡ kind_of self.old };
 
-    /// Takes the message's next piece. `MessageTooLong` if and only if the message would have [`LIMIT`](crate::LIMIT)
-    /// bytes or more; the hasher is then as before.
+    /// Takes the message's next piece. Returns `MessageTooLong` if and only if the message would have
+    /// [`LIMIT`](crate::LIMIT) bytes or more; the hasher is then unchanged.
     fn try_update(&mut self, piece: &[u8]) -> Result<(), MessageTooLong>
         ensures fits { IsOk result ↔ (taken_of self.old + length piece.now < 2 ^ 61) }
         ensures holds { OnOk result ((m : ByteString) → holds self.old m
@@ -52,11 +52,11 @@ pub trait Hasher {
         Ok(())
     }
 
-    /// The digest of the message that was taken, of the kind's length.
+    /// Returns the digest of the message that was taken, of the kind's length.
     fn finish(self) -> Digest
         ensures value { (m : ByteString) → holds self m → result ≡ digest (kind_of self) m }
         ensures len { length result ≡ (kind_of self).len };
 
-    // It has taken as many bytes as its message has.
+    // The number of bytes that it has taken is the length of its message.
     ghost counts: { (h : Self) (m : ByteString) → holds h m → taken_of h ≡ length m };
 }

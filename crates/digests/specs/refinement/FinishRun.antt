@@ -21,7 +21,7 @@ abbrev pub FinishesRun : Option Tool → Result ℕ Stop → OutputsState → Ou
 FinishesRun tool answer a b status = (later : Result ℕ Stop) × (between : OutputsState)
     × FlushesBoth a between answer later × KeepsBoth a between × ReportsStop tool later between b status
 
--- in place of a run this text is written to standard error, and the status is 1
+-- instead of a run, this text is written to standard error, and the status is 1
 abbrev pub Refuses : ByteString → OutputsState → OutputsState → ℕ → Type 0
 Refuses text a b status = IsFlushed a → (answer : Result ℕ Stop) × (between : OutputsState)
     × WritesAndReturns a between text [] 1 answer × FinishesRun None answer between b status

@@ -50,8 +50,8 @@ fn place_of<A: Allocator + Copy>(
     Err(Fail::from("the run stands at none of the places"))
 }
 
-// Runs a line over the files `a`, `e` and a manifest, on a heap of so many bytes, which the files, the words and the
-// run share. At which of the places it stands. `None` if there was no room for the files or for the words.
+// Runs a line over the files `a`, `e` and a manifest, on a heap of this many bytes, which the files, the words and the
+// run share. At which of the places it stands. Returns `None` if there was no room for the files or for the words.
 fn place_within(
     rt: &(impl Abort + AllocGlobal),
     size: usize,

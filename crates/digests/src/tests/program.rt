@@ -86,7 +86,8 @@ fn tools_and_words(rt: HostRuntime) -> Result<(), Fail> {
     Ok(())
 }
 
-// Whether there is room for the words on a heap of so many bytes: then the run is as ever, else they aren't read.
+// Whether there is room for the words on a heap of this many bytes: then the run is as ever, otherwise they aren't
+// read.
 fn is_read_within(
     rt: &(impl Abort + AllocGlobal),
     size: usize,

@@ -1,4 +1,4 @@
--- What the lines of a manifest say. The first plain line decides the form of all; and a line spells an entry.
+-- What the lines of a manifest say: the first plain line decides the form of them all, and a line spells an entry.
 use Rattle.std.specs.Prelude.{ℕ, ◌≡◌, ◌<◌, ◌⊎◌, ◌==◌, ◌||◌, Bool, false, List, [], ◌∷◌, IsTrue, if◌then◌else◌, All}
 use Rattle.std.specs.Option.{option_map_or}
 use Rattle.sum_lines.specs.grammar.Shapes.{ByteString, Algos, IsPlain, IsTagged, KindValue}
@@ -11,12 +11,12 @@ abbrev pub is_ignored : Profile → ByteString → Bool
 is_ignored p [] = p.ignores_empty
 is_ignored p (b ∷ bs) = b == 35
 
--- whether a plain line's tail is that of a Standard list: it begins with a space (32) or a star (42), and goes on
+-- whether a plain line's tail is that of a Standard list: it begins with a space (32) or a star (42), and more follows
 abbrev pub begins_standard : ByteString → Bool
 begins_standard (b ∷ c ∷ bs) = b == 32 || b == 42
 begins_standard tail = false
 
--- The form of a list of lines: the tail of its first plain line decides it; without such a line it is Undecided.
+-- the form of a list of lines: the tail of its first plain line decides it; without a plain line it is Undecided
 abbrev pub IsForm : Algos → List ByteString → Form → Type 0
 IsForm algos [] form = form ≡ Undecided
 IsForm algos (line ∷ later) form = ((e : Bool) × (kind : KindValue) × (digest tail : ByteString)
@@ -37,8 +37,8 @@ pub record EntryValue : Type 0 where
   pub digest : ByteString
   pub name : ByteString
 
--- The entry that a line spells in a list of that form: the raw name in the line spells the entry's name, which has no
--- NUL. It is the name's escape, if the line has the backslash for that; the name itself, if not.
+-- the entry that a line spells in a list of that form: the raw name in the line spells the entry's name, which has no
+-- NUL. The raw name is the name's escape if the line has the backslash for that, and the name itself if not
 pub record IsEntry (escape : ByteString → ByteString) (algos : Algos) (form : Form) (line : ByteString)
     (s : EntryValue) : Type 0 where
   pub escaped : Bool
@@ -48,7 +48,7 @@ pub record IsEntry (escape : ByteString → ByteString) (algos : Algos) (form : 
   pub no_nul : All (λ b. 0 < b) s.name
   pub spells : raw ≡ (if escaped then escape s.name else s.name)
 
--- The form of a list of lines, computed: its first plain line's. By the law `one_form` it need not be believed.
+-- the form of a list of lines, computed: that of its first plain line. By the law `one_form` it need not be believed
 abbrev pub form : Algos → List ByteString → Form
 form algos [] = Undecided
 form algos (line ∷ later) = option_map_or (λ p. if begins_standard p.text then Standard else Reversed)
@@ -58,7 +58,7 @@ form algos (line ∷ later) = option_map_or (λ p. if begins_standard p.text the
 abbrev pub line_form : Algos → ByteString → Form
 line_form algos line = form algos (line ∷ [])
 
--- a form, and after it that of later lines: what is decided stays
+-- a form, and then that of later lines: a form that is decided stays
 abbrev pub form_then : Form → Form → Form
 form_then Undecided later = later
 form_then decided later = decided

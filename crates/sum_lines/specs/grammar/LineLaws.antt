@@ -21,13 +21,13 @@ AreApart = (algos others : Algos) (line : ByteString) (e f : Bool) (kind other :
 abbrev pub HasOneForm : Type 0
 HasOneForm = (algos : Algos) (lines : List ByteString) (f : Form) → IsForm algos lines f ↔ (f ≡ form algos lines)
 
--- What is said of a line matches the grammar: it is ignored, or an entry, each if and only if the grammar says so. So
--- it is bad if and only if the grammar says neither.
+-- what is said of a line fits the grammar: it is ignored, or an entry, each if and only if the grammar says so; so it
+-- is bad if and only if the grammar says neither
 pub record FitsGrammar (p : Profile) (algos : Algos) (f : Form) (line : ByteString) (said : ParsedLine) : Type 0 where
   pub when_ignored : (said ≡ ignored) ↔ (is_ignored p line ≡ true)
   pub when_entry : (s : EntryValue) → (said ≡ entry s) ↔ IsEntry (escape_by p) algos f line s
 
--- what is computed of a line is what the grammar says of it, whichever the profile
+-- what is computed for a line is what the grammar says of it, under every profile
 abbrev pub ParsesByGrammar : Type 0
 ParsesByGrammar = (p : Profile) (algos : Algos) (f : Form) (line : ByteString)
     → FitsGrammar p algos f line (parse_line p algos f line)
@@ -38,7 +38,7 @@ KeepsParse = (p : Profile) (algos : Algos) (before later others : List ByteStrin
     → parse_line p algos (form algos (before ++ (line ∷ later))) line
     ≡ parse_line p algos (form algos (before ++ (line ∷ others))) line
 
--- nor the form of the list, after a plain line
+-- later lines don't change the form of the list, after a plain line
 abbrev pub KeepsForm : Type 0
 KeepsForm = (algos : Algos) (before later others : List ByteString) (line : ByteString)
     → (e : Bool) (kind : KindValue) (d tail : ByteString) → IsPlain algos line e kind d tail

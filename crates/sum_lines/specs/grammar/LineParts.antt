@@ -14,7 +14,7 @@ pub record LinePartsValue : Type 0 where
   pub digest : ByteString
   pub text : ByteString
 
--- whether a backslash begins the bytes, and what follows it
+-- whether the bytes begin with a backslash, and what follows it
 abbrev pub mark_and_rest : ByteString → Bool × ByteString
 mark_and_rest s = if starts_with ◌==◌ s (codes "\\") then (true, drop 1 s) else (false, s)
 
@@ -27,11 +27,11 @@ plain_parts (One a) line = let text = mark_and_rest (after_while is_blank line) 
   if has_len a (length d) && nat_lt 0 (length tail) then
       Some (record { escaped = text.0; kind = record { algo = a; len = length d }; digest = d; text = tail }) else None
 
--- what follows that text, if it begins the bytes
+-- what follows this text, if the bytes begin with it
 abbrev pub strip_prefix : ByteString → ByteString → Option ByteString
 strip_prefix text s = if starts_with ◌==◌ s text then Some (drop (length text) s) else None
 
--- the one of these algorithms whose tag begins the bytes
+-- the one of these algorithms with whose tag the bytes begin
 abbrev pub tag_in : Algos → ByteString → Option Algo
 tag_in (One a) s = if starts_with ◌==◌ s (tag a) then Some a else None
 tag_in Any s = find (λ a. starts_with ◌==◌ s (tag a)) all_algos

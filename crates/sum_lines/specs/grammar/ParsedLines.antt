@@ -9,7 +9,7 @@ use Rattle.sum_lines.specs.Escape.{Profile, escape_by, ByteString}
 use Rattle.sum_lines.specs.grammar.LineParts.{LinePartsValue, tagged_parts, plain_parts, ◌>>=◌}
 use Rattle.sum_lines.specs.declared.reading.read_line.Reading.TheVariants as readings
 
--- the bytes with one in place of a backslash (92) and the byte after it: a newline for `\n`, a carriage return for `\r`
+-- the bytes, with one byte for a backslash (92) and the byte after it: newline for `\n`, carriage return for `\r`
 abbrev pub unescaped_bytes : ByteString → ByteString
 unescaped_bytes (b ∷ c ∷ cs) =
     if b == 92 then (if c == 110 then 10 else if c == 114 then 13 else c) ∷ unescaped_bytes cs

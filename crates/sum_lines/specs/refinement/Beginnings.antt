@@ -1,4 +1,4 @@
--- Joins what the functions that scan a line return to the parts that it is read as.
+-- Relates what the functions that scan a line return to the parts that the line is read as.
 use Rattle.std.specs.Prelude.{ℕ, ◌≡◌, ◌+◌, ◌<◌, ◌≤◌, true, length, drop, slice_range, get_or, IsTrue, None, Some, Ok}
 use Rattle.std.specs.List.{position_or_len, before_first, after_first}
 use Rattle.sum_lines.specs.grammar.Shapes.{ByteString, Algo, Algos, One, is_blank, decode_of, has_len}

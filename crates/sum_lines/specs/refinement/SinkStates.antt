@@ -1,4 +1,4 @@
--- Joins the calls of a buffer, and the states of the sinks to their logs.
+-- Relates the calls of a buffer to each other, and the states of the sinks to their logs.
 use Rattle.std.specs.Prelude.{ℕ, ◌≡◌, ◌<◌, ◌-◌, [], ◌++◌, length, take, ⊤, Option, unwrap_or, Result, ◌⊎◌, IsOk}
 use Rattle.sum_lines.specs.{Sinks.ByteString, Sinks.SinkState, Sinks.GivesAll, Buffers.BufferState}
 use Rattle.sum_lines.specs.declared.sinks.told_sink.ToldSink.{ToldSink}
@@ -18,7 +18,7 @@ over_writer held log = record log { written = unwrap_or held [] ++ log.written }
 abbrev pub bytes_of : {N : ℕ} → ToldSink N → ByteString
 bytes_of s = take s.len s.bytes
 
--- how many more bytes it accepts before it fails
+-- the number of bytes that it still accepts before it fails
 abbrev pub remaining_capacity : {N : ℕ} → ToldSink N → ℕ
 remaining_capacity s = s.limit - s.len
 

@@ -9,7 +9,7 @@ use crate::reading::line_parts::{Front, is_blank, text_after};
 use digest_kinds::{Algo, Algos, Kind};
 use memchr::memchr2;
 
-// How many digits the longest digest has.
+// The number of digits in the longest digest.
 const MOST_DIGITS: usize = 128;
 
 /// What a line begins with after its blanks and its backslash, if it can be an entry.
@@ -17,13 +17,13 @@ const MOST_DIGITS: usize = 128;
 pub(crate) enum Beginning {
     /// The algorithm's tag.
     Tag(Algo),
-    /// So many bytes, and then a blank. For BLAKE2b they are all that precede the first blank; for another algorithm
-    /// they are as many as it has digits.
+    /// This many bytes, and then a blank. For BLAKE2b they are all the bytes before the first blank; for any other
+    /// algorithm, they are as many as its digests have digits.
     Digits(Algo, usize),
 }
 
-/// What a line of these algorithms begins with. `None` only if the line is neither tagged nor plain. It is a call of
-/// its own, so that an ignored line needs no room for it.
+/// What a line of these algorithms begins with. Returns `None` only if the line is neither tagged nor plain. This is a
+/// separate call, so that an ignored line needs no stack space for it.
 #[inline(never)]
 #[tactic(auto, unfolding(crate::specs::grammar::LineParts::plain_parts, crate::specs::grammar::LineParts::tagged_parts))]
 pub(crate) fn find_beginning(algos: Algos, line: &[u8], front: Front) -> Option<Beginning>
@@ -46,7 +46,7 @@ pub(crate) fn find_beginning(algos: Algos, line: &[u8], front: Front) -> Option<
 fn tag_in(algos: Algos, text: &[u8]) -> Option<Algo>
     ensures { result ≡ tag_in algos text.now }
 {
-    // No tag begins with another letter.
+    // No tag begins with any other letter.
     if !matches!(text, [b'M' | b'S' | b'B', ..]) {
         return None;
     }
@@ -57,8 +57,8 @@ fn tag_in(algos: Algos, text: &[u8]) -> Option<Algo>
     }
 }
 
-// The place of the blank after the digits, if something follows the blank. `None` only if no plain line has such a
-// text. The digits themselves aren't looked at.
+// The place of the blank after the digits, if something follows the blank. Returns `None` only if no plain line has
+// this text. The digits themselves aren't looked at.
 fn digits_end(algo: Algo, text: &[u8]) -> Option<usize>
     ensures not_plain { IfNone result ((d : ByteString) → ¬ BeginsWithDigits algo text.now d) }
     ensures end { IfSome result (EndsDigits algo text.now) }
@@ -70,7 +70,7 @@ fn digits_end(algo: Algo, text: &[u8]) -> Option<usize>
     }
 }
 
-// How many digits the text has if it is that of a plain line. `None` only if no plain line has such a text.
+// How many digits the text has if it is that of a plain line. Returns `None` only if no plain line has this text.
 #[tactic(auto, using(crate::proofs::ScanLemmas::search_none, crate::proofs::ScanLemmas::search_some, crate::proofs::ScanLemmas::fixed_len))]
 fn digits_len(algo: Algo, text: &[u8]) -> Option<usize>
     ensures not_plain { IfNone result ((d : ByteString) → ¬ BeginsWithDigits algo text.now d) }

@@ -39,7 +39,7 @@ pub(crate) struct Front {
     pub(crate) start: usize,
 }
 
-/// What precedes the line's text. It is a call of its own, so that an ignored line needs no room for it.
+/// What precedes the line's text. This is a separate call, so that an ignored line needs no stack space for it.
 #[inline(never)]
 pub(crate) fn front_of(line: &[u8]) -> Front
     ensures { IsFront line.now result }
@@ -73,7 +73,7 @@ pub(crate) fn skip_blanks(s: &[u8]) -> &[u8]
     &s[blanks(s)..]
 }
 
-// How many blanks begin the bytes.
+// The number of blanks that the bytes begin with.
 fn blanks(s: &[u8]) -> usize
     ensures value { result ≡ prefix_len is_blank s.now }
     ensures within { result ≤ length s.now }
@@ -89,7 +89,7 @@ pub(crate) fn past_text<'a>(text: &[u8], s: &'a [u8]) -> Option<&'a [u8]>
     s.strip_prefix(text)
 }
 
-/// What precedes the last such byte, and what follows it.
+/// What precedes the last occurrence of this byte, and what follows it.
 #[tactic(auto, using(crate::proofs::PrefixLemmas::last_split, std::proofs::lemmas::List::take_rest))]
 pub(crate) fn split_at_last(byte: u8, s: &[u8]) -> Option<(&[u8], &[u8])>
     ensures { option_map (λ p. (p.0.now, p.1.now)) result ≡ rsplit_once byte s.now }

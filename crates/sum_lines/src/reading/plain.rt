@@ -11,7 +11,7 @@ ghost use Rattle.sum_lines.specs.refinement.Beginnings.{EndsDigits, IsFront, lin
 use crate::reading::line_parts::{Front, LineParts, text_after};
 use digest_kinds::{Algo, Algos, Digest, Kind};
 
-/// Reads a plain line of that algorithm. In its text, the blank after the digits is at the place `at`. `None` if the
+/// Reads a plain line of this algorithm, in whose text the blank after the digits is at `at`. Returns `None` if the
 /// line isn't plain.
 #[tactic(auto, using(crate::proofs::ScanLemmas::not_plain))]
 pub(crate) fn plain(algo: Algo, line: &[u8], front: Front, at: usize) -> Option<LineParts>
@@ -36,7 +36,7 @@ pub(crate) fn plain(algo: Algo, line: &[u8], front: Front, at: usize) -> Option<
     })
 }
 
-// The algorithm's kind with digests of that length.
+// The algorithm's kind with digests of this length.
 fn kind_of_len(algo: Algo, len: usize) -> Option<Kind>
     ensures { result
         ≡ (if has_len algo len then Some (record { algo = algo; len = len }) else None) }

@@ -18,7 +18,7 @@ use digest_kinds::{Algos, Digest, Kind};
 use memchr::memchr;
 use std::alloc::Allocator;
 
-/// Where the plain lines of a manifest have their names. The first plain line decides it.
+/// Where names begin in the plain lines of a manifest. The first plain line decides it.
 #[derive(Clone, Copy, Debug, PartialEq, Eq)]
 pub enum Form {
     /// There is no plain line so far.
@@ -47,28 +47,28 @@ pub enum Reading {
 
 /// Reads one line of a manifest. `line` has no line end, and `form` is what the earlier lines decided. Returns what the
 /// line says, and the form with this line. The name of an entry is unescaped in place: the vector has it at the range
-/// in the result. An ignored line stays as it is. What a bad one leaves in the vector is unspecified. The vector never
-/// gets longer.
+/// in the result. An ignored line is left as it is. What a bad one leaves in the vector is unspecified. The vector
+/// never gets longer.
 ///
 /// A line is ignored if it is empty or begins with `#`. Any other line may begin with blanks (spaces and tabs), and
 /// then with one backslash. After a backslash the name is escaped (`\\`, `\n`, `\r`). The rest of the line is one of
 /// these:
 ///
-/// - Tagged, as `BLAKE2b-256 (NAME) = DIGITS`. The tag is that of one of `algos`. Only after BLAKE2b's may `-` and the
-///   digest's bits follow; a full digest needs no bits. A space may precede the parenthesis. The name ends at the last
-///   parenthesis. Blanks may stand before and after `=`.
-/// - Plain, as `DIGITS  NAME`, if `algos` is one algorithm. One blank follows the digits, and then a tail that isn't
-///   empty. The first plain line decides the form of all. If its tail begins with a space or `*` and goes on, the form
-///   is `Standard`: a name follows such a byte. If not, the form is `Reversed`: the tail is the name.
+/// - Tagged, as in `BLAKE2b-256 (NAME) = DIGITS`. The tag is that of one of `algos`. Only after BLAKE2b's may `-` and
+///   the digest's bits follow; a full digest needs no bits. A space may precede the parenthesis. The name ends at the
+///   last parenthesis. Blanks may stand before and after `=`.
+/// - Plain, as in `DIGITS  NAME`, if `algos` is one algorithm. One blank follows the digits, and then a tail that isn't
+///   empty. The first plain line decides the form of all. If its tail begins with a space or `*` and more follows, the
+///   form is `Standard`: each name follows such a byte. Otherwise the form is `Reversed`: the tail is the name.
 ///
-/// The digits are hexadecimal, in either case. They are as many as the tag says, or as the algorithm has. A name has no
-/// NUL and isn't empty. Any other line is bad.
+/// The digits are hexadecimal, in either case. Their number is the one that the tag implies, or one that the algorithm
+/// allows. A name has no NUL and isn't empty. Any other line is bad.
 #[inline(always)] // most of what an ignored line costs is the call
 #[tactic(auto, using(crate::proofs::EntryLemmas::ignored_undecided))]
 pub fn read_line<A: Allocator>(algos: Algos, form: Form, line: &mut Vec<u8, A>) -> (Reading, Form)
     // A form that is decided stays; otherwise a plain line decides it, even if its name makes it bad.
     ensures form { result.1 ≡ form_then form (line_form algos line.old.items) }
-    // What the line says, as it is computed. The name of an entry is a range of the vector.
+    // What the line says, as it is computed. An entry's name is a range of the vector.
     ensures parsed { parsed_line_of line.new.items result.0
         ≡ parse_line own_profile algos result.1 line.old.items }
     // The same by the line grammar: ignored, an entry, or bad, each if and only if the grammar says so.
@@ -89,8 +89,8 @@ pub fn read_line<A: Allocator>(algos: Algos, form: Form, line: &mut Vec<u8, A>) 
     }
 }
 
-// Reads a line that isn't ignored and has this beginning; most bad lines have none. It is a call of its own, since it
-// clears room for an entry.
+// Reads a line that isn't ignored and has this beginning; most bad lines have none. This is a separate call, since it
+// clears stack space for an entry.
 #[inline(never)]
 #[tactic(auto, unfolding(crate::specs::grammar::ParsedLines::entry_of))]
 fn read_begun<A: Allocator>(
@@ -157,7 +157,7 @@ fn read_tail<A: Allocator>(form: Form, line: &mut Vec<u8, A>, found: LineParts) 
     }
 }
 
-// The form after a plain line, by whether its tail is that of a Standard one.
+// The form after a plain line, by whether its tail is that of a line in the form Standard.
 fn form_after(form: Form, standard: bool) -> Form
     ensures { result ≡ form_then form (if standard then Form.Standard else Form.Reversed) }
 {
@@ -168,7 +168,7 @@ fn form_after(form: Form, standard: bool) -> Form
     }
 }
 
-// Whether the tail begins with a space or a star and goes on.
+// Whether the tail begins with a space or a star and more follows.
 fn begins_standard(tail: &[u8]) -> bool
     ensures { result ≡ begins_standard tail.now }
 {
@@ -200,8 +200,8 @@ fn read_name<A: Allocator>(line: &mut Vec<u8, A>, found: LineParts) -> Reading
     }
 }
 
-// Puts the name that the bytes from `start` on spell in their place. False if a backslash came first and they are no
-// escape.
+// Replaces the bytes from `start` on by the name that they spell. Returns false if a backslash came first and they are
+// no escape.
 #[tactic(auto, using(crate::proofs::EscapeLemmas::unescaped))]
 fn unspell<A: Allocator>(line: &mut Vec<u8, A>, escaped: bool, start: usize) -> bool
     requires { start ≤ length line.old.items }

@@ -12,7 +12,7 @@ use crate::reading::line_parts::{
 };
 use digest_kinds::{Algo, Algos, Digest, Kind};
 
-/// Reads a line whose text begins with that algorithm's tag. `None` if the line isn't tagged.
+/// Reads a line whose text begins with this algorithm's tag. Returns `None` if the line isn't tagged.
 #[tactic(auto, using(crate::proofs::ScanLemmas::two_digits), unfolding(crate::specs::grammar::LineParts::tagged_parts))]
 pub(crate) fn tagged(algo: Algo, line: &[u8], front: Front) -> Option<LineParts>
     requires front { IsFront line.now front }

@@ -7,15 +7,15 @@ ghost use Rattle.sum_lines.specs.refinement.SinkStates.{MakesRoom};
 use crate::sinks::sink::{Sink, SinkFault, give_all};
 use std::marker::Model;
 
-/// How many bytes a buffer has room for.
+/// The number of bytes that a buffer has room for.
 pub const CAPACITY: usize = 8192;
 
-/// A buffer over a sink. It buffers what it accepts until it is flushed, or is full and gets one more byte. Then it
-/// offers the sink all of that in one piece. So a line of at most [`CAPACITY`] bytes is offered in one piece if nothing
-/// was buffered before the line and the buffer is flushed at its end.
+/// A buffer over a sink. It buffers what it accepts until it is flushed, or until it is full and gets one more byte.
+/// Then it offers the sink everything buffered in one piece. So a line of at most [`CAPACITY`] bytes is offered in one
+/// piece if nothing was buffered before the line and the buffer is flushed at its end.
 ///
 /// A call that returns `SinkFault` leaves nothing buffered: a prefix of the buffered bytes and of the call's text was
-/// written, and the rest is lost. If the call doesn't flush, as [`put_all`], that prefix is a proper one.
+/// written, and the rest is lost. If the call doesn't flush, as with [`put_all`], that prefix is a proper one.
 #[derive(Debug, Drop)]
 pub struct Buffered<S: Sink> {
     sink: S,
@@ -36,7 +36,7 @@ impl<S: Sink> Model for Buffered<S> {
 }
 
 impl<S: Sink> Buffered<S> {
-    /// An empty buffer over `sink`. It is flushed if the sink is.
+    /// Creates an empty buffer over `sink`. It is flushed if the sink is.
     pub fn new(sink: S) -> Self
         ensures { result ≡ record { sink = S.state sink; buffered = [] } }
     {
@@ -47,21 +47,21 @@ impl<S: Sink> Buffered<S> {
         }
     }
 
-    /// The sink below it.
+    /// Returns the sink below it.
     pub fn get_ref(&self) -> &S
         ensures { S.state result.now ≡ self.now.sink }
     {
         &self.sink
     }
 
-    /// The sink below it. What is buffered is lost.
+    /// Returns the sink below it. What is buffered is lost.
     pub fn into_inner(self) -> S
         ensures { S.state result ≡ self.sink }
     {
         self.sink
     }
 
-    /// Offers the sink all that is buffered, in one piece, and flushes the sink. `SinkFault` if that fails.
+    /// Offers the sink all that is buffered, in one piece, and flushes the sink. Returns `SinkFault` if that fails.
     pub fn flush(&mut self) -> Result<(), SinkFault>
         ensures gives { GivesAll self.old.sink self.new.sink self.old.buffered result }
         ensures flushed { IsFlushed self.new }
@@ -90,8 +90,8 @@ impl<S: Sink> Buffered<S> {
         self.give_buffered()
     }
 
-    // Accepts as much of the piece as there is room for. If there is none, it gives the sink what is buffered first.
-    // `SinkFault` if the sink fails then.
+    // Accepts as much of the piece as there is room for. If there is no room, it first gives the sink what is buffered,
+    // and returns `SinkFault` if the sink fails.
     fn accept(&mut self, piece: &[u8]) -> Result<usize, SinkFault>
         requires { 0 < length piece.now }
         ensures { MatchResult result
@@ -117,7 +117,8 @@ fn copy_after(buffer: &mut [u8], len: usize, piece: &[u8]) -> usize
     count
 }
 
-/// Writes all of the bytes to the buffer. `SinkFault` if the sink failed; [`Buffered`] says what was written then.
+/// Writes all of the bytes to the buffer. Returns `SinkFault` if the sink failed; [`Buffered`] says what was written
+/// then.
 #[tactic(auto, using(crate::proofs::SinkLemmas::at_first))]
 pub fn put_all<S: Sink>(sink: &mut Buffered<S>, bytes: &[u8]) -> Result<(), SinkFault>
     ensures { WritesAll sink.old sink.new bytes.now result }

@@ -1,4 +1,4 @@
-//! A sink over a writer of the standard library.
+//! A sink over any `std::io::Write`.
 ghost use Rattle.std.specs.Option.{ForSome};
 ghost use Rattle.std.specs.Prelude.{true, ◌≡◌, ◌+◌, ◌++◌, Some, unwrap_or, []};
 
@@ -23,7 +23,7 @@ pub struct FromWrite<W: Write> {
 impl<W: Write> FromWrite<W> {
     ghost use Rattle.sum_lines.specs.refinement.SinkStates.{over_writer};
 
-    /// A sink over the writer. It has written what the writer is known to hold.
+    /// Creates a sink over the writer. What the writer is known to hold counts as written.
     pub fn new(writer: W) -> Self
         ensures { ⟦<FromWrite<W> as Sink>⟧.state result
             ≡ record {
@@ -40,7 +40,7 @@ impl<W: Write> FromWrite<W> {
         }
     }
 
-    /// The writer.
+    /// Returns the writer.
     pub fn into_inner(self) -> W
         ensures writer { result ≡ self.writer }
         ensures known { ForSome (W.contents self.first.value) (λ bytes.
@@ -50,7 +50,7 @@ impl<W: Write> FromWrite<W> {
         self.writer
     }
 
-    // Notes a failure.
+    // Logs a failure.
     fn fault(&mut self) -> SinkFault
         ensures writer { self.new.writer ≡ self.old.writer }
         ensures first { self.new.first ≡ self.old.first }
@@ -67,8 +67,8 @@ impl<W: Write> Sink for FromWrite<W> {
 
     ghost state = { λ s. over_writer (W.contents s.first.value) s.log };
 
-    /// Writes a piece that isn't empty to the writer, again after each interruption. `SinkFault` if the writer fails,
-    /// accepts nothing of it, or is interrupted for the 1,000th time in a row ([`INTERRUPTIONS`]).
+    /// Writes a nonempty piece to the writer, and retries after each interruption. Returns `SinkFault` if the writer
+    /// fails, accepts nothing of it, or is interrupted for the 1,000th time in a row ([`INTERRUPTIONS`]).
     fn write(&mut self, piece: &[u8]) -> Result<usize, SinkFault> {
         if piece.is_empty() {
             self.log = self.log.and(&Offer(piece, &[]));
@@ -92,7 +92,7 @@ impl<W: Write> Sink for FromWrite<W> {
         Err(self.fault())
     }
 
-    /// Flushes the writer, once. `SinkFault` if that fails.
+    /// Flushes the writer, once. Returns `SinkFault` if that fails.
     fn flush(&mut self) -> Result<(), SinkFault> {
         match self.writer.flush() {
             Ok(()) => {

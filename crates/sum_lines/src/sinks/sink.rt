@@ -4,7 +4,7 @@ ghost use Rattle.sum_lines.specs.Sinks.{SinkState, WritesSome, Flushes, GivesAll
 
 use thiserror::Error;
 
-/// A call of a sink failed.
+/// A call of a sink has failed.
 #[derive(Clone, Copy, Debug, PartialEq, Eq, Error)]
 #[error("a write failed")]
 pub struct SinkFault;
@@ -18,20 +18,20 @@ pub trait Sink {
     /// failed; and whether it is flushed.
     ghost state: { Self → SinkState };
 
-    /// Accepts the first bytes of the piece and returns how many. Of an empty piece that is none. Of any other it is at
-    /// least one, or the call returns `SinkFault` and accepts nothing.
+    /// Accepts the first bytes of the piece and returns how many. Of an empty piece, it accepts none. Of any other
+    /// piece, it accepts at least one byte, or it returns `SinkFault` and accepts nothing.
     fn write(&mut self, piece: &[u8]) -> Result<usize, SinkFault>
         // What was offered and written, the count of failures, and whether the sink is flushed.
         ensures bytes { WritesSome (state self.old) (state self.new) piece.now result }
         ensures empty { piece.now ≡ [] → result ≡ Ok 0 };
 
-    /// Flushes what is below it. `SinkFault` if that failed.
+    /// Flushes what is below it. Returns `SinkFault` if that fails.
     fn flush(&mut self) -> Result<(), SinkFault>
         ensures bytes { Flushes (state self.old) (state self.new) result };
 }
 
-/// Gives a sink all of the bytes. It offers them in one piece, and after a write that accepts a part it offers what
-/// remains. `SinkFault` if a write failed; the first bytes were then written.
+/// Gives a sink all of the bytes. It offers them in one piece, and after a write that accepts only a part, it offers
+/// what remains. Returns `SinkFault` if a write failed; a prefix of the bytes was then written.
 pub(crate) fn give_all<S: Sink>(sink: &mut S, bytes: &[u8]) -> Result<(), SinkFault>
     requires { length bytes.now ≤ 8192 }
     ensures { GivesAll (S.state sink.old) (S.state sink.new) bytes.now result }

@@ -18,7 +18,7 @@ pub struct ToldSink<const N: usize> {
 impl<const N: usize> ToldSink<N> {
     ghost use Rattle.sum_lines.specs.refinement.SinkStates.{bytes_of, remaining_capacity};
 
-    /// An empty sink that accepts `stop` bytes, or N if that is less, and then fails.
+    /// Creates an empty sink that accepts `stop` bytes, or N if that is less, and then fails.
     pub fn new(stop: usize) -> Self
         ensures empty { bytes_of result ≡ [] }
         ensures room { remaining_capacity result ≡ min stop N }
@@ -33,7 +33,7 @@ impl<const N: usize> ToldSink<N> {
         }
     }
 
-    /// The bytes that were written.
+    /// Returns the bytes that were written.
     pub fn bytes(&self) -> &[u8]
         ensures { result.now ≡ bytes_of self.now }
     {
@@ -48,8 +48,8 @@ impl<const N: usize> Sink for ToldSink<N> {
 
     ghost state = { told_sink_state };
 
-    /// Accepts what there is room for. `SinkFault` if and only if there is no room and the piece isn't empty. There is
-    /// no room from then on.
+    /// Accepts what there is room for. Returns `SinkFault` if and only if there is no room and the piece isn't empty.
+    /// From then on there is no room.
     fn write(&mut self, piece: &[u8]) -> Result<usize, SinkFault>
         ensures bytes { WritesSome (told_sink_state self.old) (told_sink_state self.new)
             piece.now result }

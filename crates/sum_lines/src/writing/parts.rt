@@ -20,7 +20,7 @@ pub enum Part<'a> {
     Number(u64),
 }
 
-/// Writes the parts, one after another. `SinkFault` as `put_all`.
+/// Writes the parts, one after another. Returns `SinkFault` as `put_all` does.
 #[doc(hidden)]
 #[tactic(auto, using(crate::proofs::SinkLemmas::at_first))]
 pub fn put_parts<S: Sink>(sink: &mut Buffered<S>, parts: &[Part]) -> Result<(), SinkFault>
@@ -43,7 +43,7 @@ fn put_part<S: Sink>(sink: &mut Buffered<S>, part: Part) -> Result<(), SinkFault
     }
 }
 
-/// Writes the number's decimal digits, without a leading zero. `SinkFault` as `put_all`.
+/// Writes the number's decimal digits, without a leading zero. Returns `SinkFault` as `put_all` does.
 pub fn put_number<S: Sink>(sink: &mut Buffered<S>, number: u64) -> Result<(), SinkFault>
     ensures { WritesAll sink.old sink.new (decimal number) result }
 {

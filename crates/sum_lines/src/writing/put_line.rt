@@ -16,11 +16,11 @@ use digest_kinds::{Digest, Kind};
 /// The layout of a line (coreutils manual, "md5sum invocation").
 #[derive(Clone, Copy, Debug, PartialEq, Eq)]
 pub enum Mode {
-    /// The digits, two spaces, the name.
+    /// The digits, two spaces, and the name.
     Text,
-    /// The digits, a space, `*`, the name.
+    /// The digits, a space, `*`, and the name.
     Binary,
-    /// The tag, the name in parentheses, `=`, the digits.
+    /// The tag, the name in parentheses, `=`, and the digits.
     Tag,
 }
 
@@ -29,12 +29,12 @@ pub enum Mode {
 pub struct Style {
     /// The layout.
     pub mode: Mode,
-    /// Whether lines end with NUL and names aren't escaped.
+    /// Whether lines end with NUL and names are left unescaped.
     pub zero: bool,
 }
 
-/// Writes the line of a name and its digest to the buffer. The digest has the kind's length.
-/// `SinkFault` as `put_all`.
+/// Writes the line of a name and its digest to the buffer. The digest has the kind's length. Returns `SinkFault` as
+/// `put_all` does.
 #[tactic(auto, using(crate::proofs::SinkLemmas::writes_then, crate::proofs::SinkLemmas::writes_stop))]
 pub fn put_line<S: Sink>(
     sink: &mut Buffered<S>,
@@ -66,8 +66,8 @@ fn digits_of<'a>(digest: &Digest, buffer: &'a mut [u8; 128]) -> &'a [u8]
     &buffer[..count]
 }
 
-/// What begins a line, a backslash or nothing; and the name, escaped. A name that is its own escape is searched only
-/// once.
+/// What a line begins with, a backslash or nothing; and the name, escaped. A name that is its own escape is scanned
+/// only once.
 #[doc(hidden)]
 pub fn mark_and_name(name: &[u8]) -> (&'static [u8], Part<'_>)
     ensures mark { result.0.now ≡ mark (escape_differs own_profile name.now) }

@@ -57,7 +57,7 @@ step_items t (steps.Item x state) words = item_value x ∷ remaining_items t sta
 step_items t (steps.Value spelling) words = items_from t words (a_value spelling)
 step_items t steps.OnlyOperands words = map operand words
 
--- the first member was taken, or there is none
+-- the first element was taken, or there is none
 abbrev pub TakesFirst : {X Y : Type 0} → (X → Y) → List Y → Option X → List Y → Type 0
 TakesFirst f old None new = (old ≡ []) × (new ≡ [])
 TakesFirst f old (Some x) new = old ≡ f x ∷ new

@@ -11,7 +11,7 @@ use crate::tool::Tool;
 use digest_kinds::Algos;
 use sum_lines::{Buffered, Part, Sink, SinkFault, put_all, put_parts};
 
-/// Writes the help text to the buffer. `SinkFault` as [`sum_lines::put_all`].
+/// Writes the help text to the buffer. Returns `SinkFault` as [`sum_lines::put_all`] does.
 pub fn put_help<O: Sink>(out: &mut Buffered<O>, tool: Tool) -> Result<(), SinkFault>
     ensures { WritesAll out.old out.new (help tool) result }
 {
@@ -40,7 +40,7 @@ fn purpose(tool: Tool) -> (Part<'static>, Part<'static>, Part<'static>)
     )
 }
 
-// Writes the lines of those of these options that the tool has.
+// Writes the lines of these options, as far as the tool has them.
 fn put_options<O: Sink>(out: &mut Buffered<O>, tool: Tool, flags: &[Flag]) -> Result<(), SinkFault>
     ensures { WritesAll out.old out.new
         (flat_map help_line (filter (has_option tool) flags.now)) result }
@@ -102,7 +102,7 @@ fn value_column(flag: Flag) -> &'static str
     if flag.takes_value() { "=BITS" } else { "" }
 }
 
-// The spaces that fill a name of so many bytes up to 18 columns.
+// The spaces that pad a name of this many bytes to 18 columns.
 fn padding(columns: usize) -> &'static [u8]
     ensures { result.now ≡ replicate (18 - columns) 32 }
 {
@@ -111,7 +111,7 @@ fn padding(columns: usize) -> &'static [u8]
 
 static SPACES: [u8; 18] = [b' '; 18];
 
-/// Writes the version text to the buffer. `SinkFault` as [`sum_lines::put_all`].
+/// Writes the version text to the buffer. Returns `SinkFault` as [`sum_lines::put_all`] does.
 pub fn put_version<O: Sink>(out: &mut Buffered<O>, tool: Tool) -> Result<(), SinkFault>
     ensures { WritesAll out.old out.new (version tool) result }
 {

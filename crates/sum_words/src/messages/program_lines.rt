@@ -10,21 +10,21 @@ use crate::tool::Tool;
 use sum_engine::Stop;
 use sum_lines::{Buffered, Part, Sink, SinkFault, put_all, put_parts};
 
-/// Writes the line for an unknown or missing tool to the buffer. `SinkFault` as [`sum_lines::put_all`].
+/// Writes the line for an unknown or missing tool to the buffer. Returns `SinkFault` as [`sum_lines::put_all`] does.
 pub fn put_unknown<E: Sink>(err: &mut Buffered<E>) -> Result<(), SinkFault>
     ensures { WritesAll err.old err.new unknown_tool_line result }
 {
     put_all(err, b"digests: unknown tool\n")
 }
 
-/// Writes the line for words that could not be read to the buffer. `SinkFault` as [`sum_lines::put_all`].
+/// Writes to the buffer the line for words that could not be read. Returns `SinkFault` as [`sum_lines::put_all`] does.
 pub fn put_not_read<E: Sink>(err: &mut Buffered<E>) -> Result<(), SinkFault>
     ensures { WritesAll err.old err.new not_read_line result }
 {
     put_all(err, b"digests: words not read\n")
 }
 
-/// Writes the line for a stop of a tool's run to the buffer. `SinkFault` as [`sum_lines::put_all`].
+/// Writes the line for a stop of a tool's run to the buffer. Returns `SinkFault` as [`sum_lines::put_all`] does.
 pub fn put_stop<E: Sink>(err: &mut Buffered<E>, tool: Tool, stop: Stop) -> Result<(), SinkFault>
     ensures { WritesAll err.old err.new (stop_line tool stop) result }
 {

@@ -11,18 +11,18 @@ use crate::tool::Tool;
 use sum_lines::{Buffered, Part, Sink, SinkFault, put_parts};
 
 /// A fault in the words, with what its text shows. The first five variants and the last concern a single word: the
-/// earliest in the command line counts. The others are tried after them, in the order of the variants.
+/// earliest in the command line counts. The others are looked for after them, in the order of the variants.
 #[derive(Clone, Copy, Debug, PartialEq, Eq)]
 pub enum WordFault<'a> {
-    /// A long option. No option's name begins with this name, which is shown as it was typed.
+    /// An unknown long option: no option's name begins with this name, which is shown as it was typed.
     UnknownLong(&'a str),
-    /// A long option. Several options' names begin with this name, which is shown as it was typed.
+    /// An ambiguous long option: several options' names begin with this name, which is shown as it was typed.
     AmbiguousLong(&'a str),
-    /// The option of this full name takes no value, and one follows it after `=`.
+    /// The option of this full name takes no value, but one follows it after `=`.
     ValueNotAllowed(&'static str),
     /// No word follows `--length` or `-l`, which takes a value.
     ValueMissing(Spelling),
-    /// This character stands among letters of options, as `x` does in `-bx`, and is no option's letter.
+    /// This character appears among the letters of options, as `x` does in `-bx`, but isn't an option's letter.
     UnknownShort(char),
     /// A length that isn't one or more digits, or is over 512.
     LengthInvalid(&'a [u8]),
@@ -48,11 +48,11 @@ pub enum WordFault<'a> {
     StrictWithoutCheck,
     /// `anysum` without `--check`.
     CheckNeeded,
-    /// This word isn't UTF-8. It begins with a dash and goes on, so it is no operand.
+    /// This word isn't UTF-8. It begins with a dash and isn't a dash alone, so it is no operand.
     NotText(&'a [u8]),
 }
 
-/// Writes the two lines of a fault to the buffer. `SinkFault` as [`sum_lines::put_all`].
+/// Writes the two lines of a fault to the buffer. Returns `SinkFault` as [`sum_lines::put_all`] does.
 pub fn put_fault<E: Sink>(
     err: &mut Buffered<E>,
     tool: Tool,

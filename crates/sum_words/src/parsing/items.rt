@@ -61,7 +61,7 @@ impl<'a> Model for Items<'a> {
 }
 
 impl<'a> Items<'a> {
-    /// All items of a tool's words.
+    /// Creates an iterator over all items of a tool's words.
     pub fn new<A: Allocator>(tool: Tool, words: &'a Words<A>) -> Items<'a>
         ensures { result ≡ items_from tool words.now a_word }
     {
@@ -86,7 +86,7 @@ impl<'a> Iterator for Items<'a> {
     }
 }
 
-// The step of what is read next. `None` if no item remains.
+// The step of what is read next, or `None` if no item remains.
 fn next_step<'a>(
     tool: Tool,
     words: &mut WordsIter<'a>,
@@ -151,14 +151,14 @@ fn word_step<'a>(tool: Tool, word: &'a [u8]) -> ParserStep<'a>
     }
 }
 
-// Whether a word begins with a dash and goes on.
+// Whether a word begins with a dash and isn't a dash alone.
 fn is_option_word(word: &[u8]) -> bool
     ensures { result ≡ is_option_word word.now }
 {
     matches!(word, [b'-', _, ..])
 }
 
-// The step of a word that begins with a dash, goes on and is UTF-8.
+// The step of a word that begins with a dash, isn't a dash alone, and is UTF-8.
 #[tactic(auto, using(crate::proofs::WordLemmas::utf8))]
 fn option_step<'a>(tool: Tool, word: &'a str) -> ParserStep<'a>
     requires { is_option_word word.now ≡ true }
@@ -251,7 +251,7 @@ fn letters_of(word: &str) -> (char, &str)
     }
 }
 
-// The first character of a text, and the rest. `None` if it is empty.
+// The first character of a text, and the rest, or `None` if the text is empty.
 #[tactic(auto, using(std::proofs::lemmas::Str::chars_past_char))]
 fn first_letter(text: &str) -> Option<(char, &str)>
     ensures { MatchOption result ((text.now ≡ []) × (chars text.now ≡ []))
@@ -262,7 +262,7 @@ fn first_letter(text: &str) -> Option<(char, &str)>
     Some((letter, rest.as_str()))
 }
 
-// The word after a prefix. `None` if the word doesn't begin with it.
+// The word after a prefix, or `None` if the word doesn't begin with it.
 #[tactic(auto, using(crate::proofs::WordLemmas::prefix_stripped))]
 fn after_prefix<'a>(prefix: &str, word: &'a str) -> Option<&'a str>
     ensures { MatchOption result (starts_with ◌==◌ word.now prefix.now ≡ false)
@@ -299,7 +299,7 @@ impl<'a> Model for Operands<'a> {
 }
 
 impl<'a> Operands<'a> {
-    /// All operands of a tool's words.
+    /// Creates an iterator over all operands of a tool's words.
     pub fn new<A: Allocator>(tool: Tool, words: &'a Words<A>) -> Operands<'a>
         ensures { result ≡ filter_map operand_in (items_from tool words.now a_word) }
     {

@@ -98,22 +98,22 @@ impl Flag {
         }
     }
 
-    /// The full name, without the two dashes.
+    /// Returns the full name, without the two dashes.
     pub fn name(self) -> &'static str
         ensures { result.now ≡ full_name self }
     {
         self.row().name
     }
 
-    /// Whether the option takes a value.
+    /// Returns whether the option takes a value.
     pub fn takes_value(self) -> bool
         ensures { result ≡ takes_value self }
     {
         matches!(self, Flag::Length)
     }
 
-    /// The tool's option that a long name means: the one of this full name, or else the only one whose full name begins
-    /// with it. `UnknownLong` if no full name does, `AmbiguousLong` if several do.
+    /// Returns the tool's option that a long name means: the one with this full name, or else the only one whose full
+    /// name begins with it. Fails with `UnknownLong` if no full name does, and with `AmbiguousLong` if several do.
     #[tactic(auto, unfolding(crate::specs::Items::name_or_fault))]
     pub fn of_name(tool: Tool, name: &str) -> Result<Flag, WordFault<'_>>
         ensures { result_value result ≡ name_or_fault tool name.now }
@@ -124,7 +124,7 @@ impl Flag {
         }
     }
 
-    /// The tool's option of this letter.
+    /// Returns the tool's option of this letter.
     #[tactic(auto, unfolding(crate::specs::Items::option_of_letter))]
     pub fn of_letter(tool: Tool, letter: char) -> Option<Flag>
         ensures { result ≡ option_of_letter tool letter }

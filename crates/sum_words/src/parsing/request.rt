@@ -17,7 +17,7 @@ use std::alloc::Allocator;
 use sum_engine::{CheckSettings, Report, Settings};
 use sum_lines::{Mode, Style};
 
-/// What a tool's words ask for. If there is no operand, the caller has to take `-` in its place.
+/// What a tool's words ask for. If there is no operand, the caller must use `-` instead.
 #[derive(Debug, Drop)]
 pub enum Request<'a> {
     /// A line for each operand.
@@ -31,8 +31,8 @@ pub enum Request<'a> {
 }
 
 /// Reads what a tool's words ask for (coreutils manual, "md5sum invocation" and "b2sum invocation"). The earliest
-/// `--help`, `--version` or fault of a single word decides. If there is none, the other faults are tried in the order
-/// of [`WordFault`]. It takes no memory.
+/// `--help`, `--version` or fault of a single word decides. If there is none, the other faults are looked for in the
+/// order of [`WordFault`]. This takes no memory.
 pub fn read_words<'a, A: Allocator>(
     tool: Tool,
     words: &'a Words<A>,
@@ -70,7 +70,7 @@ struct Chosen<'a> {
     strict: bool,
 }
 
-// What the words have: their options; or a request or a fault, if a single item decides.
+// What the words contain: their options; or a request or a fault, if a single item decides.
 #[derive(Drop)]
 enum ScannedOptions<'a> {
     Options(Chosen<'a>),
@@ -109,7 +109,7 @@ fn read_options<'a, A: Allocator>(tool: Tool, words: &'a Words<A>) -> ScannedOpt
     ScannedOptions::Options(chosen)
 }
 
-// The options with one more.
+// The options, with one more added.
 fn with_flag(chosen: Chosen<'_>, flag: Flag) -> Chosen<'_>
     ensures { (rest all : List ItemValue) → IsChosenBy chosen.entry (option flag ∷ rest) all →
         IsChosenBy result rest all }
@@ -169,7 +169,7 @@ fn length_kind(value: &[u8]) -> Result<Kind, WordFault<'_>>
     }
 }
 
-// The number of these digits. `None` if there is no digit or another byte, or if the number is 2^64 or more.
+// The number of these digits. Returns `None` if the bytes aren't one or more digits, or if the number is 2^64 or more.
 #[tactic(auto, using(crate::proofs::RequestLemmas::number_parsed, crate::proofs::RequestLemmas::digits_text))]
 fn number(value: &[u8]) -> Option<u64>
     ensures { IsNumberOf value.now result }
@@ -195,7 +195,7 @@ fn all_digits(bytes: &[u8]) -> bool
     true
 }
 
-// The first fault of the options together.
+// The first fault of the options in combination.
 fn fault_of_options(chosen: &Chosen<'_>) -> Option<WordFault<'static>>
     ensures { (xs : List ItemValue) → IsChosenBy chosen.now [] xs →
         option_map word_fault_value result ≡ fault_of_options (filter_map option_in xs) }
