@@ -13,7 +13,7 @@ pub fn some_list_agrees<G: Arguments>(arguments: &G)
 {}
 
 /// A word is plain if it is `-` or doesn't begin with a dash. The plain words at the front are operands, in order,
-/// whatever follows them. After `--`, every word is an operand.
+/// whatever follows them. After a `--` that ends the options, every word is an operand.
 #[tactic(auto, using(crate::proofs::PlainWordLemmas::plain_words))]
 pub fn plain_words_are_operands()
     ensures plain { (t : Tool) (words more : List ByteString) →
