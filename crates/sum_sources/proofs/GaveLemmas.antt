@@ -1,9 +1,9 @@
 -- What the openings of a name gave, after one opening more and after a closing.
-use Rattle.std.proofs.Common.{◌≡◌, ℕ, zero, suc, Bool, true, false, List, [], ◌∷◌, ◌++◌, length, slice_set, Option, None, Some, Result, Ok, refl, ap, bytes_eq}
+use Rattle.std.proofs.Common.{◌≡◌, ℕ, zero, suc, Bool, true, false, List, [], ◌∷◌, ◌++◌, length, slice_set, Option, None, Some, Result, Ok, IfSome, refl, ap, sym, append-nil, bytes_eq}
 use Rattle.std.proofs.lemmas.{Slice.Eq.bytes_eq-Decides, List.Elements.filter_map-append}
-use Rattle.std.specs.Prelude.{slice_get}
-use Rattle.sum_sources.specs.Contents.{Reads, InputState, IsSameInput, Fault}
-use Rattle.sum_sources.specs.Sources.{Opening, SourceState, ToldAnswers, IsOpen, names_of, times, gave_of, closed_at, opened_file, and_opening}
+use Rattle.std.specs.{Prelude.slice_get, Option.option_and_then}
+use Rattle.sum_sources.specs.Contents.{Content, Reads, InputState, HasContent, IsSameInput, Fault}
+use Rattle.sum_sources.specs.Sources.{Answer, Opening, SourceState, ToldAnswers, IsOpen, IsOfAnswer, GivesTold, names_of, times, gave_of, closed_at, opened_file, and_opening, after_closing}
 
 -- a test of names that answers so
 pub same_name : (a b : List ℕ) → bytes_eq a b ≡ true → a ≡ b
@@ -16,6 +16,16 @@ is_same a = (bytes_eq-Decides a a).1 refl
 pub either : {P : Type 0} (b : Bool) → (b ≡ true → P) → (b ≡ false → P) → P
 either true f g = f refl
 either false f g = g refl
+
+-- of an opening that is open, or wasn't made, nothing has to hold
+pub nothing : (told : Option Answer) → IfSome told (λ told. IfSome None (IsOfAnswer told))
+nothing None = tt
+nothing (Some told) = tt
+
+-- what was read of a file in memory is of its content
+pub of_content : (file : InputState) (c : Content) → HasContent file → file.told ≡ Some c
+    → IsOfAnswer (Ok c) (Ok file.reads)
+of_content file c has told = let fits = rw told at has.1 in (c, refl, rw (sym fits) has.2)
 
 -- they are as many as the openings of the name
 pub gave-times : (os : List Opening) (name : List ℕ) → length (gave_of os name) ≡ times name (names_of os)
@@ -80,6 +90,54 @@ gave-others (o ∷ os) name other zero r apart = either (bytes_eq o.name name)
 gave-others (o ∷ os) name other (suc k) r apart = either (bytes_eq o.name other)
     (λ are. rw are (ap (λ gs. o.gave ∷ gs) (gave-others os name other _ r apart)))
     (λ are. rw are (gave-others os name other _ r apart))
+
+-- ---- what holds of each opening, one by one
+
+abbrev given : List (Option (Result Reads Fault)) → ℕ → Option (Result Reads Fault)
+given gs k = option_and_then (λ gave. gave) (slice_get gs k)
+
+-- after one opening more
+pub gives-more : (P : ℕ → Option (Result Reads Fault) → Type 0) (gs : List (Option (Result Reads Fault)))
+    (g : Option (Result Reads Fault)) (k : ℕ) → P (length gs) g → P k (given gs k) → P k (given (gs ++ g ∷ []) k)
+gives-more P [] g zero one h = one
+gives-more P [] g (suc k) one h = h
+gives-more P (x ∷ gs) g zero one h = h
+gives-more P (x ∷ gs) g (suc k) one h = gives-more (λ j. P (suc j)) gs g k one h
+
+-- and after a closing
+pub gives-closed : (P : ℕ → Option (Result Reads Fault) → Type 0) (gs : List (Option (Result Reads Fault)))
+    (i k : ℕ) (r : Reads) → P i (Some (Ok r)) → P k (given gs k) → P k (given (slice_set gs i (Some (Ok r))) k)
+gives-closed P [] i k r one h = h
+gives-closed P (g ∷ gs) zero zero r one h = one
+gives-closed P (g ∷ gs) zero (suc k) r one h = h
+gives-closed P (g ∷ gs) (suc i) zero r one h = h
+gives-closed P (g ∷ gs) (suc i) (suc k) r one h = gives-closed (λ j. P (suc j)) gs i k r one h
+
+-- ---- the law of a source is kept
+
+-- if this opening has the answer, by one opening more
+pub opening_gives : (tells : ToldAnswers) (s : SourceState) (name : List ℕ) (gave : Option (Result Reads Fault))
+    → IfSome (tells s.told name (times name (names_of s.openings))) (λ told. IfSome gave (IsOfAnswer told))
+    → GivesTold tells s → GivesTold tells (and_opening s name gave)
+opening_gives tells s name gave one was other k =
+    rw (gave-append s.openings (record { name = name; gave = gave } ∷ []) other) (either (bytes_eq name other)
+    (λ is. rw is (gives-more (λ j g. IfSome (tells s.told other j) (λ told. IfSome g (IsOfAnswer told))) _ gave k
+    (rw (gave-times s.openings other, ← same_name name other is) one) (was other k)))
+    (λ is. rw (is, append-nil) (was other k)))
+
+pub open_gives : (tells : ToldAnswers) (s : SourceState) (name : List ℕ)
+    → GivesTold tells s → GivesTold tells (and_opening s name None)
+open_gives tells s name = opening_gives tells s name None (nothing (tells s.told name (times name (names_of s.openings))))
+
+-- by a closing, if the file is in memory
+pub closing_gives : (tells : ToldAnswers) (s : SourceState) (file : InputState) (c : Content) → HasContent file
+    → file.told ≡ Some c → tells s.told file.name file.opening ≡ Some (Ok c) → GivesTold tells s
+    → GivesTold tells (after_closing s file)
+closing_gives tells s file c has told is was other j = either (bytes_eq file.name other)
+    (λ one. rw (← same_name file.name other one, gave-closed s.openings file.name file.opening file.reads)
+    (gives-closed (λ k g. IfSome (tells s.told file.name k) (λ told. IfSome g (IsOfAnswer told))) _ file.opening j
+    file.reads (rw is (of_content file c has told)) (was file.name j)))
+    (λ two. rw (gave-others s.openings file.name other file.opening file.reads two) (was other j))
 
 -- the opening that was closed stands between others
 pub closed-seam : (before later : List Opening) (o : Opening) (r : Reads)

@@ -1,62 +1,33 @@
 -- `Inputs`: what an opening and a closing keep.
-use Rattle.std.proofs.Common.{arith, ◌≡◌, ◌<◌, ℕ, zero, suc, true, false, List, [], ◌∷◌, ◌++◌, length, slice_set, Option, None, Some, Result, Ok, IfSome, refl, ap, sym, ◌∙◌, append-nil, codes, bytes_eq, length-append, length-set}
-use Rattle.std.specs.Prelude.{slice_get, filter, not, if◌then◌else◌}
+use Rattle.std.proofs.Common.{◌≡◌, ℕ, zero, suc, true, false, List, [], ◌∷◌, ◌++◌, length, slice_set, Option, None, Some, Result, Ok, IfSome, refl, ap, sym, ◌∙◌, append-nil, codes, bytes_eq}
+use Rattle.std.specs.Prelude.{filter, not, if◌then◌else◌}
 use Rattle.std.specs.List.{cons_option}
 use Rattle.std.specs.{Option.option_and_then, Option.option_map, Result.result_ok}
-use Rattle.std.proofs.Math.Logic.{∥∥₁_elim, ∥∥₁_prop}
 use Rattle.std.proofs.lemmas.Slice.Eq.{bytes_eq-Decides}
 use Rattle.sum_sources.specs.Contents.{Content, InputState, Reads, Fault, HasContent, unread, empty_content}
 use Rattle.sum_sources.specs.StandardInput.{unless_closed, GivesUnread, given_by, put_back, taken}
-use Rattle.sum_sources.specs.Sources.{Answer, Answers, Pair, TellsAll, Opening, SourceState, ToldAnswers, names_of, times, gave_of, closed_at, content_at, opened_file, IsOpen}
+use Rattle.sum_sources.specs.Sources.{Answer, Answers, Pair, TellsAll, Opening, SourceState, ToldAnswers, names_of, times, gave_of, closed_at, content_at, opened_file, IsOpen, IsOfAnswer}
 use Rattle.sum_sources.specs.Inputs.{is_dash, given_once, with_stdin, tells_both, answers_with, inputs_state, without_dash}
-use Rattle.sum_sources.specs.InputsLaws.{given_told}
-use Rattle.sum_sources.specs.refinement.InputsStates.{IsPlaceOf, GivesContent, InputsInvariant}
+use Rattle.sum_sources.specs.refinement.InputsStates.{IsPlaceOf, GivesStdin, InputsInvariant}
 use Rattle.sum_sources.specs.declared.inputs.stdin.StdinPlace.{StdinPlace}
 use Rattle.sum_sources.specs.declared.inputs.stdin.StdinPlace.TheVariants.{Untaken, Taken, Returned}
 use Rattle.sum_sources.specs.declared.inputs.closable.Closable.{Closable}
 use Rattle.sum_sources.specs.declared.inputs.closable.Closable.TheVariants.{Closed}
 use Rattle.sum_sources.specs.{Contents.Whole, Phases.Unfinished}
-use Rattle.sum_sources.proofs.GaveLemmas.{either, same_name, gave-times, gave-append, gave-closed, gave-others}
+use Rattle.sum_sources.proofs.GaveLemmas.{either, same_name, nothing, of_content, gives-more, gives-closed, gave-times, gave-append, gave-closed, gave-others}
 
 -- a test of two names is one of them the other way round
 turned : (a b : List ℕ) → bytes_eq a b ≡ false → bytes_eq b a ≡ false
 turned a b apart = either (bytes_eq b a)
     (λ is. let no = sym apart ∙ (bytes_eq-Decides a b).1 (sym (same_name b a is)) in cc) (λ is. is)
 
--- ---- what holds of each opening of a name
-
--- of one more, that is open, nothing has to
-gives-more : (P : ℕ → Result Reads Fault → Type 0) (gs : List (Option (Result Reads Fault))) (k : ℕ)
-    → IfSome (option_and_then (λ gave. gave) (slice_get gs k)) (P k)
-    → IfSome (option_and_then (λ gave. gave) (slice_get (gs ++ None ∷ []) k)) (P k)
-gives-more P [] zero h = tt
-gives-more P [] (suc k) h = tt
-gives-more P (g ∷ gs) zero h = h
-gives-more P (g ∷ gs) (suc k) h = gives-more (λ j. P (suc j)) gs k h
-
--- what is closed has to be so
-gives-closed : (P : ℕ → Result Reads Fault → Type 0) (gs : List (Option (Result Reads Fault))) (i k : ℕ) (r : Reads)
-    → P i (Ok r) → IfSome (option_and_then (λ gave. gave) (slice_get gs k)) (P k)
-    → IfSome (option_and_then (λ gave. gave) (slice_get (slice_set gs i (Some (Ok r))) k)) (P k)
-gives-closed P [] i k r one h = h
-gives-closed P (g ∷ gs) zero zero r one h = one
-gives-closed P (g ∷ gs) zero (suc k) r one h = h
-gives-closed P (g ∷ gs) (suc i) zero r one h = h
-gives-closed P (g ∷ gs) (suc i) (suc k) r one h = gives-closed (λ j. P (suc j)) gs i k r one h
-
 -- ---- what is in memory
 
--- of standard input
-pub content-dash : (tells : ToldAnswers) (untaken : InputState) (log source : SourceState) (k : ℕ)
-    → content_at (tells_both tells) (inputs_state untaken log source) (codes "-") k
-    ≡ given_once untaken.told (Some empty_content) k
-content-dash tells untaken log source k = rw given_told (by (given_once untaken.told (Some empty_content) k))
-  where
-    by : (c : Option Content) → option_and_then result_ok (option_map {U = Answer} Ok c) ≡ c
-    by None = refl
-    by (Some c) = refl
+ok_again : (c : Option Content) → option_and_then result_ok (option_map {U = Answer} Ok c) ≡ c
+ok_again None = refl
+ok_again (Some c) = refl
 
--- and of another name
+-- of another name than `-`
 pub content-other : (tells : ToldAnswers) (untaken : InputState) (log source : SourceState) (name : List ℕ) (k : ℕ)
     → is_dash name ≡ false
     → content_at (tells_both tells) (inputs_state untaken log source) name k ≡ content_at tells source name k
@@ -91,13 +62,9 @@ pub kept_new : {I : Type 0} (state : I → InputState) (stdin : StdinPlace I) (s
     → InputsInvariant state stdin (unless_closed state (given_by stdin)) (without_dash source).openings source.openings
 kept_new state stdin source = record {
   place = rw (others-dash source.openings) refl;
-  given = λ k. rw (others-dash source.openings) tt;
+  given = λ k. rw (others-dash source.openings) (nothing _);
   files = others-same source.openings;
 }
-
--- what a mere proof proves
-pub mapped : {P Q : Type 0} → ∥ P ∥₁ → (P → Q) → ∥ Q ∥₁
-mapped p f = ∥∥₁_elim p ∥∥₁_prop (λ x. ∣ f x ∣₁)
 
 module _ {I : Type 0} {state : I → InputState} {stdin : StdinPlace I} {untaken : InputState} {os fs : List Opening}
     (kept : InputsInvariant state stdin untaken os fs)
@@ -127,7 +94,8 @@ module _ {I : Type 0} {state : I → InputState} {stdin : StdinPlace I} {untaken
         gave-append os (o ∷ []) (codes "-") ∙ rw (← same) refl in
         record {
           place = rw (more, takes) (later _ stdin);
-          given = λ k. rw more (gives-more (λ k. GivesContent (given_once untaken.told (Some empty_content) k)) _ k (kept.given k));
+          given = λ k. rw more (gives-more (GivesStdin untaken) _ None k
+              (nothing (given_once (option_map Ok untaken.told) (Some (Ok empty_content)) _)) (kept.given k));
           files = λ other apart. gave-append os (o ∷ []) other ∙ rw (← same, apart, append-nil) (kept.files other apart);
         }
       where
@@ -158,14 +126,14 @@ module _ {I : Type 0} {state : I → InputState} {stdin : StdinPlace I} {untaken
 
     -- standard input was put back
     pub kept_back : (name : List ℕ) (k : ℕ) (r : Reads) (given : Closable I) → is_dash name ≡ true
-        → GivesContent (given_once untaken.told (Some empty_content) k) (Ok r)
+        → GivesStdin untaken k (Some (Ok r))
         → InputsInvariant state (put_back stdin given) untaken (closed_at os name k r) fs
     kept_back name k r given is one =
         let same : codes "-" ≡ name = same_name (codes "-") name is in
         let now = gave-closed os (codes "-") k r in
         rw (← same) (record {
           place = rw now (back _ stdin kept.place);
-          given = λ j. rw now (gives-closed (λ k. GivesContent (given_once untaken.told (Some empty_content) k)) _ k j r one (kept.given j));
+          given = λ j. rw now (gives-closed (GivesStdin untaken) _ k j r one (kept.given j));
           files = λ other apart. gave-others os (codes "-") other k r apart ∙ kept.files other apart;
         })
       where
@@ -200,12 +168,17 @@ module _ {I : Type 0} {state : I → InputState} {stdin : StdinPlace I} (tells :
         ≡ opened_file (tells_both tells) (inputs_state untaken log source) name
     stdin_opened name given is gives fresh =
         let same : codes "-" ≡ name = same_name (codes "-") name is in
-        rw (← same, content-dash tells untaken log source, ← gave-times log.openings (codes "-")) (rw gives (by _ fresh kept.place))
+        rw (← same, ← gave-times log.openings (codes "-")) (rw gives (by _ fresh kept.place))
       where
         by : (gs : List (Option (Result Reads Fault))) → GivesUnread state stdin → IsPlaceOf state stdin untaken gs
-            → record (unless_closed state (given_by stdin)) { name = codes "-"; opening = length gs }
-            ≡ record { name = codes "-"; opening = length gs; told = given_once untaken.told (Some empty_content) (length gs); reads = unread }
-        by [] new was = rw (new, was) refl
+            → record (unless_closed state (given_by stdin)) { name = codes "-"; opening = length gs } ≡ record {
+              name = codes "-";
+              opening = length gs;
+              told = option_and_then (result_ok {E = Fault}) (given_once (option_map Ok untaken.told)
+                  (Some (Ok empty_content)) (length gs));
+              reads = unread;
+            }
+        by [] new was = rw (new, was) (rw (ok_again untaken.told) refl)
         by (g ∷ gs) new was = rw was refl
 
     -- a file of the source
@@ -225,13 +198,14 @@ module _ {I : Type 0} {state : I → InputState} {stdin : StdinPlace I} (tells :
     -- what was read of standard input
     pub stdin_gives : (file : InputState) → HasContent file → is_dash file.name ≡ true
         → IsOpen (tells_both tells) (inputs_state untaken log source) file
-        → GivesContent (given_once untaken.told (Some empty_content) file.opening) (Ok file.reads)
+        → GivesStdin untaken file.opening (Some (Ok file.reads))
     stdin_gives file has is here =
         let same : codes "-" ≡ file.name = same_name (codes "-") file.name is in
-        let told : file.told ≡ given_once untaken.told (Some empty_content) file.opening =
-        rw (← same) at here.told ∙ content-dash tells untaken log source file.opening in
-        by (given_once untaken.told (Some empty_content) file.opening) told
+        by untaken.told file.opening (rw (← same) at here.told)
       where
-        by : (c : Option Content) → file.told ≡ c → GivesContent c (Ok file.reads)
-        by None told = tt
-        by (Some c) told = let fits = rw told at has.1 in (c, refl, rw (sym fits) has.2)
+        by : (stdin : Option Content) (k : ℕ)
+            → file.told ≡ option_and_then (result_ok {E = Fault}) (given_once (option_map Ok stdin) (Some (Ok empty_content)) k)
+            → IfSome (given_once (option_map Ok stdin) (Some (Ok empty_content)) k) (λ told. IsOfAnswer told (Ok file.reads))
+        by None zero told = tt
+        by (Some c) zero told = of_content file c has told
+        by stdin (suc k) told = of_content file empty_content has told

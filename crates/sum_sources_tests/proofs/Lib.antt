@@ -1,2 +1,1 @@
-pub mod FrontsLemmas
 pub mod RestLemmas

@@ -4,9 +4,7 @@ use Rattle.std.specs.Option.{option_map}
 use Rattle.digest_kinds.specs.Bytes.{ByteString}
 use Rattle.sum_sources.specs.Contents.{Content}
 use Rattle.sum_sources.specs.declared.fault.Ending.TheVariants.{Whole}
-use Rattle.std.proofs.Math.Logic.{∥∥₁_elim}
-use Rattle.sum_sources.specs.InputsLaws.{gives-prop}
-use Rattle.sum_sources.specs.Sources.{Answer, GivesTold, Pair, SourceState, ToldAnswers, gave_at}
+use Rattle.sum_sources.specs.Sources.{Answer, Pair, SourceState, ToldAnswers}
 
 -- a content that ends whole
 abbrev pub whole : ByteString → Content
@@ -28,9 +26,3 @@ tells_fronts (text ∷ others) name k = option_map (λ text. front_answer text n
 -- the state of a source of this text, by its log
 abbrev pub fronts_state : ByteString → SourceState → SourceState
 fronts_state text log = record log { told = told_text text }
-
--- its law
-pub fronts_give : (text : ByteString) (log : SourceState) → ∥ GivesTold tells_fronts (fronts_state text log) ∥₁
-    → GivesTold tells_fronts (fronts_state text log)
-fronts_give text log kept name k = ∥∥₁_elim kept
-    (gives-prop (tells_fronts (told_text text) name k) (gave_at log.openings name k)) (λ kept. kept name k)

@@ -1,5 +1,6 @@
 //! A source in memory that computes its answers.
 ghost use Rattle.std.specs.Prelude.{◌≡◌};
+ghost use Rattle.sum_sources.specs.SourceLaws.{GivesTold-prop};
 ghost use Rattle.sum_sources.specs.Sources.{GivesTold};
 ghost use Rattle.sum_sources.specs.StandardInput.{told_file};
 ghost use Rattle.sum_sources.specs.refinement.ToldPairs.{told_value};
@@ -37,7 +38,8 @@ impl<'a> Input for Front<'a> {
 pub struct Fronts<'a> {
     text: &'a [u8],
     log: SourceLog,
-    ghost is: { ∥ GivesTold tells_fronts (fronts_state text.now log) ∥₁ },
+    ghost gives: { GivesTold tells_fronts (fronts_state text.now log) }
+        by { GivesTold-prop tells_fronts (fronts_state text.now log) },
 }
 
 impl<'a> Fronts<'a> {
@@ -51,8 +53,6 @@ impl<'a> Fronts<'a> {
 }
 
 impl<'a> Source for Fronts<'a> {
-    ghost use Rattle.sum_sources_tests.specs.Fronts.{fronts_give};
-
     type File = Front<'a>;
 
     ghost state = { λ s. fronts_state s.text.now s.log };
@@ -71,5 +71,5 @@ impl<'a> Source for Fronts<'a> {
         self.log = self.log.and(&Note::Closed(&file.log));
     }
 
-    ghost gives_told = { λ s. fronts_give s.text.now s.log s.is };
+    ghost gives_told = { λ s. s.gives };
 }

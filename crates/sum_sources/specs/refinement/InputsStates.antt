@@ -1,6 +1,7 @@
 -- What standard input and a source of files keep, as one source.
-use Rattle.std.specs.Prelude.{ℕ, zero, suc, ◌≡◌, false, List, [], ◌∷◌, codes, Option, Some, IfSome, Result, Ok}
-use Rattle.sum_sources.specs.{Contents.Content, Contents.InputState, Contents.Reads, Contents.Fault, Contents.empty_content, Contents.Whole, Faults.ByteString, Phases.Unfinished, StandardInput.given_by, StandardInput.unless_closed}
+use Rattle.std.specs.Prelude.{ℕ, ◌≡◌, false, List, [], ◌∷◌, codes, Option, Some, IfSome, Result, Ok}
+use Rattle.std.specs.Option.{option_map}
+use Rattle.sum_sources.specs.{Contents.InputState, Contents.Reads, Contents.Fault, Contents.empty_content, Contents.Whole, Faults.ByteString, Phases.Unfinished, StandardInput.given_by, StandardInput.unless_closed}
 use Rattle.sum_sources.specs.Sources.{Opening, gave_of, gave_at, IsOfAnswer}
 use Rattle.sum_sources.specs.Inputs.{is_dash, given_once}
 use Rattle.sum_sources.specs.declared.inputs.stdin.StdinPlace.{StdinPlace}
@@ -12,15 +13,15 @@ abbrev pub IsPlaceOf : {I : Type 0} → (I → InputState) → StdinPlace I → 
 IsPlaceOf state place untaken [] = (unless_closed state (given_by place)).told ≡ untaken.told
 IsPlaceOf state place untaken (g ∷ gs) = given_by place ≡ Closed Whole Unfinished
 
--- what an opening gave is of the content in memory, if that is there
-abbrev pub GivesContent : Option Content → Result Reads Fault → Type 0
-GivesContent content gave = IfSome content (λ c. IsOfAnswer (Ok c) gave)
+-- what an opening of `-` gave is of its answer, if that is known
+abbrev pub GivesStdin : InputState → ℕ → Option (Result Reads Fault) → Type 0
+GivesStdin untaken k gave =
+    IfSome (given_once (option_map Ok untaken.told) (Some (Ok empty_content)) k) (λ told. IfSome gave (IsOfAnswer told))
 
 -- of standard input, what it was before it was taken, the openings of both, and those of the source
 pub record InputsInvariant {I : Type 0} (state : I → InputState) (stdin : StdinPlace I) (untaken : InputState)
     (openings source : List Opening) : Type 0 where
   pub place : IsPlaceOf state stdin untaken (gave_of openings (codes "-"))
-  -- what `-` gave is of the content in memory
-  pub given : (k : ℕ) → IfSome (gave_at openings (codes "-") k) (GivesContent (given_once untaken.told (Some empty_content) k))
+  pub given : (k : ℕ) → GivesStdin untaken k (gave_at openings (codes "-") k)
   -- each other name was opened in the source, and nothing else was
   pub files : (name : ByteString) → is_dash name ≡ false → gave_of openings name ≡ gave_of source name

@@ -1,14 +1,15 @@
 //! A source of files in memory.
 ghost use Rattle.std.specs.Option.{option_map};
 ghost use Rattle.std.specs.Prelude.{◌≡◌, ◌≤◌, ◌++◌, ◌∷◌, [], OnOk, OnErr, MatchBool, length, map, max, slice_get};
-ghost use Rattle.sum_sources.specs.InMemory.{first_answer, told_source};
-ghost use Rattle.sum_sources.specs.Sources.{names_of, times};
-ghost use Rattle.sum_sources.specs.refinement.ToldPairs.{pair_of, answer_value};
+ghost use Rattle.sum_sources.specs.InMemory.{first_answer, tells_first};
+ghost use Rattle.sum_sources.specs.Logs.{no_openings};
+ghost use Rattle.sum_sources.specs.SourceLaws.{GivesTold-prop};
+ghost use Rattle.sum_sources.specs.Sources.{GivesTold, names_of, times};
+ghost use Rattle.sum_sources.specs.refinement.ToldPairs.{pair_of, answer_value, told_source};
 
 use crate::sources::source_log::{Note, Openings, SourceLog, next_file};
 use crate::{Ending, Fault, Input, NoRoom, OpenFault, Source, Told};
 use std::alloc::Allocator;
-use std::marker::Model;
 
 /// What a source in memory answers for a name.
 #[derive(Clone, Copy, Debug)]
@@ -35,23 +36,8 @@ pub struct ToldSource<'a, A: Allocator + Copy> {
     alloc: A,
     piece: usize,
     log: SourceLog,
-}
-
-impl<'a, A: Allocator + Copy> Model for ToldSource<'a, A> {
-    ghost use Rattle.std.specs.Prelude.{◌≡◌, map};
-    ghost use Rattle.sum_sources.specs.InMemory.{ToldFiles};
-    ghost use Rattle.sum_sources.specs.refinement.ToldPairs.{pair_of};
-
-    ghost Value = { ToldFiles };
-
-    ghost view = { λ s. record {
-      pairs = map pair_of s.pairs.items;
-      piece = s.piece;
-      openings = s.log.openings;
-      refusals = s.log.refusals;
-    } };
-
-    ghost invariant = { λ s. map (λ v. v.items) s.asked.items ≡ map (λ o. o.name) s.log.openings };
+    ghost names: { map (λ v. v.items) asked.items ≡ names_of log.openings },
+    ghost gives: { GivesTold tells_first (told_source pairs.items log) } by { GivesTold-prop tells_first (told_source pairs.items log) },
 }
 
 // How often a name is among these.
@@ -83,7 +69,7 @@ fn answer_to<'a, A: Allocator>(pairs: &[StoredPair<'a, A>], name: &[u8], times: 
 impl<'a, A: Allocator + Copy> ToldSource<'a, A> {
     /// A source without names, whose files give at most `piece` bytes a read (0 counts as 1).
     pub fn new(alloc: A, piece: usize) -> ToldSource<'a, A>
-        ensures { result ≡ record { pairs = []; piece = max piece 1; openings = []; refusals = 0 } }
+        ensures { (told_source result.pairs.items result.log ≡ no_openings) × (result.piece ≡ max piece 1) }
     {
         ToldSource {
             pairs: Vec::new(alloc),
@@ -97,14 +83,17 @@ impl<'a, A: Allocator + Copy> ToldSource<'a, A> {
     /// Adds a pair of a name and its answer. An earlier pair with that name still answers for it. `NoRoom` if memory is
     /// refused; the pairs are then as before.
     pub fn add(&mut self, name: &[u8], answer: Answer<'a>) -> Result<(), NoRoom>
-        ensures ok { OnOk result (self.new ≡ record self.old {
-          pairs = self.old.pairs ++ record {
-            name = name.now;
-            from = times name.now (names_of self.old.openings);
-            answer = Some (answer_value answer.entry);
-          } ∷ [];
-        }) }
-        ensures err { OnErr result (self.new ≡ self.old) }
+        ensures ok { OnOk result (told_source self.new.pairs.items self.new.log ≡
+            record (told_source self.old.pairs.items self.old.log) {
+              told = map pair_of self.old.pairs.items ++ record {
+                name = name.now;
+                from = times name.now (names_of self.old.log.openings);
+                answer = Some (answer_value answer.entry);
+              } ∷ [];
+            }) }
+        ensures err { OnErr result (told_source self.new.pairs.items self.new.log
+            ≡ told_source self.old.pairs.items self.old.log) }
+        ensures piece { self.new.piece ≡ self.old.piece }
     {
         let from = times(&self.asked, name);
         let Ok(name) = Vec::from_slice(self.alloc, name) else {
@@ -119,7 +108,7 @@ impl<'a, A: Allocator + Copy> ToldSource<'a, A> {
     /// The name at place `i`, from 0, of the names asked so far.
     pub fn asked_name(&self, i: usize) -> Option<&[u8]>
         ensures { option_map (λ n. n.now) result
-            ≡ slice_get (map (λ o. o.name) self.now.openings) i }
+            ≡ slice_get (names_of self.now.log.openings) i }
     {
         match self.asked.get(i) {
             Some(name) => Some(name.as_slice()),
@@ -141,12 +130,9 @@ fn add_name<A: Allocator + Copy>(alloc: A, asked: &mut Vec<Vec<u8, A>, A>, name:
 }
 
 impl<'a, A: Allocator + Copy> Source for ToldSource<'a, A> {
-    ghost use Rattle.sum_sources.specs.InMemory.{tells_first};
-    ghost use Rattle.sum_sources.specs.SourceLaws.{told_gives};
-
     type File = Told<'a>;
 
-    ghost state = { λ s. told_source s };
+    ghost state = { λ s. told_source s.pairs.items s.log };
 
     ghost tells = { tells_first };
 
@@ -173,5 +159,5 @@ impl<'a, A: Allocator + Copy> Source for ToldSource<'a, A> {
         self.log = self.log.and(&Note::Closed(file.log()));
     }
 
-    ghost gives_told = { told_gives };
+    ghost gives_told = { λ s. s.gives };
 }

@@ -1,4 +1,4 @@
-use Rattle.std.proofs.Common.{◌≡◌, drop, map, Some, Err}
+use Rattle.std.proofs.Common.{◌≡◌, drop, map}
 use Rattle.sum_sources.specs.{InMemory.first_answer, refinement.ToldPairs.pair_of}
 use Rattle.sum_sources.proofs.sources.told_source.answer_to.Given as goal
 

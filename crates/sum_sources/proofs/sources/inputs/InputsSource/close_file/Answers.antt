@@ -1,8 +1,8 @@
 use Rattle.std.proofs.Common.{◌≡◌, ◌∙◌, ap, true, false}
-use Rattle.std.proofs.Math.Logic.{∥∥₁_elim}
+use Rattle.std.proofs.Math.Logic.{∥∥₁_elim, ∥∥₁_map}
 use Rattle.std.proofs.Props.{props}
 use Rattle.sum_sources.specs.Inputs.{is_dash, is_stdin, opened_state, opened_has_content}
-use Rattle.sum_sources.proofs.InputsLemmas.{mapped, kept_closing, kept_back, open_there, stdin_gives}
+use Rattle.sum_sources.proofs.InputsLemmas.{kept_closing, kept_back, open_there, stdin_gives}
 use Rattle.sum_sources.proofs.sources.inputs.InputsSource.close_file.Goals as goal
 
 -- standard input was put back
@@ -13,7 +13,7 @@ invariant_of-self g c =
     let has = opened_has_content g.I.Input.state g.S.File.Input.state g.met.I.Input.has_content
     g.met.S.File.Input.has_content c.args.file.place in
     record {
-      is = rw (c.and-self.ensures, c.put_back.ensures) (mapped c.args.self.now.is (λ kept.
+      is = rw (c.and-self.ensures, c.put_back.ensures) (∥∥₁_map c.args.self.now.is (λ kept.
           kept_back kept file.name file.opening file.reads c.in-Stdin.given dash
           (stdin_gives g.S.Source.tells c.args.self.now.untaken c.args.self.now.log (g.S.Source.state c.args.self.now.source) kept
           file has dash c.requires)));
@@ -34,7 +34,7 @@ invariant_of-self-in-File g c =
     let file = opened_state g.I.Input.state g.S.File.Input.state in
     let other : is_dash (file c.args.file.place).name ≡ false = c.args.file.named ∙ ap is_stdin c.in-File.is in
     record {
-      is = rw (c.and-self.ensures, c.close_file.ensures, c.in-File.is) (mapped c.args.self.now.is (λ kept.
+      is = rw (c.and-self.ensures, c.close_file.ensures, c.in-File.is) (∥∥₁_map c.args.self.now.is (λ kept.
           kept_closing kept (g.S.File.Input.state c.in-File.file).name (g.S.File.Input.state c.in-File.file).opening
           (g.S.File.Input.state c.in-File.file).reads (rw c.in-File.is at other)));
     }

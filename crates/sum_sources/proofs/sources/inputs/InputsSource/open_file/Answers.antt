@@ -1,15 +1,15 @@
 use Rattle.std.proofs.Common.{◌∙◌, sym, ap}
-use Rattle.std.proofs.Math.Logic.{∥∥₁_elim}
+use Rattle.std.proofs.Math.Logic.{∥∥₁_elim, ∥∥₁_map}
 use Rattle.std.proofs.Props.{props}
 use Rattle.sum_sources.specs.Inputs.{opened_state}
-use Rattle.sum_sources.proofs.InputsLemmas.{mapped, kept_opening, kept_stdin, stdin_opened, file_opened}
+use Rattle.sum_sources.proofs.InputsLemmas.{kept_opening, kept_stdin, stdin_opened, file_opened}
 use Rattle.sum_sources.proofs.sources.inputs.InputsSource.open_file.Goals as goal
 
 -- ---- `-`
 
 pub invariant_of-self : goal.invariant_of-self
 invariant_of-self g c = record {
-  is = rw c.and-self.ensures (mapped c.args.self.now.is (λ kept.
+  is = rw c.and-self.ensures (∥∥₁_map c.args.self.now.is (λ kept.
       kept_stdin kept c.args.name.now _ (sym c.is_dash.ensures ∙ c.if-is_dash.true) c.take.ensures.taken));
 }
 
@@ -28,14 +28,14 @@ returns-then-is_dash-clause-stdin g c =
 
 pub invariant_of-self-in-Ok : goal.invariant_of-self-in-Ok
 invariant_of-self-in-Ok g c = record {
-  is = rw (c.and-self-in-Ok.ensures, c.in-Ok.ensures.state) (mapped c.args.self.now.is (λ kept.
+  is = rw (c.and-self-in-Ok.ensures, c.in-Ok.ensures.state) (∥∥₁_map c.args.self.now.is (λ kept.
       kept_opening kept c.args.name.now _ (sym c.is_dash.ensures ∙ c.if-is_dash.false)));
 }
 
 pub invariant_of-self-in-Err-Fault : goal.invariant_of-self-in-Err-Fault
 invariant_of-self-in-Err-Fault g c = record {
   is = rw (c.and-self-in-Err-Fault.ensures, rw c.in-Err-Fault.field-0-is at c.in-Err-Fault.ensures.state)
-      (mapped c.args.self.now.is (λ kept.
+      (∥∥₁_map c.args.self.now.is (λ kept.
       kept_opening kept c.args.name.now _ (sym c.is_dash.ensures ∙ c.if-is_dash.false)));
 }
 

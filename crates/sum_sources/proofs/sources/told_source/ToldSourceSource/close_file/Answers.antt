@@ -1,14 +1,23 @@
-use Rattle.sum_sources.specs.refinement.ToldPairs.{told_value}
-use Rattle.sum_sources.proofs.{GaveLemmas.names-closed, ToldSourceLemmas.value, ToldSourceLemmas.closed_state}
+use Rattle.std.proofs.Common.{◌≡◌, Some, Ok, Err, refl, ap}
+use Rattle.std.specs.Result.{result_ok}
+use Rattle.sum_sources.specs.{Contents.Content, InputLaws.told_file_has_content, InMemory.tells_first, Sources.Answer, StandardInput.told_file, refinement.ToldPairs.told_source, refinement.ToldPairs.told_value}
+use Rattle.sum_sources.proofs.GaveLemmas.{names-closed, closing_gives}
 use Rattle.sum_sources.proofs.sources.told_source.ToldSourceSource.close_file.Goals as goal
 
--- its name stays
-pub invariant_of-self : goal.invariant_of-self
-invariant_of-self g c =
-    rw (c.and-self-inside.ensures, c.log.ensures, names-closed) c.self.invariant
+-- the answer that has this content
+has_content : (answer : Answer) (c : Content) → Some c ≡ result_ok answer → answer ≡ Ok c
+has_content (Ok d) c is = cc
+has_content (Err f) c is = cc
 
--- and what was read of it shows
-pub returns : goal.returns
-returns g c =
-    rw (← c.self.view_is, c.and-self-inside.ensures, c.log.ensures)
-    (closed_state (value c.self.inside) (told_value c.args.file) (rw (← c.self.view_is) at c.requires))
+-- the names stay
+pub invariant_of-self-clause-names : goal.invariant_of-self-clause-names
+invariant_of-self-clause-names g c = rw (c.and-self.ensures, names-closed) c.args.self.now.names
+
+-- what was read of the file is of its content
+pub invariant_of-self-clause-gives : goal.invariant_of-self-clause-gives
+invariant_of-self-clause-gives g c =
+    let s = c.args.self.now in
+    let file = told_value c.args.file in
+    rw (c.and-self.ensures, c.log.ensures) (closing_gives tells_first (told_source s.pairs.items s.log)
+    (told_file file) file.content (told_file_has_content file) refl
+    (ap Some (has_content _ file.content c.requires.told)) s.gives)

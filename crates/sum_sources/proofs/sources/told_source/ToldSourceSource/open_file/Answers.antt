@@ -1,36 +1,17 @@
-use Rattle.std.proofs.Common.{rules, refl, ap, ◌∙◌, ◌≡◌, Some, Ok, Err, map}
-use Rattle.sum_sources.specs.{InMemory.first_answer, Sources.times, Sources.names_of, StandardInput.told_file, refinement.ToldPairs.pair_of}
-use Rattle.sum_sources.proofs.ToldSourceLemmas.{value, opened_state, told_names}
-use Rattle.sum_sources.proofs.sources.told_source.ToldSourceSource.open_file.Goals.{In-Fault, In-Content}
-use Rattle.sum_sources.proofs.sources.told_source.ToldSourceSource.open_file.Given as given
+use Rattle.std.proofs.Common.{rules, Some, Err}
+use Rattle.sum_sources.specs.{InMemory.tells_first, refinement.ToldPairs.told_source}
+use Rattle.sum_sources.proofs.GaveLemmas.{open_gives, opening_gives}
 use Rattle.sum_sources.proofs.sources.told_source.ToldSourceSource.open_file.Goals as goal
 
--- the answer to the opening that has so many of its name before it: a fault, or a content
-fault : (g : given.Over) (c : In-Fault g) → first_answer (map pair_of c.self.inside.pairs.items)
-    c.args.name.now (times c.args.name.now (names_of c.self.inside.log.openings)) ≡ Err c.in-Fault.fault
-fault g c = rw (← c.self.invariant) (search rules)
+-- the fault is its answer
+pub invariant_of-self-in-Fault-clause-gives : goal.invariant_of-self-in-Fault-clause-gives
+invariant_of-self-in-Fault-clause-gives g c =
+    let s = c.args.self.now in
+    rw c.and-self-in-Fault.ensures (opening_gives tells_first (told_source s.pairs.items s.log) c.args.name.now
+    (Some (Err c.in-Fault.fault)) (rw (← s.names) (search rules)) s.gives)
 
-content : (g : given.Over) (c : In-Content g) → first_answer (map pair_of c.self.inside.pairs.items)
-    c.args.name.now (times c.args.name.now (names_of c.self.inside.log.openings))
-    ≡ Ok (record { bytes = c.in-Content.content.now; ending = c.in-Content.ending })
-content g c = rw (← c.self.invariant) (search rules)
-
--- and so the state shows it
-pub returns-in-Fault-clause-state : goal.returns-in-Fault-clause-state
-returns-in-Fault-clause-state g c =
-    let is = fault g (goal.at.returns-in-Fault-clause-state g c).In-Fault in
-    rw (← c.self.view_is, c.and-self-inside-in-Fault.ensures)
-    (opened_state (value c.self.inside) _ (rw is refl))
-
-pub returns-in-Content-clause-state : goal.returns-in-Content-clause-state
-returns-in-Content-clause-state g c =
-    let is = content g (goal.at.returns-in-Content-clause-state g c).In-Content in
-    rw (← c.self.view_is, c.and-self-inside-in-Content.ensures)
-    (opened_state (value c.self.inside) _ (rw is refl))
-
--- the file has the content of the answer
-pub returns-in-Content-clause-file : goal.returns-in-Content-clause-file
-returns-in-Content-clause-file g c =
-    let is = content g (goal.at.returns-in-Content-clause-file g c).In-Content in
-    ap told_file c.opened-file.ensures
-    ∙ rw (c.next_file.ensures, ← c.self.view_is, told_names, is) refl
+-- the file is open
+pub invariant_of-self-in-Content-clause-gives : goal.invariant_of-self-in-Content-clause-gives
+invariant_of-self-in-Content-clause-gives g c =
+    let s = c.args.self.now in
+    rw c.and-self-in-Content.ensures (open_gives tells_first (told_source s.pairs.items s.log) c.args.name.now s.gives)
