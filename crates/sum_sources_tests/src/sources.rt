@@ -14,7 +14,6 @@ use sum_sources::{
 };
 
 // The file of this name has this digest.
-#[tactic(auto, using(sum_sources::proofs::GaveLemmas::is_open_last))]
 fn hashes<S: Source>(
     rt: &impl Abort,
     source: &mut S,
@@ -29,7 +28,6 @@ fn hashes<S: Source>(
 }
 
 // No file of this name is opened, by this fault.
-#[tactic(auto, using(sum_sources::proofs::GaveLemmas::is_open_last))]
 fn refuses<S: Source>(rt: &impl Abort, source: &mut S, name: &[u8], fault: OpenFault) {
     let found = match source.open_file(name) {
         Ok(file) => {
@@ -81,7 +79,6 @@ fn told_source(rt: HostRuntime) -> Result<(), Fail> {
 }
 
 // The file of this name holds "abc".
-#[tactic(auto, using(sum_sources::proofs::GaveLemmas::is_open_last))]
 fn holds_abc<S: Source>(rt: &impl Abort, source: &mut S, name: &[u8]) -> Result<(), Fail> {
     let mut buf = [0; 8];
     let mut file = source.open_file(name)?;
