@@ -73,4 +73,5 @@ class Said(Case):
                 found.update(fitting)
             missing = [mark for mark in self.marks() if mark not in found]
             self.assertEqual([re.sub(r"\W", "", mark) for mark in missing],
-                             ["Inputoutputerror", "memoryexhausted", "digestswordsnotread", "thismachinelacksafeatureofx8664v3"])
+                             ["Inputoutputerror", "memoryexhausted", "digestswordsnotread",
+                              "thismachinelacksafeatureofx8664v3"])
