@@ -34,14 +34,14 @@ pub data Event : Type 0 where
   open_name : ByteString → Event
   to_err to_out : OutputEvent → Event
 
--- between two points at which memory may run out: at most one name is opened, then `err` is written, then `out`
+-- a step, between two points at which memory may run out: at most one name is opened, then `err` is written, then `out`
 pub record Step : Type 0 where
   pub names : List ByteString
   pub err : ByteString  -- a text to standard error
-  pub out : ByteString  -- one to standard output
+  pub out : ByteString  -- a text to standard output
   pub remaining : ℕ  -- how many bytes of a manifest remain before it: those of its own line, if any, and later ones
 
--- a list of steps, and whether all is good
+-- a behavior: a list of steps, and whether all is good
 pub record Behavior : Type 0 where
   pub steps : List Step
   pub good : Bool
@@ -54,7 +54,7 @@ events_of s = map open_name s.names ++ (map to_err (output_events s.err) ++ map 
 abbrev pub trace : List Step → List Event
 trace steps = flat_map events_of steps
 
--- an event as an opened name, as one of standard error, or as one of standard output
+-- the name that an event opens, its event of standard error, and its event of standard output; None for other events
 abbrev pub opened_name : Event → Option (ByteString)
 opened_name e = elim e [ open_name name ↦ Some name | other ↦ None ]
 
@@ -64,7 +64,7 @@ err_event e = elim e [ to_err piece ↦ Some piece | other ↦ None ]
 abbrev pub out_event : Event → Option OutputEvent
 out_event e = elim e [ to_out piece ↦ Some piece | other ↦ None ]
 
--- one behavior after another
+-- a behavior, and then another
 abbrev pub behavior_then : Behavior → Behavior → Behavior
 behavior_then r s = record { steps = r.steps ++ s.steps; good = r.good && s.good }
 

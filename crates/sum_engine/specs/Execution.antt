@@ -25,18 +25,18 @@ IsFlushed m = buffers.IsFlushed m.out × buffers.IsFlushed m.err
 abbrev pub failures : OutputsState → ℕ × ℕ
 failures m = (m.out.sink.failures, m.err.sink.failures)
 
--- a write fault has one failure more, of one output, and any other result none
+-- a write fault comes with one more failure, of one output, and any other result with none
 abbrev pub FailuresMatch : {A : Type 0} → OutputsState → OutputsState → Result A Stop → Type 0
 FailuresMatch a b (Err Write) =
     (failures b ≡ ((failures a).0 + 1, (failures a).1)) ⊎ (failures b ≡ ((failures a).0, (failures a).1 + 1))
 FailuresMatch a b r = failures b ≡ failures a
 
--- out of memory may refuse the source as often as one of these numbers says, and any other result none
+-- out of memory comes with as many refusals of the source as one of these numbers says, and any other result with none
 abbrev pub RefusalsMatch : {A : Type 0} → List ℕ → SourceState → SourceState → Result A Stop → Type 0
 RefusalsMatch allowed a b (Err Memory) = Any (λ n. b.refusals ≡ a.refusals + n) allowed
 RefusalsMatch allowed a b r = b.refusals ≡ a.refusals
 
--- what holds of a call that may stop: flushed outputs stay flushed, and a stop has its cause
+-- a call that may stop keeps flushed outputs flushed, and a stop has its cause
 pub record StopHasCause {A : Type 0} (allowed : List ℕ) (a b : StreamsState) (r : Result A Stop) : Type 0 where
   pub flushed : IsFlushed a.outputs → IsFlushed b.outputs
   pub refusals : RefusalsMatch allowed a.inputs b.inputs r
@@ -52,23 +52,23 @@ pub record Agrees (w : World) (a : SourceState) : Type 0 where
 abbrev pub asked : SourceState → List ByteString
 asked a = names_of a.openings
 
--- the world from here on
+-- the world as it is from here on
 abbrev pub world_at : World → SourceState → World
 world_at w a = record w { opened = asked a }
 
--- no read came after an end or a fault, or for no bytes; and if Whole holds, the end was found
+-- no read came after an end or a fault, or went into an empty buffer; and if Wanted holds, the end was found
 abbrev pub IsAtEndIf : Type 0 → Reads → Type 0
-IsAtEndIf Whole r = (r.phase ≢ Past) × (Whole → r.phase ≡ Ended ending.Whole)
+IsAtEndIf Wanted r = (r.phase ≢ Past) × (Wanted → r.phase ≡ Ended ending.Whole)
 
--- a file was opened, read so, and closed; or it could not be opened
+-- a file was opened, read as `IsAtEndIf` says, and closed; or it could not be opened
 abbrev pub ReadsFile : Type 0 → Opening → Type 0
-ReadsFile Whole o = (gave : Result Reads Fault) × (o.gave ≡ Some gave) × IfOk gave (IsAtEndIf Whole)
+ReadsFile Wanted o = (gave : Result Reads Fault) × (o.gave ≡ Some gave) × IfOk gave (IsAtEndIf Wanted)
 
--- READ TO THE END, if Whole holds, and never past it: so a call read each file that it opened. What was opened before
+-- READ TO THE END, if Wanted holds, and never past it: so a call read each file that it opened. What was opened before
 -- stays as it was
-pub record ReadsToEndIf (Whole : Type 0) (a b : SourceState) : Type 0 where
+pub record ReadsToEndIf (Wanted : Type 0) (a b : SourceState) : Type 0 where
   pub told : b.told ≡ a.told
-  pub openings : (more : List Opening) × (b.openings ≡ a.openings ++ more) × All (ReadsFile Whole) more
+  pub openings : (more : List Opening) × (b.openings ≡ a.openings ++ more) × All (ReadsFile Wanted) more
 
 -- ---- what happened
 
@@ -83,12 +83,12 @@ pub record Happened (a b : StreamsState) (es : List Event) : Type 0 where
   pub err : Gets a.outputs.err.sink b.outputs.err.sink (filter_map err_event es)
   pub out : Gets a.outputs.out.sink b.outputs.out.sink (filter_map out_event es)
 
--- the streams, but for the source's count of refusals
+-- the streams with this count of the source's refusals
 abbrev pub with_refusals : ℕ → StreamsState → StreamsState
 with_refusals n b = record b { inputs = record b.inputs { refusals = n } }
 
--- out of memory: the steps before the next one happened, and nothing of that, but for a refusal of the source; or bytes
--- of the manifest remained
+-- out of memory: the steps before the next one happened, and nothing of the next one; either the source was refused
+-- memory once, or bytes of the manifest remained
 pub record RunsOutOfMemory (steps : List Step) (a b : StreamsState) : Type 0 where
   pub done : List Step
   pub next : Step

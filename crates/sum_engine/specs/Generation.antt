@@ -14,7 +14,7 @@ tool_line p tool name text = concat (tool ∷ codes ": " ∷ escape_by p name �
 abbrev pub name_fault_line : Profile → ByteString → ByteString → Fault → ByteString
 name_fault_line p tool name fault = tool_line p tool name (fault_text fault)
 
--- a name with this digest has its line written, and one with a fault the line of the fault
+-- the behavior for a name with this digest or fault: the line of the name, or that of the fault, is written
 abbrev pub generate_behavior_by : Settings → ByteString → ByteString → Result (ByteString) Fault → Behavior
 generate_behavior_by s tool name (Ok d) = single_step (name ∷ []) [] (line s.style s.kind name d) true
 generate_behavior_by s tool name (Err f) = single_step (name ∷ []) (name_fault_line own_profile tool name f) [] false

@@ -1,4 +1,4 @@
-//! The line of one name.
+//! Hashing one name, and writing its line.
 ghost use Rattle.std.specs.Prelude.{◌≡◌, [], ◌∷◌, length, true, Ok};
 ghost use Rattle.sum_engine.specs.Execution.{IsFlushed, FailuresMatch, RefusalsMatch, Performs, ReadsToEndIf};
 ghost use Rattle.sum_engine.specs.Generation.{generate_behavior};
@@ -18,8 +18,8 @@ use sum_sources::Source;
 /// Hashes the file of this name. Its line goes to `out`, or a line with the fault to `err`
 /// (coreutils manual, "md5sum invocation"), and is flushed. Returns true only if the file was read to its end.
 ///
-/// `Stop::Memory` only if the source was refused memory to open the file; nothing is then written. `Stop::Write` if an
-/// output fails; a prefix of the line was then written.
+/// Returns `Stop::Memory` only if the source was refused memory to open the file; nothing is then written. Returns
+/// `Stop::Write` if an output fails; a prefix of the line was then written.
 pub fn generate_one<S: Source, O: Sink, E: Sink>(
     settings: &Settings,
     tool: &str,
@@ -31,9 +31,9 @@ pub fn generate_one<S: Source, O: Sink, E: Sink>(
         (λ good. good)
         streams.old streams.new result }
     ensures flushed { IsFlushed streams.old.outputs → IsFlushed streams.new.outputs }
-    // True only if the file was read to its end; and whatever is returned, it was read no further.
+    // Returns true only if the file was read to its end; whatever is returned, it was read no further.
     ensures reads { ReadsToEndIf (result ≡ Ok true) streams.old.inputs streams.new.inputs }
-    // A stop has its cause: one refusal more of the source, or one failure more of one output.
+    // A stop has its cause: one more refusal of the source, or one more failure of one output.
     ensures refusals { RefusalsMatch (1 ∷ []) streams.old.inputs streams.new.inputs result }
     ensures failures { FailuresMatch streams.old.outputs streams.new.outputs result }
 {

@@ -1,4 +1,4 @@
-//! Laws of what was read; and over whole checks: what the steps of a [`Checker`](crate::Checker) do together.
+//! Laws about what was read, and about whole checks: what the steps of a [`Checker`](crate::Checker) do together.
 ghost use Rattle.sum_engine.specs.Behavior.{SourceState};
 ghost use Rattle.sum_engine.specs.WorldLaws.{SomeWorldAgrees, ToldAgree};
 ghost use Rattle.sum_engine.specs.check.CheckerLaws.{StepsJoin, EventsExtend, SameFront};
@@ -36,8 +36,8 @@ pub fn events_extend()
     ensures { EventsExtend }
 {}
 
-/// What a line spells doesn't depend on later lines. Nor does its verdict after the same asks. Nor does the form, if
-/// the line is plain. None of them depends on the manifest's name, if both manifests or neither came from standard
+/// What a line spells doesn't depend on later lines; nor does its verdict after the same asks; nor does the form, if
+/// the line is plain. None of these depends on the manifest's name, if both manifests or neither came from standard
 /// input.
 pub fn same_front()
     ensures { SameFront }
@@ -45,9 +45,9 @@ pub fn same_front()
 
 /// A manifest has the same verdicts under the older profile and the present one if it has no empty line and no carriage
 /// return. A carriage return counts in the manifest's own name, as a byte, and as the escape `\r` in a name after a
-/// leading backslash. Older versions of the tools escaped no carriage return in names, dropped none before a line's end
-/// and found empty lines improperly formatted. The verdicts are those after the same asks; the reports and the summary
-/// are the same, too, and the manifest is good under both or under neither.
+/// leading backslash. Older versions of the tools didn't escape carriage returns in names, didn't drop them at a line's
+/// end, and found empty lines improperly formatted. The verdicts are those after the same asks; the reports and the
+/// summary are the same, too, and the manifest is good under both or under neither.
 pub fn old_verdicts()
     ensures verdicts { OldVerdicts }
     ensures differs { OlderDiffers }

@@ -1,5 +1,5 @@
-//! Hashes files, and checks files against manifests: this crate has what one name or one manifest means and writes, and
-//! nothing of command lines. It may call `digest_kinds`, `sum_lines` and `sum_sources`.
+//! Hashes files, and checks files against manifests: this crate defines what one name or one manifest means and writes,
+//! and has nothing about command lines. It may call `digest_kinds`, `sum_lines` and `sum_sources`.
 //!
 //! [`Verdicts`] writes nothing: it is for a program that shows what it finds in its own way.
 //!

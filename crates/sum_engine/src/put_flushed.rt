@@ -24,7 +24,7 @@ pub(crate) fn put_parts_flushed<S: Sink>(
     sink.flush()
 }
 
-/// Writes `TOOL: NAME: TEXT` and flushes it, as [`put_parts_flushed`].
+/// Writes `TOOL: NAME: TEXT` and flushes it, as [`put_parts_flushed`] does.
 #[tactic(auto, using(crate::proofs::FlushedWriteLemmas::not_flushed))]
 pub(crate) fn put_tool_line_flushed<E: Sink>(
     err: &mut Buffered<E>,
@@ -39,7 +39,7 @@ pub(crate) fn put_tool_line_flushed<E: Sink>(
     err.flush()
 }
 
-/// Writes `TOOL: NAME: TEXT`, and doesn't flush it.
+/// Writes `TOOL: NAME: TEXT` without flushing it.
 pub(crate) fn put_tool_line<'a, E: Sink>(
     err: &mut Buffered<E>,
     tool: &'a str,
@@ -74,7 +74,7 @@ pub(crate) fn put_name_fault_line<O: Sink, E: Sink>(
     put_name_fault(&mut outputs.err, tool, name, fault)
 }
 
-/// Writes the line of such a name to this sink.
+/// Writes to this sink the line for a name that can't be opened or read.
 pub(crate) fn put_name_fault<E: Sink>(
     err: &mut Buffered<E>,
     tool: &str,

@@ -1,4 +1,4 @@
-//! Where a call opens and reads.
+//! What a call opens and reads through.
 ghost use Rattle.std.specs.Prelude.{◌≡◌, length, IfOk};
 ghost use Rattle.sum_sources.specs.Contents.{HashesInput};
 ghost use Rattle.sum_sources.specs.Sources.{IsOpen, after_closing, after_opening, opened_file};
@@ -14,7 +14,7 @@ pub struct Reader<S: Source> {
     pub source: S,
     // Files are read into this, one after another.
     buffer: [u8; PIECE],
-    // A struct whose view speaks of a source has to name the type of its files.
+    // A struct whose view speaks of a source must name the type of its files.
     files: PhantomData<S::File>,
 }
 

@@ -21,7 +21,7 @@ pub enum Report {
     All,
     /// As `All`, without the files that match.
     Quiet,
-    /// As `All`, and each line that is improperly formatted.
+    /// As `All`, plus each line that is improperly formatted.
     Warn,
     /// No line for a file, and no warning. Unreadable files and manifests without an entry are still reported.
     Status,
@@ -36,12 +36,13 @@ pub struct CheckSettings {
     pub report: Report,
     /// Whether an improperly formatted line makes a manifest bad.
     pub strict: bool,
-    /// Whether a listed file that isn't there is passed over.
+    /// Whether a listed file that doesn't exist is skipped.
     pub ignore_missing: bool,
 }
 
 impl CheckSettings {
-    /// The plain check of lines of these algorithms: all is reported, and no option is set.
+    /// Creates the settings of the plain check of lines of these algorithms: everything is reported, and no option is
+    /// set.
     pub fn new(algo: Algos) -> Self
         ensures { result
             ≡ record { algo = algo; report = All; strict = false; ignore_missing = false } }

@@ -23,17 +23,18 @@ impl<O: Sink, E: Sink> Model for Outputs<O, E> {
     ghost view = { λ outputs. record { out = outputs.out; err = outputs.err } };
 }
 
-/// What a call reads from and writes to. What contracts say of bytes assumes outputs that are flushed at the call.
+/// What a call reads from and writes to. What contracts say about bytes assumes that the outputs are flushed at the
+/// call.
 #[derive(Debug, Drop)]
 pub struct Streams<In, Out> {
     /// Where it opens and reads: [`Reader`].
     pub inputs: In,
-    /// Where it writes: [`Outputs`].
+    /// What it writes to: [`Outputs`].
     pub outputs: Out,
 }
 
 impl<S: Source, O: Sink, E: Sink> Streams<Reader<S>, Outputs<O, E>> {
-    /// Streams of these parts, with an empty buffer over each output.
+    /// Creates the streams of these parts, with an empty buffer over each output.
     pub fn new(source: S, out: O, err: E) -> Self
         ensures inputs { result.inputs ≡ S.state source }
         ensures outputs { result.outputs ≡ record {

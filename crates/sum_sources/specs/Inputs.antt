@@ -54,7 +54,7 @@ abbrev pub TakesStdin : {I F : Type 0} → StdinPlace I → StdinPlace I → Pla
 TakesStdin old new (Stdin given log) = (given ≡ given_by old) × (new ≡ taken old)
 TakesStdin old new (File f) = ⊥
 
--- its reads are of a content
+-- the reads of what was opened fit a content
 pub opened_has_content : {I F : Type 0} (stdin : I → InputState) (file : F → InputState)
     → ((i : I) → HasContent (stdin i)) → ((f : F) → HasContent (file f)) → (p : Place I F)
     → HasContent (opened_state stdin file p)

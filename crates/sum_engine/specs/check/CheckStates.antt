@@ -6,7 +6,7 @@ use Rattle.sum_engine.specs.{check.Rules.Rules, check.Rules.LabelsValue, check.C
 use Rattle.sum_engine.specs.check.Judge.{Form, Verdict, Ignored, Bad, Right, Wrong, Missing, Unread, lines_under, LineVerdictValue, line_verdict, verdicts, past_line, parse_line, form_then, line_form, form}
 use Rattle.sum_engine.specs.check.Reports.{Counts, counts_of, entries, end_text, good}
 
--- the counts of no line, those with one line more, and those of lines and then of others
+-- the counts of no lines, the counts with one more line, and the sums of two counts
 abbrev pub no_counts : Counts
 no_counts = record { right = 0; wrong = 0; missing = 0; unread = 0; bad = 0 }
 
@@ -27,7 +27,7 @@ counts_then c d = record {
   bad = c.bad + d.bad;
 }
 
--- how many lines are not ignored
+-- the number of lines that are not ignored
 abbrev pub total : Counts → ℕ
 total c = entries c + c.bad
 
@@ -42,7 +42,7 @@ pub record CheckState : Type 0 where
   pub counts : Counts
   pub world : World
 
--- before the first line
+-- the state before the first line
 abbrev pub initial_state : Content → World → CheckState
 initial_state c w =
     record { remaining = c; number = 0; consumed = 0; taken = 0; form = Undecided; counts = no_counts; world = w }
@@ -74,7 +74,7 @@ pub record HandlesLine (r : Rules) (a b : CheckState) (vector : ByteString) : Ty
   pub lines : lines_under r.profile a.remaining ≡ line ∷ lines_under r.profile b.remaining
   pub remaining : b.remaining ≡ past_line a.remaining
   pub consumed : b.consumed + length b.remaining.bytes ≡ a.consumed + length a.remaining.bytes
-  pub taken : b.taken ≤ b.consumed + 8192  -- at most so many bytes are read ahead
+  pub taken : b.taken ≤ b.consumed + 8192  -- at most this many bytes are read ahead
   pub number : b.number ≡ a.number + 1
   pub form : b.form ≡ form_then a.form (line_form r.algo line)
   pub counts : b.counts ≡ counts_with a.counts (next_judged r a line).verdict

@@ -18,7 +18,7 @@ pub record CheckerValue (I : Type 0) : Type 0 where
   pub labels : LabelsValue
   pub outcome : Option (Result Bool Stop)
 
--- a behavior after one step more
+-- a step, and then a behavior
 abbrev pub step_then : Step → Behavior → Behavior
 step_then s r = record { steps = s ∷ r.steps; good = r.good }
 
@@ -43,12 +43,12 @@ abbrev pub TakesStep : {I : Type 0} → (I → InputState) → ByteString → La
 TakesStep state vector labels p q a b x = IsFlushed a.outputs
     → InEachCheck state p q a.inputs b.inputs (λ c d. IsStep p.rules labels vector c d a b x)
 
--- what a step returns that ends or stops a check with this outcome
+-- the result of a step that ends or stops a check with this outcome
 abbrev pub ends : Result Bool Stop → Result Progress Stop
 ends (Ok good) = Ok (Ended good)
 ends (Err stop) = Err stop
 
--- a line is no outcome, and all else is one
+-- the outcome in a step's result: none for a line, and one for everything else
 abbrev pub outcome_in_step : Result Progress Stop → Option (Result Bool Stop)
 outcome_in_step (Ok Going) = None
 outcome_in_step (Ok (Ended good)) = Some (Ok good)

@@ -29,7 +29,7 @@ EventsExtend = (r : Behavior) (a b : StreamsState) → Happened a b (trace r.ste
     × (b.outputs.err.sink.written ≡ a.outputs.err.sink.written ++ (err_text r))
     × (b.outputs.out.sink.written ≡ a.outputs.out.sink.written ++ (out_text r))
 
--- steps that each returned Going, one after another; the line's vector then held these
+-- steps that each returned Going, one after another, and after which the line's vector held these
 abbrev pub StepsGoing : Rules → LabelsValue → CheckState → CheckState → StreamsState → StreamsState → List ByteString
     → Type 0
 StepsGoing r labels a b s t [] = (b ≡ a) × (t ≡ s)
@@ -40,7 +40,7 @@ StepsGoing r labels a b s t (vector ∷ vectors) = (m : CheckState) × (between 
 -- which returned Going
 pub record AfterSteps (r : Rules) (labels : LabelsValue) (c : Content) (all : Behavior) (vectors : List ByteString)
     (b : CheckState) (s t : StreamsState) : Type 0 where
-  -- exactly so many steps of the behavior happened, each of one line
+  -- exactly this many steps of the behavior happened, each of one line
   pub happened : Happened s t (trace (take (length vectors) all.steps))
   -- what the input gave goes at most 8192 bytes beyond the end of the last of these lines
   pub taken : b.taken + length (past_lines (length vectors) c).bytes ≤ length c.bytes + 8192
@@ -67,7 +67,7 @@ pub record FrontIsSame (r : Rules) (w : World) (n : ℕ) (line : ByteString) (ls
   pub form : (e : Bool) (kind : KindValue) (d tail : ByteString) → IsPlain r.algo line e kind d tail
       → form r.algo ls ≡ form r.algo ks
 
--- later lines have no part in any of this; nor has a manifest's name, which the rules don't hold
+-- none of this depends on later lines, nor on a manifest's name, which isn't part of the rules
 abbrev pub SameFront : Type 0
 SameFront = (r : Rules) (w : World) (before : List ByteString) (line : ByteString) (later others : List ByteString)
     → FrontIsSame r w (length before + 1) line (before ++ (line ∷ later)) (before ++ (line ∷ others))

@@ -7,21 +7,21 @@ use Rattle.sum_engine.specs.Generation.{name_fault_line}
 pub use Rattle.sum_engine.specs.declared.settings.CheckSettings.{CheckSettings}
 use Rattle.sum_engine.specs.check.Reports.{out_of, err_of, counts_of, end_text, good}
 
--- a step for each line of the content, by these verdicts, and one for the end, which has that text
+-- the steps of a content: one for each line, by these verdicts, and one for the end, which has this text
 abbrev pub line_steps : Rules → LabelsValue → ByteString → Content → List LineVerdictValue → List Step
 line_steps r labels end content [] = record { names = []; err = end; out = []; remaining = length content.bytes } ∷ []
 line_steps r labels end content (j ∷ js) =
     record { names = asks_of j; err = err_of r labels j; out = out_of r labels j; remaining = length content.bytes }
     ∷ line_steps r labels end (past_line content) js
 
--- a manifest that was opened, whose lines have these verdicts
+-- the behavior of a manifest that was opened, whose lines have these verdicts
 abbrev pub content_behavior : Rules → LabelsValue → Content → List LineVerdictValue → Behavior
 content_behavior r labels content js = let counts = counts_of js in record {
   steps = line_steps r labels (end_text r labels content.ending counts) content js;
   good = good r content.ending counts;
 }
 
--- a manifest of that name, opened with this answer, in the world after that
+-- the behavior of the manifest of this name, opened with this answer, in the world after that
 abbrev pub check_behavior_by : Rules → LabelsValue → ByteString → World → Answer → Behavior
 check_behavior_by r labels name w (Err f) =
     single_step (name ∷ []) (name_fault_line r.profile labels.tool labels.manifest f) [] false

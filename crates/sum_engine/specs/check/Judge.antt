@@ -18,7 +18,7 @@ pub record LineVerdictValue : Type 0 where
   pub verdict : Verdict
   pub name : ByteString
 
--- there is no such file
+-- whether there is no such file
 abbrev pub not_found : Answer → Bool
 not_found (Err NotFound) = true
 not_found r = false
@@ -49,7 +49,7 @@ abbrev pub verdicts : Rules → Form → World → ℕ → List ByteString → L
 verdicts r f w n [] = []
 verdicts r f w n (l ∷ ls) =
     let first = line_verdict r w (n + 1) (parse_line r.profile r.algo f l) in
-    let asked = after w (asks_of first) in  -- the later lines find the world so
+    let asked = after w (asks_of first) in  -- the world that the later lines find
     first ∷ verdicts r f asked (n + 1) ls
 
 -- the verdicts of a whole manifest, whose form is that of all its lines

@@ -1,4 +1,4 @@
--- The law of old verdicts: a manifest of the time of older versions is checked alike under both profiles.
+-- The law of old verdicts: a manifest from the time of older versions is checked in the same way under both profiles.
 use Rattle.std.specs.Prelude.{◌≡◌, ◌≢◌, ◌<◌, false, [], ◌∷◌, length, codes, All}
 use Rattle.sum_engine.specs.{check.Rules.LabelsValue, check.Rules.Rules, check.Checking.content_behavior}
 use Rattle.sum_engine.specs.check.Judge.{Algos, Form, lines_under, all_verdicts, raw_lines, bad, parse_line, EntryValue, IsEntry, form, Profile, own_profile, escape, escape_by}
@@ -16,7 +16,7 @@ rules_under p r = record r { profile = p }
 abbrev pub HasNoCarriageReturn : ByteString → Type 0
 HasNoCarriageReturn bytes = All (λ b. b ≢ 13) bytes
 
--- the line names no file with a carriage return; without such a byte it could by the escape `\r` alone
+-- the line names no file with a carriage return; without such a byte, it could do so only by the escape `\r`
 abbrev pub NamesNoCarriageReturn : Algos → Form → ByteString → Type 0
 NamesNoCarriageReturn algos f line = (s : EntryValue) → IsEntry escape algos f line s → HasNoCarriageReturn s.name
 
@@ -29,7 +29,7 @@ pub record IsOldManifest (r : Rules) (labels : LabelsValue) (c : Content) : Type
   pub no_empty : All (λ line. 0 < length line) (raw_lines c)
 
 -- such a manifest has the same verdicts under both profiles, whatever was asked before; the same is written for each of
--- its lines and for its end, and it is good or not alike
+-- its lines and for its end, and it is good under both or under neither
 abbrev pub OldVerdicts : Type 0
 OldVerdicts = (r : Rules) (labels : LabelsValue) (w : World) (c : Content) → IsOldManifest r labels c
     → let old = rules_under older_profile r in let new = rules_under own_profile r in

@@ -38,7 +38,7 @@ abbrev pub bad_line : Rules → LabelsValue → ℕ → ByteString
 bad_line r labels n = concat (labels.tool ∷ codes ": " ∷ escape_by r.profile labels.manifest ∷ codes ": " ∷ decimal n
     ∷ codes ": improperly formatted " ∷ tag_word r.algo ∷ codes " checksum line\n" ∷ [])
 
--- a line's report on standard error: one that is improperly formatted is named under `Warn` alone
+-- a line's report on standard error: an improperly formatted line is reported only under `Warn`
 abbrev pub err_by : Rules → LabelsValue → ℕ → Verdict → ByteString → ByteString
 err_by r labels n Bad name = elim labels.report [ Warn ↦ bad_line r labels n | other ↦ [] ]
 err_by r labels n (Unread f) name = name_fault_line r.profile labels.tool name f
@@ -47,19 +47,19 @@ err_by r labels n v name = []
 abbrev pub err_of : Rules → LabelsValue → LineVerdictValue → ByteString
 err_of r labels j = err_by r labels j.number j.verdict j.name
 
--- whether it is `Unread`, by whatever fault
+-- whether a verdict is `Unread`, with any fault
 abbrev pub is_unread : Verdict → Bool
 is_unread (Unread f) = true
 is_unread v = false
 
--- how many of the lines have each verdict (`sameb` compares variants)
+-- the number of lines with each verdict (`sameb` compares variants)
 abbrev pub counts_of : List LineVerdictValue → Counts
 counts_of js =
     let n : (Verdict → Bool) → ℕ = λ is. length (filter (λ j. is j.verdict) js) in
     let m : Verdict → ℕ = λ v. n (sameb the_type v) in
     record { right = m Right; wrong = m Wrong; missing = m Missing; unread = n is_unread; bad = m Bad }
 
--- how many lines are entries
+-- the number of lines that are entries
 abbrev pub entries : Counts → ℕ
 entries c = c.right + c.wrong + c.missing + c.unread
 
@@ -68,7 +68,7 @@ abbrev pub warning : ByteString → ℕ → ByteString → ByteString → ByteSt
 warning tool n one many = if n == 0 then []
     else concat (tool ∷ codes ": WARNING: " ∷ decimal n ∷ (if n == 1 then one else many) ∷ codes "\n" ∷ [])
 
--- the line that no file was verified, with `--ignore-missing`
+-- the line which says that no file was verified, with `--ignore-missing`
 abbrev pub unverified_line : Rules → LabelsValue → Counts → ByteString
 unverified_line r labels c = if r.ignore_missing && (c.right == 0)
     then tool_line r.profile labels.tool labels.manifest (codes "no file was verified") else []
@@ -81,7 +81,7 @@ warnings r labels c = let tool = labels.tool in
     ++ (warning tool c.wrong (codes " computed checksum did NOT match") (codes " computed checksums did NOT match")
     ++ unverified_line r labels c))
 
--- a text that is not shown under `Status`
+-- a text, or nothing under `Status`
 abbrev pub unless_status : Report → ByteString → ByteString
 unless_status Status text = []
 unless_status report text = text
@@ -93,7 +93,7 @@ end_text r labels Whole c = if entries c == 0
     else unless_status labels.report (warnings r labels c)
 end_text r labels (Broken f) c = name_fault_line r.profile labels.tool labels.manifest f
 
--- good: it was read whole, a line is Right, none is Wrong or Unread, and under the strict setting none is Bad
+-- whether a manifest is good: it was read whole, a line is Right, none is Wrong or Unread and, if strict, none is Bad
 abbrev pub good : Rules → Ending → Counts → Bool
 good r Whole c = not (c.right == 0) && (c.wrong == 0) && (c.unread == 0) && (not r.strict || (c.bad == 0))
 good r (Broken f) c = false

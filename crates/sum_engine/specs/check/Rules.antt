@@ -1,11 +1,11 @@
--- By what a manifest's lines are judged, and what its reports show.
+-- The rules by which a manifest's lines are judged, and what its reports show.
 use Rattle.std.specs.Prelude.{Bool, codes, if◌then◌else◌}
 use Rattle.digest_kinds.specs.declared.algo.Algos.{Algos}
 use Rattle.sum_lines.specs.Escape.{Profile, own_profile}
 use Rattle.sum_engine.specs.Behavior.{ByteString, is_dash}
 use Rattle.sum_engine.specs.declared.{settings.CheckSettings.CheckSettings, settings.Report.Report}
 
--- by what a manifest's lines are judged
+-- the rules by which a manifest's lines are judged
 pub record Rules : Type 0 where
   pub profile : Profile
   pub algo : Algos  -- the algorithms that they may name
@@ -19,7 +19,7 @@ pub record LabelsValue : Type 0 where
   pub manifest : ByteString
   pub report : Report
 
--- the rules of these settings, by whether the manifest came from standard input
+-- the rules of these settings, depending on whether the manifest came from standard input
 abbrev pub rules_of : CheckSettings → Bool → Rules
 rules_of s d =
     record { profile = own_profile; algo = s.algo; ignore_missing = s.ignore_missing; strict = s.strict; from_stdin = d }

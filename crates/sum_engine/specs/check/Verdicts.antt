@@ -64,13 +64,13 @@ pub record HasNameRange (vector : ByteString) (v : LineVerdict) : Type 0 where
   pub start : v.start ≤ v.stop
   pub stop : v.stop ≤ length vector
 
--- a line was judged, which is the first of those that remained; its name was opened, if its verdict asks it
+-- a line was judged, the first of those that remained; its name was opened, if its verdict asks it
 pub record FindsFirstVerdict (r : Rules) (a b : CheckState) (j : LineVerdictValue) : Type 0 where
   pub first : remaining_verdicts r a ≡ j ∷ remaining_verdicts r b
   pub world : b.world ≡ after a.world (asks_of j)
   pub counts : b.counts ≡ counts_with a.counts j.verdict
 
--- no line remained, and the manifest ends so; nothing was opened, and only that ending remains
+-- no line remained, and the manifest has this ending; nothing was opened, and only the ending remains
 pub record HasNoVerdictLeft (r : Rules) (e : Ending) (a b : CheckState) : Type 0 where
   pub verdicts : remaining_verdicts r a ≡ []
   pub ending : a.remaining.ending ≡ e
@@ -88,14 +88,14 @@ IsNextVerdict r vector a b (Err Memory) = (b.world ≡ a.world) × (0 < length a
 
 -- ---- the outcome
 
--- An outcome stays. A call keeps the outcome in its result, if there is one. From then on each call returns the same
+-- an outcome stays: a call keeps the outcome in its result, if there is one; from then on each call returns the same
 -- outcome again, and nothing else changes
 pub record KeepsOutcome {X F : Type 0} (outcome_in : X → Option F) (old new : Option F) (Unchanged : Type 0) (x : X)
     : Type 0 where
   pub kept : new ≡ outcome_in x
   pub again : IfSome old (λ outcome. (outcome_in x ≡ Some outcome) × Unchanged)
 
--- a line is no outcome; that no line is left is one, and so is a stop
+-- the outcome in a call's result: none for a line; one if no line is left, and one for a stop
 abbrev pub outcome_in_next : VerdictResult → Option (Result ⊤ LineStop)
 outcome_in_next (Ok (Some v)) = None
 outcome_in_next (Ok None) = Some (Ok tt)
@@ -108,7 +108,7 @@ is_whole outcome = false
 
 -- ---- what a call does
 
--- the counts after such a call
+-- the counts after a call for the next verdict
 abbrev pub counts_after : Counts → VerdictResult → Counts
 counts_after c (Ok (Some v)) = counts_with c v.verdict
 counts_after c x = c
@@ -118,20 +118,20 @@ abbrev pub IsNotUnread : VerdictResult → Type 0
 IsNotUnread (Ok (Some v)) = is_unread v.verdict ≡ false
 IsNotUnread x = ⊤
 
--- what such a call asks: the name of the line's verdict, or none; or the source was refused memory
+-- what a call for the next verdict asks: the name of the line's verdict, or none; or the source was refused memory
 abbrev pub AsksFor : ByteString → SourceState → SourceState → VerdictResult → Type 0
 AsksFor vector a b (Ok (Some v)) = AsksNames a b (asks_of (line_verdict_value vector v))
 AsksFor vector a b (Err Memory) = MemoryWasRefused a b ⊎ (b ≡ a)
 AsksFor vector a b x = AsksNames a b []
 
--- what such a call does
+-- what a call for the next verdict does
 pub record AdvancesVerdicts {I : Type 0} (state : I → InputState) (vector : ByteString) (p q : VerdictsValue I)
     (a b : SourceState) (x : VerdictResult) : Type 0 where
   pub rules : q.rules ≡ p.rules
   pub counts : q.counts ≡ counts_after p.counts x
   pub number : (v : LineVerdict) → x ≡ Ok (Some v) → q.reader.lines ≡ p.reader.lines + 1
   pub end : x ≡ Ok None → q.reader.final_answer ≡ Some (Ok NoMore)
-  -- how its reader read the line, or what else that found
+  -- what its reader returned
   pub found : Result Next LineStop
   pub reader : AdvancesLines state p.reader q.reader found
   pub bounds : IsBounded q.reader

@@ -5,8 +5,8 @@ use Rattle.sum_lines.specs.Buffers.{BufferState}
 use Rattle.sum_lines.specs.Buffers as buffers
 use Rattle.sum_engine.specs.Execution.{OutputsState, IsFlushed, FailuresMatch, Stop, Write}
 
--- a call that gives the output a text, if the output is flushed before; then it is flushed after. A fault has one
--- failure more of the output
+-- a call that gives the output a text, if the output is flushed before; then it is flushed after. A fault comes with
+-- one more failure of the output
 pub record WritesAndFlushes {E : Type 0} (a b : BufferState) (text : ByteString) (r : Result ⊤ E) : Type 0 where
   pub failures : MatchResult r (λ u. b.sink.failures ≡ a.sink.failures) (λ e. b.sink.failures ≡ a.sink.failures + 1)
   pub flushed : buffers.IsFlushed a → buffers.IsFlushed b

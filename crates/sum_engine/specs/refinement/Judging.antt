@@ -11,7 +11,7 @@ use Rattle.sum_engine.specs.declared.hash_name.HashFault.TheVariants as hashing
 abbrev pub listed_entry : ListedEntry → EntryValue
 listed_entry l = record { kind = l.kind; digest = l.digest.now; name = l.name.now }
 
--- the verdict, by what hashing the name gave
+-- the verdict, according to what hashing the name gave
 abbrev pub verdict_of_hash : Bool → ByteString → Result (ByteString) HashFault → Result Verdict NoRoom
 verdict_of_hash ignore d (Ok found) = Ok (if bytes_eq found d then Right else Wrong)
 verdict_of_hash ignore d (Err (hashing.NotOpened NotFound)) = Ok (if ignore then Missing else Unread NotFound)
@@ -24,7 +24,7 @@ abbrev pub parsed_at : {I : Type 0} → VerdictsValue I → ByteString → Parse
 parsed_at p line =
     parse_line p.rules.profile p.rules.algo (form_then p.form (line_form p.rules.algo line)) line
 
--- what a call for the next verdict returns that found this, or was refused memory to open the file
+-- the result of a call for the next verdict that found this, or was refused memory to open the file
 abbrev pub found_verdict : Result LineVerdict NoRoom → VerdictResult
 found_verdict (Err e) = Err Memory
 found_verdict (Ok v) = Ok (Some v)

@@ -42,7 +42,7 @@ abbrev pub IsNotBroken : {A : Type 0} → Result A HashFault → Type 0
 IsNotBroken (Err (hashing.NotRead f)) = ⊥
 IsNotBroken r = ⊤
 
--- what a call does that hashes a name
+-- the effect of a call that hashes a name
 pub record HashesName (kind : KindValue) (name : ByteString) (a b : SourceState) (r : Result (ByteString) HashFault)
     : Type 0 where
   -- in every world that agrees with what was read

@@ -18,12 +18,12 @@ use sum_lines::Sink;
 use sum_sources::{Input, OpenFault, Source, is_dash};
 
 /// Checks the manifest of this name and returns whether it is good. The reports of its lines
-/// and its summary go to `out` and `err` (coreutils manual, "md5sum invocation", `--check`). A manifest that can't
-/// be opened, or read to its end, isn't good, and its fault goes to `err`.
+/// and its summary go to `out` and `err` (coreutils manual, "md5sum invocation", `--check`). A manifest that can't be
+/// opened and read to its end isn't good, and its fault goes to `err`.
 ///
-/// `Stop::Memory` only if the source was refused memory, or bytes of the manifest were still to come; the reports of
-/// the lines handled so far were then written. `Stop::Write` if an output fails; a prefix of the reports and the
-/// summary, in their order, was then written.
+/// Returns `Stop::Memory` only if the source was refused memory, or bytes of the manifest were still to come; the
+/// reports of the lines handled so far were then written. Returns `Stop::Write` if an output fails; a prefix of the
+/// reports and the summary, in order, was then written.
 pub fn check_one<A: Allocator + Copy, S: Source, O: Sink, E: Sink>(
     alloc: A,
     settings: CheckSettings,
@@ -35,9 +35,9 @@ pub fn check_one<A: Allocator + Copy, S: Source, O: Sink, E: Sink>(
     ensures behavior { Performs (λ w. check_behavior settings tool.now w name.now) (λ good. good)
         streams.old streams.new result }
     ensures flushed { IsFlushed streams.old.outputs → IsFlushed streams.new.outputs }
-    // True only if the manifest and each file that was opened were read to their ends; and never further.
+    // Returns true only if the manifest and each file that was opened were read to their ends; none was read further.
     ensures reads { ReadsToEndIf (result ≡ Ok true) streams.old.inputs streams.new.inputs }
-    // A stop has its cause: at most one refusal more of the source, or one failure more of one output.
+    // A stop has its cause: at most one more refusal of the source, or one more failure of one output.
     ensures refusals { RefusalsMatch (0 ∷ 1 ∷ []) streams.old.inputs streams.new.inputs result }
     ensures failures { FailuresMatch streams.old.outputs streams.new.outputs result }
 {

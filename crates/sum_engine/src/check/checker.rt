@@ -20,7 +20,7 @@ use std::marker::Model;
 use sum_lines::Sink;
 use sum_sources::{Input, LineStop, Source};
 
-/// A manifest that is being checked. A checker takes a line and handles it, and only then takes the next.
+/// Checks a manifest, a line at a time. A checker takes a line and handles it, and only then takes the next.
 #[derive(Debug, Drop)]
 pub struct Checker<'a, I> {
     verdicts: Verdicts<I>,
@@ -77,7 +77,7 @@ impl<'a, I: Input> Checker<'a, I> {
         }
     }
 
-    /// How many bytes the manifest's input has given.
+    /// Returns how many bytes the manifest's input has given.
     pub fn taken(&self) -> u64
         ensures value { result ≡ self.now.verdicts.reader.taken }
         ensures at_most { result ≤ 2 ^ 61 }
@@ -85,7 +85,8 @@ impl<'a, I: Input> Checker<'a, I> {
         self.verdicts.taken()
     }
 
-    /// The manifest's input, past the bytes that it has given. Bytes that were read ahead of the last line are lost.
+    /// Returns the manifest's input, past the bytes that it has given. Bytes that were read ahead of the last line are
+    /// lost.
     pub fn into_inner(self) -> I
         ensures { result ≡ self.entry.verdicts.reader.input }
     {
@@ -93,25 +94,25 @@ impl<'a, I: Input> Checker<'a, I> {
     }
 
     /// Handles the next line, or the end: writes the line's report, or the summary, or the line of the fault that broke
-    /// the manifest. `line` is grown for the line. Its content before doesn't matter. Its content afterwards is
+    /// the manifest. `line` grows to hold the line. Its previous content doesn't matter. Its content afterwards is
     /// unspecified, but after `Going` it isn't longer than the line.
     ///
-    /// `Stop::Memory` only if the source was refused memory, or bytes of the manifest were still to come; nothing is
-    /// then written. `Stop::Write` if an output fails; a prefix of the step's texts was then written. After `Ended` and
-    /// after a stop each step returns the same again and writes nothing.
+    /// Returns `Stop::Memory` only if the source was refused memory, or bytes of the manifest were still to come;
+    /// nothing is then written. Returns `Stop::Write` if an output fails; a prefix of the step's texts was then
+    /// written. After `Ended` and after a stop, each step returns the same again and writes nothing.
     pub fn step<A: Allocator, S: Source, O: Sink, E: Sink>(
         &mut self,
         line: &mut Vec<u8, A>,
         streams: &mut Streams<Reader<S>, Outputs<O, E>>,
     ) -> Result<Progress, Stop>
-        // An outcome is returned again; checker and streams stay as they are.
+        // An outcome is returned again; the checker and the streams are unchanged.
         ensures outcome { KeepsOutcome outcome_in_step self.old.outcome self.new.outcome
             ((self.new ≡ self.old) × (streams.new ≡ streams.old)) result }
-        // If both outputs are flushed: the next step of the behavior, of every content and in every world that agree
+        // If both outputs are flushed: the next step of the behavior, for every content and in every world that agree
         // with what was read.
         ensures step { self.old.outcome ≡ None → TakesStep I.state line.new.items self.old.labels
             self.old.verdicts self.new.verdicts streams.old streams.new result }
-        // What was found, and what was written of it.
+        // What was found, and what was written about it.
         ensures advances { self.old.outcome ≡ None
             → AdvancesChecker I.state line.new.items self.old self.new streams.old
             streams.new result }
@@ -130,7 +131,7 @@ impl<'a, I: Input> Checker<'a, I> {
             found,
             &mut streams.outputs,
         );
-        // After a line nothing is stored, which ignored lines would feel.
+        // After a line the outcome stays `None`; storing it again would slow ignored lines.
         match result {
             Ok(Progress::Going) => {}
             Ok(Progress::Ended(good)) => self.outcome = Some(Ok(good)),
@@ -140,8 +141,8 @@ impl<'a, I: Input> Checker<'a, I> {
     }
 }
 
-// Writes the report of the line in `line`, or the end of the manifest, by what `next` has returned; and returns what
-// the step returns.
+// Writes the report of the line in `line`, or the end of the manifest, according to what `next` returned; and returns
+// what the step returns.
 fn report_found<I: Input, O: Sink, E: Sink>(
     verdicts: &Verdicts<I>,
     labels: &Labels,
@@ -165,7 +166,7 @@ fn report_found<I: Input, O: Sink, E: Sink>(
             outcome_after(written, Progress::Ended(verdicts.is_good()))
         }
         Ok(Some(found)) => {
-            // Ignored lines feel each call.
+            // Each call slows ignored lines.
             if let Verdict::Ignored = found.verdict {
                 return Ok(Progress::Going);
             }

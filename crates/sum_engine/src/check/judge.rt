@@ -15,16 +15,16 @@ use digest_kinds::{Digest, Kind};
 use std::ops::Range;
 use sum_sources::{Fault, NoRoom, Source, is_dash};
 
-/// What checking finds of a manifest's line.
+/// What checking finds about a manifest's line.
 #[derive(Clone, Copy, Debug, PartialEq, Eq)]
 pub enum Verdict {
     /// The line is empty or a comment.
     Ignored,
-    /// It is improperly formatted.
+    /// The line is improperly formatted.
     Bad,
     /// The file has the line's digest.
     Right,
-    /// It has another.
+    /// The file has a different digest.
     Wrong,
     /// There is no such file, and it may be missing.
     Missing,
@@ -32,8 +32,8 @@ pub enum Verdict {
     Unread(Fault),
 }
 
-/// A line's number (the first is 1), its verdict, and where the name of its entry stands in the line's vector: from
-/// `start` to before `stop`. That range is empty if the line has no entry.
+/// A line's number (the first is 1), its verdict, and the range `start..stop` of its entry's name in the line's vector.
+/// That range is empty if the line has no entry.
 #[derive(Clone, Copy, Debug, PartialEq, Eq)]
 pub struct LineVerdict {
     pub number: u64,
@@ -43,7 +43,7 @@ pub struct LineVerdict {
 }
 
 impl LineVerdict {
-    /// Where the name of its entry stands in the line's vector.
+    /// Returns the range of its entry's name in the line's vector.
     pub fn name_range(self) -> Range<usize>
         ensures start { result.start ≡ self.start }
         ensures end { result.end ≡ self.stop }
@@ -51,7 +51,7 @@ impl LineVerdict {
         self.start..self.stop
     }
 
-    /// The name of its entry, in the line's vector as `next` has left it. It is empty if the line has no entry.
+    /// Returns the name of its entry, in the line's vector as `next` has left it. It is empty if the line has no entry.
     pub fn name<'a>(self, line: &'a [u8]) -> &'a [u8]
         requires { HasNameRange line.now self }
         ensures { result.now ≡ slice_range line.now self.start self.stop }
@@ -68,7 +68,7 @@ pub(crate) struct ListedEntry<'a> {
     pub name: &'a [u8],
 }
 
-/// The verdict of an entry. `NoRoom` if the source is out of memory; nothing was then asked.
+/// The verdict of an entry. Returns `NoRoom` if the source is out of memory; nothing was then asked.
 pub(crate) fn judge<S: Source>(
     rules: CheckRules,
     listed: &ListedEntry,
@@ -88,7 +88,7 @@ pub(crate) fn judge<S: Source>(
     compare(&found, listed.digest, rules.ignore_missing)
 }
 
-// The verdict, by what hashing the name gave.
+// The verdict, according to what hashing the name gave.
 fn compare(
     found: &Result<Digest, HashFault>,
     digest: &Digest,

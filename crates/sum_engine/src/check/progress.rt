@@ -5,6 +5,6 @@
 pub enum Progress {
     /// A line was handled.
     Going,
-    /// The manifest has ended. True if it is good.
+    /// The manifest has ended; true if it is good.
     Ended(bool),
 }

@@ -15,7 +15,7 @@ use crate::streams::Outputs;
 use digest_kinds::Algos;
 use sum_lines::{Buffered, Part, Sink, SinkFault, mark_and_name};
 
-/// Writes what is reported of a line with this number, verdict and name: first to `err`, and then to `out`.
+/// Writes the report of a line with this number, verdict and name: first to `err`, and then to `out`.
 pub(crate) fn put_report<O: Sink, E: Sink>(
     outputs: &mut Outputs<O, E>,
     rules: CheckRules,
@@ -85,7 +85,7 @@ fn put_err<E: Sink>(
     ensures { WritesAndFlushes err.old err.new
         (err_by rules labels.now number verdict name.now) result }
 {
-    // Read, so that the proof sees the profile of these rules.
+    // This read lets the proof see the profile of these rules.
     let _algos = rules.algo;
     match verdict {
         Verdict::Ignored | Verdict::Right | Verdict::Wrong | Verdict::Missing => Ok(()),

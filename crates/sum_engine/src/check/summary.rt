@@ -33,7 +33,7 @@ impl Counts {
         bad: 0,
     };
 
-    /// One more line, of that verdict.
+    /// One more line, with this verdict.
     pub(crate) fn counted(self, verdict: Verdict) -> Counts
         requires { total self < 2 ^ 63 }
         ensures { result ≡ counts_with self verdict }
@@ -92,7 +92,7 @@ fn put_end<E: Sink>(
     ensures { WritesAndFlushes err.old err.new
         (end_text rules labels.now Whole counts) result }
 {
-    // Read, so that the proof sees the profile of these rules.
+    // This read lets the proof see the profile of these rules.
     let _algos = rules.algo;
     if counts.entries() == 0 {
         let text = b"no properly formatted checksum lines found";

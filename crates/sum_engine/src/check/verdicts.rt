@@ -54,9 +54,9 @@ impl<I: Input> Verdicts<I> {
     ghost use Rattle.sum_engine.specs.refinement.Names.{MemoryWasRefused};
     ghost use Rattle.sum_sources.specs.declared.fault.Ending.TheVariants.{Whole};
 
-    /// The verdicts of the manifest that `input` gives, before its first line. `from_stdin` says whether the manifest
-    /// came from standard input: a line that names `-` is then improperly formatted. The report setting has no part in
-    /// this.
+    /// Creates the verdicts of the manifest that `input` gives, before its first line. `from_stdin` says whether the
+    /// manifest came from standard input: a line that names `-` is then improperly formatted. The report setting has no
+    /// effect here.
     pub fn new(settings: CheckSettings, from_stdin: bool, input: I) -> Self
         ensures rules { result.rules ≡ rules_of settings from_stdin }
         ensures start { IsAtStart I.state result input }
@@ -70,7 +70,7 @@ impl<I: Input> Verdicts<I> {
         }
     }
 
-    /// How many bytes the manifest's input has given.
+    /// Returns how many bytes the manifest's input has given.
     pub fn taken(&self) -> u64
         ensures value { result ≡ self.now.reader.taken }
         ensures at_most { result ≤ 2 ^ 61 }
@@ -78,14 +78,15 @@ impl<I: Input> Verdicts<I> {
         self.reader.taken()
     }
 
-    /// The manifest's input, past the bytes that it has given. Bytes that were read ahead of the last line are lost.
+    /// Returns the manifest's input, past the bytes that it has given. Bytes that were read ahead of the last line are
+    /// lost.
     pub fn into_inner(self) -> I
         ensures { result ≡ self.reader.input }
     {
         self.reader.into_inner()
     }
 
-    /// Whether the manifest is good; false before `next` has returned that no line is left.
+    /// Returns whether the manifest is good; false before `next` has returned that no line is left.
     pub fn is_good(&self) -> bool
         ensures { result ≡ is_whole self.now.outcome && good self.now.rules Whole self.now.counts }
     {
@@ -95,7 +96,7 @@ impl<I: Input> Verdicts<I> {
         }
     }
 
-    /// By what its lines are judged.
+    /// The rules by which its lines are judged.
     pub(crate) fn rules(&self) -> CheckRules
         ensures value { result ≡ self.now.rules }
         ensures profile { result.profile ≡ own_profile }
@@ -124,10 +125,10 @@ impl<I: Input> Verdicts<I> {
         line: &mut Vec<u8, A>,
         inputs: &mut Reader<S>,
     ) -> Result<Option<LineVerdict>, LineStop>
-        // An outcome is returned again; all but `line` stays as it is.
+        // An outcome is returned again; everything but `line` is unchanged.
         ensures outcome { KeepsOutcome outcome_in_next self.old.outcome self.new.outcome
             ((self.new ≡ self.old) × (inputs.new ≡ inputs.old)) result }
-        // Of every content and in every world that agree with what was read: the first of the verdicts that remained.
+        // For every content and in every world that agree with what was read: the first of the verdicts that remained.
         ensures verdict { self.old.outcome ≡ None
             → InEachCheck I.state self.old self.new inputs.old inputs.new
             (λ a b. IsNextVerdict self.old.rules line.new.items a b result) }
@@ -143,7 +144,7 @@ impl<I: Input> Verdicts<I> {
             Some(Ok(())) => return Ok(None),
             Some(Err(stop)) => return Err(stop),
         }
-        // After a line nothing is stored, which ignored lines would feel.
+        // After a line the outcome stays `None`; storing it again would slow ignored lines.
         match self.reader.next_line(line) {
             Ok(Next::Line) => {}
             Ok(Next::NoMore) => {
@@ -164,7 +165,7 @@ impl<I: Input> Verdicts<I> {
         }
     }
 
-    // The verdict of the line that was read last, which is counted. `NoRoom` if the source is out of memory.
+    // The verdict of the line that was read last, which is counted. Returns `NoRoom` if the source is out of memory.
     fn judge_line<A: Allocator, S: Source>(
         &mut self,
         line: &mut Vec<u8, A>,
