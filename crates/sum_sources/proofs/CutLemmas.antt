@@ -1,9 +1,7 @@
 -- Bytes cut at their newlines.
 use Rattle.std.proofs.Common.{◌≡◌, ℕ, List, [], ◌∷◌, ◌++◌, refl, ap, ◌∙◌, append_assoc, inl, inr, ◌==◌, false, All, arith, rules}
-use Rattle.std.proofs.lemmas.Bool.Decides.{eqb_tells}
-use Rattle.std.proofs.lemmas.List.Elements.{All-nil, All-cons, All-head, All-tail}
-use Rattle.sum_sources.specs.declared.fault.Ending.{Ending}
-use Rattle.sum_sources.specs.ManifestLines.{HasNoNewline, bytes_of_lines, last_line, raw_lines}
+use Rattle.std.{proofs.lemmas.Bool.Decides.eqb_tells, proofs.lemmas.List.Elements.All-nil, proofs.lemmas.List.Elements.All-cons, proofs.lemmas.List.Elements.All-head, proofs.lemmas.List.Elements.All-tail}
+use Rattle.sum_sources.specs.{declared.fault.Ending.Ending, ManifestLines.HasNoNewline, ManifestLines.bytes_of_lines, ManifestLines.last_line, ManifestLines.raw_lines}
 use Rattle.sum_sources.proofs.LineLemmas.{pieces-newline, pieces-last}
 
 -- the bytes can be cut

@@ -1,9 +1,7 @@
 -- What the openings of a name gave, after one opening more and after a closing.
-use Rattle.std.proofs.Common.{◌≡◌, ℕ, zero, suc, Bool, true, false, List, [], ◌∷◌, ◌++◌, length, slice_set, Option, None, Some, Result, Ok, IfSome, refl, ap, sym, append-nil, bytes_eq}
-use Rattle.std.proofs.lemmas.{Slice.Eq.bytes_eq-Decides, List.Elements.filter_map-append}
-use Rattle.std.specs.{Prelude.slice_get, Option.option_and_then}
-use Rattle.sum_sources.specs.Contents.{Content, Reads, InputState, HasContent, IsSameInput, Fault}
-use Rattle.sum_sources.specs.Sources.{Answer, Opening, SourceState, ToldAnswers, IsOpen, IsOfAnswer, GivesTold, names_of, times, gave_of, closed_at, opened_file, and_opening, after_closing}
+use Rattle.std.proofs.Common.{◌≡◌, ℕ, zero, suc, Bool, true, false, List, [], ◌∷◌, ◌++◌, length, slice_set, Option, None, Some, Result, Ok, IfSome, refl, ap, sym, ◌∙◌, append-nil, bytes_eq}
+use Rattle.std.{proofs.lemmas.Slice.Eq.bytes_eq-Decides, proofs.lemmas.List.Elements.filter_map-append, specs.Prelude.slice_get, specs.Prelude.if◌then◌else◌, specs.Option.option_and_then}
+use Rattle.sum_sources.specs.{Contents.Content, Contents.Reads, Contents.InputState, Contents.HasContent, Contents.IsSameInput, Contents.Fault, Sources.Answer, Sources.Opening, Sources.SourceState, Sources.ToldAnswers, Sources.IsOpen, Sources.IsOfAnswer, Sources.GivesTold, Sources.names_of, Sources.times, Sources.gave_of, Sources.closed_at, Sources.opened_file, Sources.and_opening, Sources.after_closing}
 
 -- a test of names that answers so
 pub same_name : (a b : List ℕ) → bytes_eq a b ≡ true → a ≡ b
@@ -37,6 +35,12 @@ gave-times (o ∷ os) name = either (bytes_eq o.name name)
 pub gave-append : (xs ys : List Opening) (name : List ℕ)
     → gave_of (xs ++ ys) name ≡ gave_of xs name ++ gave_of ys name
 gave-append xs ys name = filter_map-append _ xs ys
+
+-- after one opening more
+pub gave-opening : (os : List Opening) (o : Opening) (name : List ℕ) → gave_of (os ++ o ∷ []) name
+    ≡ (if bytes_eq o.name name then gave_of os name ++ o.gave ∷ [] else gave_of os name)
+gave-opening os o name = gave-append os (o ∷ []) name
+    ∙ either (bytes_eq o.name name) (λ is. rw is refl) (λ is. rw (is, append-nil) refl)
 
 -- what the opening gave that has these before it
 gave-here : (gs more : List (Option (Result Reads Fault))) (g : Option (Result Reads Fault))
@@ -91,6 +95,14 @@ gave-others (o ∷ os) name other (suc k) r apart = either (bytes_eq o.name othe
     (λ are. rw are (ap (λ gs. o.gave ∷ gs) (gave-others os name other _ r apart)))
     (λ are. rw are (gave-others os name other _ r apart))
 
+-- and so it changes what the openings of any name gave
+pub gave-closing : (os : List Opening) (name : List ℕ) (k : ℕ) (r : Reads) (other : List ℕ)
+    → gave_of (closed_at os name k r) other
+    ≡ (if bytes_eq name other then slice_set (gave_of os other) k (Some (Ok r)) else gave_of os other)
+gave-closing os name k r other = either (bytes_eq name other)
+    (λ is. rw (is, ← same_name name other is) (gave-closed os name k r))
+    (λ is. rw is (gave-others os name other k r is))
+
 -- ---- what holds of each opening, one by one
 
 abbrev given : List (Option (Result Reads Fault)) → ℕ → Option (Result Reads Fault)
@@ -120,24 +132,26 @@ pub opening_gives : (tells : ToldAnswers) (s : SourceState) (name : List ℕ) (g
     → IfSome (tells s.told name (times name (names_of s.openings))) (λ told. IfSome gave (IsOfAnswer told))
     → GivesTold tells s → GivesTold tells (and_opening s name gave)
 opening_gives tells s name gave one was other k =
-    rw (gave-append s.openings (record { name = name; gave = gave } ∷ []) other) (either (bytes_eq name other)
+    rw (gave-opening s.openings (record { name = name; gave = gave }) other) (either (bytes_eq name other)
     (λ is. rw is (gives-more (λ j g. IfSome (tells s.told other j) (λ told. IfSome g (IsOfAnswer told))) _ gave k
     (rw (gave-times s.openings other, ← same_name name other is) one) (was other k)))
-    (λ is. rw (is, append-nil) (was other k)))
+    (λ is. rw is (was other k)))
 
 pub open_gives : (tells : ToldAnswers) (s : SourceState) (name : List ℕ)
     → GivesTold tells s → GivesTold tells (and_opening s name None)
-open_gives tells s name = opening_gives tells s name None (nothing (tells s.told name (times name (names_of s.openings))))
+open_gives tells s name =
+    opening_gives tells s name None (nothing (tells s.told name (times name (names_of s.openings))))
 
 -- by a closing, if the file is in memory
 pub closing_gives : (tells : ToldAnswers) (s : SourceState) (file : InputState) (c : Content) → HasContent file
     → file.told ≡ Some c → tells s.told file.name file.opening ≡ Some (Ok c) → GivesTold tells s
     → GivesTold tells (after_closing s file)
-closing_gives tells s file c has told is was other j = either (bytes_eq file.name other)
-    (λ one. rw (← same_name file.name other one, gave-closed s.openings file.name file.opening file.reads)
+closing_gives tells s file c has told is was other j =
+    rw (gave-closing s.openings file.name file.opening file.reads other) (either (bytes_eq file.name other)
+    (λ one. rw (one, ← same_name file.name other one)
     (gives-closed (λ k g. IfSome (tells s.told file.name k) (λ told. IfSome g (IsOfAnswer told))) _ file.opening j
     file.reads (rw is (of_content file c has told)) (was file.name j)))
-    (λ two. rw (gave-others s.openings file.name other file.opening file.reads two) (was other j))
+    (λ two. rw two (was other j)))
 
 -- the opening that was closed stands between others
 pub closed-seam : (before later : List Opening) (o : Opening) (r : Reads)

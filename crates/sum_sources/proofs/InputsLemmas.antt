@@ -1,20 +1,9 @@
 -- `Inputs`: what an opening and a closing keep.
-use Rattle.std.proofs.Common.{◌≡◌, ℕ, zero, suc, true, false, List, [], ◌∷◌, ◌++◌, length, slice_set, Option, None, Some, Result, Ok, IfSome, refl, ap, sym, ◌∙◌, append-nil, codes, bytes_eq}
+use Rattle.std.proofs.Common.{◌≡◌, ℕ, zero, suc, true, false, List, [], ◌∷◌, ◌++◌, length, slice_set, Option, None, Some, Result, Ok, IfSome, refl, ap, sym, ◌∙◌, codes, bytes_eq}
 use Rattle.std.specs.Prelude.{filter, not, if◌then◌else◌}
-use Rattle.std.specs.List.{cons_option}
-use Rattle.std.specs.{Option.option_and_then, Option.option_map, Result.result_ok}
-use Rattle.std.proofs.lemmas.Slice.Eq.{bytes_eq-Decides}
-use Rattle.sum_sources.specs.Contents.{Content, InputState, Reads, Fault, HasContent, unread, empty_content}
-use Rattle.sum_sources.specs.StandardInput.{unless_closed, GivesUnread, given_by, put_back, taken}
-use Rattle.sum_sources.specs.Sources.{Answer, Answers, Pair, TellsAll, Opening, SourceState, ToldAnswers, names_of, times, gave_of, closed_at, content_at, opened_file, IsOpen, IsOfAnswer}
-use Rattle.sum_sources.specs.Inputs.{is_dash, given_once, with_stdin, tells_both, answers_with, inputs_state, without_dash}
-use Rattle.sum_sources.specs.refinement.InputsStates.{IsPlaceOf, GivesStdin, InputsInvariant}
-use Rattle.sum_sources.specs.declared.inputs.stdin.StdinPlace.{StdinPlace}
-use Rattle.sum_sources.specs.declared.inputs.stdin.StdinPlace.TheVariants.{Untaken, Taken, Returned}
-use Rattle.sum_sources.specs.declared.inputs.closable.Closable.{Closable}
-use Rattle.sum_sources.specs.declared.inputs.closable.Closable.TheVariants.{Closed}
-use Rattle.sum_sources.specs.{Contents.Whole, Phases.Unfinished}
-use Rattle.sum_sources.proofs.GaveLemmas.{either, same_name, nothing, of_content, gives-more, gives-closed, gave-times, gave-append, gave-closed, gave-others}
+use Rattle.std.{specs.List.cons_option, specs.Option.option_and_then, specs.Option.option_map, specs.Result.result_ok, proofs.lemmas.Slice.Eq.bytes_eq-Decides}
+use Rattle.sum_sources.specs.{Contents.Content, Contents.InputState, Contents.Reads, Contents.Fault, Contents.HasContent, Contents.unread, Contents.empty_content, StandardInput.unless_closed, StandardInput.GivesUnread, StandardInput.given_by, StandardInput.put_back, StandardInput.taken, Sources.Answer, Sources.Answers, Sources.Pair, Sources.TellsAll, Sources.Opening, Sources.SourceState, Sources.ToldAnswers, Sources.names_of, Sources.times, Sources.gave_of, Sources.closed_at, Sources.content_at, Sources.opened_file, Sources.IsOpen, Sources.IsOfAnswer, Inputs.is_dash, Inputs.given_once, Inputs.with_stdin, Inputs.tells_both, Inputs.answers_with, Inputs.inputs_state, Inputs.without_dash, refinement.InputsStates.IsPlaceOf, refinement.InputsStates.GivesStdin, refinement.InputsStates.InputsInvariant, declared.inputs.stdin.StdinPlace.StdinPlace, declared.inputs.stdin.StdinPlace.TheVariants.Untaken, declared.inputs.stdin.StdinPlace.TheVariants.Taken, declared.inputs.stdin.StdinPlace.TheVariants.Returned, declared.inputs.closable.Closable.Closable, declared.inputs.closable.Closable.TheVariants.Closed, Contents.Whole, Contents.Unfinished}
+use Rattle.sum_sources.proofs.GaveLemmas.{either, same_name, nothing, of_content, gives-more, gives-closed, gave-times, gave-append, gave-opening, gave-closed, gave-closing, gave-others}
 
 -- a test of two names is one of them the other way round
 turned : (a b : List ℕ) → bytes_eq a b ≡ false → bytes_eq b a ≡ false
@@ -26,12 +15,6 @@ turned a b apart = either (bytes_eq b a)
 ok_again : (c : Option Content) → option_and_then result_ok (option_map {U = Answer} Ok c) ≡ c
 ok_again None = refl
 ok_again (Some c) = refl
-
--- of another name than `-`
-pub content-other : (tells : ToldAnswers) (untaken : InputState) (log source : SourceState) (name : List ℕ) (k : ℕ)
-    → is_dash name ≡ false
-    → content_at (tells_both tells) (inputs_state untaken log source) name k ≡ content_at tells source name k
-content-other tells untaken log source name k is = rw is refl
 
 -- of both, if all is in memory
 pub both_told : (stdin : Content) (tells : ToldAnswers) (told : List Pair) (answer : Answers)
@@ -76,12 +59,11 @@ module _ {I : Type 0} {state : I → InputState} {stdin : StdinPlace I} {untaken
     kept_opening name gave apart =
         let o : Opening = record { name = name; gave = gave } in
         let same : gave_of (os ++ o ∷ []) (codes "-") ≡ gave_of os (codes "-") =
-        gave-append os (o ∷ []) (codes "-") ∙ rw (turned (codes "-") name apart) (append-nil _) in
+        rw (gave-opening os o (codes "-"), turned (codes "-") name apart) refl in
         record {
           place = rw same kept.place;
           given = rw same kept.given;
-          files = λ other is. gave-append os (o ∷ []) other
-              ∙ ap (λ gs. gs ++ gave_of (o ∷ []) other) (kept.files other is) ∙ sym (gave-append fs (o ∷ []) other);
+          files = λ other is. rw (gave-opening os o other, gave-opening fs o other, kept.files other is) refl;
         }
 
     -- `-` was opened
@@ -96,7 +78,7 @@ module _ {I : Type 0} {state : I → InputState} {stdin : StdinPlace I} {untaken
           place = rw (more, takes) (later _ stdin);
           given = λ k. rw more (gives-more (GivesStdin untaken) _ None k
               (nothing (given_once (option_map Ok untaken.told) (Some (Ok empty_content)) _)) (kept.given k));
-          files = λ other apart. gave-append os (o ∷ []) other ∙ rw (← same, apart, append-nil) (kept.files other apart);
+          files = λ other apart. rw (gave-opening os o other, ← same, apart) (kept.files other apart);
         }
       where
         empty : (old : StdinPlace I) → given_by (taken old) ≡ Closed Whole Unfinished
@@ -117,11 +99,8 @@ module _ {I : Type 0} {state : I → InputState} {stdin : StdinPlace I} {untaken
         record {
           place = rw same kept.place;
           given = rw same kept.given;
-          files = λ other is. either (bytes_eq name other)
-              (λ one. rw (← same_name name other one)
-              (gave-closed os name k r ∙ ap (λ gs. slice_set gs k (Some (Ok r))) (kept.files name apart)
-              ∙ sym (gave-closed fs name k r)))
-              (λ two. gave-others os name other k r two ∙ kept.files other is ∙ sym (gave-others fs name other k r two));
+          files = λ other is.
+              rw (gave-closing os name k r other, gave-closing fs name k r other, kept.files other is) refl;
         }
 
     -- standard input was put back
@@ -157,7 +136,8 @@ module _ {I : Type 0} {state : I → InputState} {stdin : StdinPlace I} (tells :
     (log source : SourceState) (kept : InputsInvariant state stdin untaken log.openings source.openings)
   where
     -- how often a name was opened
-    times_there : (name : List ℕ) → is_dash name ≡ false → times name (names_of source.openings) ≡ times name (names_of log.openings)
+    times_there : (name : List ℕ) → is_dash name ≡ false
+        → times name (names_of source.openings) ≡ times name (names_of log.openings)
     times_there name apart =
         sym (gave-times source.openings name) ∙ ap length (sym (kept.files name apart)) ∙ gave-times log.openings name
 
@@ -185,14 +165,14 @@ module _ {I : Type 0} {state : I → InputState} {stdin : StdinPlace I} (tells :
     pub file_opened : (name : List ℕ) → is_dash name ≡ false
         → opened_file tells source name ≡ opened_file (tells_both tells) (inputs_state untaken log source) name
     file_opened name apart =
-        rw (content-other tells untaken log source name _ apart, times_there name apart) refl
+        rw (apart, times_there name apart) refl
 
     -- a file of the source is open there
     pub open_there : (file : InputState) → is_dash file.name ≡ false
         → IsOpen (tells_both tells) (inputs_state untaken log source) file → IsOpen tells source file
     open_there file apart here = record {
       opening = rw (← kept.files file.name apart) here.opening;
-      told = here.told ∙ content-other tells untaken log source file.name file.opening apart;
+      told = rw apart at here.told;
     }
 
     -- what was read of standard input
@@ -204,8 +184,10 @@ module _ {I : Type 0} {state : I → InputState} {stdin : StdinPlace I} (tells :
         by untaken.told file.opening (rw (← same) at here.told)
       where
         by : (stdin : Option Content) (k : ℕ)
-            → file.told ≡ option_and_then (result_ok {E = Fault}) (given_once (option_map Ok stdin) (Some (Ok empty_content)) k)
-            → IfSome (given_once (option_map Ok stdin) (Some (Ok empty_content)) k) (λ told. IsOfAnswer told (Ok file.reads))
+            → file.told ≡ option_and_then (result_ok {E = Fault})
+            (given_once (option_map Ok stdin) (Some (Ok empty_content)) k)
+            → IfSome (given_once (option_map Ok stdin) (Some (Ok empty_content)) k)
+            (λ told. IsOfAnswer told (Ok file.reads))
         by None zero told = tt
         by (Some c) zero told = of_content file c has told
         by stdin (suc k) told = of_content file empty_content has told

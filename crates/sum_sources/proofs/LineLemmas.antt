@@ -1,12 +1,8 @@
 -- Pieces and lines at the steps of the line reader.
-use Rattle.std.proofs.lemmas.{Grind.common_steps, List.append-nil, List.Splits.slice_split_at, List.Splits.slice_split_none, List.Splits.length-slice_split}
+use Rattle.std.{proofs.lemmas.Grind.common_steps, proofs.lemmas.List.append-nil, proofs.lemmas.List.Splits.slice_split_at, proofs.lemmas.List.Splits.slice_split_none, proofs.lemmas.List.Splits.length-slice_split, specs.List.after_first, specs.Str.Lines.strip_carriage_return, proofs.lemmas.List.Elements.All-head, proofs.lemmas.List.Elements.All-tail}
 use Rattle.std.proofs.Common.{◌≡◌, ℕ, ◌<◌, false, List, [], ◌∷◌, ◌++◌, length, map, Ok, Err, refl, ap, append_assoc, arith, ◌==◌, rules}
-use Rattle.std.specs.{List.after_first, Str.Lines.strip_carriage_return}
-use Rattle.std.proofs.lemmas.List.Elements.{All-head, All-tail}
-use Rattle.sum_sources.specs.Faults.{Fault}
-use Rattle.sum_sources.specs.Contents.{Ending, Broken, Content, empty_content}
+use Rattle.sum_sources.specs.{Faults.Fault, Contents.Ending, Contents.Broken, Contents.Content, Contents.empty_content, ManifestLines.Line, ManifestLines.last_line, ManifestLines.raw_lines, ManifestLines.lines, ManifestLines.HasNoNewline, ManifestLines.IsNextLine}
 use Rattle.sum_sources.proofs.ContentLemmas.{with_prefix}
-use Rattle.sum_sources.specs.ManifestLines.{Line, last_line, raw_lines, lines, HasNoNewline, IsNextLine}
 use Rattle.sum_sources.specs.declared.line_reader.LineStop.TheVariants as stops
 
 -- a newline ends the first piece
@@ -29,13 +25,10 @@ after_piece [] rest none = refl
 after_piece (b ∷ bs) rest none =
     grind (arith, after_piece bs rest (All-tail (λ b. (b == 10) ≡ false) b bs none), All-head)
 
--- no bytes, no piece or line
-pub pieces-nil : (e : Ending) → raw_lines (record { bytes = []; ending = e }) ≡ []
-unfolding raw_lines
-pieces-nil e = grind arith
-
+-- no bytes, no line
 pub lines-nil : (e : Ending) → lines (record { bytes = []; ending = e }) ≡ []
-lines-nil e = ap (map strip_carriage_return) (pieces-nil e)
+unfolding raw_lines
+lines-nil e = grind arith
 
 -- a newline ends the first line
 pub IsNextLine-ended : (d : Content) (piece : List ℕ) → HasNoNewline piece

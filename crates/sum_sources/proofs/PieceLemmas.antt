@@ -1,8 +1,6 @@
 -- The piece of a line in the reader's buffer.
 use Rattle.std.proofs.Common.{◌≡◌, ℕ, ◌+◌, ◌-◌, ◌<◌, ◌≤◌, ◌==◌, List, ◌∷◌, ◌++◌, length, take, drop, get_or, false, refl, ◌∙◌, arith, add-one, length-take, length-drop}
-use Rattle.std.proofs.lemmas.List.{length-take-le, get_or-take, drop-take, drop-drop}
-use Rattle.std.proofs.lemmas.{Bool.false_from_ne_true, List.Elements.All-from_get_or}
-use Rattle.std.proofs.Math.Seq.{split_at}
+use Rattle.std.{proofs.lemmas.List.length-take-le, proofs.lemmas.List.get_or-take, proofs.lemmas.List.drop-take, proofs.lemmas.List.drop-drop, proofs.lemmas.Bool.false_from_ne_true, proofs.lemmas.List.Elements.All-from_get_or, proofs.Math.Seq.split_at}
 use Rattle.memchr.specs.Find.{Nowhere, Passes, is_byte}
 use Rattle.sum_sources.specs.ManifestLines.{HasNoNewline}
 

@@ -1,14 +1,8 @@
 -- What was read so far of a line, and what reading on adds to it.
 use Rattle.std.proofs.Common.{◌≡◌, ℕ, zero, suc, ◌+◌, ◌-◌, ◌^◌, ◌<◌, ◌≤◌, true, false, List, [], ◌∷◌, ◌++◌, length, take, drop, None, Some, Result, subst, length-drop, Ok, Err, refl, ap, sym, ◌∙◌, append_assoc, ◌==◌, arith, length-append}
 use Rattle.std.specs.Prelude.{nat_lt, if◌then◌else◌}
-use Rattle.std.proofs.Math.Seq.{take-append-add, drop-append_seam}
-use Rattle.std.proofs.lemmas.{List.drop_all, List.Elements.All-append}
-use Rattle.std.specs.Str.Lines.{strip_carriage_return}
-use Rattle.sum_sources.specs.ManifestLines.{Next, Line, NoMore, LineStop, HasNoNewline, IsNextLine}
-use Rattle.sum_sources.specs.Contents.{Ending, Whole, Broken, Content, InputState, Reads, Fault, IsOf, Other, clip, limit, reads_past}
-use Rattle.sum_sources.specs.LineReaders.{LineReaderValue, consumed_count, past, reads_of, remaining, IsUnderWay, IsReading, ReadsOn}
-use Rattle.sum_sources.specs.{Phases.Ended, Phases.Past, refinement.LimitedReads.FindsEnding, refinement.LimitedReads.AddsLimited, refinement.LimitedReads.AddsPast, refinement.LimitedReads.CountsBytes}
-use Rattle.sum_sources.specs.refinement.LineStates.{FillsReader, TakesPiece}
+use Rattle.std.{proofs.Math.Seq.take-append-add, proofs.Math.Seq.drop-append_seam, proofs.lemmas.List.drop_all, proofs.lemmas.List.Elements.All-append, specs.Str.Lines.strip_carriage_return}
+use Rattle.sum_sources.specs.{ManifestLines.Next, ManifestLines.Line, ManifestLines.NoMore, ManifestLines.LineStop, ManifestLines.HasNoNewline, ManifestLines.IsNextLine, Contents.Ending, Contents.Whole, Contents.Broken, Contents.Content, Contents.InputState, Contents.Reads, Contents.Fault, Contents.IsOf, Contents.Other, Contents.clip, Contents.limit, Contents.reads_past, LineReaders.LineReaderValue, LineReaders.consumed_count, LineReaders.past, LineReaders.reads_of, LineReaders.remaining, LineReaders.IsUnderWay, LineReaders.IsReading, LineReaders.ReadsOn, Contents.Ended, Contents.Past, refinement.LimitedReads.FindsEnding, refinement.LimitedReads.AddsLimited, refinement.LimitedReads.AddsPast, refinement.LimitedReads.CountsBytes, refinement.LineStates.FillsReader, refinement.LineStates.TakesPiece}
 use Rattle.sum_sources.specs.declared.line_reader.LineStop.TheVariants as stops
 use Rattle.sum_sources.proofs.{ContentLemmas.with_prefix, ContentLemmas.limit-value, LimitLemmas.before_more, LineLemmas.lines-nil, LineLemmas.IsNextLine-ended}
 
@@ -54,7 +48,8 @@ module _ {I : Type 0} {state : I → InputState} {r : LineReaderValue I} (u : Is
       let keeps : drop (consumed_count r) ((reads_of state r).bytes ++ d.bytes) ≡ r.ahead ++ d.bytes =
       rw (at, read, append_assoc, drop-append_seam) refl in
       let over : drop r.taken ((reads_of state r).bytes ++ d.bytes) ≡ d.bytes =
-      ap (λ n. drop n ((reads_of state r).bytes ++ d.bytes)) (sym u.taken) ∙ drop-append_seam (reads_of state r).bytes d.bytes in
+      ap (λ n. drop n ((reads_of state r).bytes ++ d.bytes)) (sym u.taken)
+      ∙ drop-append_seam (reads_of state r).bytes d.bytes in
       rw (is, keeps, over) refl
 
   begins : r.taken < 2 ^ 61 → (c : Content) → IsOf (reads_of state r) c
@@ -241,12 +236,11 @@ pub counted : {I : Type 0} {state : I → InputState} {old new : LineReaderValue
 counted n h = record {
   line = h.line;
   sum = h.sum;
-  reading = record {
-    under_way = λ going. let u = h.reading.under_way going in
-        record { phase = u.phase; taken = u.taken; ahead = u.ahead };
-    final = h.reading.final;
-    end = h.reading.end;
-    past = h.reading.past;
+  reading = let was = h.reading in record {
+    under_way = λ going. let u = was.under_way going in record { phase = u.phase; taken = u.taken; ahead = u.ahead };
+    final = was.final;
+    end = was.end;
+    past = was.past;
   };
   before = h.before;
 }

@@ -1,16 +1,23 @@
 -- Contents of inputs: what reads gave, of which content they are, the limit of 2^61 bytes, and digests.
-use Rattle.std.specs.Prelude.{ℕ, ◌≡◌, ◌-◌, ◌^◌, [], ◌++◌, take, drop, length, Option, Result, ⊤, nat_lt, if◌then◌else◌, IfSome, IfOk, MatchResult}
+use Rattle.std.specs.Prelude.{ℕ, zero, suc, ◌≡◌, ◌-◌, ◌^◌, [], ◌++◌, take, drop, length, Option, Result, Ok, Err, ⊤, nat_lt, if◌then◌else◌, IfSome, IfOk, MatchResult}
 use Rattle.std.specs.Result.{result_unwrap_or}
 use Rattle.digest_kinds.specs.{Bytes.ByteString, Kinds.digest, Kinds.KindValue}
-use Rattle.sum_sources.specs.Phases.{Phase, Unfinished, Ended, Past, phase_after}
 pub use Rattle.sum_sources.specs.Faults.{Fault, Other}
-pub use Rattle.sum_sources.specs.declared.fault.Ending.{Ending}
+pub use Rattle.sum_sources.specs.declared.{fault.Ending.Ending, inputs.phase.Phase.Phase}
 pub use Rattle.sum_sources.specs.declared.fault.Ending.TheVariants.{Whole, Broken}
+pub use Rattle.sum_sources.specs.declared.inputs.phase.Phase.TheVariants.{Unfinished, Ended, Past}
 
 -- bytes, and how they end
 pub record Content : Type 0 where
   pub bytes : ByteString
   pub ending : Ending
+
+-- the phase after a read into a buffer of so many bytes. It is Past after a read for no bytes, or after the ending
+abbrev pub phase_after : Phase → ℕ → Result ℕ Fault → Phase
+phase_after Unfinished (suc size) (Ok zero) = Ended Whole
+phase_after Unfinished (suc size) (Ok (suc n)) = Unfinished
+phase_after Unfinished (suc size) (Err f) = Ended (Broken f)
+phase_after phase size read = Past
 
 -- what an input's reads gave so far: all their bytes, and how far it was read
 pub record Reads : Type 0 where
@@ -72,7 +79,8 @@ pub record HashesInput (kind : KindValue) (old new : InputState) (result : Resul
   pub same : IsSameInput old new
   -- if it hadn't ended: of each content that the reads of the call are of, the digest, or the fault by which it ends
   pub digest : old.reads.phase ≡ Unfinished → (c : Content) → IsOf (reads_past (length old.reads.bytes) new.reads) c
-      → MatchResult result (λ d. ((clip c).ending ≡ Whole) × (d ≡ digest kind (clip c).bytes)) (λ f. (clip c).ending ≡ Broken f)
+      → MatchResult result (λ d. ((clip c).ending ≡ Whole) × (d ≡ digest kind (clip c).bytes))
+      (λ f. (clip c).ending ≡ Broken f)
   -- a digest is returned only at its end, and it is never read past its end or its fault
   pub end : old.reads.phase ≡ Unfinished → IfOk result (λ _. new.reads.phase ≡ Ended Whole)
   pub past : old.reads.phase ≡ Unfinished → ¬ (new.reads.phase ≡ Past)

@@ -1,7 +1,6 @@
 -- The faults of opening and reading: which fault an error of the system is, and its text.
 use Rattle.std.specs.Prelude.{ℤ, pos, List, [], ◌∷◌, Option, None, Some, map, codes, length, slice_index_or, ◌==◌, if◌then◌else◌}
-use Rattle.std.specs.Ordering.{int_eq}
-use Rattle.std.specs.declared.io.ErrorKind.{ErrorKind}
+use Rattle.std.{specs.Ordering.int_eq, specs.declared.io.ErrorKind.ErrorKind}
 use Rattle.std.specs.declared.io.ErrorKind.TheVariants as kinds
 pub use Rattle.digest_kinds.specs.Bytes.{ByteString}
 pub use Rattle.sum_sources.specs.declared.fault.Fault.{Fault}

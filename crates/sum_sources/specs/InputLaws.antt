@@ -1,13 +1,8 @@
 -- The law of inputs: what was read of one is of a content, of the one in memory if it is there.
 use Rattle.std.proofs.Common.{rules, ℕ, None, refl, drop}
 use Rattle.std.proofs.lemmas.List.{take-append-drop}
-use Rattle.sum_sources.specs.Contents.{Content, InputState, HasContent, IsOf, IsReadTo, Whole, empty_content}
-use Rattle.sum_sources.specs.Faults.{ByteString}
+use Rattle.sum_sources.specs.{Contents.Content, Contents.InputState, Contents.HasContent, Contents.IsOf, Contents.IsReadTo, Contents.Whole, Contents.empty_content, Faults.ByteString, Contents.Phase, Contents.Unfinished, Contents.Ended, Contents.Past, StandardInput.told_reads, StandardInput.ToldContent, StandardInput.told_file, StandardInput.unless_closed, declared.inputs.closable.Closable.Closable, declared.inputs.closable.Closable.TheVariants.Open, declared.inputs.closable.Closable.TheVariants.Closed}
 use Rattle.std.specs.Prelude.{[]}
-use Rattle.sum_sources.specs.Phases.{Phase, Unfinished, Ended, Past}
-use Rattle.sum_sources.specs.StandardInput.{told_reads, ToldContent, told_file, unless_closed}
-use Rattle.sum_sources.specs.declared.inputs.closable.Closable.{Closable}
-use Rattle.sum_sources.specs.declared.inputs.closable.Closable.TheVariants.{Open, Closed}
 
 -- ---- inputs in memory
 

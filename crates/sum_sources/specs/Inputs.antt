@@ -1,11 +1,7 @@
 -- Standard input and a source of files, as one source.
 use Rattle.std.specs.Prelude.{ℕ, zero, suc, Bool, true, false, ◌≡◌, ◌∷◌, codes, bytes_eq, filter, not, Option, None, Some, Ok, List, [], if◌then◌else◌}
 use Rattle.std.specs.Option.{option_map}
-use Rattle.sum_sources.specs.{Contents.Content, Contents.InputState, Contents.HasContent, Contents.empty_content, Faults.ByteString}
-use Rattle.sum_sources.specs.{InputLaws.closable_has_content, StandardInput.unless_closed, StandardInput.given_by, StandardInput.taken, Sources.Answers, Sources.Pair, Sources.ToldAnswers, Sources.SourceState}
-use Rattle.sum_sources.specs.declared.inputs.stdin.StdinPlace.{StdinPlace}
-use Rattle.sum_sources.specs.declared.sources.opened.Place.{Place}
-use Rattle.sum_sources.specs.declared.sources.opened.Place.TheVariants.{Stdin, File}
+use Rattle.sum_sources.specs.{Contents.Content, Contents.InputState, Contents.HasContent, Contents.empty_content, Faults.ByteString, InputLaws.closable_has_content, StandardInput.unless_closed, StandardInput.given_by, StandardInput.taken, Sources.Answers, Sources.Pair, Sources.ToldAnswers, Sources.SourceState, declared.inputs.stdin.StdinPlace.StdinPlace, declared.sources.opened.Place.Place, declared.sources.opened.Place.TheVariants.Stdin, declared.sources.opened.Place.TheVariants.File}
 
 -- the name of standard input
 abbrev pub is_dash : ByteString → Bool

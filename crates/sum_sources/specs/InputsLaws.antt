@@ -1,19 +1,15 @@
 -- The law of standard input and a source of files, as one source: what they gave is of the answers in memory.
 use Rattle.std.proofs.Common.{◌≡◌, ℕ, Bool, true, false, IfSome, refl, codes}
-use Rattle.std.proofs.Math.Logic.{∥∥₁_elim}
-use Rattle.std.proofs.lemmas.Slice.Eq.{bytes_eq-Decides}
-use Rattle.sum_sources.specs.{Contents.InputState, Faults.ByteString}
-use Rattle.sum_sources.specs.Sources.{ToldAnswers, gave_at, IsOfAnswer, GivesTold, SourceState}
-use Rattle.sum_sources.specs.{Inputs.is_dash, Inputs.with_stdin, Inputs.tells_both, Inputs.inputs_state, SourceLaws.GivesTold-prop}
-use Rattle.sum_sources.specs.refinement.InputsStates.{InputsInvariant}
-use Rattle.sum_sources.specs.declared.inputs.stdin.StdinPlace.{StdinPlace}
+use Rattle.std.{proofs.Math.Logic.∥∥₁_elim, proofs.lemmas.Slice.Eq.bytes_eq-Decides}
+use Rattle.sum_sources.specs.{Contents.InputState, Faults.ByteString, Sources.ToldAnswers, Sources.gave_at, Sources.IsOfAnswer, Sources.GivesTold, Sources.SourceState, Inputs.is_dash, Inputs.with_stdin, Inputs.tells_both, Inputs.inputs_state, SourceLaws.GivesTold-prop, refinement.InputsStates.InputsInvariant, declared.inputs.stdin.StdinPlace.StdinPlace}
 
 pub inputs_give : {I : Type 0} (state : I → InputState) (tells : ToldAnswers) (stdin : StdinPlace I)
     (untaken : InputState) (log source : SourceState)
     → ∥ InputsInvariant state stdin untaken log.openings source.openings ∥₁ → GivesTold tells source
     → GivesTold (tells_both tells) (inputs_state untaken log source)
 inputs_give state tells stdin untaken log source kept law =
-    ∥∥₁_elim kept (GivesTold-prop (tells_both tells) (inputs_state untaken log source)) (λ kept name k. by name k kept (is_dash name) refl)
+    ∥∥₁_elim kept (GivesTold-prop (tells_both tells) (inputs_state untaken log source))
+    (λ kept name k. by name k kept (is_dash name) refl)
   where
     by : (name : ByteString) (k : ℕ) → InputsInvariant state stdin untaken log.openings source.openings
         → (b : Bool) → is_dash name ≡ b → IfSome (tells_both tells (with_stdin untaken.told source.told) name k)

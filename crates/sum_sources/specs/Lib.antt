@@ -1,6 +1,5 @@
 pub mod Contents
 pub mod Faults
-pub mod InMemory
 pub mod InputLaws
 pub mod Inputs
 pub mod InputsLaws
@@ -8,7 +7,6 @@ pub mod LineReaders
 pub mod LogNotes
 pub mod Logs
 pub mod ManifestLines
-pub mod Phases
 pub mod SourceLaws
 pub mod Sources
 pub mod StandardInput

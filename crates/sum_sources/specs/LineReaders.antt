@@ -1,8 +1,6 @@
 -- The state of a reader of lines, and what a call changes in it.
 use Rattle.std.specs.Prelude.{ℕ, ◌≡◌, ◌+◌, ◌-◌, ◌^◌, ◌≤◌, ◌⊎◌, ◌++◌, length, drop, Option, None, Some, Result, Ok}
-use Rattle.sum_sources.specs.Contents.{Content, Whole, InputState, Reads, IsOf, IsSameInput, clip, reads_past}
-use Rattle.sum_sources.specs.{Faults.ByteString, Phases.Unfinished, Phases.Ended, Phases.Past}
-use Rattle.sum_sources.specs.ManifestLines.{Next, Line, NoMore, LineStop, HasNoNewline, IsNextLine, lines_after}
+use Rattle.sum_sources.specs.{Contents.Content, Contents.Whole, Contents.InputState, Contents.Reads, Contents.IsOf, Contents.IsSameInput, Contents.clip, Contents.reads_past, Faults.ByteString, Contents.Unfinished, Contents.Ended, Contents.Past, ManifestLines.Next, ManifestLines.Line, ManifestLines.NoMore, ManifestLines.LineStop, ManifestLines.HasNoNewline, ManifestLines.IsNextLine, ManifestLines.lines_after}
 
 -- a reader of lines
 pub record LineReaderValue (I : Type 0) : Type 0 where

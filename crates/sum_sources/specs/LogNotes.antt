@@ -1,8 +1,6 @@
 -- What a note adds to the log of a source.
 use Rattle.std.specs.Prelude.{◌+◌, None, Some, Err}
-use Rattle.sum_sources.specs.Sources.{SourceState, and_opening, after_closing}
-use Rattle.sum_sources.specs.declared.sources.source_log.Note.{Note}
-use Rattle.sum_sources.specs.declared.sources.source_log.Note.TheVariants.{Opened, Failed, Closed, Refused}
+use Rattle.sum_sources.specs.{Sources.SourceState, Sources.and_opening, Sources.after_closing, declared.sources.source_log.Note.Note, declared.sources.source_log.Note.TheVariants.Opened, declared.sources.source_log.Note.TheVariants.Failed, declared.sources.source_log.Note.TheVariants.Closed, declared.sources.source_log.Note.TheVariants.Refused}
 
 abbrev pub noted : SourceState → Note → SourceState
 noted s (Opened name) = and_opening s name.now None

@@ -1,12 +1,8 @@
 -- The law of sources: what an opening gave is of the answer in memory.
 use Rattle.std.proofs.Common.{◌≡◌, Option, None, Some, Result, Ok, Err, IfSome, sym, ap, ◌∙◌}
-use Rattle.std.specs.Coded.{×_prop}
+use Rattle.std.{specs.Coded.×_prop, proofs.Props.props, proofs.lemmas.List.append_cancel_left}
 use std.HLevel.{Π_prop, Σ_prop_path}
-use Rattle.std.proofs.Props.{props}
-use Rattle.std.proofs.lemmas.List.{append_cancel_left}
-use Rattle.sum_sources.specs.{Contents.Content, Contents.Reads, Contents.Fault, Contents.IsReadTo, Contents.IsOf, Faults.ByteString, Logs.untold}
-use Rattle.sum_sources.specs.Phases.{Phase, Unfinished, Ended, Past}
-use Rattle.sum_sources.specs.Sources.{Answer, ToldAnswers, SourceState, IsOfAnswer, GivesTold, gave_at, tells_none}
+use Rattle.sum_sources.specs.{Contents.Content, Contents.Reads, Contents.Fault, Contents.IsReadTo, Contents.IsOf, Faults.ByteString, Logs.untold, Contents.Phase, Contents.Unfinished, Contents.Ended, Contents.Past, Sources.Answer, Sources.ToldAnswers, Sources.SourceState, Sources.IsOfAnswer, Sources.GivesTold, Sources.gave_at, Sources.tells_none}
 
 -- a source that isn't in memory has it
 pub untold_gives : (s : SourceState) → GivesTold tells_none (untold s)

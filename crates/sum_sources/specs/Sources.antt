@@ -1,9 +1,7 @@
 -- Sources of files: what was asked of one, and what it answered.
-use Rattle.std.specs.Prelude.{ℕ, zero, suc, slice_get, ◌≡◌, ◌+◌, List, [], ◌∷◌, ◌++◌, map, filter, filter_map, length, Option, None, Some, Result, Ok, Err, IfSome, MatchResult, if◌then◌else◌, bytes_eq}
-use Rattle.std.specs.{Option.option_and_then, Result.result_ok}
-use Rattle.sum_sources.specs.Contents.{Content, InputState, Reads, IsOf, unread}
-use Rattle.sum_sources.specs.Faults.{Fault, ByteString}
-use Rattle.sum_sources.specs.declared.sources.source.OpenFault.{OpenFault}
+use Rattle.std.specs.Prelude.{ℕ, zero, suc, slice_get, ◌≡◌, ◌+◌, List, [], ◌∷◌, ◌++◌, map, filter, filter_map, length, Option, None, Some, Result, Ok, Err, IfSome, MatchResult, if◌then◌else◌, ◌&&◌, bytes_eq, nat_le, unwrap_or}
+use Rattle.std.{specs.Option.option_and_then, specs.Result.result_ok}
+use Rattle.sum_sources.specs.{Contents.Content, Contents.InputState, Contents.Reads, Contents.IsOf, Contents.unread, Faults.Fault, Faults.NotFound, Faults.ByteString, declared.sources.source.OpenFault.OpenFault}
 use Rattle.sum_sources.specs.declared.sources.source.OpenFault.TheVariants as faults
 
 -- what opening a name gives: a content, or the fault of opening
@@ -54,6 +52,15 @@ TellsAll tells told answer = (name : ByteString) (k : ℕ) → tells told name k
 -- none is known
 abbrev pub tells_none : ToldAnswers
 tells_none told name k = None
+
+-- of a list of pairs that answers by the first that fits; a name without one isn't there
+abbrev pub first_answer : List Pair → Answers
+first_answer [] name k = Err NotFound
+first_answer (p ∷ ps) name k = if bytes_eq p.name name && nat_le p.from k
+    then unwrap_or p.answer (Err NotFound) else first_answer ps name k
+
+abbrev pub tells_first : ToldAnswers
+tells_first pairs name k = Some (first_answer pairs name k)
 
 -- ---- the state
 

@@ -1,11 +1,6 @@
 -- Inputs in memory, inputs that may be closed, and standard input: before, when and after it is taken.
 use Rattle.std.specs.Prelude.{ℕ, ◌≡◌, [], take, Some}
-use Rattle.sum_sources.specs.Contents.{Content, Whole, InputState, Reads, unread}
-use Rattle.sum_sources.specs.{Faults.ByteString, Phases.Phase, Phases.Unfinished, Phases.Ended}
-use Rattle.sum_sources.specs.declared.inputs.stdin.StdinPlace.{StdinPlace}
-use Rattle.sum_sources.specs.declared.inputs.stdin.StdinPlace.TheVariants.{Untaken, Taken, Returned}
-use Rattle.sum_sources.specs.declared.inputs.closable.Closable.{Closable}
-use Rattle.sum_sources.specs.declared.inputs.closable.Closable.TheVariants.{Open, Closed}
+use Rattle.sum_sources.specs.{Contents.Content, Contents.Whole, Contents.InputState, Contents.Reads, Contents.unread, Faults.ByteString, Contents.Phase, Contents.Unfinished, Contents.Ended, declared.inputs.stdin.StdinPlace.StdinPlace, declared.inputs.stdin.StdinPlace.TheVariants.Untaken, declared.inputs.stdin.StdinPlace.TheVariants.Taken, declared.inputs.stdin.StdinPlace.TheVariants.Returned, declared.inputs.closable.Closable.Closable, declared.inputs.closable.Closable.TheVariants.Open, declared.inputs.closable.Closable.TheVariants.Closed}
 
 -- what reads of a content gave: its first n bytes so far; or all of them, and then its ending
 abbrev pub told_reads : Content → ℕ → Phase → Reads

@@ -85,7 +85,7 @@ fn drop_return<A: Allocator>(line: &mut Vec<u8, A>)
 impl<I: Input> LineReader<I> {
     ghost use Rattle.sum_sources.specs.LineReaders.{consumed_count, IsBounded, AdvancesLines, IsReading, ReadsOn};
     ghost use Rattle.sum_sources.specs.ManifestLines.{lines_after};
-    ghost use Rattle.sum_sources.specs.Phases.{Unfinished};
+    ghost use Rattle.sum_sources.specs.Contents.{Unfinished};
     ghost use Rattle.sum_sources.specs.refinement.LimitedReads.{AddsPast, CountsBytes};
     ghost use Rattle.sum_sources.specs.refinement.LineStates.{FillsReader, TakesPiece};
 

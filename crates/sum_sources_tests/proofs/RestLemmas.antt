@@ -3,11 +3,7 @@ use Rattle.std.proofs.Common.{◌≡◌, ◌∷◌, ◌-◌, ◌≤◌, ℕ, [],
 use Rattle.std.specs.Prelude.{IfOk}
 use Rattle.std.proofs.lemmas.List.{drop-append-le, length-take-le}
 use Rattle.digest_kinds.specs.{Bytes.ByteString, Kinds.digest, Kinds.KindValue}
-use Rattle.sum_sources.specs.Contents.{Content, InputState, Reads, HashesInput, IsOf, and_read, clip, reads_past, unread}
-use Rattle.sum_sources.specs.LineReaders.{AdvancesLines, IsReading, LineReaderValue, ReadsOn, past, remaining}
-use Rattle.sum_sources.specs.ManifestLines.{lines}
-use Rattle.sum_sources.specs.declared.{fault.Fault.Fault, fault.Ending.TheVariants.Whole, inputs.phase.Phase.Phase, line_reader.Next.TheVariants.Line}
-use Rattle.sum_sources.specs.declared.inputs.phase.Phase.TheVariants.{Unfinished, Ended, Past}
+use Rattle.sum_sources.specs.{Contents.Content, Contents.InputState, Contents.Reads, Contents.HashesInput, Contents.IsOf, Contents.and_read, Contents.clip, Contents.reads_past, Contents.unread, LineReaders.AdvancesLines, LineReaders.IsReading, LineReaders.LineReaderValue, LineReaders.ReadsOn, LineReaders.past, LineReaders.remaining, ManifestLines.lines, declared.fault.Fault.Fault, declared.fault.Ending.TheVariants.Whole, declared.inputs.phase.Phase.Phase, declared.line_reader.Next.TheVariants.Line, declared.inputs.phase.Phase.TheVariants.Unfinished, declared.inputs.phase.Phase.TheVariants.Ended, declared.inputs.phase.Phase.TheVariants.Past}
 
 -- if reads are of a content, those past the first bytes are of its rest
 rest_is_of : (m : ℕ) (r : Reads) (c : Content) → m ≤ length r.bytes → IsOf r c → IsOf (reads_past m r) (past m c)

@@ -2,9 +2,7 @@
 use Rattle.std.specs.Prelude.{length, take, List, [], ◌∷◌, None, Some, Ok, Err}
 use Rattle.std.specs.Option.{option_map}
 use Rattle.digest_kinds.specs.Bytes.{ByteString}
-use Rattle.sum_sources.specs.Contents.{Content}
-use Rattle.sum_sources.specs.declared.fault.Ending.TheVariants.{Whole}
-use Rattle.sum_sources.specs.Sources.{Answer, Pair, SourceState, ToldAnswers}
+use Rattle.sum_sources.specs.{Contents.Content, declared.fault.Ending.TheVariants.Whole, Sources.Answer, Sources.Pair, Sources.SourceState, Sources.ToldAnswers}
 
 -- a content that ends whole
 abbrev pub whole : ByteString → Content

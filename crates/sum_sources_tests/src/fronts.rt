@@ -38,8 +38,7 @@ impl<'a> Input for Front<'a> {
 pub struct Fronts<'a> {
     text: &'a [u8],
     log: SourceLog,
-    ghost gives: { GivesTold tells_fronts (fronts_state text.now log) }
-        by { GivesTold-prop tells_fronts (fronts_state text.now log) },
+    ghost gives: { GivesTold tells_fronts (fronts_state text.now log) } by { GivesTold-prop tells_fronts (fronts_state text.now log) },
 }
 
 impl<'a> Fronts<'a> {

@@ -1,11 +1,7 @@
 -- What standard input and a source of files keep, as one source.
 use Rattle.std.specs.Prelude.{ℕ, ◌≡◌, false, List, [], ◌∷◌, codes, Option, Some, IfSome, Result, Ok}
 use Rattle.std.specs.Option.{option_map}
-use Rattle.sum_sources.specs.{Contents.InputState, Contents.Reads, Contents.Fault, Contents.empty_content, Contents.Whole, Faults.ByteString, Phases.Unfinished, StandardInput.given_by, StandardInput.unless_closed}
-use Rattle.sum_sources.specs.Sources.{Opening, gave_of, gave_at, IsOfAnswer}
-use Rattle.sum_sources.specs.Inputs.{is_dash, given_once}
-use Rattle.sum_sources.specs.declared.inputs.stdin.StdinPlace.{StdinPlace}
-use Rattle.sum_sources.specs.declared.inputs.closable.Closable.TheVariants.{Closed}
+use Rattle.sum_sources.specs.{Contents.InputState, Contents.Reads, Contents.Fault, Contents.empty_content, Contents.Whole, Faults.ByteString, Contents.Unfinished, StandardInput.given_by, StandardInput.unless_closed, Sources.Opening, Sources.gave_of, Sources.gave_at, Sources.IsOfAnswer, Inputs.is_dash, Inputs.given_once, declared.inputs.stdin.StdinPlace.StdinPlace, declared.inputs.closable.Closable.TheVariants.Closed}
 
 -- before `-` is opened, what taking gives is what it was at first; afterwards it is empty
 abbrev pub IsPlaceOf : {I : Type 0} → (I → InputState) → StdinPlace I → InputState

@@ -1,7 +1,6 @@
 -- What a read up to the limit adds to what was read.
 use Rattle.std.specs.Prelude.{ℕ, zero, suc, ◌≡◌, ◌≢◌, ◌+◌, ◌^◌, ◌<◌, ◌≤◌, ◌++◌, length, Result, Ok, Err, IfOk}
-use Rattle.sum_sources.specs.Contents.{Content, Ending, Whole, Broken, Reads, InputState, IsOf, IsSameInput, clip, reads_past, Fault}
-use Rattle.sum_sources.specs.{Faults.ByteString, Phases.Unfinished, Phases.Ended, Phases.Past}
+use Rattle.sum_sources.specs.{Contents.Content, Contents.Ending, Contents.Whole, Contents.Broken, Contents.Reads, Contents.InputState, Contents.IsOf, Contents.IsSameInput, Contents.clip, Contents.reads_past, Contents.Fault, Faults.ByteString, Contents.Unfinished, Contents.Ended, Contents.Past}
 
 -- an input was found to end so, as far as the limit allows, if it had given so many bytes
 pub record FindsEnding (taken : ℕ) (a b : Reads) (e : Ending) : Type 0 where

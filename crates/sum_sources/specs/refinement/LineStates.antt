@@ -1,10 +1,7 @@
 -- The view of a reader of lines, its invariant, and what its steps change.
 use Rattle.std.specs.Prelude.{ℕ, ◌≡◌, ◌+◌, ◌-◌, ◌^◌, ◌<◌, ◌≤◌, ◌⊎◌, length, take, drop, Option, None, Some, Result, Ok, Err, Bool, true, false, [], ◌∷◌, ◌++◌}
-use Rattle.sum_sources.specs.{Contents.Fault, LineReaders.LineReaderValue}
+use Rattle.sum_sources.specs.{Contents.Fault, LineReaders.LineReaderValue, declared.line_reader.LineReader.TheInside.Inside, declared.line_reader.ReaderState.ReaderState, declared.line_reader.ReaderState.TheVariants.Active, declared.line_reader.ReaderState.TheVariants.Done, declared.line_reader.ReaderState.TheVariants.Stopped, ManifestLines.Next, ManifestLines.NoMore, ManifestLines.LineStop, ManifestLines.HasNoNewline}
 use Rattle.digest_kinds.specs.Bytes.{ByteString}
-use Rattle.sum_sources.specs.declared.{line_reader.LineReader.TheInside.Inside, line_reader.ReaderState.ReaderState}
-use Rattle.sum_sources.specs.declared.line_reader.ReaderState.TheVariants.{Active, Done, Stopped}
-use Rattle.sum_sources.specs.ManifestLines.{Next, NoMore, LineStop, HasNoNewline}
 use Rattle.sum_sources.specs.declared.line_reader.LineStop.TheVariants as stops
 
 -- what every later call returns

@@ -1,8 +1,7 @@
 -- How far an input in memory was read.
 use Rattle.std.specs.Prelude.{ℕ, ◌≡◌, ◌<◌, ◌≤◌, ◌++◌, take, length, Result, MatchResult}
 use Rattle.std.specs.Result.{result_unwrap_or}
-use Rattle.sum_sources.specs.Contents.{Content, Ending, Reads, Whole, Broken, Fault}
-use Rattle.sum_sources.specs.{Faults.ByteString, StandardInput.told_reads, Phases.Phase, Phases.Ended}
+use Rattle.sum_sources.specs.{Contents.Content, Contents.Ending, Contents.Reads, Contents.Whole, Contents.Broken, Contents.Fault, Faults.ByteString, StandardInput.told_reads, Contents.Phase, Contents.Ended}
 
 -- of a content of which m bytes were given, a read gave those up to the first n; or, if none was left, its ending
 pub record GivesFrom (c : Content) (m n size : ℕ) (r : Result ℕ Fault) (buf : ByteString) : Type 0 where

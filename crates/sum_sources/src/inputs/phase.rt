@@ -1,6 +1,6 @@
 //! How far an input was read.
 ghost use Rattle.std.specs.Prelude.{◌≡◌};
-ghost use Rattle.sum_sources.specs.Phases.{phase_after};
+ghost use Rattle.sum_sources.specs.Contents.{phase_after};
 
 use crate::{Ending, Fault};
 

@@ -1,7 +1,7 @@
 //! A source of files in memory.
 ghost use Rattle.std.specs.Option.{option_map};
 ghost use Rattle.std.specs.Prelude.{◌≡◌, ◌≤◌, ◌++◌, ◌∷◌, [], OnOk, OnErr, MatchBool, length, map, max, slice_get};
-ghost use Rattle.sum_sources.specs.InMemory.{first_answer, tells_first};
+ghost use Rattle.sum_sources.specs.Sources.{first_answer, tells_first};
 ghost use Rattle.sum_sources.specs.Logs.{no_openings};
 ghost use Rattle.sum_sources.specs.SourceLaws.{GivesTold-prop};
 ghost use Rattle.sum_sources.specs.Sources.{GivesTold, names_of, times};

@@ -1,8 +1,6 @@
 use Rattle.std.proofs.Common.{rules, arith, refl, ap, ◌≡◌, ◌≤◌, ◌++◌, List, ℕ, length, length-append, drop, ◌∙◌}
-use Rattle.std.proofs.Math.Seq.{drop-append_seam}
-use Rattle.std.proofs.lemmas.Result.{err_from_is_err_and}
-use Rattle.sum_sources.specs.Contents.{Content, Ending, Reads, IsOf, clip, reads_past}
-use Rattle.sum_sources.specs.{Phases.Unfinished, refinement.LimitedReads.FindsEnding}
+use Rattle.std.{proofs.Math.Seq.drop-append_seam, proofs.lemmas.Result.err_from_is_err_and}
+use Rattle.sum_sources.specs.{Contents.Content, Contents.Ending, Contents.Reads, Contents.IsOf, Contents.clip, Contents.reads_past, Contents.Unfinished, refinement.LimitedReads.FindsEnding}
 use Rattle.sum_sources.proofs.inputs.hash_input.hash_input_over.Goals as goal
 
 -- the ending was read after these bytes

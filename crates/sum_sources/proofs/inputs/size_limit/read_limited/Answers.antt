@@ -16,8 +16,8 @@ returns-in_err-n-clause-reads g c =
 pub returns-then-taken-eq-LIMIT-clause-reads : goal.returns-then-taken-eq-LIMIT-clause-reads
 returns-then-taken-eq-LIMIT-clause-reads g c =
     record {
-      adds = λ m low going. read_reaches (past m _) (past m _) c.args.taken.now going c.requires c.in_ok-n.n c.read.new.buf
-          (omega (arith, c.max-size.ensures)) (search rules) (search rules)
+      adds = λ m low going. read_reaches (past m _) (past m _) c.args.taken.now going c.requires c.in_ok-n.n
+          c.read.new.buf (omega (arith, c.max-size.ensures)) (search rules) (search rules)
           (omega (arith, c.max-size.ensures, c.min.ensures)) (past_read m _ _ _ _ low c.in_ok-n.ensures.reads);
     }
 
@@ -25,6 +25,7 @@ returns-then-taken-eq-LIMIT-clause-reads g c =
 pub returns-clause-reads : goal.returns-clause-reads
 returns-clause-reads g c =
     record {
-      adds = λ m low going. read_gives (past m _) (past m _) c.args.taken.now going c.requires c.in_ok-n.n c.read.new.buf _
-          (omega (arith, c.max-size.ensures)) (search rules) (past_read m _ _ _ _ low c.in_ok-n.ensures.reads);
+      adds = λ m low going. read_gives (past m _) (past m _) c.args.taken.now going c.requires c.in_ok-n.n
+          c.read.new.buf _ (omega (arith, c.max-size.ensures)) (search rules)
+          (past_read m _ _ _ _ low c.in_ok-n.ensures.reads);
     }

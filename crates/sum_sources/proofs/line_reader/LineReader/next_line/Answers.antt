@@ -1,8 +1,6 @@
 use Rattle.std.proofs.lemmas.Grind.{common_steps}
 use Rattle.std.proofs.Common.{ap, arith, ◌≡◌, length}
-use Rattle.sum_sources.specs.LineReaders.{IsBounded}
-use Rattle.sum_sources.specs.declared.line_reader.LineReader.TheInside.{Inside}
-use Rattle.sum_sources.specs.refinement.LineStates.{line_reader_view, final_answer_in, LineReaderInvariant}
+use Rattle.sum_sources.specs.{LineReaders.IsBounded, declared.line_reader.LineReader.TheInside.Inside, refinement.LineStates.line_reader_view, refinement.LineStates.final_answer_in, refinement.LineStates.LineReaderInvariant}
 use Rattle.sum_sources.proofs.ReadOnLemmas.{counted, settled_again}
 use Rattle.sum_sources.proofs.line_reader.LineReader.next_line.Goals as goal
 

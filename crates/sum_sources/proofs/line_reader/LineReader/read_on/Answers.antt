@@ -1,7 +1,6 @@
 use Rattle.std.proofs.Common.{rules, arith, refl, ap, sym, append-nil, ◌≡◌, ◌∙◌, [], Ok, Err, length}
-use Rattle.std.proofs.lemmas.{Grind.common_steps, List.nil_from_length}
-use Rattle.sum_sources.specs.{ManifestLines.HasNoNewline, ManifestLines.Line, ManifestLines.NoMore, Contents.Whole, Contents.Broken}
-use Rattle.sum_sources.specs.LineReaders.{IsReading, LineReaderValue}
+use Rattle.std.{proofs.lemmas.Grind.common_steps, proofs.lemmas.List.nil_from_length}
+use Rattle.sum_sources.specs.{ManifestLines.HasNoNewline, ManifestLines.Line, ManifestLines.NoMore, Contents.Whole, Contents.Broken, LineReaders.IsReading, LineReaders.LineReaderValue}
 use Rattle.sum_sources.proofs.ReadOnLemmas.{adds_of, HasRead, HasRead-more, HasRead-filled, ends_line, ends_memory, no_line, ends}
 use Rattle.sum_sources.proofs.{LineLemmas.IsNextLine-last, LineLemmas.IsNextLine-fault, line_reader.LineReader.read_on.Goals.In-Ok-false}
 use Rattle.sum_sources.specs.declared.line_reader.LineStop.TheVariants as stops

@@ -1,6 +1,5 @@
 use Rattle.std.proofs.Common.{arith}
-use Rattle.std.proofs.lemmas.{Grind.common_steps, Bool.eqb-true}
-use Rattle.std.proofs.Math.Seq.{take-length}
+use Rattle.std.{proofs.lemmas.Grind.common_steps, proofs.lemmas.Bool.eqb-true, proofs.Math.Seq.take-length}
 use Rattle.sum_sources.proofs.PieceLemmas.{plain_prefix, cut_buffer}
 use Rattle.sum_sources.proofs.line_reader.LineReader.take_piece.Goals as goal
 

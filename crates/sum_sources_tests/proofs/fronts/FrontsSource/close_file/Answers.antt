@@ -8,8 +8,8 @@ pub invariant_of-self : goal.invariant_of-self
 invariant_of-self c =
     let s = c.args.self.now in
     let told = told_value c.args.file.told in
-    let file : InputState = record (told_file told) { name = c.args.file.log.name; opening = c.args.file.log.opening } in
-    record {
-      gives = rw (c.and-self.ensures, c.args.file.same) (closing_gives tells_fronts (fronts_state s.text.now s.log) file _
-          (told_file_has_content told) c.requires.told refl s.gives);
-    }
+    let log = c.args.file.log in
+    let file : InputState = record (told_file told) { name = log.name; opening = log.opening } in
+    let gives = closing_gives tells_fronts (fronts_state s.text.now s.log) file _ (told_file_has_content told)
+    c.requires.told refl s.gives in
+    record { gives = rw (c.and-self.ensures, c.args.file.same) gives }

@@ -5,4 +5,5 @@ use Rattle.sum_sources_tests.proofs.fronts.FrontsSource.open_file.Goals as goal
 pub invariant_of-self : goal.invariant_of-self
 invariant_of-self c =
     let s = c.args.self.now in
-    record { gives = rw c.and-self.ensures (open_gives tells_fronts (fronts_state s.text.now s.log) c.args.name.now s.gives) }
+    let gives = open_gives tells_fronts (fronts_state s.text.now s.log) c.args.name.now s.gives in
+    record { gives = rw c.and-self.ensures gives }

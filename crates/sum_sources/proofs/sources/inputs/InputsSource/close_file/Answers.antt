@@ -1,6 +1,5 @@
 use Rattle.std.proofs.Common.{◌≡◌, ◌∙◌, ap, true, false}
-use Rattle.std.proofs.Math.Logic.{∥∥₁_elim, ∥∥₁_map}
-use Rattle.std.proofs.Props.{props}
+use Rattle.std.{proofs.Math.Logic.∥∥₁_elim, proofs.Math.Logic.∥∥₁_map, proofs.Props.props}
 use Rattle.sum_sources.specs.Inputs.{is_dash, is_stdin, opened_state, opened_has_content}
 use Rattle.sum_sources.proofs.InputsLemmas.{kept_closing, kept_back, open_there, stdin_gives}
 use Rattle.sum_sources.proofs.sources.inputs.InputsSource.close_file.Goals as goal
@@ -15,8 +14,8 @@ invariant_of-self g c =
     record {
       is = rw (c.and-self.ensures, c.put_back.ensures) (∥∥₁_map c.args.self.now.is (λ kept.
           kept_back kept file.name file.opening file.reads c.in-Stdin.given dash
-          (stdin_gives g.S.Source.tells c.args.self.now.untaken c.args.self.now.log (g.S.Source.state c.args.self.now.source) kept
-          file has dash c.requires)));
+          (stdin_gives g.S.Source.tells c.args.self.now.untaken c.args.self.now.log
+          (g.S.Source.state c.args.self.now.source) kept file has dash c.requires)));
     }
 
 -- a file of the source is open there
@@ -25,8 +24,8 @@ close_file-requires g c =
     let file = opened_state g.I.Input.state g.S.File.Input.state in
     let other : is_dash (file c.args.file.place).name ≡ false = c.args.file.named ∙ ap is_stdin c.in-File.is in
     rw c.in-File.is at (∥∥₁_elim c.args.self.now.is (hlevel props) (λ kept.
-    open_there g.S.Source.tells c.args.self.now.untaken c.args.self.now.log (g.S.Source.state c.args.self.now.source) kept
-    (file c.args.file.place) other c.requires))
+    open_there g.S.Source.tells c.args.self.now.untaken c.args.self.now.log
+    (g.S.Source.state c.args.self.now.source) kept (file c.args.file.place) other c.requires))
 
 -- and is closed there
 pub invariant_of-self-in-File : goal.invariant_of-self-in-File

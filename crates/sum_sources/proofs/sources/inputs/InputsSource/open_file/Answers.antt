@@ -1,6 +1,5 @@
 use Rattle.std.proofs.Common.{◌∙◌, sym, ap}
-use Rattle.std.proofs.Math.Logic.{∥∥₁_elim, ∥∥₁_map}
-use Rattle.std.proofs.Props.{props}
+use Rattle.std.{proofs.Math.Logic.∥∥₁_elim, proofs.Math.Logic.∥∥₁_map, proofs.Props.props}
 use Rattle.sum_sources.specs.Inputs.{opened_state}
 use Rattle.sum_sources.proofs.InputsLemmas.{kept_opening, kept_stdin, stdin_opened, file_opened}
 use Rattle.sum_sources.proofs.sources.inputs.InputsSource.open_file.Goals as goal
@@ -17,12 +16,13 @@ pub returns-then-is_dash-clause-file : goal.returns-then-is_dash-clause-file
 returns-then-is_dash-clause-file g c = ∥∥₁_elim c.args.self.now.is (hlevel props) (λ kept.
     ap (opened_state g.I.Input.state g.S.File.Input.state) c.of_stdin-opened.ensures ∙ rw c.next_file.ensures
     (stdin_opened g.S.Source.tells c.args.self.now.untaken c.args.self.now.log
-    (g.S.Source.state c.args.self.now.source) kept c.args.name.now c.take.result (sym c.is_dash.ensures ∙ c.if-is_dash.true)
-    c.take.ensures.given.0 c.take.ensures.given.1))
+    (g.S.Source.state c.args.self.now.source) kept c.args.name.now c.take.result
+    (sym c.is_dash.ensures ∙ c.if-is_dash.true) c.take.ensures.given.0 c.take.ensures.given.1))
 
 pub returns-then-is_dash-clause-stdin : goal.returns-then-is_dash-clause-stdin
 returns-then-is_dash-clause-stdin g c =
-    rw (sym c.is_dash.ensures ∙ c.if-is_dash.true, c.of_stdin-opened.ensures) (c.take.ensures.given.0, c.take.ensures.taken)
+    rw (sym c.is_dash.ensures ∙ c.if-is_dash.true, c.of_stdin-opened.ensures)
+    (c.take.ensures.given.0, c.take.ensures.taken)
 
 -- ---- another name
 

@@ -1,6 +1,5 @@
 use Rattle.std.proofs.Common.{rules, ◌≡◌, ◌∷◌, ◌++◌, [], Some, map}
-use Rattle.std.specs.Result.{is_ok}
-use Rattle.std.proofs.lemmas.List.{map-append}
+use Rattle.std.{specs.Result.is_ok, proofs.lemmas.List.map-append}
 use Rattle.sum_sources.specs.{Sources.Pair, refinement.ToldPairs.told_source, refinement.ToldPairs.pair_of, refinement.ToldPairs.answer_value}
 use Rattle.sum_sources.proofs.{GaveLemmas.either, ToldSourceLemmas.adding_gives}
 use Rattle.sum_sources.proofs.sources.told_source.ToldSource.add.Goals as goal
@@ -17,5 +16,6 @@ invariant_of-self-clause-gives g c =
     either (is_ok c.push.result)
     (λ ok. let is : map pair_of c.push.new.self.items ≡ map pair_of s.pairs.items ++ p ∷ [] =
     rw (c.push.ensures.items, ok, map-append) (search rules) in
-    rw is (adding_gives (told_source s.pairs.items s.log) p (rw (← s.names, c.in-Ok.ensures.items) (search rules)) s.gives))
+    rw is (adding_gives (told_source s.pairs.items s.log) p
+    (rw (← s.names, c.in-Ok.ensures.items) (search rules)) s.gives))
     (λ no. rw (rw no at c.push.ensures.items) s.gives)
