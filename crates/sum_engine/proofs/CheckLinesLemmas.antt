@@ -1,16 +1,17 @@
 -- `check_lines`: a new checker runs to its end. What happened so far and what remains is the whole behavior
 -- (`HasComeTo`). A step that goes on keeps this. The step that ends or stops proves the contract by it.
-use Rattle.std.proofs.Common.{rules, ◌^◌, ◌-◌, ◌+◌, ◌<◌, ◌≡◌, ℕ, length, Bool, List, [], ◌∷◌, ◌++◌, Result, Ok, Err, Some, None, true, refl, ap, ◌∙◌, subst, arith, append-nil}
+use Rattle.std.proofs.Common.{rules, ◌^◌, ◌-◌, ◌+◌, ◌<◌, ◌≤◌, ◌≡◌, ℕ, length, drop, length-drop, Bool, List, [], ◌∷◌, ◌++◌, Result, Ok, Err, Some, None, true, refl, ap, ◌∙◌, subst, arith, append-nil}
 use Rattle.sum_sources.specs.{Contents.IsSameInput, Contents.IsOf, Contents.reads_past, LineReaders.remaining, LineReaders.IsReading}
 use Rattle.sum_engine.specs.Behavior.{World, Step, Behavior, Content, InputState, clip}
 use Rattle.sum_engine.specs.{check.Rules.Rules, check.Rules.LabelsValue, check.Judge.all_verdicts, check.Checking.content_behavior}
 use Rattle.sum_engine.specs.check.CheckStates.{CheckState, initial_state, remaining_behavior}
 use Rattle.sum_engine.specs.check.Verdicts.{IsAtStart, VerdictsValue, state_at, InEachCheck, VerdictResult, LineVerdict, counts_after, IsNotUnread, AsksFor}
 use Rattle.sum_engine.specs.check.Checker.{ReportsFound, Progress, Going, Ended, IsStep, TakesStep, step_then, progress_before, CheckerValue, AdvancesChecker, ends}
-use Rattle.sum_sources.specs.declared.line_reader.LineStop.TheVariants.{Fault, Memory}
-use Rattle.sum_engine.specs.check.CheckerLaws.{RunsManifest}
-use Rattle.sum_engine.specs.Execution.{Stop, OutputsState, StreamsState, IsFlushed, ReadsToEndIf, world_at, PerformsSteps, StopHasCause}
+use Rattle.sum_sources.specs.declared.{inputs.phase.Phase.TheVariants.Unfinished, line_reader.LineStop.TheVariants.Fault, line_reader.LineStop.TheVariants.Memory}
+use Rattle.sum_engine.specs.{check.CheckerLaws.RunsManifest, check.ReadAhead.FailsAtStep}
+use Rattle.sum_engine.specs.Execution.{Stop, Write, OutputsState, StreamsState, IsFlushed, Agrees, ReadsToEndIf, world_at, PerformsSteps, StopHasCause}
 use Rattle.sum_engine.specs.refinement.FlushedWrites.{outcome_after, WritesAndFlushesBoth, WritesAndReturns}
+use Rattle.sum_engine.proofs.ReadAheadLemmas.{read_fits_clip, fails_at_step}
 use Rattle.sum_engine.proofs.{CountLemmas.counts_then-none, ExecutionLemmas.one_at_most, ExecutionLemmas.stop_after, FlushedWriteLemmas.returned}
 use Rattle.sum_engine.proofs.WorldLemmas.{agrees_before, reads_none, reads_then}
 use Rattle.sum_engine.proofs.BehaviorLemmas.{HasDoneUpTo, done_none, done_more, done_stops}
@@ -22,15 +23,17 @@ pub remaining-initial : (r : Rules) (labels : LabelsValue) (c : Content) (w : Wo
     → remaining_behavior r labels (initial_state c w) ≡ content_behavior r labels c (all_verdicts r w c)
 remaining-initial r labels c w = rw counts_then-none refl
 
--- so it is at the first line
+-- at the first line the state is the initial one
+state-initial : {I : Type 0} {state : I → InputState} {p : VerdictsValue I} {input : I} → IsAtStart state p input
+    → (c : Content) (w : World) → state_at p (remaining p.reader c) w ≡ initial_state (clip c) w
+state-initial start c w = rw (start.reader, start.form, start.counts) refl
+
 behavior-initial : {I : Type 0} {state : I → InputState} {p : VerdictsValue I} {input : I} (r : Rules)
     (labels : LabelsValue) → IsAtStart state p input → (c : Content) (w : World)
     → remaining_behavior r labels (state_at p (remaining p.reader c) w)
     ≡ content_behavior r labels (clip c) (all_verdicts r w (clip c))
-behavior-initial {p = p} r labels start c w =
-    let at : state_at p (remaining p.reader c) w ≡ initial_state (clip c) w =
-    rw (start.reader, start.form, start.counts) refl in
-    ap (remaining_behavior r labels) at ∙ remaining-initial r labels (clip c) w
+behavior-initial r labels start c w =
+    ap (remaining_behavior r labels) (state-initial start c w) ∙ remaining-initial r labels (clip c) w
 
 -- ---- the step that ends or stops
 
@@ -130,13 +133,19 @@ module _ {I : Type 0} (state : I → InputState) (first : CheckerValue I) (m : S
   abbrev HoldsUpTo : VerdictsValue I → StreamsState → (CheckState → CheckState → Type 0) → Type 0
   HoldsUpTo q n P = IsFlushed m.outputs → InEachCheck state first.verdicts q m.inputs n.inputs P
 
+  -- the check came from the state a to b: what is done and what is left is all, and so is what is consumed and what
+  -- remains of the content
+  pub record ComesTo (a b : CheckState) (n : StreamsState) : Type 0 where
+    pub done : HasDoneUpTo (left a) (left b) m n
+    pub consumed : b.consumed + length b.remaining.bytes ≡ a.consumed + length a.remaining.bytes
+
   -- the check came so far, to this checker and these streams, by the same rules and labels
   pub record HasComeTo (q : CheckerValue I) (n : StreamsState) : Type 0 where
     pub rules : q.verdicts.rules ≡ first.verdicts.rules
     pub labels : q.labels ≡ first.labels
     pub going : q.outcome ≡ None
     pub reading : IsReading state first.verdicts.reader → IsReading state q.verdicts.reader
-    pub happened : HoldsUpTo q.verdicts n (λ a b. HasDoneUpTo (left a) (left b) m n)
+    pub happened : HoldsUpTo q.verdicts n (λ a b. ComesTo a b n)
     pub so_far : StopHasCause {A = Bool} (0 ∷ 1 ∷ []) m n (Ok true)
     pub reads : ReadsToEndIf (q.verdicts.counts.unread ≡ 0) m.inputs n.inputs
     pub same : IsSameInput (state first.verdicts.reader.input) (state q.verdicts.reader.input)
@@ -151,8 +160,10 @@ module _ {I : Type 0} (state : I → InputState) (first : CheckerValue I) (m : S
     going = none;
     reading = λ reading. reading;
     happened = λ flushed. record {
-      holds = λ reading c of w agrees.
-          done_none (left (state_at first.verdicts (remaining first.verdicts.reader c) (world_at w m.inputs))) m;
+      holds = λ reading c of w agrees. record {
+        done = done_none (left (state_at first.verdicts (remaining first.verdicts.reader c) (world_at w m.inputs))) m;
+        consumed = refl;
+      };
     };
     so_far = search rules;
     reads = reads_none m.inputs;
@@ -164,7 +175,7 @@ module _ {I : Type 0} (state : I → InputState) (first : CheckerValue I) (m : S
   one_more_step : {q : CheckerValue I} {n : StreamsState} (next : CheckerValue I) (o : StreamsState) (vector : List ℕ)
       (x : Result Progress Stop) {P : CheckState → CheckState → Type 0} → HasComeTo q n
       → AdvancesChecker state vector q next n o x → TakesStep state vector q.labels q.verdicts next.verdicts n o x
-      → ((a b d : CheckState) → HasDoneUpTo (left a) (left b) m n
+      → ((a b d : CheckState) → ComesTo a b n
       → IsStep first.verdicts.rules first.labels vector b d n o x → P a d)
       → HoldsUpTo next.verdicts o P
   one_more_step {q = q} {n = n} next o vector x h advances step follows = λ flushed. record {
@@ -186,15 +197,55 @@ module _ {I : Type 0} (state : I → InputState) (first : CheckerValue I) (m : S
         labels = advances.labels ∙ h.labels;
         going = going;
         reading = λ reading. advances.verdict.reading (h.reading reading);
-        happened = one_more_step next o vector (Ok Going) h advances step (λ a b d along step.
-            subst (λ later. HasDoneUpTo (left a) later m o)
-            (step.going refl).0 (done_more step.step step.later along step.is step.performs.1));
+        happened = one_more_step next o vector (Ok Going) h advances step (λ a b d along step. record {
+          done = subst (λ later. HasDoneUpTo (left a) later m o)
+              (step.going refl).0 (done_more step.step step.later along.done step.is step.performs.1);
+          consumed = (step.going refl).1.consumed ∙ along.consumed;
+        });
         so_far = search rules;
         reads = reads_then (none_unread q.verdicts next.verdicts advances.found advances.verdict.counts)
             h.reads advances.verdict.reads;
         same = search rules;
         taken = omega (arith, h.taken, advances.verdict.reader.taken);
       }
+
+  -- a write failed once the input had given this many bytes, if all of the content remained at the state a
+  abbrev FailsFrom : CheckState → ℕ → StreamsState → Type 0
+  FailsFrom a taken o = a.consumed ≡ 0 → taken ≤ length a.remaining.bytes + 8192
+      → FailsAtStep (left a).steps a.remaining taken m o
+
+  -- a step at which a write failed: at most 8,192 bytes were read past its line
+  HasComeTo-fails : (q last : CheckerValue I) (n o : StreamsState) (vector : List ℕ)
+      → IsAtStart state first.verdicts first.verdicts.reader.input → HasComeTo q n
+      → AdvancesChecker state vector q last n o (Err Write)
+      → TakesStep state vector q.labels q.verdicts last.verdicts n o (Err Write)
+      → let was = (state first.verdicts.reader.input).reads in let now = (state last.verdicts.reader.input).reads in
+      was.phase ≡ Unfinished → (c : Content) → IsOf (reads_past (length was.bytes) now) c → IsFlushed m.outputs
+      → (w : World) → Agrees w o.inputs
+      → FailsAtStep (manifest_behavior first.verdicts.rules first.labels (clip c) (world_at w m.inputs)).steps (clip c)
+      (length (reads_past (length was.bytes) now).bytes) m o
+  HasComeTo-fails q last n o vector start h advances step going c of flushed w agrees =
+      let was = (state first.verdicts.reader.input).reads in
+      let now = (state last.verdicts.reader.input).reads in
+      let taken = last.verdicts.reader.taken in
+      let none : first.verdicts.reader.taken ≡ 0 = rw start.reader refl in
+      let read : length now.bytes - length was.bytes ≡ taken =
+      omega (arith, none, h.taken, advances.verdict.reader.taken) in
+      let before : length was.bytes ≡ length now.bytes - taken =
+      omega (arith, none, h.taken, advances.verdict.reader.taken) in
+      let size : length (drop (length was.bytes) now.bytes) ≡ taken =
+      length-drop (length was.bytes) now.bytes ∙ read in
+      let past = (advances.verdict.reading (h.reading (start.reading going))).past in
+      let fits = rw size at (read_fits_clip now.phase _ c past of (rw size advances.verdict.bounds.taken)) in
+      let here = world_at w m.inputs in
+      let failed : HoldsUpTo last.verdicts o (λ a d. FailsFrom a d.taken o) =
+      one_more_step last o vector (Err Write) h advances step (λ a b d along step none fits.
+      fails_at_step o a b d along.done (omega (arith, along.consumed, none)) step fits) in
+      let from_start : FailsFrom (initial_state (clip c) here) taken o =
+      subst (λ a. FailsFrom a taken o) (state-initial start c here)
+      ((failed flushed).holds (start.reading going) c (subst (λ n. IsOf (reads_past n now) c) before of) w agrees) in
+      rw size (subst (λ (b : Behavior). FailsAtStep b.steps (clip c) taken m o)
+      (remaining-initial first.verdicts.rules first.labels (clip c) here) (from_start refl fits))
 
   -- The step that ends completes the manifest's behavior. One that stops leaves a prefix of it after a write fault,
   -- and whole steps if memory ran out. The input was never read past its end or a fault; and to its end, if it is good
@@ -213,12 +264,13 @@ module _ {I : Type 0} (state : I → InputState) (first : CheckerValue I) (m : S
         omega (arith, none, h.taken, advances.verdict.reader.taken) in
         let ended : HoldsUpTo last.verdicts o (λ a d. PerformsSteps (left a).steps (left a).good m o x) =
         one_more_step last o vector (ends x) h advances step (λ a b d along step.
-        done_last o step.step step.later x along step.is step.performs) in
+        done_last o step.step step.later x along.done step.is step.performs) in
         let all : left (state_at first.verdicts (remaining first.verdicts.reader c) (world_at w m.inputs))
         ≡ manifest_behavior first.verdicts.rules first.labels (clip c) (world_at w m.inputs) =
         behavior-initial first.verdicts.rules first.labels start c (world_at w m.inputs) in
         subst (λ (b : Behavior). PerformsSteps b.steps b.good m o x) all
         ((ended flushed).holds (start.reading going) c (subst (λ n. IsOf (reads_past n now) c) before of) w agrees);
+    failed = λ wrote. HasComeTo-fails q last n o vector start h (rw wrote at advances) (rw wrote at step);
     manifest = λ going.
         let reading = advances.verdict.reading (h.reading (start.reading going)) in
         (reading.past, λ good. reading.end (advances.verdict.end (found good).0));

@@ -1,14 +1,16 @@
 -- `check_one`: a manifest is opened, its checker runs to its end, and it is closed.
-use Rattle.std.proofs.Common.{◌≡◌, ℕ, Bool, false, List, [], ◌∷◌, Result, Ok, Err, Some, refl, codes, if◌then◌else◌}
+use Rattle.std.proofs.Common.{rules, ◌≡◌, ℕ, Bool, false, List, [], ◌∷◌, Result, Ok, Err, Some, refl, subst, codes, if◌then◌else◌}
 use Rattle.sum_sources.specs.{Contents.unread, Sources.and_opening}
 use Rattle.sum_lines.proofs.EventLemmas.{Gets-none}
-use Rattle.sum_engine.specs.Behavior.{Fault, World, is_dash, answer_to, after, Step, events_of, Answer, InputState, SourceState, clip}
+use Rattle.sum_engine.specs.Behavior.{Fault, World, is_dash, answer_to, after, Step, events_of, Answer, InputState, SourceState, IsOf, clip}
 use Rattle.sum_engine.specs.{check.CheckerLaws.RunsManifest, check.Rules.rules_of, check.Rules.labels_of, check.Judge.own_profile}
 use Rattle.sum_engine.specs.{check.Checking.CheckSettings, check.Checking.check_behavior_by, check.Checking.check_behavior, Generation.name_fault_line}
-use Rattle.sum_engine.specs.Execution.{Stop, Memory, OutputsState, StreamsState, world_at, Happened, Performs}
+use Rattle.sum_engine.specs.check.ReadAhead.{FailsAtLine}
+use Rattle.sum_engine.specs.Execution.{Stop, Memory, Write, OutputsState, StreamsState, world_at, Happened, Performs}
 use Rattle.sum_engine.specs.{refinement.FlushedWrites.WritesAndReturns, refinement.Names.MemoryWasRefused}
 use Rattle.sum_engine.proofs.{ExecutionLemmas.Happened-by, ExecutionLemmas.kept_performs, WorldLemmas.world_after}
 use Rattle.sum_engine.proofs.{BehaviorLemmas.behind_step, BehaviorLemmas.Performs-step, BehaviorLemmas.Performs-refused, CheckLinesLemmas.manifest_behavior}
+use Rattle.sum_engine.proofs.ReadAheadLemmas.{fails_then, fails_kept}
 use Rattle.sum_engine.proofs.OpenedNameLemmas.{WasOpened, fault_asks, fault_answer}
 
 -- the step that opens a manifest of that name
@@ -46,6 +48,23 @@ module _ (settings : CheckSettings) (tool name : List ℕ) (a : StreamsState) wh
       (rw (answer, ← world_after w a.inputs m (name ∷ []) o.asks)
       (behind_step b all.good (opening name) all.steps x did ran))
 
+  -- if a write failed: at which step, and how far the manifest was read
+  pub check_fails : {Whole : Type 0} (m n : SourceState) (s t : InputState) (b : StreamsState) (x : Result Bool Stop)
+      → s.reads ≡ unread → WasOpened Whole a.inputs m b.inputs n name t
+      → RunsManifest (rules_of settings (is_dash name)) (labels_of settings tool name) s t (from_inputs m) b x
+      → x ≡ Err Write → FailsAtLine (λ w. check_behavior settings tool w name) name a (record b { inputs = n })
+  check_fails m n s t b x fresh o run wrote = λ flushed w agrees c answer r gave.
+      let (d, is, of) = o.answer w agrees in
+      let same : d ≡ c = search (rules, is, answer) in
+      let read : t.reads ≡ r = search (rules, o.gave, gave) in
+      let ran = (rw fresh at run.failed) wrote refl c (subst (λ c. IsOf t.reads c) same of) flushed w (o.agrees w agrees) in
+      let did : Happened a (from_inputs m) (events_of (opening name)) =
+      Happened-by (name ∷ []) [] [] o.asks Gets-none Gets-none in
+      let all = manifest_behavior (rules_of settings (is_dash name)) (labels_of settings tool name) (clip c)
+      (world_at w m) in
+      rw (answer, ← world_after w a.inputs m (name ∷ []) o.asks, ← read)
+      (fails_kept n o.asked o.refusals (fails_then (opening name) did ran))
+
   -- it could not be opened, and the line of its fault was written, or a prefix of it
   pub refused : (m : SourceState) (f : Fault) (outputs : OutputsState) (x : Result Bool Stop)
       → m ≡ and_opening a.inputs name (Some (Err f))
@@ -55,6 +74,12 @@ module _ (settings : CheckSettings) (tool name : List ℕ) (a : StreamsState) wh
       Performs-step (λ w. check_behavior settings tool w name) (λ g. g) false a
       (record a { inputs = m; outputs = outputs }) (fault_asks a.inputs m name f opens)
       (λ w agrees. let answer = fault_answer a.inputs m name f opens w agrees in rw answer refl) said
+
+  -- and nothing was read of it
+  pub not_read : (m : SourceState) (f : Fault) (outputs : OutputsState) → m ≡ and_opening a.inputs name (Some (Err f))
+      → FailsAtLine (λ w. check_behavior settings tool w name) name a (record a { inputs = m; outputs = outputs })
+  not_read m f outputs opens = λ flushed w agrees c answer r gave.
+      let fault = fault_answer a.inputs m name f opens w agrees in cc
 
   -- there was no memory to open it
   pub no_room : (m : SourceState) → MemoryWasRefused a.inputs m → Performed (from_inputs m) (Err Memory)

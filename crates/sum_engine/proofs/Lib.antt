@@ -10,6 +10,7 @@ pub mod StepLemmas
 pub mod NextVerdictLemmas
 pub mod BehaviorLemmas
 pub mod JoinLemmas
+pub mod ReadAheadLemmas
 pub mod CheckLinesLemmas
 pub mod CheckOneLemmas
 pub mod SameFrontLemmas

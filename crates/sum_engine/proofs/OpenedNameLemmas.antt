@@ -7,8 +7,8 @@ use Rattle.sum_sources.specs.Contents.{Reads, IsOf, IsSameInput, HashesInput, cl
 use Rattle.sum_sources.specs.Sources.{Opening, ToldAnswers, opened_file, and_opening, after_opening, after_closing, IsOpen}
 use Rattle.sum_sources.specs.declared.sources.source.OpenFault.{OpenFault}
 use Rattle.sum_sources.proofs.GaveLemmas.{closed-seam, gave-seam}
-use Rattle.sum_engine.specs.Behavior.{World, Answer, Content, Whole, Broken, Fault, InputState, SourceState, answer_to}
-use Rattle.sum_engine.specs.Execution.{Agrees, world_at, asked, AsksNames, IsAtEndIf, ReadsFile, ReadsToEndIf}
+use Rattle.sum_engine.specs.Behavior.{World, Answer, Content, Whole, Broken, Fault, InputState, SourceState, answer_to, times}
+use Rattle.sum_engine.specs.Execution.{Agrees, world_at, asked, gave_at, AsksNames, IsAtEndIf, ReadsFile, ReadsToEndIf}
 use Rattle.sum_engine.specs.refinement.Names.{HashFault, IsHashOf, HashesName, fault_of_opening}
 use Rattle.sum_engine.specs.declared.hash_name.HashFault.TheVariants as hashing
 use Rattle.sum_sources.specs.declared.sources.source.OpenFault.TheVariants as faults
@@ -19,6 +19,7 @@ use Rattle.sum_engine.proofs.WorldLemmas.{agrees_open, opening_agrees, asks_one,
 pub record WasOpened (Whole : Type 0) (a m b n : SourceState) (name : List ℕ) (t : InputState) : Type 0 where
   pub asks : AsksNames a m (name ∷ [])
   pub reads : ReadsToEndIf Whole a n
+  pub gave : gave_at n.openings name (times name (asked a)) ≡ Some (Ok t.reads)
   -- the closing leaves this
   pub asked : asked n ≡ asked b
   pub refusals : n.refusals ≡ b.refusals
@@ -50,6 +51,7 @@ was_opened {Whole} tells {a} {m} {b} {n} {name} {s} {t} is opens same read reads
       asked = rw (then, now) (simp map-append);
       refusals = rw closes refl;
       agrees = λ w agrees. agrees_open before later closed agrees now then;
+      gave = rw (then, gave-seam before later name (Some (Ok t.reads))) refl;
       answer = λ w agrees. opening_agrees agrees before later name (Ok t.reads) then;
     }
 

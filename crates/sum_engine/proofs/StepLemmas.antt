@@ -56,6 +56,7 @@ module _ {I : Type 0} {state : I → InputState} {p q : VerdictsValue I} (a b : 
               ∙ rw (counts_then-nil p.counts, f.ending, sum, same, f.counts) refl;
           performs = did;
           going = λ h. let no = (rw h at did).0 in cc;
+          failed = λ h. inl refl;
         })
 
     -- the next verdict was found, and then it was reported
@@ -78,6 +79,7 @@ module _ {I : Type 0} {state : I → InputState} {p q : VerdictsValue I} (a b : 
           is = found_first p.rules labels first next j f.0.first f.0.counts f.1.remaining;
           performs = rw (going-before p.rules labels next) (step_performed _ did.asked flushed said);
           going = λ is. (refl, f.1);
+          failed = λ is. inr (refl, f.1);
         })
     -- no line was left; the end is written, and nothing remains
     step_taken (Ok None) found did reported = step_end Whole _ found did.asked did.rules refl reported
@@ -94,4 +96,5 @@ module _ {I : Type 0} {state : I → InputState} {p q : VerdictsValue I} (a b : 
           is = first.2;
           performs = refused_by first.0 (rw (← first.3) at f.1) reported.1 did.asked;
           going = λ h. cc;
+          failed = λ h. cc;
         }))

@@ -6,5 +6,6 @@ pub mod Checking
 pub mod CheckStates
 pub mod Verdicts
 pub mod Checker
+pub mod ReadAhead
 pub mod CheckerLaws
 pub mod OldVerdicts

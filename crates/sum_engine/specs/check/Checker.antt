@@ -1,5 +1,5 @@
 -- A checker, and what its next step does.
-use Rattle.std.specs.Prelude.{Bool, false, ◌≡◌, List, [], ◌∷◌, Option, None, Some, Result, Ok, Err}
+use Rattle.std.specs.Prelude.{Bool, false, ◌≡◌, ◌⊎◌, List, [], ◌∷◌, Option, None, Some, Result, Ok, Err}
 pub use Rattle.sum_engine.specs.declared.check.progress.Progress.{Progress}
 pub use Rattle.sum_engine.specs.declared.check.progress.Progress.TheVariants.{Going, Ended}
 use Rattle.sum_sources.specs.declared.line_reader.LineStop.TheVariants.{Fault, Memory}
@@ -28,7 +28,8 @@ progress_before [] good = Ended good
 progress_before steps good = Going
 
 -- a step leads the check from a to b, and the streams from s to t: it performs the first step of the behavior that
--- remained; if it returns Going, a line was handled, and the others remain
+-- remained; if it returns Going, a line was handled, and the others remain; also after a write fault, unless no step was
+-- left
 pub record IsStep (r : Rules) (labels : LabelsValue) (vector : ByteString) (a b : CheckState) (s t : StreamsState)
     (x : Result Progress Stop) : Type 0 where
   pub step : Step
@@ -36,6 +37,8 @@ pub record IsStep (r : Rules) (labels : LabelsValue) (vector : ByteString) (a b 
   pub is : remaining_behavior r labels a ≡ step_then step later
   pub performs : PerformsSteps (step ∷ []) (progress_before later.steps later.good) s t x
   pub going : x ≡ Ok Going → (later ≡ remaining_behavior r labels b) × HandlesLine r a b vector
+  pub failed : x ≡ Err stops.Write
+      → (later.steps ≡ []) ⊎ ((later ≡ remaining_behavior r labels b) × HandlesLine r a b vector)
 
 -- the call takes a step of the check, if both outputs are flushed at the call
 abbrev pub TakesStep : {I : Type 0} → (I → InputState) → ByteString → LabelsValue → VerdictsValue I → VerdictsValue I

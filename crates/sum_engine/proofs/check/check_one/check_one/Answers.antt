@@ -1,6 +1,6 @@
 use Rattle.std.proofs.Common.{refl, ◌≡◌, ap, ◌∙◌}
 use Rattle.sum_engine.specs.{check.Rules.labels_of, check.Rules.rules_of, Behavior.InputState}
-use Rattle.sum_engine.proofs.{CheckOneLemmas.check_opened, CheckOneLemmas.no_room, CheckOneLemmas.refused, FlushedWriteLemmas.writes_and_returns}
+use Rattle.sum_engine.proofs.{CheckOneLemmas.check_opened, CheckOneLemmas.check_fails, CheckOneLemmas.not_read, CheckOneLemmas.no_room, CheckOneLemmas.refused, FlushedWriteLemmas.writes_and_returns}
 use Rattle.sum_engine.proofs.{OpenedNameLemmas.was_opened, OpenedNameLemmas.still_open, WorldLemmas.reads_fault}
 use Rattle.sum_engine.proofs.check.check_one.check_one.Goals as goal
 
@@ -20,6 +20,13 @@ returns-in-Err-Fault-clause-behavior g c =
     refused c.args.settings c.args.tool.now c.args.name.now c.args.streams.now c.open.new.self
     _ c.put_name_fault_line-written.new.outputs _ failed
     (writes_and_returns c.put_name_fault_line-written.result c.outcome_after.ensures written)
+
+-- nothing was read of it
+pub returns-in-Err-Fault-clause-ahead : goal.returns-in-Err-Fault-clause-ahead
+returns-in-Err-Fault-clause-ahead g c =
+    let failed = rw c.in-Err-Fault.field-0-is at c.in-Err-Fault.ensures.state in
+    λ wrote. not_read c.args.settings c.args.tool.now c.args.name.now c.args.streams.now c.open.new.self _
+    c.put_name_fault_line-written.new.outputs failed
 
 pub returns-in-Err-Fault-clause-reads : goal.returns-in-Err-Fault-clause-reads
 returns-in-Err-Fault-clause-reads g c =
@@ -46,6 +53,24 @@ returns-clause-behavior g c =
     made.labels ∙ ap (λ shown. record { tool = c.args.tool.now; manifest = shown; report = settings.report })
     c.shown_name-shown.ensures in
     check_opened settings c.args.tool.now name c.args.streams.now c.open.new.self c.close.new.self
+    (g.S.File.Input.state c.in-Ok.opened) _ c.run_to_end-result.new.streams
+    c.run_to_end-result.result.0 unread
+    (was_opened g.S.Source.tells c.in-Ok.ensures.file c.in-Ok.ensures.state (rw made.start.reader at checked.same)
+    ((rw (made.start.reader, unread) at checked.manifest) refl) checked.reads c.close.ensures)
+    (rw (rules, labels, made.start.reader) at checked)
+
+pub returns-clause-ahead : goal.returns-clause-ahead
+returns-clause-ahead g c =
+    let made = c.new-checker.ensures in
+    let checked = c.run_to_end-result.ensures in
+    let unread = ap (λ (s : InputState). s.reads) c.in-Ok.ensures.file in
+    let settings = c.args.settings in
+    let name = c.args.name.now in
+    let rules = made.rules ∙ ap (rules_of settings) c.is_dash-from_stdin.ensures in
+    let labels : c.new-checker.result.labels ≡ labels_of settings c.args.tool.now name =
+    made.labels ∙ ap (λ shown. record { tool = c.args.tool.now; manifest = shown; report = settings.report })
+    c.shown_name-shown.ensures in
+    check_fails settings c.args.tool.now name c.args.streams.now c.open.new.self c.close.new.self
     (g.S.File.Input.state c.in-Ok.opened) _ c.run_to_end-result.new.streams
     c.run_to_end-result.result.0 unread
     (was_opened g.S.Source.tells c.in-Ok.ensures.file c.in-Ok.ensures.state (rw made.start.reader at checked.same)
