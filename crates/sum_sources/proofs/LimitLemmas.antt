@@ -8,7 +8,7 @@ use Rattle.sum_sources.proofs.ContentLemmas.{limit-value, clip-short}
 abbrev pub past : ℕ → InputState → InputState
 past m s = record s { reads = reads_past m s.reads }
 
--- more bytes are of no content that the bytes before weren't of
+-- a content that fits more bytes also fits the bytes before
 pub before_more : (a b : Reads) (more : List ℕ) → a.phase ≡ Unfinished → b ≡ record a { bytes = a.bytes ++ more }
     → (c : Content) → IsOf b c → IsOf a c
 before_more a b more going is c of =

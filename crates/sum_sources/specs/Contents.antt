@@ -1,4 +1,4 @@
--- Contents of inputs: what reads gave, of which content they are, the limit of 2^61 bytes, and digests.
+-- Contents of inputs: what reads gave, which contents they fit, the limit of 2^61 bytes, and digests.
 use Rattle.std.specs.Prelude.{ℕ, zero, suc, ◌≡◌, ◌-◌, ◌^◌, [], ◌++◌, take, drop, length, Option, Result, Ok, Err, ⊤, nat_lt, if◌then◌else◌, IfSome, IfOk, MatchResult}
 use Rattle.std.specs.Result.{result_unwrap_or}
 use Rattle.digest_kinds.specs.{Bytes.ByteString, Kinds.digest, Kinds.KindValue}
@@ -12,7 +12,7 @@ pub record Content : Type 0 where
   pub bytes : ByteString
   pub ending : Ending
 
--- the phase after a read into a buffer of so many bytes. It is Past after a read for no bytes, or after the ending
+-- the phase after a read into a buffer of this size: Past if the buffer is empty, or after the ending
 abbrev pub phase_after : Phase → ℕ → Result ℕ Fault → Phase
 phase_after Unfinished (suc size) (Ok zero) = Ended Whole
 phase_after Unfinished (suc size) (Ok (suc n)) = Unfinished
@@ -35,12 +35,12 @@ pub record InputState : Type 0 where
   pub told : Option Content  -- its content, if that is in memory
   pub reads : Reads
 
--- the state after one read more, which left this buffer: it gave the buffer's first bytes, as many as it returned
+-- the state after one more read, which left this buffer: it gave the buffer's first bytes, as many as it returned
 abbrev pub and_read : InputState → ByteString → Result ℕ Fault → InputState
 and_read s buf result = let r = s.reads in let n = result_unwrap_or result 0 in
     record s { reads = record { bytes = r.bytes ++ take n buf; phase = phase_after r.phase (length buf) result } }
 
--- an input of so many bytes is too long
+-- the limit: an input of this many bytes is too long
 unfoldable pub limit : ℕ
 limit = 2 ^ 61
 
@@ -52,13 +52,13 @@ clip c = if nat_lt (length c.bytes) limit then c else record { bytes = take (lim
 abbrev pub empty_content : Content
 empty_content = record { bytes = []; ending = Whole }
 
--- a content that begins with these bytes, or is all of them, by how far it was read; past an end it is any content
+-- a content begins with these bytes, or is all of them, by how far it was read; past an end, it is any content
 abbrev pub IsReadTo : Phase → ByteString → Content → Type 0
 IsReadTo Unfinished bytes c = (rest : ByteString) × (c.bytes ≡ bytes ++ rest)
 IsReadTo (Ended e) bytes c = c ≡ record { bytes = bytes; ending = e }
 IsReadTo Past bytes c = ⊤
 
--- these reads are of that content
+-- these reads fit this content
 abbrev pub IsOf : Reads → Content → Type 0
 IsOf r c = IsReadTo r.phase r.bytes c
 
@@ -66,7 +66,7 @@ IsOf r c = IsReadTo r.phase r.bytes c
 abbrev pub reads_past : ℕ → Reads → Reads
 reads_past n r = record r { bytes = drop n r.bytes }
 
--- the reads of an input are of a content: of the one in memory, if it is there
+-- the reads of an input fit a content: the one in memory, if there is one
 abbrev pub HasContent : InputState → Type 0
 HasContent s = (c : Content) × IfSome s.told (λ d. c ≡ d) × IsOf s.reads c
 
@@ -74,7 +74,7 @@ HasContent s = (c : Content) × IfSome s.told (λ d. c ≡ d) × IsOf s.reads c
 abbrev pub IsSameInput : InputState → InputState → Type 0
 IsSameInput a b = b ≡ record a { reads = b.reads }
 
--- what a call does that hashes an input
+-- the effect of a call that hashes an input
 pub record HashesInput (kind : KindValue) (old new : InputState) (result : Result ByteString Fault) : Type 0 where
   pub same : IsSameInput old new
   -- if it hadn't ended: of each content that the reads of the call are of, the digest, or the fault by which it ends

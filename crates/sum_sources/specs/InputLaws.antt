@@ -1,4 +1,4 @@
--- The law of inputs: what was read of one is of a content, of the one in memory if it is there.
+-- The law of inputs: what was read of one fits a content, the one in memory if there is one.
 use Rattle.std.proofs.Common.{rules, ℕ, None, refl, drop}
 use Rattle.std.proofs.lemmas.List.{take-append-drop}
 use Rattle.sum_sources.specs.{Contents.Content, Contents.InputState, Contents.HasContent, Contents.IsOf, Contents.IsReadTo, Contents.Whole, Contents.empty_content, Faults.ByteString, Contents.Phase, Contents.Unfinished, Contents.Ended, Contents.Past, StandardInput.told_reads, StandardInput.ToldContent, StandardInput.told_file, StandardInput.unless_closed, declared.inputs.closable.Closable.Closable, declared.inputs.closable.Closable.TheVariants.Open, declared.inputs.closable.Closable.TheVariants.Closed}
@@ -14,7 +14,7 @@ told_is_of c n Past = tt
 pub told_file_has_content : (t : ToldContent) → HasContent (told_file t)
 told_file_has_content t = (t.content, refl, told_is_of t.content t.given t.phase)
 
--- of an input that may be closed
+-- the law of an input that may be closed
 pub closable_has_content : {I : Type 0} (state : I → InputState) (has : (i : I) → HasContent (state i))
     (s : Closable I) → HasContent (unless_closed state s)
 closable_has_content state has (Open i) = has i
@@ -22,7 +22,7 @@ closable_has_content state has (Closed e phase) = (_, refl, told_is_of (record {
 
 -- ---- inputs that aren't in memory
 
--- a content that these reads are of
+-- a content that these reads fit
 pub some_content : (bytes : ByteString) (phase : Phase) → (c : Content) × IsReadTo phase bytes c
 some_content bytes Unfinished = (record { bytes = bytes; ending = Whole }, ([], Prim.search rules))
 some_content bytes (Ended e) = (_, refl)

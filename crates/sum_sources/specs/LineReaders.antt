@@ -10,7 +10,7 @@ pub record LineReaderValue (I : Type 0) : Type 0 where
   pub lines : ℕ  -- how many lines were returned
   pub final_answer : Option (Result Next LineStop)  -- what every later call returns, if that is settled
 
--- how many bytes made up lines, newlines included; after a stop also those of a line that was begun
+-- the number of bytes that became part of lines, newlines included; after a stop also those of a line that was begun
 abbrev pub consumed_count : {I : Type 0} → LineReaderValue I → ℕ
 consumed_count r = r.taken - length r.ahead
 

@@ -1,12 +1,12 @@
--- What the logs keep that only proofs see.
+-- What is kept by the logs that only proofs see.
 use Rattle.std.specs.Prelude.{[], None}
 use Rattle.sum_sources.specs.{Contents.InputState, Contents.unread, Sources.SourceState}
 
--- no read of an input that no source opened, and that isn't in memory
+-- the state of an unread input that no source opened, and that isn't in memory
 abbrev pub no_reads : InputState
 no_reads = record { opening = 0; name = []; told = None; reads = unread }
 
--- no opening of a source that isn't in memory
+-- the state of a source without openings that isn't in memory
 abbrev pub no_openings : SourceState
 no_openings = record { told = []; openings = []; refusals = 0 }
 

@@ -8,7 +8,7 @@ pub use Rattle.sum_sources.specs.declared.line_reader.Next.TheVariants.{Line, No
 pub use Rattle.sum_sources.specs.declared.line_reader.LineStop.{LineStop}
 use Rattle.sum_sources.specs.declared.line_reader.LineStop.TheVariants as stops
 
--- the last piece, which no newline ended, is a line if it isn't empty and the content ends whole
+-- the line of the last piece, which no newline ended: it is one if it isn't empty and the content ends whole
 abbrev pub last_line : Ending → ByteString → List ByteString
 last_line Whole (b ∷ bs) = (b ∷ bs) ∷ []
 last_line _ _ = []
@@ -48,7 +48,7 @@ abbrev pub lines_after : ℕ → Result Next LineStop → ℕ
 lines_after n (Ok Line) = n + 1
 lines_after n _ = n
 
--- the content past so many lines
+-- the content past this many lines
 abbrev pub past_lines : ℕ → Content → Content
 past_lines zero c = c
 past_lines (suc k) c = past_lines k (past_line c)

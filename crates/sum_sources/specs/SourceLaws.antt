@@ -10,20 +10,20 @@ untold_gives s name k = tt
 
 -- ---- it has one proof at most
 
-IsReadTo-prop : (phase : Phase) (bytes : ByteString) (c : Content) → IsProp (IsReadTo phase bytes c)
+pub IsReadTo-prop : (phase : Phase) (bytes : ByteString) (c : Content) → IsProp (IsReadTo phase bytes c)
 IsReadTo-prop Unfinished bytes c =
     λ p q. Σ_prop_path (λ rest. Prim.hlevel props) (append_cancel_left bytes p.0 q.0 (sym p.1 ∙ q.1))
 IsReadTo-prop (Ended e) bytes c = Prim.hlevel props
 IsReadTo-prop Past bytes c = Prim.hlevel props
 
-IsOfAnswer-prop : (answer : Answer) (gave : Result Reads Fault) → IsProp (IsOfAnswer answer gave)
+pub IsOfAnswer-prop : (answer : Answer) (gave : Result Reads Fault) → IsProp (IsOfAnswer answer gave)
 IsOfAnswer-prop answer (Ok r) p q =
     let flat : (c : Content) × ((answer ≡ Ok c) × IsOf r c) → IsOfAnswer answer (Ok r) = λ x. (x.0, x.1.0, x.1.1) in
     let same : p.0 ≡ q.0 = let both = sym p.1 ∙ q.1 in cc in
     ap flat (Σ_prop_path (λ c. ×_prop (Prim.hlevel props) (IsReadTo-prop r.phase r.bytes c)) same)
 IsOfAnswer-prop answer (Err f) p q = Prim.hlevel props
 
-gives-prop : (told : Option Answer) (gave : Option (Result Reads Fault))
+pub gives-prop : (told : Option Answer) (gave : Option (Result Reads Fault))
     → IsProp (IfSome told (λ told. IfSome gave (IsOfAnswer told)))
 gives-prop None gave = Prim.hlevel props
 gives-prop (Some told) None = Prim.hlevel props

@@ -70,7 +70,7 @@ pub record SourceState : Type 0 where
   pub openings : List Opening  -- in their order
   pub refusals : ℕ  -- how many openings were refused memory
 
--- this is of an answer: what was read is of its content, or this is the fault
+-- this fits an answer: what was read fits its content, or this is its fault
 abbrev pub IsOfAnswer : Answer → Result Reads Fault → Type 0
 IsOfAnswer answer gave = MatchResult gave (λ r. (c : Content) × (answer ≡ Ok c) × IsOf r c) (λ f. answer ≡ Err f)
 
@@ -83,16 +83,16 @@ GivesTold tells s = (name : ByteString) (k : ℕ)
 abbrev pub content_at : ToldAnswers → SourceState → ByteString → ℕ → Option Content
 content_at tells s name k = option_and_then result_ok (tells s.told name k)
 
--- a name is opened: this is the file, and nothing was read of it yet
+-- the file that opening a name gives, of which nothing was read yet
 abbrev pub opened_file : ToldAnswers → SourceState → ByteString → InputState
 opened_file tells s name = let k = times name (names_of s.openings) in
     record { opening = k; name = name; told = content_at tells s name k; reads = unread }
 
--- one opening more
+-- the source after one more opening
 abbrev pub and_opening : SourceState → ByteString → Option (Result Reads Fault) → SourceState
 and_opening s name gave = record s { openings = s.openings ++ record { name = name; gave = gave } ∷ [] }
 
--- the source after it opened a name: for want of memory that is no opening
+-- the source after it opened a name; if memory was refused, that is no opening
 abbrev pub after_opening : {F : Type 0} → SourceState → ByteString → Result F OpenFault → SourceState
 after_opening s name (Ok file) = and_opening s name None
 after_opening s name (Err (faults.Fault f)) = and_opening s name (Some (Err f))

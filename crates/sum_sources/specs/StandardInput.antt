@@ -21,7 +21,7 @@ abbrev pub told_file : ToldContent → InputState
 told_file t = let c = t.content in
     record { opening = t.opening; name = t.name; told = Some c; reads = told_reads c t.given t.phase }
 
--- the state of an input that may be closed. A closed one has no bytes, and ends so
+-- the state of an input that may be closed. A closed one has no bytes, and the ending that it holds
 abbrev pub unless_closed : {I : Type 0} → (I → InputState) → Closable I → InputState
 unless_closed state (Open i) = state i
 unless_closed state (Closed e phase) = let c : Content = record { bytes = []; ending = e } in
@@ -41,7 +41,7 @@ abbrev pub taken : {I : Type 0} → StdinPlace I → StdinPlace I
 taken (Untaken given) = Taken
 taken place = place
 
--- what was taken is put back, and kept if nothing was before
+-- what was taken is put back, and kept if nothing was put back before
 abbrev pub put_back : {I : Type 0} → StdinPlace I → Closable I → StdinPlace I
 put_back Taken given = Returned given
 put_back place given = place

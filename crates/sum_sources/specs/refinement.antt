@@ -1,4 +1,4 @@
--- Views of the code's values. The headline reaches none of it; some contracts of single calls name it.
+-- Views of the code's values. The headline reaches none of them; the contracts of some single calls name them.
 pub mod InputsStates
 pub mod LimitedReads
 pub mod LineStates

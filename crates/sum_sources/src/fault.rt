@@ -12,7 +12,7 @@ use thiserror::Error;
 pub enum Fault {
     /// There is no file of that name.
     NotFound,
-    /// The file may not be read.
+    /// Permission to read the file was denied.
     Denied,
     /// Any other reason. Its text is *Input/output error*.
     Other,
@@ -36,7 +36,7 @@ const ENOENT: i32 = 2;
 const EACCES: i32 = 13;
 
 impl Fault {
-    /// The fault as diagnostics show it.
+    /// Returns the fault as diagnostics show it.
     pub fn text(self) -> &'static str
         ensures { result.now ≡ fault_text self }
     {
@@ -62,7 +62,7 @@ impl fmt::Display for Fault {
 
 impl error::Error for Fault {}
 
-/// The fault for an error of std's. Its number decides. If it has no number, its kind decides.
+/// The fault for an `io::Error`. Its number decides or, if it has none, its kind.
 pub(crate) fn fault_of(error: &io::Error) -> Fault
     ensures { result ≡ fault_of_error (error_kind error.now) (raw_os_error error.now) }
 {
@@ -169,7 +169,7 @@ pub struct NoRoom;
 pub enum Ending {
     /// All bytes were read.
     Whole,
-    /// After the last byte a read fails by this fault.
+    /// After the last byte, a read fails with this fault.
     Broken(Fault),
 }
 

@@ -1,4 +1,4 @@
-//! What can be read: the trait of an input, the inputs, and the digest of one.
+//! Inputs, from which bytes are read: the trait, its implementations, and the digest of an input.
 
 pub(crate) mod closable;
 pub(crate) mod from_read;

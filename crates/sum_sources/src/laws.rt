@@ -6,9 +6,9 @@ ghost use Rattle.sum_sources.specs.ManifestLines.{HasNoNewline, bytes_of_lines, 
 ghost use Rattle.sum_sources.specs.Sources.{Answers, Pair, TellsAll, ToldAnswers};
 ghost use Rattle.sum_sources.specs.declared.fault.Ending.{Ending as EndingValue};
 
-/// All bytes can be cut into pieces that a newline ends, and a tail. Neither a piece nor the tail has a newline. The
-/// lines of the bytes, before a carriage return is dropped, are these pieces. The tail follows if it isn't empty and
-/// the content ends whole.
+/// Any bytes can be cut into pieces that are each followed by a newline, and a tail. No piece contains a newline, and
+/// neither does the tail. The lines of the bytes, before a carriage return is dropped, are these pieces, followed by
+/// the tail if it isn't empty and the content ends whole.
 pub fn raw_lines_of_bytes()
     ensures exist { (bytes : List ℕ) → (ended : List (List ℕ)) × (tail : List ℕ)
         × (bytes ≡ bytes_of_lines ended tail) × All HasNoNewline ended × HasNoNewline tail }

@@ -1,7 +1,8 @@
 //! Where bytes come from: inputs and sources of files, in memory and real ones, the digest of an input, and the lines
 //! of a manifest. The crate calls `digest_kinds` and no other of ours.
 //!
-//! Inputs and sources keep logs of what their calls gave. Only proofs see them. Whoever opened a file closes it.
+//! Inputs and sources keep logs of what their calls gave. Only proofs see them. The code that opens a file must close
+//! it.
 //!
 //! ```rust
 //! let mut files = ToldSource::new(alloc, PIECE);

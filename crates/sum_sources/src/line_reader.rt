@@ -19,7 +19,7 @@ pub enum Next {
     NoMore,
 }
 
-/// Why there is no next line. `Fault`: the input ended by this fault, after all lines that a newline ended. `Memory`:
+/// Why there is no next line. `Fault`: the input ended with this fault, after all lines that a newline ended. `Memory`:
 /// there was no memory for the line.
 #[derive(Clone, Copy, Debug, PartialEq, Eq, Error)]
 pub enum LineStop {
@@ -89,8 +89,8 @@ impl<I: Input> LineReader<I> {
     ghost use Rattle.sum_sources.specs.refinement.LimitedReads.{AddsPast, CountsBytes};
     ghost use Rattle.sum_sources.specs.refinement.LineStates.{FillsReader, TakesPiece};
 
-    /// A reader of the lines of `input`. If the input has `LIMIT` bytes or more, its first `LIMIT - 1` bytes count, and
-    /// then `Fault::Other`.
+    /// Creates a reader of the lines of `input`. If the input has `LIMIT` bytes or more, its first `LIMIT - 1` bytes
+    /// count, and then `Fault::Other`.
     pub fn new(input: I) -> Self
         ensures is { result
             ≡ record { input = input; ahead = []; taken = 0; lines = 0; final_answer = None } }
@@ -123,7 +123,7 @@ impl<I: Input> LineReader<I> {
         self.lines
     }
 
-    /// The input, past the bytes that were read from it. Bytes that were read ahead of the last line are lost.
+    /// Returns the input, past the bytes that were read from it. Bytes that were read ahead of the last line are lost.
     pub fn into_inner(self) -> I
         ensures { result ≡ self.input }
     {
@@ -218,17 +218,18 @@ impl<I: Input> LineReader<I> {
         }
     }
 
-    /// Puts the next line into `line`, without its newline and without one carriage return at its end. What `line` had
-    /// before doesn't matter.
+    /// Puts the next line into `line`, without its newline and without one carriage return at its end. The previous
+    /// content of `line` doesn't matter.
     ///
-    /// `NoMore` if no line remains and the input ended whole. `LineStop::Fault` if it ended by that fault.
-    /// `LineStop::Memory` if memory for the line was refused; bytes of the manifest were then still to come. After any
-    /// of these the content of `line` is unspecified, and every later call returns the same and doesn't read the input.
+    /// Returns `NoMore` if no line remains and the input ended whole, `LineStop::Fault` if it ended with that fault,
+    /// and `LineStop::Memory` if memory for the line was refused; bytes of the manifest were then still to come. After
+    /// any of these, the content of `line` is unspecified, and every later call returns the same without reading the
+    /// input.
     pub fn next_line<A: Allocator>(&mut self, line: &mut Vec<u8, A>) -> Result<Next, LineStop>
         // Of each content that what was read since `new` is of: the next line of what remained.
         ensures line { IsReading I.state self.old
             → ReadsOn I.state self.old self.new result line.new.items }
-        // A final answer is returned again, and the reader stays as it is.
+        // A final answer is returned again, and the reader is unchanged.
         ensures repeats { IfSome self.old.final_answer (λ answer. (result ≡ answer)
             × (self.new ≡ self.old)) }
         // The lines counted, and which answers are final.

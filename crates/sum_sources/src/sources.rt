@@ -1,4 +1,4 @@
-//! Where files are opened: the trait of a source, and the sources.
+//! Sources, which open files: the trait and its implementations.
 
 pub(crate) mod files;
 pub(crate) mod inputs;

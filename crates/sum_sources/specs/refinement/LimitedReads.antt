@@ -2,7 +2,7 @@
 use Rattle.std.specs.Prelude.{ℕ, zero, suc, ◌≡◌, ◌≢◌, ◌+◌, ◌^◌, ◌<◌, ◌≤◌, ◌++◌, length, Result, Ok, Err, IfOk}
 use Rattle.sum_sources.specs.{Contents.Content, Contents.Ending, Contents.Whole, Contents.Broken, Contents.Reads, Contents.InputState, Contents.IsOf, Contents.IsSameInput, Contents.clip, Contents.reads_past, Contents.Fault, Faults.ByteString, Contents.Unfinished, Contents.Ended, Contents.Past}
 
--- an input was found to end so, as far as the limit allows, if it had given so many bytes
+-- an input that had given this many bytes was found to have this ending, as far as the limit allows
 pub record FindsEnding (taken : ℕ) (a b : Reads) (e : Ending) : Type 0 where
   pub content : length a.bytes ≡ taken → (c : Content) → IsOf b c → clip c ≡ record { bytes = a.bytes; ending = e }
   pub before : (c : Content) → IsOf b c → IsOf a c
@@ -20,7 +20,7 @@ pub record AddsPast (taken : ℕ) (a b : Reads) (bytes : ByteString) (result : R
   pub adds : (m : ℕ) → m ≤ length a.bytes → a.phase ≡ Unfinished
       → AddsLimited taken (reads_past m a) (reads_past m b) bytes result
 
--- the counts of bytes before and after such a read
+-- the counts of bytes before and after a read up to the limit
 pub record CountsLimited (old new : ℕ) (result : Result ℕ Fault) : Type 0 where
   pub ok : IfOk result (λ n. (n ≤ 8192) × (new ≡ old + n) × (new < 2 ^ 61))
   pub most : new ≤ 2 ^ 61

@@ -20,7 +20,7 @@ line_reader_view s = record {
   final_answer = final_answer_in s.state;
 }
 
--- what the fields keep
+-- the invariant of the fields
 pub record LineReaderInvariant {I : Type 0} (s : Inside I) : Type 0 where
   pub start_in : s.start ≤ s.end
   pub end_in : s.end ≤ 8192

@@ -9,7 +9,7 @@ pub record GivesFrom (c : Content) (m n size : ℕ) (r : Result ℕ Fault) (buf 
   pub ending : MatchResult r (λ k. k ≡ 0 → 0 < size → (length c.bytes ≤ m) × (c.ending ≡ Whole))
       (λ f. (length c.bytes ≤ m) × (c.ending ≡ Broken f))
 
--- what the fields of an input in memory keep
+-- the invariant of the fields of an input in memory
 pub record ToldInvariant (c : Content) (given size : ℕ) (phase : Phase) (reads : Reads) : Type 0 where
   pub piece : 1 ≤ size
   pub few : given ≤ length c.bytes

@@ -9,7 +9,7 @@ use crate::{Ending, Fault, Input, Phase};
 pub(crate) enum Closable<I> {
     /// This input.
     Open(I),
-    /// An input without bytes, which ends so. The phase says how far it was read.
+    /// An input without bytes that has this ending. The phase says how far it was read.
     Closed(Ending, Phase),
 }
 

@@ -1,4 +1,4 @@
-//! Inputs over std's readers.
+//! Inputs over the readers of `std`.
 ghost use Rattle.std.specs.Io.KnownBytes.{Keeps, ReadConsumes};
 ghost use Rattle.std.specs.Prelude.{◌≡◌, ◌≤◌, length, IfOk, IfSome, MatchOption};
 ghost use Rattle.sum_sources.specs.Contents.{and_read};
@@ -10,7 +10,7 @@ use crate::inputs::read_log::{ReadLog, ReadNote, Reads};
 use std::io::{ErrorKind, Read};
 use std::marker::Model;
 
-/// An input over a reader of std's.
+/// An `Input` over any `std::io::Read`.
 #[derive(Debug, Drop)]
 pub struct FromRead<R> {
     reader: R,
@@ -26,15 +26,15 @@ impl<R> Model for FromRead<R> {
 }
 
 impl<R: Read> FromRead<R> {
-    /// The input that reads from `reader`. Which fault an error of the reader is, its number decides. If the error has
-    /// no number, its kind decides. The 1,000th interruption in a row within one read is `Fault::Other`.
+    /// Creates the input that reads from `reader`. An error of the reader becomes a fault by its number or, if it has
+    /// none, by its kind. The 1,000th interruption in a row within one read is `Fault::Other`.
     pub fn new(reader: R) -> Self
         ensures { result ≡ record { reader = reader; log = no_reads } }
     {
         FromRead::with_log(reader, ReadLog::of(&Reads))
     }
 
-    // The file that a source opened.
+    // The input for a file that a source opened, with this log.
     pub(crate) fn with_log(reader: R, log: ReadLog) -> Self
         ensures { result ≡ record { reader = reader; log = log } }
     {
@@ -48,14 +48,15 @@ impl<R: Read> FromRead<R> {
         &self.log
     }
 
-    /// The reader, as it is now.
+    /// Returns the reader in its current state.
     pub fn into_inner(self) -> R
         ensures { result ≡ self.reader }
     {
         self.reader
     }
 
-    // Calls the reader once, and logs what it returned. Nothing else calls the reader. `None` if it was interrupted.
+    // Calls the reader once, and logs what it returned. Nothing else calls the reader. Returns `None` if it was
+    // interrupted.
     pub(crate) fn read_once(&mut self, buf: &mut [u8]) -> Option<Result<usize, Fault>>
         ensures count { IfSome result (λ read. IfOk read (λ n. n ≤ length buf.new)) }
         ensures size { length buf.new ≡ length buf.old }
@@ -74,7 +75,7 @@ impl<R: Read> FromRead<R> {
         Some(read)
     }
 
-    // A read that fails by this fault. The reader isn't called.
+    // A read that fails with this fault, without calling the reader.
     pub(crate) fn fail(&mut self, buf: &[u8], fault: Fault) -> Result<usize, Fault>
         ensures fault { result ≡ Err fault }
         ensures log { self.new ≡ record self.old { log = and_read self.old.log buf.now result } }

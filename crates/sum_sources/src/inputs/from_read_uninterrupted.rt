@@ -1,4 +1,5 @@
-//! Reads that go on after interruptions. They stand apart from `FromRead`, so that they can't touch its reader and log.
+//! Reads that go on after interruptions. They are kept apart from `FromRead`, so that they can't touch its reader and
+//! log.
 ghost use Rattle.std.specs.Io.KnownBytes.{ReadConsumes};
 ghost use Rattle.std.specs.Prelude.{◌≡◌, ◌≤◌, length, IfOk};
 ghost use Rattle.sum_sources.specs.Contents.{and_read};

@@ -6,8 +6,8 @@ use crate::inputs::size_limit::read_limited;
 use crate::{Fault, Input, PIECE};
 use digest_kinds::{Digest, Hasher};
 
-/// Reads `input`, which wasn't read before, to its end and returns the digest that `hasher`, a new one, makes of its
-/// bytes; or the fault by which the input ends. An input of `LIMIT` bytes or more is `Fault::Other`.
+/// Reads `input`, which hasn't been read before, to its end and returns the digest that `hasher`, a new one, computes
+/// of its bytes, or the fault with which the input ends. An input of `LIMIT` bytes or more gives `Fault::Other`.
 pub fn hash_input<I: Input, H: Hasher + Drop>(input: &mut I, hasher: H) -> Result<Digest, Fault>
     requires { H.holds hasher [] }
     ensures { HashesInput (H.kind_of hasher) (I.state input.old) (I.state input.new) result }
@@ -16,8 +16,8 @@ pub fn hash_input<I: Input, H: Hasher + Drop>(input: &mut I, hasher: H) -> Resul
     hash_input_over(input, hasher, &mut buffer)
 }
 
-/// As `hash_input`, but reads into the caller's buffer, so that one buffer serves many inputs. What the buffer has
-/// before doesn't matter. What it has afterwards is unspecified.
+/// As `hash_input`, but reads into the caller's buffer, so that one buffer serves many inputs. The buffer's previous
+/// content doesn't matter; its content afterwards is unspecified.
 pub fn hash_input_over<I: Input, H: Hasher + Drop>(
     input: &mut I,
     mut hasher: H,

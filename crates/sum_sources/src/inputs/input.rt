@@ -13,13 +13,13 @@ pub trait Input {
     ghost state: { Self → InputState };
 
     /// Reads some of the remaining bytes into the front of `buf`, and returns how many: at most its length. Returns 0
-    /// for a `buf` that isn't empty only if the input has ended whole. Returns a fault only if no byte remains and the
-    /// input ends by that fault. After its end or its fault an input may go on.
+    /// for a nonempty `buf` only if the input has ended whole. Returns a fault only if no byte remains and the input
+    /// ends with that fault. After its end or its fault an input may go on.
     fn read(&mut self, buf: &mut [u8]) -> Result<usize, Fault>
         ensures count { IfOk result (λ n. n ≤ length buf.new) }
         // What the read gave is added to what the reads before it gave, and nothing else changes.
         ensures reads { state self.new ≡ and_read (state self.old) buf.new result };
 
-    /// Law: the reads are of a content, the one in memory if it is there.
+    /// Law: the reads fit some content, and the one in memory if there is one.
     ghost has_content: { (s : Self) → HasContent (state s) };
 }

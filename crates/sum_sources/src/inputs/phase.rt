@@ -7,17 +7,17 @@ use crate::{Ending, Fault};
 /// How far an input was read.
 #[derive(Clone, Copy, Debug, PartialEq, Eq)]
 pub enum Phase {
-    /// Each read so far gave bytes, or there was none.
+    /// Each read so far gave bytes, or there was no read.
     Unfinished,
-    /// The last read gave its end, or failed by its fault.
+    /// The last read found the end, or failed with the fault.
     Ended(Ending),
-    /// It was read again after its end or a fault, or a read asked for no bytes, which may fail or wait, and shows
-    /// nothing. It stays `Past` from then on.
+    /// It was read again after its end or a fault, or it was read into an empty buffer, which may fail or wait, and
+    /// shows nothing. It stays `Past` from then on.
     Past,
 }
 
 impl Phase {
-    /// The phase after a read into a buffer of `size` bytes returned `read`.
+    /// Returns the phase after a read into a buffer of `size` bytes returned `read`.
     pub fn after(self, size: usize, read: &Result<usize, Fault>) -> Phase
         ensures { result ≡ phase_after self size read.now }
     {

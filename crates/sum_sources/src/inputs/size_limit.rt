@@ -6,8 +6,8 @@ ghost use Rattle.sum_sources.specs.refinement.LimitedReads.{CountsLimited, Count
 use crate::{Fault, Input, PIECE};
 use digest_kinds::LIMIT;
 
-/// Reads as `Input::read`, from an input that has given `taken` bytes so far, fewer than `LIMIT`. At most `LIMIT - 1`
-/// of its bytes count. If it has one byte more, that is `Fault::Other`.
+/// Reads as `Input::read` does, from an input that has given `taken` bytes so far, fewer than `LIMIT`. At most
+/// `LIMIT - 1` of its bytes count. If it has one more byte, that is `Fault::Other`.
 pub(crate) fn read_limited<I: Input>(
     input: &mut I,
     taken: &mut u64,
@@ -20,7 +20,7 @@ pub(crate) fn read_limited<I: Input>(
     ensures reads { AddsPast taken.old (I.state input.old).reads (I.state input.new).reads
         (take (result_unwrap_or result 0) buffer.new) result }
 {
-    // If no byte more counts, one byte shows whether the input ends there.
+    // If no more bytes count, reading one shows whether the input ends there.
     let size = (LIMIT - 1 - *taken).min(PIECE as u64).max(1) as usize;
     let n = input.read(&mut buffer[..size])?;
     *taken += n as u64;

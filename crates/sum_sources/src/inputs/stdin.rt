@@ -35,7 +35,7 @@ impl<I: Input> Model for Stdin<I> {
 }
 
 /// What [`Stdin::take`] gives: the input of standard input the first time, and an empty one afterwards. It can't be
-/// dropped, so whoever took it puts it back.
+/// dropped, so the code that took it must put it back.
 #[derive(Debug)]
 pub struct Given<I> {
     input: Closable<I>,
@@ -54,7 +54,7 @@ impl<I: Input> Stdin<I> {
     ghost use Rattle.sum_sources.specs.Contents.{unread};
     ghost use Rattle.sum_sources.specs.declared.inputs.closable.Closable.TheVariants.{Open, Closed};
 
-    /// Standard input that gives `input`, of which nothing was read, when it is taken.
+    /// Creates a standard input that gives `input`, which hasn't been read, when it is taken.
     pub fn new(input: I) -> Self
         requires { (I.state input).reads ≡ unread }
         ensures { result ≡ StdinPlace.Untaken (Open input) }
@@ -80,7 +80,7 @@ impl<I: Input> Stdin<I> {
 }
 
 impl<I: Input + Drop> Stdin<I> {
-    /// Returns its input the first time, an empty input afterwards.
+    /// Returns its input the first time, and an empty input afterwards.
     pub fn take(&mut self) -> Given<I>
         ensures given { (result ≡ given_by self.old) × GivesUnread I.state self.old }
         ensures taken { self.new ≡ taken self.old }

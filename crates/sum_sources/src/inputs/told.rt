@@ -6,7 +6,7 @@ ghost use Rattle.sum_sources.specs.refinement.ToldSteps.{GivesFrom, ToldInvarian
 use crate::inputs::read_log::{ReadLog, ReadNote, Reads};
 use crate::{Ending, Fault, Input, Phase};
 
-/// An input of bytes in memory. At its end, or its fault, each read gives that again.
+/// An input of bytes in memory. Once it has ended, each read gives the end, or the fault, again.
 #[derive(Debug, Drop)]
 pub struct Told<'a> {
     bytes: &'a [u8],
@@ -25,7 +25,7 @@ impl<'a> Told<'a> {
     ghost use Rattle.sum_sources.specs.Contents.{unread};
     ghost use Rattle.sum_sources.specs.refinement.ToldPairs.{told_value};
 
-    /// An input of the bytes `content`, at most `piece` a read (0 counts as 1), and then `ending`.
+    /// Creates an input of the bytes `content`, at most `piece` per read (0 counts as 1), and then `ending`.
     pub fn new(content: &'a [u8], ending: Ending, piece: usize) -> Told<'a>
         ensures { told_value result ≡ record {
           content = record { bytes = content.entry.now; ending = ending };
@@ -39,7 +39,7 @@ impl<'a> Told<'a> {
         Told::opened(content, ending, piece, ReadLog::of(&Reads))
     }
 
-    // The same, for a source that opened it.
+    // The same, opened by a source.
     pub(crate) fn opened(content: &'a [u8], ending: Ending, piece: usize, log: ReadLog) -> Told<'a>
         requires { log.reads ≡ unread }
         ensures { told_value result ≡ record {

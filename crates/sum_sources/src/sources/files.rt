@@ -26,7 +26,7 @@ impl<R> Model for Files<R> {
 }
 
 impl<R: rt::Files + Drop> Files<R> {
-    /// The files of that runtime.
+    /// Creates a source of this runtime's files.
     pub fn new(rt: R) -> Self
         ensures { result ≡ no_openings }
     {

@@ -5,7 +5,7 @@ ghost use Rattle.sum_sources.specs.Sources.{SourceState, ToldAnswers, GivesTold,
 use crate::{Fault, Input};
 use thiserror::Error;
 
-/// Why a file could not be opened: by this `Fault`, or for want of `Memory`, which says nothing of the file.
+/// Why a file could not be opened: because of this `Fault`, or for lack of `Memory`, which says nothing about the file.
 #[derive(Clone, Copy, Debug, PartialEq, Eq, Error)]
 pub enum OpenFault {
     #[error(transparent)]
@@ -16,7 +16,7 @@ pub enum OpenFault {
 
 /// A source of files.
 pub trait Source {
-    /// The input that reads an open file. If its type isn't `Drop`, whoever opened it has to close it.
+    /// The input that reads an open file. If its type isn't `Drop`, the code that opened it must close it.
     type File: Input;
 
     /// What was asked of it, and what it answered. A source that isn't in memory keeps it for proofs alone.
@@ -25,8 +25,8 @@ pub trait Source {
     /// Which answers are known by what it has in memory: any function.
     ghost tells: { ToldAnswers };
 
-    /// Opens the file of that name. `OpenFault::Fault` if it can't be opened. `OpenFault::Memory` only if memory was
-    /// refused; then the name isn't recorded as asked.
+    /// Opens the file of this name. Returns `OpenFault::Fault` if it can't be opened, and `OpenFault::Memory` only if
+    /// memory was refused; the name then isn't recorded as asked.
     fn open_file(&mut self, name: &[u8]) -> Result<Self::File, OpenFault>
         ensures state { state self.new ≡ after_opening (state self.old) name.now result }
         ensures file { IfOk result (λ file. Self.File.state file

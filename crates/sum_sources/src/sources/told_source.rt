@@ -67,7 +67,7 @@ fn answer_to<'a, A: Allocator>(pairs: &[StoredPair<'a, A>], name: &[u8], times: 
 }
 
 impl<'a, A: Allocator + Copy> ToldSource<'a, A> {
-    /// A source without names, whose files give at most `piece` bytes a read (0 counts as 1).
+    /// Creates a source without names, whose files give at most `piece` bytes per read (0 counts as 1).
     pub fn new(alloc: A, piece: usize) -> ToldSource<'a, A>
         ensures { (told_source result.pairs.items result.log ≡ no_openings) × (result.piece ≡ max piece 1) }
     {
@@ -80,8 +80,8 @@ impl<'a, A: Allocator + Copy> ToldSource<'a, A> {
         }
     }
 
-    /// Adds a pair of a name and its answer. An earlier pair with that name still answers for it. `NoRoom` if memory is
-    /// refused; the pairs are then as before.
+    /// Adds a pair of a name and its answer. An earlier pair with that name still answers for it. Returns `NoRoom` if
+    /// memory is refused; the pairs are then unchanged.
     pub fn add(&mut self, name: &[u8], answer: Answer<'a>) -> Result<(), NoRoom>
         ensures ok { OnOk result (told_source self.new.pairs.items self.new.log ≡
             record (told_source self.old.pairs.items self.old.log) {
@@ -105,7 +105,7 @@ impl<'a, A: Allocator + Copy> ToldSource<'a, A> {
         }
     }
 
-    /// The name at place `i`, from 0, of the names asked so far.
+    /// Returns the name at place `i`, counted from 0, of the names asked so far.
     pub fn asked_name(&self, i: usize) -> Option<&[u8]>
         ensures { option_map (λ n. n.now) result
             ≡ slice_get (names_of self.now.log.openings) i }
