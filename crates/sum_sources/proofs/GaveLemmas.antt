@@ -10,6 +10,9 @@ same_name a b is = (bytes_eq-Decides a b).0 is
 pub is_same : (a : List ℕ) → bytes_eq a a ≡ true
 is_same a = (bytes_eq-Decides a a).1 refl
 
+same_test : (o name other : List ℕ) {b : Bool} → bytes_eq name other ≡ true → bytes_eq o name ≡ b → bytes_eq o other ≡ b
+same_test o name other same is = rw (← same_name name other same) is
+
 -- either answer to a test
 pub either : {P : Type 0} (b : Bool) → (b ≡ true → P) → (b ≡ false → P) → P
 either true f g = f refl
@@ -72,36 +75,20 @@ names-closed (o ∷ os) name (suc k) r = ap (λ ns. o.name ∷ ns) (names-closed
 names-closed (o ∷ os) name zero r = either (bytes_eq o.name name)
     (λ is. rw is refl) (λ is. rw is (ap (λ ns. o.name ∷ ns) (names-closed os name zero r)))
 
--- it sets what the opening gave
-pub gave-closed : (os : List Opening) (name : List ℕ) (k : ℕ) (r : Reads)
-    → gave_of (closed_at os name k r) name ≡ slice_set (gave_of os name) k (Some (Ok r))
-gave-closed [] name k r = refl
-gave-closed (o ∷ os) name zero r = either (bytes_eq o.name name)
-    (λ is. rw (is, is) refl) (λ is. rw (is, is) (gave-closed os name zero r))
-gave-closed (o ∷ os) name (suc k) r = either (bytes_eq o.name name)
-    (λ is. rw is (ap (λ gs. o.gave ∷ gs) (gave-closed os name k r)))
-    (λ is. rw is (gave-closed os name (suc k) r))
-
--- and keeps what those of another name gave
-pub gave-others : (os : List Opening) (name other : List ℕ) (k : ℕ) (r : Reads) → bytes_eq name other ≡ false
-    → gave_of (closed_at os name k r) other ≡ gave_of os other
-gave-others [] name other k r apart = refl
-gave-others (o ∷ os) name other zero r apart = either (bytes_eq o.name name)
-    (λ is. let no : bytes_eq o.name other ≡ false = rw (same_name o.name name is) apart in rw (is, no) refl)
-    (λ is. rw is (either (bytes_eq o.name other)
-    (λ are. rw are (ap (λ gs. o.gave ∷ gs) (gave-others os name other zero r apart)))
-    (λ are. rw are (gave-others os name other zero r apart))))
-gave-others (o ∷ os) name other (suc k) r apart = either (bytes_eq o.name other)
-    (λ are. rw are (ap (λ gs. o.gave ∷ gs) (gave-others os name other _ r apart)))
-    (λ are. rw are (gave-others os name other _ r apart))
-
--- and so it changes what the openings of any name gave
+-- it sets what the opening gave, and keeps what those of another name gave
 pub gave-closing : (os : List Opening) (name : List ℕ) (k : ℕ) (r : Reads) (other : List ℕ)
     → gave_of (closed_at os name k r) other
     ≡ (if bytes_eq name other then slice_set (gave_of os other) k (Some (Ok r)) else gave_of os other)
-gave-closing os name k r other = either (bytes_eq name other)
-    (λ is. rw (is, ← same_name name other is) (gave-closed os name k r))
-    (λ is. rw is (gave-others os name other k r is))
+gave-closing [] name k r other = either (bytes_eq name other) (λ c. rw c refl) (λ c. rw c refl)
+gave-closing (o ∷ os) name zero r other = either (bytes_eq o.name name)
+    (λ a. rw (a, same_name o.name name a) (either (bytes_eq name other) (λ c. rw c refl) (λ c. rw c refl)))
+    (λ a. rw (a, gave-closing os name zero r other)
+    (either (bytes_eq name other) (λ c. rw (c, same_test o.name name other c a) refl) (λ c. rw c refl)))
+gave-closing (o ∷ os) name (suc k) r other = either (bytes_eq o.name name)
+    (λ a. rw (a, gave-closing os name k r other)
+    (either (bytes_eq name other) (λ c. rw (c, same_test o.name name other c a) refl) (λ c. rw c refl)))
+    (λ a. rw (a, gave-closing os name (suc k) r other)
+    (either (bytes_eq name other) (λ c. rw (c, same_test o.name name other c a) refl) (λ c. rw c refl)))
 
 -- ---- what holds of each opening, one by one
 

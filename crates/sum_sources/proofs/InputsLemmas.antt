@@ -3,7 +3,7 @@ use Rattle.std.proofs.Common.{◌≡◌, ℕ, zero, suc, true, false, List, [], 
 use Rattle.std.specs.Prelude.{filter, not, if◌then◌else◌}
 use Rattle.std.{specs.List.cons_option, specs.Option.option_and_then, specs.Option.option_map, specs.Result.result_ok, proofs.lemmas.Slice.Eq.bytes_eq-Decides}
 use Rattle.sum_sources.specs.{Contents.Content, Contents.InputState, Contents.Reads, Contents.Fault, Contents.HasContent, Contents.unread, Contents.empty_content, StandardInput.unless_closed, StandardInput.GivesUnread, StandardInput.given_by, StandardInput.put_back, StandardInput.taken, Sources.Answer, Sources.Answers, Sources.Pair, Sources.TellsAll, Sources.Opening, Sources.SourceState, Sources.ToldAnswers, Sources.names_of, Sources.times, Sources.gave_of, Sources.closed_at, Sources.content_at, Sources.opened_file, Sources.IsOpen, Sources.IsOfAnswer, Inputs.is_dash, Inputs.given_once, Inputs.with_stdin, Inputs.tells_both, Inputs.answers_with, Inputs.inputs_state, Inputs.without_dash, refinement.InputsStates.IsPlaceOf, refinement.InputsStates.GivesStdin, refinement.InputsStates.InputsInvariant, declared.inputs.stdin.StdinPlace.StdinPlace, declared.inputs.stdin.StdinPlace.TheVariants.Untaken, declared.inputs.stdin.StdinPlace.TheVariants.Taken, declared.inputs.stdin.StdinPlace.TheVariants.Returned, declared.inputs.closable.Closable.Closable, declared.inputs.closable.Closable.TheVariants.Closed, Contents.Whole, Contents.Unfinished}
-use Rattle.sum_sources.proofs.GaveLemmas.{either, same_name, nothing, of_content, gives-more, gives-closed, gave-times, gave-append, gave-opening, gave-closed, gave-closing, gave-others}
+use Rattle.sum_sources.proofs.GaveLemmas.{either, same_name, nothing, of_content, gives-more, gives-closed, gave-times, gave-append, gave-opening, gave-closing}
 
 -- a test of two names is one of them the other way round
 turned : (a b : List ℕ) → bytes_eq a b ≡ false → bytes_eq b a ≡ false
@@ -95,7 +95,8 @@ module _ {I : Type 0} {state : I → InputState} {stdin : StdinPlace I} {untaken
     pub kept_closing : (name : List ℕ) (k : ℕ) (r : Reads) → is_dash name ≡ false
         → InputsInvariant state stdin untaken (closed_at os name k r) (closed_at fs name k r)
     kept_closing name k r apart =
-        let same = gave-others os name (codes "-") k r (turned (codes "-") name apart) in
+        let same : gave_of (closed_at os name k r) (codes "-") ≡ gave_of os (codes "-") =
+        rw (gave-closing os name k r (codes "-"), turned (codes "-") name apart) refl in
         record {
           place = rw same kept.place;
           given = rw same kept.given;
@@ -109,11 +110,11 @@ module _ {I : Type 0} {state : I → InputState} {stdin : StdinPlace I} {untaken
         → InputsInvariant state (put_back stdin given) untaken (closed_at os name k r) fs
     kept_back name k r given is one =
         let same : codes "-" ≡ name = same_name (codes "-") name is in
-        let now = gave-closed os (codes "-") k r in
+        let now = gave-closing os (codes "-") k r (codes "-") in
         rw (← same) (record {
           place = rw now (back _ stdin kept.place);
           given = λ j. rw now (gives-closed (GivesStdin untaken) _ k j r one (kept.given j));
-          files = λ other apart. gave-others os (codes "-") other k r apart ∙ kept.files other apart;
+          files = λ other apart. rw (gave-closing os (codes "-") k r other, apart) (kept.files other apart);
         })
       where
         same : (old : StdinPlace I) → given_by (put_back old given) ≡ given_by old

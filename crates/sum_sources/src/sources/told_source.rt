@@ -1,10 +1,9 @@
 //! A source of files in memory.
 ghost use Rattle.std.specs.Option.{option_map};
 ghost use Rattle.std.specs.Prelude.{◌≡◌, ◌≤◌, ◌++◌, ◌∷◌, [], OnOk, OnErr, MatchBool, length, map, max, slice_get};
-ghost use Rattle.sum_sources.specs.Sources.{first_answer, tells_first};
 ghost use Rattle.sum_sources.specs.Logs.{no_openings};
 ghost use Rattle.sum_sources.specs.SourceLaws.{GivesTold-prop};
-ghost use Rattle.sum_sources.specs.Sources.{GivesTold, names_of, times};
+ghost use Rattle.sum_sources.specs.Sources.{GivesTold, first_answer, names_of, tells_first, times};
 ghost use Rattle.sum_sources.specs.refinement.ToldPairs.{pair_of, answer_value, told_source};
 
 use crate::sources::source_log::{Note, Openings, SourceLog, next_file};
