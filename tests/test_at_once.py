@@ -114,3 +114,19 @@ class OneFile(Case):
         return ["a: OK", X_MISSING, "x: FAILED open or read",
                 f"md5sum: {name}: 3: improperly formatted MD5 checksum line", "e: FAILED",
                 "md5sum: d: Is a directory", "d: FAILED open or read", "e: OK", bad(1), unread(2), wrong(1)]
+
+
+class AfterAFailedWrite(Case):
+    """A list is read no further, but for what was read ahead."""
+
+    def test_a_list_without_end(self):
+        with self.full() as full:
+            ran = self.run_command(["sh", "-c", f"yes '{M}  a' | '{harness.PROGRAM}' md5sum -c -"], stdout=full)
+        self.assertEqual((ran.status, ran.err), (1, b"md5sum: write error\n"))
+
+    def test_what_the_next_program_finds(self):
+        self.write("list", f"{M}  a\n" * 10000)
+        with self.full() as full, open(self.path("list"), "rb") as list_:
+            ran = self.run_words("md5sum -c -", list_, stdout=full)
+            self.assertEqual((ran.status, ran.err), (1, b"md5sum: write error\n"))
+            self.assertLessEqual(os.lseek(list_.fileno(), 0, os.SEEK_CUR), len(f"{M}  a\n") + 8192)
