@@ -6,8 +6,8 @@ use crate::inputs::size_limit::read_limited;
 use crate::{Fault, Input, PIECE};
 use digest_kinds::{Digest, Hasher};
 
-/// Reads `input`, which hasn't been read before, to its end and returns the digest that `hasher`, a new one, computes
-/// of its bytes, or the fault with which the input ends. An input of `LIMIT` bytes or more gives `Fault::Other`.
+/// Reads what remains of `input`, which hasn't ended, and returns the digest that `hasher`, a new one, computes of these
+/// bytes, or the fault with which the input ends. If `LIMIT` bytes or more remain, that is `Fault::Other`.
 pub fn hash_input<I: Input, H: Hasher + Drop>(input: &mut I, hasher: H) -> Result<Digest, Fault>
     requires { H.holds hasher [] }
     ensures { HashesInput (H.kind_of hasher) (I.state input.old) (I.state input.new) result }
