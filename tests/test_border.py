@@ -43,9 +43,9 @@ FILES = {
     "sum_words/src/command_line.rt": "alloc env",
 }
 
-# The modules whose names a contract or a definition may use: definitions, ours and the kit's, what the proofs of the
-# kit's `std` pass on, and the kit's logic. A crate of ours is below `Rattle` alone.
-WORDS = re.compile(r"\A(?:Rattle\.(?:\w+\.specs|std\.proofs)|denote|std)\.")
+# The modules whose names a contract or a definition may use: definitions, ours and the kit's, the kit's `std`, and the
+# kit's logic. A crate of ours is below `Rattle` alone.
+WORDS = re.compile(r"\A(?:Rattle\.(?:\w+\.specs|std)|denote|std)\.")
 
 
 class Border(Case):
