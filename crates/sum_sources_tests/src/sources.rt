@@ -110,7 +110,7 @@ fn real_files(rt: HostRuntime) -> Result<(), Fail> {
     for (name, fault) in [
         (b"sum_sources_real/".as_slice(), Fault::Os(20)),
         (b"sum_sources_none", Fault::NotFound),
-        (b"\xff", Fault::Other),
+        (b"\xff", Fault::Os(84)),
     ] {
         refuses(&rt, &mut files, name, OpenFault::Fault(fault));
     }
