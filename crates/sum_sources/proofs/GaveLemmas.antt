@@ -158,12 +158,13 @@ closed-seam (x ∷ xs) later o r = either (bytes_eq x.name o.name)
 
 -- ---- a file that was opened, hashed and closed, and nothing in between
 
-pub hashed_last : {kind : KindValue} {tells : ToldAnswers} {name : List ℕ} {a m n : SourceState} {s t : InputState}
+pub hashed_last : {kind : KindValue} (tells : ToldAnswers) {name : List ℕ} {a m n : SourceState} {s t : InputState}
     {result : Result (List ℕ) Fault} → s ≡ opened_file tells a name → m ≡ and_opening a name None
-    → HashesInput kind s t result → n ≡ after_closing m t → HashesOpened kind tells name a n result
-hashed_last {name = name} {a = a} {t = t} is opens hashes closes = record {
+    → HashesInput kind s t result → n ≡ after_closing m t → HashesOpened kind name a n result
+hashed_last tells {name = name} {a = a} {t = t} is opens hashes closes = record {
   reads = t.reads;
   closed = rw (closes, opens, hashes.same, is) (ap (λ os. record a { openings = os })
       (closed-seam a.openings [] (record { name = name; gave = None }) t.reads));
-  hashes = rw (hashes.same, is) at hashes;
+  hashes = let reads = rw (hashes.same, is) at hashes in
+      record { same = refl; digest = reads.digest; end = reads.end; past = reads.past };
 }

@@ -118,15 +118,15 @@ abbrev pub after_closing : SourceState → InputState → SourceState
 after_closing s file = record s { openings = closed_at s.openings file.name file.opening file.reads }
 
 -- the file of a name was opened, hashed from its beginning, and closed
-pub record HashesOpened (kind : KindValue) (tells : ToldAnswers) (name : ByteString) (a b : SourceState)
-    (result : Result ByteString Fault) : Type 0 where
+pub record HashesOpened (kind : KindValue) (name : ByteString) (a b : SourceState) (result : Result ByteString Fault)
+    : Type 0 where
   pub reads : Reads
   pub closed : b ≡ and_opening a name (Some (Ok reads))
-  pub hashes : HashesInput kind (opened_file tells a name) (record (opened_file tells a name) { reads = reads }) result
+  pub hashes : HashesInput kind (opened_file tells_none a name)
+      (record (opened_file tells_none a name) { reads = reads }) result
 
 -- the effect of a call that hashes the file of a name
-abbrev pub HashesFile : KindValue → ToldAnswers → ByteString → SourceState → SourceState
-    → Result ByteString HashFault → Type 0
-HashesFile kind tells name a b (Ok d) = HashesOpened kind tells name a b (Ok d)
-HashesFile kind tells name a b (Err (hashing.Read f)) = HashesOpened kind tells name a b (Err f)
-HashesFile kind tells name a b (Err (hashing.Open f)) = b ≡ after_opening {F = ByteString} a name (Err f)
+abbrev pub HashesFile : KindValue → ByteString → SourceState → SourceState → Result ByteString HashFault → Type 0
+HashesFile kind name a b (Ok d) = HashesOpened kind name a b (Ok d)
+HashesFile kind name a b (Err (hashing.Read f)) = HashesOpened kind name a b (Err f)
+HashesFile kind name a b (Err (hashing.Open f)) = b ≡ after_opening {F = ByteString} a name (Err f)

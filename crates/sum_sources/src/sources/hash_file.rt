@@ -24,7 +24,7 @@ pub fn hash_file<S: Source, H: Hasher + Drop>(
     hasher: H,
 ) -> Result<Digest, HashFault>
     requires { H.holds hasher [] }
-    ensures { HashesFile (H.kind_of hasher) S.tells name.now (S.state source.old) (S.state source.new) result }
+    ensures { HashesFile (H.kind_of hasher) name.now (S.state source.old) (S.state source.new) result }
 {
     let mut buffer: [u8; PIECE] = [0; PIECE];
     hash_file_over(source, name, hasher, &mut buffer)
@@ -39,7 +39,7 @@ pub fn hash_file_over<S: Source, H: Hasher + Drop>(
     buffer: &mut [u8; PIECE],
 ) -> Result<Digest, HashFault>
     requires { H.holds hasher [] }
-    ensures hashed { HashesFile (H.kind_of hasher) S.tells name.now (S.state source.old) (S.state source.new) result }
+    ensures hashed { HashesFile (H.kind_of hasher) name.now (S.state source.old) (S.state source.new) result }
     ensures len { IfOk result (λ d. length d ≡ (H.kind_of hasher).len) }
 {
     let mut file = match source.open_file(name) {
