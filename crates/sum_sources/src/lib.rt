@@ -30,7 +30,6 @@ pub use line_reader::{LineReader, LineStop, Next};
 pub use sources::files::Files;
 pub use sources::hash_file::{HashFault, hash_file, hash_file_over};
 pub use sources::inputs::{Inputs, is_dash};
-pub use sources::opened::Opened;
 pub use sources::source::{OpenFault, Source};
 pub use sources::source_log::{Note, Openings, SourceLog, next_file};
 pub use sources::told_source::{Answer, ToldSource};
