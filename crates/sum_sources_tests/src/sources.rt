@@ -9,8 +9,8 @@ use std::process::Abort;
 use std::rt;
 use std::test::Fail;
 use sum_sources::{
-    Answer, Ending, Fault, Files, Input, Inputs, NoRoom, OpenFault, PIECE, Source, Stdin, Told,
-    ToldSource, hash_input,
+    Answer, Ending, Fault, Files, HashFault, Input, Inputs, NoRoom, OpenFault, PIECE, Source,
+    Stdin, Told, ToldSource, hash_file,
 };
 
 // The file of this name has this digest.
@@ -20,27 +20,18 @@ fn hashes<S: Source>(
     name: &[u8],
     digits: &[u8],
 ) -> Result<(), Fail> {
-    let mut file = source.open_file(name)?;
-    let digest = hash_input(&mut file, Md5Hasher::new());
-    source.close_file(file);
-    assert!(rt; Some(digest?) == Digest::from_hex(digits));
+    let digest = hash_file(source, name, Md5Hasher::new())?;
+    assert!(rt; Some(digest) == Digest::from_hex(digits));
     Ok(())
 }
 
-// No file of this name is opened, by this fault.
-fn refuses<S: Source>(rt: &impl Abort, source: &mut S, name: &[u8], fault: OpenFault) {
-    let found = match source.open_file(name) {
-        Ok(file) => {
-            source.close_file(file);
-            None
-        }
-        Err(found) => Some(found),
-    };
-    assert_eq!(rt; found, Some(fault));
+// The file of this name has no digest, by this fault.
+fn refuses<S: Source>(rt: &impl Abort, source: &mut S, name: &[u8], fault: HashFault) {
+    assert_eq!(rt; hash_file(source, name, Md5Hasher::new()).err(), Some(fault));
 }
 
-// A source with two answers to a name, of which the first counts, and no room for this name. Without a contract, so
-// that no proof computes it.
+// A source with two answers to a name, of which the first counts, a file that can't be read to its end, and no room for
+// this name. Without a contract, so that no proof computes it.
 fn notes<'a, A: Allocator + Copy>(
     rt: &impl Abort,
     alloc: A,
@@ -49,6 +40,7 @@ fn notes<'a, A: Allocator + Copy>(
     let mut files = ToldSource::new(alloc, PIECE);
     files.add(NOTES, Answer::Content(b"abc", Ending::Whole))?;
     files.add(NOTES, Answer::Fault(Fault::Other))?;
+    files.add(BROKEN, Answer::Content(b"abc", Ending::Broken(Fault::Denied)))?;
     assert!(rt; files.add(long, Answer::Fault(Fault::Denied)) == Err(NoRoom));
     Ok(files)
 }
@@ -60,6 +52,8 @@ fn asked<A: Allocator + Copy>(rt: &impl Abort, files: &ToldSource<A>, number: us
 
 const NOTES: &[u8] = b"notes.txt";
 
+const BROKEN: &[u8] = b"broken";
+
 const MD5_OF_ABC: &[u8] = b"900150983cd24fb0d6963f7d28e17f72";
 
 // The lines of the crate's front page, the first answer to a name, and the names asked. What finds no room on the heap
@@ -70,11 +64,13 @@ fn told_source(rt: HostRuntime) -> Result<(), Fail> {
     let long = vec![in rt.alloc(); b'n'; 1024]?;
     let mut files = notes(&rt, &heap, &long)?;
     hashes(&rt, &mut files, NOTES, MD5_OF_ABC)?;
-    refuses(&rt, &mut files, &long, OpenFault::Memory);
-    refuses(&rt, &mut files, &[], OpenFault::Fault(Fault::NotFound));
+    refuses(&rt, &mut files, &long, HashFault::Open(OpenFault::Memory));
+    refuses(&rt, &mut files, &[], HashFault::Open(OpenFault::Fault(Fault::NotFound)));
+    refuses(&rt, &mut files, BROKEN, HashFault::Read(Fault::Denied));
     asked(&rt, &files, 0, NOTES);
     asked(&rt, &files, 1, &[]);
-    assert!(rt; files.asked_name(2).is_none());
+    asked(&rt, &files, 2, BROKEN);
+    assert!(rt; files.asked_name(3).is_none());
     Ok(())
 }
 
@@ -112,7 +108,7 @@ fn real_files(rt: HostRuntime) -> Result<(), Fail> {
         (b"sum_sources_none", Fault::NotFound),
         (b"\xff", Fault::Os(84)),
     ] {
-        refuses(&rt, &mut files, name, OpenFault::Fault(fault));
+        refuses(&rt, &mut files, name, HashFault::Open(OpenFault::Fault(fault)));
     }
     fs::remove_file(&rt, "sum_sources_real")?;
     Ok(())
@@ -147,6 +143,6 @@ impl rt::Files for NoMemory {
 fn no_memory_to_open(rt: HostRuntime) {
     let mut files = Files::new(NoMemory);
     for _ in 0..3 {
-        refuses(&rt, &mut files, b"a", OpenFault::Memory);
+        refuses(&rt, &mut files, b"a", HashFault::Open(OpenFault::Memory));
     }
 }
