@@ -1,5 +1,5 @@
 -- The verdicts and the behavior that remain, after one line and the next.
-use Rattle.std.proofs.Common.{rules, ◌≡◌, ℕ, zero, suc, ◌+◌, Bool, List, [], ◌∷◌, length, refl}
+use Rattle.std.proofs.Common.{rules, ◌≡◌, ℕ, zero, suc, ◌+◌, List, [], ◌∷◌, length, refl, ap}
 use Rattle.sum_lines.proofs.EntryLemmas.{form_next, parse_stays}
 use Rattle.sum_engine.specs.Behavior.{after, Ending, Step, Behavior, Content}
 use Rattle.sum_engine.specs.{check.Rules.Rules, check.Rules.LabelsValue, check.Checking.line_steps}
@@ -66,13 +66,8 @@ found_first r labels a b j first counted remaining = search rules
 pub going-before : (r : Rules) (labels : LabelsValue) (a : CheckState)
     → let left = remaining_behavior r labels a in progress_before left.steps left.good ≡ Going
 going-before r labels a =
-    let js = remaining_verdicts r a in
-    by (end_text r labels a.remaining.ending (counts_then a.counts (counts_of js))) a.remaining js _
-  where
-    by : (end : List ℕ) (c : Content) (js : List LineVerdictValue) (good : Bool)
-        → progress_before (line_steps r labels end c js) good ≡ Going
-    by end c [] good = refl
-    by end c (j ∷ js) good = refl
+    let first = first_step r labels a.remaining.ending a.counts a.remaining (remaining_verdicts r a) in
+    ap (λ (q : Behavior). progress_before q.steps q.good) first.2
 
 -- contents past so many lines
 pub past_next : (k : ℕ) (c : Content) → past_line (past_lines k c) ≡ past_lines (suc k) c

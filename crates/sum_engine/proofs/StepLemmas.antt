@@ -24,14 +24,6 @@ InEachCheck-map {a = a} {b = b} h f =
 
 -- ---- a step, by the verdict that was found
 
--- memory was refused, or bytes of the manifest remained, and nothing was written
-refused_by : {a b : StreamsState} (next : Step) → 0 < next.remaining → b.outputs ≡ a.outputs
-    → MemoryWasRefused a.inputs b.inputs ⊎ (b.inputs ≡ a.inputs) → RunsOutOfMemory (next ∷ []) a b
-refused_by next some outputs (inl refused) =
-    refused_first next [] refl (rw (refused, outputs) refl) (inl (rw refused refl))
-refused_by next some outputs (inr same) =
-    refused_first next [] refl (rw (same, outputs) refl) (inr (rw same refl, some))
-
 -- from p and the streams a to q and the streams b
 module _ {I : Type 0} {state : I → InputState} {p q : VerdictsValue I} (a b : StreamsState) (labels : LabelsValue)
     (vector : List ℕ)
@@ -94,7 +86,10 @@ module _ {I : Type 0} {state : I → InputState} {p q : VerdictsValue I} (a b : 
           step = first.0;
           later = first.1;
           is = first.2;
-          performs = refused_by first.0 (rw (← first.3) at f.1) reported.1 did.asked;
+          performs = refused_first first.0 [] refl reported.1 (elim did.asked [
+            | inl refused ↦ inl refused
+            | inr same ↦ inr (same, rw first.3 f.1)
+          ]);
           going = λ h. cc;
           failed = λ h. cc;
         }))
