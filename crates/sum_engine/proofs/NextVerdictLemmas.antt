@@ -1,9 +1,10 @@
 -- `Verdicts::next`: the next verdict of a manifest, by what reading and judging its line did.
-use Rattle.std.proofs.Common.{rules, ◌≡◌, ◌∙◌, ℕ, ◌+◌, List, Ok, Err, Result, IfOk, refl, inl, inr, ◌∷◌, ap, sym, arith}
+use Rattle.std.proofs.Common.{rules, ◌≡◌, ◌∙◌, ℕ, ◌+◌, List, Ok, Err, Result, IfOk, Some, refl, inl, inr, ◌∷◌, ap, sym, arith, length, length-drop, ◌≤◌}
 use Rattle.std.specs.Prelude.{◌⊎◌}
-use Rattle.sum_sources.specs.declared.{line_reader.Next.TheVariants.Line, line_reader.LineReader.LineReader}
-use Rattle.sum_sources.specs.LineReaders.{AdvancesLines, IsBounded, IsReading, ReadsOn, remaining}
-use Rattle.sum_sources.specs.ManifestLines.{lines}
+use Rattle.sum_sources.specs.declared.{line_reader.Next.TheVariants.Line, line_reader.LineReader.LineReader, line_reader.LineStop.LineStop}
+use Rattle.sum_sources.specs.LineReaders.{AdvancesLines, IsBounded, IsReading, ReadsOn, consumed_count, reads_of, remaining}
+use Rattle.sum_sources.specs.{Contents.IsOf, ManifestLines.lines, ManifestLines.past_line}
+use Rattle.sum_sources.specs.declared.line_reader.LineStop.TheVariants.{Fault, Memory}
 use Rattle.sum_sources.proofs.LineLemmas.{line-some}
 use Rattle.sum_engine.specs.{check.Rules.Rules, check.CheckStates.CheckState, check.CheckStates.HandlesLine, check.CheckStates.next_judged}
 use Rattle.sum_engine.specs.check.Judge.{lines_under, line_verdict, asks_of, form_then, line_form, own_profile}
@@ -81,8 +82,42 @@ module _ {I : Type 0} {state : I → InputState} {p q : VerdictsValue I} {a b : 
         (search (rules, remaining_next p.rules first last vector handled, f, world), handled);
   })
   next_verdict-line (Err e) h = rw (is_after h) (record {
-    holds = λ reading c of w agrees. (
-      refused_world w a b h.asked,
-      line-some (remaining p.reader c) (remaining h.reader c) h.line ((h.reads reading).line c of),
-    );
+    holds = λ reading c of w agrees.
+        let reads = h.reads reading in
+        let next = reads.line c of in
+        let left = ap (λ (c : Content). length c.bytes) next.1 in (
+          refused_world w a b h.asked,
+          line-some (remaining p.reader c) (remaining h.reader c) h.line next,
+          omega (arith, h.bounds.ahead, reads.sum Line refl c of, left),
+        );
   })
+
+-- ---- no line was read
+
+-- a reader that was refused memory for its line read at most 8192 bytes past it
+pub reads_one_line : {I : Type 0} {state : I → InputState} (old new : LineReader I) (bytes : List ℕ)
+    → ReadsOn state old new (Err Memory) bytes → new.final_answer ≡ Some (Err Memory) → IsBounded new → (c : Content)
+    → IsOf (reads_of state new) c → new.taken + length (past_line (remaining old c)).bytes
+    ≤ consumed_count old + length (remaining old c).bytes + 8192
+reads_one_line old new bytes reads final bounds c of =
+    let (some, same) = reads.line c of in
+    let more = (reads.reading.final (Err Memory) final bytes c of).0 in
+    omega (arith, some, more, bounds.ahead, ap (λ (c : Content). length c.bytes) same, length-drop {A = ℕ})
+
+-- the reader of p stopped
+pub next_verdict-stop : {I : Type 0} {state : I → InputState} {p q : VerdictsValue I} {a : SourceState}
+    (vector : List ℕ) (r : Rules) → r ≡ p.rules → (reader : LineReader I) (stop : LineStop) (bytes : List ℕ)
+    → (IsReading state p.reader → ReadsOn state p.reader reader (Err stop) bytes)
+    → reader.final_answer ≡ Some (Err stop) → IsBounded reader → p.rules.profile ≡ own_profile
+    → q ≡ record p { reader = reader; outcome = Some (Err stop) }
+    → InEachCheck state p q a a (λ c d. IsNextVerdict r vector c d (Err stop))
+next_verdict-stop {p = p} vector r rules reader (Fault f) bytes reads final bounds profile is = rw (is, rules) (record {
+  holds = λ reading c of w agrees.
+      let next = (reads reading).line c of in
+      search (rules, lines_now p.rules (remaining p.reader c) profile, next);
+})
+next_verdict-stop {p = p} vector r rules reader Memory bytes reads final bounds profile is = rw is (record {
+  holds = λ reading c of w agrees.
+      let read = reads reading in
+      (refl, (read.line c of).0, reads_one_line p.reader reader bytes read final bounds c of);
+})

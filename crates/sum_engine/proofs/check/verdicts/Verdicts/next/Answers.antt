@@ -1,5 +1,6 @@
-use Rattle.std.proofs.Common.{refl, inl, Ok, Err}
-use Rattle.sum_engine.proofs.NextVerdictLemmas.{next_verdict-line}
+use Rattle.std.proofs.Common.{refl, ap, sym, inl, Ok, Err}
+use Rattle.sum_engine.specs.check.Verdicts.{VerdictsValue}
+use Rattle.sum_engine.proofs.NextVerdictLemmas.{next_verdict-line, next_verdict-stop}
 use Rattle.sum_engine.proofs.check.verdicts.Verdicts.next.Goals as goal
 
 -- the line was judged
@@ -39,3 +40,12 @@ returns-in-Err-judge_line-clause-verdict g c =
       asked = inl done.asked;
       verdict = done.verdict;
     }))
+
+-- the reader stopped
+pub returns-in-Err-clause-verdict : goal.returns-in-Err-clause-verdict
+returns-in-Err-clause-verdict g c =
+    let read = c.in-Err.ensures in
+    let line = c.next_line.new.line.items in
+    let rules = ap (λ (p : VerdictsValue _). p.rules) (sym c.self.view_is) in
+    rw (← c.self.view_is) (λ going. next_verdict-stop line _ rules c.next_line.new.self c.in-Err.stop line
+    read.line read.reader.final_answer read.bounds c.self.invariant.2 refl)
