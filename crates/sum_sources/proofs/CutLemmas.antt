@@ -1,8 +1,13 @@
 -- Bytes cut at their newlines.
 use Rattle.std.proofs.Common.{◌≡◌, ℕ, List, [], ◌∷◌, ◌++◌, refl, ap, ◌∙◌, append_assoc, inl, inr, ◌==◌, false, All, arith, rules}
+use Rattle.std.specs.Prelude.{flat_map}
 use Rattle.std.{proofs.lemmas.Bool.Decides.eqb_tells, proofs.lemmas.List.Elements.All-nil, proofs.lemmas.List.Elements.All-cons, proofs.lemmas.List.Elements.All-head, proofs.lemmas.List.Elements.All-tail}
-use Rattle.sum_sources.specs.{declared.fault.Ending.Ending, ManifestLines.HasNoNewline, ManifestLines.bytes_of_lines, ManifestLines.last_line, ManifestLines.raw_lines}
+use Rattle.sum_sources.specs.{declared.fault.Ending.Ending, ManifestLines.HasNoNewline, ManifestLines.last_line, ManifestLines.raw_lines}
 use Rattle.sum_sources.proofs.LineLemmas.{pieces-newline, pieces-last}
+
+-- these pieces, each ended by a newline, and then the tail
+abbrev pub bytes_of_lines : List (List ℕ) → List ℕ → List ℕ
+bytes_of_lines ended tail = flat_map (λ piece. piece ++ 10 ∷ []) ended ++ tail
 
 -- the bytes can be cut
 abbrev pub IsCut : List ℕ → Type 0

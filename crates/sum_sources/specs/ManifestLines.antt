@@ -30,10 +30,6 @@ past_line c = record { bytes = after_first (λ b. b == 10) c.bytes; ending = c.e
 abbrev pub HasNoNewline : ByteString → Type 0
 HasNoNewline piece = All (λ b. (b == 10) ≡ false) piece
 
--- these pieces, each ended by a newline, and then the tail
-abbrev pub bytes_of_lines : List ByteString → ByteString → ByteString
-bytes_of_lines ended tail = flat_map (λ piece. piece ++ 10 ∷ []) ended ++ tail
-
 -- what next_line returns: the first line, and then the content past it remains; or, if there is no line, the ending,
 -- which remains; or that memory was refused, only if something remains, and no newline is gone
 abbrev pub IsNextLine : Content → Content → Result Next LineStop → ByteString → Type 0
