@@ -1,7 +1,7 @@
-use Rattle.std.proofs.Common.{refl, ◌≡◌, ap, ◌∙◌, Ok, true}
+use Rattle.std.proofs.Common.{refl, ◌≡◌, ap, ◌∙◌, Ok, Err, true}
 use Rattle.sum_engine.specs.{check.Rules.labels_of, check.Rules.rules_of, check.CheckerLaws.RunsManifest, Behavior.InputState, Behavior.is_dash}
 use Rattle.sum_engine.proofs.{CheckOneLemmas.check_opened, CheckOneLemmas.check_stops, CheckOneLemmas.not_read, CheckOneLemmas.not_asked, CheckOneLemmas.no_room, CheckOneLemmas.refused, FlushedWriteLemmas.writes_and_returns}
-use Rattle.sum_engine.proofs.{OpenedNameLemmas.WasOpened, OpenedNameLemmas.was_opened, OpenedNameLemmas.still_open, WorldLemmas.reads_fault}
+use Rattle.sum_engine.proofs.{OpenedNameLemmas.WasOpened, OpenedNameLemmas.was_opened, OpenedNameLemmas.still_open, WorldLemmas.reads_one}
 use Rattle.sum_engine.proofs.check.check_one.check_one.Goals.{After-close}
 use Rattle.sum_engine.proofs.check.check_one.check_one.Given as given
 use Rattle.sum_engine.proofs.check.check_one.check_one.Goals as goal
@@ -37,8 +37,8 @@ returns-in-Err-Fault-clause-ahead g c =
 
 pub returns-in-Err-Fault-clause-reads : goal.returns-in-Err-Fault-clause-reads
 returns-in-Err-Fault-clause-reads g c =
-    reads_fault c.args.streams.now.inputs c.open.new.self c.args.name.now _
-    (rw c.in-Err-Fault.field-0-is at c.in-Err-Fault.ensures.state)
+    reads_one c.args.streams.now.inputs c.open.new.self c.args.name.now (Err c.in-Err-Fault.fault)
+    (rw c.in-Err-Fault.field-0-is at c.in-Err-Fault.ensures.state) tt
 
 -- ---- it was opened, checked and closed
 
