@@ -95,37 +95,21 @@ pub Performs-refused : {A : Type 0} (run : World → Behavior) (outcome : Bool �
     → MemoryWasRefused a.inputs b.inputs → b.outputs ≡ a.outputs → Performs run outcome a b (Err Memory)
 Performs-refused run outcome a b first refused outputs = λ flushed w agrees.
     let next = first (world_at w a.inputs) in
-    refused_first next.0 next.1 next.2 (rw (refused, outputs) refl) (inl (rw refused refl))
+    refused_first next.0 next.1 next.2 outputs (inl refused)
 
 -- ---- what a run's events come to
 
--- the events of several steps are, of each kind, those of one after the other
-kind_of_events : {X : Type 0} (h : Event → Option X) (part : Step → List X)
-    → ((s : Step) → filter_map h (events_of s) ≡ part s) → (steps : List Step)
-    → filter_map h (trace steps) ≡ flat_map part steps
-kind_of_events h part one [] = refl
-kind_of_events h part one (s ∷ steps) = search (rules, filter_map-append, kind_of_events h part one steps)
-
--- the bytes of texts, one after another
-bytes_of_texts : (part : Step → List ℕ) (steps : List Step)
-    → filter_map written_byte (flat_map (λ s. output_events (part s)) steps) ≡ flat_map part steps
-bytes_of_texts part [] = refl
-bytes_of_texts part (s ∷ steps) =
-    let all : List OutputEvent = flat_map (λ s. output_events (part s)) steps in
-    filter_map-append written_byte (output_events (part s)) all
-    ∙ ap (λ l. l ++ filter_map written_byte all) (output_events-bytes (part s))
-    ∙ ap (λ l. part s ++ l) (bytes_of_texts part steps)
+-- the names that its events open, and the bytes that they write on each output
+kinds : (steps : List Step) → (filter_map opened_name (trace steps) ≡ flat_map (λ s. s.names) steps)
+    × (filter_map written_byte (filter_map err_event (trace steps)) ≡ flat_map (λ s. s.err) steps)
+    × (filter_map written_byte (filter_map out_event (trace steps)) ≡ flat_map (λ s. s.out) steps)
+kinds [] = (refl, refl, refl)
+kinds (s ∷ steps) =
+    let (names, err, out) = kinds steps in
+    search (rules, filter_map-append, kind-all, kind-none, output_events-bytes, names, err, out)
 
 -- so what happened of a run extends each output by the run's text there, and asks its names
 pub events_extend : EventsExtend
 events_extend r a b did =
-    let names = kind_of_events opened_name (λ s. s.names)
-    (λ s. search (rules, filter_map-append, kind-all, kind-none)) r.steps in
-    let err = kind_of_events err_event (λ s. output_events s.err)
-    (λ s. search (rules, filter_map-append, kind-all, kind-none)) r.steps in
-    let out = kind_of_events out_event (λ s. output_events s.out)
-    (λ s. search (rules, filter_map-append, kind-all, kind-none)) r.steps in (
-      rw names at did.inputs,
-      rw (err, bytes_of_texts (λ s. s.err) r.steps) at did.err.written,
-      rw (out, bytes_of_texts (λ s. s.out) r.steps) at did.out.written,
-    )
+    let (names, err, out) = kinds r.steps in
+    (rw names at did.inputs, rw err at did.err.written, rw out at did.out.written)

@@ -1,17 +1,18 @@
 -- `check_lines`: a new checker runs to its end. What happened so far and what remains is the whole behavior
 -- (`HasComeTo`). A step that goes on keeps this. The step that ends or stops proves the contract by it.
 use Rattle.std.proofs.Common.{rules, ◌^◌, ◌-◌, ◌+◌, ◌<◌, ◌≤◌, ◌≡◌, ℕ, length, drop, length-drop, Bool, List, [], ◌∷◌, ◌++◌, Result, Ok, Err, Some, None, true, refl, ap, ◌∙◌, subst, arith, append-nil}
+use Rattle.std.specs.Prelude.{IfErr}
 use Rattle.sum_sources.specs.{Contents.IsSameInput, Contents.IsOf, Contents.reads_past, LineReaders.remaining, LineReaders.IsReading}
-use Rattle.sum_engine.specs.Behavior.{World, Step, Behavior, Content, InputState, clip}
+use Rattle.sum_engine.specs.Behavior.{World, Reads, Step, Behavior, Content, InputState, clip}
 use Rattle.sum_engine.specs.{check.Rules.Rules, check.Rules.LabelsValue, check.Judge.all_verdicts, check.Checking.content_behavior}
 use Rattle.sum_engine.specs.check.CheckStates.{CheckState, initial_state, remaining_behavior}
 use Rattle.sum_engine.specs.check.Verdicts.{IsAtStart, VerdictsValue, state_at, InEachCheck, VerdictResult, LineVerdict, counts_after, IsNotUnread, AsksFor}
 use Rattle.sum_engine.specs.check.Checker.{ReportsFound, Progress, Going, Ended, IsStep, TakesStep, step_then, progress_before, CheckerValue, AdvancesChecker, ends}
 use Rattle.sum_sources.specs.declared.{inputs.phase.Phase.TheVariants.Unfinished, line_reader.LineStop.TheVariants.Fault, line_reader.LineStop.TheVariants.Memory}
-use Rattle.sum_engine.specs.{check.CheckerLaws.RunsManifest, check.ReadAhead.FailsAtStep}
-use Rattle.sum_engine.specs.Execution.{Stop, Write, OutputsState, StreamsState, IsFlushed, Agrees, ReadsToEndIf, world_at, PerformsSteps, StopHasCause}
+use Rattle.sum_engine.specs.{check.CheckerLaws.RunsManifest, check.ReadAhead.StopsAtStep}
+use Rattle.sum_engine.specs.Execution.{Stop, OutputsState, StreamsState, IsFlushed, Agrees, ReadsToEndIf, world_at, PerformsSteps, StopHasCause}
 use Rattle.sum_engine.specs.refinement.FlushedWrites.{outcome_after, WritesAndFlushesBoth, WritesAndReturns}
-use Rattle.sum_engine.proofs.ReadAheadLemmas.{read_fits_clip, fails_at_step}
+use Rattle.sum_engine.proofs.ReadAheadLemmas.{read_fits_clip, stops_at_step}
 use Rattle.sum_engine.proofs.{CountLemmas.counts_then-none, ExecutionLemmas.one_at_most, ExecutionLemmas.stop_after, FlushedWriteLemmas.returned}
 use Rattle.sum_engine.proofs.WorldLemmas.{agrees_before, reads_none, reads_then}
 use Rattle.sum_engine.proofs.BehaviorLemmas.{HasDoneUpTo, done_none, done_more, done_stops}
@@ -27,13 +28,6 @@ remaining-initial r labels c w = rw counts_then-none refl
 state-initial : {I : Type 0} {state : I → InputState} {p : VerdictsValue I} {input : I} → IsAtStart state p input
     → (c : Content) (w : World) → state_at p (remaining p.reader c) w ≡ initial_state (clip c) w
 state-initial start c w = rw (start.reader, start.form, start.counts) refl
-
-behavior-initial : {I : Type 0} {state : I → InputState} {p : VerdictsValue I} {input : I} (r : Rules)
-    (labels : LabelsValue) → IsAtStart state p input → (c : Content) (w : World)
-    → remaining_behavior r labels (state_at p (remaining p.reader c) w)
-    ≡ content_behavior r labels (clip c) (all_verdicts r w (clip c))
-behavior-initial r labels start c w =
-    ap (remaining_behavior r labels) (state-initial start c w) ∙ remaining-initial r labels (clip c) w
 
 -- ---- the step that ends or stops
 
@@ -209,77 +203,74 @@ module _ {I : Type 0} (state : I → InputState) (first : CheckerValue I) (m : S
         taken = omega (arith, h.taken, advances.verdict.reader.taken);
       }
 
-  -- a write failed once the input had given this many bytes, if all of the content remained at the state a
-  abbrev FailsFrom : CheckState → ℕ → StreamsState → Type 0
-  FailsFrom a taken o = a.consumed ≡ 0 → taken ≤ length a.remaining.bytes + 8192
-      → FailsAtStep (left a).steps a.remaining taken m o
+  -- the check of this content, whose behavior is `all`, ended or stopped with x once the input had given so many bytes
+  pub record EndsAs (x : Result Bool Stop) (taken : ℕ) (o : StreamsState) (all : Behavior) (c : Content) : Type 0 where
+    pub performs : PerformsSteps all.steps all.good m o x
+    pub stopped : taken ≤ length c.bytes + 8192 → IfErr x (λ stop. StopsAtStep stop all.steps c taken m o)
 
-  -- a step at which a write failed: at most 8,192 bytes were read past its line
-  HasComeTo-fails : (q last : CheckerValue I) (n o : StreamsState) (vector : List ℕ)
-      → IsAtStart state first.verdicts first.verdicts.reader.input → HasComeTo q n
-      → AdvancesChecker state vector q last n o (Err Write)
-      → TakesStep state vector q.labels q.verdicts last.verdicts n o (Err Write)
-      → let was = (state first.verdicts.reader.input).reads in let now = (state last.verdicts.reader.input).reads in
-      was.phase ≡ Unfinished → (c : Content) → IsOf (reads_past (length was.bytes) now) c → IsFlushed m.outputs
-      → (w : World) → Agrees w o.inputs
-      → FailsAtStep (manifest_behavior first.verdicts.rules first.labels (clip c) (world_at w m.inputs)).steps (clip c)
-      (length (reads_past (length was.bytes) now).bytes) m o
-  HasComeTo-fails q last n o vector start h advances step going c of flushed w agrees =
-      let was = (state first.verdicts.reader.input).reads in
-      let now = (state last.verdicts.reader.input).reads in
-      let taken = last.verdicts.reader.taken in
-      let none : first.verdicts.reader.taken ≡ 0 = rw start.reader refl in
-      let read : length now.bytes - length was.bytes ≡ taken =
-      omega (arith, none, h.taken, advances.verdict.reader.taken) in
-      let before : length was.bytes ≡ length now.bytes - taken =
-      omega (arith, none, h.taken, advances.verdict.reader.taken) in
-      let size : length (drop (length was.bytes) now.bytes) ≡ taken =
-      length-drop (length was.bytes) now.bytes ∙ read in
-      let past = (advances.verdict.reading (h.reading (start.reading going))).past in
-      let fits = rw size at (read_fits_clip now.phase _ c past of (rw size advances.verdict.bounds.taken)) in
-      let here = world_at w m.inputs in
-      let failed : HoldsUpTo last.verdicts o (λ a d. FailsFrom a d.taken o) =
-      one_more_step last o vector (Err Write) h advances step (λ a b d along step none fits.
-      fails_at_step o a b d along.done (omega (arith, along.consumed, none)) step fits) in
-      let from_start : FailsFrom (initial_state (clip c) here) taken o =
-      subst (λ a. FailsFrom a taken o) (state-initial start c here)
-      ((failed flushed).holds (start.reading going) c (subst (λ n. IsOf (reads_past n now) c) before of) w agrees) in
-      rw size (subst (λ (b : Behavior). FailsAtStep b.steps (clip c) taken m o)
-      (remaining-initial first.verdicts.rules first.labels (clip c) here) (from_start refl fits))
-
-  -- The step that ends completes the manifest's behavior. One that stops leaves a prefix of it after a write fault,
-  -- and whole steps if memory ran out. The input was never read past its end or a fault; and to its end, if it is good
-  pub HasComeTo-last : (q last : CheckerValue I) (n o : StreamsState) (vector : List ℕ) (x : Result Bool Stop)
-      → IsAtStart state first.verdicts first.verdicts.reader.input → HasComeTo q n
-      → AdvancesChecker state vector q last n o (ends x)
-      → TakesStep state vector q.labels q.verdicts last.verdicts n o (ends x)
-      → RunsManifest first.verdicts.rules first.labels (state first.verdicts.reader.input)
-      (state last.verdicts.reader.input) m o x
-  HasComeTo-last q last n o vector x start h advances step = record {
-    behavior = λ going c of flushed w agrees.
-        let was = (state first.verdicts.reader.input).reads in
-        let now = (state last.verdicts.reader.input).reads in
-        let none : first.verdicts.reader.taken ≡ 0 = rw start.reader refl in
-        let before : length was.bytes ≡ length now.bytes - last.verdicts.reader.taken =
-        omega (arith, none, h.taken, advances.verdict.reader.taken) in
-        let ended : HoldsUpTo last.verdicts o (λ a d. PerformsSteps (left a).steps (left a).good m o x) =
-        one_more_step last o vector (ends x) h advances step (λ a b d along step.
-        done_last o step.step step.later x along.done step.is step.performs) in
-        let all : left (state_at first.verdicts (remaining first.verdicts.reader c) (world_at w m.inputs))
-        ≡ manifest_behavior first.verdicts.rules first.labels (clip c) (world_at w m.inputs) =
-        behavior-initial first.verdicts.rules first.labels start c (world_at w m.inputs) in
-        subst (λ (b : Behavior). PerformsSteps b.steps b.good m o x) all
-        ((ended flushed).holds (start.reading going) c (subst (λ n. IsOf (reads_past n now) c) before of) w agrees);
-    failed = λ wrote. HasComeTo-fails q last n o vector start h (rw wrote at advances) (rw wrote at step);
-    manifest = λ going.
-        let reading = advances.verdict.reading (h.reading (start.reading going)) in
-        (reading.past, λ good. reading.end (advances.verdict.end (found good).0));
-    same = search rules;
-    cause = cause_ends x h.so_far (step_cause advances);
-    reads = reads_then (λ good. none_unread q.verdicts last.verdicts advances.found advances.verdict.counts
-        (found good).1) h.reads advances.verdict.reads;
-  }
+  -- a step that ends or stops
+  module _ (q last : CheckerValue I) (n o : StreamsState) (vector : List ℕ) (x : Result Bool Stop)
+      (start : IsAtStart state first.verdicts first.verdicts.reader.input) (h : HasComeTo q n)
+      (advances : AdvancesChecker state vector q last n o (ends x))
+      (step : TakesStep state vector q.labels q.verdicts last.verdicts n o (ends x))
     where
-      found : x ≡ Ok true → (advances.found ≡ Ok None) × (last.verdicts.counts.unread ≡ 0)
-      found good = good_found last.verdicts q.labels vector advances.found n.outputs o.outputs
+      abbrev was : Reads
+      was = (state first.verdicts.reader.input).reads
+
+      abbrev now : Reads
+      now = (state last.verdicts.reader.input).reads
+
+      abbrev taken : ℕ
+      taken = last.verdicts.reader.taken
+
+      -- so many bytes were read since the start
+      none : first.verdicts.reader.taken ≡ 0
+      none = rw start.reader refl
+
+      size : length (drop (length was.bytes) now.bytes) ≡ taken
+      size = length-drop (length was.bytes) now.bytes ∙ omega (arith, none, h.taken, advances.verdict.reader.taken)
+
+      reading : was.phase ≡ Unfinished → IsReading state last.verdicts.reader
+      reading going = advances.verdict.reading (h.reading (start.reading going))
+
+      good_at : x ≡ Ok true → (advances.found ≡ Ok None) × (last.verdicts.counts.unread ≡ 0)
+      good_at good = good_found last.verdicts q.labels vector advances.found n.outputs o.outputs
           (rw good at advances.reports)
+
+      -- the check ended or stopped as it does from the first line on
+      from_start : was.phase ≡ Unfinished → (c : Content) → IsOf (reads_past (length was.bytes) now) c
+          → IsFlushed m.outputs → (w : World) → Agrees w o.inputs
+          → EndsAs x taken o (manifest_behavior first.verdicts.rules first.labels (clip c) (world_at w m.inputs)) (clip c)
+      from_start going c of flushed w agrees =
+          let before : length was.bytes ≡ length now.bytes - taken =
+          omega (arith, none, h.taken, advances.verdict.reader.taken) in
+          let ended : HoldsUpTo last.verdicts o (λ a d. a.consumed ≡ 0 → EndsAs x d.taken o (left a) a.remaining) =
+          one_more_step last o vector (ends x) h advances step (λ a b d along step none. record {
+            performs = done_last o step.step step.later x along.done step.is step.performs;
+            stopped = stops_at_step o a b d x along.done (omega (arith, along.consumed, none)) step;
+          }) in
+          let here = world_at w m.inputs in
+          subst (λ all. EndsAs x taken o all (clip c))
+          (remaining-initial first.verdicts.rules first.labels (clip c) here)
+          (subst (λ a. a.consumed ≡ 0 → EndsAs x taken o (left a) a.remaining) (state-initial start c here)
+          ((ended flushed).holds (start.reading going) c (subst (λ n. IsOf (reads_past n now) c) before of) w agrees)
+          refl)
+
+      -- The step that ends completes the manifest's behavior. One that stops leaves a prefix of it after a write fault,
+      -- and whole steps if memory ran out; at most 8,192 bytes were read past its line. The input was never read past
+      -- its end or a fault; and to its end, if it is good
+      pub HasComeTo-last : RunsManifest first.verdicts.rules first.labels (state first.verdicts.reader.input)
+          (state last.verdicts.reader.input) m o x
+      HasComeTo-last = record {
+        behavior = λ going c of flushed w agrees. (from_start going c of flushed w agrees).performs;
+        stopped = λ going c of flushed w agrees.
+            let past = (reading going).past in
+            let fits = read_fits_clip now.phase _ c past of (rw size advances.verdict.bounds.taken) in
+            rw size ((from_start going c of flushed w agrees).stopped (rw size at fits));
+        manifest = λ going.
+            ((reading going).past, λ good. (reading going).end (advances.verdict.end (good_at good).0));
+        same = search rules;
+        cause = cause_ends x h.so_far (step_cause advances);
+        reads = reads_then (λ good. none_unread q.verdicts last.verdicts advances.found advances.verdict.counts
+            (good_at good).1) h.reads advances.verdict.reads;
+      }

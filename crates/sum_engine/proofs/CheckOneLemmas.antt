@@ -1,16 +1,18 @@
 -- `check_one`: a manifest is opened, its checker runs to its end, and it is closed.
-use Rattle.std.proofs.Common.{rules, ◌≡◌, ℕ, Bool, false, List, [], ◌∷◌, Result, Ok, Err, Some, refl, subst, codes, if◌then◌else◌}
-use Rattle.sum_sources.specs.{Contents.unread, Sources.and_opening}
+use Rattle.std.proofs.Common.{rules, ◌≡◌, ℕ, Bool, false, List, [], ◌∷◌, Result, Ok, Err, None, Some, refl, ap, subst, codes, if◌then◌else◌, arith}
+use Rattle.std.specs.Prelude.{IfErr}
+use Rattle.std.proofs.lemmas.Option.{slice_get_past}
+use Rattle.sum_sources.specs.{Contents.unread, Sources.and_opening, Sources.gave_of, Sources.gave_at, Sources.times}
+use Rattle.sum_sources.proofs.GaveLemmas.{gave-times}
 use Rattle.sum_lines.proofs.EventLemmas.{Gets-none}
-use Rattle.sum_engine.specs.Behavior.{Fault, World, is_dash, answer_to, after, Step, events_of, Answer, InputState, SourceState, IsOf, clip}
+use Rattle.sum_engine.specs.Behavior.{Fault, World, is_dash, answer_to, after, Behavior, Step, events_of, trace, Answer, Content, InputState, SourceState, IsOf, clip}
 use Rattle.sum_engine.specs.{check.CheckerLaws.RunsManifest, check.Rules.rules_of, check.Rules.labels_of, check.Judge.own_profile}
 use Rattle.sum_engine.specs.{check.Checking.CheckSettings, check.Checking.check_behavior_by, check.Checking.check_behavior, Generation.name_fault_line}
-use Rattle.sum_engine.specs.check.ReadAhead.{FailsAtLine}
-use Rattle.sum_engine.specs.Execution.{Stop, Memory, Write, OutputsState, StreamsState, world_at, Happened, Performs}
+use Rattle.sum_engine.specs.check.ReadAhead.{StopsAtLine}
+use Rattle.sum_engine.specs.Execution.{Stop, Memory, asked, OutputsState, StreamsState, world_at, Happened, Performs}
 use Rattle.sum_engine.specs.{refinement.FlushedWrites.WritesAndReturns, refinement.Names.MemoryWasRefused}
-use Rattle.sum_engine.proofs.{ExecutionLemmas.Happened-by, ExecutionLemmas.kept_performs, WorldLemmas.world_after}
+use Rattle.sum_engine.proofs.{ExecutionLemmas.Happened-by, ExecutionLemmas.Happened-then, ExecutionLemmas.kept_performs, WorldLemmas.world_after}
 use Rattle.sum_engine.proofs.{BehaviorLemmas.behind_step, BehaviorLemmas.Performs-step, BehaviorLemmas.Performs-refused, CheckLinesLemmas.manifest_behavior}
-use Rattle.sum_engine.proofs.ReadAheadLemmas.{fails_then, fails_kept}
 use Rattle.sum_engine.proofs.OpenedNameLemmas.{WasOpened, fault_asks, fault_answer}
 
 -- the step that opens a manifest of that name
@@ -31,39 +33,51 @@ module _ (settings : CheckSettings) (tool name : List ℕ) (a : StreamsState) wh
   abbrev from_inputs : SourceState → StreamsState
   from_inputs inputs = record a { inputs = inputs }
 
-  -- it was opened, run and closed: the opening happened, and the behavior of the content comes behind it
-  pub check_opened : {Whole : Type 0} (m n : SourceState) (s t : InputState) (b : StreamsState) (x : Result Bool Stop)
-      → s.reads ≡ unread → WasOpened Whole a.inputs m b.inputs n name t
-      → RunsManifest (rules_of settings (is_dash name)) (labels_of settings tool name) s t (from_inputs m) b x
-      → Performed (record b { inputs = n }) x
-  check_opened m n s t b x fresh o run = λ flushed w agrees.
-      let (c, answer, of) = o.answer w agrees in
-      let ran = (rw fresh at run.behavior) refl c of flushed w (o.agrees w agrees) in
-      let did : Happened a (from_inputs m) (events_of (opening name)) =
-      Happened-by (name ∷ []) [] [] o.asks Gets-none Gets-none in
-      let all = manifest_behavior (rules_of settings (is_dash name)) (labels_of settings tool name) (clip c)
-      (world_at w m) in
-      let whole = check_behavior settings tool (world_at w a.inputs) name in
-      kept_performs whole.steps whole.good a b n x o.asked o.refusals
-      (rw (answer, ← world_after w a.inputs m (name ∷ []) o.asks)
-      (behind_step b all.good (opening name) all.steps x did ran))
+  -- where a call stopped
+  abbrev StoppedAt : StreamsState → Result Bool Stop → Type 0
+  StoppedAt b x = IfErr x (λ stop. StopsAtLine stop (λ w. check_behavior settings tool w name) name a b)
 
-  -- if a write failed: at which step, and how far the manifest was read
-  pub check_fails : {Whole : Type 0} (m n : SourceState) (s t : InputState) (b : StreamsState) (x : Result Bool Stop)
-      → s.reads ≡ unread → WasOpened Whole a.inputs m b.inputs n name t
-      → RunsManifest (rules_of settings (is_dash name)) (labels_of settings tool name) s t (from_inputs m) b x
-      → x ≡ Err Write → FailsAtLine (λ w. check_behavior settings tool w name) name a (record b { inputs = n })
-  check_fails m n s t b x fresh o run wrote = λ flushed w agrees c answer r gave.
-      let (d, is, of) = o.answer w agrees in
-      let same : d ≡ c = search (rules, is, answer) in
-      let read : t.reads ≡ r = search (rules, o.gave, gave) in
-      let ran = (rw fresh at run.failed) wrote refl c (subst (λ c. IsOf t.reads c) same of) flushed w (o.agrees w agrees) in
-      let did : Happened a (from_inputs m) (events_of (opening name)) =
-      Happened-by (name ∷ []) [] [] o.asks Gets-none Gets-none in
-      let all = manifest_behavior (rules_of settings (is_dash name)) (labels_of settings tool name) (clip c)
-      (world_at w m) in
-      rw (answer, ← world_after w a.inputs m (name ∷ []) o.asks, ← read)
-      (fails_kept n o.asked o.refusals (fails_then (opening name) did ran))
+  -- it was opened, run and closed: the opening happened, and the behavior of the content comes behind it, or a stop
+  module _ {Whole : Type 0} (m n : SourceState) (s t : InputState) (b : StreamsState) (fresh : s.reads ≡ unread)
+      (o : WasOpened Whole a.inputs m b.inputs n name t)
+    where
+      abbrev Ran : Result Bool Stop → Type 0
+      Ran x = RunsManifest (rules_of settings (is_dash name)) (labels_of settings tool name) s t (from_inputs m) b x
+
+      did : Happened a (from_inputs m) (events_of (opening name))
+      did = Happened-by (name ∷ []) [] [] o.asks Gets-none Gets-none
+
+      abbrev all : Content → World → Behavior
+      all c w = manifest_behavior (rules_of settings (is_dash name)) (labels_of settings tool name) (clip c)
+          (world_at w m)
+
+      pub check_opened : (x : Result Bool Stop) → Ran x → Performed (record b { inputs = n }) x
+      check_opened x run = λ flushed w agrees.
+          let (c, answer, of) = o.answer w agrees in
+          let ran = (rw fresh at run.behavior) refl c of flushed w (o.agrees w agrees) in
+          let whole = check_behavior settings tool (world_at w a.inputs) name in
+          kept_performs whole.steps whole.good a b n x o.asked o.refusals
+          (rw (answer, ← world_after w a.inputs m (name ∷ []) o.asks)
+          (behind_step b (all c w).good (opening name) (all c w).steps x did ran))
+
+      pub check_stops : (x : Result Bool Stop) → Ran x → StoppedAt (record b { inputs = n }) x
+      check_stops (Ok good) run = tt {0}
+      check_stops (Err stop) run = λ flushed w agrees c answer r gave.
+          let (d, is, of) = o.answer w agrees in
+          let same : d ≡ c = search (rules, is, answer) in
+          let read : t.reads ≡ r = search (rules, o.gave, gave) in
+          let ran = (rw fresh at run.stopped) refl c (subst (λ c. IsOf t.reads c) same of) flushed w
+          (o.agrees w agrees) in
+          rw (answer, ← world_after w a.inputs m (name ∷ []) o.asks, ← read) (record {
+            done = opening name ∷ ran.done;
+            next = ran.next;
+            later = ran.later;
+            are = ap (λ steps. opening name ∷ steps) ran.are;
+            between = ran.between;
+            happened = Happened-then (events_of (opening name)) (trace ran.done) did ran.happened;
+            stopped = kept_performs (ran.next ∷ []) (tt {0}) ran.between b n (Err stop) o.asked o.refusals ran.stopped;
+            read = ran.read;
+          })
 
   -- it could not be opened, and the line of its fault was written, or a prefix of it
   pub refused : (m : SourceState) (f : Fault) (outputs : OutputsState) (x : Result Bool Stop)
@@ -76,9 +90,10 @@ module _ (settings : CheckSettings) (tool name : List ℕ) (a : StreamsState) wh
       (λ w agrees. let answer = fault_answer a.inputs m name f opens w agrees in rw answer refl) said
 
   -- and nothing was read of it
-  pub not_read : (m : SourceState) (f : Fault) (outputs : OutputsState) → m ≡ and_opening a.inputs name (Some (Err f))
-      → FailsAtLine (λ w. check_behavior settings tool w name) name a (record a { inputs = m; outputs = outputs })
-  not_read m f outputs opens = λ flushed w agrees c answer r gave.
+  pub not_read : (m : SourceState) (f : Fault) (outputs : OutputsState) (x : Result Bool Stop)
+      → m ≡ and_opening a.inputs name (Some (Err f)) → StoppedAt (record a { inputs = m; outputs = outputs }) x
+  not_read m f outputs (Ok good) opens = tt {0}
+  not_read m f outputs (Err stop) opens = λ flushed w agrees c answer r gave.
       let fault = fault_answer a.inputs m name f opens w agrees in cc
 
   -- there was no memory to open it
@@ -92,3 +107,12 @@ module _ (settings : CheckSettings) (tool name : List ℕ) (a : StreamsState) wh
           (rules_of settings (is_dash name)) (labels_of settings tool name) name w answer).steps ≡ next ∷ rest)
       begins w (Err f) = (_, [], refl)
       begins w (Ok c) = (opening name, _, refl)
+
+  -- so it gave nothing
+  pub not_asked : (m : SourceState) → MemoryWasRefused a.inputs m → StoppedAt (from_inputs m) (Err Memory)
+  not_asked m refused = λ flushed w agrees c answer r gave.
+      let past = slice_get_past (gave_of a.inputs.openings name) (times name (asked a.inputs))
+      (rw gave-times (omega arith)) in
+      let none : gave_at a.inputs.openings name (times name (asked a.inputs)) ≡ None = rw past refl in
+      let some = rw refused at gave in
+      cc

@@ -72,19 +72,23 @@ step_performed {A} {a} {b} {names} {err} {out} {x} remaining asked flushed said 
         let did = Happened-by names _ h.0 asked all h.3 in
         rw append-nil (events_by names (output_events err) h.0, rest, search (rules, map-append, append_assoc), did)
 
--- memory ran out at the first step, and nothing happened but perhaps a refusal
+-- memory was refused for the first step, or bytes of the manifest remained, and nothing happened
 pub refused_first : {a b : StreamsState} {steps : List Step} (next : Step) (later : List Step) → steps ≡ next ∷ later
-    → with_refusals a.inputs.refusals b ≡ a
-    → (b.inputs.refusals ≡ a.inputs.refusals + 1)
-    ⊎ ((b.inputs.refusals ≡ a.inputs.refusals) × (0 < next.remaining)) → RunsOutOfMemory steps a b
-refused_first {a} next later are same cause = record {
-  done = [];
-  next = next;
-  later = later;
-  are = are;
-  happened = rw same (Happened-none a);
-  cause = cause;
-}
+    → b.outputs ≡ a.outputs → MemoryWasRefused a.inputs b.inputs ⊎ ((b.inputs ≡ a.inputs) × (0 < next.remaining))
+    → RunsOutOfMemory steps a b
+refused_first {a} {b} next later are outputs refused =
+    let same : with_refusals a.inputs.refusals b ≡ a = elim refused [
+      | inl one ↦ rw (one, outputs) refl
+      | inr none ↦ rw (none.0, outputs) refl
+    ] in
+    record {
+      done = [];
+      next = next;
+      later = later;
+      are = are;
+      happened = rw same (Happened-none a);
+      cause = elim refused [ inl one ↦ inl (rw one refl) | inr none ↦ inr (rw none.0 refl, none.1) ];
+    }
 
 -- ---- the cause of a stop
 

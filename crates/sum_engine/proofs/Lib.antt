@@ -1,5 +1,6 @@
 pub mod WorldLemmas
 pub mod OpenedNameLemmas
+pub mod HashLemmas
 pub mod ExecutionLemmas
 pub mod GenerateLemmas
 pub mod FlushedWriteLemmas

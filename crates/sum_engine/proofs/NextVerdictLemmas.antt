@@ -1,9 +1,10 @@
 -- `Verdicts::next`: the next verdict of a manifest, by what reading and judging its line did.
-use Rattle.std.proofs.Common.{rules, ◌≡◌, ◌∙◌, ℕ, ◌+◌, List, Ok, Err, Result, IfOk, refl, inl, inr, ◌∷◌, ap, sym, arith}
+use Rattle.std.proofs.Common.{rules, ◌≡◌, ◌∙◌, ℕ, ◌+◌, List, Ok, Err, Result, IfOk, Some, refl, inl, inr, ◌∷◌, ap, sym, arith, length, length-drop, ◌≤◌}
 use Rattle.std.specs.Prelude.{◌⊎◌}
-use Rattle.sum_sources.specs.declared.{line_reader.Next.TheVariants.Line, line_reader.LineReader.LineReader}
-use Rattle.sum_sources.specs.LineReaders.{AdvancesLines, IsBounded, IsReading, ReadsOn, remaining}
-use Rattle.sum_sources.specs.ManifestLines.{lines}
+use Rattle.sum_sources.specs.declared.{line_reader.Next.TheVariants.Line, line_reader.LineReader.LineReader, line_reader.LineStop.LineStop}
+use Rattle.sum_sources.specs.LineReaders.{AdvancesLines, IsBounded, IsReading, ReadsOn, consumed_count, reads_of, remaining}
+use Rattle.sum_sources.specs.{Contents.IsOf, ManifestLines.lines, ManifestLines.past_line}
+use Rattle.sum_sources.specs.declared.line_reader.LineStop.TheVariants.{Fault, Memory}
 use Rattle.sum_sources.proofs.LineLemmas.{line-some}
 use Rattle.sum_engine.specs.{check.Rules.Rules, check.CheckStates.CheckState, check.CheckStates.HandlesLine, check.CheckStates.next_judged}
 use Rattle.sum_engine.specs.check.Judge.{lines_under, line_verdict, asks_of, form_then, line_form, own_profile}
@@ -24,61 +25,99 @@ lines_now r c h = rw h refl
 
 -- ---- a line was read
 
--- the reader of p read a line, and became this one; the line was then judged, which led to q
-module _ {I : Type 0} (state : I → InputState) (p q : VerdictsValue I) (reader : LineReader I) (a b : SourceState)
-    (line vector : List ℕ) (lines : AdvancesLines state p.reader reader (Ok Line))
-    (bounds : IsBounded reader) (reads : IsReading state p.reader → ReadsOn state p.reader reader (Ok Line) line)
-  where
-    -- the value once the line was judged
-    abbrev judged : Result LineVerdict NoRoom → VerdictsValue I
-    judged x = record q {
-      rules = p.rules;
-      reader = reader;
-      form = form_then p.form (line_form p.rules.algo line);
-      counts = counts_after p.counts (found_verdict x);
-    }
+-- the reader of p read a line, and the line was then judged, which gave x and led to q
+pub record JudgesLine {I : Type 0} (state : I → InputState) (p q : VerdictsValue I) (a b : SourceState)
+    (vector : List ℕ) (x : Result LineVerdict NoRoom) : Type 0 where
+  pub reader : LineReader I  -- after the line
+  pub line : List ℕ
+  pub advances : AdvancesLines state p.reader reader (Ok Line)
+  pub bounds : IsBounded reader
+  pub reads : IsReading state p.reader → ReadsOn state p.reader reader (Ok Line) line
+  pub profile : p.rules.profile ≡ own_profile
+  pub judged : VerdictsValue I  -- before the outcome was kept
+  pub takes : TakesLine (record p { reader = reader }) judged line vector x
+  pub kept : q ≡ record judged { outcome = q.outcome }
+  pub asked : AsksFor vector a b (found_verdict x)
+  pub verdict : (w : World) → Agrees w b → IfOk x (λ v. line_verdict_value vector v
+      ≡ line_verdict p.rules (world_at w a) reader.lines (parsed_at p line))
 
-    -- The line is the first of those that remained. Or memory to open its file was refused, and it remained. r is the
-    -- value after judging, before the outcome was kept
-    pub next_verdict-line : p.rules.profile ≡ own_profile → (r : VerdictsValue I) → q ≡ record r { outcome = q.outcome }
-        → (x : Result LineVerdict NoRoom) → TakesLine (record p { reader = reader }) r line vector x
-        → AsksFor vector a b (found_verdict x)
-        → ((w : World) → Agrees w b → IfOk x (λ v. line_verdict_value vector v
-        ≡ line_verdict p.rules (world_at w a) reader.lines (parsed_at p line)))
-        → InEachCheck state p q a b (λ c d. IsNextVerdict p.rules vector c d (found_verdict x))
-    next_verdict-line now r same (Ok found) takes asked said =
-        let is : q ≡ judged (Ok found) =
-        same ∙ ap (λ (r : VerdictsValue I). record r { outcome = q.outcome }) takes.now in
-        rw is (record {
-          holds = λ reading c of w agrees.
-              let next = (reads reading).line c of in
-              let number : reader.lines ≡ p.reader.lines + 1 = lines.lines in
-              let first : CheckState = state_at p (remaining p.reader c) (world_at w a) in
-              let last : CheckState = state_at (judged (Ok found)) (remaining reader c) (world_at w b) in
-              let f : next_judged p.rules first line ≡ line_verdict_value vector found =
-              sym (rw number at (said w agrees)) in
-              let handled : HandlesLine p.rules first last vector = record {
-                line = line;
-                lines = lines_now p.rules (remaining p.reader c) now ∙ next.0
-                    ∙ ap (λ l. line ∷ l) (sym (lines_now p.rules (remaining reader c) now));
-                remaining = next.1;
-                consumed = (reads reading).sum Line refl c of;
-                taken = omega (arith, bounds.ahead);
-                number = number;
-                form = refl;
-                counts = rw f refl;
-                vector_len = takes.len;
-              } in
-              let world : world_at w b ≡ after (world_at w a) (asks_of (line_verdict_value vector found)) =
-              world_after w a b _ asked in
-              (search (rules, remaining_next p.rules first last vector handled, f, world), handled);
-        })
-    next_verdict-line now r same (Err e) takes asked said =
-        let is : q ≡ judged (Err e) =
-        same ∙ ap (λ (r : VerdictsValue I). record r { outcome = q.outcome }) takes.now in
-        rw is (record {
-          holds = λ reading c of w agrees. (
-            refused_world w a b asked,
-            line-some (remaining p.reader c) (remaining reader c) line ((reads reading).line c of),
-          );
-        })
+module _ {I : Type 0} {state : I → InputState} {p q : VerdictsValue I} {a b : SourceState} {vector : List ℕ} where
+  -- the value after it
+  abbrev after_line : {x : Result LineVerdict NoRoom} → JudgesLine state p q a b vector x → VerdictsValue I
+  after_line {x} h = record q {
+    rules = p.rules;
+    reader = h.reader;
+    form = form_then p.form (line_form p.rules.algo h.line);
+    counts = counts_after p.counts (found_verdict x);
+  }
+
+  is_after : {x : Result LineVerdict NoRoom} (h : JudgesLine state p q a b vector x) → q ≡ after_line h
+  is_after h = h.kept ∙ ap (λ (r : VerdictsValue I). record r { outcome = q.outcome }) h.takes.now
+
+  -- the line is the first of those that remained; or memory to open its file was refused, and it remained
+  pub next_verdict-line : (x : Result LineVerdict NoRoom) → JudgesLine state p q a b vector x
+      → InEachCheck state p q a b (λ c d. IsNextVerdict p.rules vector c d (found_verdict x))
+  next_verdict-line (Ok found) h = rw (is_after h) (record {
+    holds = λ reading c of w agrees.
+        let reads = h.reads reading in
+        let next = reads.line c of in
+        let first : CheckState = state_at p (remaining p.reader c) (world_at w a) in
+        let last : CheckState = state_at (after_line h) (remaining h.reader c) (world_at w b) in
+        let f : next_judged p.rules first h.line ≡ line_verdict_value vector found =
+        sym (rw h.advances.lines at (h.verdict w agrees)) in
+        let handled : HandlesLine p.rules first last vector = record {
+          line = h.line;
+          lines = lines_now p.rules (remaining p.reader c) h.profile ∙ next.0
+              ∙ ap (λ l. h.line ∷ l) (sym (lines_now p.rules (remaining h.reader c) h.profile));
+          remaining = next.1;
+          consumed = reads.sum Line refl c of;
+          taken = omega (arith, h.bounds.ahead);
+          number = h.advances.lines;
+          form = refl;
+          counts = rw f refl;
+          vector_len = h.takes.len;
+        } in
+        let world : world_at w b ≡ after (world_at w a) (asks_of (line_verdict_value vector found)) =
+        world_after w a b _ h.asked in
+        (search (rules, remaining_next p.rules first last vector handled, f, world), handled);
+  })
+  next_verdict-line (Err e) h = rw (is_after h) (record {
+    holds = λ reading c of w agrees.
+        let reads = h.reads reading in
+        let next = reads.line c of in
+        let left = ap (λ (c : Content). length c.bytes) next.1 in (
+          refused_world w a b h.asked,
+          line-some (remaining p.reader c) (remaining h.reader c) h.line next,
+          omega (arith, h.bounds.ahead, reads.sum Line refl c of, left),
+        );
+  })
+
+-- ---- no line was read
+
+-- a reader that was refused memory for its line read at most 8192 bytes past it
+pub reads_one_line : {I : Type 0} {state : I → InputState} (old new : LineReader I) (bytes : List ℕ)
+    → ReadsOn state old new (Err Memory) bytes → new.final_answer ≡ Some (Err Memory) → IsBounded new → (c : Content)
+    → IsOf (reads_of state new) c → new.taken + length (past_line (remaining old c)).bytes
+    ≤ consumed_count old + length (remaining old c).bytes + 8192
+reads_one_line old new bytes reads final bounds c of =
+    let (some, same) = reads.line c of in
+    let more = (reads.reading.final (Err Memory) final bytes c of).0 in
+    omega (arith, some, more, bounds.ahead, ap (λ (c : Content). length c.bytes) same, length-drop {A = ℕ})
+
+-- the reader of p stopped
+pub next_verdict-stop : {I : Type 0} {state : I → InputState} {p q : VerdictsValue I} {a : SourceState}
+    (vector : List ℕ) (r : Rules) → r ≡ p.rules → (reader : LineReader I) (stop : LineStop) (bytes : List ℕ)
+    → (IsReading state p.reader → ReadsOn state p.reader reader (Err stop) bytes)
+    → reader.final_answer ≡ Some (Err stop) → IsBounded reader → p.rules.profile ≡ own_profile
+    → q ≡ record p { reader = reader; outcome = Some (Err stop) }
+    → InEachCheck state p q a a (λ c d. IsNextVerdict r vector c d (Err stop))
+next_verdict-stop {p = p} vector r rules reader (Fault f) bytes reads final bounds profile is = rw (is, rules) (record {
+  holds = λ reading c of w agrees.
+      let next = (reads reading).line c of in
+      search (rules, lines_now p.rules (remaining p.reader c) profile, next);
+})
+next_verdict-stop {p = p} vector r rules reader Memory bytes reads final bounds profile is = rw is (record {
+  holds = λ reading c of w agrees.
+      let read = reads reading in
+      (refl, (read.line c of).0, reads_one_line p.reader reader bytes read final bounds c of);
+})

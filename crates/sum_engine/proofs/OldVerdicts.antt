@@ -5,8 +5,8 @@ use Rattle.sum_engine.specs.{check.Rules.LabelsValue, check.Rules.Rules, check.C
 use Rattle.sum_engine.specs.check.Judge.{Algos, Form, LineVerdictValue, line_verdict, asks_of, verdicts, all_verdicts, form, own_profile, ParsedLine, bad, parse_line}
 use Rattle.sum_engine.specs.check.Reports.{Report, Counts, out_of, err_of, end_text}
 use Rattle.sum_engine.specs.Behavior.{Ending, Whole, Broken, World, after, Content}
-use Rattle.sum_sources.specs.ManifestLines.{raw_lines, last_line, past_line, bytes_of_lines}
-use Rattle.sum_sources.proofs.CutLemmas.{cut, raw_lines-joined}
+use Rattle.sum_sources.specs.ManifestLines.{raw_lines, last_line, past_line}
+use Rattle.sum_sources.proofs.CutLemmas.{bytes_of_lines, cut, raw_lines-joined}
 use Rattle.sum_engine.specs.check.OldVerdicts.{older_profile, rules_under, HasNoCarriageReturn, NamesNoCarriageReturn, IsOldManifest, OldVerdicts, OlderDiffers}
 use Rattle.sum_lines.proofs.{EntryLemmas.entry-not_ignored, ParsedLineLemmas.bad_exactly}
 use Rattle.sum_engine.proofs.OldNames.{front_clean, rest_clean, same_escape, CleanParsedLine, parse_line_same}

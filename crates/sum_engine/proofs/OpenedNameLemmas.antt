@@ -1,18 +1,12 @@
--- `hash_name` and `check_one`: a name is opened, read and closed, and in between other calls may open names.
-use Rattle.std.proofs.Common.{rules, ap, refl, ◌≡◌, ◌∙◌, [], ◌∷◌, ◌++◌, ℕ, List, Result, Ok, Err, None, Some, IfOk, append_assoc}
-use Rattle.std.specs.Prelude.{length, MatchResult}
+-- `check_one`: a name is opened, read and closed, and in between other calls may open names.
+use Rattle.std.proofs.Common.{refl, ◌≡◌, ◌∙◌, [], ◌∷◌, ◌++◌, ℕ, List, Ok, Err, None, Some, append_assoc}
 use Rattle.std.proofs.lemmas.{List.map-append, List.Elements.All-cons}
-use Rattle.digest_kinds.specs.Kinds.{KindValue, digest}
-use Rattle.sum_sources.specs.Contents.{Reads, IsOf, IsSameInput, HashesInput, clip}
-use Rattle.sum_sources.specs.Sources.{Opening, ToldAnswers, opened_file, and_opening, after_opening, after_closing, IsOpen}
-use Rattle.sum_sources.specs.declared.sources.source.OpenFault.{OpenFault}
+use Rattle.sum_sources.specs.Contents.{IsOf, IsSameInput}
+use Rattle.sum_sources.specs.Sources.{Opening, ToldAnswers, opened_file, and_opening, after_closing, IsOpen}
 use Rattle.sum_sources.proofs.GaveLemmas.{closed-seam, gave-seam}
-use Rattle.sum_engine.specs.Behavior.{World, Answer, Content, Whole, Broken, Fault, InputState, SourceState, answer_to, times}
+use Rattle.sum_engine.specs.Behavior.{World, Content, Fault, InputState, SourceState, answer_to, times}
 use Rattle.sum_engine.specs.Execution.{Agrees, world_at, asked, gave_at, AsksNames, IsAtEndIf, ReadsFile, ReadsToEndIf}
-use Rattle.sum_engine.specs.refinement.Names.{HashFault, IsHashOf, HashesName, fault_of_opening}
-use Rattle.sum_engine.specs.declared.hash_name.HashFault.TheVariants as hashing
-use Rattle.sum_sources.specs.declared.sources.source.OpenFault.TheVariants as faults
-use Rattle.sum_engine.proofs.WorldLemmas.{agrees_open, opening_agrees, asks_one, reads_none, reads_fault}
+use Rattle.sum_engine.proofs.WorldLemmas.{agrees_open, opening_agrees, asks_one}
 
 -- the name was asked; over the opening, some calls and the closing all was read so; and what was read of it is of its
 -- answer, in each world that agrees
@@ -72,51 +66,3 @@ module _ (a m : SourceState) (name : List ℕ) (f : Fault) (opens : m ≡ and_op
 
   pub fault_answer : (w : World) → Agrees w m → answer_to (world_at w a) name ≡ Err f
   fault_answer w agrees = opening_agrees agrees a.openings [] name (Err f) (rw opens refl)
-
--- ---- hashing
-
--- what hashing a name gives, by what hashing the input gave
-abbrev pub hash_of : Result (List ℕ) Fault → Result (List ℕ) HashFault
-hash_of (Ok d) = Ok d
-hash_of (Err f) = Err (hashing.NotRead f)
-
-hash_is : (kind : KindValue) (r : Reads) (found : Result (List ℕ) Fault)
-    → ((c : Content) → IsOf r c → MatchResult found
-    (λ d. ((clip c).ending ≡ Whole) × (d ≡ digest kind (clip c).bytes)) (λ f. (clip c).ending ≡ Broken f))
-    → (x : Answer) → (c : Content) × (x ≡ Ok c) × IsOf r c
-    → IsHashOf kind x (hash_of found)
-hash_is kind r (Ok d) hashes x (c, is, of) = let h = hashes c of in rw is (search rules)
-hash_is kind r (Err f) hashes x (c, is, of) = let h = hashes c of in rw is (search rules)
-
-module _ (tells : ToldAnswers) {name : List ℕ} {a m b n : SourceState} {s : InputState} (t : InputState)
-    (is : s ≡ opened_file tells a name) (opens : m ≡ and_opening a name None) (kept : b ≡ m) (closes : n ≡ after_closing b t)
-  where
-    -- it was opened, and only read before it was closed
-    hashed_once : {Whole : Type 0} → IsSameInput s t → IsAtEndIf Whole t.reads → WasOpened Whole a m m n name t
-    hashed_once same read = was_opened tells is opens same read (reads_none m)
-        (closes ∙ ap (λ (m : SourceState). after_closing m t) kept)
-
-    -- it was hashed, or that failed
-    pub name_hashed : {kind : KindValue} (found : Result (List ℕ) Fault) → HashesInput kind s t found
-        → IfOk found (λ d. length d ≡ kind.len) → HashesName kind name a n (hash_of found)
-    name_hashed {kind} (Ok d) h len =
-        let fresh = ap (λ (s : InputState). s.reads) is in
-        let phase = ap (λ (r : Reads). r.phase) fresh in
-        let o : WasOpened (Unit {0}) a m m n name t = hashed_once h.same (h.past phase, λ u. h.end phase) in
-        let hash = λ (w : World) (agrees : Agrees w n).
-        hash_is kind t.reads (Ok d) ((rw fresh at h.digest) refl) _ (o.answer w agrees) in
-        search rules
-    name_hashed {kind} (Err f) h len =
-        let fresh = ap (λ (s : InputState). s.reads) is in
-        let phase = ap (λ (r : Reads). r.phase) fresh in
-        let o : WasOpened ⊥ a m m n name t = hashed_once h.same (h.past phase, λ u. absurd u) in
-        let hash = λ (w : World) (agrees : Agrees w n).
-        hash_is kind t.reads (Err f) ((rw fresh at h.digest) refl) _ (o.answer w agrees) in
-        search rules
-
--- it could not be opened
-pub name_not_opened : (F : Type 0) {kind : KindValue} {name : List ℕ} {a m : SourceState} (f : OpenFault)
-    → m ≡ after_opening {F = F} a name (Err f) → HashesName kind name a m (Err (fault_of_opening f))
-name_not_opened F {name = name} {a = a} {m = m} (faults.Fault f) opens =
-    search (rules, fault_answer a m name f opens, fault_asks a m name f opens, reads_fault)
-name_not_opened F faults.Memory refused = search rules

@@ -1,12 +1,12 @@
 -- The verdicts and the behavior that remain, after one line and the next.
-use Rattle.std.proofs.Common.{rules, ◌≡◌, ℕ, zero, suc, ◌+◌, Bool, List, [], ◌∷◌, length, refl}
+use Rattle.std.proofs.Common.{rules, arith, ◌≡◌, ◌≤◌, ℕ, zero, suc, ◌+◌, List, [], ◌∷◌, length, refl, ap, ◌∙◌}
 use Rattle.sum_lines.proofs.EntryLemmas.{form_next, parse_stays}
 use Rattle.sum_engine.specs.Behavior.{after, Ending, Step, Behavior, Content}
 use Rattle.sum_engine.specs.{check.Rules.Rules, check.Rules.LabelsValue, check.Checking.line_steps}
 use Rattle.sum_engine.specs.check.Judge.{lines_under, LineVerdictValue, asks_of, verdicts, parse_line, past_line, past_lines, form, form_then, line_form}
 use Rattle.sum_engine.specs.check.Reports.{Counts, counts_of, out_of, err_of, end_text, good}
 use Rattle.sum_engine.specs.check.CheckStates.{counts_with, counts_then, CheckState, HandlesLine, next_judged, remaining_verdicts, remaining_behavior}
-use Rattle.sum_engine.specs.check.Checker.{Going, step_then, progress_before}
+use Rattle.sum_engine.specs.{check.Checker.Going, check.Checker.step_then, check.Checker.progress_before, check.ReadAhead.remaining_before}
 
 -- what a line says by the form of all lines is what it says by the form so far and its own
 parse_line_now : (r : Rules) (a : CheckState) (l : List ℕ) (ls : List (List ℕ)) →
@@ -47,12 +47,21 @@ behavior_by-cons : (r : Rules) (labels : LabelsValue) (e : Ending) (k : Counts) 
     (behavior_by r labels e (counts_with k j.verdict) (past_line c) js)
 behavior_by-cons r labels e k c j js = search rules
 
--- or with that of the end; before it all of the content remains
+-- or with that of the end; before it all of the content remains, and after it at most what is past the first line
 pub first_step : (r : Rules) (labels : LabelsValue) (e : Ending) (k : Counts) (c : Content)
     (js : List LineVerdictValue) → (s : Step) × (later : Behavior)
     × (behavior_by r labels e k c js ≡ step_then s later) × (s.remaining ≡ length c.bytes)
-first_step r labels e k c [] = (_, record { steps = []; good = good r e (counts_then k (counts_of [])) }, refl, refl)
-first_step r labels e k c (j ∷ js) = (_, _, behavior_by-cons r labels e k c j js, refl)
+    × (remaining_before later.steps ≤ length (past_line c).bytes)
+first_step r labels e k c [] =
+    (_, record { steps = []; good = good r e (counts_then k (counts_of [])) }, refl, refl, omega arith)
+first_step r labels e k c (j ∷ js) =
+    let (s, later, is, before, after) = first_step r labels e (counts_with k j.verdict) (past_line c) js in (
+      _,
+      _,
+      behavior_by-cons r labels e k c j js,
+      refl,
+      rw (ap (λ (q : Behavior). remaining_before q.steps) is, before) (omega arith),
+    )
 
 -- a line was found, which is the first of those that remained
 pub found_first : (r : Rules) (labels : LabelsValue) (a b : CheckState) (j : LineVerdictValue)
@@ -66,13 +75,15 @@ found_first r labels a b j first counted remaining = search rules
 pub going-before : (r : Rules) (labels : LabelsValue) (a : CheckState)
     → let left = remaining_behavior r labels a in progress_before left.steps left.good ≡ Going
 going-before r labels a =
-    let js = remaining_verdicts r a in
-    by (end_text r labels a.remaining.ending (counts_then a.counts (counts_of js))) a.remaining js _
-  where
-    by : (end : List ℕ) (c : Content) (js : List LineVerdictValue) (good : Bool)
-        → progress_before (line_steps r labels end c js) good ≡ Going
-    by end c [] good = refl
-    by end c (j ∷ js) good = refl
+    let first = first_step r labels a.remaining.ending a.counts a.remaining (remaining_verdicts r a) in
+    ap (λ (q : Behavior). progress_before q.steps q.good) first.2
+
+-- and before it the bytes remain that do
+pub remaining_before-left : (r : Rules) (labels : LabelsValue) (a : CheckState)
+    → remaining_before (remaining_behavior r labels a).steps ≡ length a.remaining.bytes
+remaining_before-left r labels a =
+    let first = first_step r labels a.remaining.ending a.counts a.remaining (remaining_verdicts r a) in
+    ap (λ (q : Behavior). remaining_before q.steps) first.2 ∙ first.3
 
 -- contents past so many lines
 pub past_next : (k : ℕ) (c : Content) → past_line (past_lines k c) ≡ past_lines (suc k) c

@@ -1,11 +1,12 @@
 -- `judge`: the verdict of an entry, by what hashing its name gave.
 use Rattle.std.proofs.Common.{◌≡◌, List, ℕ, Bool, false, Result, Err, IfOk}
-use Rattle.sum_engine.specs.declared.hash_name.HashFault.TheVariants.{NotRead}
+use Rattle.sum_sources.specs.declared.sources.hash_file.HashFault.TheVariants.{Read}
 use Rattle.sum_engine.specs.{check.Judge.Verdict, check.Reports.is_unread, refinement.Judging.verdict_of_hash}
-use Rattle.sum_engine.specs.refinement.Names.{HashFault, NoRoom, IsNotBroken}
+use Rattle.sum_engine.specs.refinement.Names.{HashFault, NoRoom}
+use Rattle.sum_engine.proofs.HashLemmas.{IsNotBroken}
 
 -- the verdict says that the file could not be read, if reading it failed
 pub verdict_read : (ignore : Bool) (digest : List ℕ) (found : Result (List ℕ) HashFault) (x : Result Verdict NoRoom)
     → x ≡ verdict_of_hash ignore digest found → IfOk x (λ v. is_unread v ≡ false) → IsNotBroken found
-verdict_read ignore digest (Err (NotRead f)) x is read = let seen = rw is at read in cc
+verdict_read ignore digest (Err (Read f)) x is read = let seen = rw is at read in cc
 verdict_read ignore digest found x is read = tt

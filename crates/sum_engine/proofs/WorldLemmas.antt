@@ -67,14 +67,14 @@ reads_then {K = K} {a = a} {b = b} {c = c} f g h =
       );
     }
 
--- a name could not be opened
-pub reads_fault : {Whole : Type 0} (a b : SourceState) (name : List ℕ) (f : Fault)
-    → b ≡ and_opening a name (Some (Err f)) → ReadsToEndIf Whole a b
-reads_fault {Whole} a b name f is =
-    let o : Opening = record { name = name; gave = Some (Err f) } in
+-- a name was opened, which gave this
+pub reads_one : {Whole : Type 0} (a b : SourceState) (name : List ℕ) (gave : Result Reads Fault)
+    → b ≡ and_opening a name (Some gave) → IfOk gave (IsAtEndIf Whole) → ReadsToEndIf Whole a b
+reads_one {Whole} a b name gave is read =
+    let o : Opening = record { name = name; gave = Some gave } in
     record {
       told = rw is refl;
-      openings = (o ∷ [], rw is refl, All-cons (ReadsFile Whole) o [] (Err f, refl, tt) (All-nil (ReadsFile Whole)));
+      openings = (o ∷ [], rw is refl, All-cons (ReadsFile Whole) o [] (gave, refl, read) (All-nil (ReadsFile Whole)));
     }
 
 -- ---- worlds

@@ -3,9 +3,9 @@ ghost use Rattle.std.specs.Prelude.{◌≡◌, [], ◌∷◌, length, true, Ok};
 ghost use Rattle.sum_engine.specs.Execution.{IsFlushed, FailuresMatch, RefusalsMatch, Performs, ReadsToEndIf};
 ghost use Rattle.sum_engine.specs.Generation.{generate_behavior};
 ghost use Rattle.sum_engine.specs.refinement.FlushedWrites.{WritesAndFlushesBoth};
+ghost use Rattle.sum_engine.specs.refinement.Names.{fault_in};
 ghost use Rattle.sum_lines.specs.Lines.{line};
 
-use crate::hash_name::hash_name;
 use crate::put_flushed::{outcome_after, put_name_fault_line};
 use crate::reader::Reader;
 use crate::settings::Settings;
@@ -13,7 +13,7 @@ use crate::stop::Stop;
 use crate::streams::{Outputs, Streams};
 use digest_kinds::Digest;
 use sum_lines::{Sink, SinkFault, put_line};
-use sum_sources::Source;
+use sum_sources::{Fault, HashFault, NoRoom, OpenFault, Source};
 
 /// Hashes the file of this name. Its line goes to `out`, or a line with the fault to `err`
 /// (coreutils manual, "md5sum invocation"), and is flushed. Returns true only if the file was read to its end.
@@ -37,16 +37,26 @@ pub fn generate_one<S: Source, O: Sink, E: Sink>(
     ensures refusals { RefusalsMatch (1 ∷ []) streams.old.inputs streams.new.inputs result }
     ensures failures { FailuresMatch streams.old.outputs streams.new.outputs result }
 {
-    match hash_name(settings.kind, name, &mut streams.inputs) {
+    match streams.inputs.hash_file(settings.kind, name) {
         Ok(digest) => {
             let written = put_line_flushed(&mut streams.outputs, settings, name, &digest);
             outcome_after(written, true)
         }
         Err(failed) => {
-            let fault = failed.fault()?;
+            let fault = fault_of(failed)?;
             let written = put_name_fault_line(&mut streams.outputs, tool, name, fault);
             outcome_after(written, false)
         }
+    }
+}
+
+// The fault of opening or reading. Returns `NoRoom` if memory was refused.
+fn fault_of(failed: HashFault) -> Result<Fault, NoRoom>
+    ensures { result ≡ fault_in failed }
+{
+    match failed {
+        HashFault::Open(OpenFault::Fault(fault)) | HashFault::Read(fault) => Ok(fault),
+        HashFault::Open(OpenFault::Memory) => Err(NoRoom),
     }
 }
 

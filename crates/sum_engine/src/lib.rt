@@ -22,7 +22,6 @@
 
 mod check;
 mod generate;
-mod hash_name;
 pub mod laws;
 mod put_flushed;
 mod reader;

@@ -1,11 +1,10 @@
 //! What a call opens and reads through.
 ghost use Rattle.std.specs.Prelude.{◌≡◌, length, IfOk};
-ghost use Rattle.sum_sources.specs.Contents.{HashesInput};
-ghost use Rattle.sum_sources.specs.Sources.{IsOpen, after_closing, after_opening, opened_file};
+ghost use Rattle.sum_sources.specs.Sources.{HashesFile, IsOpen, after_closing, after_opening, opened_file};
 
 use digest_kinds::{AnyHasher, Digest, Kind};
 use std::marker::{Model, PhantomData};
-use sum_sources::{Fault, Input, OpenFault, PIECE, Source, hash_input_over};
+use sum_sources::{HashFault, OpenFault, PIECE, Source, hash_file_over};
 
 /// A source, and what its files are read into.
 #[derive(Debug, Drop)]
@@ -54,13 +53,16 @@ impl<S: Source> Reader<S> {
         self.source.close_file(file);
     }
 
-    /// Hashes an open file, piece by piece, to its end. The caller passes in the open file, which isn't opened again
-    /// after a fault.
-    pub(crate) fn hash<F: Input>(&mut self, file: &mut F, kind: Kind) -> Result<Digest, Fault>
-        ensures hashes { HashesInput kind (F.state file.old) (F.state file.new) result }
+    /// Hashes the file of that name: opens it in the source, reads it once, to its end or its first fault, and closes it.
+    pub(crate) fn hash_file(&mut self, kind: Kind, name: &[u8]) -> Result<Digest, HashFault>
+        ensures hashed { HashesFile kind name.now self.old self.new result }
         ensures len { IfOk result (λ d. length d ≡ kind.len) }
-        ensures same { self.new ≡ self.old }
     {
-        hash_input_over(file, AnyHasher::new(kind), &mut self.buffer)
+        hash_file_over(
+            &mut self.source,
+            name,
+            AnyHasher::new(kind),
+            &mut self.buffer,
+        )
     }
 }

@@ -1,7 +1,7 @@
 -- Pieces and lines at the steps of the line reader.
 use Rattle.std.{proofs.lemmas.Grind.common_steps, proofs.lemmas.List.append-nil, proofs.lemmas.List.Splits.slice_split_at, proofs.lemmas.List.Splits.slice_split_none, proofs.lemmas.List.Splits.length-slice_split, specs.List.after_first, specs.Str.Lines.strip_carriage_return, proofs.lemmas.List.Elements.All-head, proofs.lemmas.List.Elements.All-tail}
 use Rattle.std.proofs.Common.{◌≡◌, ℕ, ◌<◌, false, List, [], ◌∷◌, ◌++◌, length, map, Ok, Err, refl, ap, append_assoc, arith, ◌==◌, rules}
-use Rattle.sum_sources.specs.{Faults.Fault, Contents.Ending, Contents.Broken, Contents.Content, Contents.empty_content, ManifestLines.Line, ManifestLines.last_line, ManifestLines.raw_lines, ManifestLines.lines, ManifestLines.HasNoNewline, ManifestLines.IsNextLine}
+use Rattle.sum_sources.specs.{Faults.Fault, Contents.Ending, Contents.Broken, Contents.Content, Contents.empty_content, ManifestLines.Line, ManifestLines.last_line, ManifestLines.raw_lines, ManifestLines.lines, ManifestLines.past_line, ManifestLines.HasNoNewline, ManifestLines.IsNextLine}
 use Rattle.sum_sources.proofs.ContentLemmas.{with_prefix}
 use Rattle.sum_sources.specs.declared.line_reader.LineStop.TheVariants as stops
 
@@ -24,6 +24,10 @@ after_piece : (piece rest : List ℕ) → HasNoNewline piece
 after_piece [] rest none = refl
 after_piece (b ∷ bs) rest none =
     grind (arith, after_piece bs rest (All-tail (λ b. (b == 10) ≡ false) b bs none), All-head)
+
+-- so past the first line is the same with it and without it
+pub past_line-piece : (piece : List ℕ) (d : Content) → HasNoNewline piece → past_line d ≡ past_line (with_prefix piece d)
+past_line-piece piece d none = rw (after_piece piece d.bytes none) refl
 
 -- no bytes, no line
 pub lines-nil : (e : Ending) → lines (record { bytes = []; ending = e }) ≡ []

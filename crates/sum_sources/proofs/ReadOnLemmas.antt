@@ -2,9 +2,9 @@
 use Rattle.std.proofs.Common.{◌≡◌, ℕ, zero, suc, ◌+◌, ◌-◌, ◌^◌, ◌<◌, ◌≤◌, true, false, List, [], ◌∷◌, ◌++◌, length, take, drop, None, Some, Result, subst, length-drop, Ok, Err, refl, ap, sym, ◌∙◌, append_assoc, ◌==◌, arith, length-append}
 use Rattle.std.specs.Prelude.{nat_lt, if◌then◌else◌}
 use Rattle.std.{proofs.Math.Seq.take-append-add, proofs.Math.Seq.drop-append_seam, proofs.lemmas.List.drop_all, proofs.lemmas.List.Elements.All-append, specs.Str.Lines.strip_carriage_return}
-use Rattle.sum_sources.specs.{ManifestLines.Next, ManifestLines.Line, ManifestLines.NoMore, ManifestLines.LineStop, ManifestLines.HasNoNewline, ManifestLines.IsNextLine, Contents.Ending, Contents.Whole, Contents.Broken, Contents.Content, Contents.InputState, Contents.Reads, Contents.Fault, Contents.IsOf, Contents.Other, Contents.clip, Contents.limit, Contents.reads_past, LineReaders.LineReaderValue, LineReaders.consumed_count, LineReaders.past, LineReaders.reads_of, LineReaders.remaining, LineReaders.IsUnderWay, LineReaders.IsReading, LineReaders.ReadsOn, Contents.Ended, Contents.Past, refinement.LimitedReads.FindsEnding, refinement.LimitedReads.AddsLimited, refinement.LimitedReads.AddsPast, refinement.LimitedReads.CountsBytes, refinement.LineStates.FillsReader, refinement.LineStates.TakesPiece}
+use Rattle.sum_sources.specs.{ManifestLines.Next, ManifestLines.Line, ManifestLines.NoMore, ManifestLines.LineStop, ManifestLines.HasNoNewline, ManifestLines.IsNextLine, ManifestLines.past_line, Contents.Ending, Contents.Whole, Contents.Broken, Contents.Content, Contents.InputState, Contents.Reads, Contents.Fault, Contents.IsOf, Contents.Other, Contents.clip, Contents.limit, Contents.reads_past, LineReaders.LineReaderValue, LineReaders.consumed_count, LineReaders.past, LineReaders.reads_of, LineReaders.remaining, LineReaders.IsUnderWay, LineReaders.IsReading, LineReaders.ReadsOn, Contents.Ended, Contents.Past, refinement.LimitedReads.FindsEnding, refinement.LimitedReads.AddsLimited, refinement.LimitedReads.AddsPast, refinement.LimitedReads.CountsBytes, refinement.LineStates.FillsReader, refinement.LineStates.TakesPiece}
 use Rattle.sum_sources.specs.declared.line_reader.LineStop.TheVariants as stops
-use Rattle.sum_sources.proofs.{ContentLemmas.with_prefix, ContentLemmas.limit-value, LimitLemmas.before_more, LineLemmas.lines-nil, LineLemmas.IsNextLine-ended}
+use Rattle.sum_sources.proofs.{ContentLemmas.with_prefix, ContentLemmas.limit-value, LimitLemmas.before_more, LineLemmas.lines-nil, LineLemmas.past_line-piece, LineLemmas.IsNextLine-ended}
 
 -- nothing, and then this ending
 abbrev just : Ending → Content
@@ -176,18 +176,21 @@ settled answer final right end past = record {
   past = past;
 }
 
--- memory was refused, and something remained
+-- memory was refused for a line without a newline so far, and something remained
 pub ends_memory : {I : Type 0} {state : I → InputState} {old s n : LineReaderValue I} {line : List ℕ}
-    → HasRead state old s line → s.taken < 2 ^ 61 → 0 < length s.ahead
+    → HasRead state old s line → HasNoNewline line → s.taken < 2 ^ 61 → 0 < length s.ahead
     → n ≡ record s { final_answer = Some (Err stops.Memory) } → (bytes : List ℕ)
     → ReadsOn state old n (Err stops.Memory) bytes
-ends_memory {state = state} {s = s} h few some is bytes =
+ends_memory {state = state} {s = s} {line = begun} h none few some is bytes =
     let left : (c : Content) → IsOf (reads_of state s) c → 0 < length (remaining s c).bytes = λ c of.
     omega (arith, some, ap (λ (c : Content). length c.bytes) (begins h.under_way few c of), length-append {A = ℕ}) in
     rw is (record {
-      line = λ c of. omega (arith, left c of, h.count, adds_up _ _ _ _ (h.remains c of) h.count);
+      line = λ c of. (
+        omega (arith, left c of, h.count, adds_up _ _ _ _ (h.remains c of) h.count),
+        past_line-piece begun (remaining s c) none ∙ sym (ap past_line (h.remains c of)),
+      );
       sum = λ next is. cc;
-      reading = settled (Err stops.Memory) refl (λ bytes. left) (λ is. cc) (rw h.under_way.phase (λ past. cc));
+      reading = settled (Err stops.Memory) refl (λ bytes c of. (left c of, refl)) (λ is. cc) (rw h.under_way.phase (λ past. cc));
       before = h.before;
     })
 

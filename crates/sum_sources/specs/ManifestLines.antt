@@ -31,13 +31,13 @@ abbrev pub HasNoNewline : ByteString → Type 0
 HasNoNewline piece = All (λ b. (b == 10) ≡ false) piece
 
 -- what next_line returns: the first line, and then the content past it remains; or, if there is no line, the ending,
--- which remains; or that memory was refused, only if something remains
+-- which remains; or that memory was refused, only if something remains, and no newline is gone
 abbrev pub IsNextLine : Content → Content → Result Next LineStop → ByteString → Type 0
 IsNextLine c d (Ok Line) line = (lines c ≡ line ∷ lines d) × (d ≡ past_line c)
 IsNextLine c d (Ok NoMore) line = (lines c ≡ []) × (c.ending ≡ Whole) × (d ≡ record { bytes = []; ending = Whole })
 IsNextLine c d (Err (stops.Fault f)) line =
     (lines c ≡ []) × (c.ending ≡ Broken f) × (d ≡ record { bytes = []; ending = Broken f })
-IsNextLine c d (Err stops.Memory) line = 0 < length c.bytes
+IsNextLine c d (Err stops.Memory) line = (0 < length c.bytes) × (past_line d ≡ past_line c)
 
 -- only a line changes the count of lines
 abbrev pub lines_after : ℕ → Result Next LineStop → ℕ

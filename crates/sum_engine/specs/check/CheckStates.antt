@@ -79,3 +79,7 @@ pub record HandlesLine (r : Rules) (a b : CheckState) (vector : ByteString) : Ty
   pub form : b.form ≡ form_then a.form (line_form r.algo line)
   pub counts : b.counts ≡ counts_with a.counts (next_judged r a line).verdict
   pub vector_len : length vector ≤ length line
+
+-- from a to b at most 8192 bytes were read past the next line
+abbrev pub ReadsOneLine : CheckState → CheckState → Type 0
+ReadsOneLine a b = b.taken + length (past_line a.remaining).bytes ≤ a.consumed + length a.remaining.bytes + 8192

@@ -1,5 +1,5 @@
 -- A checker, and what its next step does.
-use Rattle.std.specs.Prelude.{Bool, false, ◌≡◌, ◌⊎◌, List, [], ◌∷◌, Option, None, Some, Result, Ok, Err}
+use Rattle.std.specs.Prelude.{Bool, false, ◌≡◌, ◌⊎◌, ◌+◌, ◌≤◌, List, [], ◌∷◌, length, Option, None, Some, Result, Ok, Err}
 pub use Rattle.sum_engine.specs.declared.check.progress.Progress.{Progress}
 pub use Rattle.sum_engine.specs.declared.check.progress.Progress.TheVariants.{Going, Ended}
 use Rattle.sum_sources.specs.declared.line_reader.LineStop.TheVariants.{Fault, Memory}
@@ -8,6 +8,7 @@ use Rattle.sum_engine.specs.Execution.{Stop, OutputsState, StreamsState, Perform
 use Rattle.sum_engine.specs.{refinement.FlushedWrites.WritesAndReturns, check.Rules.Rules, check.Rules.LabelsValue}
 use Rattle.sum_engine.specs.check.Reports.{out_of, err_of, end_text, good}
 use Rattle.sum_engine.specs.check.CheckStates.{CheckState, HandlesLine, remaining_behavior}
+use Rattle.sum_engine.specs.check.ReadAhead.{remaining_before}
 use Rattle.sum_engine.specs.check.Verdicts.{VerdictsValue, InEachCheck, VerdictResult, line_verdict_value, AdvancesVerdicts}
 use Rattle.sum_engine.specs.declared.stop.Stop.TheVariants as stops
 
@@ -39,6 +40,9 @@ pub record IsStep (r : Rules) (labels : LabelsValue) (vector : ByteString) (a b 
   pub going : x ≡ Ok Going → (later ≡ remaining_behavior r labels b) × HandlesLine r a b vector
   pub failed : x ≡ Err stops.Write
       → (later.steps ≡ []) ⊎ ((later ≡ remaining_behavior r labels b) × HandlesLine r a b vector)
+  -- if memory ran out: at most 8192 bytes were read past the step's line
+  pub refused : x ≡ Err stops.Memory
+      → b.taken + remaining_before later.steps ≤ a.consumed + length a.remaining.bytes + 8192
 
 -- the call takes a step of the check, if both outputs are flushed at the call
 abbrev pub TakesStep : {I : Type 0} → (I → InputState) → ByteString → LabelsValue → VerdictsValue I → VerdictsValue I

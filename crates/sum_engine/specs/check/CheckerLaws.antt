@@ -1,14 +1,14 @@
 -- The laws of a checker's steps over a whole manifest, and of the lines that precede a line.
-use Rattle.std.specs.Prelude.{ℕ, ◌≡◌, ◌+◌, ◌≤◌, ◌↔◌, Bool, true, List, [], ◌∷◌, take, length, Result, ◌++◌, Ok, Err, slice_index_or}
+use Rattle.std.specs.Prelude.{ℕ, ◌≡◌, ◌+◌, ◌≤◌, ◌↔◌, Bool, true, List, [], ◌∷◌, take, length, Result, ◌++◌, Ok, Err, IfErr, slice_index_or}
 use Rattle.sum_lines.specs.grammar.Shapes.{IsPlain, KindValue}
-use Rattle.sum_engine.specs.Execution.{Stop, Write, StreamsState, IsFlushed, Agrees, world_at, StopHasCause, IsAtEndIf, ReadsToEndIf, AsksNames, Happened, PerformsSteps, Performs}
+use Rattle.sum_engine.specs.Execution.{Stop, StreamsState, IsFlushed, Agrees, world_at, StopHasCause, IsAtEndIf, ReadsToEndIf, AsksNames, Happened, PerformsSteps, Performs}
 use Rattle.sum_sources.specs.{Contents.IsSameInput, Contents.reads_past, declared.inputs.phase.Phase.TheVariants.Unfinished}
 use Rattle.sum_engine.specs.Behavior.{ByteString, IsOf, InputState, Behavior, trace, out_text, err_text, asks, World, Content, clip}
 use Rattle.sum_engine.specs.{check.Rules.Rules, check.Rules.LabelsValue, check.Checking.content_behavior}
 use Rattle.sum_engine.specs.check.Judge.{lines_under, all_verdicts, verdicts, past_lines, escape, EntryValue, IsEntry, form}
 use Rattle.sum_engine.specs.check.CheckStates.{CheckState, initial_state}
 use Rattle.sum_engine.specs.check.Checker.{Going, Ended, IsStep, ends}
-use Rattle.sum_engine.specs.check.ReadAhead.{FailsAtStep}
+use Rattle.sum_engine.specs.check.ReadAhead.{StopsAtStep}
 
 -- a new checker of an input s ran to its end, returned x, and left the input as t
 pub record RunsManifest (r : Rules) (labels : LabelsValue) (s t : InputState) (a b : StreamsState)
@@ -16,11 +16,11 @@ pub record RunsManifest (r : Rules) (labels : LabelsValue) (s t : InputState) (a
   -- of an input that hadn't ended: it performed the behavior of each content that agrees with what the call read
   pub behavior : s.reads.phase ≡ Unfinished → (c : Content) → IsOf (reads_past (length s.reads.bytes) t.reads) c
       → Performs (λ w. content_behavior r labels (clip c) (all_verdicts r w (clip c))) (λ good. good) a b x
-  -- if a write failed: at which step of that behavior, and that it read at most 8192 bytes past its line
-  pub failed : x ≡ Err Write → s.reads.phase ≡ Unfinished → let read = reads_past (length s.reads.bytes) t.reads in
-      (c : Content) → IsOf read c → IsFlushed a.outputs → (w : World) → Agrees w b.inputs
-      → FailsAtStep (content_behavior r labels (clip c) (all_verdicts r (world_at w a.inputs) (clip c))).steps (clip c)
-      (length read.bytes) a b
+  -- if it stopped: at which step of that behavior, and that it read at most 8192 bytes past its line
+  pub stopped : s.reads.phase ≡ Unfinished → let read = reads_past (length s.reads.bytes) t.reads in
+      (c : Content) → IsOf read c → IsFlushed a.outputs → (w : World) → Agrees w b.inputs → IfErr x (λ stop.
+      StopsAtStep stop (content_behavior r labels (clip c) (all_verdicts r (world_at w a.inputs) (clip c))).steps
+      (clip c) (length read.bytes) a b)
   pub manifest : s.reads.phase ≡ Unfinished → IsAtEndIf (x ≡ Ok true) t.reads
   pub same : IsSameInput s t
   pub cause : StopHasCause (0 ∷ 1 ∷ []) a b x

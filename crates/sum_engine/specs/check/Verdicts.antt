@@ -10,7 +10,7 @@ use Rattle.sum_engine.specs.Execution.{Agrees, world_at, ReadsToEndIf, AsksNames
 use Rattle.sum_engine.specs.{refinement.Names.MemoryWasRefused, check.Rules.Rules, check.Judge.Form, check.Judge.LineVerdictValue, check.Judge.asks_of}
 pub use Rattle.sum_engine.specs.declared.check.judge.LineVerdict.{LineVerdict}
 use Rattle.sum_engine.specs.check.Reports.{Counts, is_unread}
-use Rattle.sum_engine.specs.check.CheckStates.{CheckState, no_counts, counts_with, HandlesLine, remaining_verdicts}
+use Rattle.sum_engine.specs.check.CheckStates.{CheckState, no_counts, counts_with, HandlesLine, ReadsOneLine, remaining_verdicts}
 
 -- the verdicts of a manifest: its rules, its reader, the form and the counts of its lines so far, and the outcome: that
 -- no line is left, or why the verdicts stopped
@@ -84,7 +84,7 @@ IsNextVerdict r vector a b (Ok (Some v)) =
     FindsFirstVerdict r a b (line_verdict_value vector v) × HandlesLine r a b vector
 IsNextVerdict r vector a b (Ok None) = HasNoVerdictLeft r Whole a b
 IsNextVerdict r vector a b (Err (Fault f)) = HasNoVerdictLeft r (Broken f) a b
-IsNextVerdict r vector a b (Err Memory) = (b.world ≡ a.world) × (0 < length a.remaining.bytes)
+IsNextVerdict r vector a b (Err Memory) = (b.world ≡ a.world) × (0 < length a.remaining.bytes) × ReadsOneLine a b
 
 -- ---- the outcome
 

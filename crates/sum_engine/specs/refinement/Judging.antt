@@ -5,7 +5,8 @@ use Rattle.sum_engine.specs.declared.check.judge.ListedEntry.{ListedEntry}
 use Rattle.sum_engine.specs.{refinement.Names.HashFault, refinement.Names.NoRoom, Behavior.ByteString}
 use Rattle.sum_engine.specs.check.Judge.{Verdict, Right, Wrong, Missing, Unread, EntryValue, form_then, line_form, ParsedLine, parse_line}
 use Rattle.sum_engine.specs.check.Verdicts.{LineVerdict, VerdictResult, VerdictsValue, HasNameRange, counts_after}
-use Rattle.sum_engine.specs.declared.hash_name.HashFault.TheVariants as hashing
+use Rattle.sum_sources.specs.declared.sources.hash_file.HashFault.TheVariants as hashing
+use Rattle.sum_sources.specs.declared.sources.source.OpenFault.TheVariants as faults
 
 -- the entry that a line spells
 abbrev pub listed_entry : ListedEntry → EntryValue
@@ -14,10 +15,10 @@ listed_entry l = record { kind = l.kind; digest = l.digest.now; name = l.name.no
 -- the verdict, according to what hashing the name gave
 abbrev pub verdict_of_hash : Bool → ByteString → Result (ByteString) HashFault → Result Verdict NoRoom
 verdict_of_hash ignore d (Ok found) = Ok (if bytes_eq found d then Right else Wrong)
-verdict_of_hash ignore d (Err (hashing.NotOpened NotFound)) = Ok (if ignore then Missing else Unread NotFound)
-verdict_of_hash ignore d (Err (hashing.NotOpened f)) = Ok (Unread f)
-verdict_of_hash ignore d (Err (hashing.NotRead f)) = Ok (Unread f)
-verdict_of_hash ignore d (Err hashing.Memory) = Err (record {})
+verdict_of_hash ignore d (Err (hashing.Open (faults.Fault NotFound))) = Ok (if ignore then Missing else Unread NotFound)
+verdict_of_hash ignore d (Err (hashing.Open (faults.Fault f))) = Ok (Unread f)
+verdict_of_hash ignore d (Err (hashing.Read f)) = Ok (Unread f)
+verdict_of_hash ignore d (Err (hashing.Open faults.Memory)) = Err (record {})
 
 -- what the line says that was read last
 abbrev pub parsed_at : {I : Type 0} → VerdictsValue I → ByteString → ParsedLine

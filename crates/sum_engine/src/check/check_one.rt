@@ -1,10 +1,10 @@
 //! Checking one manifest.
-ghost use Rattle.std.specs.Prelude.{◌≡◌, true, [], ◌∷◌, None, Ok, Err, codes, if◌then◌else◌};
+ghost use Rattle.std.specs.Prelude.{◌≡◌, true, [], ◌∷◌, None, Ok, IfErr, codes, if◌then◌else◌};
 ghost use Rattle.sum_sources.specs.Inputs.{is_dash};
-ghost use Rattle.sum_engine.specs.Execution.{IsFlushed, FailuresMatch, RefusalsMatch, Performs, ReadsToEndIf, Write};
+ghost use Rattle.sum_engine.specs.Execution.{IsFlushed, FailuresMatch, RefusalsMatch, Performs, ReadsToEndIf};
 ghost use Rattle.sum_engine.specs.check.CheckerLaws.{RunsManifest};
 ghost use Rattle.sum_engine.specs.check.Checking.{check_behavior};
-ghost use Rattle.sum_engine.specs.check.ReadAhead.{FailsAtLine};
+ghost use Rattle.sum_engine.specs.check.ReadAhead.{StopsAtLine};
 ghost use Rattle.sum_engine.specs.check.Verdicts.{IsAtStart};
 
 use crate::check::checker::Checker;
@@ -38,9 +38,9 @@ pub fn check_one<A: Allocator + Copy, S: Source, O: Sink, E: Sink>(
     ensures flushed { IsFlushed streams.old.outputs → IsFlushed streams.new.outputs }
     // Returns true only if the manifest and each file that was opened were read to their ends; none was read further.
     ensures reads { ReadsToEndIf (result ≡ Ok true) streams.old.inputs streams.new.inputs }
-    // After a failed write: at most 8,192 bytes of the manifest were read past the line of the step at which it failed.
-    ensures ahead { result ≡ Err Write
-        → FailsAtLine (λ w. check_behavior settings tool.now w name.now) name.now streams.old streams.new }
+    // After a stop: at most 8,192 bytes of the manifest were read past the line of the step at which it came.
+    ensures ahead { IfErr result (λ stop.
+        StopsAtLine stop (λ w. check_behavior settings tool.now w name.now) name.now streams.old streams.new) }
     // A stop has its cause: at most one more refusal of the source, or one more failure of one output.
     ensures refusals { RefusalsMatch (0 ∷ 1 ∷ []) streams.old.inputs streams.new.inputs result }
     ensures failures { FailuresMatch streams.old.outputs streams.new.outputs result }

@@ -9,11 +9,10 @@ ghost use Rattle.sum_engine.specs.refinement.Judging.{listed_entry, verdict_of_h
 ghost use Rattle.sum_engine.specs.refinement.Names.{MemoryWasRefused};
 
 use crate::check::rules::CheckRules;
-use crate::hash_name::{HashFault, hash_name};
 use crate::reader::Reader;
 use digest_kinds::{Digest, Kind};
 use std::ops::Range;
-use sum_sources::{Fault, NoRoom, Source, is_dash};
+use sum_sources::{Fault, HashFault, NoRoom, OpenFault, Source, is_dash};
 
 /// What checking finds about a manifest's line.
 #[derive(Clone, Copy, Debug, PartialEq, Eq)]
@@ -84,7 +83,7 @@ pub(crate) fn judge<S: Source>(
     if rules.from_stdin && is_dash(listed.name) {
         return Ok(Verdict::Bad);
     }
-    let found = hash_name(listed.kind, listed.name, inputs);
+    let found = inputs.hash_file(listed.kind, listed.name);
     compare(&found, listed.digest, rules.ignore_missing)
 }
 
@@ -99,8 +98,12 @@ fn compare(
     match found {
         Ok(found) if found.same(digest) => Ok(Verdict::Right),
         Ok(_) => Ok(Verdict::Wrong),
-        Err(HashFault::NotOpened(Fault::NotFound)) if ignore_missing => Ok(Verdict::Missing),
-        Err(HashFault::NotOpened(fault) | HashFault::NotRead(fault)) => Ok(Verdict::Unread(*fault)),
-        Err(HashFault::Memory) => Err(NoRoom),
+        Err(HashFault::Open(OpenFault::Fault(Fault::NotFound))) if ignore_missing => {
+            Ok(Verdict::Missing)
+        }
+        Err(HashFault::Open(OpenFault::Fault(fault)) | HashFault::Read(fault)) => {
+            Ok(Verdict::Unread(*fault))
+        }
+        Err(HashFault::Open(OpenFault::Memory)) => Err(NoRoom),
     }
 }

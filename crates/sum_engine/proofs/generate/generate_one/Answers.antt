@@ -1,8 +1,8 @@
-use Rattle.std.proofs.Common.{refl, true, false, ap, sym, ◌∙◌}
+use Rattle.std.proofs.Common.{refl, true, false, Ok, Err, ap, sym, ◌∙◌}
 use Rattle.std.proofs.lemmas.Result.{err_from_is_err_and}
 use Rattle.sum_engine.specs.{Behavior.answer_to, Behavior.digest_or_fault, Generation.generate_behavior, Generation.generate_behavior_by}
 use Rattle.sum_engine.proofs.{BehaviorLemmas.Performs-step, BehaviorLemmas.Performs-refused, FlushedWriteLemmas.returned, FlushedWriteLemmas.writes_and_returns}
-use Rattle.sum_engine.proofs.{GenerateLemmas.fault_found, GenerateLemmas.one_step, GenerateLemmas.refused_memory, WorldLemmas.reads_weaker}
+use Rattle.sum_engine.proofs.{HashLemmas.hashes_name, GenerateLemmas.fault_found, GenerateLemmas.one_step, GenerateLemmas.refused_memory, WorldLemmas.reads_weaker}
 use Rattle.sum_engine.proofs.generate.generate_one.Goals as goal
 
 -- the name was read, and its line written
@@ -11,14 +11,14 @@ returns-in-Ok-clause-behavior g c =
     let settings = c.args.settings.now in
     let tool = c.args.tool.now in
     let name = c.args.name.now in
-    let done = c.in-Ok.ensures in
+    let done = hashes_name (Ok c.in-Ok.digest) c.in-Ok.ensures.hashed in
     Performs-step (λ w. generate_behavior settings tool w name) (λ g. g) true c.args.streams.now
-    (record { inputs = c.hash_name.new.inputs; outputs = _ }) done.asked
+    (record { inputs = c.hash_file.new.self; outputs = _ }) done.asked
     (λ w agrees. ap (generate_behavior_by settings tool name) (done.hash w agrees))
     (writes_and_returns c.put_line_flushed-written.result c.outcome_after.ensures c.put_line_flushed-written.ensures)
 
 pub returns-in-Ok-clause-reads : goal.returns-in-Ok-clause-reads
-returns-in-Ok-clause-reads g c = reads_weaker (λ good. tt) c.in-Ok.ensures.reads
+returns-in-Ok-clause-reads g c = reads_weaker (λ good. tt) (hashes_name (Ok c.in-Ok.digest) c.in-Ok.ensures.hashed).reads
 
 -- it could not be opened or read, and the line of its fault was written
 pub returns-in_ok-fault-in-Err-clause-behavior : goal.returns-in_ok-fault-in-Err-clause-behavior
@@ -26,10 +26,10 @@ returns-in_ok-fault-in-Err-clause-behavior g c =
     let settings = c.args.settings.now in
     let tool = c.args.tool.now in
     let name = c.args.name.now in
-    let found = fault_found c.in-Err.failed _ c.in_ok-fault-in-Err.ensures c.in-Err.ensures in
+    let found = fault_found c.in-Err.failed _ c.in_ok-fault-in-Err.ensures (hashes_name (Err c.in-Err.failed) c.in-Err.ensures.hashed) in
     let wrote = c.put_name_fault_line-written in
     Performs-step (λ w. generate_behavior settings tool w name) (λ g. g) false c.args.streams.now
-    (record { inputs = c.hash_name.new.inputs; outputs = _ }) found.0
+    (record { inputs = c.hash_file.new.self; outputs = _ }) found.0
     (λ w agrees. ap (generate_behavior_by settings tool name) (found.1 w agrees))
     (writes_and_returns wrote.result c.outcome_after-in-Err.ensures wrote.ensures)
 
@@ -37,7 +37,7 @@ pub returns-in_ok-fault-in-Err-clause-reads : goal.returns-in_ok-fault-in-Err-cl
 returns-in_ok-fault-in-Err-clause-reads g c =
     reads_weaker (λ good.
     let no = returned c.put_name_fault_line-written.result (sym good ∙ c.outcome_after-in-Err.ensures) in cc)
-    c.hash_name.ensures.reads
+    (hashes_name (Err c.in-Err.failed) c.in-Err.ensures.hashed).reads
 
 -- there was no memory to open it
 pub returns-in_err-fault-in-Err-clause-behavior : goal.returns-in_err-fault-in-Err-clause-behavior
@@ -47,6 +47,6 @@ returns-in_err-fault-in-Err-clause-behavior g c =
     let name = c.args.name.now in
     let stop = err_from_is_err_and c.from_residual.result c.from_residual.ensures.1 in
     rw (stop.1, stop.2) (Performs-refused (λ w. generate_behavior settings tool w name) (λ g. g)
-    c.args.streams.now (record c.args.streams.now { inputs = c.hash_name.new.inputs })
+    c.args.streams.now (record c.args.streams.now { inputs = c.hash_file.new.self })
     (λ w. one_step settings tool name (digest_or_fault settings.kind (answer_to w name)))
-    (refused_memory c.in-Err.failed _ c.in_err-fault-in-Err.ensures c.in-Err.ensures) refl)
+    (refused_memory c.in-Err.failed _ c.in_err-fault-in-Err.ensures (hashes_name (Err c.in-Err.failed) c.in-Err.ensures.hashed)) refl)

@@ -1,7 +1,9 @@
-use Rattle.std.proofs.Common.{refl, ◌≡◌, ap, ◌∙◌}
-use Rattle.sum_engine.specs.{check.Rules.labels_of, check.Rules.rules_of, Behavior.InputState}
-use Rattle.sum_engine.proofs.{CheckOneLemmas.check_opened, CheckOneLemmas.check_fails, CheckOneLemmas.not_read, CheckOneLemmas.no_room, CheckOneLemmas.refused, FlushedWriteLemmas.writes_and_returns}
-use Rattle.sum_engine.proofs.{OpenedNameLemmas.was_opened, OpenedNameLemmas.still_open, WorldLemmas.reads_fault}
+use Rattle.std.proofs.Common.{refl, ◌≡◌, ap, ◌∙◌, Ok, Err, true}
+use Rattle.sum_engine.specs.{check.Rules.labels_of, check.Rules.rules_of, check.CheckerLaws.RunsManifest, Behavior.InputState, Behavior.is_dash}
+use Rattle.sum_engine.proofs.{CheckOneLemmas.check_opened, CheckOneLemmas.check_stops, CheckOneLemmas.not_read, CheckOneLemmas.not_asked, CheckOneLemmas.no_room, CheckOneLemmas.refused, FlushedWriteLemmas.writes_and_returns}
+use Rattle.sum_engine.proofs.{OpenedNameLemmas.WasOpened, OpenedNameLemmas.was_opened, OpenedNameLemmas.still_open, WorldLemmas.reads_one}
+use Rattle.sum_engine.proofs.check.check_one.check_one.Goals.{After-close}
+use Rattle.sum_engine.proofs.check.check_one.check_one.Given as given
 use Rattle.sum_engine.proofs.check.check_one.check_one.Goals as goal
 
 -- ---- there was no memory to open it
@@ -9,6 +11,11 @@ use Rattle.sum_engine.proofs.check.check_one.check_one.Goals as goal
 pub returns-in-Err-Memory-clause-behavior : goal.returns-in-Err-Memory-clause-behavior
 returns-in-Err-Memory-clause-behavior g c =
     no_room c.args.settings c.args.tool.now c.args.name.now c.args.streams.now c.open.new.self
+    (rw c.in-Err-Memory.field-0-is at c.in-Err-Memory.ensures.state)
+
+pub returns-in-Err-Memory-clause-ahead : goal.returns-in-Err-Memory-clause-ahead
+returns-in-Err-Memory-clause-ahead g c =
+    not_asked c.args.settings c.args.tool.now c.args.name.now c.args.streams.now c.open.new.self
     (rw c.in-Err-Memory.field-0-is at c.in-Err-Memory.ensures.state)
 
 -- ---- it could not be opened, and the line of its fault was written, or a prefix of it
@@ -25,13 +32,13 @@ returns-in-Err-Fault-clause-behavior g c =
 pub returns-in-Err-Fault-clause-ahead : goal.returns-in-Err-Fault-clause-ahead
 returns-in-Err-Fault-clause-ahead g c =
     let failed = rw c.in-Err-Fault.field-0-is at c.in-Err-Fault.ensures.state in
-    λ wrote. not_read c.args.settings c.args.tool.now c.args.name.now c.args.streams.now c.open.new.self _
-    c.put_name_fault_line-written.new.outputs failed
+    not_read c.args.settings c.args.tool.now c.args.name.now c.args.streams.now c.open.new.self _
+    c.put_name_fault_line-written.new.outputs _ failed
 
 pub returns-in-Err-Fault-clause-reads : goal.returns-in-Err-Fault-clause-reads
 returns-in-Err-Fault-clause-reads g c =
-    reads_fault c.args.streams.now.inputs c.open.new.self c.args.name.now _
-    (rw c.in-Err-Fault.field-0-is at c.in-Err-Fault.ensures.state)
+    reads_one c.args.streams.now.inputs c.open.new.self c.args.name.now (Err c.in-Err-Fault.fault)
+    (rw c.in-Err-Fault.field-0-is at c.in-Err-Fault.ensures.state) tt
 
 -- ---- it was opened, checked and closed
 
@@ -41,46 +48,46 @@ close-requires g c =
     still_open _ c.in-Ok.ensures.file c.in-Ok.ensures.state (rw start at c.run_to_end-result.ensures.same)
     c.run_to_end-result.ensures.reads
 
-pub returns-clause-behavior : goal.returns-clause-behavior
-returns-clause-behavior g c =
-    let made = c.new-checker.ensures in
-    let checked = c.run_to_end-result.ensures in
-    let unread = ap (λ (s : InputState). s.reads) c.in-Ok.ensures.file in
-    let settings = c.args.settings in
-    let name = c.args.name.now in
-    let rules = made.rules ∙ ap (rules_of settings) c.is_dash-from_stdin.ensures in
-    let labels : c.new-checker.result.labels ≡ labels_of settings c.args.tool.now name =
-    made.labels ∙ ap (λ shown. record { tool = c.args.tool.now; manifest = shown; report = settings.report })
-    c.shown_name-shown.ensures in
-    check_opened settings c.args.tool.now name c.args.streams.now c.open.new.self c.close.new.self
-    (g.S.File.Input.state c.in-Ok.opened) _ c.run_to_end-result.new.streams
-    c.run_to_end-result.result.0 unread
-    (was_opened g.S.Source.tells c.in-Ok.ensures.file c.in-Ok.ensures.state (rw made.start.reader at checked.same)
-    ((rw (made.start.reader, unread) at checked.manifest) refl) checked.reads c.close.ensures)
-    (rw (rules, labels, made.start.reader) at checked)
-
-pub returns-clause-ahead : goal.returns-clause-ahead
-returns-clause-ahead g c =
-    let made = c.new-checker.ensures in
-    let checked = c.run_to_end-result.ensures in
-    let unread = ap (λ (s : InputState). s.reads) c.in-Ok.ensures.file in
-    let settings = c.args.settings in
-    let name = c.args.name.now in
-    let rules = made.rules ∙ ap (rules_of settings) c.is_dash-from_stdin.ensures in
-    let labels : c.new-checker.result.labels ≡ labels_of settings c.args.tool.now name =
-    made.labels ∙ ap (λ shown. record { tool = c.args.tool.now; manifest = shown; report = settings.report })
-    c.shown_name-shown.ensures in
-    check_fails settings c.args.tool.now name c.args.streams.now c.open.new.self c.close.new.self
-    (g.S.File.Input.state c.in-Ok.opened) _ c.run_to_end-result.new.streams
-    c.run_to_end-result.result.0 unread
-    (was_opened g.S.Source.tells c.in-Ok.ensures.file c.in-Ok.ensures.state (rw made.start.reader at checked.same)
-    ((rw (made.start.reader, unread) at checked.manifest) refl) checked.reads c.close.ensures)
-    (rw (rules, labels, made.start.reader) at checked)
-
-pub returns-clause-reads : goal.returns-clause-reads
-returns-clause-reads g c =
+-- the opening and the closing
+opened : (g : given.Over) (c : After-close g) → WasOpened (c.run_to_end-result.result.0 ≡ Ok true)
+    c.args.streams.now.inputs c.open.new.self c.run_to_end-result.new.streams.inputs c.close.new.self
+    c.args.name.now (g.S.File.Input.state c.run_to_end-result.result.1)
+opened g c =
     let checked = c.run_to_end-result.ensures in
     let start = c.new-checker.ensures.start.reader in
     let unread = ap (λ (s : InputState). s.reads) c.in-Ok.ensures.file in
-    (was_opened g.S.Source.tells c.in-Ok.ensures.file c.in-Ok.ensures.state (rw start at checked.same)
-    ((rw (start, unread) at checked.manifest) refl) checked.reads c.close.ensures).reads
+    was_opened g.S.Source.tells c.in-Ok.ensures.file c.in-Ok.ensures.state (rw start at checked.same)
+    ((rw (start, unread) at checked.manifest) refl) checked.reads c.close.ensures
+
+-- and what its checker did between them
+ran : (g : given.Over) (c : After-close g)
+    → RunsManifest (rules_of c.args.settings (is_dash c.args.name.now))
+    (labels_of c.args.settings c.args.tool.now c.args.name.now) (g.S.File.Input.state c.in-Ok.opened)
+    (g.S.File.Input.state c.run_to_end-result.result.1) (record c.args.streams.now { inputs = c.open.new.self })
+    c.run_to_end-result.new.streams c.run_to_end-result.result.0
+ran g c =
+    let made = c.new-checker.ensures in
+    let settings = c.args.settings in
+    let tool = c.args.tool.now in
+    let rules = made.rules ∙ ap (rules_of settings) c.is_dash-from_stdin.ensures in
+    let labels : c.new-checker.result.labels ≡ labels_of settings tool c.args.name.now =
+    made.labels ∙ ap (λ shown. record { tool = tool; manifest = shown; report = settings.report })
+    c.shown_name-shown.ensures in
+    rw (rules, labels, made.start.reader) at c.run_to_end-result.ensures
+
+pub returns-clause-behavior : goal.returns-clause-behavior
+returns-clause-behavior g c =
+    let at = (goal.at.returns-clause-behavior g c).After-close in
+    check_opened c.args.settings c.args.tool.now c.args.name.now c.args.streams.now c.open.new.self c.close.new.self
+    (g.S.File.Input.state c.in-Ok.opened) _ c.run_to_end-result.new.streams
+    (ap (λ (s : InputState). s.reads) c.in-Ok.ensures.file) (opened g at) c.run_to_end-result.result.0 (ran g at)
+
+pub returns-clause-ahead : goal.returns-clause-ahead
+returns-clause-ahead g c =
+    let at = (goal.at.returns-clause-ahead g c).After-close in
+    check_stops c.args.settings c.args.tool.now c.args.name.now c.args.streams.now c.open.new.self c.close.new.self
+    (g.S.File.Input.state c.in-Ok.opened) _ c.run_to_end-result.new.streams
+    (ap (λ (s : InputState). s.reads) c.in-Ok.ensures.file) (opened g at) c.run_to_end-result.result.0 (ran g at)
+
+pub returns-clause-reads : goal.returns-clause-reads
+returns-clause-reads g c = (opened g (goal.at.returns-clause-reads g c).After-close).reads

@@ -20,7 +20,8 @@ returns-in-Ok-true-clause-line g c =
 pub returns-in-Err-clause-line : goal.returns-in-Err-clause-line
 returns-in-Err-clause-line g c =
     let refused = c.in-Err.ensures.memory refl in
-    λ reading. ends_memory (c.loop-self.invariant.read reading) (rw refused.0 at c.take_piece.ensures.few.0) refused.1
+    let i = c.loop-self.invariant in
+    λ reading. ends_memory (i.read reading) i.plain (rw refused.0 at c.take_piece.ensures.few.0) refused.1
     (search rules) _
 
 -- the whole buffer moved to the line

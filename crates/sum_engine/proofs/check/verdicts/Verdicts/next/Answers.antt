@@ -1,23 +1,51 @@
-use Rattle.std.proofs.Common.{refl, inl, Ok, Err}
-use Rattle.sum_engine.proofs.NextVerdictLemmas.{next_verdict-line}
+use Rattle.std.proofs.Common.{refl, ap, sym, inl, Ok, Err}
+use Rattle.sum_engine.specs.check.Verdicts.{VerdictsValue}
+use Rattle.sum_engine.proofs.NextVerdictLemmas.{next_verdict-line, next_verdict-stop}
 use Rattle.sum_engine.proofs.check.verdicts.Verdicts.next.Goals as goal
 
 -- the line was judged
 pub returns-in-Ok-clause-verdict : goal.returns-in-Ok-clause-verdict
 returns-in-Ok-clause-verdict g c =
     let read = c.in-Ok-Line.ensures in
-    let is = c.in-Ok-Line.field-0-is in
     let done = c.in-Ok.ensures in
-    rw (← c.self.view_is) (λ going. next_verdict-line g.I.Input.state _ _ c.next_line.new.self _ _
-    c.next_line.new.line.items _ (rw is at read.reader) read.bounds (rw is at read.line) c.self.invariant.2 _ refl
-    (Ok _) done.takes done.asked done.verdict)
+    rw (← c.self.view_is) (λ going. next_verdict-line (Ok _) (record {
+      reader = c.next_line.new.self;
+      line = c.next_line.new.line.items;
+      advances = rw c.in-Ok-Line.field-0-is at read.reader;
+      bounds = read.bounds;
+      reads = rw c.in-Ok-Line.field-0-is at read.line;
+      profile = c.self.invariant.2;
+      judged = c.judge_line.new.self;
+      takes = done.takes;
+      kept = refl;
+      asked = done.asked;
+      verdict = done.verdict;
+    }))
 
 -- there was no memory to open its file
 pub returns-in-Err-judge_line-clause-verdict : goal.returns-in-Err-judge_line-clause-verdict
 returns-in-Err-judge_line-clause-verdict g c =
     let read = c.in-Ok-Line.ensures in
-    let is = c.in-Ok-Line.field-0-is in
     let done = c.in-Err-judge_line.ensures in
-    rw (← c.self.view_is) (λ going. next_verdict-line g.I.Input.state _ _ c.next_line.new.self _ _
-    c.next_line.new.line.items _ (rw is at read.reader) read.bounds (rw is at read.line) c.self.invariant.2
-    c.judge_line.new.self (rw (← c.self-2.view_is) refl) (Err _) done.takes (inl done.asked) done.verdict)
+    rw (← c.self.view_is) (λ going. next_verdict-line (Err _) (record {
+      reader = c.next_line.new.self;
+      line = c.next_line.new.line.items;
+      advances = rw c.in-Ok-Line.field-0-is at read.reader;
+      bounds = read.bounds;
+      reads = rw c.in-Ok-Line.field-0-is at read.line;
+      profile = c.self.invariant.2;
+      judged = c.judge_line.new.self;
+      takes = done.takes;
+      kept = rw (← c.self-2.view_is) refl;
+      asked = inl done.asked;
+      verdict = done.verdict;
+    }))
+
+-- the reader stopped
+pub returns-in-Err-clause-verdict : goal.returns-in-Err-clause-verdict
+returns-in-Err-clause-verdict g c =
+    let read = c.in-Err.ensures in
+    let line = c.next_line.new.line.items in
+    let rules = ap (λ (p : VerdictsValue _). p.rules) (sym c.self.view_is) in
+    rw (← c.self.view_is) (λ going. next_verdict-stop line _ rules c.next_line.new.self c.in-Err.stop line
+    read.line read.reader.final_answer read.bounds c.self.invariant.2 refl)

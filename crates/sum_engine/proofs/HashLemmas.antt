@@ -1,0 +1,59 @@
+-- `Reader::hash_file`: a name is hashed, and in each world that agrees with what was read this is of its answer.
+use Rattle.std.proofs.Common.{rules, refl, ◌≡◌, ◌≢◌, [], ◌∷◌, ℕ, List, Result, Ok, Err}
+use Rattle.digest_kinds.specs.Kinds.{KindValue}
+use Rattle.sum_sources.specs.Sources.{HashesFile}
+use Rattle.sum_engine.specs.Behavior.{World, Answer, Fault, SourceState, answer_to, digest_or_fault}
+use Rattle.sum_engine.specs.Execution.{Agrees, world_at, AsksNames, ReadsToEndIf}
+use Rattle.sum_engine.specs.refinement.Names.{HashFault, MemoryWasRefused}
+use Rattle.sum_engine.proofs.WorldLemmas.{opening_agrees, asks_one, reads_one}
+use Rattle.sum_sources.specs.declared.sources.hash_file.HashFault.TheVariants as hashing
+use Rattle.sum_sources.specs.declared.sources.source.OpenFault.TheVariants as faults
+
+-- what hashing an answer gives
+abbrev pub IsHashOf : KindValue → Answer → Result (List ℕ) HashFault → Type 0
+IsHashOf kind x (Ok d) = digest_or_fault kind x ≡ Ok d
+IsHashOf kind x (Err (hashing.Open (faults.Fault f))) = x ≡ Err f
+IsHashOf kind x (Err (hashing.Read f)) = (digest_or_fault kind x ≡ Err f) × ((g : Fault) → x ≢ Err g)
+IsHashOf kind x (Err (hashing.Open faults.Memory)) = Unit {0}
+
+-- the name is asked, unless memory was refused
+abbrev pub AsksUnlessRefused : List ℕ → SourceState → SourceState → Result (List ℕ) HashFault → Type 0
+AsksUnlessRefused name a b (Err (hashing.Open faults.Memory)) = MemoryWasRefused a b
+AsksUnlessRefused name a b r = AsksNames a b (name ∷ [])
+
+-- reading it didn't fail
+abbrev pub IsNotBroken : Result (List ℕ) HashFault → Type 0
+IsNotBroken (Err (hashing.Read f)) = ⊥
+IsNotBroken r = Unit {0}
+
+-- the effect of a call that hashes a name, in every world that agrees with what was read
+pub record HashesName (kind : KindValue) (name : List ℕ) (a b : SourceState) (r : Result (List ℕ) HashFault)
+    : Type 0 where
+  pub hash : (w : World) → Agrees w b → IsHashOf kind (answer_to (world_at w a) name) r
+  pub asked : AsksUnlessRefused name a b r
+  pub reads : ReadsToEndIf (IsNotBroken r) a b
+
+pub hashes_name : {kind : KindValue} {name : List ℕ} {a b : SourceState} (r : Result (List ℕ) HashFault)
+    → HashesFile kind name a b r → HashesName kind name a b r
+hashes_name {name = name} {a} {b} (Ok d) h = record {
+  hash = λ w agrees.
+      let (c, is, of) = opening_agrees agrees a.openings [] name (Ok h.reads) (rw h.closed refl) in
+      let found = h.hashes.digest refl c of in
+      rw is (search rules);
+  asked = asks_one a b name _ h.closed;
+  reads = reads_one a b name (Ok h.reads) h.closed (h.hashes.past refl, λ u. h.hashes.end refl);
+}
+hashes_name {name = name} {a} {b} (Err (hashing.Read f)) h = record {
+  hash = λ w agrees.
+      let (c, is, of) = opening_agrees agrees a.openings [] name (Ok h.reads) (rw h.closed refl) in
+      let found = h.hashes.digest refl c of in
+      rw is (search rules);
+  asked = asks_one a b name _ h.closed;
+  reads = reads_one a b name (Ok h.reads) h.closed (h.hashes.past refl, λ u. absurd u);
+}
+hashes_name {name = name} {a} {b} (Err (hashing.Open (faults.Fault f))) h = record {
+  hash = λ w agrees. opening_agrees agrees a.openings [] name (Err f) (rw h refl);
+  asked = asks_one a b name _ h;
+  reads = reads_one a b name (Err f) h tt;
+}
+hashes_name (Err (hashing.Open faults.Memory)) h = search rules

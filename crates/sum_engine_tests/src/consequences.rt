@@ -1,0 +1,75 @@
+//! What follows of the laws of `sum_engine`.
+ghost use Rattle.std.specs.Prelude.{◌≡◌, ◌≢◌, ◌+◌, List, [], ◌∷◌, ◌++◌, codes, length, take, flat_map, true, slice_range};
+ghost use Rattle.sum_engine.specs.Behavior.{ByteString, Content, Whole, World};
+ghost use Rattle.sum_engine.specs.Execution.{Agrees, PerformsSteps, StreamsState, IsFlushed, world_at};
+ghost use Rattle.sum_engine.specs.Generation.{generate_behavior};
+ghost use Rattle.sum_engine.specs.check.CheckStates.{CheckState, initial_state};
+ghost use Rattle.sum_engine.specs.check.CheckerLaws.{StepsGoing};
+ghost use Rattle.sum_engine.specs.check.Checking.{content_behavior};
+ghost use Rattle.sum_engine.specs.check.Judge.{all_verdicts, verdicts, form, lines_under, own_profile};
+ghost use Rattle.sum_engine.specs.check.OldVerdicts.{IsOldManifest, older_profile, rules_under};
+ghost use Rattle.sum_engine.specs.check.Rules.{LabelsValue, Rules};
+ghost use Rattle.sum_engine.specs.check.Verdicts.{HasNameRange};
+
+use sum_engine::laws::{events_extend, old_verdicts, same_front, some_world_agrees, steps_join};
+use sum_engine::{LineVerdict, Outputs, Reader, Settings, Stop, Streams, generate_one};
+use sum_lines::Sink;
+use sum_sources::Source;
+
+/// The name of a line's entry, which its range cuts from the line's vector.
+pub fn entry_name<'a>(found: LineVerdict, line: &'a [u8]) -> &'a [u8]
+    requires { HasNameRange line.now found }
+    ensures { result.now ≡ slice_range line.now found.start found.stop }
+{
+    &line[found.name_range()]
+}
+
+/// Hashes a name. Whatever was read, there is a world in which exactly this was to be done.
+pub fn hash_in_some_world<S: Source, O: Sink, E: Sink>(
+    settings: &Settings,
+    tool: &str,
+    name: &[u8],
+    streams: &mut Streams<Reader<S>, Outputs<O, E>>,
+) -> Result<bool, Stop>
+    requires { IsFlushed streams.old.outputs }
+    ensures { (w : World) × Agrees w streams.new.inputs × PerformsSteps
+        (generate_behavior settings.now tool.now (world_at w streams.old.inputs) name.now).steps
+        (generate_behavior settings.now tool.now (world_at w streams.old.inputs) name.now).good
+        streams.old streams.new result }
+{
+    some_world_agrees();
+    generate_one(settings, tool, name, streams)
+}
+
+/// After k steps of a checker that each handled a line, each output has grown by the texts of the first k steps.
+pub fn reports_so_far()
+    ensures { (r : Rules) (labels : LabelsValue) (c : Content) (w : World) (b : CheckState) (s t : StreamsState)
+        (vectors : List ByteString) → StepsGoing r labels (initial_state c w) b s t vectors
+        → t.outputs.out.sink.written ≡ s.outputs.out.sink.written ++ flat_map (λ step. step.out)
+        (take (length vectors) (content_behavior r labels c (all_verdicts r w c)).steps) }
+{
+    steps_join();
+    events_extend();
+}
+
+/// Lines that are added at a manifest's end change no verdict of the lines before them.
+pub fn added_lines_change_nothing()
+    ensures { (r : Rules) (w : World) (before : List ByteString) (line : ByteString) (later : List ByteString)
+        → take (length before + 1) (verdicts r (form r.algo (before ++ line ∷ later)) w 0 (before ++ line ∷ later))
+        ≡ take (length before + 1) (verdicts r (form r.algo (before ++ line ∷ [])) w 0 (before ++ line ∷ [])) }
+{
+    same_front();
+}
+
+/// A manifest of the time of older versions that was good stays good.
+pub fn old_manifest_stays_good()
+    ensures good { (r : Rules) (labels : LabelsValue) (w : World) (c : Content) → IsOldManifest r labels c
+        → let old = rules_under older_profile r in let new = rules_under own_profile r in
+        (content_behavior old labels c (all_verdicts old w c)).good ≡ true
+        → (content_behavior new labels c (all_verdicts new w c)).good ≡ true }
+    // To older versions a line that ends with a carriage return was another one.
+    ensures line { let c : Content = record { bytes = codes "a\r\n"; ending = Whole } in
+        lines_under older_profile c ≢ lines_under own_profile c }
+{
+    old_verdicts();
+}
