@@ -1,5 +1,5 @@
 -- What the openings of a name gave, after one opening more and after a closing.
-use Rattle.std.proofs.Common.{◌≡◌, ℕ, zero, suc, Bool, true, false, List, [], ◌∷◌, ◌++◌, length, slice_set, Option, None, Some, Result, Ok, IfSome, refl, ap, sym, ◌∙◌, append-nil, bytes_eq}
+use Rattle.std.proofs.Common.{◌≡◌, ℕ, zero, suc, Bool, true, false, List, [], ◌∷◌, ◌++◌, length, slice_set, Option, None, Some, Result, Ok, IfSome, refl, ap, sym, ◌∙◌, append-nil, bytes_eq, arith}
 use Rattle.std.{proofs.lemmas.Slice.Eq.bytes_eq-Decides, proofs.lemmas.List.Elements.filter_map-append, specs.Prelude.slice_get, specs.Prelude.if◌then◌else◌, specs.Option.option_and_then}
 use Rattle.sum_sources.specs.{Contents.Content, Contents.Reads, Contents.InputState, Contents.HasContent, Contents.IsSameInput, Contents.Fault, Sources.Answer, Sources.Opening, Sources.SourceState, Sources.ToldAnswers, Sources.IsOpen, Sources.IsOfAnswer, Sources.GivesTold, Sources.names_of, Sources.times, Sources.gave_of, Sources.closed_at, Sources.opened_file, Sources.and_opening, Sources.after_closing, Sources.HashesOpened, Contents.HashesInput}
 use Rattle.digest_kinds.specs.Kinds.{KindValue}
@@ -32,8 +32,7 @@ of_content file c has told = let fits = rw told at has.1 in (c, refl, rw (sym fi
 -- they are as many as the openings of the name
 pub gave-times : (os : List Opening) (name : List ℕ) → length (gave_of os name) ≡ times name (names_of os)
 gave-times [] name = refl
-gave-times (o ∷ os) name = either (bytes_eq o.name name)
-    (λ is. rw is (ap suc (gave-times os name))) (λ is. rw is (gave-times os name))
+gave-times (o ∷ os) name = grind (arith, gave-times os name)
 
 -- those of some openings and of others
 pub gave-append : (xs ys : List Opening) (name : List ℕ)
@@ -43,8 +42,7 @@ gave-append xs ys name = filter_map-append _ xs ys
 -- after one opening more
 pub gave-opening : (os : List Opening) (o : Opening) (name : List ℕ) → gave_of (os ++ o ∷ []) name
     ≡ (if bytes_eq o.name name then gave_of os name ++ o.gave ∷ [] else gave_of os name)
-gave-opening os o name = gave-append os (o ∷ []) name
-    ∙ either (bytes_eq o.name name) (λ is. rw is refl) (λ is. rw (is, append-nil) refl)
+gave-opening os o name = grind (arith, gave-append os (o ∷ []) name, append-nil)
 
 -- what the opening gave that has these before it
 gave-here : (gs more : List (Option (Result Reads Fault))) (g : Option (Result Reads Fault))
@@ -72,17 +70,16 @@ is_open_last tells a m name s t is opens same = record {
 pub names-closed : (os : List Opening) (name : List ℕ) (k : ℕ) (r : Reads)
     → names_of (closed_at os name k r) ≡ names_of os
 names-closed [] name k r = refl
+names-closed (o ∷ os) name zero r = grind (arith, names-closed os name zero r)
 names-closed (o ∷ os) name (suc k) r = ap (λ ns. o.name ∷ ns) (names-closed os name _ r)
-names-closed (o ∷ os) name zero r = either (bytes_eq o.name name)
-    (λ is. rw is refl) (λ is. rw is (ap (λ ns. o.name ∷ ns) (names-closed os name zero r)))
 
 -- it sets what the opening gave, and keeps what those of another name gave
 pub gave-closing : (os : List Opening) (name : List ℕ) (k : ℕ) (r : Reads) (other : List ℕ)
     → gave_of (closed_at os name k r) other
     ≡ (if bytes_eq name other then slice_set (gave_of os other) k (Some (Ok r)) else gave_of os other)
-gave-closing [] name k r other = either (bytes_eq name other) (λ c. rw c refl) (λ c. rw c refl)
+gave-closing [] name k r other = grind arith
 gave-closing (o ∷ os) name zero r other = either (bytes_eq o.name name)
-    (λ a. rw (a, same_name o.name name a) (either (bytes_eq name other) (λ c. rw c refl) (λ c. rw c refl)))
+    (λ a. rw (a, same_name o.name name a) (grind arith))
     (λ a. rw (a, gave-closing os name zero r other)
     (either (bytes_eq name other) (λ c. rw (c, same_test o.name name other c a) refl) (λ c. rw c refl)))
 gave-closing (o ∷ os) name (suc k) r other = either (bytes_eq o.name name)
@@ -146,15 +143,7 @@ pub closed-seam : (before later : List Opening) (o : Opening) (r : Reads)
     → closed_at (before ++ o ∷ later) o.name (times o.name (names_of before)) r
     ≡ before ++ record o { gave = Some (Ok r) } ∷ later
 closed-seam [] later o r = rw (is_same o.name) refl
-closed-seam (x ∷ xs) later o r = either (bytes_eq x.name o.name)
-    (λ is. rw (is, is) (ap (λ os. x ∷ os) (closed-seam xs later o r)))
-    (λ is. rw is (past_another (times o.name (names_of xs)) is (closed-seam xs later o r)))
-  where
-    past_another : (k : ℕ) → bytes_eq x.name o.name ≡ false
-        → closed_at (xs ++ o ∷ later) o.name k r ≡ xs ++ record o { gave = Some (Ok r) } ∷ later
-        → closed_at (x ∷ (xs ++ o ∷ later)) o.name k r ≡ x ∷ (xs ++ record o { gave = Some (Ok r) } ∷ later)
-    past_another zero is later = rw is (ap (λ os. x ∷ os) later)
-    past_another (suc k) is later = rw is (ap (λ os. x ∷ os) later)
+closed-seam (x ∷ xs) later o r = grind (arith, closed-seam xs later o r)
 
 -- ---- a file that was opened, hashed and closed, and nothing in between
 

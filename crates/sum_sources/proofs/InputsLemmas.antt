@@ -1,5 +1,5 @@
 -- `Inputs`: what an opening and a closing keep.
-use Rattle.std.proofs.Common.{◌≡◌, ℕ, zero, suc, true, false, List, [], ◌∷◌, ◌++◌, length, slice_set, Option, None, Some, Result, Ok, IfSome, refl, ap, sym, ◌∙◌, codes, bytes_eq}
+use Rattle.std.proofs.Common.{◌≡◌, ℕ, zero, suc, true, false, List, [], ◌∷◌, ◌++◌, length, slice_set, Option, None, Some, Result, Ok, IfSome, refl, ap, sym, ◌∙◌, codes, bytes_eq, arith}
 use Rattle.std.specs.Prelude.{filter, not, if◌then◌else◌}
 use Rattle.std.{specs.List.cons_option, specs.Option.option_and_then, specs.Option.option_map, specs.Result.result_ok, proofs.lemmas.Slice.Eq.bytes_eq-Decides}
 use Rattle.sum_sources.specs.{Contents.Content, Contents.InputState, Contents.Reads, Contents.Fault, Contents.HasContent, Contents.unread, Contents.empty_content, StandardInput.unless_closed, StandardInput.GivesUnread, StandardInput.given_by, StandardInput.put_back, StandardInput.taken, Sources.Answer, Sources.Answers, Sources.Pair, Sources.TellsAll, Sources.Opening, Sources.SourceState, Sources.ToldAnswers, Sources.names_of, Sources.times, Sources.gave_of, Sources.closed_at, Sources.content_at, Sources.opened_file, Sources.IsOpen, Sources.IsOfAnswer, Inputs.is_dash, Inputs.given_once, Inputs.with_stdin, Inputs.tells_both, Inputs.answers_with, Inputs.inputs_state, Inputs.without_dash, refinement.InputsStates.IsPlaceOf, refinement.InputsStates.GivesStdin, refinement.InputsStates.InputsInvariant, declared.inputs.stdin.StdinPlace.StdinPlace, declared.inputs.stdin.StdinPlace.TheVariants.Untaken, declared.inputs.stdin.StdinPlace.TheVariants.Taken, declared.inputs.stdin.StdinPlace.TheVariants.Returned, declared.inputs.closable.Closable.Closable, declared.inputs.closable.Closable.TheVariants.Closed, Contents.Whole, Contents.Unfinished}
@@ -20,17 +20,15 @@ ok_again (Some c) = refl
 pub both_told : (stdin : Content) (tells : ToldAnswers) (told : List Pair) (answer : Answers)
     → TellsAll tells told answer
     → TellsAll (tells_both tells) (with_stdin (Some stdin) told) (answers_with stdin answer)
-both_told stdin tells told answer all name zero = either (is_dash name) (λ is. rw is refl) (λ is. rw is (all name zero))
-both_told stdin tells told answer all name (suc k) =
-    either (is_dash name) (λ is. rw is refl) (λ is. rw is (all name (suc k)))
+both_told stdin tells told answer all name zero = grind (arith, all name zero)
+both_told stdin tells told answer all name (suc k) = grind (arith, all name (suc k))
 
 -- ---- the invariant
 
 -- the openings of a source, but for those of `-`
 others-dash : (os : List Opening) → gave_of (filter (λ o. not (is_dash o.name)) os) (codes "-") ≡ []
 others-dash [] = refl
-others-dash (o ∷ os) = either (is_dash o.name) (λ is. rw is (others-dash os))
-    (λ is. rw (is, turned (codes "-") o.name is) (others-dash os))
+others-dash (o ∷ os) = grind (arith, others-dash os, turned (codes "-") o.name)
 
 others-same : (os : List Opening) (name : List ℕ) → is_dash name ≡ false
     → gave_of (filter (λ o. not (is_dash o.name)) os) name ≡ gave_of os name
@@ -38,7 +36,7 @@ others-same [] name apart = refl
 others-same (o ∷ os) name apart = either (is_dash o.name)
     (λ is. let other : bytes_eq o.name name ≡ false = rw (← same_name (codes "-") o.name is) apart in
     rw (is, other) (others-same os name apart))
-    (λ is. rw is (ap (cons_option (if bytes_eq o.name name then Some o.gave else None)) (others-same os name apart)))
+    (λ is. grind (arith, others-same os name apart))
 
 -- nothing was read of standard input yet
 pub kept_new : {I : Type 0} (state : I → InputState) (stdin : StdinPlace I) (source : SourceState)
@@ -112,7 +110,7 @@ module _ {I : Type 0} {state : I → InputState} {stdin : StdinPlace I} {untaken
         let same : codes "-" ≡ name = same_name (codes "-") name is in
         let now = gave-closing os (codes "-") k r (codes "-") in
         rw (← same) (record {
-          place = rw now (back _ stdin kept.place);
+          place = rw now (back _ k stdin kept.place);
           given = λ j. rw now (gives-closed (GivesStdin untaken) _ k j r one (kept.given j));
           files = λ other apart. rw (gave-closing os (codes "-") k r other, apart) (kept.files other apart);
         })
@@ -122,14 +120,11 @@ module _ {I : Type 0} {state : I → InputState} {stdin : StdinPlace I} {untaken
         same Taken = refl
         same (Returned g) = refl
 
-        back : (gs : List (Option (Result Reads Fault))) (old : StdinPlace I) → IsPlaceOf state old untaken gs
+        back : (gs : List (Option (Result Reads Fault))) (k : ℕ) (old : StdinPlace I) → IsPlaceOf state old untaken gs
             → IsPlaceOf state (put_back old given) untaken (slice_set gs k (Some (Ok r)))
-        back [] old was = rw (same old) was
-        back (g ∷ gs) old was = by k
-          where
-            by : (k : ℕ) → IsPlaceOf state (put_back old given) untaken (slice_set (g ∷ gs) k (Some (Ok r)))
-            by zero = same old ∙ was
-            by (suc k) = same old ∙ was
+        back [] k old was = rw (same old) was
+        back (g ∷ gs) zero old was = same old ∙ was
+        back (g ∷ gs) (suc k) old was = same old ∙ was
 
 -- ---- what was opened, and what is closed
 
