@@ -12,7 +12,6 @@ UNMISSED = {
     "blake2b_core": "blocks.result vectors.result",
     "digest_kinds": "tags_apart.result texts_name_kinds.result",
     "sum_lines": "one_entry.apart one_entry.entry one_piece.result read_back.result same_parse.form same_parse.parse",
-    "sum_sources": "inputs_tell.result raw_lines_of_bytes.are raw_lines_of_bytes.exist",
     "sum_words": "plain_words_are_operands.after_dashes plain_words_are_operands.plain",
     "digests": "joined_is_good.result told_performs.result told_program_performs.result written_is_good.result",
 }
