@@ -1,18 +1,15 @@
 //! What follows from the law of standard input and a source in memory.
-ghost use Rattle.std.specs.Prelude.{◌≡◌, List, Some, ℕ};
+ghost use Rattle.std.specs.Prelude.{List, Some};
 ghost use Rattle.sum_sources.specs.Contents.{Content};
-ghost use Rattle.sum_sources.specs.Faults.{ByteString};
-ghost use Rattle.sum_sources.specs.Inputs.{tells_both, with_stdin};
-ghost use Rattle.sum_sources.specs.Sources.{Answers, Pair, TellsAll, ToldAnswers};
+ghost use Rattle.sum_sources.specs.Inputs.{answers_with, tells_both, with_stdin};
+ghost use Rattle.sum_sources.specs.Sources.{Pair, TellsAll, first_answer, tells_first};
 
 use sum_sources::laws;
 
-/// Beside one standard input, two sources that tell the same answers tell the same.
-pub fn same_answers()
-    ensures { (stdin : Content) (s t : ToldAnswers) (told other : List Pair) (answer : Answers)
-        → TellsAll s told answer → TellsAll t other answer → (name : ByteString) (k : ℕ)
-        → tells_both s (with_stdin (Some stdin) told) name k
-        ≡ tells_both t (with_stdin (Some stdin) other) name k }
+/// A `ToldSource` beside a told standard input tells all its answers: those of its pairs, and standard input once.
+pub fn told_inputs_tell()
+    ensures { (stdin : Content) (pairs : List Pair) → TellsAll (tells_both tells_first)
+        (with_stdin (Some stdin) pairs) (answers_with stdin (first_answer pairs)) }
 {
     laws::inputs_tell();
 }
