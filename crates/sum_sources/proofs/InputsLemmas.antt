@@ -16,13 +16,6 @@ ok_again : (c : Option Content) → option_and_then result_ok (option_map {U = A
 ok_again None = refl
 ok_again (Some c) = refl
 
--- of both, if all is in memory
-pub both_told : (stdin : Content) (tells : ToldAnswers) (told : List Pair) (answer : Answers)
-    → TellsAll tells told answer
-    → TellsAll (tells_both tells) (with_stdin (Some stdin) told) (answers_with stdin answer)
-both_told stdin tells told answer all name zero = grind (arith, all name zero)
-both_told stdin tells told answer all name (suc k) = grind (arith, all name (suc k))
-
 -- ---- the invariant
 
 -- the openings of a source, but for those of `-`
