@@ -9,9 +9,6 @@ from rattle import Code, files, text_of
 from sources import code_of
 
 UNMISSED = {
-    "blake2b_core": "blocks.result vectors.result",
-    "digest_kinds": "tags_apart.result texts_name_kinds.result",
-    "sum_lines": "one_entry.apart one_entry.entry one_piece.result read_back.result same_parse.form same_parse.parse",
     "sum_sources": "inputs_tell.result raw_lines_of_bytes.are raw_lines_of_bytes.exist",
     "sum_engine": "LineVerdict::name_range.end LineVerdict::name_range.start events_extend.result "
                   "old_verdicts.differs old_verdicts.verdicts same_front.result some_world_agrees.result "
