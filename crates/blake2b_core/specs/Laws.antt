@@ -1,7 +1,7 @@
--- Laws of the digest's definition.
-use Rattle.std.specs.Prelude.{◌≡◌, ℕ, ◌+◌, ◌<◌, ◌≤◌, [], ◌++◌, length, codes}
+-- A law of the digest's definition.
+use Rattle.std.specs.Prelude.{◌≡◌, [], ◌++◌, codes}
 use Rattle.byteorder.specs.Endian.{big_bytes}
-use Rattle.blake2b_core.specs.{Bytes.ByteString, Digest.blake2b}
+use Rattle.blake2b_core.specs.Digest.{blake2b}
 
 -- known digests: that of "abc" is the example of RFC 7693, and the two of the empty message are what other programs
 -- compute
@@ -11,9 +11,3 @@ pub record HasVectors : Type 0 where
   pub abc : blake2b 64 (codes "abc") ≡ big_bytes 32 0xba80a53f981c4d0d6a2797b69f12f6e94c212f14685ac4b74b12bb6fdbffa2d1
       ++ big_bytes 32 0x7d87c5392aab792dc252d5de4533cc9518d38aa8dbf1925ab92386edd4009923
   pub empty_short : blake2b 32 [] ≡ big_bytes 32 0x0e5751c026e543b2e8ab2eb06099daa1d1e5df47778f7787faab45cdf12fe3a8
-
--- the last block of m begins at this place: it has 1 to 128 bytes of m, or none if m is empty
-pub record BeginsLast (place : ℕ) (m : ByteString) : Type 0 where
-  pub within : place ≤ length m
-  pub few : length m ≤ place + 128
-  pub some : 0 < length m → place < length m

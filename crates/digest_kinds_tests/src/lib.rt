@@ -1,5 +1,5 @@
 //! Tests of `blake2b_core` and `digest_kinds`: published digests, the compression function beside a plain one, and each
-//! call with its answer.
+//! call with its answer. `laws` has what follows from the laws.
 #![tactic(auto)]
 
 #[cfg(test)]
@@ -8,5 +8,6 @@ mod blake2b;
 mod hashers;
 #[cfg(test)]
 mod kinds;
+pub mod laws;
 #[cfg(test)]
 mod plain;

@@ -7,7 +7,7 @@ use Rattle.digest_kinds.specs.Kinds.{KindValue}
 use Rattle.sum_lines.specs.grammar.Shapes.{Algos, is_blank, mark, IsPlain}
 use Rattle.sum_lines.specs.grammar.Entries.{Form, Undecided, EntryValue, is_ignored, IsForm, IsEntry, form_then, line_form, form}
 use Rattle.sum_lines.specs.{Escape.Profile, Escape.own_profile, grammar.LineParts.LinePartsValue, grammar.LineParts.plain_parts}
-use Rattle.sum_lines.specs.grammar.LineLaws.{HasOneForm, KeepsParse, KeepsForm}
+use Rattle.sum_lines.specs.grammar.LineLaws.{HasOneForm}
 use Rattle.digest_kinds.proofs.PrefixLemmas.{none_of}
 use Rattle.sum_lines.proofs.{TaggedLemmas.BeginsText, PlainLemmas.plain-digits, PlainLemmas.plain_is_read, PlainLemmas.read_is_plain}
 use Rattle.digest_kinds.specs.declared.algo.Algos.{Algos}
@@ -85,11 +85,15 @@ unfolding entry_of
 parse_stays p algos f g line = grind arith
 
 -- so later lines may be others
-pub same_parse : KeepsParse
-same_parse = grind (arith, form_at, parse_stays)
+pub same_parse : (p : Profile) (algos : Algos) (before later others : List (List ℕ)) (line : List ℕ)
+    → parse_line p algos (form algos (before ++ (line ∷ later))) line
+    ≡ parse_line p algos (form algos (before ++ (line ∷ others))) line
+same_parse p algos before later others line = grind (arith, form_at, parse_stays)
 
 -- nor the form after a plain line
-pub same_form : KeepsForm
+pub same_form : (algos : Algos) (before later others : List (List ℕ)) (line : List ℕ) (e : Bool) (kind : KindValue)
+    (d tail : List ℕ) → IsPlain algos line e kind d tail
+    → form algos (before ++ (line ∷ later)) ≡ form algos (before ++ (line ∷ others))
 same_form algos before later others line e kind d tail plain =
     let read = plain_is_read (record { escaped = e; kind = kind; digest = d; text = tail }) plain in
     grind (arith, form_at)

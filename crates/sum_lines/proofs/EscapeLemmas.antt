@@ -1,11 +1,10 @@
 -- The escape of a list of bytes, cut at its first special byte: a backslash, a newline or a carriage return. What is
 -- escaped can be read back: both the definition and the code find the name. After that, the raw name in a line.
 use Rattle.std.proofs.Common.{◌≡◌, ℕ, zero, suc, ◌+◌, ◌-◌, ◌<◌, ◌≤◌, true, not, List, [], ◌∷◌, ◌++◌, length, take, drop, get_or, Option, None, Some, MatchOption, refl, ap, sym, ◌∙◌, arith, is_some, length-append, length-drop, ◌↔◌, ◌==◌, Bool, false, cond, ◌≢◌, append_assoc, All, nat_lt, rules, slice_range}
-use Rattle.std.proofs.lemmas.{Bool.false_from_ne_true, Grind.flat_map-append, Grind.common_steps, Slice.Eq.bytes_eq-Decides, Option.cond_some}
+use Rattle.std.proofs.lemmas.{Bool.false_from_ne_true, Grind.flat_map-append, Grind.common_steps, Slice.Eq.bytes_eq-Decides, Option.cond_some, List.Sums.list_all-from_AllPass, List.Folds.list_all_at}
 use Rattle.std.proofs.lemmas.List.{length-take-le, append-nil, append_cancel_left, drop-drop, drop-take}
 use Rattle.std.proofs.Math.Seq.{take-length, take-append-add}
 use Rattle.std.specs.{List.list_all, Option.is_some}
-use Rattle.std.proofs.lemmas.{List.Sums.list_all-from_AllPass, List.Folds.list_all_at}
 use Rattle.memchr.specs.Find.{Nowhere, Passes, IsFirstByte, is_byte3, is_byte}
 use Rattle.sum_lines.specs.Escape.{own_profile, escape, escape_of, escape_differs, Profile, escape_by}
 use Rattle.sum_lines.specs.{grammar.Entries.EntryValue, grammar.Entries.Standard, grammar.Entries.begins_standard, grammar.LineParts.LinePartsValue}
@@ -14,14 +13,6 @@ use Rattle.digest_kinds.proofs.PrefixLemmas.{bind_some}
 use Rattle.sum_lines.specs.declared.reading.line_parts.LineParts.{LineParts}
 use Rattle.sum_lines.specs.refinement.Beginnings.{line_parts}
 
--- a byte that isn't special is its own escape
-escape_of-plain : (b : ℕ) → (is_byte3 92 10 13 b ≡ true → ⊥) → escape_of own_profile b ≡ b ∷ []
-escape_of-plain b other = grind arith
-
--- a special byte's escape has two bytes
-escape_of-special : (b : ℕ) → is_byte3 92 10 13 b ≡ true → length (escape_of own_profile b) ≡ 2
-escape_of-special b special = grind arith
-
 -- what precedes the first special byte is its own escape
 pub escape-plain : (xs : List ℕ) (k : ℕ) → k ≤ length xs → Nowhere (Passes (is_byte3 92 10 13) xs) 0 k
     → escape (take k xs) ≡ take k xs
@@ -29,22 +20,18 @@ escape-plain xs zero le none = refl
 escape-plain [] (suc k) le none = refl
 escape-plain (x ∷ xs) (suc k) le none =
     let more = escape-plain xs k (omega arith) (λ j low high. none (suc j) (omega arith) (omega arith)) in
-    rw (escape_of-plain x (none 0 (omega arith) (omega arith)), more) refl
+    let here = none 0 (omega arith) (omega arith) in grind arith
 
--- then come the escape of that byte and the escape of what follows it
-pub escape-split : (xs : List ℕ) (k : ℕ) → k < length xs → Nowhere (Passes (is_byte3 92 10 13) xs) 0 k
-    → escape xs ≡ take k xs ++ (escape_of own_profile (get_or xs k 0) ++ escape (drop (k + 1) xs))
-escape-split xs k lt none =
-    let cut : xs ≡ take k xs ++ (get_or xs k 0 ∷ drop (k + 1) xs) = grind (arith, common_steps) in
-    let split = ap escape cut ∙ flat_map-append (escape_of own_profile) (take k xs) (get_or xs k 0 ∷ drop (k + 1) xs) in
-    rw (escape-plain xs k (omega arith) none) at split
-
--- what a search for the first special byte says
+-- what a search for the first special byte says: then come that byte's escape and the escape of what follows it
 pub escape_cut : (xs : List ℕ) (r : Option ℕ) → IsFirstByte (is_byte3 92 10 13) xs r
     → MatchOption r (escape xs ≡ xs)
     (λ k. escape xs ≡ take k xs ++ (escape_of own_profile (get_or xs k 0) ++ escape (drop (k + 1) xs)))
 escape_cut xs None none = rw (take-length xs) at (escape-plain xs (length xs) (omega arith) none)
-escape_cut xs (Some k) first = escape-split xs k first.0.high first.0.before
+escape_cut xs (Some k) first =
+    let within = first.0.high in
+    let cut : xs ≡ take k xs ++ (get_or xs k 0 ∷ drop (k + 1) xs) = grind (arith, common_steps) in
+    let split = ap escape cut ∙ flat_map-append (escape_of own_profile) (take k xs) (get_or xs k 0 ∷ drop (k + 1) xs) in
+    rw (escape-plain xs k (omega arith) first.0.before) at split
 
 -- the same, of the two parts of a slice that was split there
 pub escape-parts : {prefix back : List ℕ} (xs : List ℕ) (k : ℕ) → prefix ≡ take k xs → back ≡ drop k xs
@@ -62,8 +49,7 @@ pub differs_by : (xs : List ℕ) (r : Option ℕ) → IsFirstByte (is_byte3 92 1
     → is_some r ≡ escape_differs own_profile xs
 differs_by xs None none = ap not (sym ((bytes_eq-Decides (escape xs) xs).1 (escape_cut xs None none)))
 differs_by xs (Some k) first =
-    let split = ap length (escape-split xs k first.0.high first.0.before) in
-    let two = escape_of-special (get_or xs k 0) first.1 in
+    let split = ap length (escape_cut xs (Some k) first) in
     let rest = length-escape (drop (k + 1) xs) in
     ap not (sym (false_from_ne_true _ (λ same.
     let equal = ap length ((bytes_eq-Decides (escape xs) xs).0 same) in
@@ -87,19 +73,14 @@ unescaped_bytes-escape p n = simp append-nil at (unescaped_bytes-append p n [])
 pub unescape-escape : (p : Profile) (n : List ℕ) → unescape p (escape_by p n) ≡ Some n
 unescape-escape p n = search (rules, unescaped_bytes-escape)
 
--- ---- no NUL
-
--- a name without NUL passes the test for it
-pub all-of : (xs : List ℕ) → All (λ b. 0 < b) xs → list_all (nat_lt 0) xs ≡ true
-all-of xs h = grind (arith, list_all-from_AllPass)
-
 -- ---- the entry of a line's parts
 
 -- so parts whose raw name spells a name spell an entry, and only such parts do
 pub spelled-is : (p : Profile) (t : LinePartsValue) (n : List ℕ) → All (λ b. 0 < b) n
     → t.text ≡ cond t.escaped (escape_by p n) n
     → entry_of_parts p t ≡ Some (record { kind = t.kind; digest = t.digest; name = n })
-spelled-is p t n no_nul is = grind (arith, unescape-escape, all-of)
+spelled-is p t n no_nul is =
+    let all : list_all (nat_lt 0) n ≡ true = grind (arith, list_all-from_AllPass) in grind (arith, unescape-escape)
 
 -- only such parts
 pub is-spelled : (p : Profile) (t : LinePartsValue) (s : EntryValue) → entry_of_parts p t ≡ Some s
@@ -113,14 +94,9 @@ is-spelled p t s h =
 -- what follows the escape of a in the escape of a name is the escape of what follows a in it
 pub escape-rest : (a n rest : List ℕ) → escape a ++ rest ≡ escape n → (m : List ℕ) × (n ≡ a ++ m) × (rest ≡ escape m)
 escape-rest a n rest h =
-    let m = unescaped_bytes rest in
-    let is : n ≡ a ++ m =
-    rw (← unescaped_bytes-append own_profile a rest, h) (sym (unescaped_bytes-escape own_profile n)) in (
-      m,
-      is,
-      append_cancel_left (escape a) rest (escape m)
-          (h ∙ ap escape is ∙ flat_map-append (escape_of own_profile) a m),
-    )
+    let is : n ≡ a ++ unescaped_bytes rest =
+    rw (← unescaped_bytes-append own_profile a rest, h) (sym (unescaped_bytes-escape own_profile n)) in
+    (unescaped_bytes rest, is, grind (arith, append_cancel_left, flat_map-append))
 
 -- no two names have the same escape
 pub escape-apart : (a b : List ℕ) → escape a ≡ escape b → a ≡ b
@@ -165,23 +141,17 @@ pub unescaped : (from : ℕ) (old new : List ℕ) (r : Bool)
     → ((n : List ℕ) → (drop from old ≡ escape n) ↔ ((r ≡ true) × (new ≡ take from old ++ n)))
     → take from new ≡ take from old → cond r (Some (drop from new)) None ≡ unescape own_profile (drop from old)
 unescaped from old new true h before =
-    let whole : new ≡ take from old ++ drop from new = grind (arith, common_steps) in
-    sym (ap (unescape own_profile) ((h (drop from new)).1 (refl, whole)) ∙ unescape-escape own_profile (drop from new))
+    let is = h (drop from new) in grind (arith, common_steps, unescape-escape)
 unescaped from old new false h before = search rules
 
 -- a search for NUL shows whether all bytes are above zero
 pub no_nul : (xs : List ℕ) (r : Option ℕ) → IsFirstByte (is_byte 0) xs r → not (is_some r) ≡ list_all (nat_lt 0) xs
-no_nul xs r h = search (rules, all-of, list_all_at)
+no_nul xs r h = search (rules, list_all-from_AllPass, list_all_at)
 
 -- ---- the raw name of a Standard list's tail
-
--- a part from one place further on
-range-more : (xs : List ℕ) (i j : ℕ) → i + 1 ≤ j → slice_range xs (i + 1) j ≡ drop 1 (slice_range xs i j)
-range-more xs i j lt =
-    let sum : j - i ≡ 1 + (j - (i + 1)) = omega arith in
-    rw (sum, drop-take 1 (j - (i + 1)) (drop i xs), drop-drop 1 i xs) refl
 
 -- the raw name begins one place further on
 pub raw_standard : (line : List ℕ) (p : LineParts) → begins_standard (line_parts line p).text ≡ true
     → with_raw Standard (line_parts line p) ≡ Some (line_parts line (record p { start = p.start + 1 }))
-raw_standard line p h = grind (arith, range-more)
+raw_standard line p h =
+    let one = drop-take 1 (p.stop - (p.start + 1)) (drop p.start line) in grind (arith, drop-drop 1 p.start line)

@@ -9,15 +9,7 @@ use Rattle.sum_lines.specs.grammar.LineParts.{LinePartsValue, tagged_parts, plai
 use Rattle.sum_lines.specs.grammar.ParsedLines.{with_raw, entry_of_parts, entry_of, ParsedLine, bad, parse_line}
 use Rattle.sum_lines.specs.grammar.LineLaws.{HasOneEntry, FitsGrammar, ParsesByGrammar}
 use Rattle.digest_kinds.proofs.PrefixLemmas.{bind_some, none_of}
-use Rattle.sum_lines.proofs.{PlainLemmas.apart, PlainLemmas.plain_is_read, PlainLemmas.read_is_plain, TaggedLemmas.tagged_is_read, TaggedLemmas.read_is_tagged}
-use Rattle.sum_lines.proofs.{EntryLemmas.entry-not_ignored, EscapeLemmas.spelled-is, EscapeLemmas.is-spelled}
-
--- ---- the raw name
-
--- what is found in place of a tail is its raw name
-is-raw : (f : Form) (t q : LinePartsValue) → with_raw f t ≡ Some q
-    → IsRawName f t.text q.text × (record t { text = q.text } ≡ q)
-is-raw f t q h = grind arith
+use Rattle.sum_lines.proofs.{PlainLemmas.apart, PlainLemmas.plain_is_read, PlainLemmas.read_is_plain, TaggedLemmas.tagged_is_read, TaggedLemmas.read_is_tagged, EntryLemmas.entry-not_ignored, EscapeLemmas.spelled-is, EscapeLemmas.is-spelled}
 
 module _ (p : Profile) (algos : Algos) (f : Form) (line : List ℕ) where
   -- ---- the entry that a line has is computed
@@ -52,7 +44,7 @@ module _ (p : Profile) (algos : Algos) (f : Form) (line : List ℕ) where
   by-parts s None None tagged plain h = cc
   by-parts s None (Some q) tagged plain h =
       let named = bind_some (with_raw f q) (entry_of_parts p) h in
-      let raw = is-raw f q named.0 named.1 in
+      let raw : IsRawName f q.text named.0.text × (record q { text = named.0.text } ≡ named.0) = grind arith in
       by-shape s (record q { text = named.0.text }) (inr (q.text, read_is_plain plain, raw.0))
       (ap (entry_of_parts p) raw.1 ∙ named.2)
 
@@ -75,7 +67,7 @@ parse_is_grammar p algos f line =
     record {
       when_ignored = (λ h. grind arith, λ h. rw h refl);
       when_entry = λ s. (
-        λ h. let said : found ≡ Some s = grind arith in value_entry p algos f line s said,
+        λ h. value_entry p algos f line s (grind arith),
         λ h. rw (entry-not_ignored p h, entry_value p algos f line s h) refl,
       );
     }

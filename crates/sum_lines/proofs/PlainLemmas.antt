@@ -1,6 +1,7 @@
 -- A line that is put together from the parts of a plain line is read as these parts, and no other line is read as
 -- plain. No line is both plain and tagged.
 use Rattle.std.proofs.Common.{ℕ, ◌≡◌, ◌<◌, ◌≤◌, not, Bool, true, List, ◌∷◌, ◌++◌, length, get_or, None, Some, Ok, refl, ap, sym, ◌∙◌, arith, length-drop, take_while, rules}
+use Rattle.std.proofs.Math.Seq.{drop-append-add}
 use Rattle.std.specs.List.{AllPass, before_first, after_first, position_or_len}
 use Rattle.std.proofs.lemmas.{List.take_at, List.Elements.All-head, List.Elements.All-tail, List.Elements.All-weaker}
 use Rattle.std.proofs.lemmas.List.Sums.{split_at_first, passes_at_first}
@@ -10,7 +11,7 @@ use Rattle.digest_kinds.specs.{Kinds.KindValue, Kinds.tag, Bytes.after_while}
 use Rattle.digest_kinds.proofs.{KindLemmas.no_digits, PrefixLemmas.prefix_passes, PrefixLemmas.prefix-and-rest, PrefixLemmas.prefix_len-stop}
 use Rattle.sum_lines.specs.grammar.Shapes.{Algo, Algos, One, Any, is_blank, IsPlain, IsTagged}
 use Rattle.sum_lines.specs.{grammar.LineParts.LinePartsValue, grammar.LineParts.plain_parts, refinement.Beginnings.BeginsWithDigits}
-use Rattle.sum_lines.proofs.PrefixLemmas.{text, rest-seam, mark_and_rest-is}
+use Rattle.sum_lines.proofs.PrefixLemmas.{text, mark_and_rest-is}
 use Rattle.sum_lines.proofs.TaggedLemmas.{BeginsText, hex-no_blank, tagged-prefix, mark_and_rest-prefix}
 
 -- ---- what is read joins to the line
@@ -69,11 +70,6 @@ pub record AreDigits (ds : List ℕ) : Type 0 where
 pub digits-of : (ds d : List ℕ) → decode_of ds ≡ Ok d → 0 < length d → AreDigits ds
 digits-of ds d h lt = grind (arith, decode_of-ok, All-head)
 
--- the first blank follows bytes that are none
-first-at : (xs : List ℕ) (b : ℕ) (ys : List ℕ) → AllPass (λ x. not (is_blank x)) xs → is_blank b ≡ true
-    → (before_first is_blank (xs ++ (b ∷ ys)) ≡ xs) × (after_first is_blank (xs ++ (b ∷ ys)) ≡ ys)
-first-at xs b ys all blank = grind (arith, prefix_len-stop, take_at, rest-seam)
-
 module _ {algos : Algos} {line : List ℕ} {e : Bool} {kind : KindValue} {d tail : List ℕ}
     (t : IsPlain algos line e kind d tail) where
   -- the digits of a plain line are those of a digest
@@ -90,19 +86,16 @@ pub plain_is_read : {algos : Algos} {line : List ℕ} (p : LinePartsValue)
 unfolding plain_parts
 plain_is_read p t =
     let digits = plain-digits t in
-    let no_blanks : AllPass (λ x. not (is_blank x)) t.digits =
-    All-weaker (λ b. is_hex_digit b ≡ true) (λ x. not (is_blank x) ≡ true)
-    (λ x hex. ap not (hex-no_blank x hex)) t.digits digits.are in
-    let cut = first-at t.digits t.blank p.text no_blanks t.is_one_blank in
-    rw (t.one, plain-prefix t) (grind arith)
+    let no_blanks : AllPass (λ x. not (is_blank x)) t.digits = grind (arith, All-weaker, hex-no_blank) in
+    rw (t.one, plain-prefix t) (grind (arith, prefix_len-stop, take_at, drop-append-add))
 
 -- ---- one shape
 
 -- a plain line's digits begin no tag
 pub no_prefix : (a : Algo) (ds s rest : List ℕ) → AllPass is_hex_digit ds → 2 ≤ length ds → ds ++ s ≡ tag a ++ rest → ⊥
 no_prefix a (x ∷ y ∷ xs) s rest all two e =
-    no_digits a x y (xs ++ s) rest (All-head (λ b. is_hex_digit b ≡ true) x (y ∷ xs) all)
-    (All-head (λ b. is_hex_digit b ≡ true) y xs (All-tail (λ b. is_hex_digit b ≡ true) x (y ∷ xs) all)) e
+    let later = All-tail (λ b. is_hex_digit b ≡ true) x (y ∷ xs) all in
+    no_digits a x y (xs ++ s) rest (search (rules, All-head)) (search (rules, All-head)) e
 no_prefix a ds s rest all two e = absurd (omega arith)
 
 -- no line is both plain and tagged

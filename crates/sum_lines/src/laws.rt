@@ -2,7 +2,7 @@
 //! holds whatever the code does.
 ghost use Rattle.std.specs.Prelude.{◌≡◌, ◌<◌, ◌≤◌, ◌∷◌, [], length};
 ghost use Rattle.sum_lines.specs.Sinks.{ByteString, pieces};
-ghost use Rattle.sum_lines.specs.grammar.LineLaws.{AreApart, HasOneEntry, HasOneForm, ParsesByGrammar, IsReadBack, KeepsForm, KeepsParse};
+ghost use Rattle.sum_lines.specs.grammar.LineLaws.{AreApart, HasOneEntry, HasOneForm, ParsesByGrammar, IsReadBack};
 
 /// For given algorithms and a given form, a line spells at most one entry. No line is both plain and tagged, even with
 /// different algorithms.
@@ -22,13 +22,6 @@ pub fn one_form()
 #[tactic(auto, using(crate::proofs::ParsedLineLemmas::parse_is_grammar))]
 pub fn parse_is_grammar()
     ensures { ParsesByGrammar }
-{}
-
-/// Later lines don't change how a line parses nor, if it is plain, the form.
-#[tactic(auto, using(crate::proofs::EntryLemmas::same_parse))]
-pub fn same_parse()
-    ensures parse { KeepsParse }
-    ensures form { KeepsForm }
 {}
 
 /// A line that is written is read back: it spells the kind, the digest and the name that it was written for. It is read

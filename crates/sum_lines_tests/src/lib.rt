@@ -1,8 +1,10 @@
 //! Tests of `sum_lines`: worked examples of lines that are written and read, and what no contract says of sinks.
+//! `laws` has what follows from the laws.
 #![tactic(auto)]
 
 #[cfg(test)]
 mod calls;
+pub mod laws;
 #[cfg(test)]
 mod reading;
 #[cfg(test)]

@@ -32,18 +32,6 @@ abbrev pub ParsesByGrammar : Type 0
 ParsesByGrammar = (p : Profile) (algos : Algos) (f : Form) (line : ByteString)
     → FitsGrammar p algos f line (parse_line p algos f line)
 
--- later lines don't change how a line parses
-abbrev pub KeepsParse : Type 0
-KeepsParse = (p : Profile) (algos : Algos) (before later others : List ByteString) (line : ByteString)
-    → parse_line p algos (form algos (before ++ (line ∷ later))) line
-    ≡ parse_line p algos (form algos (before ++ (line ∷ others))) line
-
--- later lines don't change the form of the list, after a plain line
-abbrev pub KeepsForm : Type 0
-KeepsForm = (algos : Algos) (before later others : List ByteString) (line : ByteString)
-    → (e : Bool) (kind : KindValue) (d tail : ByteString) → IsPlain algos line e kind d tail
-    → form algos (before ++ (line ∷ later)) ≡ form algos (before ++ (line ∷ others))
-
 -- the algorithms by which a line of that mode can be read back: its own or, in tagged mode, any
 abbrev pub AllowsMode : Algos → Mode → Algo → Type 0
 AllowsMode (One a) mode algo = a ≡ algo

@@ -1,0 +1,52 @@
+//! What follows from the laws of lines.
+ghost use Rattle.digest_kinds.specs.Kinds.{KindValue};
+ghost use Rattle.digest_kinds.specs.declared.algo.Algos.{Algos};
+ghost use Rattle.digest_kinds.specs.declared.algo.Algos.TheVariants.{Any};
+ghost use Rattle.std.specs.Prelude.{◌≡◌, ◌≤◌, Bool, false, ◌∷◌, [], length};
+ghost use Rattle.sum_lines.specs.Escape.{ByteString, escape};
+ghost use Rattle.sum_lines.specs.Lines.{line};
+ghost use Rattle.sum_lines.specs.Sinks.{pieces};
+ghost use Rattle.sum_lines.specs.declared.writing.put_line.Mode.TheVariants.{Tag};
+ghost use Rattle.sum_lines.specs.declared.writing.put_line.Style.{Style};
+ghost use Rattle.sum_lines.specs.declared.reading.read_line.Form.{Form};
+ghost use Rattle.sum_lines.specs.declared.reading.read_line.Form.TheVariants.{Undecided};
+ghost use Rattle.sum_lines.specs.grammar.Entries.{EntryValue, IsEntry, IsForm};
+ghost use Rattle.sum_lines.specs.grammar.LineLaws.{IsWritable, SpellsBack};
+ghost use Rattle.sum_lines.specs.grammar.Shapes.{IsTagged};
+
+use sum_lines::laws;
+
+/// A line has one digest for one name.
+pub fn one_digest()
+    ensures { (algos : Algos) (f : Form) (line : ByteString) (s t : EntryValue)
+        → IsEntry escape algos f line s → IsEntry escape algos f line t → s.digest ≡ t.digest }
+{
+    laws::one_entry();
+}
+
+/// A tagged line doesn't decide the form of a list, whichever algorithms the list may name.
+pub fn tagged_is_undecided()
+    ensures { (algos others : Algos) (line : ByteString) (e : Bool) (kind : KindValue)
+        (digest raw : ByteString) → IsTagged others line e kind digest raw
+        → IsForm algos (line ∷ []) Undecided }
+{
+    laws::one_entry();
+}
+
+/// A line of at most 8,192 bytes is offered whole.
+pub fn line_is_one_piece()
+    ensures { (style : Style) (kind : KindValue) (name digest : ByteString)
+        → length (line style kind name digest) ≤ 8192
+        → pieces (line style kind name digest) ≡ line style kind name digest ∷ [] }
+{
+    laws::one_piece();
+}
+
+/// A list of one tagged line is read back if any algorithm may be named.
+pub fn tagged_is_read_back()
+    ensures { (kind : KindValue) (name digest : ByteString) → IsWritable kind name digest
+        → SpellsBack Any [] [] (line (record { mode = Tag; zero = false }) kind name digest)
+        kind name digest }
+{
+    laws::read_back();
+}
