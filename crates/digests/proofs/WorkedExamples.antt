@@ -1,7 +1,7 @@
 -- Worked examples: the meaning of some command lines, computed. It has both texts, the names that are asked, and
 -- whether all is good.
-use Rattle.std.proofs.Common.{◌≡◌, ◌∙◌, ap, ℕ, ◌++◌, Bool, List, [], ◌∷◌, refl, codes, true, false, if◌then◌else◌, bytes_eq, Result, Ok, Err, IfOk}
-use Rattle.std.specs.Prelude.{⊤}
+use Rattle.std.proofs.Common.{rules, arith, ◌≡◌, ◌∙◌, ap, ℕ, ◌++◌, Bool, List, [], ◌∷◌, refl, codes, true, false, if◌then◌else◌, bytes_eq, Result, Ok, Err, IfOk, inl, inr}
+use Rattle.std.specs.Prelude.{⊤, ◌⊎◌}
 use Rattle.std.specs.{Str.chars, Str.is_utf8, Path.rsplit_once, Fmt.digits}
 use lib.Utf8.{encode}
 use Rattle.md5.specs.Md5.{block_words as md5_words, rounds as md5_rounds, compress as md5_compress, hash_after as md5_after, digest_bytes as md5_bytes, md5}
@@ -9,16 +9,21 @@ use Rattle.blake2b_core.specs.Compression.{mix, round, work_vector, compress}
 use Rattle.blake2b_core.specs.Digest.{hash_after as blake2b_after, blake2b}
 use Rattle.sum_sources.specs.declared.fault.Fault.TheVariants.{NotFound, Other}
 use Rattle.sum_engine.specs.Behavior.{World, Behavior, answer_to, Whole, Broken, out_text, err_text, asks}
+use Rattle.digest_kinds.specs.Kinds.{full_kind}
+use Rattle.digest_kinds.specs.declared.{algo.Algo.Algo, algo.Algos.Algos}
+use Rattle.sum_lines.specs.declared.writing.put_line.Mode.{Mode}
+use Rattle.sum_engine.specs.declared.settings.{CheckSettings.CheckSettings, Report.TheVariants.All}
 use Rattle.hex.specs.Hex.{encode_with, decode_pairs}
 use Rattle.sum_lines.specs.{grammar.LineParts.plain_parts, grammar.LineParts.tagged_parts, grammar.ParsedLines.entry_of}
 use Rattle.sum_sources.specs.{ManifestLines.raw_lines, Contents.Content, Contents.limit, Contents.empty_content, Sources.Answer, Inputs.answers_with}
 use Rattle.sum_words.specs.declared.{tool.Tool.Tool, tool.Tool.TheVariants.Md5sum, tool.Tool.TheVariants.B2sum, tool.Tool.TheVariants.Anysum}
 use Rattle.sum_words.specs.Items.{ByteString, name_or_fault, option_of_letter}
+use Rattle.sum_words.specs.{CommandLines.command_line, CommandLines.NeedsMemory, Texts.not_read_line, Tools.tool_called}
 use Rattle.sum_words.proofs.WorkedExamples.{words}
 use Rattle.sum_engine.specs.declared.stop.Stop.{Stop}
 use Rattle.sum_engine.specs.Execution.{StreamsState, PerformsSteps}
 use Rattle.sum_engine.proofs.BehaviorLemmas.{events_extend}
-use Rattle.digests.specs.Meaning.{meaning, status_of}
+use Rattle.digests.specs.{Meaning.meaning, Meaning.status_of, GenerationRuns.GenerationRun, Program.CallRefuses, InMemory.CommandPerformsIn}
 
 -- what a worked example unfolds, so that its texts are computed
 unfoldable meaning_on_literals : ⊤
@@ -140,7 +145,7 @@ checks :
 unfolding meaning_on_literals
 checks = (refl, refl, refl, refl, refl, refl, refl)
 
--- ---- files in memory
+-- ---- what the laws say of some command lines
 
 -- a run that performed a good behavior and didn't stop: the status is 0, and standard output got the text
 pub good_run : (run : Behavior) (a b : StreamsState) (r : Result ℕ Stop) (text : ByteString)
@@ -150,14 +155,38 @@ good_run run a b (Ok status) text is did =
     (did.0 ∙ ap status_of is.0, rw is.1 at (events_extend run a b did.1).2)
 good_run run a b (Err stop) text is did = tt
 
--- `md5sum e`, if `e` is empty, and `md5sum`, if standard input is
+-- `md5sum e`, if `e` is empty
 pub empty_file : (w : World) → answer_to w (codes "e") ≡ Ok empty_content
-    → let run = meaning Md5sum (codes "e" ∷ []) w in
-    (run.good ≡ true) × (out_text run ≡ e_line)
+    → let run = meaning Md5sum (codes "e" ∷ []) w in (run.good ≡ true) × (out_text run ≡ e_line)
 unfolding meaning_on_literals
 empty_file w is = rw is (refl, refl)
 
-pub empty_stdin : (w : World) → answer_to w (codes "-") ≡ Ok empty_content → let run = meaning Md5sum [] w in
+-- `md5sum`, if standard input is empty
+empty_stdin : (w : World) → answer_to w (codes "-") ≡ Ok empty_content → let run = meaning Md5sum [] w in
     (run.good ≡ true) × (out_text run ≡ codes "d41d8cd98f00b204e9800998ecf8427e  -\n")
 unfolding meaning_on_literals
 empty_stdin w is = rw is (refl, refl)
+
+-- so the program, which needs no memory for that, wrote the line if it returned 0
+pub called_alone : (w : World) (a b : StreamsState) (status : ℕ) → answer_to w (codes "-") ≡ Ok empty_content
+    → CommandPerformsIn w (command_line (codes "md5sum" ∷ [])) a b status
+    ⊎ (NeedsMemory (codes "md5sum" ∷ []) × CallRefuses not_read_line a b status) → status ≡ 0
+    → b.outputs.out.sink.written ≡ a.outputs.out.sink.written ++ codes "d41d8cd98f00b204e9800998ecf8427e  -\n"
+unfolding tool_called
+called_alone w a b status is (inl (Ok x, between, did, failed, same, reports)) zero =
+    rw reports.1 (good_run (meaning Md5sum [] w) a between (Ok x) _ (empty_stdin w is) did).1
+called_alone w a b status is (inl (Err stop, between, did, failed, same, reports)) zero =
+    let one = reports.0 in absurd (omega arith)
+called_alone w a b status is (inr (needs, refused)) zero = absurd (search rules)
+
+-- a check without other options
+abbrev pub plain_check : Algos → CheckSettings
+plain_check algos = record { algo = algos; report = All; strict = false; ignore_missing = false }
+
+-- a run that writes the line of one name
+abbrev pub lines_of : Algo → Mode → ByteString → ByteString → GenerationRun
+lines_of algo mode tool name = record {
+  settings = record { kind = full_kind algo; style = record { mode = mode; zero = false } };
+  tool = tool;
+  names = name ∷ [];
+}

@@ -4,6 +4,7 @@ ghost use Rattle.sum_sources.specs.Contents.{unread};
 
 mod growths;
 mod hostile;
+mod laws;
 mod program;
 mod stops;
 mod worked_examples;
