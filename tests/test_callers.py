@@ -16,8 +16,6 @@ UNMISSED = {
     "sum_engine": "LineVerdict::name_range.end LineVerdict::name_range.start events_extend.result "
                   "old_verdicts.differs old_verdicts.verdicts same_front.result some_world_agrees.result "
                   "steps_join.result",
-    "sum_words": "plain_words_are_operands.after_dashes plain_words_are_operands.plain",
-    "digests": "joined_is_good.result told_performs.result told_program_performs.result written_is_good.result",
 }
 
 
