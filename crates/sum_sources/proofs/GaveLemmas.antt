@@ -1,7 +1,8 @@
 -- What the openings of a name gave, after one opening more and after a closing.
 use Rattle.std.proofs.Common.{◌≡◌, ℕ, zero, suc, Bool, true, false, List, [], ◌∷◌, ◌++◌, length, slice_set, Option, None, Some, Result, Ok, IfSome, refl, ap, sym, ◌∙◌, append-nil, bytes_eq}
 use Rattle.std.{proofs.lemmas.Slice.Eq.bytes_eq-Decides, proofs.lemmas.List.Elements.filter_map-append, specs.Prelude.slice_get, specs.Prelude.if◌then◌else◌, specs.Option.option_and_then}
-use Rattle.sum_sources.specs.{Contents.Content, Contents.Reads, Contents.InputState, Contents.HasContent, Contents.IsSameInput, Contents.Fault, Sources.Answer, Sources.Opening, Sources.SourceState, Sources.ToldAnswers, Sources.IsOpen, Sources.IsOfAnswer, Sources.GivesTold, Sources.names_of, Sources.times, Sources.gave_of, Sources.closed_at, Sources.opened_file, Sources.and_opening, Sources.after_closing}
+use Rattle.sum_sources.specs.{Contents.Content, Contents.Reads, Contents.InputState, Contents.HasContent, Contents.IsSameInput, Contents.Fault, Sources.Answer, Sources.Opening, Sources.SourceState, Sources.ToldAnswers, Sources.IsOpen, Sources.IsOfAnswer, Sources.GivesTold, Sources.names_of, Sources.times, Sources.gave_of, Sources.closed_at, Sources.opened_file, Sources.and_opening, Sources.after_closing, Sources.HashesOpened, Contents.HashesInput}
+use Rattle.digest_kinds.specs.Kinds.{KindValue}
 
 -- a test of names that answers so
 pub same_name : (a b : List ℕ) → bytes_eq a b ≡ true → a ≡ b
@@ -154,3 +155,16 @@ closed-seam (x ∷ xs) later o r = either (bytes_eq x.name o.name)
         → closed_at (x ∷ (xs ++ o ∷ later)) o.name k r ≡ x ∷ (xs ++ record o { gave = Some (Ok r) } ∷ later)
     past_another zero is later = rw is (ap (λ os. x ∷ os) later)
     past_another (suc k) is later = rw is (ap (λ os. x ∷ os) later)
+
+-- ---- a file that was opened, hashed and closed, and nothing in between
+
+pub hashed_last : {kind : KindValue} (tells : ToldAnswers) {name : List ℕ} {a m n : SourceState} {s t : InputState}
+    {result : Result (List ℕ) Fault} → s ≡ opened_file tells a name → m ≡ and_opening a name None
+    → HashesInput kind s t result → n ≡ after_closing m t → HashesOpened kind name a n result
+hashed_last tells {name = name} {a = a} {t = t} is opens hashes closes = record {
+  reads = t.reads;
+  closed = rw (closes, opens, hashes.same, is) (ap (λ os. record a { openings = os })
+      (closed-seam a.openings [] (record { name = name; gave = None }) t.reads));
+  hashes = let reads = rw (hashes.same, is) at hashes in
+      record { same = refl; digest = reads.digest; end = reads.end; past = reads.past };
+}

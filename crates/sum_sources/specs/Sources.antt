@@ -1,8 +1,11 @@
 -- Sources of files: what was asked of one, and what it answered.
 use Rattle.std.specs.Prelude.{ℕ, zero, suc, slice_get, ◌≡◌, ◌+◌, List, [], ◌∷◌, ◌++◌, map, filter, filter_map, length, Option, None, Some, Result, Ok, Err, IfSome, MatchResult, if◌then◌else◌, ◌&&◌, bytes_eq, nat_le, unwrap_or}
 use Rattle.std.{specs.Option.option_and_then, specs.Result.result_ok}
-use Rattle.sum_sources.specs.{Contents.Content, Contents.InputState, Contents.Reads, Contents.IsOf, Contents.unread, Faults.Fault, Faults.NotFound, Faults.ByteString, declared.sources.source.OpenFault.OpenFault}
+use Rattle.digest_kinds.specs.Kinds.{KindValue}
+use Rattle.sum_sources.specs.{Contents.Content, Contents.InputState, Contents.Reads, Contents.IsOf, Contents.unread, Contents.HashesInput, Faults.Fault, Faults.NotFound, Faults.ByteString, declared.sources.source.OpenFault.OpenFault}
 use Rattle.sum_sources.specs.declared.sources.source.OpenFault.TheVariants as faults
+pub use Rattle.sum_sources.specs.declared.sources.hash_file.HashFault.{HashFault}
+use Rattle.sum_sources.specs.declared.sources.hash_file.HashFault.TheVariants as hashing
 
 -- what opening a name gives: a content, or the fault of opening
 abbrev pub Answer : Type 0
@@ -113,3 +116,17 @@ closed_at (o ∷ os) name (suc k) r = o ∷ closed_at os name (if bytes_eq o.nam
 -- the source after this file was closed
 abbrev pub after_closing : SourceState → InputState → SourceState
 after_closing s file = record s { openings = closed_at s.openings file.name file.opening file.reads }
+
+-- the file of a name was opened, hashed from its beginning, and closed
+pub record HashesOpened (kind : KindValue) (name : ByteString) (a b : SourceState) (result : Result ByteString Fault)
+    : Type 0 where
+  pub reads : Reads
+  pub closed : b ≡ and_opening a name (Some (Ok reads))
+  pub hashes : HashesInput kind (opened_file tells_none a name)
+      (record (opened_file tells_none a name) { reads = reads }) result
+
+-- the effect of a call that hashes the file of a name
+abbrev pub HashesFile : KindValue → ByteString → SourceState → SourceState → Result ByteString HashFault → Type 0
+HashesFile kind name a b (Ok d) = HashesOpened kind name a b (Ok d)
+HashesFile kind name a b (Err (hashing.Read f)) = HashesOpened kind name a b (Err f)
+HashesFile kind name a b (Err (hashing.Open f)) = b ≡ after_opening {F = ByteString} a name (Err f)

@@ -7,9 +7,7 @@
 //! ```rust
 //! let mut files = ToldSource::new(alloc, PIECE);
 //! files.add(b"notes.txt", Answer::Content(b"abc", Ending::Whole))?;
-//! let mut file = files.open_file(b"notes.txt")?;
-//! let digest = hash_input(&mut file, Md5Hasher::new())?;
-//! files.close_file(file);
+//! let digest = hash_file(&mut files, b"notes.txt", Md5Hasher::new())?;
 //! assert!(digest.same(&"900150983cd24fb0d6963f7d28e17f72".parse()?));
 //! ```
 #![tactic(auto)]
@@ -30,6 +28,7 @@ pub use inputs::stdin::{Given, Stdin};
 pub use inputs::told::Told;
 pub use line_reader::{LineReader, LineStop, Next};
 pub use sources::files::Files;
+pub use sources::hash_file::{HashFault, hash_file, hash_file_over};
 pub use sources::inputs::{Inputs, is_dash};
 pub use sources::opened::Opened;
 pub use sources::source::{OpenFault, Source};
