@@ -1,23 +1,15 @@
--- Operands, one after another: the behavior of those before, followed by that of the rest, is the whole.
-use Rattle.std.proofs.Common.{◌≡◌, Bool, true, List, [], ◌∷◌, Option, None, Some, Ok, Err, refl, ap, sym, ◌∙◌, subst, append_assoc, append-nil, ◌&&◌, Bor}
+-- Operands, one after another: after those before, the rest completes the whole.
+use Rattle.std.proofs.Common.{◌≡◌, ℕ, Bool, true, List, [], ◌∷◌, ◌++◌, Option, None, Some, Result, Ok, Err, refl, ◌&&◌, Bor}
 use Rattle.std.proofs.Math.Bool.{and_assoc, and-true}
 use Rattle.std.proofs.lemmas.Bool.{and_parts}
 use Rattle.sum_engine.proofs.WorldLemmas.{reads_none, reads_then, agrees_before, world_after}
 use Rattle.sum_engine.specs.declared.stop.Stop.{Stop}
-use Rattle.sum_engine.specs.Behavior.{World, after, Behavior, behavior_then, trace, asks, ByteString}
+use Rattle.sum_engine.specs.Behavior.{World, after, Step, Behavior, trace, asks, ByteString}
 use Rattle.sum_engine.specs.Execution.{StreamsState, IsFlushed, ReadsToEndIf, Agrees, world_at, Happened, Performs, PerformsSteps}
 use Rattle.sum_engine.proofs.ExecutionLemmas.{Happened-none}
 use Rattle.sum_engine.proofs.BehaviorLemmas.{behavior_then-happened, behavior_then-first, behavior_then-second, events_extend}
 use Rattle.sum_words.specs.refinement.ItemIterator.{TakesFirst}
 use Rattle.digests.specs.Meaning.{operands_behavior, status_of}
-
--- the behavior of the operands before the rest happened, from the world w to the world v, and was good or not
-pub record HasDoneOperands (one : World → ByteString → Behavior) (names rest : List ByteString) (w v : World)
-    (a b : StreamsState) (good : Bool) : Type 0 where
-  pub done : Behavior
-  pub total : operands_behavior one w names ≡ behavior_then done (operands_behavior one v rest)
-  pub happened : Happened a b (trace done.steps)
-  pub is : good ≡ done.good
 
 -- the operands that are left: none, or the next one and those after it
 abbrev pub left : Option (Bor ByteString) → List ByteString → List ByteString
@@ -30,58 +22,53 @@ pub left-next : (old new : List ByteString) (next : Option (Bor ByteString)) →
 left-next old new None h = h.0
 left-next old new (Some name) h = h
 
--- the operands before the rest were done, from x to y, if both outputs were flushed
+-- steps happened, and then others were performed
+steps_then : {A : Type 0} {a b : StreamsState} (c : StreamsState) (x : A) (r s : List Step) (y : Result A Stop)
+    → Happened a b (trace r) → PerformsSteps s x b c y → PerformsSteps (r ++ s) x a c y
+steps_then c x r s (Ok z) h k = (k.0, behavior_then-happened r s h k.1)
+steps_then c x r s (Err stop) h k = behavior_then-second c x x r s stop h k
+
+-- these operands were performed in a world, after others that were good or not
+abbrev PerformsFrom : (World → ByteString → Behavior) → World → List ByteString → Bool → StreamsState → StreamsState
+    → Result ℕ Stop → Type 0
+PerformsFrom one w names good a b r =
+    let all = operands_behavior one w names in PerformsSteps all.steps (status_of (good && all.good)) a b r
+
+-- the operands before the rest were done, from x to y: if both outputs were flushed, the rest completes the whole
 pub record HasReached (one : World → ByteString → Behavior) (names rest : List ByteString) (x y : StreamsState)
     (good : Bool) : Type 0 where
   pub reads : ReadsToEndIf (good ≡ true) x.inputs y.inputs
-  pub reached : IsFlushed x.outputs → (w : World) → Agrees w y.inputs
-      → HasDoneOperands one names rest (world_at w x.inputs) (world_at w y.inputs) x y good
+  pub completes : IsFlushed x.outputs → (w : World) → Agrees w y.inputs → (z : StreamsState) (r : Result ℕ Stop)
+      → PerformsFrom one (world_at w y.inputs) rest good y z r
+      → PerformsFrom one (world_at w x.inputs) names true x z r
 
 module _ {one : World → ByteString → Behavior} {names : List ByteString} where
   -- before the first operand nothing happened
   pub operands_done_start : {rest : List ByteString} {a : StreamsState} → names ≡ rest
       → HasReached one names rest a a true
-  operands_done_start {a = a} is = record {
-    reads = reads_none a.inputs;
-    reached = λ flushed w agrees. record {
-      done = record { steps = []; good = true };
-      total = ap (operands_behavior one (world_at w a.inputs)) is;
-      happened = Happened-none a;
-      is = refl;
-    };
-  }
+  operands_done_start {a = a} is =
+      record { reads = reads_none a.inputs; completes = λ flushed w agrees z r did. rw is did }
 
   -- one operand more happened
   pub operands_done_step : {Whole : Type 0} {good : Bool} {name : ByteString} {rest : List ByteString}
       {x y : StreamsState} (this : Bool) (z : StreamsState) → HasReached one names (name ∷ rest) x y good
       → (IsFlushed x.outputs → IsFlushed y.outputs) → (this ≡ true → Whole) → ReadsToEndIf Whole y.inputs z.inputs
       → Performs (λ w. one w name) (λ g. g) y z (Ok this) → HasReached one names rest x z (good && this)
-  operands_done_step {good = good} {name = name} {rest = rest} {x = x} {y = y} this z h kept whole reads k = record {
+  operands_done_step {good = good} {name = name} {y = y} this z h kept whole reads k = record {
     reads = reads_then (λ all. let parts = and_parts good this all in (parts.0, whole parts.1)) h.reads reads;
-    reached = λ flushed w agrees.
-        let p = h.reached flushed w (agrees_before agrees reads) in
+    completes = λ flushed w agrees end r did.
         let q = k (kept flushed) w agrees in
-        let v = world_at w y.inputs in
-        let run = one v name in
-        let world : world_at w z.inputs ≡ after v (asks run) =
-        world_after w y.inputs z.inputs (asks run) (events_extend run y z q.1).0 in
-        record {
-          done = behavior_then p.done run;
-          total = rw (world, append_assoc, and_assoc) p.total;
-          happened = behavior_then-happened p.done.steps run.steps p.happened q.1;
-          is = ap (λ g. g && this) p.is ∙ ap (λ g. p.done.good && g) q.0;
-        };
+        let run = one (world_at w y.inputs) name in
+        let world = world_after w y.inputs z.inputs (asks run) (events_extend run y z q.1).0 in
+        h.completes flushed w (agrees_before agrees reads) end r
+        (steps_then end _ run.steps _ r q.1 (rw (world, q.0, and_assoc) at did));
   }
 
   -- no operand is left
   pub operands_done_end : {good : Bool} {x y : StreamsState} → HasReached one names [] x y good
       → Performs (λ w. operands_behavior one w names) status_of x y (Ok (status_of good))
-  operands_done_end {x = x} {y = y} h = λ flushed w agrees.
-      let p = h.reached flushed w agrees in
-      let total = rw (append-nil, and-true) at p.total in (
-        ap status_of (p.is ∙ ap (λ (r : Behavior). r.good) (sym total)),
-        subst (λ (r : Behavior). Happened x y (trace r.steps)) (sym total) p.happened,
-      )
+  operands_done_end {good = good} {y = y} h = λ flushed w agrees.
+      h.completes flushed w agrees y (Ok (status_of good)) (rw and-true (refl, Happened-none y))
 
   -- the next operand stopped the run
   pub operands_done_stop : {Whole : Type 0} {good : Bool} {name : ByteString} {rest : List ByteString}
@@ -89,14 +76,10 @@ module _ {one : World → ByteString → Behavior} {names : List ByteString} whe
       → (IsFlushed x.outputs → IsFlushed y.outputs) → ReadsToEndIf Whole y.inputs z.inputs
       → Performs (λ w. one w name) (λ g. g) y z (Err stop)
       → Performs (λ w. operands_behavior one w names) status_of x z (Err stop)
-  operands_done_stop {name = name} {rest = rest} {x = x} {y = y} stop z h kept reads k = λ flushed w agrees.
-      let p = h.reached flushed w (agrees_before agrees reads) in
-      let q = k (kept flushed) w agrees in
+  operands_done_stop {good = good} {name = name} {rest = rest} {y = y} stop z h kept reads k = λ flushed w agrees.
       let v = world_at w y.inputs in
       let run = one v name in
       let later = operands_behavior one (after v (asks run)) rest in
-      let status = status_of (behavior_then p.done (behavior_then run later)).good in
-      let next = behavior_then-first y z status run.good run.steps later.steps stop q in
-      let all = behavior_then-second z status status p.done.steps (behavior_then run later).steps stop p.happened next
-      in
-      subst (λ (r : Behavior). PerformsSteps r.steps (status_of r.good) x z (Err stop)) (sym p.total) all
+      h.completes flushed w (agrees_before agrees reads) z (Err stop)
+      (behavior_then-first y z (status_of (good && (run.good && later.good))) run.good run.steps later.steps stop
+      (k (kept flushed) w agrees))

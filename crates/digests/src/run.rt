@@ -119,7 +119,7 @@ fn run_operands<A: Allocator + Copy, S: Source, O: Sink, E: Sink>(
     alloc: A,
     job: &Job,
     tool: Tool,
-    operands: Operands,
+    mut operands: Operands,
     streams: &mut Streams<Reader<S>, Outputs<O, E>>,
 ) -> Result<u8, Stop>
     ensures behavior { Performs (λ w. operands_behavior (operand_behavior job.now (name_of tool)) w
@@ -128,7 +128,6 @@ fn run_operands<A: Allocator + Copy, S: Source, O: Sink, E: Sink>(
     ensures cause { StopHasCause (job_refusals job.now) streams.old streams.new result }
     ensures reads { ReadsToEndIf (result ≡ Ok 0) streams.old.inputs streams.new.inputs }
 {
-    let mut operands = operands;
     let mut next = Some(first_name(&mut operands));
     let mut good = true;
     'operands: while let Some(name) = next {

@@ -7,7 +7,7 @@ ghost use Rattle.sum_sources.specs.declared.inputs.closable.Closable.TheVariants
 ghost use Rattle.sum_sources.specs.declared.inputs.phase.Phase.TheVariants.{Unfinished};
 ghost use Rattle.sum_sources.specs.declared.inputs.stdin.StdinPlace.TheVariants.{Untaken};
 
-use std::io::{self, Read};
+use std::io::Read;
 use std::os::fd::AsFd;
 use sum_sources::{EBADF, FromRead, Stdin};
 
@@ -19,11 +19,7 @@ pub fn standard_input<I: Read + AsFd + Drop>(stdin: I) -> Stdin<FromRead<I>>
         ⊎ (result ≡ Untaken (Open (record { reader = stdin; log = no_reads }))) }
 {
     match stdin.as_fd().try_clone_to_owned() {
-        Err(error) if is_closed(&error) => Stdin::closed(),
+        Err(error) if error.raw_os_error() == Some(EBADF) => Stdin::closed(),
         _ => Stdin::new(FromRead::new(stdin)),
     }
-}
-
-fn is_closed(error: &io::Error) -> bool {
-    error.raw_os_error() == Some(EBADF)
 }

@@ -4,6 +4,7 @@ ghost use Rattle.sum_sources.specs.Contents.{unread};
 
 mod growths;
 mod hostile;
+mod laws;
 mod program;
 mod stops;
 mod worked_examples;
@@ -142,7 +143,7 @@ fn run_line<A: Allocator + Copy, const N: usize>(
     streams: &mut Stage<A, N>,
 ) -> Option<Result<u8, Stop>> {
     let mut parts = line.split(' ');
-    let tool = Tool::from_word(parts.next()?)?;
+    let tool = parts.next()?.parse().ok()?;
     let mut words = Words::new(alloc);
     for word in parts {
         words.add(word).ok()?;

@@ -36,7 +36,7 @@ pub use command_line::{CommandLine, NotRead, read_command_line};
 pub use messages::help::{put_help, put_version};
 pub use messages::program_lines::{put_not_read, put_stop, put_unknown};
 pub use messages::word_faults::{WordFault, put_fault};
-pub use parsing::items::{Item, Items, Operands};
+pub use parsing::items::Operands;
 pub use parsing::options::{Flag, Spelling};
 pub use parsing::request::{Request, read_words};
 pub use tool::{Tool, UnknownTool};

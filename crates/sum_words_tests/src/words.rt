@@ -3,8 +3,7 @@ use std::alloc::Global;
 use std::process::Abort;
 use std::test::Fail;
 use sum_words::{
-    CommandLine, Flag, Item, Items, NoRoom, Request, ToldArguments, Tool, WordFault, Words,
-    read_command_line, read_words,
+    CommandLine, NoRoom, Request, ToldArguments, Tool, Words, read_command_line, read_words,
 };
 
 /// The words of a line, separated by single spaces, followed by one of any bytes.
@@ -20,10 +19,6 @@ pub(crate) fn words_and(alloc: Global, line: &str, last: &[u8]) -> Result<Words<
 // Whether these are the words, in their order. Without a contract, so that a test knows no more of them than it sees.
 fn are(words: &Words<Global>, wanted: &[&[u8]]) -> bool {
     words.iter().eq(wanted.iter().copied())
-        && words.len() == wanted.len()
-        && words.is_empty() == wanted.is_empty()
-        && words.get(2) == wanted.get(2).copied()
-        && words.get(wanted.len()).is_none()
 }
 
 // Whether these are the operands of words that ask for lines. Without a contract, as above.
@@ -41,24 +36,6 @@ fn words_of_any_bytes(rt: HostRuntime) -> Result<(), Fail> {
     let wanted: [&[u8]; 4] = [b"--tag", b"", b"a\0b\n", b"\xff"];
     assert!(rt; are(&words, &wanted));
     assert!(rt; are_operands(&words, &wanted[1..]));
-    Ok(())
-}
-
-// Whether these are the items of the words. Without a contract, as above.
-fn are_items(words: &Words<Global>, wanted: &[Item]) -> bool {
-    Items::new(Tool::B2sum, words).eq(wanted.iter().copied())
-}
-
-#[test]
-fn items(rt: HostRuntime) -> Result<(), Fail> {
-    let words = words_and(rt.alloc(), "a -bl 8", b"-\xff")?;
-    let wanted = [
-        Item::Operand(b"a"),
-        Item::Flag(Flag::Binary),
-        Item::Length(b"8"),
-        Item::Fault(WordFault::NotText(b"-\xff")),
-    ];
-    assert!(rt; are_items(&words, &wanted));
     Ok(())
 }
 

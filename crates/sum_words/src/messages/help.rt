@@ -59,7 +59,7 @@ fn put_option<O: Sink>(out: &mut Buffered<O>, tool: Tool, flag: Flag) -> Result<
     if !has_option(tool, flag) {
         return put_all(out, b"");
     }
-    match flag.row().letter {
+    match flag.row().0 {
         Some(letter) => put_row(out, flag, b"  -", &[letter], b", "),
         None => put_row(out, flag, b"      ", b"", b""),
     }
@@ -76,9 +76,9 @@ fn put_row<'a, O: Sink>(
     requires { prefix.now ++ letter.now ++ suffix.now ≡ letter_column flag }
     ensures { WritesAll out.old out.new (help_line flag) result }
 {
-    let row = flag.row();
+    let (_, name, help) = flag.row();
     let value = value_column(flag);
-    let columns = 2 + row.name.len() + value.len();
+    let columns = 2 + name.len() + value.len();
     put_parts(
         out,
         &[
@@ -86,10 +86,10 @@ fn put_row<'a, O: Sink>(
             Part::Bytes(letter),
             Part::Bytes(suffix),
             Part::Bytes(b"--"),
-            Part::Bytes(row.name.as_bytes()),
+            Part::Bytes(name.as_bytes()),
             Part::Bytes(value.as_bytes()),
             Part::Bytes(padding(columns)),
-            Part::Bytes(row.help.as_bytes()),
+            Part::Bytes(help.as_bytes()),
             Part::Bytes(b"\n"),
         ],
     )

@@ -17,7 +17,7 @@ use std::marker::Model;
 
 /// An item of words: an option without a value, the value of `--length`, an operand, or a fault.
 #[derive(Clone, Copy, Debug, PartialEq, Eq)]
-pub enum Item<'a> {
+pub(crate) enum Item<'a> {
     Flag(Flag),
     Length(&'a [u8]),
     Operand(&'a [u8]),
@@ -26,7 +26,7 @@ pub enum Item<'a> {
 
 /// An iterator over the items of a tool's words, seen as the list of those that remain. No item follows a fault.
 #[derive(Debug, Drop)]
-pub struct Items<'a> {
+pub(crate) struct Items<'a> {
     tool: Tool,
     words: WordsIter<'a>,
     state: ParserState<'a>,
@@ -62,7 +62,7 @@ impl<'a> Model for Items<'a> {
 
 impl<'a> Items<'a> {
     /// Creates an iterator over all items of a tool's words.
-    pub fn new<A: Allocator>(tool: Tool, words: &'a Words<A>) -> Items<'a>
+    pub(crate) fn new<A: Allocator>(tool: Tool, words: &'a Words<A>) -> Items<'a>
         ensures { result ≡ items_from tool words.now a_word }
     {
         Items {
@@ -300,7 +300,7 @@ impl<'a> Model for Operands<'a> {
 
 impl<'a> Operands<'a> {
     /// Creates an iterator over all operands of a tool's words.
-    pub fn new<A: Allocator>(tool: Tool, words: &'a Words<A>) -> Operands<'a>
+    pub(crate) fn new<A: Allocator>(tool: Tool, words: &'a Words<A>) -> Operands<'a>
         ensures { result ≡ filter_map operand_in (items_from tool words.now a_word) }
     {
         Operands {

@@ -54,59 +54,40 @@ pub(crate) fn has_option(tool: Tool, flag: Flag) -> bool
     !flag.takes_value() || tool == Tool::B2sum
 }
 
-/// A row of the table of options: the letter, if there is one, the full name, and the text in the help.
-#[derive(Clone, Copy)]
-pub(crate) struct Row {
-    pub(crate) letter: Option<u8>,
-    pub(crate) name: &'static str,
-    pub(crate) help: &'static str,
-}
-
-impl Row {
-    fn new(letter: Option<u8>, name: &'static str, help: &'static str) -> Row
-        ensures letter { result.letter ≡ letter }
-        ensures name { result.name ≡ name.entry }
-        ensures help { result.help ≡ help.entry }
-    {
-        Row { letter, name, help }
-    }
-}
-
 impl Flag {
-    /// The option's row in the table.
+    /// The option's row in the table: the letter, if there is one, the full name, and the text in the help.
     #[rattlefmt::skip]
-    pub(crate) fn row(self) -> Row
-        ensures letter { option_to_list result.letter ≡ (row_of self).0 }
-        ensures name { result.name.now ≡ full_name self }
-        ensures help { result.help.now ≡ (row_of self).2 }
+    pub(crate) fn row(self) -> (Option<u8>, &'static str, &'static str)
+        ensures letter { option_to_list result.0 ≡ (row_of self).0 }
+        ensures name { result.1.now ≡ full_name self }
+        ensures help { result.2.now ≡ (row_of self).2 }
     {
         match self {
-            Flag::Binary => Row::new(Some(b'b'), "binary", "mark each line as binary"),
-            Flag::Check => Row::new(Some(b'c'), "check", "read checksums from the FILEs and check them"),
-            Flag::Length => Row::new(Some(b'l'), "length", "digest length in bits, a multiple of 8, at most 512"),
-            Flag::Tag => Row::new(None, "tag", "write lines of the tagged form"),
-            Flag::Text => Row::new(Some(b't'), "text", "mark each line as text (default)"),
-            Flag::Zero => Row::new(Some(b'z'), "zero", "end each line with NUL and escape no name"),
-            Flag::IgnoreMissing =>
-                Row::new(None, "ignore-missing", "with -c: neither fail nor report for missing files"),
-            Flag::Quiet => Row::new(None, "quiet", "with -c: print no OK lines"),
-            Flag::Status => Row::new(None, "status", "with -c: print no report"),
-            Flag::Strict => Row::new(None, "strict", "with -c: fail for improperly formatted lines"),
-            Flag::Warn => Row::new(Some(b'w'), "warn", "with -c: name each improperly formatted line"),
-            Flag::Help => Row::new(None, "help", "print this text"),
-            Flag::Version => Row::new(None, "version", "print the version"),
+            Flag::Binary => (Some(b'b'), "binary", "mark each line as binary"),
+            Flag::Check => (Some(b'c'), "check", "read checksums from the FILEs and check them"),
+            Flag::Length => (Some(b'l'), "length", "digest length in bits, a multiple of 8, at most 512"),
+            Flag::Tag => (None, "tag", "write lines of the tagged form"),
+            Flag::Text => (Some(b't'), "text", "mark each line as text (default)"),
+            Flag::Zero => (Some(b'z'), "zero", "end each line with NUL and escape no name"),
+            Flag::IgnoreMissing => (None, "ignore-missing", "with -c: neither fail nor report for missing files"),
+            Flag::Quiet => (None, "quiet", "with -c: print no OK lines"),
+            Flag::Status => (None, "status", "with -c: print no report"),
+            Flag::Strict => (None, "strict", "with -c: fail for improperly formatted lines"),
+            Flag::Warn => (Some(b'w'), "warn", "with -c: name each improperly formatted line"),
+            Flag::Help => (None, "help", "print this text"),
+            Flag::Version => (None, "version", "print the version"),
         }
     }
 
     /// Returns the full name, without the two dashes.
-    pub fn name(self) -> &'static str
+    pub(crate) fn name(self) -> &'static str
         ensures { result.now ≡ full_name self }
     {
-        self.row().name
+        self.row().1
     }
 
     /// Returns whether the option takes a value.
-    pub fn takes_value(self) -> bool
+    pub(crate) fn takes_value(self) -> bool
         ensures { result ≡ takes_value self }
     {
         matches!(self, Flag::Length)
@@ -115,7 +96,7 @@ impl Flag {
     /// Returns the tool's option that a long name means: the one with this full name, or else the only one whose full
     /// name begins with it. Fails with `UnknownLong` if no full name does, and with `AmbiguousLong` if several do.
     #[tactic(auto, unfolding(crate::specs::Items::name_or_fault))]
-    pub fn of_name(tool: Tool, name: &str) -> Result<Flag, WordFault<'_>>
+    pub(crate) fn of_name(tool: Tool, name: &str) -> Result<Flag, WordFault<'_>>
         ensures { result_value result ≡ name_or_fault tool name.now }
     {
         match first_named(tool, name) {
@@ -126,7 +107,7 @@ impl Flag {
 
     /// Returns the tool's option of this letter.
     #[tactic(auto, unfolding(crate::specs::Items::option_of_letter))]
-    pub fn of_letter(tool: Tool, letter: char) -> Option<Flag>
+    pub(crate) fn of_letter(tool: Tool, letter: char) -> Option<Flag>
         ensures { result ≡ option_of_letter tool letter }
     {
         FLAGS
@@ -141,7 +122,7 @@ impl Flag {
 fn has_letter(flag: Flag, letter: char) -> bool
     ensures { result ≡ bytes_eq (row_of flag).0 (letter ∷ []) }
 {
-    match flag.row().letter {
+    match flag.row().0 {
         Some(own) => char::from(own) == letter,
         None => false,
     }

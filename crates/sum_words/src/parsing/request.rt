@@ -1,5 +1,5 @@
 //! What the words ask for: settings and operands, help, version, or a fault.
-ghost use Rattle.std.specs.Option.{option_copied, option_map, option_transpose};
+ghost use Rattle.std.specs.Option.{option_map};
 ghost use Rattle.std.specs.Prelude.{◌≡◌, ◌∷◌, List, [], filter_map};
 ghost use Rattle.std.specs.Str.{all_ascii_digits};
 ghost use Rattle.sum_words.specs.Items.{ItemValue, a_word, items_from, option, option_in};
@@ -44,9 +44,10 @@ pub fn read_words<'a, A: Allocator>(
         ScannedOptions::Early(request) => return request,
     };
     // Not `?`: the borrow checker has no rule for it if the error holds a `&'static str`.
-    let kind = match asked_kind(chosen.length) {
-        Ok(kind) => kind,
-        Err(fault) => return Err(fault),
+    let kind = match chosen.length.map(length_kind) {
+        None => None,
+        Some(Ok(kind)) => Some(kind),
+        Some(Err(fault)) => return Err(fault),
     };
     if let Some(fault) = fault_of_options(&chosen) {
         return Err(fault);
@@ -110,11 +111,10 @@ fn read_options<'a, A: Allocator>(tool: Tool, words: &'a Words<A>) -> ScannedOpt
 }
 
 // The options, with one more added.
-fn with_flag(chosen: Chosen<'_>, flag: Flag) -> Chosen<'_>
+fn with_flag(mut chosen: Chosen<'_>, flag: Flag) -> Chosen<'_>
     ensures { (rest all : List ItemValue) → IsChosenBy chosen.entry (option flag ∷ rest) all →
         IsChosenBy result rest all }
 {
-    let mut chosen = chosen;
     match flag {
         Flag::Binary => {
             chosen.mode = Some(Flag::Binary);
@@ -138,21 +138,6 @@ fn with_flag(chosen: Chosen<'_>, flag: Flag) -> Chosen<'_>
         Flag::Help | Flag::Version | Flag::Length => {}
     }
     chosen
-}
-
-// The kind that the last length value asks for, if there is one.
-fn asked_kind(length: Option<&[u8]>) -> Result<Option<Kind>, WordFault<'_>>
-    ensures { result_value result
-        ≡ option_transpose (option_map length_kind (option_copied length.entry)) }
-{
-    match length {
-        None => Ok(None),
-        // Not `?`, as above.
-        Some(value) => match length_kind(value) {
-            Ok(kind) => Ok(Some(kind)),
-            Err(fault) => Err(fault),
-        },
-    }
 }
 
 // The kind that a length value asks for.

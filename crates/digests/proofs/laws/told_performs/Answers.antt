@@ -1,5 +1,7 @@
-use Rattle.digests.proofs.InMemory.{in_memory}
+use Rattle.std.proofs.Common.{[]}
 use Rattle.digests.proofs.laws.told_performs.Goals as goal
 
+-- the world of the files in memory is one that agrees
 pub returns : goal.returns
-returns g c = in_memory g.S.Source.tells c.args.streams.now c.told_agree.ensures
+returns g c = λ tool words answer a r all flushed did reads.
+    did flushed (record { answer = answer; opened = [] }) (c.told_agree.ensures answer (rw (← reads.told) at all))

@@ -1,0 +1,83 @@
+//! What the laws say of one tool and of one or two names. Each of these functions is there for its contract.
+ghost use Rattle.digests.specs.GenerationRuns.{HasFiles, IsListable};
+ghost use Rattle.digests.specs.Meaning.{meaning, status_of};
+ghost use Rattle.std.specs.Prelude.{ℕ, ◌≡◌, ◌<◌, ◌∷◌, ◌++◌, [], List, Ok, IfOk, Some, codes, length};
+ghost use Rattle.sum_engine.specs.Behavior.{Whole, World, answer_to, out_text, err_text};
+ghost use Rattle.sum_engine.specs.Execution.{IsFlushed};
+ghost use Rattle.sum_sources.specs.Contents.{empty_content, limit};
+ghost use Rattle.sum_sources.specs.Sources.{Answer, Answers, TellsAll};
+ghost use Rattle.sum_words.specs.Items.{ByteString};
+ghost use Rattle.sum_words.specs.declared.tool.Tool.TheVariants.{Md5sum, Sha256sum, Anysum};
+
+use crate::command::command;
+use crate::laws::{joined_is_good, told_performs, told_program_performs, written_is_good};
+use crate::run::run;
+use std::alloc::Allocator;
+use sum_engine::{Outputs, Reader, Stop, Streams};
+use sum_lines::Sink;
+use sum_sources::Source;
+use sum_words::{Arguments, Tool, Words};
+
+// `md5sum e` over files in memory, of which `e` is empty: if it doesn't stop, the status is 0, and standard output got
+// the line of `e` and nothing else.
+fn run_on_e<A: Allocator + Copy, S: Source, O: Sink, E: Sink>(
+    alloc: A,
+    words: &Words<A>,
+    streams: &mut Streams<Reader<S>, Outputs<O, E>>,
+) -> Result<u8, Stop>
+    requires words { words.now ≡ codes "e" ∷ [] }
+    requires start { IsFlushed streams.old.outputs × (streams.old.inputs.openings ≡ []) }
+    ensures { (answer : Answers) → TellsAll S.tells streams.old.inputs.told answer →
+        answer (codes "e") 0 ≡ Ok empty_content → IfOk result (λ status. (status ≡ 0)
+        × (streams.new.outputs.out.sink.written ≡ streams.old.outputs.out.sink.written
+        ++ codes "d41d8cd98f00b204e9800998ecf8427e  e\n")) }
+{
+    let outcome = run(alloc, Tool::Md5sum, words, streams);
+    told_performs(streams);
+    outcome
+}
+
+// `md5sum` without words, if standard input is empty: if the status is 0, standard output got its line.
+fn command_on_nothing<A: Allocator + Copy, G: Arguments, S: Source, O: Sink, E: Sink>(
+    alloc: A,
+    arguments: &mut G,
+    streams: &mut Streams<Reader<S>, Outputs<O, E>>,
+) -> u8
+    requires new { (G.state arguments.old).given ≡ [] }
+    requires told { (G.state arguments.old).told ≡ Some (codes "md5sum" ∷ []) }
+    requires start { IsFlushed streams.old.outputs × (streams.old.inputs.openings ≡ []) }
+    ensures { (answer : Answers) → TellsAll S.tells streams.old.inputs.told answer →
+        answer (codes "-") 0 ≡ Ok empty_content → result ≡ 0 →
+        streams.new.outputs.out.sink.written ≡ streams.old.outputs.out.sink.written
+        ++ codes "d41d8cd98f00b204e9800998ecf8427e  -\n" }
+{
+    let status = command(alloc, arguments, streams);
+    told_program_performs(arguments, streams);
+    status
+}
+
+// `md5sum a` wrote `SUMS`, and `a` is the same later: then a check reports `a: OK` and nothing else, with status 0.
+fn one_name_is_good()
+    ensures { (files later : ByteString → Answer) (w v : World) → HasFiles w files → HasFiles v later →
+        IsListable files (codes "a") → later (codes "a") ≡ files (codes "a") →
+        let sums = out_text (meaning Md5sum (codes "a" ∷ []) w) in
+        length sums < limit → answer_to v (codes "SUMS") ≡ Ok (record { bytes = sums; ending = Whole }) →
+        let run = meaning Md5sum (codes "--check" ∷ codes "--" ∷ codes "SUMS" ∷ []) v in
+        (status_of run.good ≡ 0) × (out_text run ≡ codes "a: OK\n") × (err_text run ≡ []) }
+{
+    written_is_good();
+}
+
+// `md5sum --tag a` and `sha256sum --tag b` wrote `SUMS`, one after the other: then `anysum` reports both in its check.
+fn two_tools_are_good()
+    ensures { (files later : ByteString → Answer) (w v : World) → HasFiles w files → HasFiles v later →
+        IsListable files (codes "a") → later (codes "a") ≡ files (codes "a") →
+        IsListable files (codes "b") → later (codes "b") ≡ files (codes "b") →
+        let sums = out_text (meaning Md5sum (codes "--tag" ∷ codes "a" ∷ []) w)
+        ++ out_text (meaning Sha256sum (codes "--tag" ∷ codes "b" ∷ []) w) in
+        length sums < limit → answer_to v (codes "SUMS") ≡ Ok (record { bytes = sums; ending = Whole }) →
+        let run = meaning Anysum (codes "--check" ∷ codes "--" ∷ codes "SUMS" ∷ []) v in
+        (status_of run.good ≡ 0) × (out_text run ≡ codes "a: OK\nb: OK\n") × (err_text run ≡ []) }
+{
+    joined_is_good();
+}
