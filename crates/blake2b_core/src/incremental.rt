@@ -14,6 +14,18 @@ pub const LIMIT: u64 = 1 << 61;
 #[derive(Clone, Copy, Debug, PartialEq, Eq)]
 pub struct MessageTooLong;
 
+impl MessageTooLong {
+    /// Fails if and only if a message of `taken` bytes and then the piece would have [`LIMIT`] bytes or more.
+    pub fn check(taken: u64, piece: &[u8]) -> Result<(), MessageTooLong>
+        ensures { IsOk result ↔ (taken + length piece.now < 2 ^ 61) }
+    {
+        if piece.len() as u64 >= LIMIT.saturating_sub(taken) {
+            return Err(MessageTooLong);
+        }
+        Ok(())
+    }
+}
+
 /// Computes a BLAKE2b digest of a message that comes in pieces. At most one block of the message is buffered.
 #[derive(Debug, Drop)]
 pub struct Blake2b {
@@ -155,9 +167,7 @@ impl Blake2b {
         ensures len { digest_len self.new ≡ digest_len self.old }
         ensures err { OnErr result (self.new ≡ self.old) }
     {
-        if piece.len() as u64 >= LIMIT.saturating_sub(self.taken) {
-            return Err(MessageTooLong);
-        }
+        MessageTooLong::check(self.taken, piece)?;
         self.update(piece);
         Ok(())
     }

@@ -45,9 +45,7 @@ pub trait Hasher {
         ensures kind { kind_of self.new ≡ kind_of self.old }
         ensures err { OnErr result (self.new ≡ self.old) }
     {
-        if piece.len() as u64 >= LIMIT.saturating_sub(self.taken()) {
-            return Err(MessageTooLong);
-        }
+        MessageTooLong::check(self.taken(), piece)?;
         self.update(piece);
         Ok(())
     }
