@@ -6,7 +6,7 @@ ghost use Rattle.std.specs.Prelude.{◌≡◌, ◌*◌, ◌++◌, ◌≤◌, ◌
 
 use std::cmp::Ordering;
 use std::convert::AsSlice;
-use std::hash::{Hash, Hasher};
+use std::hash::{Hash, Hasher as StdHasher};
 use std::marker::Model;
 use std::str::FromStr;
 use std::{fmt, str};
@@ -171,7 +171,7 @@ impl Hash for Digest {
 
     ghost respects_eq = { Prim.search (hashing, rules) };
 
-    fn hash<H: Hasher>(&self, state: &mut H) {
+    fn hash<H: StdHasher>(&self, state: &mut H) {
         self.as_slice().hash(state);
     }
 }

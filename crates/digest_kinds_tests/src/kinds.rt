@@ -3,7 +3,7 @@
 use digest_kinds::{Algo, Digest, Kind, LengthFault, NotDigits, UnknownKind, UnknownTag};
 use std::alloc::Global;
 use std::convert::AsSlice;
-use std::hash::{DefaultHasher, Hash, Hasher};
+use std::hash::{DefaultHasher, Hash, Hasher as StdHasher};
 use std::process::Abort;
 use std::test::Fail;
 
