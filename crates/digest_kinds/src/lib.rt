@@ -18,7 +18,6 @@
 mod algo;
 mod digest;
 mod hashers;
-mod interruptions;
 mod kind;
 mod kind_text;
 pub mod laws;
@@ -30,6 +29,5 @@ pub use hashers::hasher::{Hasher, LIMIT, MessageTooLong};
 pub use hashers::kit_hashers::{
     Md5Hasher, Sha1Hasher, Sha224Hasher, Sha256Hasher, Sha384Hasher, Sha512Hasher,
 };
-pub use interruptions::INTERRUPTIONS;
 pub use kind::{Kind, LengthFault};
 pub use kind_text::{KindPrefix, UnknownKind};

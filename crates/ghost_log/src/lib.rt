@@ -1,4 +1,5 @@
-//! Logs that only proofs see: they take no room, and their calls do nothing.
+//! What inputs and outputs share: logs that only proofs see, and how often an interrupted call is retried. Logs take no
+//! room, and their calls do nothing.
 //!
 //! A log's state is a value of its type parameter, as clauses see it. No code can hold it: only a contract says what a
 //! log's state is, so a contract that speaks of it tells a caller nothing, unless a trait's clause reads it.
@@ -12,6 +13,9 @@
 ghost use Rattle.std.specs.Borrow.{ftrue};
 ghost use Rattle.std.specs.Prelude.{◌≡◌};
 
+mod interruptions;
+
+pub use interruptions::INTERRUPTIONS;
 use std::fmt;
 use std::fmt::{Debug, Formatter, Write};
 use std::marker::{Model, PhantomData};

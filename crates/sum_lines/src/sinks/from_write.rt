@@ -4,8 +4,7 @@ ghost use Rattle.std.specs.Prelude.{true, ◌≡◌, ◌+◌, ◌++◌, Some, un
 
 use crate::sinks::sink::{Sink, SinkFault};
 use crate::sinks::writes::{Flushed, Offer, Writes};
-use digest_kinds::INTERRUPTIONS;
-use ghost_log::Log;
+use ghost_log::{INTERRUPTIONS, Log};
 use std::io::{ErrorKind, Write};
 use std::snapshot::Snapshot;
 

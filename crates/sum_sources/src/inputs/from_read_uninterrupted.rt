@@ -5,7 +5,7 @@ ghost use Rattle.std.specs.Prelude.{◌≡◌, ◌≤◌, length, IfOk};
 ghost use Rattle.sum_sources.specs.Contents.{and_read};
 
 use crate::{Fault, FromRead, Input};
-use digest_kinds::INTERRUPTIONS;
+use ghost_log::INTERRUPTIONS;
 use std::io::Read;
 
 impl<R: Read> Input for FromRead<R> {
