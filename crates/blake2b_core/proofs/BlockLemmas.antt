@@ -16,9 +16,8 @@ are_blocks m k count are = grind (arith, length-first_chunks, get_or-first_chunk
 pub first_chunks_take : (n k : ℕ) (xs : List ℕ) (j : ℕ) → n * k ≤ j → first_chunks n k (take j xs) ≡ first_chunks n k xs
 first_chunks_take n zero xs j fits = refl
 first_chunks_take n (suc k) xs j fits =
-    let here : n ≤ j = omega arith in
     let split : j ≡ n + (j - n) = omega arith in
-    rw (take-take n j xs, split, drop-take, first_chunks_take n k (drop n xs) (j - n) (omega arith)) refl
+    grind (arith, take-take, drop-take, first_chunks_take n k (drop n xs) (j - n) (omega arith))
 
 -- one more block
 pub hash_after-more : (n : ℕ) (m : ByteString) (k : ℕ)

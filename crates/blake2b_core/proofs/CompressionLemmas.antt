@@ -41,10 +41,6 @@ get_or-first_chunks n (suc k) xs zero d h = let none : n * 0 ≡ 0 = omega arith
 get_or-first_chunks n (suc k) xs (suc i) d h =
     grind (arith, get_or-first_chunks n k (drop n xs) i d (omega arith), drop-drop)
 
--- a number of eight bytes is the number in the first eight
-little_number-take : (xs : List ℕ) → 8 ≤ length xs → little_number 8 (take 8 xs) ≡ little_number 8 xs
-little_number-take xs long = grind arith
-
 -- sixteen words that read as the bytes of a block are its words
 pub block_words_is : (m block : List ℕ) → length m ≡ 16 → length block ≡ 128
     → ((k : ℕ) → k < length m → m ! k ≡ little_number 8 (drop (8 * k) block)) → m ≡ block_words block
@@ -53,5 +49,6 @@ block_words_is m block sixteen size read =
     ext_get_or 0 m _ (sixteen ∙ sym count) (λ i below.
     let here : i < 16 = omega arith in
     let long : 8 ≤ length (drop (8 * i) block) = omega (arith, length-drop (8 * i) block) in
+    let same : little_number 8 (take 8 (drop (8 * i) block)) ≡ little_number 8 (drop (8 * i) block) = grind arith in
     read i below ∙ sym (get_or-map (little_number 8) (first_chunks 8 16 block) i [] 0 here
-    ∙ rw (get_or-first_chunks 8 16 block i [] here) (little_number-take (drop (8 * i) block) long)))
+    ∙ rw (get_or-first_chunks 8 16 block i [] here) same))

@@ -1,4 +1,4 @@
-use Rattle.std.proofs.Common.{◌≡◌, ◌+◌, arith}
+use Rattle.std.proofs.Common.{◌+◌, arith}
 use Rattle.blake2b_core.proofs.BlockLemmas.{hash_after-more}
 use Rattle.blake2b_core.proofs.one_shot.state_after.Goals as goal
 
@@ -9,6 +9,5 @@ loop-block-preserved c = record {
   hashed = λ n m k at follow start.
       let hashed = c.loop-block.invariant.hashed n m k at follow start in
       let block = follow c.loop-block.block-index c.loop-block-test.true in
-      let next : k + (c.loop-block.block-index + 1) ≡ k + c.loop-block.block-index + 1 = omega arith in
-      rw next (grind (arith, hash_after-more, hashed, block));
+      let next = hash_after-more n m (k + c.loop-block.block-index) in grind arith;
 }

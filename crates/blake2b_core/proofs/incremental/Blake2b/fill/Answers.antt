@@ -1,4 +1,4 @@
-use Rattle.std.proofs.Common.{◌≡◌, ◌+◌, ◌-◌, ◌*◌, ◌++◌, length, take, arith}
+use Rattle.std.proofs.Common.{◌≡◌, ◌+◌, ◌-◌, arith}
 use Rattle.std.proofs.lemmas.{Grind.common_steps, List.take_all}
 use Rattle.blake2b_core.proofs.BlockLemmas.{hash_after-more}
 use Rattle.blake2b_core.proofs.incremental.Blake2b.fill.Goals as goal
@@ -6,11 +6,9 @@ use Rattle.blake2b_core.proofs.incremental.Blake2b.fill.Goals as goal
 -- the buffered block is full, and is compressed
 pub returns-clause-holds : goal.returns-clause-holds
 returns-clause-holds c = λ m before.
-    let s = c.buffer_bytes.new.self in
-    let all = m ++ take (128 - c.args.self.now.buffer_len) c.args.piece.now in
     let held = c.buffer_bytes.ensures.holds m before in
-    let full : s.buffer_len ≡ 128 = grind (arith, common_steps) in
-    let counted : 128 * held.done + s.buffer_len ≡ length all = held.count in
+    let full : c.buffer_bytes.new.self.buffer_len ≡ 128 = grind (arith, common_steps) in
+    let counted = held.count in
     record {
       taken = held.taken;
       done = held.done + 1;
