@@ -3,7 +3,7 @@ use Rattle.std.proofs.Common.{ℕ, ◌≡◌, ◌≢◌, ◌*◌, ◌/◌, ◌%�
 use Rattle.std.specs.{Char.is_ascii_digit, List.AllPass, Result.result_ok, Str.Parse.digits_value}
 use Rattle.std.proofs.lemmas.Fmt.{decimal_digit, decimal-digits_value, digits_decimal, digits_value-decimal, first_decimal, length-decimal-le}
 use Rattle.std.proofs.lemmas.List.Elements.{All-cons, All-head, All-tail, All-nil}
-use Rattle.std.proofs.lemmas.Str.Parse.{IsDigitsTest, IsNumeralModel, digits_value_short, numerals_by_value}
+use Rattle.std.proofs.lemmas.Str.Parse.{IsNumeralModel, digits_value_short, numerals_by_value}
 use Rattle.digest_kinds.specs.Kinds.{Blake2b, KindValue, blake2b_kind, blake2b_of_bits, has_len}
 use Rattle.digest_kinds.specs.KindTexts.{kind_of_digits, short_number}
 use Rattle.digest_kinds.proofs.PrefixLemmas.{bind_some}
@@ -14,25 +14,17 @@ use Rattle.digest_kinds.proofs.PrefixLemmas.{bind_some}
 abbrev IsDigit : ℕ → Type 0
 IsDigit x = is_ascii_digit x ≡ true
 
--- bytes that are digits, as the library has them
-digits-test : IsDigitsTest (AllPass is_ascii_digit)
-digits-test = record {
+-- bytes that are digits, and the number that they write, as the library has them
+numerals : IsNumeralModel (AllPass is_ascii_digit) (digits_value 10)
+numerals = numerals_by_value _ (record {
   empty = All-nil IsDigit;
   parts = λ c cs all. let here = All-head IsDigit c cs all in (grind arith, All-tail IsDigit c cs all);
   more = λ c cs range all. grind (arith, All-cons, all);
-}
-
--- and the number that they write
-numerals : IsNumeralModel (AllPass is_ascii_digit) (digits_value 10)
-numerals = numerals_by_value _ digits-test
+})
 
 -- what `decimal` writes are digits
 pub decimal-digits : (len : ℕ) → len ≤ 64 → AllPass is_ascii_digit (decimal (8 * len))
 decimal-digits len few = digits_decimal numerals (8 * len) (omega (arith, few))
-
--- one to three digits without a leading zero are a number
-short_number-is : (ds : List ℕ) → 48 < get_or ds 0 0 → length ds ≤ 3 → short_number ds ≡ Some (digits_value 10 ds)
-short_number-is ds lead few = grind arith
 
 -- only such digits are a number
 short_number-some : (ds : List ℕ) (v : ℕ) → short_number ds ≡ Some v
@@ -48,7 +40,7 @@ kind_of_digits-bits len some few =
     let lead = first_decimal (8 * len) (omega (arith, some)) (omega (arith, bits)) in
     let short = length-decimal-le 3 (8 * len) (omega arith) bits (omega (arith, bits)) in
     let value = digits_value-decimal numerals (8 * len) (omega (arith, bits)) in
-    rw (short_number-is (decimal (8 * len)) lead short, value) (grind arith)
+    let is : short_number (decimal (8 * len)) ≡ Some (8 * len) = grind arith in rw is (grind arith)
 
 -- the numbers of bits that the code accepts, and the kind that it makes of one
 bits-accepted : (v : ℕ) (k : KindValue) → 0 < v → result_ok (blake2b_of_bits v) ≡ Some k
@@ -68,6 +60,4 @@ kind_of_digits-some ds kind all h =
     is.1 (ap (λ l. get_or l 0 0) (sym text ∙ ap decimal none ∙ decimal_digit 0 (omega arith))) in
     let bits = bits-accepted n.0 kind (omega (arith, some, is.0)) n.2 in
     let eight : digits_value 10 ds ≡ 8 * (n.0 / 8) = omega (arith, is.0, bits.0) in
-    let low : 1 ≤ n.0 / 8 = omega (arith, some, is.0, bits.0) in
-    let high : n.0 / 8 ≤ 64 = omega (arith, bits.1) in
     rw bits.2 (sym text ∙ ap decimal eight, refl, grind arith)

@@ -1,5 +1,5 @@
 -- Digits that spell a digest, and decoding them.
-use Rattle.std.proofs.Common.{◌≡◌, ℕ, ◌/◌, ◌≤◌, ◌↔◌, List, length, Result, Ok, Err, IsOk, MatchResult, arith, refl, ltb, IsAscii, IsUtf8, rules}
+use Rattle.std.proofs.Common.{◌≡◌, ℕ, ◌/◌, ◌≤◌, ◌↔◌, List, length, Result, Ok, Err, IsOk, MatchResult, arith, refl, ltb, IsUtf8, rules}
 use Rattle.std.proofs.lemmas.{Bool.ltb-true, List.Sums.AllPass-from_list_all, Str.IsUtf8-from_ascii, Str.Ascii.IsAscii-from_all}
 use Rattle.hex.specs.Hex.{decode_sized, encode_lower, lower_digits}
 use Rattle.hex.specs.declared.error.FromHexError.{FromHexError}
@@ -13,12 +13,8 @@ pub IsOk-decoded : {n : ℕ} (text : List ℕ) (r : Result Unit FromHexError) (o
     → IsOk r ↔ IsDigits text
 IsOk-decoded text r out half low high written = grind (arith, IsOk-decode_sized, IsOk-written)
 
--- the digits are ASCII
-IsAscii-lower_digits : IsAscii lower_digits
-IsAscii-lower_digits =
-    let pass = AllPass-from_list_all (λ b. ltb b 128) lower_digits refl in
-    IsAscii-from_all lower_digits (λ k d below. ltb-true _ 128 (pass k d below))
-
 -- digits are a text
 pub IsUtf8-encode_lower : (bytes : List ℕ) → IsUtf8 (encode_lower bytes)
-IsUtf8-encode_lower bytes = search (rules, IsUtf8-from_ascii, IsAscii-encode_with, IsAscii-lower_digits)
+IsUtf8-encode_lower bytes =
+    let pass = AllPass-from_list_all (λ b. ltb b 128) lower_digits refl in
+    search (rules, IsUtf8-from_ascii, IsAscii-encode_with, IsAscii-from_all, ltb-true, pass)

@@ -1,7 +1,7 @@
 -- What follows a tag is read as the width of a kind, and the text of a kind names it.
 use Rattle.std.proofs.Common.{ℕ, ◌≤◌, IsUtf8, codes, ◌≡◌, true, false, ◌==◌, List, [], ◌∷◌, ◌++◌, length, drop, Some, refl, ap, inl, inr, arith, rules, take_while, option_map, decimal, ◌*◌}
-use Rattle.std.proofs.lemmas.{Grind.common_steps, Bool.Decides.eqb_tells, Option.same_Some, Fmt.IsAscii-decimal, Fmt.length-decimal-le}
-use Rattle.std.specs.{Char.is_ascii_digit, List.AllPass}
+use Rattle.std.proofs.lemmas.{Grind.common_steps, Fmt.IsAscii-decimal, Fmt.length-decimal-le}
+use Rattle.std.specs.Char.{is_ascii_digit}
 use Rattle.std.proofs.lemmas.{Str.IsAscii-append, Str.IsUtf8-from_ascii, List.drop_at}
 use Rattle.digest_kinds.proofs.{TagLemmas.find-begins, KindLemmas.has_len-full, KindLemmas.has_len-range}
 use Rattle.digest_kinds.specs.Bytes.{after_while}
@@ -18,9 +18,8 @@ pub record HasWidth (a : Algo) (s : List ℕ) (w : KindValue × List ℕ) : Type
   pub whole : s ≡ width ++ w.1
 
 -- nothing, for the full length
-width-none : (a : Algo) (s : List ℕ) (w : KindValue × List ℕ) → Some (full_kind a, s) ≡ Some w → HasWidth a s w
-width-none a s w h = rw (← same_Some (full_kind a, s) w h)
-    (record { is_algo = refl; width = []; is_width = inl (refl, refl); whole = refl })
+width-none : (a : Algo) (s : List ℕ) → HasWidth a s (full_kind a, s)
+width-none a s = record { is_algo = refl; width = []; is_width = inl (refl, refl); whole = refl }
 
 -- the bits of BLAKE2b
 width-bits : (s : List ℕ) (w : KindValue × List ℕ)
@@ -38,32 +37,22 @@ width-bits s w h =
 
 -- either of them, as a `-` follows BLAKE2b's tag or not
 pub kind_and_rest-some : (a : Algo) (s : List ℕ) (w : KindValue × List ℕ) → kind_and_rest a s ≡ Some w → HasWidth a s w
-kind_and_rest-some Blake2b [] w h = width-none Blake2b [] w h
-kind_and_rest-some Blake2b (b ∷ bs) w h = elim (eqb_tells b 45) [
-  | inl same ↦ rw same.1 (width-bits bs w (rw same.0 at h))
-  | inr other ↦ width-none Blake2b (b ∷ bs) w (rw other.0 at h)
-]
-kind_and_rest-some a s w h = width-none a s w h
+kind_and_rest-some Blake2b [] w h = grind (arith, width-none)
+kind_and_rest-some Blake2b (b ∷ bs) w h = grind (arith, width-bits, width-none)
+kind_and_rest-some a s w h = grind (arith, width-none)
 
 -- ---- the width of a kind, and nothing after it
-
--- digits alone are all that is taken of them
-digits-alone : (ds : List ℕ) → AllPass is_ascii_digit ds
-    → (take_while is_ascii_digit ds ≡ ds) × (after_while is_ascii_digit ds ≡ [])
-digits-alone ds all = grind (arith, common_steps, prefix_len-all)
 
 -- the width of a kind is read as that kind
 pub kind_and_rest-alone : (kind : KindValue) (width : List ℕ) → IsWidth kind width
     → kind_and_rest kind.algo width ≡ Some (kind, [])
-kind_and_rest-alone kind width is = search (rules, digits-alone, decimal-digits, kind_of_digits-bits)
+kind_and_rest-alone kind width is = grind (arith, common_steps, prefix_len-all, decimal-digits, kind_of_digits-bits)
 
 -- so a kind that a text names is read after the tag that begins the text, and nothing follows
 pub named_read : (s : List ℕ) (a : Algo) (kind : KindValue) → BeginsWithTag s a → NamesKind s kind
     → kind_and_rest a (drop (length (tag a)) s) ≡ Some (kind, [])
 named_read s a kind begun named =
-    let first = rw (← named.1) at (find-begins kind.algo named.0) in
-    let second = rw (← begun.1) at (find-begins a begun.0) in
-    let same : kind.algo ≡ a = cc in
+    let same : kind.algo ≡ a = grind (arith, find-begins) in
     rw (← same, named.1, drop_at (tag kind.algo) named.0 (length (tag kind.algo)) refl)
     (kind_and_rest-alone kind named.0 named.2)
 

@@ -13,16 +13,14 @@ begins bytes a = starts_with ◌==◌ bytes (tag a)
 pub find-begins : (a : Algo) (rest : List ℕ) → find (begins (tag a ++ rest)) all_algos ≡ Some a
 find-begins a rest = grind arith
 
--- a tag that passes the test begins the bytes
-BeginsWithTag-begins : (bytes : List ℕ) (a : Algo) → begins bytes a ≡ true → BeginsWithTag bytes a
-BeginsWithTag-begins bytes a h =
-    (drop (length (tag a)) bytes, (starts_is Decides-eqb bytes (tag a) true (sym h)).0 refl)
-
 -- the tag of what the search finds begins the bytes
 pub IfSome-find-begins : (bytes : List ℕ) (algos : List Algo)
     → IfSome (find (begins bytes) algos) (λ a. BeginsWithTag bytes a)
 IfSome-find-begins bytes [] = tt
-IfSome-find-begins bytes (a ∷ algos) = grind (arith, IfSome-find-begins bytes algos, BeginsWithTag-begins)
+IfSome-find-begins bytes (a ∷ algos) =
+    let begun : begins bytes a ≡ true → BeginsWithTag bytes a = λ h.
+    (drop (length (tag a)) bytes, (starts_is Decides-eqb bytes (tag a) true (sym h)).0 refl) in
+    grind (arith, IfSome-find-begins bytes algos, begun)
 
 -- the search finds an algorithm whose tag begins the bytes
 pub found_tagged : (bytes : List ℕ) (a : Algo) → BeginsWithTag bytes a → find (begins bytes) all_algos ≡ Some a

@@ -1,6 +1,5 @@
-use Rattle.std.proofs.Common.{◌≡◌, take, arith}
+use Rattle.std.proofs.Common.{arith}
 use Rattle.std.proofs.lemmas.Grind.{common_steps}
-use Rattle.hex.specs.Hex.{encode_lower}
 use Rattle.hex.proofs.HexLemmas.{length-encode_with}
 use Rattle.digest_kinds.proofs.DigitLemmas.{IsUtf8-encode_lower}
 use Rattle.digest_kinds.proofs.digest.DigestDisplay.fmt.Goals as goal
@@ -8,6 +7,4 @@ use Rattle.digest_kinds.proofs.digest.DigestDisplay.fmt.Goals as goal
 -- the digits are a text, so the last branch isn't reached
 pub unreachable-requires : goal.unreachable-requires
 unreachable-requires g c =
-    let spelled : take c.hex_into-count.result c.hex_into-count.new.out ≡ encode_lower c.args.self.now =
-    grind (arith, common_steps, length-encode_with) in
-    c.in_default.ensures.cases.0 (rw spelled (IsUtf8-encode_lower c.args.self.now))
+    let text = IsUtf8-encode_lower c.args.self.now in grind (arith, common_steps, length-encode_with)
