@@ -14,14 +14,6 @@ use Rattle.digest_kinds.proofs.PrefixLemmas.{bind_some}
 use Rattle.sum_lines.specs.declared.reading.line_parts.LineParts.{LineParts}
 use Rattle.sum_lines.specs.refinement.Beginnings.{line_parts}
 
--- a byte that isn't special is its own escape
-escape_of-plain : (b : ℕ) → (is_byte3 92 10 13 b ≡ true → ⊥) → escape_of own_profile b ≡ b ∷ []
-escape_of-plain b other = grind arith
-
--- a special byte's escape has two bytes
-escape_of-special : (b : ℕ) → is_byte3 92 10 13 b ≡ true → length (escape_of own_profile b) ≡ 2
-escape_of-special b special = grind arith
-
 -- what precedes the first special byte is its own escape
 pub escape-plain : (xs : List ℕ) (k : ℕ) → k ≤ length xs → Nowhere (Passes (is_byte3 92 10 13) xs) 0 k
     → escape (take k xs) ≡ take k xs
@@ -29,7 +21,7 @@ escape-plain xs zero le none = refl
 escape-plain [] (suc k) le none = refl
 escape-plain (x ∷ xs) (suc k) le none =
     let more = escape-plain xs k (omega arith) (λ j low high. none (suc j) (omega arith) (omega arith)) in
-    rw (escape_of-plain x (none 0 (omega arith) (omega arith)), more) refl
+    let here = none 0 (omega arith) (omega arith) in grind arith
 
 -- then come the escape of that byte and the escape of what follows it
 pub escape-split : (xs : List ℕ) (k : ℕ) → k < length xs → Nowhere (Passes (is_byte3 92 10 13) xs) 0 k
@@ -63,7 +55,6 @@ pub differs_by : (xs : List ℕ) (r : Option ℕ) → IsFirstByte (is_byte3 92 1
 differs_by xs None none = ap not (sym ((bytes_eq-Decides (escape xs) xs).1 (escape_cut xs None none)))
 differs_by xs (Some k) first =
     let split = ap length (escape-split xs k first.0.high first.0.before) in
-    let two = escape_of-special (get_or xs k 0) first.1 in
     let rest = length-escape (drop (k + 1) xs) in
     ap not (sym (false_from_ne_true _ (λ same.
     let equal = ap length ((bytes_eq-Decides (escape xs) xs).0 same) in
@@ -87,19 +78,14 @@ unescaped_bytes-escape p n = simp append-nil at (unescaped_bytes-append p n [])
 pub unescape-escape : (p : Profile) (n : List ℕ) → unescape p (escape_by p n) ≡ Some n
 unescape-escape p n = search (rules, unescaped_bytes-escape)
 
--- ---- no NUL
-
--- a name without NUL passes the test for it
-pub all-of : (xs : List ℕ) → All (λ b. 0 < b) xs → list_all (nat_lt 0) xs ≡ true
-all-of xs h = grind (arith, list_all-from_AllPass)
-
 -- ---- the entry of a line's parts
 
 -- so parts whose raw name spells a name spell an entry, and only such parts do
 pub spelled-is : (p : Profile) (t : LinePartsValue) (n : List ℕ) → All (λ b. 0 < b) n
     → t.text ≡ cond t.escaped (escape_by p n) n
     → entry_of_parts p t ≡ Some (record { kind = t.kind; digest = t.digest; name = n })
-spelled-is p t n no_nul is = grind (arith, unescape-escape, all-of)
+spelled-is p t n no_nul is =
+    let all : list_all (nat_lt 0) n ≡ true = grind (arith, list_all-from_AllPass) in grind (arith, unescape-escape)
 
 -- only such parts
 pub is-spelled : (p : Profile) (t : LinePartsValue) (s : EntryValue) → entry_of_parts p t ≡ Some s
@@ -113,14 +99,9 @@ is-spelled p t s h =
 -- what follows the escape of a in the escape of a name is the escape of what follows a in it
 pub escape-rest : (a n rest : List ℕ) → escape a ++ rest ≡ escape n → (m : List ℕ) × (n ≡ a ++ m) × (rest ≡ escape m)
 escape-rest a n rest h =
-    let m = unescaped_bytes rest in
-    let is : n ≡ a ++ m =
-    rw (← unescaped_bytes-append own_profile a rest, h) (sym (unescaped_bytes-escape own_profile n)) in (
-      m,
-      is,
-      append_cancel_left (escape a) rest (escape m)
-          (h ∙ ap escape is ∙ flat_map-append (escape_of own_profile) a m),
-    )
+    let is : n ≡ a ++ unescaped_bytes rest =
+    rw (← unescaped_bytes-append own_profile a rest, h) (sym (unescaped_bytes-escape own_profile n)) in
+    (unescaped_bytes rest, is, grind (arith, append_cancel_left, flat_map-append))
 
 -- no two names have the same escape
 pub escape-apart : (a b : List ℕ) → escape a ≡ escape b → a ≡ b
@@ -165,13 +146,12 @@ pub unescaped : (from : ℕ) (old new : List ℕ) (r : Bool)
     → ((n : List ℕ) → (drop from old ≡ escape n) ↔ ((r ≡ true) × (new ≡ take from old ++ n)))
     → take from new ≡ take from old → cond r (Some (drop from new)) None ≡ unescape own_profile (drop from old)
 unescaped from old new true h before =
-    let whole : new ≡ take from old ++ drop from new = grind (arith, common_steps) in
-    sym (ap (unescape own_profile) ((h (drop from new)).1 (refl, whole)) ∙ unescape-escape own_profile (drop from new))
+    let is = h (drop from new) in grind (arith, common_steps, unescape-escape)
 unescaped from old new false h before = search rules
 
 -- a search for NUL shows whether all bytes are above zero
 pub no_nul : (xs : List ℕ) (r : Option ℕ) → IsFirstByte (is_byte 0) xs r → not (is_some r) ≡ list_all (nat_lt 0) xs
-no_nul xs r h = search (rules, all-of, list_all_at)
+no_nul xs r h = search (rules, list_all-from_AllPass, list_all_at)
 
 -- ---- the raw name of a Standard list's tail
 

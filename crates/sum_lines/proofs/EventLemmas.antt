@@ -1,6 +1,6 @@
 -- The pieces of a text, the events of these, and what happened of them.
 use Rattle.std.proofs.lemmas.{Grind.common_steps, List.take-append-le, List.drop-append-le, List.Concat.flat_map-append, List.Elements.filter_map-append}
-use Rattle.std.proofs.Common.{ℕ, zero, suc, ◌≡◌, ◌<◌, ◌≤◌, ◌+◌, ◌*◌, ◌/◌, ◌%◌, List, [], ◌∷◌, ◌++◌, length, drop, flat_map, filter_map, inl, inr, refl, sym, ap, ◌∙◌, append_assoc, append-nil, length-append, length-drop, take_all, arith}
+use Rattle.std.proofs.Common.{ℕ, zero, suc, ◌≡◌, ◌<◌, ◌≤◌, ◌+◌, ◌*◌, ◌/◌, ◌%◌, List, [], ◌∷◌, ◌++◌, length, drop, flat_map, filter_map, refl, sym, ap, ◌∙◌, append_assoc, append-nil, length-append, length-drop, take_all, arith}
 use Rattle.std.specs.{List.concat, Simd.first_chunks}
 use Rattle.sum_lines.specs.Sinks.{SinkState, OutputEvent, offer_piece, write_byte, written_byte, pieces, byte_events, output_events, OffersEach, Gets, GetsPrefix}
 
@@ -14,9 +14,8 @@ first_chunks-append n zero j (x ∷ xs) ys size = absurd (omega arith)
 first_chunks-append n (suc k) j xs ys size =
     let one : suc k * n ≡ k * n + n = grind arith in
     let next : suc k + j ≡ suc (k + j) = omega arith in
-    let le : n ≤ length xs = omega arith in
     let more = first_chunks-append n k j (drop n xs) ys (omega (arith, length-drop n xs)) in
-    rw (next, take-append-le n xs ys le, drop-append-le n xs ys le, more) refl
+    rw next (grind (arith, take-append-le, drop-append-le))
 
 pieces-append : (xs ys : List ℕ) → length xs % 8192 ≡ 0 → pieces (xs ++ ys) ≡ pieces xs ++ pieces ys
 pieces-append xs ys full =
@@ -37,7 +36,7 @@ concat-chunks n zero [] fits = refl
 concat-chunks n zero (x ∷ xs) fits = absurd (omega arith)
 concat-chunks n (suc k) xs fits =
     let one : suc k * n ≡ k * n + n = grind arith in
-    rw (concat-chunks n k (drop n xs) (omega (arith, length-drop n xs))) (grind (arith, common_steps))
+    grind (arith, common_steps, concat-chunks n k (drop n xs))
 
 -- ---- the events of pieces
 
@@ -58,9 +57,7 @@ output_events-bytes text =
 -- the events after full pieces are those of what follows
 pub output_events-append : (xs ys : List ℕ) → length xs % 8192 ≡ 0
     → output_events (xs ++ ys) ≡ output_events xs ++ output_events ys
-output_events-append xs ys full =
-    rw (pieces-append xs ys full)
-    (flat_map-append (λ piece. offer_piece piece ∷ byte_events piece) (pieces xs) (pieces ys))
+output_events-append xs ys full = grind (arith, pieces-append, flat_map-append)
 
 -- ---- what happened
 
@@ -68,8 +65,8 @@ OffersEach-then : (a b c : List (List ℕ)) (es fs : List OutputEvent) → Offer
     → OffersEach a c (es ++ fs)
 OffersEach-then a b c [] fs h k = rw h at k
 OffersEach-then a b c (offer_piece p ∷ es) fs h k = OffersEach-then _ b c es fs h k
-OffersEach-then a b c (write_byte x left ∷ es) fs (inl h) k = inl (OffersEach-then a b c es fs h k)
-OffersEach-then a b c (write_byte x left ∷ es) fs (inr h) k = inr (h.0, OffersEach-then _ b c es fs h.1 k)
+OffersEach-then a b c (write_byte x left ∷ es) fs h k =
+    grind (arith, OffersEach-then a b c es fs, OffersEach-then (a ++ left ∷ []) b c es fs)
 
 -- nothing
 pub Gets-none : {a : SinkState} → Gets a a []
@@ -85,5 +82,4 @@ Gets-then {a} {b} {c} {p} {q} h k = record {
 -- after some events, a prefix of others
 pub GetsPrefix-then : {a b c : SinkState} {p q : List OutputEvent} → Gets a b p → GetsPrefix b c q
     → GetsPrefix a c (p ++ q)
-GetsPrefix-then {p} h k =
-    (p ++ k.0, k.1, ap (λ l. p ++ l) k.2 ∙ sym (append_assoc p k.0 k.1), Gets-then h k.3)
+GetsPrefix-then {p} h k = (p ++ k.0, k.1, grind (arith, append_assoc), Gets-then h k.3)

@@ -1,5 +1,5 @@
 -- A text of one piece is given to a sink. `a`, `b` and `c` are the sink before, between and after.
-use Rattle.std.proofs.Common.{ℕ, zero, suc, ◌≡◌, ◌<◌, ◌≤◌, ◌+◌, List, [], ◌∷◌, ◌++◌, length, take, drop, filter_map, Ok, Err, inl, inr, refl, sym, ap, append_assoc, append-nil, arith}
+use Rattle.std.proofs.Common.{ℕ, zero, suc, ◌≡◌, ◌<◌, ◌≤◌, ◌+◌, List, [], ◌∷◌, ◌++◌, length, take, drop, filter_map, Ok, Err, inl, inr, refl, sym, ap, append_assoc, append-nil, arith, rules}
 use Rattle.std.proofs.lemmas.List.Elements.{filter_map-append}
 use Rattle.sum_lines.specs.Sinks.{SinkState, OutputEvent, WritesSome, OffersEach, GivesAll, offer_piece, write_byte, written_byte, byte_events, output_events}
 use Rattle.sum_lines.proofs.EventLemmas.{one_piece}
@@ -45,16 +45,10 @@ pub record HasGiven (a b : SinkState) (text rest : List ℕ) : Type 0 where
 
 -- at first all of it
 pub HasGiven-none : (a : SinkState) (text : List ℕ) → length text ≤ 8192 → HasGiven a a text text
-HasGiven-none a [] fits = record {
-  events = [];
-  cut = refl;
-  offers = λ new es h. rw append-nil at h;
-  written = sym (append-nil a.written);
-  failures = refl;
-}
+HasGiven-none a [] fits = search (rules, append-nil)
 HasGiven-none a (b ∷ bs) fits = record {
   events = offer_piece (b ∷ bs) ∷ [];
-  cut = rw (one_piece (b ∷ bs) (omega arith) fits) (append-nil (offer_piece (b ∷ bs) ∷ byte_events (b ∷ bs)));
+  cut = grind (arith, one_piece, append-nil);
   offers = λ new es h. h;
   written = sym (append-nil a.written);
   failures = refl;
@@ -76,10 +70,8 @@ HasGiven-more (x ∷ xs) (suc n) h some (within, taken, is) = let t = takes n (x
 -- all of it was accepted
 pub HasGiven-all : {a b : SinkState} {text : List ℕ} (rest : List ℕ) → HasGiven a b text rest → rest ≡ []
     → GivesAll {E = Unit {0}} a b text (Ok tt)
-HasGiven-all {b = b} [] h none =
-    let offered = rw append-nil at (h.offers b.offered [] (sym (append-nil b.offered))) in
-    (rw (h.cut, append-nil h.events) (record { offered = offered; written = h.written }), h.failures)
-HasGiven-all (x ∷ xs) h none = cc
+HasGiven-all {b = b} rest h none =
+    let offered = h.offers b.offered [] in let cut = h.cut in grind (arith, append-nil)
 
 -- the rest was offered, and that failed
 pub HasGiven-failed : {a b c : SinkState} {text : List ℕ} (rest : List ℕ) → HasGiven a b text rest → 0 < length rest

@@ -1,6 +1,7 @@
 -- A line that is put together from the parts of a plain line is read as these parts, and no other line is read as
 -- plain. No line is both plain and tagged.
 use Rattle.std.proofs.Common.{ℕ, ◌≡◌, ◌<◌, ◌≤◌, not, Bool, true, List, ◌∷◌, ◌++◌, length, get_or, None, Some, Ok, refl, ap, sym, ◌∙◌, arith, length-drop, take_while, rules}
+use Rattle.std.proofs.Math.Seq.{drop-append-add}
 use Rattle.std.specs.List.{AllPass, before_first, after_first, position_or_len}
 use Rattle.std.proofs.lemmas.{List.take_at, List.Elements.All-head, List.Elements.All-tail, List.Elements.All-weaker}
 use Rattle.std.proofs.lemmas.List.Sums.{split_at_first, passes_at_first}
@@ -10,7 +11,7 @@ use Rattle.digest_kinds.specs.{Kinds.KindValue, Kinds.tag, Bytes.after_while}
 use Rattle.digest_kinds.proofs.{KindLemmas.no_digits, PrefixLemmas.prefix_passes, PrefixLemmas.prefix-and-rest, PrefixLemmas.prefix_len-stop}
 use Rattle.sum_lines.specs.grammar.Shapes.{Algo, Algos, One, Any, is_blank, IsPlain, IsTagged}
 use Rattle.sum_lines.specs.{grammar.LineParts.LinePartsValue, grammar.LineParts.plain_parts, refinement.Beginnings.BeginsWithDigits}
-use Rattle.sum_lines.proofs.PrefixLemmas.{text, rest-seam, mark_and_rest-is}
+use Rattle.sum_lines.proofs.PrefixLemmas.{text, mark_and_rest-is}
 use Rattle.sum_lines.proofs.TaggedLemmas.{BeginsText, hex-no_blank, tagged-prefix, mark_and_rest-prefix}
 
 -- ---- what is read joins to the line
@@ -72,7 +73,7 @@ digits-of ds d h lt = grind (arith, decode_of-ok, All-head)
 -- the first blank follows bytes that are none
 first-at : (xs : List ℕ) (b : ℕ) (ys : List ℕ) → AllPass (λ x. not (is_blank x)) xs → is_blank b ≡ true
     → (before_first is_blank (xs ++ (b ∷ ys)) ≡ xs) × (after_first is_blank (xs ++ (b ∷ ys)) ≡ ys)
-first-at xs b ys all blank = grind (arith, prefix_len-stop, take_at, rest-seam)
+first-at xs b ys all blank = grind (arith, prefix_len-stop, take_at, drop-append-add)
 
 module _ {algos : Algos} {line : List ℕ} {e : Bool} {kind : KindValue} {d tail : List ℕ}
     (t : IsPlain algos line e kind d tail) where

@@ -1,8 +1,8 @@
 -- What follows a text or a byte in a line.
-use Rattle.std.proofs.Common.{ℕ, zero, suc, ◌≡◌, ◌≢◌, ◌+◌, ◌<◌, ◌≤◌, Bool, true, false, cond, ◌==◌, List, [], ◌∷◌, ◌++◌, length, take, drop, get_or, Option, None, Some, refl, add-one, arith, length-append, All, option_map}
+use Rattle.std.proofs.Common.{ℕ, zero, suc, ◌≡◌, ◌≢◌, ◌+◌, ◌<◌, ◌≤◌, Bool, true, cond, ◌==◌, List, [], ◌∷◌, ◌++◌, length, take, drop, get_or, Option, Some, refl, arith, length-append, All, option_map}
 use Rattle.std.specs.{List.starts_with, Option.option_or, Path.rsplit_once, Path.rfind_below}
-use Rattle.std.proofs.Math.Seq.{get_or-append_seam}
-use Rattle.std.proofs.lemmas.{Bool.eqb-true, Bool.eq-eqb, Bool.Decides.Decides-eqb, List.take_at, List.get_or-append_right, List.Elements.All-get_or}
+use Rattle.std.proofs.Math.Seq.{get_or-append_seam, drop-append-add}
+use Rattle.std.proofs.lemmas.{Bool.eq-eqb, Bool.Decides.Decides-eqb, List.take_at, List.get_or-append_right, List.Elements.All-get_or}
 use Rattle.memchr.specs.Find.{Passes, IsLast, IsLastByte, is_byte}
 use Rattle.memchr.proofs.lemmas.{FindLemmas.Nowhere-more, ValueLemmas.IsLastByte-value}
 use Rattle.digest_kinds.proofs.PrefixLemmas.{map_some}
@@ -47,21 +47,7 @@ opened-at gap inner = grind arith
 -- a search from the end finds the last such byte
 last_byte : (c : ℕ) (s : List ℕ) (n : ℕ) → IsLast (Passes (is_byte c) s) 0 n (rfind_below c s n)
 last_byte c s zero = λ k low high. absurd (omega arith)
-last_byte c s (suc n) = step (get_or s n 0 == c) refl (rfind_below c s n) (last_byte c s n)
-  where
-    step : (t : Bool) → (get_or s n 0 == c) ≡ t → (r : Option ℕ) → IsLast (Passes (is_byte c) s) 0 n r
-        → IsLast (Passes (is_byte c) s) 0 (suc n) (cond t (Some n) r)
-    step true is r h =
-        (record { low = omega arith; high = omega arith; after = λ k low high. absurd (omega arith) }, is)
-    step false is None h = rw (← add-one n) (Nowhere-more h (λ pass. cc))
-    step false is (Some k) h = (
-      record {
-        low = omega arith;
-        high = omega (arith, h.0.high);
-        after = rw (← add-one n) (Nowhere-more h.0.after (λ pass. cc));
-      },
-      h.1,
-    )
+last_byte c s (suc n) = let more = last_byte c s n in grind (arith, Nowhere-more)
 
 -- so what is split at the last such byte is what precedes it, and what follows it
 pub last_split : (c : ℕ) (s : List ℕ) (r : Option ℕ) → IsLastByte (is_byte c) s r
@@ -79,26 +65,16 @@ rsplit-some c s p h =
     let last = rw found.1 at (last_byte c s (length s)) in
     rw (← found.2) (grind (arith, common_steps))
 
--- what follows a byte
-pub rest-seam : (xs : List ℕ) (b : ℕ) (ys : List ℕ) → drop (length xs + 1) (xs ++ (b ∷ ys)) ≡ ys
-rest-seam [] b ys = refl
-rest-seam (x ∷ xs) b ys = grind (arith, rest-seam xs b ys)
-
--- places after a byte are those of what follows it
-after_seam : (xs : List ℕ) (c : ℕ) (ys : List ℕ) → All (λ x. x ≢ c) ys → (i : ℕ) → length xs < i
-    → i < length (xs ++ (c ∷ ys)) → get_or (xs ++ (c ∷ ys)) i 0 ≢ c
-after_seam xs c ys all i more less = grind (arith, get_or-append_right, All-get_or, length-append)
-
 -- if what follows a byte has none of it, the split is there
 pub rsplit-at : (c : ℕ) (xs ys : List ℕ) → All (λ x. x ≢ c) ys → rsplit_once c (xs ++ (c ∷ ys)) ≡ Some (xs, ys)
 rsplit-at c xs ys all =
     let s = xs ++ (c ∷ ys) in
     let high : length xs < length s = omega (arith, length-append xs (c ∷ ys)) in
-    let none = λ (i : ℕ) (more : length xs + 1 ≤ i) (less : i < length s) (is : (get_or s i 0 == c) ≡ true).
-    after_seam xs c ys all i (omega arith) less (eqb-true (get_or s i 0) c is) in
+    let none = λ (i : ℕ) (more : length xs + 1 ≤ i) (less : i < length s) (is : (get_or s i 0 == c) ≡ true). absurd
+    (grind (arith, get_or-append_right, All-get_or, length-append)) in
     rw (
       last_split c s (Some (length xs))
           (record { low = omega arith; high = high; after = none }, eq-eqb _ c (get_or-append_seam xs c ys 0)),
       take_at xs (c ∷ ys) (length xs) refl,
-      rest-seam xs c ys,
+      drop-append-add xs (c ∷ ys) 1,
     ) refl

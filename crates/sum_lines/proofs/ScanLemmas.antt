@@ -5,7 +5,7 @@ use Rattle.std.specs.{Option.option_or, Path.rsplit_once, List.position_or_len}
 use Rattle.std.proofs.lemmas.{Grind.common_steps, List.drop_at, List.get_or-take, List.length-take, List.Sums.passes_at_first, List.Sums.position_or_len_is}
 use Rattle.std.proofs.lemmas.List.Elements.{All-get_or}
 use Rattle.memchr.specs.Find.{IsFirstByte, is_byte2}
-use Rattle.hex.specs.Hex.{decode_of, is_hex_digit}
+use Rattle.hex.specs.Hex.{decode_of}
 use Rattle.hex.proofs.HexLemmas.{decode_of-ok}
 use Rattle.digest_kinds.specs.{Bytes.after_while, KindTexts.kind_and_rest}
 use Rattle.digest_kinds.specs.Kinds.{KindValue, tag, IsDigits, full_len, has_len}
@@ -146,12 +146,8 @@ first-blank : (s d : List ℕ) (at : ℕ) → at < length s → is_blank (get_or
     → position_or_len is_blank s ≡ at
 first-blank s d at within blank spelled =
     let are = (decode_of-ok (take at s) d spelled).1 in
-    let len = length-take at s in
     position_or_len_is is_blank s at 0 (omega (arith, within))
-    (λ k less. let hex =
-    All-get_or (λ x. is_hex_digit x ≡ true) (take at s) k 0 (omega (arith, len, less, within)) are in
-    hex-no_blank (get_or s k 0) (rw (get_or-take at s k 0 less) at hex))
-    (λ _. blank)
+    (λ k less. grind (arith, All-get_or, hex-no_blank, get_or-take, length-take)) (λ _. blank)
 
 -- ---- a plain line with such digits
 

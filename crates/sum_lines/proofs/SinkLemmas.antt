@@ -1,5 +1,5 @@
 -- A text is written to a buffer piece by piece. `a`, `b` and `c` are the buffer before, between and after.
-use Rattle.std.proofs.Common.{ℕ, ◌≡◌, ◌<◌, ◌≤◌, ◌-◌, ◌+◌, ◌%◌, List, [], ◌++◌, length, take, Result, Ok, Err, inl, inr, min, refl, sym, ap, ◌∙◌, append_assoc, append-nil, length-append, length-take, lit<, arith}
+use Rattle.std.proofs.Common.{ℕ, ◌≡◌, ◌<◌, ◌≤◌, ◌-◌, ◌+◌, List, [], ◌++◌, length, take, Result, Ok, Err, inl, inr, min, refl, sym, ap, ◌∙◌, append_assoc, append-nil, length-append, length-take, lit<, rules, arith}
 use Rattle.std.specs.Result.{IsErr}
 use Rattle.sum_lines.specs.{Sinks.SinkState, Sinks.GivesAll, Sinks.output_events, refinement.SinkStates.MakesRoom}
 use Rattle.sum_lines.specs.Buffers.{BufferState, Accepts, FailsToWrite, WritesAll}
@@ -9,14 +9,7 @@ use Rattle.sum_lines.proofs.EventLemmas.{output_events-append, Gets-none, Gets-t
 
 -- nothing is accepted if nothing is done
 pub Accepts-nil : {a : BufferState} → Accepts a a []
-Accepts-nil {a} = record {
-  given = [];
-  full = refl;
-  cut = append-nil a.buffered;
-  last = λ some. absurd (omega arith);
-  fits = λ fits. fits;
-  gives = (Gets-none, refl);
-}
+Accepts-nil {a} = search (rules, append-nil, Gets-none)
 
 -- one text was accepted, and then another
 pub Accepts-trans : {a b c : BufferState} (xs ys : List ℕ) → Accepts a b xs → Accepts b c ys → Accepts a c (xs ++ ys)
@@ -24,14 +17,12 @@ Accepts-trans xs ys first second =
     let cut = first.cut in
     let more = second.cut in
     let size = simp length-append at (ap length second.cut) in
-    let one = first.last in
-    let two = second.last in
     record {
       given = first.given ++ second.given;
       full = omega (arith, first.full, second.full, length-append first.given second.given);
       cut = grind (arith, append_assoc);
-      last = λ some. grind (arith, length-append);
-      fits = λ fits. second.fits (first.fits fits);
+      last = let one = first.last in let two = second.last in grind (arith, length-append);
+      fits = grind arith;
       gives = rw (output_events-append first.given second.given first.full)
           (Gets-then first.gives.0 second.gives.0, second.gives.1 ∙ first.gives.1);
     }
@@ -59,36 +50,36 @@ writes_then c xs ys (Err e) first rest = FailsToWrite-in xs ys [] first rest (ap
 
 -- ---- a piece
 
--- the first bytes of a piece were accepted, after these bytes were given
-accepts_front : (a b c : BufferState) (piece given : List ℕ) (n : ℕ) → length given % 8192 ≡ 0
-    → a.buffered ≡ given ++ b.buffered → length b.buffered < 8192
-    → GivesAll {E = Unit {0}} a.sink b.sink given (Ok tt) → 0 < length piece
-    → n ≡ min (length piece) (8192 - length b.buffered) → c.sink ≡ b.sink → c.buffered ≡ b.buffered ++ take n piece
-    → (n ≤ length piece) × (0 < n) × Accepts a c (take n piece)
-accepts_front a b c piece given n full cut room gives some count sink buffered =
-    let size = simp (length-append, length-take) at (ap length buffered) in (
-      omega arith,
-      omega arith,
-      record {
-        given = given;
-        full = full;
-        cut = rw (cut, buffered) (append_assoc given b.buffered (take n piece));
-        last = λ _. omega (arith, size);
-        fits = λ _. omega (arith, size);
-        gives = rw sink gives;
-      },
-    )
-
--- so they were once there was room
+-- the first bytes of a piece were accepted, once there was room
 pub accepts_some : {a b : BufferState} (c : BufferState) (piece : List ℕ) (n : ℕ)
     → MakesRoom {E = Unit {0}} a b (Ok tt) → 0 < length piece → n ≡ min (length piece) (8192 - length b.buffered)
     → c.sink ≡ b.sink → c.buffered ≡ b.buffered ++ take n piece
     → (n ≤ length piece) × (0 < n) × Accepts a c (take n piece)
-accepts_some {a} {b} c piece n (inl (full, none, gives)) some count sink buffered =
-    let cut : a.buffered ≡ a.buffered ++ b.buffered = rw (none, append-nil) refl in
-    accepts_front a b c piece a.buffered n (rw full refl) cut (rw none (lit< tt)) gives some count sink buffered
-accepts_some {a} {b} c piece n (inr (room, same, ok)) some count sink buffered = rw (← same) (accepts_front
-    b b c piece [] n refl refl (rw same room) (Gets-none, refl) some count sink buffered)
+accepts_some {a} {b} c piece n made some count sink buffered =
+    let size = simp (length-append, length-take) at (ap length buffered) in
+    let room : length b.buffered < 8192 =
+    elim made [ inl (full, none, gives) ↦ rw none (lit< tt) | inr (less, same, ok) ↦ rw same less ] in (
+      omega arith,
+      omega arith,
+      elim made [
+        | inl (full, none, gives) ↦ record {
+          given = a.buffered;
+          full = rw full refl;
+          cut = grind (arith, append-nil);
+          last = λ _. omega (arith, size);
+          fits = λ _. omega (arith, size);
+          gives = rw sink gives;
+        }
+        | inr (less, same, ok) ↦ record {
+          given = [];
+          full = refl;
+          cut = grind (arith, append-nil);
+          last = λ some. absurd (omega arith);
+          fits = λ _. omega (arith, size);
+          gives = rw (sink, same) (Gets-none, refl);
+        }
+      ],
+    )
 
 -- the sink failed
 pub accept_failed : {a b : BufferState} (piece : List ℕ) → MakesRoom {E = Unit {0}} a b (Err tt) → 0 < length piece
@@ -115,7 +106,7 @@ pub record HasLeft (a b : BufferState) (text rest : List ℕ) : Type 0 where
 
 -- before the first piece, all of the text is left
 pub HasLeft-all : {a : BufferState} {text : List ℕ} → HasLeft a a text text
-HasLeft-all = record { prefix = []; cut = refl; wrote = Accepts-nil }
+HasLeft-all = search (rules, Accepts-nil)
 
 -- that is how a loop begins
 pub ruleset at_first = (HasLeft-all)

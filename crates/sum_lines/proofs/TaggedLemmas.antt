@@ -116,7 +116,7 @@ IsNot41 x = x ≢ 41
 
 -- bytes of a kind that it isn't are none
 free : (test : ℕ → Bool) (xs : List ℕ) → test 41 ≡ false → AllPass test xs → All IsNot41 xs
-free test xs stop all = All-weaker (λ x. test x ≡ true) IsNot41 (λ x pass e. let bad = rw e at pass in cc) xs all
+free test xs stop all = grind (arith, All-weaker)
 
 -- ---- a tagged line
 
