@@ -1,11 +1,11 @@
 -- What follows a tag is read as the width of a kind, and the text of a kind names it.
-use Rattle.std.proofs.Common.{ℕ, ◌≤◌, IsUtf8, codes, ◌≡◌, true, false, ◌==◌, List, [], ◌∷◌, ◌++◌, length, drop, Some, refl, ap, inl, inr, arith, rules, take_while, option_map, decimal, ◌*◌}
+use Rattle.std.proofs.Common.{ℕ, ◌≤◌, IsUtf8, ◌≡◌, true, List, [], ◌∷◌, ◌++◌, length, drop, Some, refl, ap, inl, inr, arith, rules, take_while, option_map, decimal, ◌*◌}
 use Rattle.std.proofs.lemmas.{Grind.common_steps, Fmt.IsAscii-decimal, Fmt.length-decimal-le}
 use Rattle.std.specs.Char.{is_ascii_digit}
 use Rattle.std.proofs.lemmas.{Str.IsAscii-append, Str.IsUtf8-from_ascii, List.drop_at}
-use Rattle.digest_kinds.proofs.{TagLemmas.find-begins, KindLemmas.has_len-full, KindLemmas.has_len-range}
+use Rattle.digest_kinds.proofs.{TagLemmas.find-begins, KindLemmas.has_len-range}
 use Rattle.digest_kinds.specs.Bytes.{after_while}
-use Rattle.digest_kinds.specs.Kinds.{Algo, Blake2b, KindValue, BeginsWithTag, full_kind, full_len, has_len, tag}
+use Rattle.digest_kinds.specs.Kinds.{Algo, Blake2b, KindValue, BeginsWithTag, full_kind, has_len, tag}
 use Rattle.digest_kinds.specs.KindTexts.{IsWidth, NamesKind, kind_and_rest, kind_of_digits, kind_text}
 use Rattle.digest_kinds.proofs.BitsLemmas.{kind_of_digits-bits, kind_of_digits-some, decimal-digits}
 use Rattle.digest_kinds.proofs.PrefixLemmas.{map_some, prefix_passes, prefix-and-rest, prefix_len-all}
@@ -44,7 +44,7 @@ kind_and_rest-some a s w h = grind (arith, width-none)
 -- ---- the width of a kind, and nothing after it
 
 -- the width of a kind is read as that kind
-pub kind_and_rest-alone : (kind : KindValue) (width : List ℕ) → IsWidth kind width
+kind_and_rest-alone : (kind : KindValue) (width : List ℕ) → IsWidth kind width
     → kind_and_rest kind.algo width ≡ Some (kind, [])
 kind_and_rest-alone kind width is = grind (arith, common_steps, prefix_len-all, decimal-digits, kind_of_digits-bits)
 
@@ -64,11 +64,6 @@ read_named s a kind begun read =
     (has.width, grind (arith, common_steps, begun.1, has.whole, has.is_algo), has.is_width)
 
 -- ---- the text of a kind
-
--- only a BLAKE2b kind isn't full
-pub kind_text_short : (kind : KindValue) → has_len kind.algo kind.len ≡ true → (kind.len == full_len kind.algo) ≡ false
-    → codes "BLAKE2b-" ++ decimal (8 * kind.len) ≡ kind_text kind
-kind_text_short kind has short = grind (arith, has_len-full)
 
 -- its bits have at most three digits
 pub length_bits : (len : ℕ) → len ≤ 64 → length (decimal (8 * len)) ≤ 3

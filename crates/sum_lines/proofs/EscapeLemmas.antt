@@ -23,20 +23,16 @@ escape-plain (x ∷ xs) (suc k) le none =
     let more = escape-plain xs k (omega arith) (λ j low high. none (suc j) (omega arith) (omega arith)) in
     let here = none 0 (omega arith) (omega arith) in grind arith
 
--- then come the escape of that byte and the escape of what follows it
-pub escape-split : (xs : List ℕ) (k : ℕ) → k < length xs → Nowhere (Passes (is_byte3 92 10 13) xs) 0 k
-    → escape xs ≡ take k xs ++ (escape_of own_profile (get_or xs k 0) ++ escape (drop (k + 1) xs))
-escape-split xs k lt none =
-    let cut : xs ≡ take k xs ++ (get_or xs k 0 ∷ drop (k + 1) xs) = grind (arith, common_steps) in
-    let split = ap escape cut ∙ flat_map-append (escape_of own_profile) (take k xs) (get_or xs k 0 ∷ drop (k + 1) xs) in
-    rw (escape-plain xs k (omega arith) none) at split
-
--- what a search for the first special byte says
+-- what a search for the first special byte says: then come that byte's escape and the escape of what follows it
 pub escape_cut : (xs : List ℕ) (r : Option ℕ) → IsFirstByte (is_byte3 92 10 13) xs r
     → MatchOption r (escape xs ≡ xs)
     (λ k. escape xs ≡ take k xs ++ (escape_of own_profile (get_or xs k 0) ++ escape (drop (k + 1) xs)))
 escape_cut xs None none = rw (take-length xs) at (escape-plain xs (length xs) (omega arith) none)
-escape_cut xs (Some k) first = escape-split xs k first.0.high first.0.before
+escape_cut xs (Some k) first =
+    let within = first.0.high in
+    let cut : xs ≡ take k xs ++ (get_or xs k 0 ∷ drop (k + 1) xs) = grind (arith, common_steps) in
+    let split = ap escape cut ∙ flat_map-append (escape_of own_profile) (take k xs) (get_or xs k 0 ∷ drop (k + 1) xs) in
+    rw (escape-plain xs k (omega arith) first.0.before) at split
 
 -- the same, of the two parts of a slice that was split there
 pub escape-parts : {prefix back : List ℕ} (xs : List ℕ) (k : ℕ) → prefix ≡ take k xs → back ≡ drop k xs
@@ -54,7 +50,7 @@ pub differs_by : (xs : List ℕ) (r : Option ℕ) → IsFirstByte (is_byte3 92 1
     → is_some r ≡ escape_differs own_profile xs
 differs_by xs None none = ap not (sym ((bytes_eq-Decides (escape xs) xs).1 (escape_cut xs None none)))
 differs_by xs (Some k) first =
-    let split = ap length (escape-split xs k first.0.high first.0.before) in
+    let split = ap length (escape_cut xs (Some k) first) in
     let rest = length-escape (drop (k + 1) xs) in
     ap not (sym (false_from_ne_true _ (λ same.
     let equal = ap length ((bytes_eq-Decides (escape xs) xs).0 same) in
@@ -155,13 +151,8 @@ no_nul xs r h = search (rules, list_all-from_AllPass, list_all_at)
 
 -- ---- the raw name of a Standard list's tail
 
--- a part from one place further on
-range-more : (xs : List ℕ) (i j : ℕ) → i + 1 ≤ j → slice_range xs (i + 1) j ≡ drop 1 (slice_range xs i j)
-range-more xs i j lt =
-    let sum : j - i ≡ 1 + (j - (i + 1)) = omega arith in
-    rw (sum, drop-take 1 (j - (i + 1)) (drop i xs), drop-drop 1 i xs) refl
-
 -- the raw name begins one place further on
 pub raw_standard : (line : List ℕ) (p : LineParts) → begins_standard (line_parts line p).text ≡ true
     → with_raw Standard (line_parts line p) ≡ Some (line_parts line (record p { start = p.start + 1 }))
-raw_standard line p h = grind (arith, range-more)
+raw_standard line p h =
+    let one = drop-take 1 (p.stop - (p.start + 1)) (drop p.start line) in grind (arith, drop-drop 1 p.start line)

@@ -79,8 +79,4 @@ pub HasGiven-failed : {a b c : SinkState} {text : List ℕ} (rest : List ℕ) �
 HasGiven-failed [] h some is = absurd (omega (arith, some))
 HasGiven-failed {b = b} (x ∷ xs) h some is =
     let offered = rw append-nil at (h.offers (b.offered ++ (x ∷ xs) ∷ []) [] refl) in
-    rw is (
-      (h.events, byte_events (x ∷ xs), h.cut, record { offered = offered; written = h.written }),
-      ap (λ n. n + 1) h.failures,
-      refl,
-    )
+    rw is ((h.events, byte_events (x ∷ xs), h.cut, grind arith), grind arith, refl)

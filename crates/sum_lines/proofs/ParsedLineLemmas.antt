@@ -12,13 +12,6 @@ use Rattle.digest_kinds.proofs.PrefixLemmas.{bind_some, none_of}
 use Rattle.sum_lines.proofs.{PlainLemmas.apart, PlainLemmas.plain_is_read, PlainLemmas.read_is_plain, TaggedLemmas.tagged_is_read, TaggedLemmas.read_is_tagged}
 use Rattle.sum_lines.proofs.{EntryLemmas.entry-not_ignored, EscapeLemmas.spelled-is, EscapeLemmas.is-spelled}
 
--- ---- the raw name
-
--- what is found in place of a tail is its raw name
-is-raw : (f : Form) (t q : LinePartsValue) → with_raw f t ≡ Some q
-    → IsRawName f t.text q.text × (record t { text = q.text } ≡ q)
-is-raw f t q h = grind arith
-
 module _ (p : Profile) (algos : Algos) (f : Form) (line : List ℕ) where
   -- ---- the entry that a line has is computed
 
@@ -52,7 +45,7 @@ module _ (p : Profile) (algos : Algos) (f : Form) (line : List ℕ) where
   by-parts s None None tagged plain h = cc
   by-parts s None (Some q) tagged plain h =
       let named = bind_some (with_raw f q) (entry_of_parts p) h in
-      let raw = is-raw f q named.0 named.1 in
+      let raw : IsRawName f q.text named.0.text × (record q { text = named.0.text } ≡ named.0) = grind arith in
       by-shape s (record q { text = named.0.text }) (inr (q.text, read_is_plain plain, raw.0))
       (ap (entry_of_parts p) raw.1 ∙ named.2)
 

@@ -70,11 +70,6 @@ pub record AreDigits (ds : List ℕ) : Type 0 where
 pub digits-of : (ds d : List ℕ) → decode_of ds ≡ Ok d → 0 < length d → AreDigits ds
 digits-of ds d h lt = grind (arith, decode_of-ok, All-head)
 
--- the first blank follows bytes that are none
-first-at : (xs : List ℕ) (b : ℕ) (ys : List ℕ) → AllPass (λ x. not (is_blank x)) xs → is_blank b ≡ true
-    → (before_first is_blank (xs ++ (b ∷ ys)) ≡ xs) × (after_first is_blank (xs ++ (b ∷ ys)) ≡ ys)
-first-at xs b ys all blank = grind (arith, prefix_len-stop, take_at, drop-append-add)
-
 module _ {algos : Algos} {line : List ℕ} {e : Bool} {kind : KindValue} {d tail : List ℕ}
     (t : IsPlain algos line e kind d tail) where
   -- the digits of a plain line are those of a digest
@@ -94,8 +89,7 @@ plain_is_read p t =
     let no_blanks : AllPass (λ x. not (is_blank x)) t.digits =
     All-weaker (λ b. is_hex_digit b ≡ true) (λ x. not (is_blank x) ≡ true)
     (λ x hex. ap not (hex-no_blank x hex)) t.digits digits.are in
-    let cut = first-at t.digits t.blank p.text no_blanks t.is_one_blank in
-    rw (t.one, plain-prefix t) (grind arith)
+    rw (t.one, plain-prefix t) (grind (arith, prefix_len-stop, take_at, drop-append-add))
 
 -- ---- one shape
 

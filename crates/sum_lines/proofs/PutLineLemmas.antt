@@ -1,6 +1,6 @@
 -- A line that is written is read back. It has a shape, which spells the name and the digest that it was written for. It
 -- has no newline and no carriage return before its end.
-use Rattle.std.proofs.lemmas.{Grind.common_steps, List.append-nil, List.Elements.All-cons, List.Elements.All-nil, List.Folds.list_all-append}
+use Rattle.std.proofs.lemmas.{Grind.common_steps, List.append-nil, List.Folds.list_all-append}
 use Rattle.std.proofs.Common.{ℕ, ◌≡◌, ◌*◌, not, cond, Bool, true, false, ◌==◌, ◌||◌, List, [], ◌∷◌, ◌++◌, refl, ◌⊎◌, inl, inr, append_assoc, arith, decimal}
 use Rattle.std.specs.{Char.is_ascii_digit, List.AllPass, List.list_all}
 use Rattle.std.proofs.lemmas.{List.Sums.list_all-from_AllPass, Slice.Eq.bytes_eq-Decides}
@@ -11,7 +11,7 @@ use Rattle.digest_kinds.specs.declared.algo.Algo.TheVariants.{Blake2b}
 use Rattle.digest_kinds.proofs.{BitsLemmas.decimal-digits, KindLemmas.has_len-range, PrefixLemmas.none_of}
 use Rattle.sum_lines.specs.declared.writing.put_line.Mode.{Mode}
 use Rattle.sum_lines.specs.{Escape.own_profile, Escape.escape, Escape.escape_differs, grammar.LineParts.plain_parts}
-use Rattle.sum_lines.specs.grammar.Shapes.{Algos, One, is_blank, mark, Allows, IsPlain, IsTagged}
+use Rattle.sum_lines.specs.grammar.Shapes.{Algos, One, mark, Allows, IsPlain, IsTagged}
 use Rattle.sum_lines.specs.grammar.Entries.{Form, Undecided, Standard, begins_standard, IsEntry, line_form, form}
 use Rattle.sum_lines.specs.grammar.LineLaws.{IsWritable, SpellsBack, IsReadBack}
 use Rattle.sum_lines.proofs.{EntryLemmas.form_at, EscapeLemmas.length-escape, ParsedLineLemmas.one_entry}
@@ -52,11 +52,6 @@ inline-escape (x ∷ xs) = grind (arith, list_all-append, inline-escape xs)
 abbrev IsReadable : Form → Type 0
 IsReadable f = (f ≡ Undecided) ⊎ (f ≡ Standard)
 
--- a line that makes a list Standard does so after any readable lines
-form-after : (algos : Algos) (before later : List (List ℕ)) (line : List ℕ) → line_form algos line ≡ Standard
-    → IsReadable (form algos before) → form algos (before ++ (line ∷ later)) ≡ Standard
-form-after algos before later line own readable = grind (arith, form_at)
-
 -- ---- the law
 
 module _ {kind : KindValue} {name digest : List ℕ} (before later : List (List ℕ)) (w : IsWritable kind name digest)
@@ -93,9 +88,7 @@ module _ {kind : KindValue} {name digest : List ℕ} (before later : List (List 
         kind name digest
     plain-back x star readable =
         let line = mark (escape_differs own_profile name) ++ (encode_lower digest ++ (32 ∷ x ∷ escape name)) in
-        let byte : inline x ≡ true = grind arith in
-        let one : list_all inline line ≡ true = simp list_all-append (rw (byte, inline-digits, inline-escape name)
-        (grind arith)) in
+        let one : list_all inline line ≡ true = grind (arith, list_all-append, inline-digits, inline-escape) in
         let shape : IsPlain (One kind.algo) line (escape_differs own_profile name) kind digest
         (x ∷ escape name) = record {
           blanks = [];
@@ -103,7 +96,7 @@ module _ {kind : KindValue} {name digest : List ℕ} (before later : List (List 
           blank = 32;
           one = refl;
           has = w.has;
-          are_blanks = All-nil (λ b. is_blank b ≡ true);
+          are_blanks = grind arith;
           spelled = decode_of-encode_lower digest w.bytes;
           size = w.size;
           is_one_blank = refl;
@@ -112,7 +105,8 @@ module _ {kind : KindValue} {name digest : List ℕ} (before later : List (List 
         } in
         let standard : begins_standard (x ∷ escape name) ≡ true = let some = w.some in grind (arith, length-escape) in
         let own : line_form (One kind.algo) line ≡ Standard = rw (plain_is_read _ shape, standard) refl in
-        let after = λ (others : List (List ℕ)). form-after (One kind.algo) before others line own readable in
+        let after : (others : List (List ℕ)) → form (One kind.algo) (before ++ (line ∷ others)) ≡ Standard =
+        λ others. grind (arith, form_at) in
         back (One kind.algo) line one (rw (after later) (record {
           escaped = escape_differs own_profile name;
           raw = escape name;
@@ -130,8 +124,6 @@ module _ {kind : KindValue} {name digest : List ℕ} (before later : List (List 
     tagged-back algos width allowed is_width readable =
         let line = mark (escape_differs own_profile name)
         ++ (tag kind.algo ++ (width ++ (32 ∷ 40 ∷ (escape name ++ (41 ∷ 32 ∷ 61 ∷ 32 ∷ encode_lower digest))))) in
-        let none = All-nil (λ b. is_blank b ≡ true) in
-        let space : AllPass is_blank (32 ∷ []) = All-cons (λ b. is_blank b ≡ true) 32 [] refl none in
         let shape : IsTagged algos line (escape_differs own_profile name) kind digest (escape name) = record {
           blanks = [];
           width = width;
@@ -140,11 +132,11 @@ module _ {kind : KindValue} {name digest : List ℕ} (before later : List (List 
           after = 32 ∷ [];
           digits = encode_lower digest;
           allowed = allowed;
-          are_blanks = none;
+          are_blanks = grind arith;
           is_width = is_width;
           some = omega (arith, w.some, length-escape name);
-          before_blanks = space;
-          after_blanks = space;
+          before_blanks = grind arith;
+          after_blanks = grind arith;
           spelled = decode_of-encode_lower digest w.bytes;
           size = w.size;
           whole = refl;

@@ -126,9 +126,8 @@ pub search_none : (a : Algo) (s : List ℕ) {n : ℕ} (r : Option ℕ) → n ≡
     → IsFirstByte (is_byte2 32 9) (take n s) r → IfNone r ((d : List ℕ) → ¬ BeginsWithDigits a s d)
 search_none a s {n} None is none = λ d cut.
     let size = cut-size cut in
-    let within = cut-within cut in
-    none (position_or_len is_blank s) (omega arith) (omega (arith, length-take n s))
-    (rw (get_or-take n s (position_or_len is_blank s) 0 (omega arith)) (passes_at_first is_blank s 0 within))
+    let here = none (position_or_len is_blank s) in
+    grind (arith, cut-within, length-take, get_or-take, passes_at_first)
 search_none a s (Some i) is first = tt
 
 -- the one that is found is the first

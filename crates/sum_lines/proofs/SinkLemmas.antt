@@ -31,7 +31,7 @@ Accepts-trans xs ys first second =
 FailsToWrite-in : {a b c : BufferState} {text : List ℕ} (xs ys more : List ℕ) → Accepts a b xs → FailsToWrite b c ys
     → text ≡ xs ++ (ys ++ more) → FailsToWrite a c text
 FailsToWrite-in xs ys more first failed is = let own = first.cut in let then = failed.cut in record {
-  nonempty = omega (arith, failed.nonempty, ap length is, length-append xs (ys ++ more), length-append ys more);
+  nonempty = let some = failed.nonempty in grind (arith, length-append);
   given = first.given ++ failed.given;
   full = omega (arith, first.full, failed.full, length-append first.given failed.given);
   rest = failed.rest ++ more;
@@ -144,9 +144,9 @@ HasLeft-last {rest = rest} c r left last = rw left.cut (writes_then c left.prefi
 pub given_after : {E : Type 0} {a b : BufferState} (c : SinkState) (text : List ℕ) (r : Result (Unit {0}) E)
     → Accepts a b text → GivesAll b.sink c b.buffered r → GivesAll a.sink c (a.buffered ++ text) r
 given_after {b = b} c text (Ok u) h given = rw (h.cut, output_events-append h.given b.buffered h.full)
-    (Gets-then h.gives.0 given.0, given.1 ∙ h.gives.1)
+    (Gets-then h.gives.0 given.0, grind arith)
 given_after {b = b} c text (Err e) h given = rw (h.cut, output_events-append h.given b.buffered h.full)
-    (GetsPrefix-then h.gives.0 given.0, given.1 ∙ ap (λ n. n + 1) h.gives.1, given.2)
+    (GetsPrefix-then h.gives.0 given.0, grind arith, given.2)
 
 -- a write of a text failed, so not all was given
 pub not_given : {a b : BufferState} {text : List ℕ} → FailsToWrite a b text

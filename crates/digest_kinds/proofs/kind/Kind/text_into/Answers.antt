@@ -1,8 +1,8 @@
 use Rattle.std.proofs.Common.{rules, arith}
-use Rattle.digest_kinds.proofs.KindTextLemmas.{IsUtf8-kind_text, kind_text_short}
+use Rattle.digest_kinds.proofs.{KindTextLemmas.IsUtf8-kind_text, KindLemmas.has_len-full}
 use Rattle.digest_kinds.proofs.kind.Kind.text_into.Goals as goal
 
 -- what was written is the text, so it is UTF-8
 pub unreachable-requires : goal.unreachable-requires
 unreachable-requires c =
-    let text = IsUtf8-kind_text c.args.self (search rules) in grind (arith, kind_text_short)
+    let text = IsUtf8-kind_text c.args.self (search rules) in grind (arith, has_len-full)
