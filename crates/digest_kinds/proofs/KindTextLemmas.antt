@@ -1,8 +1,7 @@
 -- What follows a tag is read as the width of a kind, and the text of a kind names it.
 use Rattle.std.proofs.Common.{ℕ, ◌≤◌, IsUtf8, ◌≡◌, true, List, [], ◌∷◌, ◌++◌, length, drop, Some, refl, ap, inl, inr, arith, rules, take_while, option_map, decimal, ◌*◌}
-use Rattle.std.proofs.lemmas.{Grind.common_steps, Fmt.IsAscii-decimal, Fmt.length-decimal-le}
+use Rattle.std.proofs.lemmas.{Grind.common_steps, Fmt.IsAscii-decimal, Fmt.length-decimal-le, Str.IsAscii-append, Str.IsUtf8-from_ascii, List.drop_at}
 use Rattle.std.specs.Char.{is_ascii_digit}
-use Rattle.std.proofs.lemmas.{Str.IsAscii-append, Str.IsUtf8-from_ascii, List.drop_at}
 use Rattle.digest_kinds.proofs.{TagLemmas.find-begins, KindLemmas.has_len-range}
 use Rattle.digest_kinds.specs.Bytes.{after_while}
 use Rattle.digest_kinds.specs.Kinds.{Algo, Blake2b, KindValue, BeginsWithTag, full_kind, has_len, tag}

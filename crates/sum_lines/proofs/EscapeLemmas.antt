@@ -1,11 +1,10 @@
 -- The escape of a list of bytes, cut at its first special byte: a backslash, a newline or a carriage return. What is
 -- escaped can be read back: both the definition and the code find the name. After that, the raw name in a line.
 use Rattle.std.proofs.Common.{◌≡◌, ℕ, zero, suc, ◌+◌, ◌-◌, ◌<◌, ◌≤◌, true, not, List, [], ◌∷◌, ◌++◌, length, take, drop, get_or, Option, None, Some, MatchOption, refl, ap, sym, ◌∙◌, arith, is_some, length-append, length-drop, ◌↔◌, ◌==◌, Bool, false, cond, ◌≢◌, append_assoc, All, nat_lt, rules, slice_range}
-use Rattle.std.proofs.lemmas.{Bool.false_from_ne_true, Grind.flat_map-append, Grind.common_steps, Slice.Eq.bytes_eq-Decides, Option.cond_some}
+use Rattle.std.proofs.lemmas.{Bool.false_from_ne_true, Grind.flat_map-append, Grind.common_steps, Slice.Eq.bytes_eq-Decides, Option.cond_some, List.Sums.list_all-from_AllPass, List.Folds.list_all_at}
 use Rattle.std.proofs.lemmas.List.{length-take-le, append-nil, append_cancel_left, drop-drop, drop-take}
 use Rattle.std.proofs.Math.Seq.{take-length, take-append-add}
 use Rattle.std.specs.{List.list_all, Option.is_some}
-use Rattle.std.proofs.lemmas.{List.Sums.list_all-from_AllPass, List.Folds.list_all_at}
 use Rattle.memchr.specs.Find.{Nowhere, Passes, IsFirstByte, is_byte3, is_byte}
 use Rattle.sum_lines.specs.Escape.{own_profile, escape, escape_of, escape_differs, Profile, escape_by}
 use Rattle.sum_lines.specs.{grammar.Entries.EntryValue, grammar.Entries.Standard, grammar.Entries.begins_standard, grammar.LineParts.LinePartsValue}

@@ -74,10 +74,7 @@ Gets-none {a} = record { offered = refl; written = sym (append-nil a.written) }
 
 -- some events, and then others
 pub Gets-then : {a b c : SinkState} {p q : List OutputEvent} → Gets a b p → Gets b c q → Gets a c (p ++ q)
-Gets-then {a} {b} {c} {p} {q} h k = record {
-  offered = OffersEach-then a.offered b.offered c.offered p q h.offered k.offered;
-  written = let first = h.written in let then = k.written in grind (arith, append_assoc, filter_map-append);
-}
+Gets-then {a} {b} {c} {p} {q} h k = grind (arith, append_assoc, filter_map-append, OffersEach-then)
 
 -- after some events, a prefix of others
 pub GetsPrefix-then : {a b c : SinkState} {p q : List OutputEvent} → Gets a b p → GetsPrefix b c q

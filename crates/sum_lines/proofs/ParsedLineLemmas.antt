@@ -9,8 +9,7 @@ use Rattle.sum_lines.specs.grammar.LineParts.{LinePartsValue, tagged_parts, plai
 use Rattle.sum_lines.specs.grammar.ParsedLines.{with_raw, entry_of_parts, entry_of, ParsedLine, bad, parse_line}
 use Rattle.sum_lines.specs.grammar.LineLaws.{HasOneEntry, FitsGrammar, ParsesByGrammar}
 use Rattle.digest_kinds.proofs.PrefixLemmas.{bind_some, none_of}
-use Rattle.sum_lines.proofs.{PlainLemmas.apart, PlainLemmas.plain_is_read, PlainLemmas.read_is_plain, TaggedLemmas.tagged_is_read, TaggedLemmas.read_is_tagged}
-use Rattle.sum_lines.proofs.{EntryLemmas.entry-not_ignored, EscapeLemmas.spelled-is, EscapeLemmas.is-spelled}
+use Rattle.sum_lines.proofs.{PlainLemmas.apart, PlainLemmas.plain_is_read, PlainLemmas.read_is_plain, TaggedLemmas.tagged_is_read, TaggedLemmas.read_is_tagged, EntryLemmas.entry-not_ignored, EscapeLemmas.spelled-is, EscapeLemmas.is-spelled}
 
 module _ (p : Profile) (algos : Algos) (f : Form) (line : List ℕ) where
   -- ---- the entry that a line has is computed
@@ -68,7 +67,7 @@ parse_is_grammar p algos f line =
     record {
       when_ignored = (λ h. grind arith, λ h. rw h refl);
       when_entry = λ s. (
-        λ h. let said : found ≡ Some s = grind arith in value_entry p algos f line s said,
+        λ h. value_entry p algos f line s (grind arith),
         λ h. rw (entry-not_ignored p h, entry_value p algos f line s h) refl,
       );
     }

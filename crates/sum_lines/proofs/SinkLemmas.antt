@@ -1,5 +1,5 @@
 -- A text is written to a buffer piece by piece. `a`, `b` and `c` are the buffer before, between and after.
-use Rattle.std.proofs.Common.{ℕ, ◌≡◌, ◌<◌, ◌≤◌, ◌-◌, ◌+◌, List, [], ◌++◌, length, take, Result, Ok, Err, inl, inr, min, refl, sym, ap, ◌∙◌, append_assoc, append-nil, length-append, length-take, lit<, rules, arith}
+use Rattle.std.proofs.Common.{ℕ, ◌≡◌, ◌<◌, ◌≤◌, ◌-◌, ◌+◌, ◌%◌, List, [], ◌++◌, length, take, Result, Ok, Err, inl, inr, min, refl, sym, ap, ◌∙◌, append_assoc, append-nil, length-append, length-take, lit<, rules, arith}
 use Rattle.std.specs.Result.{IsErr}
 use Rattle.sum_lines.specs.{Sinks.SinkState, Sinks.GivesAll, Sinks.output_events, refinement.SinkStates.MakesRoom}
 use Rattle.sum_lines.specs.Buffers.{BufferState, Accepts, FailsToWrite, WritesAll}
@@ -84,16 +84,8 @@ accepts_some {a} {b} c piece n made some count sink buffered =
 -- the sink failed
 pub accept_failed : {a b : BufferState} (piece : List ℕ) → MakesRoom {E = Unit {0}} a b (Err tt) → 0 < length piece
     → FailsToWrite a b piece
-accept_failed {a} piece (inl (full, none, gives)) some = record {
-  nonempty = some;
-  given = a.buffered;
-  full = rw full refl;
-  rest = piece;
-  cut = refl;
-  proper = some;
-  gives = gives;
-  flushed = (none, gives.2);
-}
+accept_failed {a} piece (inl (full, none, gives)) some =
+    let whole : length a.buffered % 8192 ≡ 0 = rw full refl in search (rules, full)
 accept_failed piece (inr (room, same, ok)) some = cc
 
 -- ---- a text, piece after piece
@@ -114,11 +106,8 @@ pub ruleset at_first = (HasLeft-all)
 -- a piece of the rest was accepted
 pub HasLeft-step : {a b c : BufferState} {text rest more : List ℕ} (piece : List ℕ) → HasLeft a b text rest
     → rest ≡ piece ++ more → Accepts b c piece → HasLeft a c text more
-HasLeft-step piece left cut written = record {
-  prefix = left.prefix ++ piece;
-  cut = grind (arith, append_assoc);
-  wrote = Accepts-trans left.prefix piece left.wrote written;
-}
+HasLeft-step piece left cut written = let own = left.cut in
+    record { prefix = left.prefix ++ piece; cut = grind (arith, append_assoc); wrote = search (rules, Accepts-trans) }
 
 -- a piece of the rest failed: so did the whole text
 pub HasLeft-stop : {E : Type 0} {a b c : BufferState} {text rest piece : List ℕ} (more : List ℕ)

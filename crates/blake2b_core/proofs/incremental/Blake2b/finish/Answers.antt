@@ -1,4 +1,4 @@
-use Rattle.std.proofs.Common.{◌≡◌, ◌+◌, ◌*◌, length, ◌∙◌, arith}
+use Rattle.std.proofs.Common.{◌≡◌, ◌∙◌, arith}
 use Rattle.blake2b_core.specs.Digest.{before_last}
 use Rattle.blake2b_core.proofs.BlockLemmas.{blake2b-from}
 use Rattle.blake2b_core.proofs.incremental.Blake2b.finish.Goals as goal
@@ -7,7 +7,6 @@ use Rattle.blake2b_core.proofs.incremental.Blake2b.finish.Goals as goal
 pub returns-clause-digest : goal.returns-clause-digest
 returns-clause-digest c = λ m held.
     let so_far = held.so_far in
-    let counted : 128 * so_far.done + c.args.self.buffer_len ≡ length m = so_far.count in
     let count : so_far.done ≡ before_last m = grind (arith, held.empty_buffer) in
     rw (c.of_state.ensures.value, c.compress-h.ensures) (blake2b-from c.args.self.len m count so_far.hash
     c.padded_block-last.ensures so_far.rest (c.from.ensures ∙ so_far.taken))
