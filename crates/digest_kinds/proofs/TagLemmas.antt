@@ -27,8 +27,8 @@ pub found_tagged : (bytes : List ℕ) (a : Algo) → BeginsWithTag bytes a → f
 found_tagged bytes a begun = rw begun.1 (find-begins a begun.0)
 
 -- so an algorithm whose tag begins the bytes, if there is one, is the one that the search finds
-pub search-is : (bytes : List ℕ) (r : Option Algo) → IfSome r (λ a. BeginsWithTag bytes a)
+pub search_is : (bytes : List ℕ) (r : Option Algo) → IfSome r (λ a. BeginsWithTag bytes a)
     → ((a : Algo) → BeginsWithTag bytes a → r ≡ Some a) → r ≡ find (begins bytes) all_algos
-search-is bytes (Some a) tagged found = sym (found_tagged bytes a tagged)
-search-is bytes None tagged found =
+search_is bytes (Some a) tagged found = sym (found_tagged bytes a tagged)
+search_is bytes None tagged found =
     none_of _ (λ a h. let bad = found a (rw h at (IfSome-find-begins bytes all_algos)) in cc)

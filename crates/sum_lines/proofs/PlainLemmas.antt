@@ -86,9 +86,7 @@ pub plain_is_read : {algos : Algos} {line : List ℕ} (p : LinePartsValue)
 unfolding plain_parts
 plain_is_read p t =
     let digits = plain-digits t in
-    let no_blanks : AllPass (λ x. not (is_blank x)) t.digits =
-    All-weaker (λ b. is_hex_digit b ≡ true) (λ x. not (is_blank x) ≡ true)
-    (λ x hex. ap not (hex-no_blank x hex)) t.digits digits.are in
+    let no_blanks : AllPass (λ x. not (is_blank x)) t.digits = grind (arith, All-weaker, hex-no_blank) in
     rw (t.one, plain-prefix t) (grind (arith, prefix_len-stop, take_at, drop-append-add))
 
 -- ---- one shape

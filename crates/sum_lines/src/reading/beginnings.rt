@@ -43,6 +43,7 @@ pub(crate) fn find_beginning(algos: Algos, line: &[u8], front: Front) -> Option<
 }
 
 // The one of these algorithms whose tag begins the text.
+#[tactic(auto, using(digest_kinds::proofs::TagLemmas::search_is))]
 fn tag_in(algos: Algos, text: &[u8]) -> Option<Algo>
     ensures { result ≡ tag_in algos text.now }
 {
