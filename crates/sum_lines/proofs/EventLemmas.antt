@@ -1,6 +1,6 @@
 -- The pieces of a text, the events of these, and what happened of them.
 use Rattle.std.proofs.lemmas.{Grind.common_steps, List.take-append-le, List.drop-append-le, List.Concat.flat_map-append, List.Elements.filter_map-append}
-use Rattle.std.proofs.Common.{ℕ, zero, suc, ◌≡◌, ◌<◌, ◌≤◌, ◌+◌, ◌*◌, ◌/◌, ◌%◌, List, [], ◌∷◌, ◌++◌, length, drop, flat_map, filter_map, refl, sym, ap, ◌∙◌, append_assoc, append-nil, length-append, length-drop, take_all, arith}
+use Rattle.std.proofs.Common.{ℕ, zero, suc, ◌≡◌, ◌<◌, ◌≤◌, ◌+◌, ◌*◌, ◌/◌, ◌%◌, List, [], ◌∷◌, ◌++◌, length, drop, flat_map, filter_map, refl, sym, ap, append_assoc, append-nil, length-append, length-drop, take_all, arith}
 use Rattle.std.specs.{List.concat, Simd.first_chunks}
 use Rattle.sum_lines.specs.Sinks.{SinkState, OutputEvent, offer_piece, write_byte, written_byte, pieces, byte_events, output_events, OffersEach, Gets, GetsPrefix}
 
@@ -51,8 +51,7 @@ bytes-in (p ∷ ps) = grind (arith, filter_map-append, bytes-written, bytes-in p
 
 -- the bytes of a text's events are the text
 pub output_events-bytes : (text : List ℕ) → filter_map written_byte (output_events text) ≡ text
-output_events-bytes text =
-    bytes-in (pieces text) ∙ concat-chunks 8192 ((length text + 8191) / 8192) text (omega arith)
+output_events-bytes text = grind (arith, bytes-in, concat-chunks)
 
 -- the events after full pieces are those of what follows
 pub output_events-append : (xs ys : List ℕ) → length xs % 8192 ≡ 0

@@ -1,5 +1,5 @@
 -- A text of one piece is given to a sink. `a`, `b` and `c` are the sink before, between and after.
-use Rattle.std.proofs.Common.{ℕ, zero, suc, ◌≡◌, ◌<◌, ◌≤◌, ◌+◌, List, [], ◌∷◌, ◌++◌, length, take, drop, filter_map, Ok, Err, inl, inr, refl, sym, ap, append_assoc, append-nil, arith, rules}
+use Rattle.std.proofs.Common.{ℕ, zero, suc, ◌≡◌, ◌<◌, ◌≤◌, ◌+◌, List, [], ◌∷◌, ◌++◌, length, take, drop, filter_map, Ok, Err, inl, inr, refl, ap, append_assoc, append-nil, arith, rules}
 use Rattle.std.proofs.lemmas.List.Elements.{filter_map-append}
 use Rattle.sum_lines.specs.Sinks.{SinkState, OutputEvent, WritesSome, OffersEach, GivesAll, offer_piece, write_byte, written_byte, byte_events, output_events}
 use Rattle.sum_lines.proofs.EventLemmas.{one_piece}
@@ -46,13 +46,9 @@ pub record HasGiven (a b : SinkState) (text rest : List ℕ) : Type 0 where
 -- at first all of it
 pub HasGiven-none : (a : SinkState) (text : List ℕ) → length text ≤ 8192 → HasGiven a a text text
 HasGiven-none a [] fits = search (rules, append-nil)
-HasGiven-none a (b ∷ bs) fits = record {
-  events = offer_piece (b ∷ bs) ∷ [];
-  cut = grind (arith, one_piece, append-nil);
-  offers = λ new es h. h;
-  written = sym (append-nil a.written);
-  failures = refl;
-}
+HasGiven-none a (b ∷ bs) fits =
+    let cut : output_events (b ∷ bs) ≡ (offer_piece (b ∷ bs) ∷ []) ++ byte_events (b ∷ bs) =
+    grind (arith, one_piece, append-nil) in search (rules, append-nil)
 
 -- the rest was offered, and some of it accepted
 pub HasGiven-more : {a b c : SinkState} {text : List ℕ} (rest : List ℕ) (n : ℕ) → HasGiven a b text rest

@@ -94,8 +94,8 @@ plain_is_read p t =
 -- a plain line's digits begin no tag
 pub no_prefix : (a : Algo) (ds s rest : List ℕ) → AllPass is_hex_digit ds → 2 ≤ length ds → ds ++ s ≡ tag a ++ rest → ⊥
 no_prefix a (x ∷ y ∷ xs) s rest all two e =
-    no_digits a x y (xs ++ s) rest (All-head (λ b. is_hex_digit b ≡ true) x (y ∷ xs) all)
-    (All-head (λ b. is_hex_digit b ≡ true) y xs (All-tail (λ b. is_hex_digit b ≡ true) x (y ∷ xs) all)) e
+    let later = All-tail (λ b. is_hex_digit b ≡ true) x (y ∷ xs) all in
+    no_digits a x y (xs ++ s) rest (search (rules, All-head)) (search (rules, All-head)) e
 no_prefix a ds s rest all two e = absurd (omega arith)
 
 -- no line is both plain and tagged
