@@ -34,8 +34,8 @@ entry-not_ignored p e = elim e.shape [
 -- an ignored line is not plain, and has no form
 pub ignored_undecided : (algos : Algos) (line : List ℕ) → is_ignored own_profile line ≡ true
     → line_form algos line ≡ Undecided
-ignored_undecided algos line ignored = rw (← none_of (plain_parts algos line) (λ p h.
-    let wrong = sym ignored ∙ plain-not_ignored own_profile (read_is_plain h) in cc)) refl
+ignored_undecided algos line ignored =
+    rw (← none_of (plain_parts algos line) (λ p h. cc (plain-not_ignored own_profile (read_is_plain h)))) refl
 
 -- the computed form is one that the list has
 is-form : (algos : Algos) (lines : List (List ℕ)) → IsForm algos lines (form algos lines)

@@ -140,8 +140,7 @@ module _ {kind : KindValue} {name digest : List ℕ} (before later : List (List 
           size = w.size;
           whole = refl;
         } in
-        let own : line_form algos line ≡ Undecided =
-        rw (← none_of (plain_parts algos line) (λ p h. apart (read_is_plain h) shape)) refl in
+        let other = none_of (plain_parts algos line) (λ p h. apart (read_is_plain h) shape) in
         back algos line (grind (arith, list_all-append, inline-width, inline-escape, inline-digits)) (record {
           escaped = escape_differs own_profile name;
           raw = escape name;

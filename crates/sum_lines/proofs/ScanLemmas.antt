@@ -1,6 +1,6 @@
 -- What the functions that scan a line return, step by step; what a line begins with, and the parts that it is then read
 -- as. The code looks for the first blank of a plain line's text among as many bytes as the longest digest has digits.
-use Rattle.std.proofs.Common.{ℕ, ◌≡◌, ◌≢◌, ◌+◌, ◌-◌, ◌*◌, ◌<◌, ◌≤◌, List, [], ◌∷◌, ◌++◌, length, take, drop, slice_range, Option, None, Some, MatchOption, Ok, Bor, sym, arith, append_assoc, option_copied, Bool, get_or, min, ◌/◌, true, cond, IfNone, IfSome, refl, ap, ◌∙◌, length-drop, rules}
+use Rattle.std.proofs.Common.{ℕ, ◌≡◌, ◌≢◌, ◌+◌, ◌-◌, ◌*◌, ◌<◌, ◌≤◌, List, [], ◌∷◌, ◌++◌, length, take, drop, slice_range, Option, None, Some, MatchOption, Ok, Bor, sym, arith, append_assoc, option_copied, get_or, min, ◌/◌, true, cond, IfNone, IfSome, refl, length-drop, rules}
 use Rattle.std.specs.{Option.option_or, Path.rsplit_once, List.position_or_len}
 use Rattle.std.proofs.lemmas.{Grind.common_steps, List.drop_at, List.get_or-take, List.length-take, List.Sums.passes_at_first, List.Sums.position_or_len_is}
 use Rattle.std.proofs.lemmas.List.Elements.{All-get_or}
@@ -111,8 +111,7 @@ by_tag algos line a h =
       none_of (plain_parts algos line) (λ p plain.
           let is = read_is_plain plain in
           let digits = plain-digits is in
-          let same = ap (λ (x : Bool × List ℕ). x.1) (plain-prefix is) in
-          no_prefix a is.digits _ _ digits.are digits.two (sym same ∙ found.1)),
+          no_prefix a is.digits _ _ digits.are digits.two (rw (plain-prefix is) at found.1)),
     )
 
 -- ---- the blank after the digits
