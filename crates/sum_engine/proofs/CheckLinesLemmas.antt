@@ -153,12 +153,7 @@ module _ {I : Type 0} (state : I → InputState) (first : CheckerValue I) (m : S
     labels = refl;
     going = none;
     reading = λ reading. reading;
-    happened = λ flushed. record {
-      holds = λ reading c of w agrees. record {
-        done = done_none (left (state_at first.verdicts (remaining first.verdicts.reader c) (world_at w m.inputs))) m;
-        consumed = refl;
-      };
-    };
+    happened = λ flushed. record { holds = λ reading c of w agrees. search (rules, done_none) };
     so_far = search rules;
     reads = reads_none m.inputs;
     same = search rules;

@@ -43,11 +43,9 @@ Happened-none a = search (rules, asks_none, Gets-none)
 
 -- one thing after another
 pub Happened-then : {a b c : StreamsState} (p q : List Event) → Happened a b p → Happened b c q → Happened a c (p ++ q)
-Happened-then {a} {b} {c} p q h k = record {
-  inputs = search (rules, asks_then, filter_map-append, h.inputs, k.inputs);
-  err = rw (filter_map-append err_event p q) (Gets-then h.err k.err);
-  out = rw (filter_map-append out_event p q) (Gets-then h.out k.out);
-}
+Happened-then p q h k =
+    let err = Gets-then h.err k.err in
+    let out = Gets-then h.out k.out in search (rules, asks_then, filter_map-append, err, out)
 
 -- ---- one step
 

@@ -9,7 +9,7 @@ use Rattle.sum_sources.specs.ManifestLines.{raw_lines, last_line, past_line}
 use Rattle.sum_sources.proofs.CutLemmas.{bytes_of_lines, cut, raw_lines-joined}
 use Rattle.sum_engine.specs.check.OldVerdicts.{older_profile, rules_under, HasNoCarriageReturn, NamesNoCarriageReturn, IsOldManifest, OldVerdicts, OlderDiffers}
 use Rattle.sum_lines.proofs.{EntryLemmas.entry-not_ignored, ParsedLineLemmas.bad_exactly}
-use Rattle.sum_engine.proofs.OldNames.{front_clean, rest_clean, same_escape, CleanParsedLine, parse_line_same}
+use Rattle.sum_engine.proofs.OldNames.{parts_clean, same_escape, CleanParsedLine, parse_line_same}
 use Rattle.sum_engine.proofs.CarriageReturnLemmas.{strips-kept}
 use Rattle.sum_engine.specs.declared.settings.Report.TheVariants as reports
 
@@ -22,8 +22,8 @@ ended_clean e [] tail free = search rules
 ended_clean e (p ∷ ps) tail free =
     let whole : HasNoCarriageReturn ((p ++ 10 ∷ []) ++ bytes_of_lines ps tail) =
     subst HasNoCarriageReturn (append_assoc (p ++ 10 ∷ []) (flat_map (λ piece. piece ++ 10 ∷ []) ps) tail) free in
-    All-cons HasNoCarriageReturn p (ps ++ last_line e tail) (front_clean p _ (front_clean (p ++ 10 ∷ []) _ whole))
-    (ended_clean e ps tail (rest_clean (p ++ 10 ∷ []) _ whole))
+    let (line, rest) = parts_clean (p ++ 10 ∷ []) _ whole in
+    All-cons HasNoCarriageReturn p (ps ++ last_line e tail) (parts_clean p _ line).0 (ended_clean e ps tail rest)
 
 -- so no line of a content has one
 pieces_clean : (c : Content) → HasNoCarriageReturn c.bytes → All HasNoCarriageReturn (raw_lines c)
@@ -119,12 +119,12 @@ old_verdicts r labels w c h =
 
 -- ---- how the profiles differ
 
--- an empty line is improper to older versions
-empty_line : (algos : Algos) (f : Form) → parse_line older_profile algos f [] ≡ bad
-empty_line algos f =
-    (bad_exactly older_profile algos f []).1 (refl, λ s e. let wrong = entry-not_ignored own_profile e in cc)
-
--- the profiles do differ: a name with a carriage return, and an empty line
+-- the profiles do differ: a name with a carriage return, a line with one at its end, and an empty line
 pub older_differs : OlderDiffers
 unfolding raw_lines
-older_differs = (refl, refl, empty_line)
+older_differs = (
+  refl,
+  refl,
+  λ algos f.
+      (bad_exactly older_profile algos f []).1 (refl, λ s e. let wrong = entry-not_ignored own_profile e in cc),
+)

@@ -11,18 +11,13 @@ use Rattle.sum_engine.specs.{check.Checker.IsStep, check.Checker.ends, check.Che
 use Rattle.sum_engine.specs.Execution.{Stop, StreamsState, Write, Memory}
 use Rattle.sum_engine.proofs.{BehaviorLemmas.HasDoneUpTo, BehaviorLemmas.behavior_then-first, RemainingLemmas.remaining_before-left}
 
--- reads that didn't go past an end gave no more bytes than the content has
-read_fits : (phase : Phase) (bytes : List ℕ) (c : Content) → ¬ (phase ≡ Past) → IsReadTo phase bytes c
-    → length bytes ≤ length c.bytes
-read_fits Unfinished bytes c past of = rw (of.1, length-append bytes of.0) (omega arith)
-read_fits (Ended e) bytes c past of = rw of (omega arith)
-read_fits Past bytes c past of = absurd (past refl)
-
--- and up to the limit not many more than it has below the limit
+-- reads that didn't go past an end gave, up to the limit, not many more bytes than the content has below the limit
 pub read_fits_clip : (phase : Phase) (bytes : List ℕ) (c : Content) → ¬ (phase ≡ Past) → IsReadTo phase bytes c
     → length bytes ≤ 2 ^ 61 → length bytes ≤ length (clip c).bytes + 8192
-read_fits_clip phase bytes c past of few =
-    let fits = read_fits phase bytes c past of in grind (arith, limit-value, length-take)
+read_fits_clip Unfinished bytes c past of few =
+    let fits = ap length of.1 in grind (arith, limit-value, length-take, length-append)
+read_fits_clip (Ended e) bytes c past of few = let fits = ap (λ (c : Content). length c.bytes) of in grind (arith, limit-value, length-take)
+read_fits_clip Past bytes c past of few = absurd (past refl)
 
 -- a check came from the state a to b, where a step ended or stopped it and left it in the state d
 pub stops_at_step : {r : Rules} {labels : LabelsValue} {vector : List ℕ} {m n : StreamsState} (o : StreamsState)
