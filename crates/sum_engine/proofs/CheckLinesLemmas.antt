@@ -148,17 +148,10 @@ module _ {I : Type 0} (state : I → InputState) (first : CheckerValue I) (m : S
 
   -- it begins so
   pub HasComeTo-none : first.outcome ≡ None → HasComeTo first m
-  HasComeTo-none none = record {
-    rules = refl;
-    labels = refl;
-    going = none;
-    reading = λ reading. reading;
-    happened = λ flushed. record { holds = λ reading c of w agrees. search (rules, done_none) };
-    so_far = search rules;
-    reads = reads_none m.inputs;
-    same = search rules;
-    taken = refl;
-  }
+  HasComeTo-none none =
+      let happened : HoldsUpTo first.verdicts m (λ a b. ComesTo a b m) = λ flushed.
+      record { holds = λ reading c of w agrees. search (rules, done_none) } in
+      search (rules, reads_none, happened)
 
   -- after a step more, which returned x, P holds if it follows of what happened before and of the step
   one_more_step : {q : CheckerValue I} {n : StreamsState} (next : CheckerValue I) (o : StreamsState) (vector : List ℕ)
@@ -181,22 +174,16 @@ module _ {I : Type 0} (state : I → InputState) (first : CheckerValue I) (m : S
       → TakesStep state vector q.labels q.verdicts next.verdicts n o (Ok Going) → HasComeTo next o
   HasComeTo-more q next n o vector h advances going step =
       let cause = step_cause advances in
-      record {
-        rules = advances.verdict.rules ∙ h.rules;
-        labels = advances.labels ∙ h.labels;
-        going = going;
-        reading = λ reading. advances.verdict.reading (h.reading reading);
-        happened = one_more_step next o vector (Ok Going) h advances step (λ a b d along step. record {
-          done = subst (λ later. HasDoneUpTo (left a) later m o)
-              (step.going refl).0 (done_more step.step step.later along.done step.is step.performs.1);
-          consumed = (step.going refl).1.consumed ∙ along.consumed;
-        });
-        so_far = search rules;
-        reads = reads_then (none_unread q.verdicts next.verdicts advances.found advances.verdict.counts)
-            h.reads advances.verdict.reads;
-        same = search rules;
-        taken = omega (arith, h.taken, advances.verdict.reader.taken);
-      }
+      let happened : HoldsUpTo next.verdicts o (λ a d. ComesTo a d o) =
+      one_more_step next o vector (Ok Going) h advances step (λ a b d along step. record {
+        done = subst (λ later. HasDoneUpTo (left a) later m o)
+            (step.going refl).0 (done_more step.step step.later along.done step.is step.performs.1);
+        consumed = (step.going refl).1.consumed ∙ along.consumed;
+      }) in
+      let reads : ReadsToEndIf (next.verdicts.counts.unread ≡ 0) m.inputs o.inputs =
+      reads_then (none_unread q.verdicts next.verdicts advances.found advances.verdict.counts) h.reads
+      advances.verdict.reads in
+      search (rules, arith, happened, reads, cause)
 
   -- the check of this content, whose behavior is `all`, ended or stopped with x once the input had given so many bytes
   pub record EndsAs (x : Result Bool Stop) (taken : ℕ) (o : StreamsState) (all : Behavior) (c : Content) : Type 0 where

@@ -64,14 +64,9 @@ module _ (r : Rules) (labels : LabelsValue) (c : Content) (w : World) (s : Strea
       let steps = drop_next k whole.steps (remaining_behavior r labels d).steps step.step
       (sym h.steps ∙ ap (λ (q : Behavior). q.steps) is) in
       let remaining = moves.remaining ∙ ap past_line h.remaining ∙ past_next k c in
-      record {
-        remaining = remaining;
-        consumed = search (rules, remaining);
-        taken = moves.taken;
-        done = rw steps.1 (behavior_then-happened (take k whole.steps) (step.step ∷ []) h.done step.performs.1);
-        steps = sym steps.0;
-        good = sym (ap (λ (q : Behavior). q.good) is) ∙ h.good;
-      }
+      let done : Happened s z (trace (take (suc k) whole.steps)) =
+      rw steps.1 (behavior_then-happened (take k whole.steps) (step.step ∷ []) h.done step.performs.1) in
+      search (rules, remaining, done, steps, moves)
 
   -- all, one after another
   after_all : (a b : CheckState) (m t : StreamsState) (i : ℕ) (vectors : List (List ℕ)) → After a m i

@@ -88,27 +88,16 @@ module _ (r : Rules) (labels : LabelsValue) where
   module _ (own : HasNoCarriageReturn labels.manifest) where
     -- the text at its end is the same
     end_same : (e : Ending) (c : Counts) → end_text old labels e c ≡ end_text new labels e c
-    end_same Whole c = by labels.report
-      where
-        by : (report : Report) → let shown : LabelsValue = record labels { report = report } in
-            end_text old shown Whole c ≡ end_text new shown Whole c
-        by reports.Status = rw (same_escape labels.manifest own) refl
-        by report = rw (same_escape labels.manifest own) refl
+    end_same Whole c = search (rules, same_escape)
     end_same (Broken f) c = search (rules, same_escape)
 
-    -- so are the reports of a verdict whose name holds none
-    reports_same : (j : LineVerdictValue) → CleanName j
-        → (err_of old labels j ≡ err_of new labels j) × (out_of old labels j ≡ out_of new labels j)
-    reports_same j free = search (rules, same_escape)
-
-    -- and the steps
+    -- and the steps are, if no verdict's name holds one
     steps_same : (end : List ℕ) (c : Content) (js : List LineVerdictValue) → All CleanName js
         → line_steps old labels end c js ≡ line_steps new labels end c js
     steps_same end c [] all = refl
     steps_same end c (j ∷ js) all =
         let later = steps_same end (past_line c) js (All-tail CleanName j js all) in
-        let here = reports_same j (All-head CleanName j js all) in
-        rw (here.0, here.1, later) refl
+        let free : CleanName j = All-head CleanName j js all in search (rules, same_escape, later)
 
 -- ---- the laws
 
