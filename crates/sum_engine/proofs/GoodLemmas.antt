@@ -55,7 +55,7 @@ right-verdicts r files before (i ∷ is) w n steady u all =
     let b = back algos files before (map prefix is) i h u in
     let rest = right-verdicts r files (before ++ (prefix i ∷ [])) is (after w (i.name ∷ [])) (n + 1)
     steady b.2 (All-tail (Listed algos files) i is all) in
-    rw (judged r files w (n + 1) _ i steady h b.1) (ap (λ js. right (n + 1) i ∷ js) (rw append_assoc at rest))
+    let here = judged r files w (n + 1) _ i steady h b.1 in search (rules, append_assoc, here, rest)
 
 -- ---- what is reported, and the end
 

@@ -65,18 +65,12 @@ module _ {I : Type 0} {state : I → InputState} {p q : VerdictsValue I} {a b : 
         let last : CheckState = state_at (after_line h) (remaining h.reader c) (world_at w b) in
         let f : next_judged p.rules first h.line ≡ line_verdict_value vector found =
         sym (rw h.advances.lines at (h.verdict w agrees)) in
-        let handled : HandlesLine p.rules first last vector = record {
-          line = h.line;
-          lines = lines_now p.rules (remaining p.reader c) h.profile ∙ next.0
-              ∙ ap (λ l. h.line ∷ l) (sym (lines_now p.rules (remaining h.reader c) h.profile));
-          remaining = next.1;
-          consumed = reads.sum Line refl c of;
-          taken = omega (arith, h.bounds.ahead);
-          number = h.advances.lines;
-          form = refl;
-          counts = rw f refl;
-          vector_len = h.takes.len;
-        } in
+        let lines : lines_under p.rules.profile (remaining p.reader c)
+        ≡ h.line ∷ lines_under p.rules.profile (remaining h.reader c) =
+        lines_now p.rules (remaining p.reader c) h.profile ∙ next.0
+        ∙ ap (λ l. h.line ∷ l) (sym (lines_now p.rules (remaining h.reader c) h.profile)) in
+        let sum = reads.sum Line refl c of in
+        let handled : HandlesLine p.rules first last vector = search (rules, arith, lines, next, sum, f) in
         let world : world_at w b ≡ after (world_at w a) (asks_of (line_verdict_value vector found)) =
         world_after w a b _ h.asked in
         (search (rules, remaining_next p.rules first last vector handled, f, world), handled);

@@ -69,7 +69,7 @@ module _ (r : Rules) (labels : LabelsValue) where
       let one : line_verdict old w (n + 1) (parse_line older_profile r.algo f l) ≡ j = search (rules, s.0) in
       let more = verdicts_same f (after w (asks_of j)) (n + 1) ls (All-tail (Alike r.algo f) l ls all) in
       let clean = judged_clean w (n + 1) (parse_line own_profile r.algo f l) s.1 in
-      (rw (one, more.0) refl, All-cons CleanName j (verdicts new f (after w (asks_of j)) (n + 1) ls) clean more.1)
+      (rw (one, more.0) refl, All-cons CleanName j _ clean more.1)
 
   -- the verdicts of such a manifest are the same under both profiles, and name no carriage return
   found_same : (w : World) (c : Content) → IsOldManifest r labels c

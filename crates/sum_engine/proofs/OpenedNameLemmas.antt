@@ -32,16 +32,10 @@ was_opened {Whole} tells {a} {m} {b} {n} {name} {s} {t} is opens same read reads
     let now : b.openings ≡ before ++ unclosed ∷ later = reads.openings.1 ∙ rw (opens, append_assoc) refl in
     let then : n.openings ≡ before ++ closed ∷ later =
     rw (closes, now, same, is) (closed-seam before later unclosed t.reads) in
+    let all = All-cons (ReadsFile Whole) closed later (Ok t.reads, refl, read) reads.openings.2 in
     record {
       asks = asks_one a m name None opens;
-      reads = record {
-        told = rw closes (rw opens at reads.told);
-        openings = (
-          closed ∷ later,
-          then,
-          All-cons (ReadsFile Whole) closed later (Ok t.reads, refl, read) reads.openings.2,
-        );
-      };
+      reads = search (rules, all, then);
       asked = rw (then, now) (simp map-append);
       refusals = rw closes refl;
       agrees = λ w agrees. agrees_open before later closed agrees now then;

@@ -27,17 +27,11 @@ pub stops_at_step : {r : Rules} {labels : LabelsValue} {vector : List ℕ} {m n 
     → d.taken ≤ length a.remaining.bytes + 8192
     → IfErr x (λ stop. StopsAtStep stop (remaining_behavior r labels a).steps a.remaining d.taken m o)
 stops_at_step o a b d (Ok good) along sum step fits = tt {0}
-stops_at_step {r} {labels} {vector} {n = n} o a b d (Err stop) along sum step fits = record {
-  done = along.done;
-  next = step.step;
-  later = step.later.steps;
-  are = along.steps ∙ ap (λ (q : Behavior). along.done ++ q.steps) step.is;
-  between = n;
-  happened = along.happened;
-  stopped = behavior_then-first n o (tt {0}) (progress_before step.later.steps step.later.good) (step.step ∷ []) [] stop
-      step.performs;
-  read = by stop step;
-}
+stops_at_step {r} {labels} {vector} {n = n} o a b d (Err stop) along sum step fits =
+    let are = along.steps ∙ ap (λ (q : Behavior). along.done ++ q.steps) step.is in
+    let stopped = behavior_then-first n o (tt {0}) (progress_before step.later.steps step.later.good) (step.step ∷ [])
+    [] stop step.performs in
+    let read = by stop step in search (rules, are, stopped, read)
   where
     by : (stop : Stop) (s : IsStep r labels vector b d n o (Err stop))
         → d.taken + remaining_before s.later.steps ≤ length a.remaining.bytes + 8192
