@@ -4,7 +4,7 @@ use Rattle.std.specs.Prelude.{◌⊎◌, Any}
 use Rattle.std.proofs.lemmas.{List.map-append, List.Elements.filter_map-append}
 use Rattle.sum_lines.specs.Sinks.{Gets}
 use Rattle.sum_lines.proofs.EventLemmas.{Gets-none, Gets-then}
-use Rattle.sum_engine.specs.Behavior.{Event, Step, SourceState, OutputEvent, output_events, open_name, to_err, to_out, err_event, out_event}
+use Rattle.sum_engine.specs.Behavior.{Event, Step, SourceState, OutputEvent, output_events, open_name, to_err, to_out}
 use Rattle.sum_engine.specs.refinement.FlushedWrites.{WritesBoth, WritesAndReturns, outcome_after}
 use Rattle.sum_engine.specs.refinement.Names.{MemoryWasRefused}
 use Rattle.sum_engine.specs.Execution.{StreamsState, IsFlushed, StopHasCause, asked, AsksNames, Stop, Memory, Write, Happened, RunsOutOfMemory, with_refusals, PerformsSteps}

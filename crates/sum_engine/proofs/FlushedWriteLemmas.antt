@@ -1,7 +1,7 @@
 -- A text that is written and flushed.
-use Rattle.std.proofs.Common.{rules, ◌≡◌, ℕ, List, [], ◌++◌, ◌+◌, Result, Ok, Err, MatchResult, append-nil}
+use Rattle.std.proofs.Common.{rules, ◌≡◌, ℕ, List, [], ◌++◌, Result, Ok, Err, append-nil}
 use Rattle.std.specs.Result.{IsErr}
-use Rattle.sum_lines.specs.{Sinks.SinkState, Sinks.GivesAll, Buffers.BufferState, Buffers.IsFlushed, Buffers.Accepts, Buffers.FailsToWrite}
+use Rattle.sum_lines.specs.{Sinks.GivesAll, Buffers.BufferState, Buffers.IsFlushed, Buffers.Accepts, Buffers.FailsToWrite}
 use Rattle.sum_lines.proofs.SinkLemmas.{given_after, not_given}
 use Rattle.sum_engine.specs.refinement.FlushedWrites.{WritesAndFlushes, WritesAndFlushesBoth, outcome_after, WritesAndReturns}
 use Rattle.sum_engine.specs.Execution.{OutputsState, Stop}

@@ -2,8 +2,8 @@
 use Rattle.std.proofs.Common.{rules, ◌≡◌, ℕ, ◌+◌, ◌<◌, List, [], ◌∷◌, length, refl, sym, subst, append_assoc, ◌++◌, All, flat_map}
 use Rattle.std.proofs.lemmas.List.Elements.{All-nil, All-cons, All-head, All-tail}
 use Rattle.sum_engine.specs.{check.Rules.LabelsValue, check.Rules.Rules, check.Checking.line_steps}
-use Rattle.sum_engine.specs.check.Judge.{Algos, Form, LineVerdictValue, line_verdict, asks_of, verdicts, all_verdicts, form, own_profile, ParsedLine, bad, parse_line}
-use Rattle.sum_engine.specs.check.Reports.{Report, Counts, out_of, err_of, end_text}
+use Rattle.sum_engine.specs.check.Judge.{Algos, Form, LineVerdictValue, line_verdict, asks_of, verdicts, all_verdicts, form, own_profile, ParsedLine, parse_line}
+use Rattle.sum_engine.specs.check.Reports.{Counts, end_text}
 use Rattle.sum_engine.specs.Behavior.{Ending, Whole, Broken, World, after, Content}
 use Rattle.sum_sources.specs.ManifestLines.{raw_lines, last_line, past_line}
 use Rattle.sum_sources.proofs.CutLemmas.{bytes_of_lines, cut, raw_lines-joined}
@@ -11,7 +11,6 @@ use Rattle.sum_engine.specs.check.OldVerdicts.{older_profile, rules_under, HasNo
 use Rattle.sum_lines.proofs.{EntryLemmas.entry-not_ignored, ParsedLineLemmas.bad_exactly}
 use Rattle.sum_engine.proofs.OldNames.{parts_clean, same_escape, CleanParsedLine, parse_line_same}
 use Rattle.sum_engine.proofs.CarriageReturnLemmas.{strips-kept}
-use Rattle.sum_engine.specs.declared.settings.Report.TheVariants as reports
 
 -- ---- the lines
 

@@ -3,7 +3,7 @@ use Rattle.std.proofs.Common.{rules, arith, ◌≡◌, ◌≤◌, ℕ, zero, suc
 use Rattle.sum_lines.proofs.EntryLemmas.{form_next, parse_stays}
 use Rattle.sum_engine.specs.Behavior.{after, Ending, Step, Behavior, Content}
 use Rattle.sum_engine.specs.{check.Rules.Rules, check.Rules.LabelsValue, check.Checking.line_steps}
-use Rattle.sum_engine.specs.check.Judge.{lines_under, LineVerdictValue, asks_of, verdicts, parse_line, past_line, past_lines, form, form_then, line_form}
+use Rattle.sum_engine.specs.check.Judge.{lines_under, LineVerdictValue, asks_of, verdicts, past_line, past_lines, form, form_then}
 use Rattle.sum_engine.specs.check.Reports.{Counts, counts_of, out_of, err_of, end_text, good}
 use Rattle.sum_engine.specs.check.CheckStates.{counts_with, counts_then, CheckState, HandlesLine, next_judged, remaining_verdicts, remaining_behavior}
 use Rattle.sum_engine.specs.{check.Checker.Going, check.Checker.step_then, check.Checker.progress_before, check.ReadAhead.remaining_before}
