@@ -10,10 +10,11 @@ use Rattle.sum_engine.specs.check.Verdicts.{IsAtStart, VerdictsValue, state_at, 
 use Rattle.sum_engine.specs.check.Checker.{ReportsFound, Progress, Going, Ended, IsStep, TakesStep, step_then, progress_before, CheckerValue, AdvancesChecker, ends}
 use Rattle.sum_sources.specs.declared.{inputs.phase.Phase.TheVariants.Unfinished, line_reader.LineStop.TheVariants.Fault, line_reader.LineStop.TheVariants.Memory}
 use Rattle.sum_engine.specs.{check.CheckerLaws.RunsManifest, check.ReadAhead.StopsAtStep}
-use Rattle.sum_engine.specs.Execution.{Stop, OutputsState, StreamsState, IsFlushed, Agrees, ReadsToEndIf, world_at, PerformsSteps, StopHasCause}
+use Rattle.sum_engine.specs.declared.stop.Stop.TheVariants as stops
+use Rattle.sum_engine.specs.Execution.{Stop, Write, OutputsState, StreamsState, IsFlushed, Agrees, ReadsToEndIf, world_at, PerformsSteps, StopHasCause}
 use Rattle.sum_engine.specs.refinement.FlushedWrites.{outcome_after, WritesAndFlushesBoth, WritesAndReturns}
 use Rattle.sum_engine.proofs.ReadAheadLemmas.{read_fits_clip, stops_at_step}
-use Rattle.sum_engine.proofs.{CountLemmas.counts_then-none, ExecutionLemmas.one_at_most, ExecutionLemmas.stop_after, FlushedWriteLemmas.returned}
+use Rattle.sum_engine.proofs.{CountLemmas.counts_then-none, ExecutionLemmas.one_at_most, FlushedWriteLemmas.returned}
 use Rattle.sum_engine.proofs.WorldLemmas.{agrees_before, reads_none, reads_then}
 use Rattle.sum_engine.proofs.BehaviorLemmas.{HasDoneUpTo, done_none, done_more, done_stops}
 
@@ -91,7 +92,8 @@ cause_found q labels vector (Ok None) a b asked h = wrote_cause asked.refusals h
 cause_ends : {a b c : StreamsState} (x : Result Bool Stop) → StopHasCause {A = Bool} (0 ∷ 1 ∷ []) a b (Ok true)
     → StopHasCause (0 ∷ 1 ∷ []) b c (ends x) → StopHasCause (0 ∷ 1 ∷ []) a c x
 cause_ends (Ok good) h k = search rules
-cause_ends (Err stop) h k = stop_after stop h k
+cause_ends (Err Write) h k = search rules
+cause_ends (Err stops.Memory) h k = search rules
 
 module _ {I : Type 0} {state : I → InputState} {vector : List ℕ} {p q : CheckerValue I} {a b : StreamsState} where
   step_cause : {x : Result Progress Stop} → AdvancesChecker state vector p q a b x

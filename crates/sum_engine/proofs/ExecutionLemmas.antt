@@ -96,13 +96,6 @@ pub one_at_most : (a b : SourceState) → MemoryWasRefused a b ⊎ (b ≡ a)
 one_at_most a b (inl refused) = (1, 1, search arith, refl, rw refused refl)
 one_at_most a b (inr same) = (0, 0, search arith, refl, rw same (omega arith))
 
--- a stop after calls that returned has its own cause
-pub stop_after : {A B C : Type 0} {allowed : List ℕ} {a b c : StreamsState} {x : A} (stop : Stop)
-    → StopHasCause allowed a b (Ok x) → StopHasCause {A = B} allowed b c (Err stop)
-    → StopHasCause {A = C} allowed a c (Err stop)
-stop_after Memory h k = search rules
-stop_after Write h k = search rules
-
 -- ---- a file was closed
 
 -- what was performed before that was performed by then

@@ -14,11 +14,6 @@ use Rattle.sum_engine.specs.{Execution.Agrees, Execution.world_at, refinement.Na
 use Rattle.sum_engine.specs.refinement.Judging.{TakesLine, parsed_at, found_verdict}
 use Rattle.sum_engine.proofs.{WorldLemmas.world_after, RemainingLemmas.remaining_next}
 
--- without memory the world is where it was
-refused_world : (w : World) (a b : SourceState) → MemoryWasRefused a b ⊎ (b ≡ a) → world_at w b ≡ world_at w a
-refused_world w a b (inl refused) = ap (world_at w) refused
-refused_world w a b (inr same) = ap (world_at w) same
-
 -- the lines of a content under the present profile
 lines_now : (r : Rules) (c : Content) → r.profile ≡ own_profile → lines_under r.profile c ≡ lines c
 lines_now r c h = rw h refl
@@ -80,7 +75,7 @@ module _ {I : Type 0} {state : I → InputState} {p q : VerdictsValue I} {a b : 
         let reads = h.reads reading in
         let next = reads.line c of in
         let left = ap (λ (c : Content). length c.bytes) next.1 in (
-          refused_world w a b h.asked,
+          elim h.asked [ inl refused ↦ ap (world_at w) refused | inr same ↦ ap (world_at w) same ],
           line-some (remaining p.reader c) (remaining h.reader c) h.line next,
           omega (arith, h.bounds.ahead, reads.sum Line refl c of, left),
         );
