@@ -1,10 +1,10 @@
 -- Runs, one after another, and what a run's steps come to.
-use Rattle.std.proofs.Common.{rules, ◌≡◌, ℕ, Bool, List, [], ◌∷◌, ◌++◌, Option, Result, Ok, Err, refl, ap, sym, ◌∙◌, subst, append_assoc, append-nil, flat_map, filter_map, inl}
+use Rattle.std.proofs.Common.{rules, ◌≡◌, ℕ, Bool, List, [], ◌∷◌, ◌++◌, Result, Ok, Err, refl, ap, sym, ◌∙◌, subst, append_assoc, append-nil, flat_map, filter_map, inl}
 use Rattle.std.proofs.lemmas.{Grind.flat_map-append, List.Elements.filter_map-append}
 use Rattle.sum_lines.specs.Sinks.{written_byte}
 use Rattle.sum_lines.proofs.EventLemmas.{output_events-bytes}
 use Rattle.sum_engine.specs.Execution.{Stop, Memory, Write, StreamsState, AsksNames, Agrees, world_at, Happened, with_refusals, PerformsSteps, Performs}
-use Rattle.sum_engine.specs.Behavior.{World, Event, OutputEvent, Step, Behavior, trace, events_of, output_events, opened_name, err_event, out_event, single_step}
+use Rattle.sum_engine.specs.Behavior.{World, Step, Behavior, trace, events_of, opened_name, err_event, out_event, single_step}
 use Rattle.sum_engine.specs.{check.Checker.step_then, check.CheckerLaws.EventsExtend, refinement.FlushedWrites.WritesAndReturns}
 use Rattle.sum_engine.specs.refinement.Names.{MemoryWasRefused}
 use Rattle.sum_engine.proofs.ExecutionLemmas.{step_performed, kind-all, kind-none, Happened-none, Happened-then, refused_first}
@@ -22,15 +22,11 @@ pub behavior_then-second : {A B : Type 0} {a b : StreamsState} (c : StreamsState
     → Happened a b (trace r) → PerformsSteps s y b c (Err stop) → PerformsSteps (r ++ s) x a c (Err stop)
 behavior_then-second c x y r s Write h k =
     (trace r ++ k.0, k.1, search (rules, flat_map-append, append_assoc), Happened-then (trace r) k.0 h k.3)
-behavior_then-second {b} c x y r s Memory h k = record {
-  done = r ++ k.done;
-  next = k.next;
-  later = k.later;
-  are = search (rules, append_assoc);
-  happened = behavior_then-happened r k.done h
-      (subst (λ n. Happened b (with_refusals n c) (trace k.done)) h.inputs.refusals k.happened);
-  cause = rw h.inputs.refusals at k.cause;
-}
+behavior_then-second {b} c x y r s Memory h k =
+    let did = behavior_then-happened r k.done h
+    (subst (λ n. Happened b (with_refusals n c) (trace k.done)) h.inputs.refusals k.happened) in
+    let cause = rw h.inputs.refusals at k.cause in
+    search (rules, append_assoc, did, cause)
 
 -- the first stopped
 pub behavior_then-first : {A B : Type 0} (a b : StreamsState) (x : A) (y : B) (r s : List Step) (stop : Stop)
@@ -62,12 +58,8 @@ done_none whole a = record { done = []; steps = refl; good = refl; happened = Ha
 pub done_more : {a b c : StreamsState} {whole left : Behavior} (step : Step) (later : Behavior)
     → HasDoneUpTo whole left a b → left ≡ step_then step later → Happened b c (trace (step ∷ []))
     → HasDoneUpTo whole later a c
-done_more step later h is k = record {
-  done = h.done ++ step ∷ [];
-  steps = search (rules, append_assoc);
-  good = search rules;
-  happened = behavior_then-happened h.done (step ∷ []) h.happened k;
-}
+done_more step later h is k =
+    let did = behavior_then-happened h.done (step ∷ []) h.happened k in search (rules, append_assoc, did)
 
 -- the next step stopped
 pub done_stops : {A B : Type 0} {a b : StreamsState} {whole left : Behavior} (c : StreamsState) (x : A) (y : B)

@@ -10,10 +10,11 @@ use Rattle.sum_engine.specs.check.Verdicts.{IsAtStart, VerdictsValue, state_at, 
 use Rattle.sum_engine.specs.check.Checker.{ReportsFound, Progress, Going, Ended, IsStep, TakesStep, step_then, progress_before, CheckerValue, AdvancesChecker, ends}
 use Rattle.sum_sources.specs.declared.{inputs.phase.Phase.TheVariants.Unfinished, line_reader.LineStop.TheVariants.Fault, line_reader.LineStop.TheVariants.Memory}
 use Rattle.sum_engine.specs.{check.CheckerLaws.RunsManifest, check.ReadAhead.StopsAtStep}
-use Rattle.sum_engine.specs.Execution.{Stop, OutputsState, StreamsState, IsFlushed, Agrees, ReadsToEndIf, world_at, PerformsSteps, StopHasCause}
+use Rattle.sum_engine.specs.declared.stop.Stop.TheVariants as stops
+use Rattle.sum_engine.specs.Execution.{Stop, Write, OutputsState, StreamsState, IsFlushed, Agrees, ReadsToEndIf, world_at, PerformsSteps, StopHasCause}
 use Rattle.sum_engine.specs.refinement.FlushedWrites.{outcome_after, WritesAndFlushesBoth, WritesAndReturns}
 use Rattle.sum_engine.proofs.ReadAheadLemmas.{read_fits_clip, stops_at_step}
-use Rattle.sum_engine.proofs.{CountLemmas.counts_then-none, ExecutionLemmas.one_at_most, ExecutionLemmas.stop_after, FlushedWriteLemmas.returned}
+use Rattle.sum_engine.proofs.{CountLemmas.counts_then-none, ExecutionLemmas.one_at_most, FlushedWriteLemmas.returned}
 use Rattle.sum_engine.proofs.WorldLemmas.{agrees_before, reads_none, reads_then}
 use Rattle.sum_engine.proofs.BehaviorLemmas.{HasDoneUpTo, done_none, done_more, done_stops}
 
@@ -91,7 +92,8 @@ cause_found q labels vector (Ok None) a b asked h = wrote_cause asked.refusals h
 cause_ends : {a b c : StreamsState} (x : Result Bool Stop) → StopHasCause {A = Bool} (0 ∷ 1 ∷ []) a b (Ok true)
     → StopHasCause (0 ∷ 1 ∷ []) b c (ends x) → StopHasCause (0 ∷ 1 ∷ []) a c x
 cause_ends (Ok good) h k = search rules
-cause_ends (Err stop) h k = stop_after stop h k
+cause_ends (Err Write) h k = search rules
+cause_ends (Err stops.Memory) h k = search rules
 
 module _ {I : Type 0} {state : I → InputState} {vector : List ℕ} {p q : CheckerValue I} {a b : StreamsState} where
   step_cause : {x : Result Progress Stop} → AdvancesChecker state vector p q a b x
@@ -148,22 +150,10 @@ module _ {I : Type 0} (state : I → InputState) (first : CheckerValue I) (m : S
 
   -- it begins so
   pub HasComeTo-none : first.outcome ≡ None → HasComeTo first m
-  HasComeTo-none none = record {
-    rules = refl;
-    labels = refl;
-    going = none;
-    reading = λ reading. reading;
-    happened = λ flushed. record {
-      holds = λ reading c of w agrees. record {
-        done = done_none (left (state_at first.verdicts (remaining first.verdicts.reader c) (world_at w m.inputs))) m;
-        consumed = refl;
-      };
-    };
-    so_far = search rules;
-    reads = reads_none m.inputs;
-    same = search rules;
-    taken = refl;
-  }
+  HasComeTo-none none =
+      let happened : HoldsUpTo first.verdicts m (λ a b. ComesTo a b m) = λ flushed.
+      record { holds = λ reading c of w agrees. search (rules, done_none) } in
+      search (rules, reads_none, happened)
 
   -- after a step more, which returned x, P holds if it follows of what happened before and of the step
   one_more_step : {q : CheckerValue I} {n : StreamsState} (next : CheckerValue I) (o : StreamsState) (vector : List ℕ)
@@ -186,22 +176,16 @@ module _ {I : Type 0} (state : I → InputState) (first : CheckerValue I) (m : S
       → TakesStep state vector q.labels q.verdicts next.verdicts n o (Ok Going) → HasComeTo next o
   HasComeTo-more q next n o vector h advances going step =
       let cause = step_cause advances in
-      record {
-        rules = advances.verdict.rules ∙ h.rules;
-        labels = advances.labels ∙ h.labels;
-        going = going;
-        reading = λ reading. advances.verdict.reading (h.reading reading);
-        happened = one_more_step next o vector (Ok Going) h advances step (λ a b d along step. record {
-          done = subst (λ later. HasDoneUpTo (left a) later m o)
-              (step.going refl).0 (done_more step.step step.later along.done step.is step.performs.1);
-          consumed = (step.going refl).1.consumed ∙ along.consumed;
-        });
-        so_far = search rules;
-        reads = reads_then (none_unread q.verdicts next.verdicts advances.found advances.verdict.counts)
-            h.reads advances.verdict.reads;
-        same = search rules;
-        taken = omega (arith, h.taken, advances.verdict.reader.taken);
-      }
+      let happened : HoldsUpTo next.verdicts o (λ a d. ComesTo a d o) =
+      one_more_step next o vector (Ok Going) h advances step (λ a b d along step. record {
+        done = subst (λ later. HasDoneUpTo (left a) later m o)
+            (step.going refl).0 (done_more step.step step.later along.done step.is step.performs.1);
+        consumed = (step.going refl).1.consumed ∙ along.consumed;
+      }) in
+      let reads : ReadsToEndIf (next.verdicts.counts.unread ≡ 0) m.inputs o.inputs =
+      reads_then (none_unread q.verdicts next.verdicts advances.found advances.verdict.counts) h.reads
+      advances.verdict.reads in
+      search (rules, arith, happened, reads, cause)
 
   -- the check of this content, whose behavior is `all`, ended or stopped with x once the input had given so many bytes
   pub record EndsAs (x : Result Bool Stop) (taken : ℕ) (o : StreamsState) (all : Behavior) (c : Content) : Type 0 where

@@ -4,7 +4,7 @@ use Rattle.std.specs.Prelude.{◌⊎◌, Any}
 use Rattle.std.proofs.lemmas.{List.map-append, List.Elements.filter_map-append}
 use Rattle.sum_lines.specs.Sinks.{Gets}
 use Rattle.sum_lines.proofs.EventLemmas.{Gets-none, Gets-then}
-use Rattle.sum_engine.specs.Behavior.{Event, Step, SourceState, OutputEvent, output_events, open_name, to_err, to_out, err_event, out_event}
+use Rattle.sum_engine.specs.Behavior.{Event, Step, SourceState, OutputEvent, output_events, open_name, to_err, to_out}
 use Rattle.sum_engine.specs.refinement.FlushedWrites.{WritesBoth, WritesAndReturns, outcome_after}
 use Rattle.sum_engine.specs.refinement.Names.{MemoryWasRefused}
 use Rattle.sum_engine.specs.Execution.{StreamsState, IsFlushed, StopHasCause, asked, AsksNames, Stop, Memory, Write, Happened, RunsOutOfMemory, with_refusals, PerformsSteps}
@@ -43,11 +43,9 @@ Happened-none a = search (rules, asks_none, Gets-none)
 
 -- one thing after another
 pub Happened-then : {a b c : StreamsState} (p q : List Event) → Happened a b p → Happened b c q → Happened a c (p ++ q)
-Happened-then {a} {b} {c} p q h k = record {
-  inputs = search (rules, asks_then, filter_map-append, h.inputs, k.inputs);
-  err = rw (filter_map-append err_event p q) (Gets-then h.err k.err);
-  out = rw (filter_map-append out_event p q) (Gets-then h.out k.out);
-}
+Happened-then p q h k =
+    let err = Gets-then h.err k.err in
+    let out = Gets-then h.out k.out in search (rules, asks_then, filter_map-append, err, out)
 
 -- ---- one step
 
@@ -97,13 +95,6 @@ pub one_at_most : (a b : SourceState) → MemoryWasRefused a b ⊎ (b ≡ a)
     → Any (λ n. b.refusals ≡ a.refusals + n) (0 ∷ 1 ∷ [])
 one_at_most a b (inl refused) = (1, 1, search arith, refl, rw refused refl)
 one_at_most a b (inr same) = (0, 0, search arith, refl, rw same (omega arith))
-
--- a stop after calls that returned has its own cause
-pub stop_after : {A B C : Type 0} {allowed : List ℕ} {a b c : StreamsState} {x : A} (stop : Stop)
-    → StopHasCause allowed a b (Ok x) → StopHasCause {A = B} allowed b c (Err stop)
-    → StopHasCause {A = C} allowed a c (Err stop)
-stop_after Memory h k = search rules
-stop_after Write h k = search rules
 
 -- ---- a file was closed
 

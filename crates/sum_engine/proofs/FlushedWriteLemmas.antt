@@ -1,27 +1,18 @@
 -- A text that is written and flushed.
-use Rattle.std.proofs.Common.{rules, ◌≡◌, ℕ, List, [], ◌++◌, ◌+◌, Result, Ok, Err, MatchResult, append-nil}
+use Rattle.std.proofs.Common.{rules, ◌≡◌, ℕ, List, [], ◌++◌, Result, Ok, Err, append-nil}
 use Rattle.std.specs.Result.{IsErr}
-use Rattle.sum_lines.specs.{Sinks.SinkState, Sinks.GivesAll, Buffers.BufferState, Buffers.IsFlushed, Buffers.Accepts, Buffers.FailsToWrite}
+use Rattle.sum_lines.specs.{Sinks.GivesAll, Buffers.BufferState, Buffers.IsFlushed, Buffers.Accepts, Buffers.FailsToWrite}
 use Rattle.sum_lines.proofs.SinkLemmas.{given_after, not_given}
 use Rattle.sum_engine.specs.refinement.FlushedWrites.{WritesAndFlushes, WritesAndFlushesBoth, outcome_after, WritesAndReturns}
 use Rattle.sum_engine.specs.Execution.{OutputsState, Stop}
 
 -- ---- one output
 
--- a call that fails has one failure more
-failures_of : {E : Type 0} (a b : SinkState) (text : List ℕ) (r : Result (Unit {0}) E) → GivesAll a b text r
-    → MatchResult r (λ u. b.failures ≡ a.failures) (λ e. b.failures ≡ a.failures + 1)
-failures_of a b text (Ok u) given = given.1
-failures_of a b text (Err e) given = given.1
-
 -- the buffered bytes and a text were given, and the output is flushed
 given_flushed : {E : Type 0} (a b : BufferState) (text : List ℕ) (r : Result (Unit {0}) E)
     → GivesAll a.sink b.sink (a.buffered ++ text) r → IsFlushed b → WritesAndFlushes a b text r
-given_flushed a b text r given flushed = record {
-  failures = failures_of a.sink b.sink (a.buffered ++ text) r given;
-  flushed = λ before. flushed;
-  gives = λ none. rw none at given;
-}
+given_flushed a b text (Ok u) given flushed = search rules
+given_flushed a b text (Err e) given flushed = search rules
 
 -- a text was written, and then flushed, or that failed
 pub written_flushed : {E : Type 0} {a b : BufferState} (c : BufferState) (text : List ℕ) (r : Result (Unit {0}) E)

@@ -55,7 +55,7 @@ right-verdicts r files before (i ∷ is) w n steady u all =
     let b = back algos files before (map prefix is) i h u in
     let rest = right-verdicts r files (before ++ (prefix i ∷ [])) is (after w (i.name ∷ [])) (n + 1)
     steady b.2 (All-tail (Listed algos files) i is all) in
-    rw (judged r files w (n + 1) _ i steady h b.1) (ap (λ js. right (n + 1) i ∷ js) (rw append_assoc at rest))
+    let here = judged r files w (n + 1) _ i steady h b.1 in search (rules, append_assoc, here, rest)
 
 -- ---- what is reported, and the end
 
@@ -74,11 +74,7 @@ module _ (r : Rules) (labels : LabelsValue) where
       × (flat_map (err_of r labels) js ≡ []) × (counts_of js ≡ right_counts (length is))
   rights-are n [] = (refl, refl, refl)
   rights-are n (i ∷ is) =
-      let h = rights-are (n + 1) is in (
-        ap (λ t. right_line labels.report i.name ++ t) h.0,
-        h.1,
-        ap (λ (c : Counts). record c { right = suc c.right }) h.2,
-      )
+      let (out, err, counts) = rights-are (n + 1) is in search (rules, out, err, counts)
 
   -- a manifest's behavior writes the reports of its lines; and on standard error also the end
   texts-are : (end : List ℕ) (c : Content) (js : List LineVerdictValue) → let steps = line_steps r labels end c js in
@@ -86,8 +82,7 @@ module _ (r : Rules) (labels : LabelsValue) where
       × (flat_map (λ s. s.err) steps ≡ flat_map (err_of r labels) js ++ end)
   texts-are end c [] = (refl, append-nil end)
   texts-are end c (j ∷ js) =
-      let h = texts-are end (past_line c) js in
-      (rw h.0 refl, rw (h.1, append_assoc) refl)
+      let (out, err) = texts-are end (past_line c) js in search (rules, append_assoc, out, err)
 
   -- the whole summary is empty
   no-summary : (k : ℕ) → end_text r labels Whole (right_counts (suc k)) ≡ []

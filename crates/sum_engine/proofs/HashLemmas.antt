@@ -38,22 +38,18 @@ pub hashes_name : {kind : KindValue} {name : List ℕ} {a b : SourceState} (r : 
 hashes_name {name = name} {a} {b} (Ok d) h = record {
   hash = λ w agrees.
       let (c, is, of) = opening_agrees agrees a.openings [] name (Ok h.reads) (rw h.closed refl) in
-      let found = h.hashes.digest refl c of in
-      rw is (search rules);
+      let found = h.hashes.digest refl c of in search (rules, is);
   asked = asks_one a b name _ h.closed;
   reads = reads_one a b name (Ok h.reads) h.closed (h.hashes.past refl, λ u. h.hashes.end refl);
 }
 hashes_name {name = name} {a} {b} (Err (hashing.Read f)) h = record {
   hash = λ w agrees.
       let (c, is, of) = opening_agrees agrees a.openings [] name (Ok h.reads) (rw h.closed refl) in
-      let found = h.hashes.digest refl c of in
-      rw is (search rules);
+      let found = h.hashes.digest refl c of in search (rules, is);
   asked = asks_one a b name _ h.closed;
   reads = reads_one a b name (Ok h.reads) h.closed (h.hashes.past refl, λ u. absurd u);
 }
-hashes_name {name = name} {a} {b} (Err (hashing.Open (faults.Fault f))) h = record {
-  hash = λ w agrees. opening_agrees agrees a.openings [] name (Err f) (rw h refl);
-  asked = asks_one a b name _ h;
-  reads = reads_one a b name (Err f) h tt;
-}
+hashes_name {name = name} {a} {b} (Err (hashing.Open (faults.Fault f))) h =
+    let hash = λ (w : World) (agrees : Agrees w b). opening_agrees agrees a.openings [] name (Err f) (rw h refl) in
+    search (rules, hash, asks_one, reads_one)
 hashes_name (Err (hashing.Open faults.Memory)) h = search rules

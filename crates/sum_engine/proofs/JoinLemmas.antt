@@ -18,8 +18,8 @@ length_verdicts : (r : Rules) (f : Form) (w : World) (n : ℕ) (ls : List (List 
     → length (verdicts r f w n ls) ≡ length ls
 length_verdicts r f w n [] = refl
 length_verdicts r f w n (l ∷ ls) =
-    ap suc (length_verdicts r f (after w (asks_of (line_verdict r w (n + 1) (parse_line r.profile r.algo f l))))
-    (n + 1) ls)
+    let asked = asks_of (line_verdict r w (n + 1) (parse_line r.profile r.algo f l)) in
+    ap suc (length_verdicts r f (after w asked) (n + 1) ls)
 
 -- and one step more
 length_steps : (r : Rules) (labels : LabelsValue) (end : List ℕ) (c : Content) (js : List LineVerdictValue)
@@ -45,7 +45,6 @@ module _ (r : Rules) (labels : LabelsValue) (c : Content) (w : World) (s : Strea
   -- exactly the first k steps happened, and the others remain; the bytes consumed are those up to the end of line k
   pub record After (b : CheckState) (t : StreamsState) (k : ℕ) : Type 0 where
     pub remaining : b.remaining ≡ past_lines k c
-    pub lines : lines_under r.profile b.remaining ≡ drop k (lines_under r.profile c)
     pub consumed : b.consumed + length (past_lines k c).bytes ≡ length c.bytes
     pub taken : b.taken ≤ b.consumed + 8192
     pub done : Happened s t (trace (take k whole.steps))
@@ -65,17 +64,9 @@ module _ (r : Rules) (labels : LabelsValue) (c : Content) (w : World) (s : Strea
       let steps = drop_next k whole.steps (remaining_behavior r labels d).steps step.step
       (sym h.steps ∙ ap (λ (q : Behavior). q.steps) is) in
       let remaining = moves.remaining ∙ ap past_line h.remaining ∙ past_next k c in
-      let line = drop_next k (lines_under r.profile c) (lines_under r.profile d.remaining) moves.line
-      (sym h.lines ∙ moves.lines) in
-      record {
-        remaining = remaining;
-        lines = sym line.0;
-        consumed = search (rules, remaining);
-        taken = moves.taken;
-        done = rw steps.1 (behavior_then-happened (take k whole.steps) (step.step ∷ []) h.done step.performs.1);
-        steps = sym steps.0;
-        good = sym (ap (λ (q : Behavior). q.good) is) ∙ h.good;
-      }
+      let done : Happened s z (trace (take (suc k) whole.steps)) =
+      rw steps.1 (behavior_then-happened (take k whole.steps) (step.step ∷ []) h.done step.performs.1) in
+      search (rules, remaining, done, steps, moves)
 
   -- all, one after another
   after_all : (a b : CheckState) (m t : StreamsState) (i : ℕ) (vectors : List (List ℕ)) → After a m i

@@ -14,11 +14,6 @@ use Rattle.sum_engine.specs.{Execution.Agrees, Execution.world_at, refinement.Na
 use Rattle.sum_engine.specs.refinement.Judging.{TakesLine, parsed_at, found_verdict}
 use Rattle.sum_engine.proofs.{WorldLemmas.world_after, RemainingLemmas.remaining_next}
 
--- without memory the world is where it was
-refused_world : (w : World) (a b : SourceState) → MemoryWasRefused a b ⊎ (b ≡ a) → world_at w b ≡ world_at w a
-refused_world w a b (inl refused) = ap (world_at w) refused
-refused_world w a b (inr same) = ap (world_at w) same
-
 -- the lines of a content under the present profile
 lines_now : (r : Rules) (c : Content) → r.profile ≡ own_profile → lines_under r.profile c ≡ lines c
 lines_now r c h = rw h refl
@@ -65,18 +60,12 @@ module _ {I : Type 0} {state : I → InputState} {p q : VerdictsValue I} {a b : 
         let last : CheckState = state_at (after_line h) (remaining h.reader c) (world_at w b) in
         let f : next_judged p.rules first h.line ≡ line_verdict_value vector found =
         sym (rw h.advances.lines at (h.verdict w agrees)) in
-        let handled : HandlesLine p.rules first last vector = record {
-          line = h.line;
-          lines = lines_now p.rules (remaining p.reader c) h.profile ∙ next.0
-              ∙ ap (λ l. h.line ∷ l) (sym (lines_now p.rules (remaining h.reader c) h.profile));
-          remaining = next.1;
-          consumed = reads.sum Line refl c of;
-          taken = omega (arith, h.bounds.ahead);
-          number = h.advances.lines;
-          form = refl;
-          counts = rw f refl;
-          vector_len = h.takes.len;
-        } in
+        let lines : lines_under p.rules.profile (remaining p.reader c)
+        ≡ h.line ∷ lines_under p.rules.profile (remaining h.reader c) =
+        lines_now p.rules (remaining p.reader c) h.profile ∙ next.0
+        ∙ ap (λ l. h.line ∷ l) (sym (lines_now p.rules (remaining h.reader c) h.profile)) in
+        let sum = reads.sum Line refl c of in
+        let handled : HandlesLine p.rules first last vector = search (rules, arith, lines, next, sum, f) in
         let world : world_at w b ≡ after (world_at w a) (asks_of (line_verdict_value vector found)) =
         world_after w a b _ h.asked in
         (search (rules, remaining_next p.rules first last vector handled, f, world), handled);
@@ -86,7 +75,7 @@ module _ {I : Type 0} {state : I → InputState} {p q : VerdictsValue I} {a b : 
         let reads = h.reads reading in
         let next = reads.line c of in
         let left = ap (λ (c : Content). length c.bytes) next.1 in (
-          refused_world w a b h.asked,
+          elim h.asked [ inl refused ↦ ap (world_at w) refused | inr same ↦ ap (world_at w) same ],
           line-some (remaining p.reader c) (remaining h.reader c) h.line next,
           omega (arith, h.bounds.ahead, reads.sum Line refl c of, left),
         );

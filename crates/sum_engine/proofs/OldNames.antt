@@ -15,21 +15,18 @@ use Rattle.sum_engine.proofs.CarriageReturnLemmas.{IsNoCarriageReturn}
 
 -- ---- bytes without a carriage return
 
--- a prefix has none
-pub front_clean : (xs ys : List ℕ) → HasNoCarriageReturn (xs ++ ys) → HasNoCarriageReturn xs
-front_clean xs ys h =
-    subst HasNoCarriageReturn (take_at xs ys _ refl) (All-take IsNoCarriageReturn (length xs) (xs ++ ys) h)
+-- neither part of them has one
+pub parts_clean : (xs ys : List ℕ) → HasNoCarriageReturn (xs ++ ys) → HasNoCarriageReturn xs × HasNoCarriageReturn ys
+parts_clean xs ys h = (
+  subst HasNoCarriageReturn (take_at xs ys _ refl) (All-take IsNoCarriageReturn (length xs) (xs ++ ys) h),
+  subst HasNoCarriageReturn (drop_at xs ys _ refl) (All-drop IsNoCarriageReturn (length xs) (xs ++ ys) h),
+)
 
--- nor has the rest
-pub rest_clean : (xs ys : List ℕ) → HasNoCarriageReturn (xs ++ ys) → HasNoCarriageReturn ys
-rest_clean xs ys h =
-    subst HasNoCarriageReturn (drop_at xs ys _ refl) (All-drop IsNoCarriageReturn (length xs) (xs ++ ys) h)
-
--- nor a part between others
+-- nor has a part between others
 part_clean : (front part rest line : List ℕ) → line ≡ front ++ (part ++ rest) → HasNoCarriageReturn line
     → HasNoCarriageReturn part
 part_clean front part rest line is free =
-    front_clean part rest (rest_clean front (part ++ rest) (subst HasNoCarriageReturn is free))
+    (parts_clean part rest (parts_clean front (part ++ rest) (subst HasNoCarriageReturn is free)).1).0
 
 -- ---- the escape
 
@@ -48,9 +45,8 @@ same_escape (b ∷ bs) free = search (rules, All-head, byte_same, same_escape bs
 older_clean : (name : List ℕ) → HasNoCarriageReturn (escape_by older_profile name) → HasNoCarriageReturn name
 older_clean [] free = All-nil IsNoCarriageReturn
 older_clean (b ∷ bs) free =
-    All-cons IsNoCarriageReturn b bs
-    (first b (front_clean (escape_of older_profile b) (escape_by older_profile bs) free))
-    (older_clean bs (rest_clean (escape_of older_profile b) (escape_by older_profile bs) free))
+    let (here, rest) = parts_clean (escape_of older_profile b) (escape_by older_profile bs) free in
+    All-cons IsNoCarriageReturn b bs (first b here) (older_clean bs rest)
   where
     first : (b : ℕ) → HasNoCarriageReturn (escape_of older_profile b) → b ≢ 13
     first b all = λ is. All-head IsNoCarriageReturn 13 [] (rw is at all) refl

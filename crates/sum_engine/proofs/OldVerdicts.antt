@@ -2,16 +2,15 @@
 use Rattle.std.proofs.Common.{rules, ◌≡◌, ℕ, ◌+◌, ◌<◌, List, [], ◌∷◌, length, refl, sym, subst, append_assoc, ◌++◌, All, flat_map}
 use Rattle.std.proofs.lemmas.List.Elements.{All-nil, All-cons, All-head, All-tail}
 use Rattle.sum_engine.specs.{check.Rules.LabelsValue, check.Rules.Rules, check.Checking.line_steps}
-use Rattle.sum_engine.specs.check.Judge.{Algos, Form, LineVerdictValue, line_verdict, asks_of, verdicts, all_verdicts, form, own_profile, ParsedLine, bad, parse_line}
-use Rattle.sum_engine.specs.check.Reports.{Report, Counts, out_of, err_of, end_text}
+use Rattle.sum_engine.specs.check.Judge.{Algos, Form, LineVerdictValue, line_verdict, asks_of, verdicts, all_verdicts, form, own_profile, ParsedLine, parse_line}
+use Rattle.sum_engine.specs.check.Reports.{Counts, end_text}
 use Rattle.sum_engine.specs.Behavior.{Ending, Whole, Broken, World, after, Content}
 use Rattle.sum_sources.specs.ManifestLines.{raw_lines, last_line, past_line}
 use Rattle.sum_sources.proofs.CutLemmas.{bytes_of_lines, cut, raw_lines-joined}
 use Rattle.sum_engine.specs.check.OldVerdicts.{older_profile, rules_under, HasNoCarriageReturn, NamesNoCarriageReturn, IsOldManifest, OldVerdicts, OlderDiffers}
 use Rattle.sum_lines.proofs.{EntryLemmas.entry-not_ignored, ParsedLineLemmas.bad_exactly}
-use Rattle.sum_engine.proofs.OldNames.{front_clean, rest_clean, same_escape, CleanParsedLine, parse_line_same}
+use Rattle.sum_engine.proofs.OldNames.{parts_clean, same_escape, CleanParsedLine, parse_line_same}
 use Rattle.sum_engine.proofs.CarriageReturnLemmas.{strips-kept}
-use Rattle.sum_engine.specs.declared.settings.Report.TheVariants as reports
 
 -- ---- the lines
 
@@ -22,8 +21,8 @@ ended_clean e [] tail free = search rules
 ended_clean e (p ∷ ps) tail free =
     let whole : HasNoCarriageReturn ((p ++ 10 ∷ []) ++ bytes_of_lines ps tail) =
     subst HasNoCarriageReturn (append_assoc (p ++ 10 ∷ []) (flat_map (λ piece. piece ++ 10 ∷ []) ps) tail) free in
-    All-cons HasNoCarriageReturn p (ps ++ last_line e tail) (front_clean p _ (front_clean (p ++ 10 ∷ []) _ whole))
-    (ended_clean e ps tail (rest_clean (p ++ 10 ∷ []) _ whole))
+    let (line, rest) = parts_clean (p ++ 10 ∷ []) _ whole in
+    All-cons HasNoCarriageReturn p (ps ++ last_line e tail) (parts_clean p _ line).0 (ended_clean e ps tail rest)
 
 -- so no line of a content has one
 pieces_clean : (c : Content) → HasNoCarriageReturn c.bytes → All HasNoCarriageReturn (raw_lines c)
@@ -69,7 +68,7 @@ module _ (r : Rules) (labels : LabelsValue) where
       let one : line_verdict old w (n + 1) (parse_line older_profile r.algo f l) ≡ j = search (rules, s.0) in
       let more = verdicts_same f (after w (asks_of j)) (n + 1) ls (All-tail (Alike r.algo f) l ls all) in
       let clean = judged_clean w (n + 1) (parse_line own_profile r.algo f l) s.1 in
-      (rw (one, more.0) refl, All-cons CleanName j (verdicts new f (after w (asks_of j)) (n + 1) ls) clean more.1)
+      (rw (one, more.0) refl, All-cons CleanName j _ clean more.1)
 
   -- the verdicts of such a manifest are the same under both profiles, and name no carriage return
   found_same : (w : World) (c : Content) → IsOldManifest r labels c
@@ -88,27 +87,16 @@ module _ (r : Rules) (labels : LabelsValue) where
   module _ (own : HasNoCarriageReturn labels.manifest) where
     -- the text at its end is the same
     end_same : (e : Ending) (c : Counts) → end_text old labels e c ≡ end_text new labels e c
-    end_same Whole c = by labels.report
-      where
-        by : (report : Report) → let shown : LabelsValue = record labels { report = report } in
-            end_text old shown Whole c ≡ end_text new shown Whole c
-        by reports.Status = rw (same_escape labels.manifest own) refl
-        by report = rw (same_escape labels.manifest own) refl
+    end_same Whole c = search (rules, same_escape)
     end_same (Broken f) c = search (rules, same_escape)
 
-    -- so are the reports of a verdict whose name holds none
-    reports_same : (j : LineVerdictValue) → CleanName j
-        → (err_of old labels j ≡ err_of new labels j) × (out_of old labels j ≡ out_of new labels j)
-    reports_same j free = search (rules, same_escape)
-
-    -- and the steps
+    -- and the steps are, if no verdict's name holds one
     steps_same : (end : List ℕ) (c : Content) (js : List LineVerdictValue) → All CleanName js
         → line_steps old labels end c js ≡ line_steps new labels end c js
     steps_same end c [] all = refl
     steps_same end c (j ∷ js) all =
         let later = steps_same end (past_line c) js (All-tail CleanName j js all) in
-        let here = reports_same j (All-head CleanName j js all) in
-        rw (here.0, here.1, later) refl
+        let free : CleanName j = All-head CleanName j js all in search (rules, same_escape, later)
 
 -- ---- the laws
 
@@ -119,12 +107,12 @@ old_verdicts r labels w c h =
 
 -- ---- how the profiles differ
 
--- an empty line is improper to older versions
-empty_line : (algos : Algos) (f : Form) → parse_line older_profile algos f [] ≡ bad
-empty_line algos f =
-    (bad_exactly older_profile algos f []).1 (refl, λ s e. let wrong = entry-not_ignored own_profile e in cc)
-
--- the profiles do differ: a name with a carriage return, and an empty line
+-- the profiles do differ: a name with a carriage return, a line with one at its end, and an empty line
 pub older_differs : OlderDiffers
 unfolding raw_lines
-older_differs = (refl, refl, empty_line)
+older_differs = (
+  refl,
+  refl,
+  λ algos f.
+      (bad_exactly older_profile algos f []).1 (refl, λ s e. let wrong = entry-not_ignored own_profile e in cc),
+)

@@ -1,5 +1,5 @@
 -- `check_one`: a name is opened, read and closed, and in between other calls may open names.
-use Rattle.std.proofs.Common.{refl, ◌≡◌, ◌∙◌, [], ◌∷◌, ◌++◌, ℕ, List, Ok, Err, None, Some, append_assoc}
+use Rattle.std.proofs.Common.{rules, refl, ◌≡◌, ◌∙◌, [], ◌∷◌, ◌++◌, ℕ, List, Ok, Err, None, Some, append_assoc}
 use Rattle.std.proofs.lemmas.{List.map-append, List.Elements.All-cons}
 use Rattle.sum_sources.specs.Contents.{IsOf, IsSameInput}
 use Rattle.sum_sources.specs.Sources.{Opening, ToldAnswers, opened_file, and_opening, after_closing, IsOpen}
@@ -32,16 +32,10 @@ was_opened {Whole} tells {a} {m} {b} {n} {name} {s} {t} is opens same read reads
     let now : b.openings ≡ before ++ unclosed ∷ later = reads.openings.1 ∙ rw (opens, append_assoc) refl in
     let then : n.openings ≡ before ++ closed ∷ later =
     rw (closes, now, same, is) (closed-seam before later unclosed t.reads) in
+    let all = All-cons (ReadsFile Whole) closed later (Ok t.reads, refl, read) reads.openings.2 in
     record {
       asks = asks_one a m name None opens;
-      reads = record {
-        told = rw closes (rw opens at reads.told);
-        openings = (
-          closed ∷ later,
-          then,
-          All-cons (ReadsFile Whole) closed later (Ok t.reads, refl, read) reads.openings.2,
-        );
-      };
+      reads = search (rules, all, then);
       asked = rw (then, now) (simp map-append);
       refusals = rw closes refl;
       agrees = λ w agrees. agrees_open before later closed agrees now then;
@@ -53,10 +47,8 @@ was_opened {Whole} tells {a} {m} {b} {n} {name} {s} {t} is opens same read reads
 pub still_open : {Whole : Type 0} {tells : ToldAnswers} (a : SourceState) {m b : SourceState} {name : List ℕ}
     {s t : InputState} → s ≡ opened_file tells a name → m ≡ and_opening a name None → IsSameInput s t
     → ReadsToEndIf Whole m b → IsOpen tells b t
-still_open a {name = name} is opens same reads = record {
-  opening = rw (same, is, reads.openings.1, opens, append_assoc) (gave-seam a.openings reads.openings.0 name None);
-  told = rw (same, is, reads.told, opens) refl;
-}
+still_open a {name = name} is opens same reads =
+    let still = gave-seam a.openings reads.openings.0 name None in search (rules, append_assoc, still)
 
 -- ---- a fault of opening
 

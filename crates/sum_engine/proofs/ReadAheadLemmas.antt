@@ -11,18 +11,13 @@ use Rattle.sum_engine.specs.{check.Checker.IsStep, check.Checker.ends, check.Che
 use Rattle.sum_engine.specs.Execution.{Stop, StreamsState, Write, Memory}
 use Rattle.sum_engine.proofs.{BehaviorLemmas.HasDoneUpTo, BehaviorLemmas.behavior_then-first, RemainingLemmas.remaining_before-left}
 
--- reads that didn't go past an end gave no more bytes than the content has
-read_fits : (phase : Phase) (bytes : List ℕ) (c : Content) → ¬ (phase ≡ Past) → IsReadTo phase bytes c
-    → length bytes ≤ length c.bytes
-read_fits Unfinished bytes c past of = rw (of.1, length-append bytes of.0) (omega arith)
-read_fits (Ended e) bytes c past of = rw of (omega arith)
-read_fits Past bytes c past of = absurd (past refl)
-
--- and up to the limit not many more than it has below the limit
+-- reads that didn't go past an end gave, up to the limit, not many more bytes than the content has below the limit
 pub read_fits_clip : (phase : Phase) (bytes : List ℕ) (c : Content) → ¬ (phase ≡ Past) → IsReadTo phase bytes c
     → length bytes ≤ 2 ^ 61 → length bytes ≤ length (clip c).bytes + 8192
-read_fits_clip phase bytes c past of few =
-    let fits = read_fits phase bytes c past of in grind (arith, limit-value, length-take)
+read_fits_clip Unfinished bytes c past of few =
+    let fits = ap length of.1 in grind (arith, limit-value, length-take, length-append)
+read_fits_clip (Ended e) bytes c past of few = let fits = ap (λ (c : Content). length c.bytes) of in grind (arith, limit-value, length-take)
+read_fits_clip Past bytes c past of few = absurd (past refl)
 
 -- a check came from the state a to b, where a step ended or stopped it and left it in the state d
 pub stops_at_step : {r : Rules} {labels : LabelsValue} {vector : List ℕ} {m n : StreamsState} (o : StreamsState)
@@ -32,17 +27,11 @@ pub stops_at_step : {r : Rules} {labels : LabelsValue} {vector : List ℕ} {m n 
     → d.taken ≤ length a.remaining.bytes + 8192
     → IfErr x (λ stop. StopsAtStep stop (remaining_behavior r labels a).steps a.remaining d.taken m o)
 stops_at_step o a b d (Ok good) along sum step fits = tt {0}
-stops_at_step {r} {labels} {vector} {n = n} o a b d (Err stop) along sum step fits = record {
-  done = along.done;
-  next = step.step;
-  later = step.later.steps;
-  are = along.steps ∙ ap (λ (q : Behavior). along.done ++ q.steps) step.is;
-  between = n;
-  happened = along.happened;
-  stopped = behavior_then-first n o (tt {0}) (progress_before step.later.steps step.later.good) (step.step ∷ []) [] stop
-      step.performs;
-  read = by stop step;
-}
+stops_at_step {r} {labels} {vector} {n = n} o a b d (Err stop) along sum step fits =
+    let are = along.steps ∙ ap (λ (q : Behavior). along.done ++ q.steps) step.is in
+    let stopped = behavior_then-first n o (tt {0}) (progress_before step.later.steps step.later.good) (step.step ∷ [])
+    [] stop step.performs in
+    let read = by stop step in search (rules, are, stopped, read)
   where
     by : (stop : Stop) (s : IsStep r labels vector b d n o (Err stop))
         → d.taken + remaining_before s.later.steps ≤ length a.remaining.bytes + 8192

@@ -1,14 +1,13 @@
 -- One step of a checker, `Checker::step`: the next verdict was found, and its text was written.
-use Rattle.std.proofs.Common.{◌≡◌, ℕ, ◌<◌, Bool, false, List, [], length, None, Some, Result, Ok, Err, inl, inr, refl, ap, ◌∙◌, ◌∷◌, arith}
-use Rattle.std.specs.Prelude.{◌⊎◌}
-use Rattle.sum_engine.specs.Behavior.{Ending, Whole, Broken, World, Step, Content, InputState, SourceState}
+use Rattle.std.proofs.Common.{◌≡◌, ℕ, Bool, false, List, [], length, None, Some, Result, Ok, Err, inl, inr, refl, ap, sym, ◌∙◌, arith}
+use Rattle.sum_engine.specs.Behavior.{Ending, Whole, Broken, World, Content, InputState, SourceState}
 use Rattle.sum_sources.specs.LineReaders.{remaining}
 use Rattle.sum_engine.specs.{check.Rules.LabelsValue, check.CheckStates.CheckState, check.CheckStates.remaining_verdicts, check.CheckStates.remaining_behavior}
 use Rattle.sum_engine.specs.check.Reports.{err_of, out_of, end_text, good}
 use Rattle.sum_engine.specs.check.Verdicts.{VerdictsValue, state_at, InEachCheck, AdvancesVerdicts, VerdictResult, line_verdict_value, IsNextVerdict, HasNoVerdictLeft}
 use Rattle.sum_engine.specs.check.Checker.{ReportsFound, Progress, Going, Ended, TakesStep}
-use Rattle.sum_engine.specs.Execution.{Stop, Memory, OutputsState, StreamsState, AsksNames, RunsOutOfMemory, world_at}
-use Rattle.sum_engine.specs.{refinement.FlushedWrites.WritesAndReturns, refinement.FlushedWrites.outcome_after, refinement.Names.MemoryWasRefused}
+use Rattle.sum_engine.specs.Execution.{Stop, Memory, StreamsState, AsksNames, world_at}
+use Rattle.sum_engine.specs.{refinement.FlushedWrites.WritesAndReturns, refinement.FlushedWrites.outcome_after}
 use Rattle.sum_engine.proofs.{ExecutionLemmas.step_performed, ExecutionLemmas.refused_first, CountLemmas.counts_then-nil}
 use Rattle.sum_engine.proofs.RemainingLemmas.{line_step, behavior_by, first_step, found_first, going-before}
 use Rattle.sum_sources.specs.declared.line_reader.LineStop.TheVariants as line_stops
@@ -25,13 +24,9 @@ InEachCheck-map {a = a} {b = b} h f =
 -- ---- a step, by the verdict that was found
 
 -- who writes a text doesn't run out of memory
-not_refused : {A : Type 0} {a b : OutputsState} {err out : List ℕ} {x : A}
-    → WritesAndReturns a b err out x (Err Memory) → ⊥
-not_refused {x = x} said = by said.written said.returns
-  where
-    by : (w : Result (Unit {0}) (Unit {0})) → Err Memory ≡ outcome_after w x → ⊥
-    by (Ok u) is = cc
-    by (Err e) is = cc
+not_refused : {A : Type 0} (x : A) (w : Result (Unit {0}) (Unit {0})) → Err Memory ≡ outcome_after w x → ⊥
+not_refused x (Ok u) is = cc
+not_refused x (Err e) is = cc
 
 -- from p and the streams a to q and the streams b
 module _ {I : Type 0} {state : I → InputState} {p q : VerdictsValue I} (a b : StreamsState) (labels : LabelsValue)
@@ -58,7 +53,7 @@ module _ {I : Type 0} {state : I → InputState} {p q : VerdictsValue I} (a b : 
           performs = did;
           going = λ h. let no = (rw h at did).0 in cc;
           failed = λ h. inl refl;
-          refused = λ h. absurd (not_refused (rw h at said));
+          refused = λ h. absurd (not_refused _ said.written (sym h ∙ said.returns));
         })
 
     -- the next verdict was found, and then it was reported
@@ -82,7 +77,7 @@ module _ {I : Type 0} {state : I → InputState} {p q : VerdictsValue I} (a b : 
           performs = rw (going-before p.rules labels next) (step_performed _ did.asked flushed said);
           going = λ is. (refl, f.1);
           failed = λ is. inr (refl, f.1);
-          refused = λ is. absurd (not_refused (rw is at said));
+          refused = λ is. absurd (not_refused _ said.written (sym is ∙ said.returns));
         })
     -- no line was left; the end is written, and nothing remains
     step_taken (Ok None) found did reported = step_end Whole _ found did.asked did.rules refl reported

@@ -1,5 +1,5 @@
 -- The law that some world agrees with what was read: by the law of sources.
-use Rattle.std.proofs.Common.{◌≡◌, [], Option, None, Some, Result, Ok, Err, IfSome, refl}
+use Rattle.std.proofs.Common.{[], Option, None, Some, Result, Ok, Err, IfSome, refl}
 use Rattle.sum_sources.specs.{Contents.Reads, InputLaws.some_content, declared.fault.Fault.TheVariants.NotFound}
 use Rattle.sum_sources.specs.Sources.{ToldAnswers, gave_at, IsOfAnswer, GivesTold}
 use Rattle.sum_engine.specs.Behavior.{Answer, Fault, SourceState}

@@ -1,8 +1,8 @@
 -- Names asked one after another, and the worlds that agree with one call after another.
-use Rattle.std.proofs.Common.{rules, ◌≡◌, ◌∙◌, ap, sym, refl, ℕ, zero, suc, List, [], ◌∷◌, ◌++◌, Option, None, Some, Result, Ok, Err, IfSome, IfOk, append_assoc, append-nil, bytes_eq}
+use Rattle.std.proofs.Common.{rules, ◌≡◌, ap, refl, ℕ, zero, suc, List, [], ◌∷◌, ◌++◌, Option, None, Some, Result, IfSome, IfOk, append_assoc, append-nil, bytes_eq}
 use Rattle.std.specs.Prelude.{slice_get}
 use Rattle.std.specs.Option.{option_and_then}
-use Rattle.std.proofs.lemmas.List.{map-append}
+use Rattle.std.proofs.lemmas.{List.map-append, Result.IfOk-weaker}
 use Rattle.std.proofs.lemmas.List.Elements.{All-nil, All-cons, All-append, All-weaker}
 use Rattle.sum_sources.specs.{Contents.Reads, Sources.Opening, Sources.IsOfAnswer, Sources.and_opening, Sources.gave_of, Sources.gave_at, Sources.names_of, Sources.times}
 use Rattle.sum_sources.proofs.GaveLemmas.{either, gave-append, gave-seam}
@@ -23,33 +23,20 @@ asks_then h k = search (rules, append_assoc)
 -- one was opened
 pub asks_one : (a b : SourceState) (name : List ℕ) (gave : Option (Result Reads Fault)) → b ≡ and_opening a name gave
     → AsksNames a b (name ∷ [])
-asks_one a b name gave is = record {
-  asked = rw is (map-append (λ o. o.name) a.openings (record { name = name; gave = gave } ∷ []));
-  refusals = rw is refl;
-}
+asks_one a b name gave is = search (rules, map-append)
 
 -- ---- what was read
 
 -- what was read to its end if G holds was read to its end if H holds, from which G follows
-at_end_weaker : {G H : Type 0} (gave : Result Reads Fault) → (H → G) → IfOk gave (IsAtEndIf G) → IfOk gave (IsAtEndIf H)
-at_end_weaker (Ok r) f h = (h.0, λ whole. h.1 (f whole))
-at_end_weaker (Err e) f h = tt
-
 pub reads_weaker : {G H : Type 0} {a b : SourceState} → (H → G) → ReadsToEndIf G a b → ReadsToEndIf H a b
-reads_weaker {G = G} {H = H} f h = record {
-  told = h.told;
-  openings = (
-    h.openings.0,
-    h.openings.1,
-    All-weaker (ReadsFile G) (ReadsFile H)
-        (λ o (gave, is, read). (gave, is, at_end_weaker gave f read)) h.openings.0 h.openings.2,
-  );
-}
+reads_weaker {G = G} {H = H} f h =
+    let one : (o : Opening) → ReadsFile G o → ReadsFile H o =
+    λ o (gave, is, read). (gave, is, IfOk-weaker gave _ _ (λ r h. (h.0, λ x. h.1 (f x))) read) in
+    let all = All-weaker (ReadsFile G) (ReadsFile H) one h.openings.0 h.openings.2 in search (rules, all)
 
 -- nothing was opened
 pub reads_none : {Whole : Type 0} (a : SourceState) → ReadsToEndIf Whole a a
-reads_none {Whole} a =
-    record { told = refl; openings = ([], sym (append-nil a.openings), All-nil (ReadsFile Whole)) }
+reads_none {Whole} a = let none = All-nil (ReadsFile Whole) in search (rules, append-nil, none)
 
 -- one call and another
 pub reads_then : {G H K : Type 0} {a b c : SourceState} → (K → G × H) → ReadsToEndIf G a b → ReadsToEndIf H b c
@@ -57,25 +44,15 @@ pub reads_then : {G H K : Type 0} {a b c : SourceState} → (K → G × H) → R
 reads_then {K = K} {a = a} {b = b} {c = c} f g h =
     let g : ReadsToEndIf K a b = reads_weaker (λ x. (f x).0) g in
     let h : ReadsToEndIf K b c = reads_weaker (λ x. (f x).1) h in
-    record {
-      told = h.told ∙ g.told;
-      openings = (
-        g.openings.0 ++ h.openings.0,
-        h.openings.1 ∙ ap (λ os. os ++ h.openings.0) g.openings.1
-            ∙ append_assoc a.openings g.openings.0 h.openings.0,
-        All-append (ReadsFile K) g.openings.0 h.openings.0 g.openings.2 h.openings.2,
-      );
-    }
+    let all = All-append (ReadsFile K) g.openings.0 h.openings.0 g.openings.2 h.openings.2 in
+    search (rules, append_assoc, all)
 
 -- a name was opened, which gave this
 pub reads_one : {Whole : Type 0} (a b : SourceState) (name : List ℕ) (gave : Result Reads Fault)
     → b ≡ and_opening a name (Some gave) → IfOk gave (IsAtEndIf Whole) → ReadsToEndIf Whole a b
 reads_one {Whole} a b name gave is read =
     let o : Opening = record { name = name; gave = Some gave } in
-    record {
-      told = rw is refl;
-      openings = (o ∷ [], rw is refl, All-cons (ReadsFile Whole) o [] (gave, refl, read) (All-nil (ReadsFile Whole)));
-    }
+    let all = All-cons (ReadsFile Whole) o [] (gave, refl, read) (All-nil (ReadsFile Whole)) in search (rules, all)
 
 -- ---- worlds
 

@@ -1,5 +1,5 @@
 -- The laws of a checker's steps over a whole manifest, and of the lines that precede a line.
-use Rattle.std.specs.Prelude.{ℕ, ◌≡◌, ◌+◌, ◌≤◌, ◌↔◌, Bool, true, List, [], ◌∷◌, take, length, Result, ◌++◌, Ok, Err, IfErr, slice_index_or}
+use Rattle.std.specs.Prelude.{ℕ, ◌≡◌, ◌+◌, ◌≤◌, ◌↔◌, Bool, true, List, [], ◌∷◌, take, length, Result, ◌++◌, Ok, IfErr, slice_index_or}
 use Rattle.sum_lines.specs.grammar.Shapes.{IsPlain, KindValue}
 use Rattle.sum_engine.specs.Execution.{Stop, StreamsState, IsFlushed, Agrees, world_at, StopHasCause, IsAtEndIf, ReadsToEndIf, AsksNames, Happened, PerformsSteps, Performs}
 use Rattle.sum_sources.specs.{Contents.IsSameInput, Contents.reads_past, declared.inputs.phase.Phase.TheVariants.Unfinished}
