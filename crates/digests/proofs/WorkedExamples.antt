@@ -1,35 +1,26 @@
 -- Worked examples: the meaning of some command lines, computed. It has both texts, the names that are asked, and
 -- whether all is good.
 use Rattle.std.proofs.Common.{rules, arith, ◌≡◌, ◌∙◌, ap, ℕ, ◌++◌, Bool, List, [], ◌∷◌, refl, codes, true, false, if◌then◌else◌, bytes_eq, Result, Ok, Err, IfOk, inl, inr}
-use Rattle.std.specs.Prelude.{⊤, ◌⊎◌}
-use Rattle.std.specs.{Str.chars, Str.is_utf8, Path.rsplit_once, Fmt.digits}
-use lib.Utf8.{encode}
+use Rattle.std.specs.{Prelude.⊤, Prelude.◌⊎◌, Path.rsplit_once, Fmt.digits}
 use Rattle.md5.specs.Md5.{block_words as md5_words, rounds as md5_rounds, compress as md5_compress, hash_after as md5_after, digest_bytes as md5_bytes, md5}
 use Rattle.blake2b_core.specs.Compression.{mix, round, work_vector, compress}
 use Rattle.blake2b_core.specs.Digest.{hash_after as blake2b_after, blake2b}
-use Rattle.sum_sources.specs.declared.fault.Fault.TheVariants.{NotFound, Other}
 use Rattle.sum_engine.specs.Behavior.{World, Behavior, answer_to, Whole, Broken, out_text, err_text, asks}
-use Rattle.digest_kinds.specs.Kinds.{full_kind}
-use Rattle.digest_kinds.specs.declared.{algo.Algo.Algo, algo.Algos.Algos}
-use Rattle.sum_lines.specs.declared.writing.put_line.Mode.{Mode}
-use Rattle.sum_engine.specs.declared.settings.{CheckSettings.CheckSettings, Report.TheVariants.All}
+use Rattle.digest_kinds.specs.{Kinds.full_kind, declared.algo.Algo.Algo, declared.algo.Algos.Algos}
 use Rattle.hex.specs.Hex.{encode_with, decode_pairs}
-use Rattle.sum_lines.specs.{grammar.LineParts.plain_parts, grammar.LineParts.tagged_parts, grammar.ParsedLines.entry_of}
-use Rattle.sum_sources.specs.{ManifestLines.raw_lines, Contents.Content, Contents.limit, Contents.empty_content, Sources.Answer, Inputs.answers_with}
+use Rattle.sum_lines.specs.{declared.writing.put_line.Mode.Mode, grammar.LineParts.plain_parts, grammar.LineParts.tagged_parts, grammar.ParsedLines.entry_of}
+use Rattle.sum_sources.specs.{declared.fault.Fault.TheVariants.NotFound, declared.fault.Fault.TheVariants.Other, ManifestLines.raw_lines, Contents.Content, Contents.limit, Contents.empty_content, Sources.Answer, Inputs.answers_with}
 use Rattle.sum_words.specs.declared.{tool.Tool.Tool, tool.Tool.TheVariants.Md5sum, tool.Tool.TheVariants.B2sum, tool.Tool.TheVariants.Anysum}
-use Rattle.sum_words.specs.Items.{ByteString, name_or_fault, option_of_letter}
-use Rattle.sum_words.specs.{CommandLines.command_line, CommandLines.NeedsMemory, Texts.not_read_line, Tools.tool_called}
-use Rattle.sum_words.proofs.WorkedExamples.{words}
-use Rattle.sum_engine.specs.declared.stop.Stop.{Stop}
-use Rattle.sum_engine.specs.Execution.{StreamsState, PerformsSteps}
+use Rattle.sum_words.specs.{Items.ByteString, CommandLines.command_line, CommandLines.NeedsMemory, Texts.not_read_line, Tools.tool_called}
+use Rattle.sum_words.proofs.WorkedExamples.{words, words_on_literals}
+use Rattle.sum_engine.specs.{declared.settings.CheckSettings.CheckSettings, declared.settings.Report.TheVariants.All, declared.stop.Stop.Stop, Execution.StreamsState, Execution.PerformsSteps}
 use Rattle.sum_engine.proofs.BehaviorLemmas.{events_extend}
 use Rattle.digests.specs.{Meaning.meaning, Meaning.status_of, GenerationRuns.GenerationRun, Program.CallRefuses, InMemory.CommandPerformsIn}
 
 -- what a worked example unfolds, so that its texts are computed
 unfoldable meaning_on_literals : ⊤
-unfolding chars encode is_utf8 name_or_fault option_of_letter limit raw_lines entry_of plain_parts tagged_parts
-    rsplit_once encode_with decode_pairs digits md5_words md5_rounds md5_compress md5_after md5_bytes md5
-    mix round work_vector compress blake2b_after blake2b
+unfolding words_on_literals limit raw_lines entry_of plain_parts tagged_parts rsplit_once encode_with decode_pairs
+    digits md5_words md5_rounds md5_compress md5_after md5_bytes md5 mix round work_vector compress blake2b_after blake2b
 meaning_on_literals = tt
 
 -- bytes that end whole

@@ -30,29 +30,25 @@ abbrev items : (ByteString → Answer) → GenerationRun → List Item
 items answer g = map (item answer g.settings) g.names
 
 module _ (algos : Algos) (files later : ByteString → Answer) where
-  -- a file that can be listed is read to its end
-  read-is : (w : World) (s : Settings) (name : ByteString) → HasFiles w files → IsListable files name
-      → digest_or_fault s.kind (answer_to w name) ≡ Ok (digest s.kind (bytes_of (files name)))
-  read-is w s name has h = rw (has name (times name w.opened) h.no_dash) (search rules)
+  -- the line of a file that can be listed, and those of several, one after another
+  line-is : (s : Settings) (tool : ByteString) (w : World) (name : ByteString) → HasFiles w files
+      → s.style.zero ≡ false → IsListable files name
+      → out_text (generate_behavior s tool w name) ≡ written_text (item files s name)
+  line-is s tool w name has newlines h =
+      let read : digest_or_fault s.kind (answer_to w name) ≡ Ok (digest s.kind (bytes_of (files name))) =
+      rw (has name (times name w.opened) h.no_dash) (search rules) in
+      rw (read, newlines, append-nil) refl
 
-  -- so its line is written, and for all names their lines, one after another
   lines-are : (s : Settings) (tool : ByteString) (names : List ByteString) (w : World) → HasFiles w files
       → s.style.zero ≡ false → All (IsListable files) names
       → out_text (operands_behavior (generate_behavior s tool) w names)
       ≡ flat_map written_text (map (item files s) names)
   lines-are s tool [] w has newlines all = refl
   lines-are s tool (name ∷ names) w has newlines all =
-      let asked = asks (generate_behavior s tool w name) in
-      let first : out_text (generate_behavior s tool w name) ≡ written_text (item files s name) =
-      rw (read-is w s name has (All-head (IsListable files) name names all), newlines, append-nil) refl in
-      let others = lines-are s tool names (after w asked) has newlines
+      let first = line-is s tool w name has newlines (All-head (IsListable files) name names all) in
+      let others = lines-are s tool names (after w (asks (generate_behavior s tool w name))) has newlines
       (All-tail (IsListable files) name names all) in
       rw (flat_map-append, first, others) refl
-
-  -- a line is read back, if its file is the same
-  item-listed : {g : GenerationRun} {name : ByteString} → IsCheckable algos files later g → IsListable files name
-      → later name ≡ files name → Listed algos later (item files g.settings name)
-  item-listed c h same = search rules
 
   -- the lines of several runs, one after another, are read back, are what they wrote, and are for all their names
   runs-are : (w : World) (gs : List GenerationRun) → HasFiles w files → All (IsCheckable algos files later) gs
@@ -64,8 +60,8 @@ module _ (algos : Algos) (files later : ByteString → Answer) where
       let c = All-head (IsCheckable algos files later) g gs all in
       let others = runs-are w gs has (All-tail (IsCheckable algos files later) g gs all) in (
         All-append (Listed algos later) (items files g) (flat_map (items files) gs)
-            (All-map (Listed algos later) (item files g.settings) g.names (λ k d less.
-            item-listed c (c.listable k d less) (c.same k d less))) others.0,
+            (All-map (Listed algos later) (item files g.settings) g.names
+            (λ k d less. let h = c.listable k d less in let same = c.same k d less in search rules)) others.0,
         rw (flat_map-append, ← lines-are g.settings g.tool g.names w has c.newlines c.listable, others.1) refl,
         rw (map-append, map-map, map-id, others.2) refl,
       )

@@ -1,17 +1,15 @@
 use Rattle.std.proofs.Common.{rules, All, [], ◌∷◌, codes, append-nil, refl}
-use Rattle.std.specs.Str.{chars, is_utf8}
-use lib.Utf8.{encode}
 use Rattle.digest_kinds.specs.declared.{algo.Algo.TheVariants.Md5, algo.Algos.TheVariants.One}
 use Rattle.sum_lines.specs.declared.writing.put_line.Mode.TheVariants.{Text}
 use Rattle.sum_words.specs.declared.tool.Tool.TheVariants.{Md5sum}
-use Rattle.sum_words.specs.Items.{name_or_fault, option_of_letter}
+use Rattle.sum_words.proofs.WorkedExamples.{words_on_literals}
 use Rattle.digests.specs.GenerationRuns.{IsCheckable}
 use Rattle.digests.proofs.WorkedExamples.{lines_of, plain_check}
 use Rattle.digests.proofs.tests.laws.one_name_is_good.Goals as goal
 
 -- the list is what the run wrote
 pub returns : goal.returns
-unfolding chars encode is_utf8 name_or_fault option_of_letter
+unfolding words_on_literals
 returns c = λ files later w v has same a kept fits given.
     let run = lines_of Md5 Text (codes "md5sum") (codes "a") in
     let checkable : All (IsCheckable (One Md5) files later) (run ∷ []) = search rules in

@@ -1,17 +1,15 @@
 use Rattle.std.proofs.Common.{rules, All, [], ◌∷◌, codes, append-nil, refl}
-use Rattle.std.specs.Str.{chars, is_utf8}
-use lib.Utf8.{encode}
 use Rattle.digest_kinds.specs.declared.{algo.Algo.TheVariants.Md5, algo.Algo.TheVariants.Sha256, algo.Algos.TheVariants.Any}
 use Rattle.sum_lines.specs.declared.writing.put_line.Mode.TheVariants.{Tag}
 use Rattle.sum_words.specs.declared.tool.Tool.TheVariants.{Anysum}
-use Rattle.sum_words.specs.Items.{name_or_fault, option_of_letter}
+use Rattle.sum_words.proofs.WorkedExamples.{words_on_literals}
 use Rattle.digests.specs.GenerationRuns.{IsCheckable}
 use Rattle.digests.proofs.WorkedExamples.{lines_of, plain_check}
 use Rattle.digests.proofs.tests.laws.two_tools_are_good.Goals as goal
 
 -- the list is what both runs wrote
 pub returns : goal.returns
-unfolding chars encode is_utf8 name_or_fault option_of_letter
+unfolding words_on_literals
 returns c = λ files later w v has same a kept b kept_b fits given.
     let runs = lines_of Md5 Tag (codes "md5sum") (codes "a") ∷ lines_of Sha256 Tag (codes "sha256sum") (codes "b") ∷ [] in
     let checkable : All (IsCheckable Any files later) runs = search rules in
