@@ -81,7 +81,7 @@ class Installing(Repository):
 
 class Install(Installing):
     def test_what_is_put_there(self):
-        """It is for all to read, whatever the mask; it needs no repository, and may be moved."""
+        """Everyone may read it, whatever the umask; it needs no repository, and may be moved."""
         self.installs(umask=0o077)
         self.prefix = shutil.move(self.prefix, f"{self.folder}/moved")
         self.assertNotIn("first on the PATH", self.installs(PATH=f"{self.prefix}/bin:{self.env['PATH']}"))

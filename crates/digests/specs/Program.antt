@@ -39,7 +39,7 @@ abbrev pub CommandPerforms : Option (Tool × List ByteString) → StreamsState �
 CommandPerforms None = CallRefuses unknown_tool_line
 CommandPerforms (Some (tool, words)) = CallPerforms (Some tool) (Performs (meaning tool words) status_of)
 
--- flushed outputs: of each list that agrees, the call is performed, or, if it needs memory, that of words not read
+-- for flushed outputs and each list that agrees: its call is performed or, if it needs memory, that of words not read
 abbrev pub ProgramPerforms : ArgumentsState → StreamsState → StreamsState → ℕ → Type 0
 ProgramPerforms given a b status = IsFlushed a.outputs → (arguments : List ByteString) → AreOf given arguments
     → CommandPerforms (command_line arguments) a b status

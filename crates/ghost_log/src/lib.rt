@@ -1,4 +1,4 @@
-//! Logs that only proofs see: they take no room, and their calls do nothing.
+//! Logs that only proofs see: they take no memory, and their calls do nothing.
 //!
 //! A log's state is a value of its type parameter, as clauses see it. No code can hold it: only a contract says what a
 //! log's state is, so a contract that speaks of it tells a caller nothing, unless a trait's clause reads it.
@@ -69,14 +69,14 @@ impl<T> Log<T> {
         Log { of: PhantomData }
     }
 
-    /// A log whose state is this value.
+    /// Creates a log whose state is this value.
     pub fn of(first: &T) -> Log<T>
         ensures { result ≡ first.now }
     {
         Log::made::<_, It>(first)
     }
 
-    /// This log, and then a note.
+    /// Returns this log after one more note.
     pub fn and<X>(&self, note: &X) -> Log<T>
     where
         T: Notes<X>,

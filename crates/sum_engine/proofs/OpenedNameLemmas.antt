@@ -14,8 +14,8 @@ use Rattle.sum_engine.specs.declared.hash_name.HashFault.TheVariants as hashing
 use Rattle.sum_sources.specs.declared.sources.source.OpenFault.TheVariants as faults
 use Rattle.sum_engine.proofs.WorldLemmas.{agrees_open, opening_agrees, asks_one, reads_none, reads_fault}
 
--- the name was asked; over the opening, some calls and the closing all was read so; and what was read of it is of its
--- answer, in each world that agrees
+-- the name was opened; over the opening, some calls and the closing all was read as `ReadsToEndIf` says; and what was
+-- read of it fits its answer, in each world that agrees
 pub record WasOpened (Whole : Type 0) (a m b n : SourceState) (name : List ℕ) (t : InputState) : Type 0 where
   pub asks : AsksNames a m (name ∷ [])
   pub reads : ReadsToEndIf Whole a n

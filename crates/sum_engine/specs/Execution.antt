@@ -64,15 +64,15 @@ IsAtEndIf Wanted r = (r.phase ≢ Past) × (Wanted → r.phase ≡ Ended ending.
 abbrev pub ReadsFile : Type 0 → Opening → Type 0
 ReadsFile Wanted o = (gave : Result Reads Fault) × (o.gave ≡ Some gave) × IfOk gave (IsAtEndIf Wanted)
 
--- READ TO THE END, if Wanted holds, and never past it: so a call read each file that it opened. What was opened before
--- stays as it was
+-- READ TO THE END, if Wanted holds, and never past it: this is how a call read each file that it opened. What was
+-- opened before is unchanged
 pub record ReadsToEndIf (Wanted : Type 0) (a b : SourceState) : Type 0 where
   pub told : b.told ≡ a.told
   pub openings : (more : List Opening) × (b.openings ≡ a.openings ++ more) × All (ReadsFile Wanted) more
 
 -- ---- what happened
 
--- these names were opened, and the source was refused no memory
+-- these names were opened, and the source wasn't refused memory
 pub record AsksNames (a b : SourceState) (names : List ByteString) : Type 0 where
   pub asked : asked b ≡ asked a ++ names
   pub refusals : b.refusals ≡ a.refusals

@@ -16,7 +16,7 @@ pub fn some_world_agrees()
 pub fn told_agree<S: Source>(inputs: &Reader<S>)
     ensures { ToldAgree S.tells inputs.now }
 {
-    // Read, so that the proof sees the source.
+    // This read lets the proof see the source.
     let _source = &inputs.source;
 }
 

@@ -23,7 +23,7 @@ pub nothing : (told : Option Answer) → IfSome told (λ told. IfSome None (IsOf
 nothing None = tt
 nothing (Some told) = tt
 
--- what was read of a file in memory is of its content
+-- what was read of a file in memory fits its content
 pub of_content : (file : InputState) (c : Content) → HasContent file → file.told ≡ Some c
     → IsOfAnswer (Ok c) (Ok file.reads)
 of_content file c has told = let fits = rw told at has.1 in (c, refl, rw (sym fits) has.2)

@@ -34,8 +34,8 @@ gave_at os name k = option_and_then (λ gave. gave) (slice_get (gave_of os name)
 
 -- ---- what is in memory
 
--- what a source has in memory: a name, and the answer, if it is known, to the openings of it that have at least so many
--- before them
+-- what a source has in memory: a name, and the answer, if it is known, to the openings of it that have at least this
+-- many before them
 pub record Pair : Type 0 where
   pub name : ByteString
   pub from : ℕ
@@ -49,11 +49,11 @@ ToldAnswers = List Pair → ByteString → ℕ → Option Answer
 abbrev pub TellsAll : ToldAnswers → List Pair → Answers → Type 0
 TellsAll tells told answer = (name : ByteString) (k : ℕ) → tells told name k ≡ Some (answer name k)
 
--- none is known
+-- no answer is known
 abbrev pub tells_none : ToldAnswers
 tells_none told name k = None
 
--- of a list of pairs that answers by the first that fits; a name without one isn't there
+-- what a list of pairs answers: the first pair that has the name and is early enough; a name without one isn't there
 abbrev pub first_answer : List Pair → Answers
 first_answer [] name k = Err NotFound
 first_answer (p ∷ ps) name k = if bytes_eq p.name name && nat_le p.from k
@@ -74,7 +74,7 @@ pub record SourceState : Type 0 where
 abbrev pub IsOfAnswer : Answer → Result Reads Fault → Type 0
 IsOfAnswer answer gave = MatchResult gave (λ r. (c : Content) × (answer ≡ Ok c) × IsOf r c) (λ f. answer ≡ Err f)
 
--- what an opening gave is of the answer, if that is known
+-- what an opening gave fits the answer, if that is known
 abbrev pub GivesTold : ToldAnswers → SourceState → Type 0
 GivesTold tells s = (name : ByteString) (k : ℕ)
     → IfSome (tells s.told name k) (λ told. IfSome (gave_at s.openings name k) (IsOfAnswer told))

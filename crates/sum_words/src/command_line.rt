@@ -93,8 +93,8 @@ impl<A: Allocator> Room<A> {
     }
 }
 
-// Copies the argument at this place, which is longer than a page, to the front of the vector, and returns its length.
-// `None` past the last.
+// Copies the argument at this place, which is longer than a page, to the front of the vector, and returns its length,
+// or `None` past the last.
 fn fill_growing<A: Allocator, G: Arguments>(
     arguments: &mut G,
     place: usize,

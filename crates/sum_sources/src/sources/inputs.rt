@@ -28,7 +28,8 @@ impl<I: Input, S: Source> Inputs<I, S> {
     ghost use Rattle.sum_sources.specs.Inputs.{inputs_state, with_stdin, without_dash};
     ghost use Rattle.sum_sources.specs.StandardInput.{given_by, unless_closed};
 
-    /// This standard input and this source. What the source opened by the name `-` before doesn't count.
+    /// Creates the inputs with this standard input and this source. What the source opened before by the name `-`
+    /// doesn't count.
     pub fn new(stdin: Stdin<I>, source: S) -> Self
         ensures parts { (result.stdin ≡ stdin) × (result.source ≡ source) }
         ensures state { inputs_state result.untaken result.log (S.state source)

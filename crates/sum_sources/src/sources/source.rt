@@ -37,6 +37,6 @@ pub trait Source {
         requires { IsOpen tells (state self.old) (Self.File.state file) }
         ensures { state self.new ≡ after_closing (state self.old) (Self.File.state file) };
 
-    /// Law: what an opening gave is of the answer, if that is known.
+    /// Law: what an opening gave fits the answer, if that is known.
     ghost gives_told: { (s : Self) → GivesTold tells (state s) };
 }

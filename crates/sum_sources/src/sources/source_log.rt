@@ -23,12 +23,12 @@ impl Model for Openings {
 /// The openings of a source.
 pub type SourceLog = Log<Openings>;
 
-/// What happens to a source.
+/// A note in the log of a source.
 #[derive(Clone, Copy)]
 pub enum Note<'a> {
     /// The file of that name was opened.
     Opened(&'a [u8]),
-    /// It could not be opened.
+    /// The file of that name could not be opened.
     Failed(&'a [u8], Fault),
     /// A file was closed, after these reads.
     Closed(&'a ReadLog),
@@ -67,7 +67,7 @@ impl<'a> Notes<(&'a SourceLog, &'a [u8])> for Reads {
     ghost noted = { λ _ x. opened_file tells_none x.0.now x.1.now };
 }
 
-/// No reads yet of the file that a source with this log opens next, by this name.
+/// Returns the log, without reads, of the file that a source with this log opens next, by this name.
 pub fn next_file(log: &SourceLog, name: &[u8]) -> ReadLog
     ensures { result ≡ opened_file tells_none log.now name.now }
 {

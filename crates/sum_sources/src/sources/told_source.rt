@@ -53,7 +53,7 @@ fn times<A: Allocator>(names: &[Vec<u8, A>], name: &[u8]) -> usize
     count
 }
 
-// The answer of the first pair with the name that was added when it had been asked so often.
+// The answer of the first pair with the name that was added by the time the name had been asked this many times.
 fn answer_to<'a, A: Allocator>(pairs: &[StoredPair<'a, A>], name: &[u8], times: usize) -> Answer<'a>
     ensures { answer_value result ≡ first_answer (map pair_of pairs.now) name.now times }
 {
