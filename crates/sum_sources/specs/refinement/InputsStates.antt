@@ -1,4 +1,4 @@
--- What standard input and a source of files keep, as one source.
+-- Relates standard input and a source of files to the log that both keep as one source.
 use Rattle.std.specs.Prelude.{ℕ, ◌≡◌, false, List, [], ◌∷◌, codes, Option, Some, IfSome, Result, Ok}
 use Rattle.std.specs.Option.{option_map}
 use Rattle.sum_sources.specs.{Contents.InputState, Contents.Reads, Contents.Fault, Contents.empty_content, Contents.Whole, Faults.ByteString, Contents.Unfinished, StandardInput.given_by, StandardInput.unless_closed, Sources.Opening, Sources.gave_of, Sources.gave_at, Sources.IsOfAnswer, Inputs.is_dash, Inputs.given_once, declared.inputs.stdin.StdinPlace.StdinPlace, declared.inputs.closable.Closable.TheVariants.Closed}

@@ -1,4 +1,4 @@
--- What a read up to the limit adds to what was read.
+-- Relates a read up to the limit to what was read before it and after it.
 use Rattle.std.specs.Prelude.{ℕ, zero, suc, ◌≡◌, ◌≢◌, ◌+◌, ◌^◌, ◌<◌, ◌≤◌, ◌++◌, length, Result, Ok, Err, IfOk}
 use Rattle.sum_sources.specs.{Contents.Content, Contents.Ending, Contents.Whole, Contents.Broken, Contents.Reads, Contents.InputState, Contents.IsOf, Contents.IsSameInput, Contents.clip, Contents.reads_past, Contents.Fault, Faults.ByteString, Contents.Unfinished, Contents.Ended, Contents.Past}
 
