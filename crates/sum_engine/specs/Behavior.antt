@@ -1,4 +1,4 @@
--- What a call can ask of its source, and what it does: a list of steps, between which memory may run out.
+-- What a call can open in its source, and what it does: a list of steps, between which memory may run out.
 use Rattle.std.specs.Prelude.{ℕ, ◌&&◌, Bool, List, [], ◌∷◌, ◌++◌, map, flat_map, Option, None, Some, Result, Ok, Err}
 pub use Rattle.digest_kinds.specs.Bytes.{ByteString}
 pub use Rattle.sum_lines.specs.Sinks.{OutputEvent, output_events}

@@ -77,7 +77,7 @@ pub record AsksNames (a b : SourceState) (names : List ByteString) : Type 0 wher
   pub asked : asked b ≡ asked a ++ names
   pub refusals : b.refusals ≡ a.refusals
 
--- these events happened: the names were asked, and each output was offered its pieces and wrote its bytes
+-- these events happened: the names were opened, and each output was offered its pieces and wrote its bytes
 pub record Happened (a b : StreamsState) (es : List Event) : Type 0 where
   pub inputs : AsksNames a.inputs b.inputs (filter_map opened_name es)
   pub err : Gets a.outputs.err.sink b.outputs.err.sink (filter_map err_event es)

@@ -1,4 +1,4 @@
--- Sources of files: what was asked of one, and what it answered.
+-- Sources of files: which names one opened, and what it answered.
 use Rattle.std.specs.Prelude.{ℕ, zero, suc, slice_get, ◌≡◌, ◌+◌, List, [], ◌∷◌, ◌++◌, map, filter, filter_map, length, Option, None, Some, Result, Ok, Err, IfSome, MatchResult, if◌then◌else◌, ◌&&◌, bytes_eq, nat_le, unwrap_or}
 use Rattle.std.{specs.Option.option_and_then, specs.Result.result_ok}
 use Rattle.sum_sources.specs.{Contents.Content, Contents.InputState, Contents.Reads, Contents.IsOf, Contents.unread, Faults.Fault, Faults.NotFound, Faults.ByteString, declared.sources.source.OpenFault.OpenFault}

@@ -8,10 +8,10 @@ use std::test::Fail;
 use sum_engine::Stop;
 use sum_sources::{Answer, Ending, NoRoom, Told, ToldSource};
 
-// A place where a run may stop: the texts up to there, and how many names were asked for.
+// A place where a run may stop: the texts up to there, and how many names were opened.
 type Place<'a> = (&'a str, &'a str, usize);
 
-// Whether these are the names that were asked.
+// Whether these are the names that were opened.
 fn asked<A: Allocator + Copy>(streams: &Stage<A, 1024>, names: &[&str]) -> bool {
     for (i, name) in names.iter().enumerate() {
         if streams.inputs.source.source().asked_name(i) != Some(name.as_bytes()) {

@@ -64,7 +64,7 @@ pub record HasNameRange (vector : ByteString) (v : LineVerdict) : Type 0 where
   pub start : v.start ≤ v.stop
   pub stop : v.stop ≤ length vector
 
--- a line was judged, the first of those that remained; its name was opened, if its verdict asks it
+-- a line was judged, the first of those that remained; its name was opened, if its verdict needs it
 pub record FindsFirstVerdict (r : Rules) (a b : CheckState) (j : LineVerdictValue) : Type 0 where
   pub first : remaining_verdicts r a ≡ j ∷ remaining_verdicts r b
   pub world : b.world ≡ after a.world (asks_of j)
@@ -118,7 +118,7 @@ abbrev pub IsNotUnread : VerdictResult → Type 0
 IsNotUnread (Ok (Some v)) = is_unread v.verdict ≡ false
 IsNotUnread x = ⊤
 
--- what a call for the next verdict asks: the name of the line's verdict, or none; or the source was refused memory
+-- what a call for the next verdict opens: the name of the line's verdict, or none; or the source was refused memory
 abbrev pub AsksFor : ByteString → SourceState → SourceState → VerdictResult → Type 0
 AsksFor vector a b (Ok (Some v)) = AsksNames a b (asks_of (line_verdict_value vector v))
 AsksFor vector a b (Err Memory) = MemoryWasRefused a b ⊎ (b ≡ a)

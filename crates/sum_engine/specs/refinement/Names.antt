@@ -32,7 +32,7 @@ IsHashOf kind x (Err (hashing.NotOpened f)) = x ≡ Err f
 IsHashOf kind x (Err (hashing.NotRead f)) = (digest_or_fault kind x ≡ Err f) × ((g : Fault) → x ≢ Err g)
 IsHashOf kind x (Err hashing.Memory) = ⊤
 
--- the name is asked, unless memory was refused
+-- the name is opened, unless memory was refused
 abbrev pub AsksUnlessRefused : {A : Type 0} → ByteString → SourceState → SourceState → Result A HashFault → Type 0
 AsksUnlessRefused name a b (Err hashing.Memory) = MemoryWasRefused a b
 AsksUnlessRefused name a b r = AsksNames a b (name ∷ [])

@@ -134,7 +134,7 @@ impl<I: Input> Verdicts<I> {
             (λ a b. IsNextVerdict self.old.rules line.new.items a b result) }
         ensures name_range { IfOk result
             (λ found. IfSome found (λ v. HasNameRange line.new.items v)) }
-        // What was asked, the lines counted, and the cause of a stop.
+        // What was opened, the lines counted, and the cause of a stop.
         ensures advances { self.old.outcome ≡ None
             → AdvancesVerdicts I.state line.new.items self.old self.new
             inputs.old inputs.new result }

@@ -1,4 +1,4 @@
-//! What a source of files was asked, and what it answered, for proofs alone.
+//! Which names a source of files opened, and what it answered, for proofs alone.
 ghost use Rattle.std.specs.Prelude.{◌≡◌};
 ghost use Rattle.sum_sources.specs.Sources.{opened_file, tells_none};
 
