@@ -5,7 +5,7 @@ import hashlib
 import os
 
 import harness
-from harness import E, M, S, TOOLS, VERDICTS, WRITE_ERROR, X_MISSING, Case, Ran, as_bytes, as_words, unread
+from harness import E, M, TOOLS, VERDICTS, WRITE_ERROR, X_MISSING, Case, Ran, as_bytes, as_words, unread
 from tracing import Traced, needs_strace
 
 FAULT = "md5sum: -: Bad file descriptor"
@@ -62,12 +62,6 @@ class ClosedInput(Closing):
         for manifest in hostile_manifests():
             self.write("l", manifest)
             self.expect_closed(("md5sum -c l", [0], 1, ["-: FAILED open or read"], [FAULT, unread(1)]))
-
-    def test_listed_among_others(self):
-        nothing = TOOLS["sha256sum"][1]
-        self.write("l", [f"SHA256 (-) = {nothing}", f"SHA256 (a) = {S}", f"MD5 (a) = {M}"])
-        self.expect_closed(("anysum -c l", [0], 1, ["-: FAILED open or read", "a: OK", "a: OK"],
-                            ["anysum: -: Bad file descriptor", unread(1, "anysum")]))
 
 
 @needs_strace

@@ -1,9 +1,7 @@
 """What the manual pages and documents say of GNU coreutils 9.1. Most statements are tried with GNU's tools and
 with ours. If another version is installed, these tests are skipped."""
 
-import hashlib
 import os
-import pty
 import subprocess
 
 import harness
@@ -105,17 +103,6 @@ class Messages(Described):
         said = ["md5sum: -: Is a directory"]
         self.expect_both("md5sum - -", (1, [f"{E}  -"], said), (1, b"", said * 2), stdin=folder)
         self.expect_alike("md5sum - -", 0, [f"{M}  -", f"{E}  -"], stdin=b"abc")
-
-    def test_standard_input_twice_at_a_terminal(self):
-        """There GNU's tools take what follows the end that was typed."""
-        first, second = (hashlib.md5(text).hexdigest() for text in (b"abc\n", b"more\n"))
-        for command, wanted in (([harness.PROGRAM, "md5sum"], E), ([gnu("md5sum")], second)):
-            typed, shown = pty.openpty()
-            self.addCleanup(os.close, typed)
-            os.write(typed, b"abc\n\x04more\n\x04")
-            ran = self.run_command([*command, "-", "-"], stdin=shown)
-            os.close(shown)
-            self.assertEqual(ran, Ran(0, as_bytes([f"{first}  -", f"{wanted}  -"]), b""), command)
 
     def test_what_has_no_effect(self):
         """The language changes GNU's quotes, and POSIXLY_CORRECT makes every word after a name one; here neither."""
@@ -304,14 +291,3 @@ class Writing(Described):
                 ran = self.run_command([strace(), "-qq", "-o", os.devnull, *options, *command], stdout=out)
             found = ran.status, self.read("out"), bool(ran.err)
             self.assertEqual(found, (status, as_bytes([f"{M}  a"]), status == 1))
-
-    def test_one_write_a_line(self):
-        """GNU's tools write each line of standard output at once, as ours do; but not with `--zero`, nor if one has
-        over 4,096 bytes."""
-        for words, ours, theirs in (("md5sum a e a", 3, 3), ("md5sum --tag a e a", 3, 3), ("md5sum -z a e a", 3, 1),
-                                    (f"md5sum {'./' * 2030}a", 1, 1), (f"md5sum {'./' * 2031}a", 1, 2)):
-            self.assertEqual(self.writes_of(words), (0, ours))
-            with open(self.path("out"), "wb") as out:
-                command, before = harness.as_words(words), self.writes_so_far()
-                subprocess.run(command, executable=gnu("md5sum"), stdout=out, cwd=self.folder, check=True)
-                self.assertEqual(self.writes_so_far() - before, theirs, words)

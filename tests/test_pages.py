@@ -4,8 +4,7 @@ show."""
 import re
 
 import harness
-import pages
-from harness import GNU_TOOLS, NAMES, Case
+from harness import NAMES, Case
 from options import takes
 from recipes import sections_of
 from reference import REASONS
@@ -31,15 +30,6 @@ class Pages(Case):
             for long in map(bytes.decode, helped):
                 self.assertFalse(takes(harness.PROGRAM, tool, "-c", f"--{long}"), (tool, long))
                 self.assertIn(f"--{long}", sections_of(tool)["DESCRIPTION"])
-
-    def test_own_names(self):
-        """Pages beside GNU's have names of their own, and refer to each other by these."""
-        own = pages.pages(harness.PROGRAM, own=True)
-        for name in GNU_TOOLS:
-            head = rf"\.TH DIGESTS-{name.upper()} 1 .*\n\.SH NAME\ndigests\\-{name} \\- "
-            self.assertRegex(own[f"digests-{name}"], head)
-        called = re.findall(r"(\S+)(?:md5|sha\d+|b2)sum\\fR\(1\)", "".join(own.values()))
-        self.assertEqual(set(called), {r"\%\fBdigests\-"})
 
 
 class Said(Case):

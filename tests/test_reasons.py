@@ -104,7 +104,7 @@ class Reasons(Case):
 
     @needs_strace
     def test_numbers(self):
-        """Each number of the system, of an opening and of a read. What is interrupted is tried again: an opening without
+        """Each number of the system, of an opening and a read. What is interrupted is tried again: an opening without
         an end, a read up to a limit."""
         path = os.fsdecode(self.path("f"))
         self.write("f", "abc")

@@ -22,7 +22,6 @@ CLAUSE = re.compile(ENSURES.pattern + r"|\bghost\s+(?!use\b)\w+\s*[:=]\s*(?=\{)|
 # The module of definitions of a type of the code, of its variants, or of the constants of a file.
 DECLARED = re.compile(r"Rattle\.(\w+)\.specs\.declared\.([\w.]+?)\.(\w+?)(?:\.The(?:Variants|Inside))?")
 
-
 # A type or trait of ours is found by its name, so no `use` may give it another one.
 OTHER_USE = re.compile(r"\S[ \t]*\bghost\s+use\b|\bghost(?! use )\s+use\b|"
                        r"(?<!\bghost )\buse\s+(?!std\b)[^;]*\bas\s+(?!_\s*[;,}])")
