@@ -23,7 +23,7 @@ ReportsStop tool (Ok answer) a b status = (status ≡ answer) × (b ≡ a)
 ReportsStop tool (Err stop) a b status = (status ≡ 1) × (b ≡ record a { err = b.err })
     × (given : Result ⊤ ⊤) × GivesAll a.err.sink b.err.sink (tool_stop_line tool stop) given
 
--- THE PROGRAM, for one call: it performs something, and then reports a stop, if there is a tool
+-- THE PROGRAM, for one call: it does what `performs` says, and then reports a stop, if there is a tool
 abbrev pub CallPerforms : Option Tool → (StreamsState → StreamsState → Result ℕ Stop → Type 0)
     → StreamsState → StreamsState → ℕ → Type 0
 CallPerforms tool performs a b status = (answer : Result ℕ Stop) × (between : StreamsState)

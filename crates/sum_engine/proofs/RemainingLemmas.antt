@@ -29,7 +29,7 @@ remaining_next r a b v h world = search (rules, remaining_head, form_next)
 
 -- ---- the behavior that remains
 
--- the step of a line, before which so many bytes remain
+-- the step of a line, before which this many bytes remain
 abbrev pub line_step : Rules → LabelsValue → ℕ → LineVerdictValue → Step
 line_step r labels remaining j =
     record { names = asks_of j; err = err_of r labels j; out = out_of r labels j; remaining = remaining }
@@ -74,7 +74,7 @@ going-before r labels a =
     by end c [] good = refl
     by end c (j ∷ js) good = refl
 
--- contents past so many lines
+-- contents past this many lines
 pub past_next : (k : ℕ) (c : Content) → past_line (past_lines k c) ≡ past_lines (suc k) c
 past_next zero c = refl
 past_next (suc k) c = past_next k (past_line c)

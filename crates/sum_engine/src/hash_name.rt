@@ -43,8 +43,8 @@ impl HashFault {
     }
 }
 
-/// Opens the file of this name and hashes it. `HashFault::Memory` if the source was refused
-/// memory; the name then doesn't count as opened.
+/// Opens the file of this name and hashes it. Returns `HashFault::Memory` if the source was
+/// refused memory; the name then doesn't count as opened.
 pub(crate) fn hash_name<S: Source>(
     kind: Kind,
     name: &[u8],

@@ -31,7 +31,7 @@ inputs_state untaken log source = record source {
   openings = log.openings;
 }
 
--- a source, but for what it opened by the name `-` itself
+-- a source, without what it opened itself by the name `-`
 abbrev pub without_dash : SourceState → SourceState
 without_dash s = record s { openings = filter (λ o. not (is_dash o.name)) s.openings }
 

@@ -41,7 +41,7 @@ pub record IsUnderWay {I : Type 0} (state : I → InputState) (r : LineReaderVal
 -- a reader of an input that hadn't ended when the reader was made
 pub record IsReading {I : Type 0} (state : I → InputState) (r : LineReaderValue I) : Type 0 where
   pub under_way : r.final_answer ≡ None → IsUnderWay state r
-  -- a final answer stays right
+  -- a final answer is right for each content that what was read fits
   pub final : (answer : Result Next LineStop) → r.final_answer ≡ Some answer → (line : ByteString) (c : Content)
       → IsOf (reads_of state r) c → IsNextLine (remaining r c) (remaining r c) answer line
   -- the input is at its end if no line remains, and is never read past its end or its fault

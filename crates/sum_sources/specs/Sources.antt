@@ -25,7 +25,7 @@ names_of os = map (λ o. o.name) os
 abbrev pub times : ByteString → List ByteString → ℕ
 times name names = length (filter (λ other. bytes_eq other name) names)
 
--- what the openings of a name gave, in their order; and what the one gave that has k of them before it
+-- what the openings of a name gave, in their order; and what the opening of it gave that has k others before it
 abbrev pub gave_of : List Opening → ByteString → List (Option (Result Reads Fault))
 gave_of os name = filter_map (λ o. if bytes_eq o.name name then Some o.gave else None) os
 
@@ -103,7 +103,7 @@ pub record IsOpen (tells : ToldAnswers) (s : SourceState) (file : InputState) : 
   pub opening : slice_get (gave_of s.openings file.name) file.opening ≡ Some None
   pub told : file.told ≡ content_at tells s file.name file.opening
 
--- the openings once the file was closed of that opening of a name which has k of them before it
+-- the openings after the file of one was closed: of the opening of this name that has k others before it
 abbrev pub closed_at : List Opening → ByteString → ℕ → Reads → List Opening
 closed_at [] name k r = []
 closed_at (o ∷ os) name zero r = if bytes_eq o.name name then record o { gave = Some (Ok r) } ∷ os

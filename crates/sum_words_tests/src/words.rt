@@ -17,7 +17,7 @@ pub(crate) fn words_and(alloc: Global, line: &str, last: &[u8]) -> Result<Words<
     Ok(words)
 }
 
-// Whether these are the words, in their order. Without a contract, so that a test knows no more of them than it sees.
+// Whether these are the words, in their order. It has no contract, so that a test knows no more of them than it sees.
 fn are(words: &Words<Global>, wanted: &[&[u8]]) -> bool {
     words.iter().eq(wanted.iter().copied())
         && words.len() == wanted.len()

@@ -51,7 +51,7 @@ fn place_of<A: Allocator + Copy>(
 }
 
 // Runs a line over the files `a`, `e` and a manifest, on a heap of this many bytes, which the files, the words and the
-// run share. At which of the places it stands. Returns `None` if there was no room for the files or for the words.
+// run share. Returns at which of the places it stands, or `None` if there was no room for the files or the words.
 fn place_within(
     rt: &(impl Abort + AllocGlobal),
     size: usize,

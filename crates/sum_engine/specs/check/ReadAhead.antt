@@ -21,8 +21,8 @@ pub record FailsAtStep (steps : List Step) (c : Content) (n : ℕ) (a b : Stream
   pub happened : Happened a b (trace done ++ front)
   pub read : n + remaining_before later ≤ length c.bytes + 8192
 
--- so a call failed that checks the manifest of that name, if both outputs were flushed before: in each world that
--- agrees with what was read, if the name was answered by a content and the file was closed after these reads
+-- a call that checks the manifest of that name failed at a step, if both outputs were flushed before: in each world
+-- that agrees with what was read, if the name was answered by a content and the file was closed after these reads
 abbrev pub FailsAtLine : (World → Behavior) → ByteString → StreamsState → StreamsState → Type 0
 FailsAtLine behavior name a b = IsFlushed a.outputs → (w : World) → Agrees w b.inputs
     → let at = world_at w a.inputs in (c : Content) → answer_to at name ≡ Ok c

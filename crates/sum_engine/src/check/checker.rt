@@ -166,7 +166,7 @@ fn report_found<I: Input, O: Sink, E: Sink>(
             outcome_after(written, Progress::Ended(verdicts.is_good()))
         }
         Ok(Some(found)) => {
-            // Each call slows ignored lines.
+            // An ignored line returns here, since each call would slow it.
             if let Verdict::Ignored = found.verdict {
                 return Ok(Progress::Going);
             }

@@ -14,7 +14,7 @@ abbrev pub GivesStdin : InputState → ℕ → Option (Result Reads Fault) → T
 GivesStdin untaken k gave =
     IfSome (given_once (option_map Ok untaken.told) (Some (Ok empty_content)) k) (λ told. IfSome gave (IsOfAnswer told))
 
--- of standard input, what it was before it was taken, the openings of both, and those of the source
+-- the invariant of standard input, what it was before it was taken, the openings of both, and those of the source
 pub record InputsInvariant {I : Type 0} (state : I → InputState) (stdin : StdinPlace I) (untaken : InputState)
     (openings source : List Opening) : Type 0 where
   pub place : IsPlaceOf state stdin untaken (gave_of openings (codes "-"))

@@ -15,7 +15,7 @@ AddsLimited taken a b bytes (Ok zero) = FindsEnding taken a b Whole
 AddsLimited taken a b bytes (Ok (suc n)) = b ≡ record a { bytes = a.bytes ++ bytes }
 AddsLimited taken a b bytes (Err f) = FindsEnding taken a b (Broken f)
 
--- so does such an input of which only the bytes past the first m count
+-- the same holds of such an input if only its bytes past the first m count
 pub record AddsPast (taken : ℕ) (a b : Reads) (bytes : ByteString) (result : Result ℕ Fault) : Type 0 where
   pub adds : (m : ℕ) → m ≤ length a.bytes → a.phase ≡ Unfinished
       → AddsLimited taken (reads_past m a) (reads_past m b) bytes result

@@ -86,7 +86,7 @@ impl<I: Input + Drop, S: Source> Source for Inputs<I, S> {
         ensures file { IfOk result (λ file. opened_state I.state S.File.state file.place
             ≡ opened_file (tells_both S.tells)
             (inputs_state self.old.untaken self.old.log (S.state self.old.source)) name.now) }
-        // Standard input is the input that it was made of, and nothing else takes it.
+        // `-` gives what taking standard input gives, and no other name takes it.
         ensures stdin { MatchBool (is_dash name.now)
             (MatchResult result
             (λ file. TakesStdin self.old.stdin self.new.stdin file.place) (λ _. ⊥))

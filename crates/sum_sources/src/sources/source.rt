@@ -22,7 +22,7 @@ pub trait Source {
     /// Which names it opened, and what it answered. A source that isn't in memory keeps it for proofs alone.
     ghost state: { Self → SourceState };
 
-    /// Which answers are known by what it has in memory: any function.
+    /// Which answers are known, as any function of what it has in memory.
     ghost tells: { ToldAnswers };
 
     /// Opens the file of this name. Returns `OpenFault::Fault` if it can't be opened, and `OpenFault::Memory` only if

@@ -52,7 +52,7 @@ impl<'a, F: Input> Notes<ClosedFile<'a, F>> for Openings {
     ghost noted = { λ s x. after_closing s (F.state x.0.now) };
 }
 
-// The openings of a source, but for those of `-`.
+// The openings of a source, without those of `-`.
 #[derive(Clone, Copy)]
 pub(crate) struct OthersOf<'a, S>(pub(crate) &'a S);
 
@@ -62,7 +62,7 @@ impl<'a, S: Source> Notes<OthersOf<'a, S>> for Openings {
     ghost noted = { λ _ x. without_dash (S.state x.0.now) };
 }
 
-// It is the file that the source opens next, by this name.
+// These are the reads, none so far, of the file that a source with this log opens next, by this name.
 impl<'a> Notes<(&'a SourceLog, &'a [u8])> for Reads {
     ghost noted = { λ _ x. opened_file tells_none x.0.now x.1.now };
 }

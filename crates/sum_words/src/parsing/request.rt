@@ -43,7 +43,7 @@ pub fn read_words<'a, A: Allocator>(
         ScannedOptions::Options(chosen) => chosen,
         ScannedOptions::Early(request) => return request,
     };
-    // Not `?`: the borrow checker has no rule for it if the error holds a `&'static str`.
+    // `?` isn't used: the borrow checker has no rule for it if the error holds a `&'static str`.
     let kind = match asked_kind(chosen.length) {
         Ok(kind) => kind,
         Err(fault) => return Err(fault),
@@ -147,7 +147,7 @@ fn asked_kind(length: Option<&[u8]>) -> Result<Option<Kind>, WordFault<'_>>
 {
     match length {
         None => Ok(None),
-        // Not `?`, as above.
+        // `?` isn't used, as above.
         Some(value) => match length_kind(value) {
             Ok(kind) => Ok(Some(kind)),
             Err(fault) => Err(fault),
