@@ -16,20 +16,20 @@ Rotates k a b = (j : ℕ) → j < 4
     (zip2 (λ x n. x * 2 ^ n % 2 ^ 64) (zip2 bit_xor a b) ((64 - k) ∷ (64 - k) ∷ (64 - k) ∷ (64 - k) ∷ [])) ! j
     ≡ (a ! j ⊻ b ! j) ⋙ k
 
--- so it is for one lane
+-- for one lane, two shifts and an or are a rotation
 rotates : (k x : ℕ) → 0 < k → k < 64 → bit_or (x / 2 ^ k) (x * 2 ^ (64 - k) % 2 ^ 64) ≡ x ⋙ k
 rotates k x low high =
     let right : k % 64 ≡ k = omega arith in
     let left : (64 - k) % 64 ≡ 64 - k = omega arith in rw (rotate_right, right, left) refl
 
--- and for rows of four words
+-- for rows of four words, two shifts and an or of each lane are a rotation
 pub shifts_rotate : (k : ℕ) → 0 < k → k < 64 → (a : List ℕ) → length a ≡ 4 → (b : List ℕ) → length b ≡ 4 → Rotates k a b
 shifts_rotate k low high (a ∷ b ∷ c ∷ d ∷ []) four (e ∷ f ∷ g ∷ h ∷ []) too =
     below_four _ (rotates k (a ⊻ e) low high) (rotates k (b ⊻ f) low high) (rotates k (c ⊻ g) low high)
     (rotates k (d ⊻ h) low high)
 shifts_rotate k low high _ four _ too = absurd (omega arith)
 
--- word j of each row
+-- column j: word j of each row
 abbrev column : List (List ℕ) → ℕ → List ℕ
 column v j = map (λ i. row v i ! j) (range_with_len 0 4)
 

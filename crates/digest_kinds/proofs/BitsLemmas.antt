@@ -22,7 +22,7 @@ digits-test = record {
   more = λ c cs range all. grind (arith, All-cons, all);
 }
 
--- and the number that they write
+-- the library's digits write the same number
 numerals : IsNumeralModel (AllPass is_ascii_digit) (digits_value 10)
 numerals = numerals_by_value _ digits-test
 
@@ -34,7 +34,7 @@ decimal-digits len few = digits_decimal numerals (8 * len) (omega (arith, few))
 short_number-is : (ds : List ℕ) → 48 < get_or ds 0 0 → length ds ≤ 3 → short_number ds ≡ Some (digits_value 10 ds)
 short_number-is ds lead few = grind arith
 
--- only such digits are a number
+-- only one to three digits without a leading zero are a number
 short_number-some : (ds : List ℕ) (v : ℕ) → short_number ds ≡ Some v
     → (v ≡ digits_value 10 ds) × (get_or ds 0 0 ≢ 48) × (0 < length ds) × (length ds ≤ 3)
 short_number-some ds v h = grind arith

@@ -17,12 +17,12 @@ pub record HasWidth (a : Algo) (s : List ℕ) (w : KindValue × List ℕ) : Type
   pub is_width : IsWidth w.0 width
   pub whole : s ≡ width ++ w.1
 
--- nothing, for the full length
+-- a kind of the full length has no width
 width-none : (a : Algo) (s : List ℕ) (w : KindValue × List ℕ) → Some (full_kind a, s) ≡ Some w → HasWidth a s w
 width-none a s w h = rw (← same_Some (full_kind a, s) w h)
     (record { is_algo = refl; width = []; is_width = inl (refl, refl); whole = refl })
 
--- the bits of BLAKE2b
+-- the width of a BLAKE2b kind is its bits
 width-bits : (s : List ℕ) (w : KindValue × List ℕ)
     → option_map (λ k. (k, after_while is_ascii_digit s)) (kind_of_digits (take_while is_ascii_digit s)) ≡ Some w
     → HasWidth Blake2b (45 ∷ s) w
@@ -36,7 +36,7 @@ width-bits s w h =
       whole = ap (λ l. 45 ∷ l) (prefix-and-rest is_ascii_digit s);
     })
 
--- either of them, as a `-` follows BLAKE2b's tag or not
+-- what is read after a tag has a width: the bits if a `-` follows BLAKE2b's tag, and otherwise none
 pub kind_and_rest-some : (a : Algo) (s : List ℕ) (w : KindValue × List ℕ) → kind_and_rest a s ≡ Some w → HasWidth a s w
 kind_and_rest-some Blake2b [] w h = width-none Blake2b [] w h
 kind_and_rest-some Blake2b (b ∷ bs) w h = elim (eqb_tells b 45) [
@@ -57,7 +57,7 @@ pub kind_and_rest-alone : (kind : KindValue) (width : List ℕ) → IsWidth kind
     → kind_and_rest kind.algo width ≡ Some (kind, [])
 kind_and_rest-alone kind width is = search (rules, digits-alone, decimal-digits, kind_of_digits-bits)
 
--- so a kind that a text names is read after the tag that begins the text, and nothing follows
+-- a kind that a text names is read after the tag that begins the text, and nothing follows
 pub named_read : (s : List ℕ) (a : Algo) (kind : KindValue) → BeginsWithTag s a → NamesKind s kind
     → kind_and_rest a (drop (length (tag a)) s) ≡ Some (kind, [])
 named_read s a kind begun named =
@@ -67,7 +67,7 @@ named_read s a kind begun named =
     rw (← same, named.1, drop_at (tag kind.algo) named.0 (length (tag kind.algo)) refl)
     (kind_and_rest-alone kind named.0 named.2)
 
--- and the text names what is read so
+-- if a kind is read after the tag that begins a text, and nothing follows, the text names it
 pub read_named : (s : List ℕ) (a : Algo) (kind : KindValue) → BeginsWithTag s a
     → kind_and_rest a (drop (length (tag a)) s) ≡ Some (kind, []) → NamesKind s kind
 read_named s a kind begun read =
@@ -81,10 +81,10 @@ pub kind_text_short : (kind : KindValue) → has_len kind.algo kind.len ≡ true
     → codes "BLAKE2b-" ++ decimal (8 * kind.len) ≡ kind_text kind
 kind_text_short kind has short = grind (arith, has_len-full)
 
--- its bits have at most three digits
+-- the bits of a BLAKE2b kind have at most three digits
 pub length_bits : (len : ℕ) → len ≤ 64 → length (decimal (8 * len)) ≤ 3
 length_bits len few = length-decimal-le 3 (8 * len) (omega arith) (omega (arith, few)) (omega (arith, few))
 
--- the text is ASCII
+-- the text of a kind is ASCII, and so UTF-8
 pub IsUtf8-kind_text : (kind : KindValue) → has_len kind.algo kind.len ≡ true → IsUtf8 (kind_text kind)
 IsUtf8-kind_text kind has = search (rules, IsUtf8-from_ascii, IsAscii-append, IsAscii-decimal, has_len-range)

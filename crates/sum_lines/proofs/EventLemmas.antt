@@ -71,18 +71,18 @@ OffersEach-then a b c (offer_piece p ∷ es) fs h k = OffersEach-then _ b c es f
 OffersEach-then a b c (write_byte x left ∷ es) fs (inl h) k = inl (OffersEach-then a b c es fs h k)
 OffersEach-then a b c (write_byte x left ∷ es) fs (inr h) k = inr (h.0, OffersEach-then _ b c es fs h.1 k)
 
--- nothing
+-- no events happened to an unchanged sink
 pub Gets-none : {a : SinkState} → Gets a a []
 Gets-none {a} = record { offered = refl; written = sym (append-nil a.written) }
 
--- some events, and then others
+-- some events happened, and then others
 pub Gets-then : {a b c : SinkState} {p q : List OutputEvent} → Gets a b p → Gets b c q → Gets a c (p ++ q)
 Gets-then {a} {b} {c} {p} {q} h k = record {
   offered = OffersEach-then a.offered b.offered c.offered p q h.offered k.offered;
   written = let first = h.written in let then = k.written in grind (arith, append_assoc, filter_map-append);
 }
 
--- after some events, a prefix of others
+-- some events happened, and then a prefix of others
 pub GetsPrefix-then : {a b c : SinkState} {p q : List OutputEvent} → Gets a b p → GetsPrefix b c q
     → GetsPrefix a c (p ++ q)
 GetsPrefix-then {p} h k =

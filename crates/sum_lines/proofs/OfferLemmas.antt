@@ -17,7 +17,7 @@ record Takes (n : ℕ) (left : List ℕ) : Type 0 where
   offers : (old new : List (List ℕ)) (es : List OutputEvent) → OffersEach (old ++ again (drop n left)) new es
       → OffersEach old new (events ++ es)
 
--- after a byte what is left is offered again, if anything is
+-- after a byte was written, what is left of its piece is offered again, if anything is
 offered-again : (b : ℕ) (left : List ℕ) (old new : List (List ℕ)) (es : List OutputEvent)
     → OffersEach (old ++ again left) new es → OffersEach old new (write_byte b left ∷ es)
 offered-again b [] old new es h = inl (rw append-nil at h)
@@ -43,7 +43,7 @@ pub record HasGiven (a b : SinkState) (text rest : List ℕ) : Type 0 where
   pub written : b.written ≡ a.written ++ filter_map written_byte events
   pub failures : b.failures ≡ a.failures
 
--- at first all of it
+-- at first all of the text is the rest
 pub HasGiven-none : (a : SinkState) (text : List ℕ) → length text ≤ 8192 → HasGiven a a text text
 HasGiven-none a [] fits = record {
   events = [];
@@ -73,7 +73,7 @@ HasGiven-more (x ∷ xs) (suc n) h some (within, taken, is) = let t = takes n (x
   failures = h.failures;
 })
 
--- all of it was accepted
+-- all of the text was accepted
 pub HasGiven-all : {a b : SinkState} {text : List ℕ} (rest : List ℕ) → HasGiven a b text rest → rest ≡ []
     → GivesAll {E = Unit {0}} a b text (Ok tt)
 HasGiven-all {b = b} [] h none =

@@ -20,7 +20,7 @@ text line = mark_and_rest (after_while is_blank line)
 pub mark_and_rest-is : (xs : List ℕ) → xs ≡ mark (mark_and_rest xs).0 ++ (mark_and_rest xs).1
 mark_and_rest-is xs = grind arith
 
--- what was passed over began the bytes
+-- a prefix that was stripped began the bytes
 pub strip_prefix-some : (xs ys zs : List ℕ) → strip_prefix xs ys ≡ Some zs → ys ≡ xs ++ zs
 strip_prefix-some xs ys zs h = grind (arith, starts_is)
 
@@ -37,7 +37,7 @@ pub opened-some : (s inner : List ℕ) → option_or (strip_prefix (32 ∷ 40 �
     → (gap : Bool) × (s ≡ opening gap inner)
 opened-some s inner h = grind arith
 
--- and a parenthesis in such a place is found
+-- an opening parenthesis, with a space before it or without, is found
 pub opened-at : (gap : Bool) (inner : List ℕ) → let s = opening gap inner in
     option_or (strip_prefix (32 ∷ 40 ∷ []) s) (strip_prefix (40 ∷ []) s) ≡ Some inner
 opened-at gap inner = grind arith
@@ -63,7 +63,7 @@ last_byte c s (suc n) = step (get_or s n 0 == c) refl (rfind_below c s n) (last_
       h.1,
     )
 
--- so what is split at the last such byte is what precedes it, and what follows it
+-- a split at the last byte c gives what precedes that byte, and what follows it
 pub last_split : (c : ℕ) (s : List ℕ) (r : Option ℕ) → IsLastByte (is_byte c) s r
     → rsplit_once c s ≡ option_map (λ k. (take k s, drop (k + 1) s)) r
 unfolding rsplit_once
@@ -71,7 +71,7 @@ last_split c s r last =
     let found = IsLastByte-value (is_byte c) s (rfind_below c s (length s)) (last_byte c s (length s)) in
     rw (found, ← IsLastByte-value (is_byte c) s r last) refl
 
--- the parts join again, with that byte between
+-- the parts of a split at the last byte c, with c between them, are the bytes
 pub rsplit-some : (c : ℕ) (s : List ℕ) (p : List ℕ × List ℕ) → rsplit_once c s ≡ Some p → s ≡ p.0 ++ (c ∷ p.1)
 unfolding rsplit_once
 rsplit-some c s p h =
@@ -79,17 +79,17 @@ rsplit-some c s p h =
     let last = rw found.1 at (last_byte c s (length s)) in
     rw (← found.2) (grind (arith, common_steps))
 
--- what follows a byte
+-- dropping some bytes and the byte after them leaves what follows
 pub rest-seam : (xs : List ℕ) (b : ℕ) (ys : List ℕ) → drop (length xs + 1) (xs ++ (b ∷ ys)) ≡ ys
 rest-seam [] b ys = refl
 rest-seam (x ∷ xs) b ys = grind (arith, rest-seam xs b ys)
 
--- places after a byte are those of what follows it
+-- no place after a byte has c, if nothing that follows the byte is c
 after_seam : (xs : List ℕ) (c : ℕ) (ys : List ℕ) → All (λ x. x ≢ c) ys → (i : ℕ) → length xs < i
     → i < length (xs ++ (c ∷ ys)) → get_or (xs ++ (c ∷ ys)) i 0 ≢ c
 after_seam xs c ys all i more less = grind (arith, get_or-append_right, All-get_or, length-append)
 
--- if what follows a byte has none of it, the split is there
+-- if nothing that follows a byte c is c, the split at the last c is there
 pub rsplit-at : (c : ℕ) (xs ys : List ℕ) → All (λ x. x ≢ c) ys → rsplit_once c (xs ++ (c ∷ ys)) ≡ Some (xs, ys)
 rsplit-at c xs ys all =
     let s = xs ++ (c ∷ ys) in

@@ -79,7 +79,7 @@ accepts_front a b c piece given n full cut room gives some count sink buffered =
       },
     )
 
--- so they were once there was room
+-- the first bytes of a piece were accepted, after room was made for them
 pub accepts_some : {a b : BufferState} (c : BufferState) (piece : List ℕ) (n : ℕ)
     → MakesRoom {E = Unit {0}} a b (Ok tt) → 0 < length piece → n ≡ min (length piece) (8192 - length b.buffered)
     → c.sink ≡ b.sink → c.buffered ≡ b.buffered ++ take n piece
@@ -90,7 +90,7 @@ accepts_some {a} {b} c piece n (inl (full, none, gives)) some count sink buffere
 accepts_some {a} {b} c piece n (inr (room, same, ok)) some count sink buffered = rw (← same) (accepts_front
     b b c piece [] n refl refl (rw same room) (Gets-none, refl) some count sink buffered)
 
--- the sink failed
+-- the sink failed when room was made, so the write of the piece failed
 pub accept_failed : {a b : BufferState} (piece : List ℕ) → MakesRoom {E = Unit {0}} a b (Err tt) → 0 < length piece
     → FailsToWrite a b piece
 accept_failed {a} piece (inl (full, none, gives)) some = record {
@@ -117,7 +117,7 @@ pub record HasLeft (a b : BufferState) (text rest : List ℕ) : Type 0 where
 pub HasLeft-all : {a : BufferState} {text : List ℕ} → HasLeft a a text text
 HasLeft-all = record { prefix = []; cut = refl; wrote = Accepts-nil }
 
--- that is how a loop begins
+-- what a loop that writes a text begins with
 pub ruleset at_first = (HasLeft-all)
 
 -- a piece of the rest was accepted
@@ -129,7 +129,7 @@ HasLeft-step piece left cut written = record {
   wrote = Accepts-trans left.prefix piece left.wrote written;
 }
 
--- a piece of the rest failed: so did the whole text
+-- a piece of the rest failed, and so the whole text did
 pub HasLeft-stop : {E : Type 0} {a b c : BufferState} {text rest piece : List ℕ} (more : List ℕ)
     (r : Result (Unit {0}) E) → HasLeft a b text rest → rest ≡ piece ++ more → FailsToWrite b c piece → IsErr r
     → WritesAll a c text r
