@@ -5,7 +5,7 @@ use Rattle.sum_lines.specs.Sinks.{ByteString, SinkState, Gets, GivesAll}
 use Rattle.sum_lines.specs.Buffers.{BufferState, IsFlushed}
 use Rattle.sum_engine.specs.refinement.FlushedWrites.{WritesAndFlushes}
 
--- nothing has no prefix but nothing
+-- the empty list has no prefix but itself
 no_prefix : {A : Type 0} (prefix rest : List A) → [] ≡ prefix ++ rest → prefix ≡ []
 no_prefix [] rest h = refl
 no_prefix (b ∷ bs) rest h = cc

@@ -7,7 +7,7 @@ use Rattle.sum_words.specs.{Arguments.ArgumentsState, Arguments.AreOf, CommandLi
 use Rattle.sum_words.specs.declared.tool.Tool.{Tool}
 use Rattle.digests.specs.{Meaning.meaning, Meaning.status_of, Program.CommandPerforms, InMemory.MeansInMemory, InMemory.CommandPerformsIn, InMemory.ProgramInMemory}
 
--- so the behavior is performed by these answers
+-- if all answers are told, a call performs the behavior by these answers
 performs_told : {Whole : Type 0} (tells : ToldAnswers) (run : World → Behavior) (answer : Answers) (a b : StreamsState) (r : Result ℕ Stop)
     → ToldAgree tells b.inputs → TellsAll tells a.inputs.told answer → IsFlushed a.outputs
     → Performs run status_of a b r
@@ -23,7 +23,7 @@ in_memory tells b agree tool words answer a r all flushed did reads =
 
 -- ---- the program
 
--- a call of the tool, or of none
+-- if all answers are told, a call of a tool, or of none, is performed by these answers
 command_told : {Whole : Type 0} (tells : ToldAnswers) (line : Option (Tool × List ByteString)) (answer : Answers) (a b : StreamsState)
     (status : ℕ) → ToldAgree tells b.inputs → TellsAll tells a.inputs.told answer → IsFlushed a.outputs
     → ReadsToEndIf Whole a.inputs b.inputs → CommandPerforms line a b status

@@ -35,7 +35,7 @@ module _ (algos : Algos) (files later : ByteString → Answer) where
       → digest_or_fault s.kind (answer_to w name) ≡ Ok (digest s.kind (bytes_of (files name)))
   read-is w s name has h = rw (has name (times name w.opened) h.no_dash) (search rules)
 
-  -- so its line is written, and for all names their lines, one after another
+  -- a run writes the lines of all its names, one after another
   lines-are : (s : Settings) (tool : ByteString) (names : List ByteString) (w : World) → HasFiles w files
       → s.style.zero ≡ false → All (IsListable files) names
       → out_text (operands_behavior (generate_behavior s tool) w names)

@@ -11,12 +11,12 @@ use Rattle.sum_engine.proofs.ExecutionLemmas.{step_performed, kind-all, kind-non
 
 -- ---- a behavior after a step, and one behavior after another
 
--- both happened
+-- two lists of steps happened, one after the other, so both together did
 pub behavior_then-happened : {a b c : StreamsState} (r s : List Step) → Happened a b (trace r) → Happened b c (trace s)
     → Happened a c (trace (r ++ s))
 behavior_then-happened r s h k = rw (flat_map-append events_of r s) (Happened-then (trace r) (trace s) h k)
 
--- the first happened, and the second stopped
+-- the first steps happened and those after them stopped, so both together stopped
 pub behavior_then-second : {A B : Type 0} {a b : StreamsState} (c : StreamsState) (x : A) (y : B) (r s : List Step)
     (stop : Stop)
     → Happened a b (trace r) → PerformsSteps s y b c (Err stop) → PerformsSteps (r ++ s) x a c (Err stop)
@@ -32,7 +32,7 @@ behavior_then-second {b} c x y r s Memory h k = record {
   cause = rw h.inputs.refusals at k.cause;
 }
 
--- the first stopped
+-- the first steps stopped, so both together stopped
 pub behavior_then-first : {A B : Type 0} (a b : StreamsState) (x : A) (y : B) (r s : List Step) (stop : Stop)
     → PerformsSteps r y a b (Err stop) → PerformsSteps (r ++ s) x a b (Err stop)
 behavior_then-first a b x y r s Write h = (h.0, h.1 ++ trace s, search (rules, flat_map-append, append_assoc), h.3)
@@ -47,18 +47,18 @@ behind_step c x s r (Err stop) h k = behavior_then-second c x x (s ∷ []) r sto
 
 -- ---- along a run
 
--- of the whole run all happened but what is left
+-- all of the whole behavior has happened, except what is left
 pub record HasDoneUpTo (whole left : Behavior) (a b : StreamsState) : Type 0 where
   pub done : List Step
   pub steps : whole.steps ≡ done ++ left.steps
   pub good : left.good ≡ whole.good
   pub happened : Happened a b (trace done)
 
--- nothing happened so far
+-- nothing has happened so far, so the whole behavior is left
 pub done_none : (whole : Behavior) (a : StreamsState) → HasDoneUpTo whole whole a a
 done_none whole a = record { done = []; steps = refl; good = refl; happened = Happened-none a }
 
--- one step more happened
+-- one more step happened
 pub done_more : {a b c : StreamsState} {whole left : Behavior} (step : Step) (later : Behavior)
     → HasDoneUpTo whole left a b → left ≡ step_then step later → Happened b c (trace (step ∷ []))
     → HasDoneUpTo whole later a c
@@ -69,7 +69,7 @@ done_more step later h is k = record {
   happened = behavior_then-happened h.done (step ∷ []) h.happened k;
 }
 
--- the next step stopped
+-- the next step stopped, so the whole behavior stopped
 pub done_stops : {A B : Type 0} {a b : StreamsState} {whole left : Behavior} (c : StreamsState) (x : A) (y : B)
     (step : Step) (later : Behavior) (stop : Stop) → HasDoneUpTo whole left a b → left ≡ step_then step later
     → PerformsSteps (step ∷ []) y b c (Err stop) → PerformsSteps whole.steps x a c (Err stop)
@@ -81,7 +81,7 @@ done_stops {a = a} {b = b} c x y step later stop h is k =
 
 -- ---- a run of one step
 
--- the step was done, or a prefix of it
+-- the one step of a behavior was done, or a prefix of it, so the behavior was performed
 pub Performs-step : {A : Type 0} (run : World → Behavior) (outcome : Bool → A) (good : Bool) (a b : StreamsState)
     {names : List (List ℕ)} {err out : List ℕ} {x : Result A Stop} → AsksNames a.inputs b.inputs names
     → ((w : World) → Agrees w b.inputs → run (world_at w a.inputs) ≡ single_step names err out good)
@@ -99,14 +99,14 @@ Performs-refused run outcome a b first refused outputs = λ flushed w agrees.
 
 -- ---- what a run's events come to
 
--- the events of several steps are, of each kind, those of one after the other
+-- the events of one kind in several steps are those in one step after the other
 kind_of_events : {X : Type 0} (h : Event → Option X) (part : Step → List X)
     → ((s : Step) → filter_map h (events_of s) ≡ part s) → (steps : List Step)
     → filter_map h (trace steps) ≡ flat_map part steps
 kind_of_events h part one [] = refl
 kind_of_events h part one (s ∷ steps) = search (rules, filter_map-append, kind_of_events h part one steps)
 
--- the bytes of texts, one after another
+-- the bytes that texts write are these texts, one after another
 bytes_of_texts : (part : Step → List ℕ) (steps : List Step)
     → filter_map written_byte (flat_map (λ s. output_events (part s)) steps) ≡ flat_map part steps
 bytes_of_texts part [] = refl

@@ -23,7 +23,7 @@ shown name = if is_dash name then codes "standard input" else name
 
 -- the manifest of that name is checked, from the streams a
 module _ (settings : CheckSettings) (tool name : List ℕ) (a : StreamsState) where
-  -- what a call does
+  -- what a call that checks this manifest performs
   abbrev Performed : StreamsState → Result Bool Stop → Type 0
   Performed b x = Performs (λ w. check_behavior settings tool w name) (λ g. g) a b x
 
@@ -31,7 +31,7 @@ module _ (settings : CheckSettings) (tool name : List ℕ) (a : StreamsState) wh
   abbrev from_inputs : SourceState → StreamsState
   from_inputs inputs = record a { inputs = inputs }
 
-  -- it was opened, run and closed: the opening happened, and the behavior of the content comes behind it
+  -- the manifest was opened, run and closed: its opening happened, and then the behavior of its content
   pub check_opened : {Whole : Type 0} (m n : SourceState) (s t : InputState) (b : StreamsState) (x : Result Bool Stop)
       → s.reads ≡ unread → WasOpened Whole a.inputs m b.inputs n name t
       → RunsManifest (rules_of settings (is_dash name)) (labels_of settings tool name) s t (from_inputs m) b x
@@ -65,7 +65,7 @@ module _ (settings : CheckSettings) (tool name : List ℕ) (a : StreamsState) wh
       rw (answer, ← world_after w a.inputs m (name ∷ []) o.asks, ← read)
       (fails_kept n o.asked o.refusals (fails_then (opening name) did ran))
 
-  -- it could not be opened, and the line of its fault was written, or a prefix of it
+  -- the manifest could not be opened, and the line of its fault was written, or a prefix of it
   pub refused : (m : SourceState) (f : Fault) (outputs : OutputsState) (x : Result Bool Stop)
       → m ≡ and_opening a.inputs name (Some (Err f))
       → WritesAndReturns a.outputs outputs (name_fault_line own_profile tool (shown name) f) [] false x
@@ -75,13 +75,13 @@ module _ (settings : CheckSettings) (tool name : List ℕ) (a : StreamsState) wh
       (record a { inputs = m; outputs = outputs }) (fault_asks a.inputs m name f opens)
       (λ w agrees. let answer = fault_answer a.inputs m name f opens w agrees in rw answer refl) said
 
-  -- and nothing was read of it
+  -- nothing was read of a manifest that could not be opened
   pub not_read : (m : SourceState) (f : Fault) (outputs : OutputsState) → m ≡ and_opening a.inputs name (Some (Err f))
       → FailsAtLine (λ w. check_behavior settings tool w name) name a (record a { inputs = m; outputs = outputs })
   not_read m f outputs opens = λ flushed w agrees c answer r gave.
       let fault = fault_answer a.inputs m name f opens w agrees in cc
 
-  -- there was no memory to open it
+  -- there was no memory to open the manifest
   pub no_room : (m : SourceState) → MemoryWasRefused a.inputs m → Performed (from_inputs m) (Err Memory)
   no_room m refused =
       Performs-refused (λ w. check_behavior settings tool w name) (λ g. g) a (from_inputs m)

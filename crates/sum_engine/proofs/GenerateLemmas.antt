@@ -7,7 +7,7 @@ use Rattle.sum_engine.specs.declared.hash_name.HashFault.TheVariants.{NotOpened,
 use Rattle.sum_engine.specs.Generation.{Settings, generate_behavior_by}
 use Rattle.sum_engine.specs.Execution.{AsksNames, Agrees, world_at}
 
--- the fault that was found is what the definitions say of the answer, and the name was asked
+-- the fault that was found is what the definitions say of the answer, and the name was opened
 pub fault_found : {kind : KindValue} {name : List ℕ} {a b : SourceState} (e : HashFault) (f : Fault) → Ok f ≡ fault_in e
     → HashesName kind name a b (Err e) → AsksNames a b (name ∷ [])
     × ((w : World) → Agrees w b → digest_or_fault kind (answer_to (world_at w a) name) ≡ Err f)
@@ -15,7 +15,7 @@ fault_found (NotOpened e) f is h = (h.asked, λ w agrees. rw (h.hash w agrees) (
 fault_found (NotRead e) f is h = (h.asked, λ w agrees. let hash = h.hash w agrees in search rules)
 fault_found Memory f is h = cc
 
--- or memory was refused
+-- if there is no fault of the name, memory was refused
 pub refused_memory : {kind : KindValue} {name : List ℕ} {a b : SourceState} (e : HashFault) (f : NoRoom)
     → Err f ≡ fault_in e → HashesName kind name a b (Err e) → MemoryWasRefused a b
 refused_memory Memory f is h = h.asked

@@ -13,7 +13,7 @@ use Rattle.sum_engine.specs.{Execution.Agrees, Execution.world_at, refinement.Na
 use Rattle.sum_engine.specs.refinement.Judging.{TakesLine, parsed_at, found_verdict}
 use Rattle.sum_engine.proofs.{WorldLemmas.world_after, RemainingLemmas.remaining_next}
 
--- without memory the world is where it was
+-- if memory was refused, the world is where it was
 refused_world : (w : World) (a b : SourceState) → MemoryWasRefused a b ⊎ (b ≡ a) → world_at w b ≡ world_at w a
 refused_world w a b (inl refused) = ap (world_at w) refused
 refused_world w a b (inr same) = ap (world_at w) same

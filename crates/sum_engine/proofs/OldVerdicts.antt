@@ -25,7 +25,7 @@ ended_clean e (p ∷ ps) tail free =
     All-cons HasNoCarriageReturn p (ps ++ last_line e tail) (front_clean p _ (front_clean (p ++ 10 ∷ []) _ whole))
     (ended_clean e ps tail (rest_clean (p ++ 10 ∷ []) _ whole))
 
--- so no line of a content has one
+-- no line of a content without a carriage return has one
 pieces_clean : (c : Content) → HasNoCarriageReturn c.bytes → All HasNoCarriageReturn (raw_lines c)
 pieces_clean c free =
     let all = cut c.bytes in
@@ -96,12 +96,12 @@ module _ (r : Rules) (labels : LabelsValue) where
         by report = rw (same_escape labels.manifest own) refl
     end_same (Broken f) c = search (rules, same_escape)
 
-    -- so are the reports of a verdict whose name holds none
+    -- the reports of a verdict whose name has no carriage return are the same
     reports_same : (j : LineVerdictValue) → CleanName j
         → (err_of old labels j ≡ err_of new labels j) × (out_of old labels j ≡ out_of new labels j)
     reports_same j free = search (rules, same_escape)
 
-    -- and the steps
+    -- the steps of verdicts whose names have no carriage return are the same
     steps_same : (end : List ℕ) (c : Content) (js : List LineVerdictValue) → All CleanName js
         → line_steps old labels end c js ≡ line_steps new labels end c js
     steps_same end c [] all = refl

@@ -96,7 +96,7 @@ module _ (tells : ToldAnswers) {name : List ℕ} {a m b n : SourceState} {s : In
     hashed_once same read = was_opened tells is opens same read (reads_none m)
         (closes ∙ ap (λ (m : SourceState). after_closing m t) kept)
 
-    -- it was hashed, or that failed
+    -- the opened name was hashed, or that failed
     pub name_hashed : {kind : KindValue} (found : Result (List ℕ) Fault) → HashesInput kind s t found
         → IfOk found (λ d. length d ≡ kind.len) → HashesName kind name a n (hash_of found)
     name_hashed {kind} (Ok d) h len =
@@ -114,7 +114,7 @@ module _ (tells : ToldAnswers) {name : List ℕ} {a m b n : SourceState} {s : In
         hash_is kind t.reads (Err f) ((rw fresh at h.digest) refl) _ (o.answer w agrees) in
         search rules
 
--- it could not be opened
+-- the name could not be opened
 pub name_not_opened : (F : Type 0) {kind : KindValue} {name : List ℕ} {a m : SourceState} (f : OpenFault)
     → m ≡ after_opening {F = F} a name (Err f) → HashesName kind name a m (Err (fault_of_opening f))
 name_not_opened F {name = name} {a = a} {m = m} (faults.Fault f) opens =

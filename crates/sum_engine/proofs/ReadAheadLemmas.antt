@@ -16,14 +16,14 @@ use Rattle.sum_engine.proofs.{ExecutionLemmas.Happened-then, BehaviorLemmas.HasD
 
 -- ---- what was read of a content
 
--- reads that didn't go past an end gave no more bytes than it has
+-- reads of a content that didn't go past its end gave no more bytes than it has
 read_fits : (phase : Phase) (bytes : List ℕ) (c : Content) → ¬ (phase ≡ Past) → IsReadTo phase bytes c
     → length bytes ≤ length c.bytes
 read_fits Unfinished bytes c past of = rw (of.1, length-append bytes of.0) (omega arith)
 read_fits (Ended e) bytes c past of = rw of (omega arith)
 read_fits Past bytes c past of = absurd (past refl)
 
--- and up to the limit not many more than it has below the limit
+-- up to the limit, a content has at most 8,192 bytes more than it has below the limit
 clip_fits : (n : ℕ) (c : Content) → n ≤ length c.bytes → n ≤ 2 ^ 61 → n ≤ length (clip c).bytes + 8192
 clip_fits n c fits few = grind (arith, limit-value, length-take)
 
@@ -33,7 +33,7 @@ read_fits_clip phase bytes c past of few = clip_fits (length bytes) c (read_fits
 
 -- ---- the step at which a write failed
 
--- before the steps that remain, the bytes remain that do
+-- the bytes that remain before the remaining steps are the remaining bytes of the content
 remaining_before-left : (r : Rules) (labels : LabelsValue) (a : CheckState)
     → remaining_before (remaining_behavior r labels a).steps ≡ length a.remaining.bytes
 remaining_before-left r labels a =

@@ -14,7 +14,7 @@ parse_line_now : (r : Rules) (a : CheckState) (l : List ℕ) (ls : List (List �
     ≡ parse_line r.profile r.algo (form_then a.form (line_form r.algo l)) l
 parse_line_now r a l ls = search (rules, form_next, parse_stays)
 
--- the first of those that remain
+-- the remaining verdicts are that of the first line, and those of the later ones
 pub remaining_head : (r : Rules) (a : CheckState) (l : List ℕ) (ls : List (List ℕ))
     → lines_under r.profile a.remaining ≡ l ∷ ls
     → remaining_verdicts r a ≡ next_judged r a l ∷ verdicts r (form_then a.form (form r.algo (l ∷ ls)))
@@ -40,14 +40,14 @@ behavior_by r labels e k c js =
     let counts = counts_then k (counts_of js) in
     record { steps = line_steps r labels (end_text r labels e counts) c js; good = good r e counts }
 
--- it begins with the step of the first line
+-- the behavior of some verdicts begins with the step of the first
 behavior_by-cons : (r : Rules) (labels : LabelsValue) (e : Ending) (k : Counts) (c : Content)
     (j : LineVerdictValue) (js : List LineVerdictValue)
     → behavior_by r labels e k c (j ∷ js) ≡ step_then (line_step r labels (length c.bytes) j)
     (behavior_by r labels e (counts_with k j.verdict) (past_line c) js)
 behavior_by-cons r labels e k c j js = search rules
 
--- or with that of the end; before it all of the content remains
+-- a behavior has a first step, which may be the end; before it all of the content remains
 pub first_step : (r : Rules) (labels : LabelsValue) (e : Ending) (k : Counts) (c : Content)
     (js : List LineVerdictValue) → (s : Step) × (later : Behavior)
     × (behavior_by r labels e k c js ≡ step_then s later) × (s.remaining ≡ length c.bytes)

@@ -18,7 +18,7 @@ last_part-from path n fits none slash =
 
 -- ---- which tool is named
 
--- what the program's name names
+-- the tool that the last part of the program's name names
 abbrev pub named : ByteString → Option Tool
 named path = tool_called (after_last (λ b. b == 47) path)
 
@@ -35,13 +35,13 @@ pub FindsTool-none : (s : ArgumentsState) (path word : ByteString) → s.given �
 FindsTool-none s path word is none no_name = λ all agrees.
     rw (agrees.given, is, none, no_name) refl
 
--- no argument follows these
+-- no argument follows those that were given, so they are all
 pub ended : (s : ArgumentsState) (size : ℕ) (all : List ByteString) → s.fault ≡ Some (NotPresent, size) → AreOf s all
     → all ≡ s.given
 ended s size all fault agrees = let none = rw fault at agrees.fault in
     agrees.given ∙ ap (λ rest. s.given ++ rest) none ∙ append-nil s.given
 
--- so there is no argument at all, or none after the program's name
+-- there is no argument at all, so no tool is named
 pub FindsTool-missing : (s : ArgumentsState) (size : ℕ) → s.given ≡ [] → s.fault ≡ Some (NotPresent, size)
     → FindsTool s None
 FindsTool-missing s size is fault = λ all agrees. rw (ended s size all fault agrees ∙ is) refl
@@ -77,7 +77,7 @@ agrees_after s all buffer (Err NotPresent) agrees fills = record {
   fault = drop_at_none all (length s.given) fills;
 }
 
--- a call failed
+-- a call failed with a buffer of at least 4,096 bytes
 pub fails_now : (s t : ArgumentsState) (size : ℕ) → t ≡ record s { fault = Some (TooLong, size) } → 4096 ≤ size
     → Fails TooLong 4096 t t
 fails_now s t size is least = record { size = size; state = rw is refl; at_least = least }
@@ -96,7 +96,7 @@ next_longer {least} {a} all fails agrees =
     let (word, more, are, longer) = follows a.given fails.size all _ here.given here.fault in
     (word, more, are, omega (arith, fails.at_least, longer))
 
--- such an argument is among all
+-- an argument of which something holds is among all
 any_here : {P : ByteString → Type 0} (front : List ByteString) (x : ByteString) (back : List ByteString) → P x
     → Any P (front ++ x ∷ back)
 any_here front x back h = (length front, x, grind (arith, common_steps), grind (arith, common_steps), h)
@@ -122,7 +122,7 @@ some_word given [] word more all are = (word, more, rw append-nil at are)
 some_word given (first ∷ words) word more all are =
     (first, words ++ word ∷ more, are ∙ append_assoc given (first ∷ words) (word ∷ more))
 
--- so it is if the next call fails
+-- the next call fails since a longer word follows, so there is a first one
 pub word_longer : {least : ℕ} {a b : ArgumentsState} (given words all : List ByteString) → a.given ≡ given ++ words
     → Fails TooLong least a b → AreOf b all
     → (first : ByteString) × (rest : List ByteString) × (all ≡ given ++ first ∷ rest)
@@ -138,7 +138,7 @@ word_given given (first ∷ words) all s are some agrees =
     let rest = drop (length s.given) all in
     (first, words ++ rest, agrees.given ∙ ap (λ front. front ++ rest) are ∙ append_assoc given (first ∷ words) rest)
 
--- one more was given after some
+-- one more word was given after some, so there is a first one
 pub another_given : (a b : ArgumentsState) (given words all : List ByteString) (word : ByteString)
     → a.given ≡ given ++ words → Gives a b (Some word) → AreOf b all
     → (first : ByteString) × (rest : List ByteString) × (all ≡ given ++ first ∷ rest)
