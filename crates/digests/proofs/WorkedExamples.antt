@@ -1,4 +1,4 @@
--- Worked examples: the meaning of some command lines, computed. It has both texts, the names that are asked, and
+-- Worked examples: the meaning of some command lines, computed. It has both texts, the names that are opened, and
 -- whether all is good.
 use Prim.Native.String.{String}
 use Rattle.std.proofs.Common.{◌≡◌, ◌∙◌, ap, subst, ℕ, ◌++◌, Bool, List, [], ◌∷◌, refl, codes, true, false, flat_map, if◌then◌else◌, bytes_eq, Result, Ok, Err}
@@ -48,7 +48,7 @@ answer_with l name =
     else if bytes_eq name (codes "l") then Ok l
     else Err NotFound
 
--- both texts of a run, the names that it asks, and whether all is good
+-- both texts of a run, the names that it opens, and whether all is good
 record Outcome : Type 0 where
   out : ByteString
   err : ByteString
@@ -62,7 +62,7 @@ outcome tool words l input =
     let run = meaning tool words w in
     record { out = out_text run; err = err_text run; asks = asks run; good = run.good }
 
--- nothing is written and no name is asked, and all is good
+-- nothing is written, no name is opened, and all is good
 abbrev nothing : Outcome
 nothing = record { out = []; err = []; asks = []; good = true }
 
@@ -74,7 +74,7 @@ files : outcome Md5sum (words "a e") empty_content empty_content ≡ record noth
 unfolding meaning_on_literals
 files = refl
 
--- a missing file is told, and the others have a line each
+-- a missing file is reported, and the others have a line each
 missing_file : outcome Md5sum (words "a x e") empty_content empty_content ≡ record {
   out = lines ("900150983cd24fb0d6963f7d28e17f72  a" ∷ "d41d8cd98f00b204e9800998ecf8427e  e" ∷ []);
   err = lines ("md5sum: x: No such file or directory" ∷ []);
@@ -109,7 +109,7 @@ tagged : outcome B2sum (words "-l 256 --tag e") empty_content empty_content ≡ 
 unfolding meaning_on_literals
 tagged = refl
 
--- a fault before --help is told in place of the help
+-- a fault before --help is reported in place of the help
 unknown_option : outcome Md5sum (words "--foo --help") empty_content empty_content ≡ record nothing {
   err = lines ("md5sum: unrecognized option '--foo'" ∷ "Try 'md5sum --help' for more information." ∷ []);
   good = false;

@@ -116,7 +116,7 @@ bytes_of_texts part (s ∷ steps) =
     ∙ ap (λ l. l ++ filter_map written_byte all) (output_events-bytes (part s))
     ∙ ap (λ l. part s ++ l) (bytes_of_texts part steps)
 
--- so what happened of a run extends each output by the run's text there, and asks its names
+-- if the trace of a run happened, each output grew by the run's text for it, and its names were opened
 pub events_extend : EventsExtend
 events_extend r a b did =
     let names = kind_of_events opened_name (λ s. s.names)

@@ -171,7 +171,7 @@ module _ {I : Type 0} (state : I → InputState) (first : CheckerValue I) (m : S
     taken = refl;
   }
 
-  -- after a step more, which returned x, P holds if it follows of what happened before and of the step
+  -- after one more step, which returned x, P holds if it follows from what happened before and from the step
   one_more_step : {q : CheckerValue I} {n : StreamsState} (next : CheckerValue I) (o : StreamsState) (vector : List ℕ)
       (x : Result Progress Stop) {P : CheckState → CheckState → Type 0} → HasComeTo q n
       → AdvancesChecker state vector q next n o x → TakesStep state vector q.labels q.verdicts next.verdicts n o x

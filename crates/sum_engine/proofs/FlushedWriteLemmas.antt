@@ -8,7 +8,7 @@ use Rattle.sum_engine.specs.Execution.{OutputsState, Stop}
 
 -- ---- one output
 
--- a call that fails has one failure more
+-- a call that fails comes with one more failure
 failures_of : {E : Type 0} (a b : SinkState) (text : List ℕ) (r : Result (Unit {0}) E) → GivesAll a b text r
     → MatchResult r (λ u. b.failures ≡ a.failures) (λ e. b.failures ≡ a.failures + 1)
 failures_of a b text (Ok u) given = given.1
@@ -23,7 +23,7 @@ given_flushed a b text r given flushed = record {
   gives = λ none. rw none at given;
 }
 
--- a text was written, and then flushed, or that failed
+-- a text was written, and then the output was flushed, or its flush failed
 pub written_flushed : {E : Type 0} {a b : BufferState} (c : BufferState) (text : List ℕ) (r : Result (Unit {0}) E)
     → Accepts a b text → GivesAll b.sink c.sink b.buffered r → IsFlushed c → WritesAndFlushes a c text r
 written_flushed {a = a} c text r wrote given flushed =

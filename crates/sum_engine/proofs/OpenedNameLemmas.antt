@@ -91,7 +91,7 @@ hash_is kind r (Err f) hashes x (c, is, of) = let h = hashes c of in rw is (sear
 module _ (tells : ToldAnswers) {name : List ℕ} {a m b n : SourceState} {s : InputState} (t : InputState)
     (is : s ≡ opened_file tells a name) (opens : m ≡ and_opening a name None) (kept : b ≡ m) (closes : n ≡ after_closing b t)
   where
-    -- it was opened, and only read before it was closed
+    -- the name was opened, and its file was only read before it was closed
     hashed_once : {Whole : Type 0} → IsSameInput s t → IsAtEndIf Whole t.reads → WasOpened Whole a m m n name t
     hashed_once same read = was_opened tells is opens same read (reads_none m)
         (closes ∙ ap (λ (m : SourceState). after_closing m t) kept)

@@ -12,7 +12,7 @@ returns-in-Ok-clause-verdict g c =
     c.next_line.new.line.items _ (rw is at read.reader) read.bounds (rw is at read.line) c.self.invariant.2 _ refl
     (Ok _) done.takes done.asked done.verdict)
 
--- there was no memory to open its file
+-- there was no memory to open the file of the line's entry
 pub returns-in-Err-judge_line-clause-verdict : goal.returns-in-Err-judge_line-clause-verdict
 returns-in-Err-judge_line-clause-verdict g c =
     let read = c.in-Ok-Line.ensures in

@@ -9,7 +9,7 @@ has_content : (answer : Answer) (c : Content) → Some c ≡ result_ok answer �
 has_content (Ok d) c is = cc
 has_content (Err f) c is = cc
 
--- the names stay
+-- the names that were opened stay
 pub invariant_of-self-clause-names : goal.invariant_of-self-clause-names
 invariant_of-self-clause-names g c = rw (c.and-self.ensures, names-closed) c.args.self.now.names
 
