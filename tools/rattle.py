@@ -74,7 +74,7 @@ def without_comments(path):
 
 
 def uses_of(before, text):
-    """The names that the ghost `use` lines bring in which have this before them."""
+    """The names that `ghost use` lines bring in, where this pattern precedes the lines."""
     lines = re.findall(before + r"ghost (use [^;]*;)", text, re.MULTILINE)
     return {name: there for line in lines for name, there in imports_of(" ".join(line.split()))}
 

@@ -18,7 +18,7 @@ flushed_none b (Err e) given flushed =
     let (prefix, rest, is, gets) = rw flushed.0 at given.0 in
     rw (no_prefix prefix rest is) at gets
 
--- a line was written and flushed, or that failed
+-- a line was written and flushed, or its write failed
 pub writes_line : {E : Type 0} (a b : BufferState) (line : ByteString) (r : Result (Unit {0}) E)
     → WritesAndFlushes a b line r → IsFlushed a → (x : Result ⊤ ⊤) × GivesAll a.sink b.sink line x
 writes_line a b line (Ok u) wrote flushed = (Ok tt, wrote.gives flushed.0)

@@ -119,7 +119,7 @@ fn stage<'a, A: Allocator + Copy, const N: usize>(
     stage_until(input, source, (N, N))
 }
 
-// The same, with outputs that stop after this many bytes.
+// What a run works on, with outputs that stop after this many bytes.
 fn stage_until<'a, A: Allocator + Copy, const N: usize>(
     input: Told<'a>,
     source: ToldSource<'a, A>,
@@ -135,7 +135,7 @@ fn stage_until<'a, A: Allocator + Copy, const N: usize>(
 }
 
 // Runs a line, whose first word is the tool and whose words are separated by single spaces. Returns `None` if there is
-// no room for the words. It has no contract, so that the proofs of its callers are spared that of `run`.
+// no room for the words. It has no contract, so that its callers' proofs don't meet that of `run`.
 fn run_line<A: Allocator + Copy, const N: usize>(
     alloc: A,
     line: &str,
@@ -190,7 +190,7 @@ fn assert_example(
     assert_ended(rt, &streams, outcome, example)
 }
 
-// The same of each line, in whatever pieces they are read.
+// Asserts that each line does as its example says, in whatever pieces its input is read.
 fn assert_examples(
     rt: &(impl Abort + AllocGlobal),
     (input, ending): Given,

@@ -112,7 +112,7 @@ module _ {I : Type 0} {state : I → InputState} {vector : List ℕ} {p q : Chec
       let one = h.verdict.number v found in
       omega (arith, one, h.verdict.bounds)
 
--- if no file is counted as unread, none was before, and this line isn't counted so
+-- if no file is counted as unread, none was before, and this line's file isn't unread
 pub none_unread : {I : Type 0} (p q : VerdictsValue I) (found : VerdictResult) → q.counts ≡ counts_after p.counts found
     → q.counts.unread ≡ 0 → (p.counts.unread ≡ 0) × IsNotUnread found
 none_unread p q found counted none = search (rules, arith)

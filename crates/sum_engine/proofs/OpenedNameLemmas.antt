@@ -96,7 +96,7 @@ module _ (tells : ToldAnswers) {name : List ℕ} {a m b n : SourceState} {s : In
     hashed_once same read = was_opened tells is opens same read (reads_none m)
         (closes ∙ ap (λ (m : SourceState). after_closing m t) kept)
 
-    -- the opened name was hashed, or that failed
+    -- the opened name was hashed, or reading it failed
     pub name_hashed : {kind : KindValue} (found : Result (List ℕ) Fault) → HashesInput kind s t found
         → IfOk found (λ d. length d ≡ kind.len) → HashesName kind name a n (hash_of found)
     name_hashed {kind} (Ok d) h len =

@@ -81,7 +81,7 @@ HasGiven-all {b = b} [] h none =
     (rw (h.cut, append-nil h.events) (record { offered = offered; written = h.written }), h.failures)
 HasGiven-all (x ∷ xs) h none = cc
 
--- the rest was offered, and that failed
+-- the rest was offered, and the write of it failed
 pub HasGiven-failed : {a b c : SinkState} {text : List ℕ} (rest : List ℕ) → HasGiven a b text rest → 0 < length rest
     → WritesSome {E = Unit {0}} b c rest (Err tt) → GivesAll {E = Unit {0}} a c text (Err tt)
 HasGiven-failed [] h some is = absurd (omega (arith, some))

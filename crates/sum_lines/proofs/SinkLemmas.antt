@@ -51,7 +51,7 @@ FailsToWrite-in xs ys more first failed is = let own = first.cut in let then = f
   flushed = failed.flushed;
 }
 
--- a text's first part was accepted, and then the rest was written, or that failed
+-- a text's first part was accepted, and then the rest was written, or its write failed
 pub writes_then : {E : Type 0} {a b : BufferState} (c : BufferState) (xs ys : List ℕ) (r : Result (Unit {0}) E)
     → Accepts a b xs → WritesAll b c ys r → WritesAll a c (xs ++ ys) r
 writes_then c xs ys (Ok u) first rest = Accepts-trans xs ys first rest
@@ -137,7 +137,7 @@ HasLeft-stop more (Ok u) left cut failed err = cc
 HasLeft-stop {piece = piece} more (Err e) left cut failed err =
     FailsToWrite-in left.prefix piece more left.wrote failed (left.cut ∙ ap (λ l. left.prefix ++ l) cut)
 
--- a text's first part failed
+-- the write of a text's first part failed
 pub writes_stop : {E : Type 0} {a b : BufferState} (xs more : List ℕ) (r : Result (Unit {0}) E) → FailsToWrite a b xs
     → IsErr r → WritesAll a b (xs ++ more) r
 writes_stop xs more r failed err = HasLeft-stop more r HasLeft-all refl failed err
@@ -149,7 +149,7 @@ HasLeft-last {rest = rest} c r left last = rw left.cut (writes_then c left.prefi
 
 -- ---- a text, and a flush
 
--- a text was accepted, and then what was buffered was given to the sink, or that failed
+-- a text was accepted, and then the sink was given what was buffered, or failed
 pub given_after : {E : Type 0} {a b : BufferState} (c : SinkState) (text : List ℕ) (r : Result (Unit {0}) E)
     → Accepts a b text → GivesAll b.sink c b.buffered r → GivesAll a.sink c (a.buffered ++ text) r
 given_after {b = b} c text (Ok u) h given = rw (h.cut, output_events-append h.given b.buffered h.full)

@@ -39,7 +39,7 @@ fn refuses<S: Source>(rt: &impl Abort, source: &mut S, name: &[u8], fault: OpenF
     assert_eq!(rt; found, Some(fault));
 }
 
-// A source with two answers to a name, of which the first counts, and no room for this name. Without a contract, so
+// A source with two answers to a name, of which the first counts, and no room for this name. It has no contract, so
 // that no proof computes it.
 fn notes<'a, A: Allocator + Copy>(
     rt: &impl Abort,

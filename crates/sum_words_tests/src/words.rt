@@ -26,7 +26,7 @@ fn are(words: &Words<Global>, wanted: &[&[u8]]) -> bool {
         && words.get(wanted.len()).is_none()
 }
 
-// Whether these are the operands of words that ask for lines. Without a contract, as above.
+// Whether these are the operands of words that ask for lines. It has no contract, as above.
 fn are_operands(words: &Words<Global>, wanted: &[&[u8]]) -> bool {
     match read_words(Tool::Md5sum, words) {
         Ok(Request::Generate(_, operands)) => operands.eq(wanted.iter().copied()),
@@ -44,7 +44,7 @@ fn words_of_any_bytes(rt: HostRuntime) -> Result<(), Fail> {
     Ok(())
 }
 
-// Whether these are the items of the words. Without a contract, as above.
+// Whether these are the items of the words. It has no contract, as above.
 fn are_items(words: &Words<Global>, wanted: &[Item]) -> bool {
     Items::new(Tool::B2sum, words).eq(wanted.iter().copied())
 }
@@ -62,7 +62,7 @@ fn items(rt: HostRuntime) -> Result<(), Fail> {
     Ok(())
 }
 
-// Whether the arguments ask for this tool on these words. Without a contract, as above.
+// Whether the arguments ask for this tool on these words. It has no contract, as above.
 fn invoke(alloc: Global, arguments: &[&[u8]], tool: Tool, words: &[&[u8]]) -> bool {
     match read_command_line(alloc, &mut ToldArguments::new(arguments)) {
         Ok(CommandLine::Invoke(found, all)) => found == tool && are(&all, words),

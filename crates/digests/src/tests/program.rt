@@ -11,7 +11,7 @@ use sum_lines::{FromWrite, Sink, ToldSink};
 use sum_sources::{Ending, Inputs, Stdin, Told, ToldSource};
 use sum_words::ToldArguments;
 
-// The program itself. It has no contract, so that the proofs of its callers are spared that of `command`.
+// The program itself. It has no contract, so that its callers' proofs don't meet that of `command`.
 fn status_of<A: Allocator + Copy, O: Sink, E: Sink>(
     heap: A,
     arguments: &[&[u8]],

@@ -39,7 +39,7 @@ impl<'a> Told<'a> {
         Told::opened(content, ending, piece, ReadLog::of(&Reads))
     }
 
-    // The same, opened by a source.
+    // Creates such an input, opened by a source.
     pub(crate) fn opened(content: &'a [u8], ending: Ending, piece: usize, log: ReadLog) -> Told<'a>
         requires { log.reads ≡ unread }
         ensures { told_value result ≡ record {
