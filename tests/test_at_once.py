@@ -109,7 +109,7 @@ class OneFile(Case):
 
 
 class AfterAFailedWrite(Case):
-    """A list is read no further, but for what was read ahead."""
+    """A list is read no further than what was read ahead."""
 
     def test_what_the_next_program_finds(self):
         self.write("list", f"{M}  a\n" * 10000)

@@ -46,7 +46,7 @@ class SameLines(Beside):
                     self.assertEqual((ours, ours.status), (theirs, 0))
 
     def test_more_than_2_to_the_32_bits(self):
-        """A sparse file of 512 MiB and 5 bytes, whose number of bits passes 2^32: all tools side by side, and then,
+        """A sparse file of 512 MiB and 5 bytes, whose number of bits passes 2^32: all tools in parallel, and then,
         under anysum, all digests once more."""
         with open(self.path("large"), "wb") as file:
             file.truncate((1 << 29) + 5)

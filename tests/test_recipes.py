@@ -111,7 +111,7 @@ class Typed(Case):
             self.put(name)
 
     def files_of_the_tree(self):
-        """The names of all files of the tree, but for its list, as find gives them, and their contents."""
+        """The names of all files of the tree except its list, as find gives them, and their contents."""
         top, found = self.path("here"), {}
         for folder, _, names in os.walk(top):
             for name in names:

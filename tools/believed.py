@@ -91,7 +91,7 @@ def in_files(definitions):
 
 
 def made():
-    """The functions of ours that `main` calls, and those that functions of its crate call too, but for the claims."""
+    """The functions of ours that `main` calls, and those that functions of its crate call too, without the claims."""
     items, claimed = code().items, [claim[:2] for claim in CLAIMS]
     left, found = [it for it in items if (it.crate, it.file, it.name) == ("digests", "main.rt", "main")], []
     while left:

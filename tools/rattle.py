@@ -126,7 +126,7 @@ class Item(NamedTuple):
 
 
 class Code:
-    """The items of the program's crates, but for those of tests."""
+    """The items of the program's crates, without those of tests."""
 
     def __init__(self):
         self.items = []

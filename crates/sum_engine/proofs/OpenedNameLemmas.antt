@@ -20,7 +20,7 @@ pub record WasOpened (Whole : Type 0) (a m b n : SourceState) (name : List ℕ) 
   pub asks : AsksNames a m (name ∷ [])
   pub reads : ReadsToEndIf Whole a n
   pub gave : gave_at n.openings name (times name (asked a)) ≡ Some (Ok t.reads)
-  -- the closing leaves this
+  -- what the closing leaves as it is
   pub asked : asked n ≡ asked b
   pub refusals : n.refusals ≡ b.refusals
   pub agrees : (w : World) → Agrees w n → Agrees w b

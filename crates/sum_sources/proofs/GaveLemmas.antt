@@ -95,7 +95,7 @@ gave-closing (o ∷ os) name (suc k) r other = either (bytes_eq o.name name)
 abbrev given : List (Option (Result Reads Fault)) → ℕ → Option (Result Reads Fault)
 given gs k = option_and_then (λ gave. gave) (slice_get gs k)
 
--- what holds of what each opening gave holds after one more opening, if it holds of that one
+-- a statement on what each opening gave stays true after one more opening, if it is true of that one
 pub gives-more : (P : ℕ → Option (Result Reads Fault) → Type 0) (gs : List (Option (Result Reads Fault)))
     (g : Option (Result Reads Fault)) (k : ℕ) → P (length gs) g → P k (given gs k) → P k (given (gs ++ g ∷ []) k)
 gives-more P [] g zero one h = one
@@ -103,7 +103,7 @@ gives-more P [] g (suc k) one h = h
 gives-more P (x ∷ gs) g zero one h = h
 gives-more P (x ∷ gs) g (suc k) one h = gives-more (λ j. P (suc j)) gs g k one h
 
--- what holds of what each opening gave holds after a closing, if it holds of what the closed file gave
+-- a statement on what each opening gave stays true after a closing, if it is true of the closed file
 pub gives-closed : (P : ℕ → Option (Result Reads Fault) → Type 0) (gs : List (Option (Result Reads Fault)))
     (i k : ℕ) (r : Reads) → P i (Some (Ok r)) → P k (given gs k) → P k (given (slice_set gs i (Some (Ok r))) k)
 gives-closed P [] i k r one h = h

@@ -189,7 +189,7 @@ fn of_one_update(mut hasher: impl Hasher + Drop, content: &[u8]) -> Option<Diges
     }
 }
 
-// It is that of one update, and of one call.
+// The digest is that of one update, and of one call.
 fn hashes(
     rt: &impl Abort,
     content: &[u8],
@@ -205,7 +205,7 @@ fn hashes(
     Ok(())
 }
 
-// There is none if the content is broken.
+// There is no digest if the content is broken.
 fn breaks(rt: &impl Abort, content: &[u8], piece: usize, buffer: &mut [u8; PIECE]) {
     let found = hashed(rt, content, DENIED, piece, buffer);
     let len = content.len();

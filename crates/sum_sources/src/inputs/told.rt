@@ -16,7 +16,7 @@ pub struct Told<'a> {
     piece: usize,
     phase: Phase,
     log: ReadLog,
-    // No Model: the borrow checker doesn't cover a source whose files have one and a lifetime.
+    // It has no Model: the borrow checker doesn't cover a source whose files have one and a lifetime.
     ghost is: { ToldInvariant (record { bytes = bytes.now; ending = ending }) given piece
         phase log.reads },
 }
