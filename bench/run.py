@@ -95,7 +95,7 @@ class Bench:
         return found + ([Contender(GNU, [tool, *words], gnu(tool), status)] if gnu(tool) else [])
 
     def hashers(self, tool):
-        """All that hash standard input as the tool does."""
+        """All contenders that hash standard input as the tool does."""
         found = self.contenders(tool)
         if self.bare and tool in self.looped:
             found.append(Contender(BARE, [self.bare, tool]))

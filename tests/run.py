@@ -2,8 +2,8 @@
 """Runs the end-to-end tests of the built program: `run.py [--only WORD] [--seed N] [--cases N] [PROGRAM..]`.
 
 The tests run the program from the outside, on real files, pipes, terminals and devices; some look at the repository.
-With no PROGRAM it is this repository's own, for each level for which it is built. If tests ran, the last line counts
-them; the status is 1 if one failed, or none passed."""
+Without PROGRAM, the program is this repository's own, for each level for which it is built. If tests ran, the last
+line counts them; the status is 1 if one failed, or none passed."""
 
 import argparse
 import collections

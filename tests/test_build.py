@@ -40,7 +40,7 @@ class Build(Repository):
     def test_a_failed_build(self):
         """It says why, with status 1, every time; the old program is neither run nor installed."""
         log = self.in_top("out/build.log")
-        end = f"rt: this is why\ndigests: the build failed; all that the toolchain said is in {log}\n"
+        end = f"rt: this is why\ndigests: the build failed; all that the kit said is in {log}\n"
         for old in (False, True):
             for fails, step in (("lib low", "crate 1 of 2, low"), ("run digests", "crate 2 of 2, digests"),
                                 ("--cpu", f"the program for {FAST}")):

@@ -15,7 +15,7 @@ named, and the definitions that all of them reach. A definition that is computed
 relation, need not be believed: the law's definitions count in its place, and it, with what it alone reaches, apart.
 
 Lines are counted with the comments above a definition, and without blank ones, heads of files, and those that say how
-an operator binds. What the toolchain's own libraries define isn't counted."""
+an operator binds. What the kit's own libraries define isn't counted."""
 
 import collections
 import functools

@@ -176,7 +176,7 @@ class Code:
             yield from found
 
     def declared(self, module, name):
-        """What a module of definitions that the toolchain makes of the code declares, and what that names."""
+        """What a module of definitions that the kit makes of the code declares, and what that names."""
         owner_crate = re.match(r"Rattle\.(\w+)\.specs\.declared\b", module)
         if not owner_crate or not any(it.crate == owner_crate[1] for it in self.items):
             return []
@@ -334,7 +334,7 @@ class Specs:
                 yield found
 
     def references(self, definition):
-        """The definitions that this one refers to; in its own file the toolchain lets it use only what stands above."""
+        """The definitions that this one refers to; in its own file the kit lets it use only what stands above."""
         module = definition.module
         named = self.named(definition.text, lambda name: self.find(module.name, name), module.imports)
         return {it for it in named if it.module is not module or it.place < definition.place}

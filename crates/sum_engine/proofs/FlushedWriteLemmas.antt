@@ -50,7 +50,7 @@ pub writes_and_returns : {E A : Type 0} {a b : OutputsState} {err out : List ℕ
 writes_and_returns (Ok u) is h = record { written = Ok tt; writes = h; returns = is }
 writes_and_returns (Err e) is h = record { written = Err tt; writes = h; returns = is }
 
--- what a call returns that was to return x, unless a write failed
+-- a call that was to return x returns it, unless a write failed
 pub returned : {E A : Type 0} {x y : A} (w : Result (Unit {0}) E) → Ok y ≡ outcome_after w x → y ≡ x
 returned (Ok u) is = search rules
 returned (Err e) is = cc

@@ -103,7 +103,7 @@ pub record IsOpen (tells : ToldAnswers) (s : SourceState) (file : InputState) : 
   pub opening : slice_get (gave_of s.openings file.name) file.opening ≡ Some None
   pub told : file.told ≡ content_at tells s file.name file.opening
 
--- the openings after the file of one was closed: of the opening of this name that has k others before it
+-- the openings once a file was closed: that of the opening of this name which has k others before it
 abbrev pub closed_at : List Opening → ByteString → ℕ → Reads → List Opening
 closed_at [] name k r = []
 closed_at (o ∷ os) name zero r = if bytes_eq o.name name then record o { gave = Some (Ok r) } ∷ os

@@ -45,7 +45,7 @@ fn ends<A: Allocator>(
     }
 }
 
-// This much was returned and read.
+// Asserts how many lines were returned, how many bytes were read, and how far the input was read.
 fn is_at(rt: &impl Abort, reader: LineReader<TwoParts>, lines: usize, place: usize, phase: Phase) {
     assert!(rt; (reader.lines(), reader.taken()) == (lines as u64, place as u64));
     assert_eq!(rt; reader.into_inner().phase(), phase);
