@@ -1,4 +1,4 @@
--- The headline for files in memory: what a run does if all answers of its source are known.
+-- The headline for files in memory: what a run does if its source tells all answers.
 use Rattle.std.specs.Prelude.{ℕ, ◌≡◌, ◌⊎◌, List, Option, None, Some, Result, Ok}
 use Rattle.sum_sources.specs.Sources.{Answers, ToldAnswers, TellsAll}
 use Rattle.sum_engine.specs.Behavior.{ByteString, World}
@@ -9,7 +9,7 @@ use Rattle.sum_words.specs.declared.tool.Tool.{Tool}
 use Rattle.digests.specs.Meaning.{meaning, status_of}
 use Rattle.digests.specs.Program.{CallPerforms, CallRefuses, ProgramPerforms}
 
--- if a tool ran on some words, as its contract says, over a source all of whose answers are known, and left the streams
+-- if a tool ran on some words, as its contract says, over a source that tells all answers, and left the streams
 -- b, then exactly the behavior was performed that the words mean by these answers
 abbrev pub MeansInMemory : ToldAnswers → StreamsState → Type 0
 MeansInMemory tells b = (tool : Tool) (words : List ByteString) (answer : Answers) (a : StreamsState) (r : Result ℕ Stop)
@@ -24,8 +24,8 @@ CommandPerformsIn w None = CallRefuses unknown_tool_line
 CommandPerformsIn w (Some (tool, words)) = let all = meaning tool words w in
     CallPerforms (Some tool) (PerformsSteps all.steps (status_of all.good))
 
--- if the program was called, as its contract says, with arguments in memory and over a source all of whose answers are
--- known, and left the streams b, then it did exactly what these arguments ask for by these answers; or they need
+-- if the program was called, as its contract says, with arguments in memory and over a source that tells all
+-- answers, and left the streams b, then it did exactly what these arguments ask for by these answers; or they need
 -- memory, and weren't read
 abbrev pub ProgramInMemory : ToldAnswers → ArgumentsState → StreamsState → Type 0
 ProgramInMemory tells given b = (arguments : List ByteString) (answer : Answers) (a : StreamsState) (status : ℕ)

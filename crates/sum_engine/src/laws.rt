@@ -12,7 +12,7 @@ pub fn some_world_agrees()
     ensures { (a : SourceState) → SomeWorldAgrees a }
 {}
 
-/// If all answers of a source are known, they agree with all that was read so far.
+/// If a source tells all answers, they agree with all that was read so far.
 pub fn told_agree<S: Source>(inputs: &Reader<S>)
     ensures { ToldAgree S.tells inputs.now }
 {

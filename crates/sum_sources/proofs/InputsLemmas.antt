@@ -176,7 +176,7 @@ module _ {I : Type 0} {state : I → InputState} {stdin : StdinPlace I} (tells :
       told = rw apart at here.told;
     }
 
-    -- what was read of standard input fits its answer, if that is known
+    -- what was read of standard input fits its answer, if one is told
     pub stdin_gives : (file : InputState) → HasContent file → is_dash file.name ≡ true
         → IsOpen (tells_both tells) (inputs_state untaken log source) file
         → GivesStdin untaken file.opening (Some (Ok file.reads))

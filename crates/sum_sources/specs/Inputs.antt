@@ -20,7 +20,7 @@ tells_both tells [] name k = None
 tells_both tells (stdin ∷ told) name k =
     if is_dash name then given_once stdin.answer (Some (Ok empty_content)) k else tells told name k
 
--- the answers of both, if all are known
+-- the answers of both, if all are told
 abbrev pub answers_with : Content → Answers → Answers
 answers_with stdin answer name k = if is_dash name then given_once (Ok stdin) (Ok empty_content) k else answer name k
 

@@ -34,22 +34,22 @@ gave_at os name k = option_and_then (λ gave. gave) (slice_get (gave_of os name)
 
 -- ---- what is in memory
 
--- what a source has in memory: a name, and the answer, if it is known, to the openings of it that have at least this
+-- what a source has in memory: a name, and the answer, if one is told, to the openings of it that have at least this
 -- many before them
 pub record Pair : Type 0 where
   pub name : ByteString
   pub from : ℕ
   pub answer : Option Answer
 
--- the answers of a source, each if it is known, by what it has in memory: any function
+-- the answers that a source tells, as any function of what it has in memory
 abbrev pub ToldAnswers : Type 0
 ToldAnswers = List Pair → ByteString → ℕ → Option Answer
 
--- all answers are known, and they are these
+-- all answers are told, and they are these
 abbrev pub TellsAll : ToldAnswers → List Pair → Answers → Type 0
 TellsAll tells told answer = (name : ByteString) (k : ℕ) → tells told name k ≡ Some (answer name k)
 
--- no answer is known
+-- no answer is told
 abbrev pub tells_none : ToldAnswers
 tells_none told name k = None
 
@@ -74,12 +74,12 @@ pub record SourceState : Type 0 where
 abbrev pub IsOfAnswer : Answer → Result Reads Fault → Type 0
 IsOfAnswer answer gave = MatchResult gave (λ r. (c : Content) × (answer ≡ Ok c) × IsOf r c) (λ f. answer ≡ Err f)
 
--- what an opening gave fits the answer, if that is known
+-- what an opening gave fits the answer, if one is told
 abbrev pub GivesTold : ToldAnswers → SourceState → Type 0
 GivesTold tells s = (name : ByteString) (k : ℕ)
     → IfSome (tells s.told name k) (λ told. IfSome (gave_at s.openings name k) (IsOfAnswer told))
 
--- the content of the file of an opening, if it is known
+-- the content of the file of an opening, if one is told
 abbrev pub content_at : ToldAnswers → SourceState → ByteString → ℕ → Option Content
 content_at tells s name k = option_and_then result_ok (tells s.told name k)
 

@@ -9,7 +9,7 @@ abbrev pub IsPlaceOf : {I : Type 0} → (I → InputState) → StdinPlace I → 
 IsPlaceOf state place untaken [] = (unless_closed state (given_by place)).told ≡ untaken.told
 IsPlaceOf state place untaken (g ∷ gs) = given_by place ≡ Closed Whole Unfinished
 
--- what an opening of `-` gave fits its answer, if that is known
+-- what an opening of `-` gave fits its answer, if one is told
 abbrev pub GivesStdin : InputState → ℕ → Option (Result Reads Fault) → Type 0
 GivesStdin untaken k gave =
     IfSome (given_once (option_map Ok untaken.told) (Some (Ok empty_content)) k) (λ told. IfSome gave (IsOfAnswer told))

@@ -22,7 +22,7 @@ pub trait Source {
     /// Which names it opened, and what it answered. A source that isn't in memory keeps it for proofs alone.
     ghost state: { Self → SourceState };
 
-    /// Which answers are known, as any function of what it has in memory.
+    /// Which answers it tells, as any function of what it has in memory.
     ghost tells: { ToldAnswers };
 
     /// Opens the file of this name. Returns `OpenFault::Fault` if it can't be opened, and `OpenFault::Memory` only if
@@ -37,6 +37,6 @@ pub trait Source {
         requires { IsOpen tells (state self.old) (Self.File.state file) }
         ensures { state self.new ≡ after_closing (state self.old) (Self.File.state file) };
 
-    /// Law: what an opening gave fits the answer, if that is known.
+    /// Law: what an opening gave fits the answer, if one is told.
     ghost gives_told: { (s : Self) → GivesTold tells (state s) };
 }
