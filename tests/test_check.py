@@ -1,4 +1,4 @@
-"""Checking: the verdicts, reports, summaries and statuses, the forms of manifests, and hostile ones."""
+"""Checking: the manifests of each tool, those that can't be read, lines that are read back, and hostile ones."""
 
 import harness
 from harness import M, TOOLS, X_MISSING, Case, Ran, bad, unread, wrong
