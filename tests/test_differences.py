@@ -91,7 +91,7 @@ class Messages(Described):
             self.assertEqual((ours.status, theirs.status, theirs.out), (1, 0, f"{harness.B}  e\n".encode()))
 
     def test_several_lengths(self):
-        """Only the last is looked at, and none with `--help` or `--version`; GNU's tool refuses others, too."""
+        """Only the last length is looked at, and none with `--help` or `--version`; GNU's tool refuses others, too."""
         for words in ("-l x -l 256 e", "-l 7 -l 256 e", "-l x --help", "-l 7 --help", "-l 7 --version"):
             ours, theirs = self.ours_and_theirs(f"b2sum {words}")
             self.assertEqual((ours.status, ours.err, theirs.status, theirs.out), (0, b"", 1, b""), words)

@@ -220,7 +220,7 @@ mixed_tags = refl
 abbrev pub two_files : Answers
 two_files = answers_with empty_content (λ name k. answer_with empty_content name)
 
--- the digest lines of both
+-- the lines with the digests of both files
 abbrev two_lines : ByteString
 two_lines = lines ("900150983cd24fb0d6963f7d28e17f72  a" ∷ "d41d8cd98f00b204e9800998ecf8427e  e" ∷ [])
 
