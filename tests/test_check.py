@@ -53,7 +53,7 @@ class Lines(Case):
                     self.expect("anysum -c --strict", stdin=ran.out, out=shown)
 
     def test_lines_of_zero(self):
-        """None can be read; but what stands before a newline in a name is a line."""
+        """No line that ends with NUL can be read; but what stands before a newline in a name is a line."""
         for words in ("-z a e", "-z a", "-bz a", "-z --tag a"):
             written = self.run_words(f"md5sum {words}").out
             self.expect("md5sum -c", stdin=written, err=[f"md5sum: standard input: {NONE_FOUND}"], status=1)
@@ -71,7 +71,7 @@ class Hostile(Case):
             self.expect("md5sum -c --strict", stdin=["#" * size, f"{M}  a", "", f"{M}  a"], out=["a: OK"] * 2)
 
     def test_names_of_any_bytes(self):
-        """They are written as they are. What isn't UTF-8 can't be read, and is never missing."""
+        """Names are written as they are. A name that isn't UTF-8 can't be read, and is never missing."""
         for name in (b"\x1b[31m", b"\xff"):
             self.write(name, "abc")
         self.write("h", [M.encode() + b"  " + name for name in (b"\x1b[31m", b"\x07\x9b", b"\xff", b"a")])

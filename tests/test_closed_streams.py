@@ -58,7 +58,7 @@ class ClosedInput(Closing):
         self.expect_closed(("md5sum -c", [0], 1, b"", fault), ("md5sum -c l - l", [0], 1, ["a: OK", "a: OK"], fault))
 
     def test_listed(self):
-        """Its entry can't be read; the manifest's own bytes never take its place, whatever digest is listed."""
+        """The entry `-` can't be read; the manifest's own bytes never take its place, whatever digest is listed."""
         for manifest in hostile_manifests():
             self.write("l", manifest)
             self.expect_closed(("md5sum -c l", [0], 1, ["-: FAILED open or read"], [FAULT, unread(1)]))
@@ -92,7 +92,7 @@ class ClosedOutputs(Closing):
             ("md5sum", [0, 2], 1, b"", b""), ("md5sum a", [0, 1, 2], 1, b"", b""), ("md5sum", [0, 1, 2], 1, b"", b""))
 
     def test_checking(self):
-        """It is good if no report was to be written, and otherwise a write error. What was listed isn't written to, and
+        """A manifest is good if no report was to be written; otherwise there is a write error. What was listed isn't written to, and
         standard input is no file."""
         self.write("good", [f"{M}  a"])
         self.write("l", VERDICTS)

@@ -41,7 +41,7 @@ class Messages(Described):
             self.expect_both(["md5sum", name], *said)
 
     def test_the_name_in_front(self):
-        """It is the tool's; GNU's tools begin a message with the name by which they were called."""
+        """Messages begin with the tool's name; those of GNU's tools with the name by which they were called."""
         os.symlink(harness.PROGRAM, self.path("md5sum"))
         missing = "x: No such file or directory\n"
         for called, wanted in ((os.fsdecode(self.path("md5sum")), "md5sum"), (gnu("md5sum"), gnu("md5sum"))):
@@ -260,8 +260,8 @@ class Checks(Described):
 
 class Writing(Described):
     def test_an_output_that_fails(self):
-        """It ends the run here, at standard error's first line, too; GNU's tools still read the other files, and name
-        the reason of some faults."""
+        """An output that fails ends the run here, standard error at its first line, too; GNU's tools still read the other
+        files, and name the reason of some faults."""
         missing = "md5sum: x: No such file or directory"
         with self.full() as full:
             theirs = (1, b"", [missing, "md5sum: write error"])
@@ -284,7 +284,7 @@ class Writing(Described):
 
     @needs_strace
     def test_a_loss_that_a_close_tells(self):
-        """It isn't seen here; GNU's tools see it."""
+        """A loss that only a close tells isn't seen here; GNU's tools see it."""
         for command, status in (([harness.PROGRAM, "md5sum", "a"], 0), ([gnu("md5sum"), "a"], 1)):
             with open(self.path("out"), "wb") as out:
                 options = ["-P", self.path("out"), "-e", "trace=close", "-e", "inject=close:error=EIO"]

@@ -69,7 +69,7 @@ class Documents(Case):
                     self.assertRegex(page, rf"(?m)^- `(fn|struct|enum|trait|const|type|use \w+::) ?{name}\b")
 
     def test_sums(self):
-        """Those of the newest version in CHANGELOG are those of what is built, as docs/PACKAGING.md checks them."""
+        """The sums of the newest version in CHANGELOG are those of what is built, as docs/PACKAGING.md checks them."""
         newest = re.split(r"(?m)^## ", text_of("CHANGELOG.md"))[1]
         if "  out/" not in newest or not os.path.exists(os.path.join(TOP, "out", "x86-64-v3", "digests")):
             self.skipTest("the newest version has no sums yet, or nothing is built")

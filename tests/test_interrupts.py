@@ -24,7 +24,7 @@ class Interrupted(Traced):
             self.assertLessEqual(len(calls), 2000)
 
     def test_every_write_to_standard_output(self):
-        """It is a write error, which standard error still reports."""
+        """A standard output that is always interrupted is a write error, which standard error still reports."""
         out = self.path("out")
         self.write("l", [f"{M}  a"])
         for words in ("md5sum a e", "md5sum -z a", "md5sum --help", "md5sum --version", "md5sum -c l"):

@@ -52,7 +52,7 @@ class BrokenInput(Case):
 
 class Outputs(Case):
     def test_a_reader_that_goes_away(self):
-        """It is a write error, whether or not the caller ignores the signal for it."""
+        """A closed pipe is a write error, whether or not the caller ignores the signal for it."""
         words = [harness.PROGRAM, "md5sum", *["a"] * 20000]
         for ignored in (False, True):
             started = subprocess.Popen(words, cwd=self.folder, stdout=subprocess.PIPE, stderr=subprocess.PIPE,
@@ -93,7 +93,7 @@ class EachByteTheLast(Case):
             self.assertEqual(self.run_limited("md5sum a e", size, "stdout"), (wanted, whole[:size]))
 
     def test_a_signal_that_is_not_ignored(self):
-        """It ends the program, without a message."""
+        """The signal ends the program, without a message."""
         with open(self.path("limited"), "wb") as file:
             ran = self.run_words("md5sum a e", stdout=file, preexec_fn=limits(file_size=10))
         self.assertEqual((ran, self.read("limited")), (Ran(-signal.SIGXFSZ, b"", b""), b"900150983c"))

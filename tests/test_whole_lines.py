@@ -111,7 +111,7 @@ class OneWriteALine(Packets):
             self.expect_packets("md5sum a", err=[WRITE_ERROR], status=1, stdout=full)
 
     def test_a_fault_with_a_long_word(self):
-        """Its two lines count as one: they are one write as long as both together fit into the buffer."""
+        """The two lines of a fault are one write if both together fit into the buffer."""
         for length in (8192, 8195):
             lines = "md5sum: unrecognized option '--{}'\nTry 'md5sum --help' for more information.\n"
             word = "x" * (length - len(lines.format("")))
