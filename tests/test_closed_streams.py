@@ -92,8 +92,8 @@ class ClosedOutputs(Closing):
             ("md5sum", [0, 2], 1, b"", b""), ("md5sum a", [0, 1, 2], 1, b"", b""), ("md5sum", [0, 1, 2], 1, b"", b""))
 
     def test_checking(self):
-        """A manifest is good if no report was to be written; otherwise there is a write error. What was listed isn't written to, and
-        standard input is no file."""
+        """A manifest is good if no report was to be written; otherwise there is a write error. What was listed isn't
+        written to, and standard input is no file."""
         self.write("good", [f"{M}  a"])
         self.write("l", VERDICTS)
         self.write("input", [f"{E}  -"])

@@ -260,8 +260,8 @@ class Checks(Described):
 
 class Writing(Described):
     def test_an_output_that_fails(self):
-        """An output that fails ends the run here, standard error at its first line, too; GNU's tools still read the other
-        files, and name the reason of some faults."""
+        """An output that fails ends the run here, standard error at its first line, too; GNU's tools still read the
+        other files, and name the reason of some faults."""
         missing = "md5sum: x: No such file or directory"
         with self.full() as full:
             theirs = (1, b"", [missing, "md5sum: write error"])

@@ -112,7 +112,7 @@ class Install(Installing):
         self.assertIn("nothing is installed", self.installs("--remove", status=1))
 
     def test_what_is_in_the_place(self):
-        """Everything that others have in a place is named, and nothing changes. One sentence says how an earlier form is removed."""
+        """What others have is named, and nothing changes. One sentence says how an earlier form is removed."""
         self.theirs(CURRENT, *paths_of(False) - {"bin/b2sum", "bin/sha1sum"})
         os.mkdir(self.at("bin/sha1sum"))
         os.symlink("../lib/digests/current/bin/digests", self.at("bin/b2sum"))

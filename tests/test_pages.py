@@ -14,8 +14,8 @@ class Pages(Case):
     of_the_repository = True
 
     def test_options(self):
-        """Each option of the help is there, except those that anysum never takes; and each group has the options that the
-        program takes there."""
+        """Each option of the help is there, except those that anysum never takes; and each group has the options that
+        the program takes there."""
         for tool in NAMES:
             helped = set(re.findall(rb"(?m)^ {2,6}(?:-\w, )?--([a-z-]+)", self.run_words([tool, "--help"]).out))
             parts = re.split(r"Only (with(?:out)?) --check:", sections_of(tool)["OPTIONS"])
