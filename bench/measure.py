@@ -1,7 +1,6 @@
 """Running commands for the benchmarks: their processor time in interleaved rounds, and the peak of their memory."""
 
 import os
-import statistics
 import subprocess
 from typing import NamedTuple
 
@@ -25,20 +24,17 @@ class Contender:
 
 
 class Times(NamedTuple):
-    """The seconds of processor time that one contender took: the least, the quartiles, and how much of the time of all
-    its runs was the kernel's."""
+    """The least seconds of processor time that one contender took, and how much of the time of all its runs was the
+    kernel's."""
 
     least: float
-    quartiles: tuple
     kernel: float
 
 
 def times_of(runs):
     """What the pairs of all seconds and the kernel's seconds of some runs come to."""
-    seconds = [both for both, _ in runs]
-    quartiles = statistics.quantiles(seconds, n=4, method="inclusive") if len(seconds) > 1 else seconds * 3
-    total = sum(seconds)
-    return Times(min(seconds), tuple(quartiles), sum(kernel for _, kernel in runs) / total if total else 0.0)
+    total = sum(both for both, _ in runs)
+    return Times(min(both for both, _ in runs), sum(kernel for _, kernel in runs) / total if total else 0.0)
 
 
 def run_once(contender, stdin, stdout, folder):

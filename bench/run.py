@@ -95,7 +95,7 @@ class Bench:
         return found + ([Contender(GNU, [tool, *words], gnu(tool), status)] if gnu(tool) else [])
 
     def hashers(self, tool):
-        """All that hash standard input as the tool does."""
+        """All contenders that hash standard input as the tool does."""
         found = self.contenders(tool)
         if self.bare and tool in self.looped:
             found.append(Contender(BARE, [self.bare, tool]))
@@ -113,7 +113,7 @@ class Bench:
         return path
 
     def small(self, count):
-        """The names of so many files of 100 bytes."""
+        """The names of this many files of 100 bytes."""
         names = [f"f{number:05}" for number in range(count)]
         if not os.path.exists(os.path.join(self.folder, names[-1])):
             chance = random.Random(2)
@@ -150,22 +150,11 @@ def speed(times, name):
 
 
 def print_speeds(bench):
-    """The table of speeds, and the one of the times that they come from."""
-    ours = list(bench.ours)
-    names = [*ours, BARE, OPENSSL]
-    names = [name for name in names if any(name in times for _, times in bench.rows)]
-    rows = [[work, *(speed(times, name) for name in names), f"{times[ours[0]].kernel:.0%}"] for work, times in bench.rows]
+    """The table of speeds."""
+    first, *_ = bench.ours
+    names = [name for name in (*bench.ours, BARE, OPENSSL) if any(name in times for _, times in bench.rows)]
+    rows = [[work, *(speed(times, name) for name in names), f"{times[first].kernel:.0%}"] for work, times in bench.rows]
     table(["times as fast as GNU", *names, "the kernel's share"], rows)
-    names = [name for name in (GNU, *ours) if any(name in times for _, times in bench.rows)]
-    rows = [[work, *(spread(times.get(name)) for name in names)] for work, times in bench.rows]
-    table(["milliseconds: least, quartiles", *names], rows)
-
-
-def spread(times):
-    """The least time and the quartiles in milliseconds, of three digits or more."""
-    found = [times.least, *times.quartiles] if times else []
-    least, *rest = [f"{it * 1000:.0f}" if it >= 0.1 else f"{it * 1000:.2f}" for it in found] or ["-"]
-    return least + (f", {' '.join(rest)}" if rest else "")
 
 
 def hashing(bench):

@@ -1,4 +1,4 @@
-# Completion in bash for the program digests and its tools. Made by tools/pages.py: edit what that reads.
+# Completion in bash for the program digests and its tools. Made by tools/shells.py: edit what that reads.
 
 # Whether a word asks for --check: itself or its beginning, or as a letter among others.
 _digests_is_check() {

@@ -1,4 +1,4 @@
-# Completion in fish for the program digests and its tools. Made by tools/pages.py: edit what that reads.
+# Completion in fish for the program digests and its tools. Made by tools/shells.py: edit what that reads.
 
 # Whether the words so far are a tool's, or any tool's, and options may follow; and for `checking`, that they ask for
 # --check, or for `writing` that they don't.

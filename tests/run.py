@@ -2,8 +2,8 @@
 """Runs the end-to-end tests of the built program: `run.py [--only WORD] [--seed N] [--cases N] [PROGRAM..]`.
 
 The tests run the program from the outside, on real files, pipes, terminals and devices; some look at the repository.
-With no PROGRAM it is this repository's own, for each level for which it is built. If tests ran, the last line counts
-them; the status is 1 if one failed, or none passed."""
+Without PROGRAM, the program is this repository's own, for each level for which it is built. If tests ran, the last
+line counts them; the status is 1 if one failed, or none passed."""
 
 import argparse
 import collections
@@ -88,8 +88,8 @@ def print_counts(title, counts, seconds):
 def take_usual_settings():
     """Makes the tests run under the same settings, whoever calls them: what they start is ended by any signal and finds
     the three streams open, and others may read the files that they make."""
-    # As nohup and a shell's background ignore some: what is caught here isn't passed on. The two that Python ignores
-    # itself, some tests pass on.
+    # A caller, such as nohup, may ignore some signals. What is caught here isn't passed on as ignored. Some tests pass
+    # on the two that Python itself ignores.
     for number in signal.valid_signals() - {signal.SIGPIPE, signal.SIGXFSZ}:
         if signal.getsignal(number) is signal.SIG_IGN:
             signal.signal(number, lambda *_: None)

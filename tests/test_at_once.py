@@ -30,14 +30,6 @@ class FirstLines(Case):
                 self.assertEqual(started.wait(timeout=harness.RUN_SECONDS), 0)
                 self.shown(shows, f"{M}  p{end}{E}  e{end}")
 
-    def test_a_line_stands_in_a_file_at_once(self):
-        with open(self.path("out"), "wb") as out:
-            started = self.start("md5sum a e p", stdout=out)
-        with self.fed("p"):
-            self.assertEqual(self.read("out"), as_bytes([f"{M}  a", f"{E}  e"]))
-        self.assertEqual(started.wait(timeout=harness.RUN_SECONDS), 0)
-        self.assertEqual(self.read("out"), as_bytes([f"{M}  a", f"{E}  e", f"{E}  p"]))
-
 
 class Ended(Case):
     """Runs that are ended from outside."""
@@ -117,12 +109,7 @@ class OneFile(Case):
 
 
 class AfterAFailedWrite(Case):
-    """A list is read no further, but for what was read ahead."""
-
-    def test_a_list_without_end(self):
-        with self.full() as full:
-            ran = self.run_command(["sh", "-c", f"yes '{M}  a' | '{harness.PROGRAM}' md5sum -c -"], stdout=full)
-        self.assertEqual((ran.status, ran.err), (1, b"md5sum: write error\n"))
+    """A list is read no further than what was read ahead."""
 
     def test_what_the_next_program_finds(self):
         self.write("list", f"{M}  a\n" * 10000)

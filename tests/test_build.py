@@ -17,7 +17,7 @@ class Build(Repository):
         return ran.err.decode()
 
     def test_a_first_build(self):
-        """It has a line for each crate, with its time; what rt says is kept."""
+        """A build has a line for each crate, with its time; what rt says is kept."""
         first, *lines = self.expect_built("nothing is built").splitlines()
         self.assertEqual(first, "digests: proving and building the program; a first build takes some minutes")
         named = ["crate 1 of 2, low", "crate 2 of 2, digests", f"the program for {FAST}"]
@@ -38,9 +38,9 @@ class Build(Repository):
         self.expect_built("crates.txt")
 
     def test_a_failed_build(self):
-        """It says why, with status 1, every time; the old program is neither run nor installed."""
+        """A failed build says why, with status 1, every time; the old program is neither run nor installed."""
         log = self.in_top("out/build.log")
-        end = f"rt: this is why\ndigests: the build failed; all that the toolchain said is in {log}\n"
+        end = f"rt: this is why\ndigests: the build failed; all that the kit said is in {log}\n"
         for old in (False, True):
             for fails, step in (("lib low", "crate 1 of 2, low"), ("run digests", "crate 2 of 2, digests"),
                                 ("--cpu", f"the program for {FAST}")):

@@ -1,28 +1,14 @@
-"""Checking: the verdicts, reports, summaries and statuses, the forms of manifests, and hostile ones."""
+"""Checking: the manifests of each tool, those that can't be read, lines that are read back, and hostile ones."""
 
 import harness
-from harness import M, TOOLS, VERDICTS, VERDICTS_ERR, VERDICTS_OUT, X_MISSING
-from harness import Case, Ran, bad, unread, wrong
+from harness import M, TOOLS, X_MISSING, Case, Ran, bad, unread, wrong
 from reference import NO_TEXT
 
 NONE_FOUND = "no properly formatted checksum lines found"
 SPECIAL = "q\\\nz"
 
 
-class Verdicts(Case):
-    """What each line of a manifest comes to, and the settings that change what is written."""
-
-    def test_reports_and_strict(self):
-        self.write("l", VERDICTS)
-        self.expect("md5sum -c l", out=VERDICTS_OUT, err=VERDICTS_ERR, status=1)
-        self.expect("md5sum -c", stdin=VERDICTS, out=VERDICTS_OUT, err=VERDICTS_ERR, status=1)
-        first, *warnings = VERDICTS_ERR.decode().splitlines()
-        named = "md5sum: l: 3: improperly formatted MD5 checksum line"
-        self.expect("md5sum -c -w l", out=VERDICTS_OUT, err=[named, first, *warnings], status=1)
-        self.expect("md5sum -c --quiet --status l", err=[X_MISSING], status=1)
-        self.expect("md5sum -c --status -w --quiet l", out=VERDICTS_OUT.splitlines()[1:], err=VERDICTS_ERR, status=1)
-        self.expect("md5sum -cw --status --quiet --status l", err=[X_MISSING], status=1)
-
+class Manifests(Case):
     def test_every_tool_checks_its_own(self):
         for tool, (tag, of_nothing, of_abc) in TOOLS.items():
             self.write("l", [f"{of_abc}  a", f"{tag} (e) = {of_nothing}", f"{of_nothing} *a", f"{of_nothing}0  e"])
@@ -30,8 +16,6 @@ class Verdicts(Case):
             self.expect([tool, "-cw", "l"], out=["a: OK", "e: OK", "a: FAILED"],
                         err=[named, bad(1, tool), wrong(1, tool)], status=1)
 
-
-class Manifests(Case):
     def test_manifests_that_cannot_be_read(self):
         self.expect("md5sum -c --status x", err=[X_MISSING], status=1)
         self.expect("md5sum -c --ignore-missing x", err=[X_MISSING], status=1)
@@ -69,7 +53,7 @@ class Lines(Case):
                     self.expect("anysum -c --strict", stdin=ran.out, out=shown)
 
     def test_lines_of_zero(self):
-        """None can be read; but what stands before a newline in a name is a line."""
+        """No line that ends with NUL can be read; but what stands before a newline in a name is a line."""
         for words in ("-z a e", "-z a", "-bz a", "-z --tag a"):
             written = self.run_words(f"md5sum {words}").out
             self.expect("md5sum -c", stdin=written, err=[f"md5sum: standard input: {NONE_FOUND}"], status=1)
@@ -79,19 +63,15 @@ class Lines(Case):
 
 
 class Hostile(Case):
-    def test_nothing_in_them_and_a_long_name(self):
+    def test_nothing_in_them_and_long_comments(self):
         for content in ("x" * 1000000, "\0" * 1000 + "\n", "   \t\n", "\n" * 100000):
             self.write("h", content)
             self.expect("md5sum -c h", err=[f"md5sum: h: {NONE_FOUND}"], status=1)
-        name = "y" * 99966
-        self.write("h", f"{M}  {name}")
-        self.expect("md5sum -c h", out=[f"{name}: FAILED open or read"],
-                    err=[f"md5sum: {name}: File name too long", unread(1)], status=1)
         for size in range(8185, 8200):
             self.expect("md5sum -c --strict", stdin=["#" * size, f"{M}  a", "", f"{M}  a"], out=["a: OK"] * 2)
 
     def test_names_of_any_bytes(self):
-        """They are written as they are. What isn't UTF-8 can't be read, and is never missing."""
+        """Names are written as they are. A name that isn't UTF-8 can't be read, and is never missing."""
         for name in (b"\x1b[31m", b"\xff"):
             self.write(name, "abc")
         self.write("h", [M.encode() + b"  " + name for name in (b"\x1b[31m", b"\x07\x9b", b"\xff", b"a")])

@@ -5,7 +5,7 @@ import hashlib
 import os
 
 import harness
-from harness import E, M, S, TOOLS, VERDICTS, WRITE_ERROR, X_MISSING, Case, Ran, as_bytes, as_words, unread
+from harness import E, M, TOOLS, VERDICTS, WRITE_ERROR, X_MISSING, Case, Ran, as_bytes, as_words, unread
 from tracing import Traced, needs_strace
 
 FAULT = "md5sum: -: Bad file descriptor"
@@ -58,16 +58,10 @@ class ClosedInput(Closing):
         self.expect_closed(("md5sum -c", [0], 1, b"", fault), ("md5sum -c l - l", [0], 1, ["a: OK", "a: OK"], fault))
 
     def test_listed(self):
-        """Its entry can't be read; the manifest's own bytes never take its place, whatever digest is listed."""
+        """The entry `-` can't be read; the manifest's own bytes never take its place, whatever digest is listed."""
         for manifest in hostile_manifests():
             self.write("l", manifest)
             self.expect_closed(("md5sum -c l", [0], 1, ["-: FAILED open or read"], [FAULT, unread(1)]))
-
-    def test_listed_among_others(self):
-        nothing = TOOLS["sha256sum"][1]
-        self.write("l", [f"SHA256 (-) = {nothing}", f"SHA256 (a) = {S}", f"MD5 (a) = {M}"])
-        self.expect_closed(("anysum -c l", [0], 1, ["-: FAILED open or read", "a: OK", "a: OK"],
-                            ["anysum: -: Bad file descriptor", unread(1, "anysum")]))
 
 
 @needs_strace
@@ -98,8 +92,8 @@ class ClosedOutputs(Closing):
             ("md5sum", [0, 2], 1, b"", b""), ("md5sum a", [0, 1, 2], 1, b"", b""), ("md5sum", [0, 1, 2], 1, b"", b""))
 
     def test_checking(self):
-        """It is good if no report was to be written, and otherwise a write error. What was listed isn't written to, and
-        standard input is no file."""
+        """A manifest is good if no report was to be written; otherwise there is a write error. What was listed isn't
+        written to, and standard input is no file."""
         self.write("good", [f"{M}  a"])
         self.write("l", VERDICTS)
         self.write("input", [f"{E}  -"])

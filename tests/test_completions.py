@@ -33,7 +33,7 @@ class Shell:
             self.write(name, text)
 
     def test_options(self):
-        """Those that the program takes there. After --check, that word again is as the shell likes."""
+        """The options that the program takes there. After --check, whether it is offered again is up to the shell."""
         again = {"-c", "--check"}
         for tool in ("md5sum", "b2sum", "anysum"):
             for command in (tool, f"digests {tool}"):

@@ -1,9 +1,7 @@
 """What the manual pages and documents say of GNU coreutils 9.1. Most statements are tried with GNU's tools and
 with ours. If another version is installed, these tests are skipped."""
 
-import hashlib
 import os
-import pty
 import subprocess
 
 import harness
@@ -43,7 +41,7 @@ class Messages(Described):
             self.expect_both(["md5sum", name], *said)
 
     def test_the_name_in_front(self):
-        """It is the tool's; GNU's tools begin a message with the name by which they were called."""
+        """Messages begin with the tool's name; those of GNU's tools with the name by which they were called."""
         os.symlink(harness.PROGRAM, self.path("md5sum"))
         missing = "x: No such file or directory\n"
         for called, wanted in ((os.fsdecode(self.path("md5sum")), "md5sum"), (gnu("md5sum"), gnu("md5sum"))):
@@ -93,7 +91,7 @@ class Messages(Described):
             self.assertEqual((ours.status, theirs.status, theirs.out), (1, 0, f"{harness.B}  e\n".encode()))
 
     def test_several_lengths(self):
-        """Only the last is looked at, and none with `--help` or `--version`; GNU's tool refuses others, too."""
+        """Only the last length is looked at, and none with `--help` or `--version`; GNU's tool refuses others, too."""
         for words in ("-l x -l 256 e", "-l 7 -l 256 e", "-l x --help", "-l 7 --help", "-l 7 --version"):
             ours, theirs = self.ours_and_theirs(f"b2sum {words}")
             self.assertEqual((ours.status, ours.err, theirs.status, theirs.out), (0, b"", 1, b""), words)
@@ -105,17 +103,6 @@ class Messages(Described):
         said = ["md5sum: -: Is a directory"]
         self.expect_both("md5sum - -", (1, [f"{E}  -"], said), (1, b"", said * 2), stdin=folder)
         self.expect_alike("md5sum - -", 0, [f"{M}  -", f"{E}  -"], stdin=b"abc")
-
-    def test_standard_input_twice_at_a_terminal(self):
-        """There GNU's tools take what follows the end that was typed."""
-        first, second = (hashlib.md5(text).hexdigest() for text in (b"abc\n", b"more\n"))
-        for command, wanted in (([harness.PROGRAM, "md5sum"], E), ([gnu("md5sum")], second)):
-            typed, shown = pty.openpty()
-            self.addCleanup(os.close, typed)
-            os.write(typed, b"abc\n\x04more\n\x04")
-            ran = self.run_command([*command, "-", "-"], stdin=shown)
-            os.close(shown)
-            self.assertEqual(ran, Ran(0, as_bytes([f"{first}  -", f"{wanted}  -"]), b""), command)
 
     def test_what_has_no_effect(self):
         """The language changes GNU's quotes, and POSIXLY_CORRECT makes every word after a name one; here neither."""
@@ -273,8 +260,8 @@ class Checks(Described):
 
 class Writing(Described):
     def test_an_output_that_fails(self):
-        """It ends the run here, at standard error's first line, too; GNU's tools still read the other files, and name
-        the reason of some faults."""
+        """An output that fails ends the run here, standard error at its first line, too; GNU's tools still read the
+        other files, and name the reason of some faults."""
         missing = "md5sum: x: No such file or directory"
         with self.full() as full:
             theirs = (1, b"", [missing, "md5sum: write error"])
@@ -297,21 +284,10 @@ class Writing(Described):
 
     @needs_strace
     def test_a_loss_that_a_close_tells(self):
-        """It isn't seen here; GNU's tools see it."""
+        """A loss that only a close tells isn't seen here; GNU's tools see it."""
         for command, status in (([harness.PROGRAM, "md5sum", "a"], 0), ([gnu("md5sum"), "a"], 1)):
             with open(self.path("out"), "wb") as out:
                 options = ["-P", self.path("out"), "-e", "trace=close", "-e", "inject=close:error=EIO"]
                 ran = self.run_command([strace(), "-qq", "-o", os.devnull, *options, *command], stdout=out)
             found = ran.status, self.read("out"), bool(ran.err)
             self.assertEqual(found, (status, as_bytes([f"{M}  a"]), status == 1))
-
-    def test_one_write_a_line(self):
-        """GNU's tools write each line of standard output at once, as ours do; but not with `--zero`, nor if one has
-        over 4,096 bytes."""
-        for words, ours, theirs in (("md5sum a e a", 3, 3), ("md5sum --tag a e a", 3, 3), ("md5sum -z a e a", 3, 1),
-                                    (f"md5sum {'./' * 2030}a", 1, 1), (f"md5sum {'./' * 2031}a", 1, 2)):
-            self.assertEqual(self.writes_of(words), (0, ours))
-            with open(self.path("out"), "wb") as out:
-                command, before = harness.as_words(words), self.writes_so_far()
-                subprocess.run(command, executable=gnu("md5sum"), stdout=out, cwd=self.folder, check=True)
-                self.assertEqual(self.writes_so_far() - before, theirs, words)

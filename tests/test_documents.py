@@ -6,6 +6,7 @@ import re
 
 import believed
 import harness
+import library
 from harness import TOP, Case, Ran
 from rattle import Code, text_of
 
@@ -59,8 +60,8 @@ class Documents(Case):
 
     def test_the_library(self):
         """docs/LIBRARY.md has each public call as the sources have it, and each name that a crate's root exports."""
-        self.assertEqual(self.run_command([os.path.join(TOP, "tools", "library.py"), "--check"]), Ran(0, b"", b""))
-        page = text_of("docs", "LIBRARY.md")
+        page, wanted = library.page()
+        self.assertEqual(page, wanted, "tools/library.py makes the list anew")
         hidden = {it.name for it in Code().items if "doc(hidden)" in it.attributes}
         for crate in re.findall(r"(?m)^### `(\w+)`$", page):
             for use in re.findall(r"pub use [\w:]+::(\{[^}]*\}|\w+);", text_of("crates", crate, "src", "lib.rt")):
@@ -68,7 +69,7 @@ class Documents(Case):
                     self.assertRegex(page, rf"(?m)^- `(fn|struct|enum|trait|const|type|use \w+::) ?{name}\b")
 
     def test_sums(self):
-        """Those of the newest version in CHANGELOG are those of what is built, as docs/PACKAGING.md checks them."""
+        """The sums of the newest version in CHANGELOG are those of what is built, as docs/PACKAGING.md checks them."""
         newest = re.split(r"(?m)^## ", text_of("CHANGELOG.md"))[1]
         if "  out/" not in newest or not os.path.exists(os.path.join(TOP, "out", "x86-64-v3", "digests")):
             self.skipTest("the newest version has no sums yet, or nothing is built")

@@ -40,7 +40,7 @@ class FailedRead(Traced):
         self.expect_each("f", "md5sum", [b""] * READS, b"md5sum: -: %s\n", stdin="f")
 
     def test_listed_file(self):
-        """It isn't OK, though its digest is right."""
+        """A listed file of which a read fails isn't OK, though its digest is right."""
         self.write("l", [self.line, f"{M}  a", self.line])
         reports = ["f: FAILED open or read", "a: OK", "f: OK"]
         self.expect_each("f", "md5sum -c l", [reports] * READS, b"md5sum: f: %s\n" + as_bytes([unread(1)]))

@@ -81,7 +81,7 @@ class Installing(Repository):
 
 class Install(Installing):
     def test_what_is_put_there(self):
-        """It is for all to read, whatever the mask; it needs no repository, and may be moved."""
+        """Everyone may read it, whatever the umask; it needs no repository, and may be moved."""
         self.installs(umask=0o077)
         self.prefix = shutil.move(self.prefix, f"{self.folder}/moved")
         self.assertNotIn("first on the PATH", self.installs(PATH=f"{self.prefix}/bin:{self.env['PATH']}"))
@@ -112,7 +112,7 @@ class Install(Installing):
         self.assertIn("nothing is installed", self.installs("--remove", status=1))
 
     def test_what_is_in_the_place(self):
-        """All that others have is named, and nothing changes. One sentence says how an earlier form is removed."""
+        """What others have is named, and nothing changes. One sentence says how an earlier form is removed."""
         self.theirs(CURRENT, *paths_of(False) - {"bin/b2sum", "bin/sha1sum"})
         os.mkdir(self.at("bin/sha1sum"))
         os.symlink("../lib/digests/current/bin/digests", self.at("bin/b2sum"))
@@ -128,7 +128,7 @@ class Install(Installing):
             self.assertEqual(self.tree(), {path: b"theirs"})
 
     def test_what_appears_meanwhile(self):
-        """It is named, and not overwritten."""
+        """A file of others that appears meanwhile is named, and not overwritten."""
         self.write_command("sync", f"#!/bin/sh\nprintf theirs >'{self.prefix}/bin/md5sum'")
         self.assertIn(f"install: {self.prefix}/bin/md5sum: File exists", self.installs(status=1))
         os.remove(self.path("commands/sync"))
@@ -146,7 +146,7 @@ class Install(Installing):
             self.assertIn(f"install: {self.prefix}/bin/md5sum: ", ran.err.decode())
 
     def test_what_somebody_changed(self):
-        """In our directory it is replaced. Links that have lost it are removed."""
+        """What was changed in our directory is replaced. Links that no longer lead there are removed."""
         self.installs()
         for change in (lambda path: self.write(path, ""), lambda path: os.chmod(path, 0o644), os.remove):
             change(self.at(f"{CURRENT}/bin/digests"))
@@ -156,7 +156,7 @@ class Install(Installing):
         self.expect_removed()
 
     def test_prefixes(self):
-        """With DESTDIR all is below that directory. A prefix may have any bytes."""
+        """With DESTDIR everything is below that directory. A prefix may have any bytes."""
         for name in ("one/two/three", os.fsdecode(b"a \n\xff b")):
             self.prefix = name
             self.assertIn(f"/{name}/bin first on the PATH\n", self.installs())
@@ -191,7 +191,7 @@ class Install(Installing):
                 self.expect_removed()
 
     def test_two_clones_at_once(self):
-        """Each waits for the others, and the last one's installation is whole."""
+        """Each run waits for the others, and the last one's installation is whole."""
         other, how = f"{self.top} again", {"env": self.env, "stdout": subprocess.DEVNULL, "stderr": subprocess.PIPE}
         shutil.copytree(self.top, other, symlinks=True)
         commands = [[f"{self.top}/install", OWN], [f"{other}/install", "--cpu", FAST]] * 3
@@ -221,7 +221,7 @@ class Ends(Installing):
 
     @needs_strace
     def test_each_end(self):
-        """By a call that fails, or a kill. What others have stays."""
+        """A call fails, or the run is killed. What others have stays."""
         traced = [strace(), "-qq", "-o", self.path("trace"), "-e"]
         for words in (["--cpu", FAST], ["--remove"]):
             self.prefix = f"{self.folder}/for {words[0]}"

@@ -24,7 +24,7 @@ class Interrupted(Traced):
             self.assertLessEqual(len(calls), 2000)
 
     def test_every_write_to_standard_output(self):
-        """It is a write error, which standard error still reports."""
+        """A standard output that is always interrupted is a write error, which standard error still reports."""
         out = self.path("out")
         self.write("l", [f"{M}  a"])
         for words in ("md5sum a e", "md5sum -z a", "md5sum --help", "md5sum --version", "md5sum -c l"):
@@ -82,7 +82,7 @@ class Calls(Traced):
     def test_lines_around_the_buffer(self):
         """A line of up to 8,192 bytes is one write, and what is longer takes as few as can be."""
         rest = len("md5sum: : File name too long\n")
-        for length in (4097, 8191, 8192, 8193, 16384, 16385, 20000):
+        for length in (300, 2048, 4096, 4097, 8191, 8192, 8193, 16384, 16385, 20000):
             name = "y" * (length - rest)
             ran, calls = self.traced("-e trace=write,writev", ["md5sum", "x", name, "x", "a"])
             whole, behind = divmod(length, 8192)
@@ -93,13 +93,6 @@ class Calls(Traced):
 
 class Counts(Case):
     """How often the system is called to write, as it counts itself."""
-
-    def test_lines_and_reports(self):
-        self.assertEqual(self.writes_of(["md5sum", *["a", "x"] * 500]), (1, 1000))
-        self.assertEqual(self.writes_of(["md5sum", "-z", *["a"] * 500]), (0, 500))
-        self.write("l", [f"{M}  a"] * 5000)
-        self.assertEqual(self.writes_of("md5sum -c l"), (0, 5000))
-        self.assertEqual(self.writes_of("md5sum -c --quiet l"), (0, 0))
 
     def test_a_million_escapes(self):
         """A line of a manifest with a million escaped characters is written by the buffer, not by the character."""

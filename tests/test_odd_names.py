@@ -4,9 +4,8 @@ without it."""
 import os
 
 import harness
-from harness import E, M, Case, Ran, gnu
+from harness import E, M, Case, Ran
 from reference import NO_TEXT
-from reference_words import help_text
 
 NAME = b"r\xe9sum\xe9.txt"
 
@@ -46,44 +45,9 @@ class OddNames(Case):
         words = ["md5sum", *["a"] * 50000, NAME, *["a"] * 49998]
         self.expect(words, out=[f"{M}  a"] * 99998, err=unread(NAME), status=1)
 
-    def test_beside_gnu(self):
-        """1,000 names, of which three aren't UTF-8: the lines of the others are GNU's."""
-        names = [b"%d" % number for number in range(997)] + [NAME, b"\xff\n", b"a\\\xe9"]
-        os.mkdir(self.path("d"))
-        for name in names:
-            self.write(b"d/" + name, name * 50)
-        for tool in ("sha256sum", "b2sum"):
-            if gnu(tool) is None:
-                self.skipTest(f"there is no GNU {tool} here")
-            words = [tool, *sorted(b"d/" + name for name in names)]
-            ours, theirs = self.run_words(words), self.run_command(words, executable=gnu(tool))
-            odd = [line for line in theirs.out.splitlines(True) if b"\xe9" in line or b"\xff" in line]
-            self.assertEqual(len(odd), 3)
-            lines = [line for line in theirs.out.splitlines(True) if line not in odd]
-            self.assertEqual(ours, Ran(1, b"".join(lines), b"".join(
-                unread(b"d/" + name, tool.encode()) for name in (b"a\\\\\xe9", NAME, b"\xff\\n"))))
-
 
 class OddWords(Case):
-    def expect_refused(self, words, text):
-        """Expects that b2sum's words are refused with this text."""
-        self.expect(["b2sum", *words], err=[b"b2sum: " + text, "Try 'b2sum --help' for more information."], status=1)
-
-    def test_options(self):
-        """A word that begins with a dash and goes on, before the `--` that ends options, is a fault in its place."""
-        escaped = b"--\\\n\r\xed\xa0\x80", b"--\\\\\\n\\r\xed\xa0\x80"
-        same = [(word, word) for word in (b"-\xff", b"--\xc3", b"-l\xfc", b"-b\x80", b"--length=\xff", b"-8\xc3(")]
-        for word, shown in [*same, escaped]:
-            for words in ([word], ["e", word], [word, "--help"], ["-c", "-z", word, "--foo"], ["-l", "12", word, "--"]):
-                self.expect_refused(words, b"unrecognized option '" + shown + b"'")
-        self.expect_refused(["--foo", b"-\xff"], b"unrecognized option '--foo'")
-        self.expect(["md5sum", "--help", b"-\xff"], out=help_text("md5sum"))
-        self.expect(["md5sum", "--", b"-\xff", "a"], out=[f"{M}  a"], err=unread(b"-\xff"), status=1)
-
-    def test_lengths_and_tools(self):
-        for words in (["-l", b"\xff8"], ["--length", b"\xff8"], ["-b", "-l", b"\xff8", "e"]):
-            self.expect_refused(words, b"invalid length: '\xff8'")
-        self.expect_refused(["-l", b"-\xff", "e"], b"invalid length: '-\xff'")
+    def test_tools(self):
         for words in ([b"\xff"], [b"-\xff"], [b"md5sum\x80", "a"], ["shasum", b"\xff"], ["shasum", b"-\xff"]):
             self.expect(words, err=["digests: unknown tool"], status=1)
         os.symlink(harness.PROGRAM, self.path(b"\xff"))

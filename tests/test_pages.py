@@ -4,8 +4,7 @@ show."""
 import re
 
 import harness
-import pages
-from harness import GNU_TOOLS, NAMES, Case
+from harness import NAMES, Case
 from options import takes
 from recipes import sections_of
 from reference import REASONS
@@ -15,8 +14,8 @@ class Pages(Case):
     of_the_repository = True
 
     def test_options(self):
-        """Each of the help is there, but for those that anysum never takes; and each group is of the options that the
-        program takes there."""
+        """Each option of the help is there, except those that anysum never takes; and each group has the options that
+        the program takes there."""
         for tool in NAMES:
             helped = set(re.findall(rb"(?m)^ {2,6}(?:-\w, )?--([a-z-]+)", self.run_words([tool, "--help"]).out))
             parts = re.split(r"Only (with(?:out)?) --check:", sections_of(tool)["OPTIONS"])
@@ -31,15 +30,6 @@ class Pages(Case):
             for long in map(bytes.decode, helped):
                 self.assertFalse(takes(harness.PROGRAM, tool, "-c", f"--{long}"), (tool, long))
                 self.assertIn(f"--{long}", sections_of(tool)["DESCRIPTION"])
-
-    def test_own_names(self):
-        """Pages beside GNU's have names of their own, and refer to each other by these."""
-        own = pages.pages(harness.PROGRAM, own=True)
-        for name in GNU_TOOLS:
-            head = rf"\.TH DIGESTS-{name.upper()} 1 .*\n\.SH NAME\ndigests\\-{name} \\- "
-            self.assertRegex(own[f"digests-{name}"], head)
-        called = re.findall(r"(\S+)(?:md5|sha\d+|b2)sum\\fR\(1\)", "".join(own.values()))
-        self.assertEqual(set(called), {r"\%\fBdigests\-"})
 
 
 class Said(Case):

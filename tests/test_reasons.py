@@ -71,7 +71,7 @@ class Reasons(Case):
 
     def test_standard_input(self):
         """A directory, a file that is open for writing alone, a pipe and a terminal that have nothing yet and don't
-        wait, a terminal whose other side is closed, and nothing."""
+        wait, a terminal whose other side is closed, and a closed standard input."""
         pipe, feed = os.pipe()
         shows, terminal = pty.openpty()
         folder, written = os.open(self.folder, os.O_RDONLY), os.open(self.path("w"), os.O_WRONLY | os.O_CREAT)
@@ -104,7 +104,7 @@ class Reasons(Case):
 
     @needs_strace
     def test_numbers(self):
-        """Each number of the system, of an opening and of a read. What is interrupted is tried again: an opening without
+        """Each number of the system, of an opening and a read. What is interrupted is tried again: an opening without
         an end, a read up to a limit."""
         path = os.fsdecode(self.path("f"))
         self.write("f", "abc")

@@ -111,7 +111,7 @@ class Typed(Case):
             self.put(name)
 
     def files_of_the_tree(self):
-        """The names of all files of the tree, but for its list, as find gives them, and their contents."""
+        """The names of all files of the tree except its list, as find gives them, and their contents."""
         top, found = self.path("here"), {}
         for folder, _, names in os.walk(top):
             for name in names:
@@ -173,7 +173,7 @@ class Recipes(Typed):
         return f"{name}: {verdict}\n".encode() * (2 if sort == "check" else 1)
 
     def test_good_names(self):
-        """All of them, in the page's order: lists are as the standards say, and each check passes."""
+        """All recipes, in the page's order: lists are as the standards say, and each check passes."""
         self.make()
         os.symlink("c", self.path("here/some folder/link"))  # which no list has, nor a pipe
         os.mkfifo(self.path("here/some folder/pipe"))
@@ -223,7 +223,7 @@ class Recipes(Typed):
         self.assertEqual(ran.out.count(b"\n"), len(self.files_of_the_tree()))
 
     def test_a_changed_file(self):
-        """Each check reports it; and those of a whole list, any other file."""
+        """Each check reports a changed file; and those of a whole list, any other file."""
         self.make()
         for recipe, sort, shell in self.each_recipe():
             self.put("image.iso", IMAGE)
@@ -307,7 +307,7 @@ class Recipes(Typed):
         self.fails(self.recipe("check by pv"))
 
     def test_a_run_that_is_ended(self):
-        """It leaves nothing temporary behind."""
+        """A run that is ended leaves nothing temporary behind."""
         here = self.path("here")
         for recipe, sort, shell in self.each_recipe("list", "list on all", "unlisted", "write by pv", "write at once"):
             command = {"write by pv": "pv", "write at once": "tee"}.get(sort, "find")

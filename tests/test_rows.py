@@ -7,7 +7,8 @@ from harness import Case
 from rattle import text_of
 
 # How a test begins, by the end of its file's name.
-BEGINNINGS = {".rt": r"^#\[test\]\nfn {}\(", ".antt": r"^{} :", ".py": r"^class {}\(.*\):\n(?:(?:    .*)?\n)*    def {}\("}
+BEGINNINGS = {".rt": r"^#\[test\]\nfn {}\(", ".antt": r"^{} :",
+              ".py": r"^class {}\(.*\):\n(?:(?:    .*)?\n)*    def {}\("}
 
 
 class Rows(Case):

@@ -110,16 +110,8 @@ class OneWriteALine(Packets):
         with self.full() as full:
             self.expect_packets("md5sum a", err=[WRITE_ERROR], status=1, stdout=full)
 
-    def test_lines_of_every_length_up_to_a_packet(self):
-        """A line about a long name is one write as long as a packet holds it."""
-        rest = len("md5sum: : File name too long\n")
-        for length in (300, 1000, 2047, 2048, 4094, 4095, 4096):
-            name = "y" * (length - rest)
-            err = [f"md5sum: {name}: File name too long\n"]
-            self.expect_packets(["md5sum", name, "a"], out=[f"{M}  a\n"], err=err, status=1)
-
     def test_a_fault_with_a_long_word(self):
-        """Its two lines count as one: they are one write as long as both together fit into the buffer."""
+        """The two lines of a fault are one write if both together fit into the buffer."""
         for length in (8192, 8195):
             lines = "md5sum: unrecognized option '--{}'\nTry 'md5sum --help' for more information.\n"
             word = "x" * (length - len(lines.format("")))

@@ -117,15 +117,6 @@ class EachByte(Case):
                 expected = meaning("b2sum", [os.fsdecode(word) for word in line], b"abc")
                 self.assertEqual(self.run_words(["b2sum", *line], b"abc"), expected, line)
 
-    def test_beside_gnu(self):
-        """After two dashes, what isn't UTF-8 gives GNU's lines."""
-        if gnu("md5sum") is None:
-            self.skipTest("there is no GNU md5sum here")
-        for number in range(128, 256):
-            words = ["md5sum", b"--" + bytes([number]), "a"]
-            ran = self.run_words(words)
-            self.assertEqual(ran, self.run_command(words, executable=gnu("md5sum")), words)
-
 
 class LaterProcessors(Case):
     """The program that was built for them."""

@@ -15,7 +15,7 @@ named, and the definitions that all of them reach. A definition that is computed
 relation, need not be believed: the law's definitions count in its place, and it, with what it alone reaches, apart.
 
 Lines are counted with the comments above a definition, and without blank ones, heads of files, and those that say how
-an operator binds. What the toolchain's own libraries define isn't counted."""
+an operator binds. What the kit's own libraries define isn't counted."""
 
 import collections
 import functools
@@ -91,7 +91,7 @@ def in_files(definitions):
 
 
 def made():
-    """The functions of ours that `main` calls, and those that functions of its crate call too, but for the claims."""
+    """The functions of ours that `main` calls, and those that functions of its crate call too, without the claims."""
     items, claimed = code().items, [claim[:2] for claim in CLAIMS]
     left, found = [it for it in items if (it.crate, it.file, it.name) == ("digests", "main.rt", "main")], []
     while left:

@@ -1,7 +1,6 @@
 #!/usr/bin/env python3
-"""Writes the list of public calls in docs/LIBRARY.md from the comments and signatures in the sources: `library.py
-[--check]`. With --check nothing is written, and the status is 1 if the page isn't what would be written. Items marked
-`#[doc(hidden)]` are public only for the crates here, and are left out."""
+"""Writes the list of public calls in docs/LIBRARY.md from the comments and signatures in the sources: `library.py`.
+Items marked `#[doc(hidden)]` are public only for the crates here, and are left out."""
 
 import os
 import re
@@ -119,18 +118,19 @@ class Library:
         yield ""
 
 
-def main():
+def page():
+    """The text of the page, and the text that it should have."""
     library, written = Library(), text_of(PAGE)
     parts = "\n".join(line for crate in libraries() for line in library.described(crate))
-    wanted = written.split(BEGIN)[0] + BEGIN + "\n" + parts
-    if sys.argv[1:] == ["--check"]:
-        if written != wanted:
-            sys.exit("docs/LIBRARY.md: tools/library.py makes it anew")
-    elif sys.argv[1:]:
-        sys.exit("usage: library.py [--check]")
-    else:
-        with open(PAGE, "w", encoding="utf-8") as file:
-            file.write(wanted)
+    return written, written.split(BEGIN)[0] + BEGIN + "\n" + parts
+
+
+def main():
+    if sys.argv[1:]:
+        sys.exit(__doc__)
+    _, wanted = page()
+    with open(PAGE, "w", encoding="utf-8") as file:
+        file.write(wanted)
 
 
 if __name__ == "__main__":

@@ -46,7 +46,8 @@ def page_title(name, own):
 
 
 def page_of(name, own, source, words, made):
-    """The page of this name, from its text in pages/, with these words in place of @such@ and with generated parts."""
+    """The page of this name, from its text in pages/, with these words in place of their names between two @, and with
+    generated parts."""
     sections, of_gnu = [], name in TOOLS and TOOLS[name].of_gnu
     called = {name, "GNU" if of_gnu else "ours", "own" if own and name != "anysum" else ""}
     text = re.sub(r"`(\w+)`\(1\)", lambda it: f"`{page_title(it[1], own)}`(1)", text_of("tools", "pages", source))

@@ -22,8 +22,7 @@ CLAUSE = re.compile(ENSURES.pattern + r"|\bghost\s+(?!use\b)\w+\s*[:=]\s*(?=\{)|
 # The module of definitions of a type of the code, of its variants, or of the constants of a file.
 DECLARED = re.compile(r"Rattle\.(\w+)\.specs\.declared\.([\w.]+?)\.(\w+?)(?:\.The(?:Variants|Inside))?")
 
-
-# A type or trait of ours is found by its name, so it may have no other.
+# A type or trait of ours is found by its name, so no `use` may give it another one.
 OTHER_USE = re.compile(r"\S[ \t]*\bghost\s+use\b|\bghost(?! use )\s+use\b|"
                        r"(?<!\bghost )\buse\s+(?!std\b)[^;]*\bas\s+(?!_\s*[;,}])")
 
@@ -75,7 +74,7 @@ def without_comments(path):
 
 
 def uses_of(before, text):
-    """The names that the ghost `use` lines bring in which have this before them."""
+    """The names that `ghost use` lines bring in, where this pattern precedes the lines."""
     lines = re.findall(before + r"ghost (use [^;]*;)", text, re.MULTILINE)
     return {name: there for line in lines for name, there in imports_of(" ".join(line.split()))}
 
@@ -127,7 +126,7 @@ class Item(NamedTuple):
 
 
 class Code:
-    """The items of the program's crates, but for those of tests."""
+    """The items of the program's crates, without those of tests."""
 
     def __init__(self):
         self.items = []
@@ -177,7 +176,7 @@ class Code:
             yield from found
 
     def declared(self, module, name):
-        """What a module of definitions that the toolchain makes of the code declares, and what that names."""
+        """What a module of definitions that the kit makes of the code declares, and what that names."""
         owner_crate = re.match(r"Rattle\.(\w+)\.specs\.declared\b", module)
         if not owner_crate or not any(it.crate == owner_crate[1] for it in self.items):
             return []
@@ -335,7 +334,7 @@ class Specs:
                 yield found
 
     def references(self, definition):
-        """The definitions that this one refers to; in its own file the toolchain lets it use only what stands above."""
+        """The definitions that this one refers to; in its own file the kit lets it use only what stands above."""
         module = definition.module
         named = self.named(definition.text, lambda name: self.find(module.name, name), module.imports)
         return {it for it in named if it.module is not module or it.place < definition.place}

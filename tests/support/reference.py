@@ -22,7 +22,7 @@ OTHER = b"Input/output error"
 # The reason of a name that isn't UTF-8.
 NO_TEXT = os.strerror(errno.EILSEQ).encode()
 
-# The reasons of Linux's numbers that have a text in the C library. EIO, and any number that isn't here, has that of EIO.
+# The reasons of Linux's numbers that have a text in the C library. EIO and any number that isn't here have `OTHER`.
 REASONS = {number: os.strerror(number).encode() for number in range(1, 141)
            if number != errno.EIO and os.strerror(number) != f"Unknown error {number}"}
 

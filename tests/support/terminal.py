@@ -49,7 +49,7 @@ class Terminal:
                 raise TimeoutError(self.shown[-1000:])
 
     def completed(self, line):
-        """The words after the command of a line whose end is completed in all ways."""
+        """Completes the end of a line in all ways, and returns the words after its command."""
         if os.path.exists(self.words):
             os.remove(self.words)
         self.shown = b""

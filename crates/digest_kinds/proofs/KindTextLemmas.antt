@@ -20,7 +20,7 @@ pub record HasWidth (a : Algo) (s : List ℕ) (w : KindValue × List ℕ) : Type
 width-none : (a : Algo) (s : List ℕ) → HasWidth a s (full_kind a, s)
 width-none a s = record { is_algo = refl; width = []; is_width = inl (refl, refl); whole = refl }
 
--- the bits of BLAKE2b
+-- the width of a BLAKE2b kind is its bits
 width-bits : (s : List ℕ) (w : KindValue × List ℕ)
     → option_map (λ k. (k, after_while is_ascii_digit s)) (kind_of_digits (take_while is_ascii_digit s)) ≡ Some w
     → HasWidth Blake2b (45 ∷ s) w
@@ -34,7 +34,7 @@ width-bits s w h =
       whole = ap (λ l. 45 ∷ l) (prefix-and-rest is_ascii_digit s);
     })
 
--- either of them, as a `-` follows BLAKE2b's tag or not
+-- what is read after a tag has a width: the bits if a `-` follows BLAKE2b's tag, and otherwise none
 pub kind_and_rest-some : (a : Algo) (s : List ℕ) (w : KindValue × List ℕ) → kind_and_rest a s ≡ Some w → HasWidth a s w
 kind_and_rest-some Blake2b [] w h = grind (arith, width-none)
 kind_and_rest-some Blake2b (b ∷ bs) w h = grind (arith, width-bits, width-none)
@@ -47,7 +47,7 @@ kind_and_rest-alone : (kind : KindValue) (width : List ℕ) → IsWidth kind wid
     → kind_and_rest kind.algo width ≡ Some (kind, [])
 kind_and_rest-alone kind width is = grind (arith, common_steps, prefix_len-all, decimal-digits, kind_of_digits-bits)
 
--- so a kind that a text names is read after the tag that begins the text, and nothing follows
+-- a kind that a text names is read after the tag that begins the text, and nothing follows
 pub named_read : (s : List ℕ) (a : Algo) (kind : KindValue) → BeginsWithTag s a → NamesKind s kind
     → kind_and_rest a (drop (length (tag a)) s) ≡ Some (kind, [])
 named_read s a kind begun named =
@@ -55,7 +55,7 @@ named_read s a kind begun named =
     rw (← same, named.1, drop_at (tag kind.algo) named.0 (length (tag kind.algo)) refl)
     (kind_and_rest-alone kind named.0 named.2)
 
--- and the text names what is read so
+-- if a kind is read after the tag that begins a text, and nothing follows, the text names it
 pub read_named : (s : List ℕ) (a : Algo) (kind : KindValue) → BeginsWithTag s a
     → kind_and_rest a (drop (length (tag a)) s) ≡ Some (kind, []) → NamesKind s kind
 read_named s a kind begun read =
@@ -68,6 +68,6 @@ read_named s a kind begun read =
 pub length_bits : (len : ℕ) → len ≤ 64 → length (decimal (8 * len)) ≤ 3
 length_bits len few = length-decimal-le 3 (8 * len) (omega arith) (omega (arith, few)) (omega (arith, few))
 
--- the text is ASCII
+-- the text of a kind is ASCII, and so UTF-8
 pub IsUtf8-kind_text : (kind : KindValue) → has_len kind.algo kind.len ≡ true → IsUtf8 (kind_text kind)
 IsUtf8-kind_text kind has = search (rules, IsUtf8-from_ascii, IsAscii-append, IsAscii-decimal, has_len-range)

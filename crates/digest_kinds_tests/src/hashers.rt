@@ -8,7 +8,7 @@ use digest_kinds::{
 use std::process::Abort;
 use std::test::Fail;
 
-// A new hasher with this tag returns this digest of the message, and has taken the message. Without a contract, so that
+// A new hasher with this tag returns this digest of the message, and has taken the message. It has no contract, so that
 // no proof computes a digest.
 fn check(rt: &impl Abort, mut hasher: impl Hasher, tag: &str, message: &[u8], digits: &[u8]) {
     assert!(rt; hasher.try_update(message).is_ok());

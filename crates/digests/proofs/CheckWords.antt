@@ -14,13 +14,13 @@ use Rattle.digests.specs.GenerationRuns.{check_options, check_words}
 abbrev takes_none : Flag → Bool
 takes_none flag = not (takes_value flag)
 
--- the word of one is that option
+-- the word of one option that takes no value is read as that option
 long_word : (t : Tool) (flag : Flag) (more : List ByteString) → takes_none flag ≡ true
     → items_from t ((codes "--" ++ full_name flag) ∷ more) a_word ≡ option flag ∷ items_from t more a_word
 unfolding chars encode is_utf8 name_or_fault
 long_word = grind (arith, common_steps)
 
--- and several words are those options
+-- the words of several options that take no value are read as those options
 long_words : (t : Tool) (fs : List Flag) (more : List ByteString) → list_all takes_none fs ≡ true
     → items_from t (map (λ f. codes "--" ++ full_name f) fs ++ more) a_word ≡ map option fs ++ items_from t more a_word
 long_words t [] more all = refl
@@ -33,14 +33,14 @@ long_words t (flag ∷ fs) more all =
 abbrev settings : Tool → Report → Bool → Bool → CheckSettings
 settings t r s i = record { algo = algos_of t; report = r; strict = s; ignore_missing = i }
 
--- no option of a check takes a value, and words with these items ask for the check
+-- no option of a check takes a value, and words with the check's items ask for the check
 options_ask : (t : Tool) (words : List ByteString) (m : ByteString) (r : Report) (s i : Bool)
     → (list_all takes_none (check_options (settings t r s i)) ≡ true)
     × (items_from t words a_word ≡ map option (check_options (settings t r s i)) ++ operand m ∷ []
     → request t words ≡ Ok (Check (settings t r s i) (m ∷ [])))
 options_ask = grind (arith, common_steps)
 
--- so the words ask for the check
+-- the words of a check ask for that check
 pub request-check_words : (t : Tool) (check : CheckSettings) (manifest : ByteString) → check.algo ≡ algos_of t
     → request t (check_words check manifest) ≡ Ok (Check check (manifest ∷ []))
 request-check_words t check manifest h =

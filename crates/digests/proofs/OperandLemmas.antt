@@ -16,7 +16,7 @@ abbrev pub left : Option (Bor ByteString) → List ByteString → List ByteStrin
 left None rest = []
 left (Some name) rest = name.now ∷ rest
 
--- one was taken
+-- one operand was taken
 pub left-next : (old new : List ByteString) (next : Option (Bor ByteString)) → TakesFirst (λ w. w.now) old next new
     → old ≡ left next new
 left-next old new None h = h.0
@@ -49,7 +49,7 @@ module _ {one : World → ByteString → Behavior} {names : List ByteString} whe
   operands_done_start {a = a} is =
       record { reads = reads_none a.inputs; completes = λ flushed w agrees z r did. rw is did }
 
-  -- one operand more happened
+  -- one more operand happened
   pub operands_done_step : {Whole : Type 0} {good : Bool} {name : ByteString} {rest : List ByteString}
       {x y : StreamsState} (this : Bool) (z : StreamsState) → HasReached one names (name ∷ rest) x y good
       → (IsFlushed x.outputs → IsFlushed y.outputs) → (this ≡ true → Whole) → ReadsToEndIf Whole y.inputs z.inputs

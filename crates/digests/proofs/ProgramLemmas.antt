@@ -11,7 +11,7 @@ use Rattle.digests.proofs.MessageLemmas.{Performs-texts}
 
 -- ---- a run that answered, and its end
 
--- nothing more was done
+-- what happened stays if the outputs get nothing more
 Happened-kept : {a b : StreamsState} (es : List Event) (outputs : OutputsState) → Happened a b es
     → KeepsBoth b.outputs outputs → Happened a (record b { outputs = outputs }) es
 Happened-kept {a} {b} es outputs h kept = record {
@@ -20,7 +20,7 @@ Happened-kept {a} {b} es outputs h kept = record {
   out = rw append-nil at (Gets-then h.out kept.0);
 }
 
--- so a run that didn't stop is still done, once both outputs were flushed; or it failed after all events
+-- a run that didn't stop is still performed once both outputs were flushed, or it failed after all events
 Performs-flushed : (run : World → Behavior) (a b : StreamsState) (outputs : OutputsState) (x : ℕ)
     (later : Result ℕ Stop) → Performs run status_of a b (Ok x)
     → FlushesBoth b.outputs outputs (Ok x) later → KeepsBoth b.outputs outputs
@@ -48,7 +48,7 @@ CallPerforms-finished status tool run a b outputs (Ok x) ran failed (later, m, f
 CallPerforms-finished status tool run a b outputs (Err stop) ran failed (later, m, flushes, kept, reports) =
     (Err stop, b, ran, failed, refl, rw (flushes.0, flushes.1) at reports)
 
--- a call in whose place this line is written
+-- a call that is refused with this line
 pub CallRefuses-refused : (status : ℕ) (a : StreamsState) (outputs : OutputsState) (line : ByteString)
     → Refuses line a.outputs outputs status → IsFlushed a.outputs
     → CallRefuses line a (record a { outputs = outputs }) status

@@ -1,4 +1,4 @@
--- Worked examples: the meaning of some command lines, computed. It has both texts, the names that are asked, and
+-- Worked examples: the meaning of some command lines, computed. It has both texts, the names that are opened, and
 -- whether all is good.
 use Rattle.std.proofs.Common.{rules, arith, ◌≡◌, ◌∙◌, ap, ℕ, ◌++◌, Bool, List, [], ◌∷◌, refl, codes, true, false, if◌then◌else◌, bytes_eq, Result, Ok, Err, IfOk, inl, inr}
 use Rattle.std.specs.{Prelude.⊤, Prelude.◌⊎◌, Path.rsplit_once, Fmt.digits}

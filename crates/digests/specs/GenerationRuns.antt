@@ -39,7 +39,7 @@ pub record IsCheckable (algos : Algos) (files later : ByteString → Answer) (g 
   pub listable : All (IsListable files) g.names
   pub same : All (λ name. later name ≡ files name) g.names
 
--- a world in which these are the files, whatever was opened
+-- a world has these files, whatever was opened
 abbrev pub HasFiles : World → (ByteString → Answer) → Type 0
 HasFiles w files = (name : ByteString) (k : ℕ) → is_dash name ≡ false → w.answer name k ≡ files name
 

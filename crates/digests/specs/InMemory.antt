@@ -1,4 +1,4 @@
--- The headline for files in memory: what a run does whose source has all answers in memory.
+-- The headline for files in memory: what a run does if its source tells all answers.
 use Rattle.std.specs.Prelude.{ℕ, ◌≡◌, ◌⊎◌, List, Option, None, Some, Result, Ok}
 use Rattle.sum_sources.specs.Sources.{Answers, ToldAnswers, TellsAll}
 use Rattle.sum_engine.specs.Behavior.{ByteString, World}
@@ -9,8 +9,8 @@ use Rattle.sum_words.specs.declared.tool.Tool.{Tool}
 use Rattle.digests.specs.Meaning.{meaning, status_of}
 use Rattle.digests.specs.Program.{CallPerforms, CallRefuses, ProgramPerforms}
 
--- a tool ran on these words, as its contract says, over a source all of whose answers are known, and left the streams
--- b. So exactly the behavior was performed that the words mean by these answers
+-- if a tool ran on some words, as its contract says, over a source that tells all answers, and left the streams
+-- b, then exactly the behavior was performed that the words mean by these answers
 abbrev pub MeansInMemory : ToldAnswers → StreamsState → Type 0
 MeansInMemory tells b = (tool : Tool) (words : List ByteString) (answer : Answers) (a : StreamsState) (r : Result ℕ Stop)
     → TellsAll tells a.inputs.told answer → IsFlushed a.outputs
@@ -24,8 +24,9 @@ CommandPerformsIn w None = CallRefuses unknown_tool_line
 CommandPerformsIn w (Some (tool, words)) = let all = meaning tool words w in
     CallPerforms (Some tool) (PerformsSteps all.steps (status_of all.good))
 
--- the program was called, as its contract says, with arguments in memory and over such a source, and left the streams
--- b. So it did exactly what these arguments ask for by these answers; or they need memory, and weren't read
+-- if the program was called, as its contract says, with arguments in memory and over a source that tells all
+-- answers, and left the streams b, then it did exactly what these arguments ask for by these answers; or they need
+-- memory, and weren't read
 abbrev pub ProgramInMemory : ToldAnswers → ArgumentsState → StreamsState → Type 0
 ProgramInMemory tells given b = (arguments : List ByteString) (answer : Answers) (a : StreamsState) (status : ℕ)
     → given.told ≡ Some arguments → TellsAll tells a.inputs.told answer → IsFlushed a.outputs

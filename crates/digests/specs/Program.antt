@@ -23,7 +23,7 @@ ReportsStop tool (Ok answer) a b status = (status ≡ answer) × (b ≡ a)
 ReportsStop tool (Err stop) a b status = (status ≡ 1) × (b ≡ record a { err = b.err })
     × (given : Result ⊤ ⊤) × GivesAll a.err.sink b.err.sink (tool_stop_line tool stop) given
 
--- THE PROGRAM, for one call: it performs something, and then reports a stop, if there is a tool
+-- THE PROGRAM, for one call: it does what `performs` says, and then reports a stop, if there is a tool
 abbrev pub CallPerforms : Option Tool → (StreamsState → StreamsState → Result ℕ Stop → Type 0)
     → StreamsState → StreamsState → ℕ → Type 0
 CallPerforms tool performs a b status = (answer : Result ℕ Stop) × (between : StreamsState)
@@ -39,7 +39,7 @@ abbrev pub CommandPerforms : Option (Tool × List ByteString) → StreamsState �
 CommandPerforms None = CallRefuses unknown_tool_line
 CommandPerforms (Some (tool, words)) = CallPerforms (Some tool) (Performs (meaning tool words) status_of)
 
--- flushed outputs: of each list that agrees, the call is performed, or, if it needs memory, that of words not read
+-- for flushed outputs and each list that agrees: its call is performed or, if it needs memory, that of words not read
 abbrev pub ProgramPerforms : ArgumentsState → StreamsState → StreamsState → ℕ → Type 0
 ProgramPerforms given a b status = IsFlushed a.outputs → (arguments : List ByteString) → AreOf given arguments
     → CommandPerforms (command_line arguments) a b status

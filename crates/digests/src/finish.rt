@@ -41,7 +41,7 @@ fn flush_both<O: Sink, E: Sink>(
     ensures outcome { FlushesBoth outputs.old outputs.new outcome result }
     ensures bytes { IsFlushed outputs.old → KeepsBoth outputs.old outputs.new }
     ensures flushed { IsFlushed outputs.old → IsFlushed outputs.new }
-    // However they were before.
+    // Whether or not they were flushed before.
     ensures flushed_on_ok { OnOk result (IsFlushed outputs.new) }
 {
     let status = outcome?;

@@ -56,9 +56,9 @@ where
         (O.contents out) (E.contents err) in
         IsFlushed start.outputs × IsFlushed result.streams.outputs }
     ensures stdin { IsStdinAlone result.streams.inputs.told }
-    // One way: status 0 only if no call of either output failed.
+    // The status is 0 only if no call of either output failed.
     ensures no_failures { result.status ≡ 0 → failures result.streams.outputs ≡ (0, 0) }
-    // Status 0 only if all that was opened was read to its end; and never further.
+    // The status is 0 only if everything that was opened was read to its end; nothing was read further.
     ensures reads { All (ReadsFile (result.status ≡ 0)) result.streams.inputs.openings }
 {
     let mut arguments = SystemArguments::new(env);

@@ -69,7 +69,7 @@ fn spell(alloc: Global, text: &str) -> Result<String, Fail> {
     Ok(all)
 }
 
-// A text, repeated this many times. Without a contract, so that no proof computes it.
+// A text, repeated this many times. It has no contract, so that no proof computes it.
 fn repeat(alloc: Global, text: &str, count: usize) -> Result<String, Fail> {
     Ok(text.repeat(alloc, count)?)
 }
@@ -120,7 +120,7 @@ fn stage<'a, A: Allocator + Copy, const N: usize>(
     stage_until(input, source, (N, N))
 }
 
-// The same, with outputs that stop after so many bytes.
+// What a run works on, with outputs that stop after this many bytes.
 fn stage_until<'a, A: Allocator + Copy, const N: usize>(
     input: Told<'a>,
     source: ToldSource<'a, A>,
@@ -136,7 +136,7 @@ fn stage_until<'a, A: Allocator + Copy, const N: usize>(
 }
 
 // Runs a line, whose first word is the tool and whose words are separated by single spaces. Returns `None` if there is
-// no room for the words. Without a contract, so that the proofs of its callers are spared that of `run`.
+// no room for the words. It has no contract, so that its callers' proofs don't meet that of `run`.
 fn run_line<A: Allocator + Copy, const N: usize>(
     alloc: A,
     line: &str,
@@ -175,8 +175,8 @@ fn assert_ended<A: Allocator + Copy, const N: usize>(
     Ok(())
 }
 
-// Asserts that a line does as its example says over this input, the usual files and these, read in pieces of at most so
-// many bytes.
+// Asserts that a line does as its example says over this input, the usual files and these, read in pieces of at most
+// this many bytes.
 fn assert_example(
     rt: &(impl Abort + AllocGlobal),
     (input, ending): (&[u8], Ending),
@@ -191,7 +191,7 @@ fn assert_example(
     assert_ended(rt, &streams, outcome, example)
 }
 
-// The same of each line, in whatever pieces they are read.
+// Asserts that each line does as its example says, in whatever pieces its input is read.
 fn assert_examples(
     rt: &(impl Abort + AllocGlobal),
     (input, ending): Given,

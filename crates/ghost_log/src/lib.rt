@@ -73,14 +73,14 @@ impl<T> Log<T> {
         Log { of: PhantomData }
     }
 
-    /// A log whose state is this value.
+    /// Creates a log whose state is this value.
     pub fn of(first: &T) -> Log<T>
         ensures { result ≡ first.now }
     {
         Log::made::<_, It>(first)
     }
 
-    /// This log, and then a note.
+    /// Returns this log after one more note.
     pub fn and<X>(&self, note: &X) -> Log<T>
     where
         T: Notes<X>,

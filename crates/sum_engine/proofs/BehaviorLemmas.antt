@@ -11,12 +11,12 @@ use Rattle.sum_engine.proofs.ExecutionLemmas.{step_performed, kind-all, kind-non
 
 -- ---- a behavior after a step, and one behavior after another
 
--- both happened
+-- two lists of steps happened, one after the other, so both together did
 pub behavior_then-happened : {a b c : StreamsState} (r s : List Step) → Happened a b (trace r) → Happened b c (trace s)
     → Happened a c (trace (r ++ s))
 behavior_then-happened r s h k = rw (flat_map-append events_of r s) (Happened-then (trace r) (trace s) h k)
 
--- the first happened, and the second stopped
+-- the first steps happened and those after them stopped, so both together stopped
 pub behavior_then-second : {A B : Type 0} {a b : StreamsState} (c : StreamsState) (x : A) (y : B) (r s : List Step)
     (stop : Stop)
     → Happened a b (trace r) → PerformsSteps s y b c (Err stop) → PerformsSteps (r ++ s) x a c (Err stop)
@@ -28,7 +28,7 @@ behavior_then-second {b} c x y r s Memory h k =
     let cause = rw h.inputs.refusals at k.cause in
     search (rules, append_assoc, did, cause)
 
--- the first stopped
+-- the first steps stopped, so both together stopped
 pub behavior_then-first : {A B : Type 0} (a b : StreamsState) (x : A) (y : B) (r s : List Step) (stop : Stop)
     → PerformsSteps r y a b (Err stop) → PerformsSteps (r ++ s) x a b (Err stop)
 behavior_then-first a b x y r s Write h = (h.0, h.1 ++ trace s, search (rules, flat_map-append, append_assoc), h.3)
@@ -43,25 +43,25 @@ behind_step c x s r (Err stop) h k = behavior_then-second c x x (s ∷ []) r sto
 
 -- ---- along a run
 
--- of the whole run all happened but what is left
+-- all of the whole behavior has happened, except what is left
 pub record HasDoneUpTo (whole left : Behavior) (a b : StreamsState) : Type 0 where
   pub done : List Step
   pub steps : whole.steps ≡ done ++ left.steps
   pub good : left.good ≡ whole.good
   pub happened : Happened a b (trace done)
 
--- nothing happened so far
+-- nothing has happened so far, so the whole behavior is left
 pub done_none : (whole : Behavior) (a : StreamsState) → HasDoneUpTo whole whole a a
 done_none whole a = record { done = []; steps = refl; good = refl; happened = Happened-none a }
 
--- one step more happened
+-- one more step happened
 pub done_more : {a b c : StreamsState} {whole left : Behavior} (step : Step) (later : Behavior)
     → HasDoneUpTo whole left a b → left ≡ step_then step later → Happened b c (trace (step ∷ []))
     → HasDoneUpTo whole later a c
 done_more step later h is k =
     let did = behavior_then-happened h.done (step ∷ []) h.happened k in search (rules, append_assoc, did)
 
--- the next step stopped
+-- the next step stopped, so the whole behavior stopped
 pub done_stops : {A B : Type 0} {a b : StreamsState} {whole left : Behavior} (c : StreamsState) (x : A) (y : B)
     (step : Step) (later : Behavior) (stop : Stop) → HasDoneUpTo whole left a b → left ≡ step_then step later
     → PerformsSteps (step ∷ []) y b c (Err stop) → PerformsSteps whole.steps x a c (Err stop)
@@ -73,7 +73,7 @@ done_stops {a = a} {b = b} c x y step later stop h is k =
 
 -- ---- a run of one step
 
--- the step was done, or a prefix of it
+-- the one step of a behavior was done, or a prefix of it, so the behavior was performed
 pub Performs-step : {A : Type 0} (run : World → Behavior) (outcome : Bool → A) (good : Bool) (a b : StreamsState)
     {names : List (List ℕ)} {err out : List ℕ} {x : Result A Stop} → AsksNames a.inputs b.inputs names
     → ((w : World) → Agrees w b.inputs → run (world_at w a.inputs) ≡ single_step names err out good)
@@ -100,7 +100,7 @@ kinds (s ∷ steps) =
     let (names, err, out) = kinds steps in
     search (rules, filter_map-append, kind-all, kind-none, output_events-bytes, names, err, out)
 
--- so what happened of a run extends each output by the run's text there, and asks its names
+-- if the trace of a run happened, each output grew by the run's text for it, and its names were opened
 pub events_extend : EventsExtend
 events_extend r a b did =
     let (names, err, out) = kinds r.steps in

@@ -8,12 +8,12 @@ use Rattle.sum_engine.specs.check.OldVerdicts.{HasNoCarriageReturn}
 abbrev pub IsNoCarriageReturn : ℕ → Type 0
 IsNoCarriageReturn b = b ≢ 13
 
--- nothing is taken from one line
+-- a line without a carriage return stays as it is
 strip-kept : (l : List ℕ) → HasNoCarriageReturn l → strip_carriage_return l ≡ l
 strip-kept [] free = refl
 strip-kept (b ∷ bs) free = search rules
 
--- nor from several
+-- lines without a carriage return stay as they are
 pub strips-kept : (ls : List (List ℕ)) → All HasNoCarriageReturn ls → map strip_carriage_return ls ≡ ls
 strips-kept [] all = refl
 strips-kept (l ∷ ls) all = search (rules, All-head, strip-kept, strips-kept ls (All-tail HasNoCarriageReturn l ls all))

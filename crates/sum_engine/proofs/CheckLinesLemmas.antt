@@ -32,13 +32,13 @@ state-initial start c w = rw (start.reader, start.form, start.counts) refl
 
 -- ---- the step that ends or stops
 
--- it returns whether all is good only if no step remains
+-- a step returns whether all is good only if no step remains
 pub none_left : (steps : List Step) (all good : Bool) → Ended good ≡ progress_before steps all
     → (steps ≡ []) × (good ≡ all)
 none_left [] all good h = search rules
 none_left (s ∷ steps) all good h = cc
 
--- it was performed: the whole behavior, if all before it was
+-- if the last step was performed after all steps before it, the whole behavior was
 pub done_last : {whole left : Behavior} {a b : StreamsState} (c : StreamsState) (step : Step) (later : Behavior)
     (x : Result Bool Stop) → HasDoneUpTo whole left a b → left ≡ step_then step later
     → PerformsSteps (step ∷ []) (progress_before later.steps later.good) b c (ends x)
@@ -59,7 +59,7 @@ good_found q labels vector (Ok None) a b h = let p = returned h.written h.return
 good_found q labels vector (Err Memory) a b h = let p = h.0 in cc
 good_found q labels vector found a b h = let p = returned h.written h.returns in cc
 
--- it goes on only after a line
+-- a step goes on only after a line
 going_found : {I : Type 0} (q : VerdictsValue I) (labels : LabelsValue) (vector : List ℕ) (found : VerdictResult)
     (a b : OutputsState) → ReportsFound q labels vector found a b (Ok Going)
     → (v : LineVerdict) × (found ≡ Ok (Some v))
@@ -100,7 +100,7 @@ module _ {I : Type 0} {state : I → InputState} {vector : List ℕ} {p q : Chec
       → StopHasCause (0 ∷ 1 ∷ []) a b x
   step_cause h = cause_found q.verdicts p.labels vector h.found a b h.verdict.asked h.reports
 
-  -- each line is counted, below the limit
+  -- each line is counted, and there are fewer than the limit
   pub fewer_lines : AdvancesChecker state vector p q a b (Ok Going)
       → 2 ^ 61 - q.verdicts.reader.lines < 2 ^ 61 - p.verdicts.reader.lines
   fewer_lines h =
@@ -108,7 +108,7 @@ module _ {I : Type 0} {state : I → InputState} {vector : List ℕ} {p q : Chec
       let one = h.verdict.number v found in
       omega (arith, one, h.verdict.bounds)
 
--- none was counted that could not be read only if none was before, and this one isn't such a line
+-- if no file is counted as unread, none was before, and this line's file isn't unread
 pub none_unread : {I : Type 0} (p q : VerdictsValue I) (found : VerdictResult) → q.counts ≡ counts_after p.counts found
     → q.counts.unread ≡ 0 → (p.counts.unread ≡ 0) × IsNotUnread found
 none_unread p q found counted none = search (rules, arith)
@@ -148,14 +148,14 @@ module _ {I : Type 0} (state : I → InputState) (first : CheckerValue I) (m : S
     pub taken : q.verdicts.reader.taken + length (state first.verdicts.reader.input).reads.bytes
         ≡ first.verdicts.reader.taken + length (state q.verdicts.reader.input).reads.bytes
 
-  -- it begins so
+  -- before its first step, a check has come as far as its new checker
   pub HasComeTo-none : first.outcome ≡ None → HasComeTo first m
   HasComeTo-none none =
       let happened : HoldsUpTo first.verdicts m (λ a b. ComesTo a b m) = λ flushed.
       record { holds = λ reading c of w agrees. search (rules, done_none) } in
       search (rules, reads_none, happened)
 
-  -- after a step more, which returned x, P holds if it follows of what happened before and of the step
+  -- after one more step, which returned x, P holds if it follows from what happened before and from the step
   one_more_step : {q : CheckerValue I} {n : StreamsState} (next : CheckerValue I) (o : StreamsState) (vector : List ℕ)
       (x : Result Progress Stop) {P : CheckState → CheckState → Type 0} → HasComeTo q n
       → AdvancesChecker state vector q next n o x → TakesStep state vector q.labels q.verdicts next.verdicts n o x
@@ -170,7 +170,7 @@ module _ {I : Type 0} (state : I → InputState) (first : CheckerValue I) (m : S
         (rw (h.rules, h.labels) at ((step (h.so_far.flushed flushed)).holds here c of w agrees));
   }
 
-  -- a step that goes on comes one line further
+  -- after a step that goes on, the checker has come one line further
   pub HasComeTo-more : (q next : CheckerValue I) (n o : StreamsState) (vector : List ℕ) → HasComeTo q n
       → AdvancesChecker state vector q next n o (Ok Going) → next.outcome ≡ None
       → TakesStep state vector q.labels q.verdicts next.verdicts n o (Ok Going) → HasComeTo next o

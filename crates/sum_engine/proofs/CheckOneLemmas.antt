@@ -25,7 +25,7 @@ shown name = if is_dash name then codes "standard input" else name
 
 -- the manifest of that name is checked, from the streams a
 module _ (settings : CheckSettings) (tool name : List ℕ) (a : StreamsState) where
-  -- what a call does
+  -- what a call that checks this manifest performs
   abbrev Performed : StreamsState → Result Bool Stop → Type 0
   Performed b x = Performs (λ w. check_behavior settings tool w name) (λ g. g) a b x
 
@@ -79,7 +79,7 @@ module _ (settings : CheckSettings) (tool name : List ℕ) (a : StreamsState) wh
             read = ran.read;
           })
 
-  -- it could not be opened, and the line of its fault was written, or a prefix of it
+  -- the manifest could not be opened, and the line of its fault was written, or a prefix of it
   pub refused : (m : SourceState) (f : Fault) (outputs : OutputsState) (x : Result Bool Stop)
       → m ≡ and_opening a.inputs name (Some (Err f))
       → WritesAndReturns a.outputs outputs (name_fault_line own_profile tool (shown name) f) [] false x
@@ -96,7 +96,7 @@ module _ (settings : CheckSettings) (tool name : List ℕ) (a : StreamsState) wh
   not_read m f outputs (Err stop) opens = λ flushed w agrees c answer r gave.
       let fault = fault_answer a.inputs m name f opens w agrees in cc
 
-  -- there was no memory to open it
+  -- there was no memory to open the manifest
   pub no_room : (m : SourceState) → MemoryWasRefused a.inputs m → Performed (from_inputs m) (Err Memory)
   no_room m refused =
       Performs-refused (λ w. check_behavior settings tool w name) (λ g. g) a (from_inputs m)

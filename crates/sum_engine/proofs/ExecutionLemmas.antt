@@ -12,17 +12,17 @@ use Rattle.sum_engine.proofs.WorldLemmas.{asks_none, asks_then}
 
 -- ---- what of a step's events is of each kind
 
--- these names are opened, and then these events of the outputs happen, in this order
+-- the events of opening these names and then of both outputs, in this order
 abbrev pub events_by : List (List ℕ) → List OutputEvent → List OutputEvent → List Event
 events_by names err out = map open_name names ++ (map to_err err ++ map to_out out)
 
--- events of the kind that is looked for
+-- among events of the kind that is looked for, all are found
 pub kind-all : {A : Type 0} (f : A → Event) (h : Event → Option A) → ((x : A) → h (f x) ≡ Some x) → (xs : List A)
     → filter_map h (map f xs) ≡ xs
 kind-all f h same [] = refl
 kind-all f h same (x ∷ xs) = search (rules, kind-all f h same xs)
 
--- events of another kind
+-- among events of another kind, none is found
 pub kind-none : {A B : Type 0} (f : A → Event) (h : Event → Option B) → ((x : A) → h (f x) ≡ None) → (xs : List A)
     → filter_map h (map f xs) ≡ []
 kind-none f h none [] = refl
@@ -30,18 +30,18 @@ kind-none f h none (x ∷ xs) = search (rules, kind-none f h none xs)
 
 -- ---- what happened
 
--- these names were asked, and the outputs got these events
+-- these names were opened, and the outputs got these events
 pub Happened-by : {a b : StreamsState} (names : List (List ℕ)) (err out : List OutputEvent)
     → AsksNames a.inputs b.inputs names → Gets a.outputs.err.sink b.outputs.err.sink err
     → Gets a.outputs.out.sink b.outputs.out.sink out
     → Happened a b (events_by names err out)
 Happened-by names err out h p q = search (rules, filter_map-append, kind-all, kind-none)
 
--- nothing
+-- nothing happened between equal streams
 pub Happened-none : (a : StreamsState) → Happened a a []
 Happened-none a = search (rules, asks_none, Gets-none)
 
--- one thing after another
+-- events happened, and then others, so all of them did
 pub Happened-then : {a b c : StreamsState} (p q : List Event) → Happened a b p → Happened b c q → Happened a c (p ++ q)
 Happened-then p q h k =
     let err = Gets-then h.err k.err in
@@ -49,7 +49,7 @@ Happened-then p q h k =
 
 -- ---- one step
 
--- the names were asked and the texts written, or a prefix of them: so the step that has these was performed
+-- the names were opened and the texts written, or a prefix of them: the step that has these was performed
 pub step_performed : {A : Type 0} {a b : StreamsState} {names : List (List ℕ)} {err out : List ℕ} {x : A}
     {r : Result A Stop} (remaining : ℕ) → AsksNames a.inputs b.inputs names → IsFlushed a.outputs
     → WritesAndReturns a.outputs b.outputs err out x r
@@ -98,7 +98,7 @@ one_at_most a b (inr same) = (0, 0, search arith, refl, rw same (omega arith))
 
 -- ---- a file was closed
 
--- what was performed before that was performed by then
+-- what was performed still is after a closing, which opens nothing and is refused no memory
 pub kept_performs : {A : Type 0} (steps : List Step) (x : A) (a b : StreamsState) (n : SourceState) (r : Result A Stop)
     → asked n ≡ asked b.inputs → n.refusals ≡ b.inputs.refusals → PerformsSteps steps x a b r
     → PerformsSteps steps x a (record b { inputs = n }) r

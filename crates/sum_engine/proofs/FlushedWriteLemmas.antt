@@ -14,7 +14,7 @@ given_flushed : {E : Type 0} (a b : BufferState) (text : List ℕ) (r : Result (
 given_flushed a b text (Ok u) given flushed = search rules
 given_flushed a b text (Err e) given flushed = search rules
 
--- a text was written, and then flushed, or that failed
+-- a text was written, and then the output was flushed, or its flush failed
 pub written_flushed : {E : Type 0} {a b : BufferState} (c : BufferState) (text : List ℕ) (r : Result (Unit {0}) E)
     → Accepts a b text → GivesAll b.sink c.sink b.buffered r → IsFlushed c → WritesAndFlushes a c text r
 written_flushed {a = a} c text r wrote given flushed =
@@ -41,7 +41,7 @@ pub writes_and_returns : {E A : Type 0} {a b : OutputsState} {err out : List ℕ
 writes_and_returns (Ok u) is h = record { written = Ok tt; writes = h; returns = is }
 writes_and_returns (Err e) is h = record { written = Err tt; writes = h; returns = is }
 
--- what a call returns that was to return x, unless a write failed
+-- a call that was to return x returns it, unless a write failed
 pub returned : {E A : Type 0} {x y : A} (w : Result (Unit {0}) E) → Ok y ≡ outcome_after w x → y ≡ x
 returned (Ok u) is = search rules
 returned (Err e) is = cc

@@ -9,7 +9,7 @@ use Rattle.sum_sources.specs.declared.sources.source.OpenFault.TheVariants as fa
 use Rattle.sum_engine.specs.Generation.{Settings, generate_behavior_by}
 use Rattle.sum_engine.specs.Execution.{AsksNames, Agrees, world_at}
 
--- the fault that was found is what the definitions say of the answer, and the name was asked
+-- the fault that was found is what the definitions say of the answer, and the name was opened
 pub fault_found : {kind : KindValue} {name : List ℕ} {a b : SourceState} (e : HashFault) (f : Fault) → Ok f ≡ fault_in e
     → HashesName kind name a b (Err e) → AsksNames a b (name ∷ [])
     × ((w : World) → Agrees w b → digest_or_fault kind (answer_to (world_at w a) name) ≡ Err f)
@@ -17,7 +17,7 @@ fault_found (Open (faults.Fault e)) f is h = (h.asked, λ w agrees. rw (h.hash w
 fault_found (Read e) f is h = (h.asked, λ w agrees. let hash = h.hash w agrees in search rules)
 fault_found (Open faults.Memory) f is h = cc
 
--- or memory was refused
+-- if there is no fault of the name, memory was refused
 pub refused_memory : {kind : KindValue} {name : List ℕ} {a b : SourceState} (e : HashFault) (f : NoRoom)
     → Err f ≡ fault_in e → HashesName kind name a b (Err e) → MemoryWasRefused a b
 refused_memory (Open faults.Memory) f is h = h.asked

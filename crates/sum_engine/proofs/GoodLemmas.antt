@@ -33,7 +33,7 @@ rights n (i ∷ is) = right (n + 1) i ∷ rights (n + 1) is
 abbrev pub Steady : (List ℕ → Answer) → World → Type 0
 Steady files w = (name : List ℕ) (k : ℕ) → is_dash name ≡ false → w.answer name k ≡ files name
 
--- a written line is judged so: its item's file has the digest that it spells
+-- a written line is judged right: its item's file has the digest that it spells
 judged : (r : Rules) (files : List ℕ → Answer) (w : World) (n : ℕ) (f : Form) (i : Item)
     → Steady files w → Listed r.algo files i
     → IsEntry escape r.algo f (prefix i) (spelled_for i)
@@ -44,7 +44,7 @@ judged r files w n f i steady h e =
     rw (steady i.name (times i.name w.opened) h.no_dash) (search (rules, clip-short, limit-value, and-false, bytes_eq-Decides)) in
     rw ((is.when_entry (spelled_for i)).1 e, verdict) refl
 
--- and all of them, each in the world that those before it leave
+-- written lines are all judged right, each in the world that those before it leave
 right-verdicts : (r : Rules) (files : List ℕ → Answer) (before : List (List ℕ)) (is : List Item) (w : World) (n : ℕ)
     → Steady files w → ReadableSoFar r.algo before → All (Listed r.algo files) is
     → verdicts (now r) (form r.algo (before ++ map prefix is)) w n (map prefix is) ≡ rights n is
@@ -84,11 +84,11 @@ module _ (r : Rules) (labels : LabelsValue) where
   texts-are end c (j ∷ js) =
       let (out, err) = texts-are end (past_line c) js in search (rules, append_assoc, out, err)
 
-  -- the whole summary is empty
+  -- the text at the end of a manifest of right lines is empty
   no-summary : (k : ℕ) → end_text r labels Whole (right_counts (suc k)) ≡ []
   no-summary k = search rules
 
--- and the list is good
+-- a manifest of right lines is good
 is-good : (r : Rules) (k : ℕ) → good r Whole (right_counts (suc k)) ≡ true
 is-good r k = rw (ne_eqb (suc k) 0 (λ e. omega (arith, e)), or-true) refl
 

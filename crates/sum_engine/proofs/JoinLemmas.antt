@@ -21,13 +21,13 @@ length_verdicts r f w n (l ∷ ls) =
     let asked = asks_of (line_verdict r w (n + 1) (parse_line r.profile r.algo f l)) in
     ap suc (length_verdicts r f (after w asked) (n + 1) ls)
 
--- and one step more
+-- a manifest has one more step than it has verdicts
 length_steps : (r : Rules) (labels : LabelsValue) (end : List ℕ) (c : Content) (js : List LineVerdictValue)
     → length (line_steps r labels end c js) ≡ length js + 1
 length_steps r labels end c [] = refl
 length_steps r labels end c (j ∷ js) = omega (arith, length_steps r labels end (past_line c) js)
 
--- what remains and what is done after one more
+-- what remains and what is done after one more element
 drop_next : {X : Type 0} (k : ℕ) (xs ys : List X) (y : X) → drop k xs ≡ y ∷ ys
     → (drop (suc k) xs ≡ ys) × (take (suc k) xs ≡ take k xs ++ y ∷ [])
 drop_next zero [] ys y h = cc
@@ -51,11 +51,11 @@ module _ (r : Rules) (labels : LabelsValue) (c : Content) (w : World) (s : Strea
     pub steps : (remaining_behavior r labels b).steps ≡ drop k whole.steps
     pub good : (remaining_behavior r labels b).good ≡ whole.good
 
-  -- no step yet
+  -- no step was taken yet
   after_none : After (initial_state c w) s 0
   after_none = search (rules, remaining-initial, Happened-none)
 
-  -- one more
+  -- one more step was taken
   after_more : {b d : CheckState} {t z : StreamsState} {v : List ℕ} {k : ℕ} → After b t k
       → IsStep r labels v b d t z (Ok Going) → After d z (suc k)
   after_more {b} {d} {t} {z} {v} {k} h step =
@@ -68,7 +68,7 @@ module _ (r : Rules) (labels : LabelsValue) (c : Content) (w : World) (s : Strea
       rw steps.1 (behavior_then-happened (take k whole.steps) (step.step ∷ []) h.done step.performs.1) in
       search (rules, remaining, done, steps, moves)
 
-  -- all, one after another
+  -- all steps were taken, one after another
   after_all : (a b : CheckState) (m t : StreamsState) (i : ℕ) (vectors : List (List ℕ)) → After a m i
       → StepsGoing r labels a b m t vectors → After b t (i + length vectors)
   after_all a b m t i [] h is = let none : i + 0 ≡ i = omega arith in rw (is.0, is.1, none) h

@@ -22,11 +22,11 @@ pub record Item : Type 0 where
   pub name : List ℕ
   pub bytes : List ℕ
 
--- its line, with the newline
+-- an item's line, with the newline
 abbrev pub written_text : Item → List ℕ
 written_text i = line (record { mode = i.mode; zero = false }) i.kind i.name (digest i.kind i.bytes)
 
--- it is read back, and its file still has these bytes
+-- an item's line is read back, and its file still has these bytes
 pub record Listed (algos : Algos) (answer : List ℕ → Answer) (i : Item) : Type 0 where
   pub read_by : AllowsMode algos i.mode i.kind.algo
   pub has : IsTrue (has_len i.kind.algo i.kind.len)
@@ -50,16 +50,16 @@ spelled_for i = record { kind = i.kind; digest = digest i.kind i.bytes; name = i
 abbrev pub ReadableSoFar : Algos → List (List ℕ) → Type 0
 ReadableSoFar algos ls = (form algos ls ≡ Undecided) ⊎ (form algos ls ≡ Standard)
 
--- no byte ends a line, or would be taken from the end of one
+-- no byte of a line is a newline or a carriage return
 abbrev pub Plainly : List ℕ → Type 0
 Plainly l = All (λ b. (b ≢ 10) × (b ≢ 13)) l
 
--- a line between others is read as s, and leaves the form plain enough for the next
+-- a line between others is read as s, and the line after it can be read back, too
 abbrev pub Back : Algos → List (List ℕ) → List (List ℕ) → EntryValue → List ℕ → Type 0
 Back algos before later s l =
     Plainly l × IsEntry escape algos (form algos (before ++ (l ∷ later))) l s × ReadableSoFar algos (before ++ (l ∷ []))
 
--- so is each item's
+-- the line of each item, between others, is read as its entry
 pub back : (algos : Algos) (answer : List ℕ → Answer) (before later : List (List ℕ)) (i : Item) → Listed algos answer i
     → ReadableSoFar algos before → Back algos before later (spelled_for i) (prefix i)
 back algos answer before later i h u =
@@ -71,16 +71,16 @@ back algos answer before later i h u =
 
 -- ---- the lines of the whole text
 
--- the text is the lines, each with a newline
+-- the text of several items is their lines, each with a newline
 texts : (is : List Item) → flat_map written_text is ≡ flat_map (λ l. l ++ 10 ∷ []) (map prefix is)
 texts [] = refl
 texts (i ∷ is) = ap (λ t. written_text i ++ t) (texts is)
 
--- the file that the text is
+-- the content of a file that holds the text of these items
 abbrev pub whole : List Item → Content
 whole is = record { bytes = flat_map written_text is; ending = Whole }
 
--- its lines are the written ones
+-- the lines of that content are the written ones
 pub lines-are : (algos : Algos) (answer : List ℕ → Answer) (is : List Item) → All (Listed algos answer) is
     → lines (whole is) ≡ map prefix is
 lines-are algos answer is all =

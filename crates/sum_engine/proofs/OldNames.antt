@@ -30,18 +30,18 @@ part_clean front part rest line is free =
 
 -- ---- the escape
 
--- versions differ in the escape of a carriage return alone
+-- the profiles differ in the escape of a carriage return alone
 byte_same : (b : ℕ) → b ≢ 13 → escape_of older_profile b ≡ escape_of own_profile b
 byte_same b free = grind (arith, nat_tests)
 
--- so a name without one has the same escape
+-- a name without a carriage return has the same escape under both profiles
 pub same_escape : (name : List ℕ) → HasNoCarriageReturn name → escape_by older_profile name ≡ escape_by own_profile name
 same_escape [] free = refl
 same_escape (b ∷ bs) free = search (rules, All-head, byte_same, same_escape bs (All-tail IsNoCarriageReturn b bs free))
 
 -- ---- names
 
--- an older name whose escape has no carriage return has none
+-- a name whose older escape has no carriage return has none
 older_clean : (name : List ℕ) → HasNoCarriageReturn (escape_by older_profile name) → HasNoCarriageReturn name
 older_clean [] free = All-nil IsNoCarriageReturn
 older_clean (b ∷ bs) free =
@@ -51,7 +51,7 @@ older_clean (b ∷ bs) free =
     first : (b : ℕ) → HasNoCarriageReturn (escape_of older_profile b) → b ≢ 13
     first b all = λ is. All-head IsNoCarriageReturn 13 [] (rw is at all) refl
 
--- so a name that bytes without one spell by the older escape has none
+-- a name that bytes without a carriage return spell by the older escape has none
 older_name : (e : Bool) (raw name : List ℕ) → HasNoCarriageReturn raw
     → raw ≡ (if e then escape_by older_profile name else name) → HasNoCarriageReturn name
 older_name true raw name free is = older_clean name (subst HasNoCarriageReturn is free)
@@ -59,13 +59,13 @@ older_name false raw name free is = subst HasNoCarriageReturn is free
 
 -- ---- the raw name
 
--- a tail without one has a raw name without one
+-- the raw name in a tail without a carriage return has none
 raw_clean : (f : Form) (tail raw : List ℕ) → HasNoCarriageReturn tail → IsRawName f tail raw → HasNoCarriageReturn raw
 raw_clean Undecided tail raw h is = absurd is
 raw_clean Reversed tail raw h is = subst HasNoCarriageReturn (sym is) h
 raw_clean Standard tail raw h is = All-tail IsNoCarriageReturn is.1 raw (subst HasNoCarriageReturn is.2 h)
 
--- a tagged line without one has a raw name without one
+-- the raw name in a tagged line without a carriage return has none
 tag_clean : {algos : Algos} {line : List ℕ} {e : Bool} {kind : KindValue} {d raw : List ℕ} → HasNoCarriageReturn line
     → IsTagged algos line e kind d raw → HasNoCarriageReturn raw
 tag_clean {line = line} {e} {kind} {raw = raw} free p =
@@ -73,7 +73,7 @@ tag_clean {line = line} {e} {kind} {raw = raw} free p =
     let rest = codes ")" ++ (p.before ++ (codes "=" ++ (p.after ++ p.digits))) in
     part_clean front raw rest line (search (rules, p.whole, append_assoc)) free
 
--- and a plain one
+-- the tail of a plain line without a carriage return has none
 tail_clean : {algos : Algos} {line : List ℕ} {e : Bool} {kind : KindValue} {d tail : List ℕ} → HasNoCarriageReturn line
     → IsPlain algos line e kind d tail → HasNoCarriageReturn tail
 tail_clean {line = line} {e} {tail = tail} free p =
@@ -82,12 +82,12 @@ tail_clean {line = line} {e} {tail = tail} free p =
 
 -- ---- the entry
 
--- an entry by one escape is one by the other, if both change its name alike
+-- an entry by one escape is an entry by another that gives its name the same escape
 entry_by : (E F : List ℕ → List ℕ) (algos : Algos) (f : Form) (line : List ℕ) (s : EntryValue) → E s.name ≡ F s.name
     → IsEntry E algos f line s → IsEntry F algos f line s
 entry_by E F algos f line s same h = search rules
 
--- an older entry of a line without one has a name without one, since the raw name has none
+-- an older entry of a line without a carriage return has a name without one, since the raw name has none
 older_entry : (algos : Algos) (f : Form) (line : List ℕ) (s : EntryValue) → HasNoCarriageReturn line
     → IsEntry (escape_by older_profile) algos f line s → HasNoCarriageReturn s.name
 older_entry algos f line s free e = older_name e.escaped e.raw s.name (elim e.shape [

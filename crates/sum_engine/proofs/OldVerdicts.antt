@@ -24,7 +24,7 @@ ended_clean e (p ∷ ps) tail free =
     let (line, rest) = parts_clean (p ++ 10 ∷ []) _ whole in
     All-cons HasNoCarriageReturn p (ps ++ last_line e tail) (parts_clean p _ line).0 (ended_clean e ps tail rest)
 
--- so no line of a content has one
+-- no line of a content without a carriage return has one
 pieces_clean : (c : Content) → HasNoCarriageReturn c.bytes → All HasNoCarriageReturn (raw_lines c)
 pieces_clean c free =
     let all = cut c.bytes in

@@ -8,13 +8,13 @@ use Rattle.sum_engine.specs.Behavior.{World, Content, Fault, InputState, SourceS
 use Rattle.sum_engine.specs.Execution.{Agrees, world_at, asked, gave_at, AsksNames, IsAtEndIf, ReadsFile, ReadsToEndIf}
 use Rattle.sum_engine.proofs.WorldLemmas.{agrees_open, opening_agrees, asks_one}
 
--- the name was asked; over the opening, some calls and the closing all was read so; and what was read of it is of its
--- answer, in each world that agrees
+-- the name was opened; over the opening, some calls and the closing all was read as `ReadsToEndIf` says; and what was
+-- read of it fits its answer, in each world that agrees
 pub record WasOpened (Whole : Type 0) (a m b n : SourceState) (name : List ℕ) (t : InputState) : Type 0 where
   pub asks : AsksNames a m (name ∷ [])
   pub reads : ReadsToEndIf Whole a n
   pub gave : gave_at n.openings name (times name (asked a)) ≡ Some (Ok t.reads)
-  -- the closing leaves this
+  -- what the closing leaves as it is
   pub asked : asked n ≡ asked b
   pub refusals : n.refusals ≡ b.refusals
   pub agrees : (w : World) → Agrees w n → Agrees w b

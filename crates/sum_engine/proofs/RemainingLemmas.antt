@@ -23,7 +23,7 @@ remaining_next r a b v h world = search (rules, remaining_head, form_next)
 
 -- ---- the behavior that remains
 
--- the step of a line, before which so many bytes remain
+-- the step of a line, before which this many bytes remain
 abbrev pub line_step : Rules → LabelsValue → ℕ → LineVerdictValue → Step
 line_step r labels remaining j =
     record { names = asks_of j; err = err_of r labels j; out = out_of r labels j; remaining = remaining }
@@ -34,7 +34,7 @@ behavior_by r labels e k c js =
     let counts = counts_then k (counts_of js) in
     record { steps = line_steps r labels (end_text r labels e counts) c js; good = good r e counts }
 
--- it begins with the step of the first line
+-- the behavior of some verdicts begins with the step of the first
 behavior_by-cons : (r : Rules) (labels : LabelsValue) (e : Ending) (k : Counts) (c : Content)
     (j : LineVerdictValue) (js : List LineVerdictValue)
     → behavior_by r labels e k c (j ∷ js) ≡ step_then (line_step r labels (length c.bytes) j)
@@ -79,7 +79,7 @@ remaining_before-left r labels a =
     let first = first_step r labels a.remaining.ending a.counts a.remaining (remaining_verdicts r a) in
     ap (λ (q : Behavior). remaining_before q.steps) first.2 ∙ first.3
 
--- contents past so many lines
+-- contents past this many lines
 pub past_next : (k : ℕ) (c : Content) → past_line (past_lines k c) ≡ past_lines (suc k) c
 past_next zero c = refl
 past_next (suc k) c = past_next k (past_line c)

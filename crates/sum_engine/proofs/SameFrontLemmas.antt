@@ -14,7 +14,7 @@ running r w n f (l ∷ ls) =
     let j = line_verdict r w (n + 1) (parse_line r.profile r.algo here l) in
     j ∷ running r (after w (asks_of j)) (n + 1) here ls
 
--- the verdicts of the first lines are these, whatever follows
+-- the verdicts of the first lines are the same, whatever follows
 prefix_verdicts : (r : Rules) (w : World) (n : ℕ) (f : Form) (prefix later : List (List ℕ)) →
     take (length prefix) (verdicts r (form_then f (form r.algo (prefix ++ later))) w n
     (prefix ++ later)) ≡ running r w n f prefix
@@ -34,7 +34,7 @@ entry_same algos f g line s same e =
     ((parse_is_grammar own_profile algos g line).when_entry s).0
     (sym same ∙ ((parse_is_grammar own_profile algos f line).when_entry s).1 e)
 
--- so later lines have no part in an entry, a verdict or a plain line's form
+-- later lines have no part in an entry, a verdict or a plain line's form
 pub same_front : SameFront
 same_front r w before line later others =
     let same : (a b : List (List ℕ)) → parse_line own_profile r.algo (form r.algo (before ++ (line ∷ a))) line

@@ -12,7 +12,7 @@ use Rattle.sum_engine.proofs.{ExecutionLemmas.step_performed, ExecutionLemmas.re
 use Rattle.sum_engine.proofs.RemainingLemmas.{line_step, behavior_by, first_step, found_first, going-before}
 use Rattle.sum_sources.specs.declared.line_reader.LineStop.TheVariants as line_stops
 
--- what follows of the states of a check
+-- what follows from what holds of the states of a check holds of them, too
 InEachCheck-map : {I : Type 0} {state : I → InputState} {p q : VerdictsValue I} {a b : SourceState}
     {P R : CheckState → CheckState → Type 0} → InEachCheck state p q a b P
     → ((c : Content) (v w : World) → P (state_at p (remaining p.reader c) v) (state_at q (remaining q.reader c) w)

@@ -11,16 +11,16 @@ use Rattle.sum_engine.specs.Execution.{AsksNames, Agrees, world_at, IsAtEndIf, R
 
 -- ---- names asked
 
--- no name was asked
+-- no name was opened
 pub asks_none : (a : SourceState) → AsksNames a a []
 asks_none a = search (rules, append-nil)
 
--- some were, and then others
+-- some names were opened, and then others
 pub asks_then : {a b c : SourceState} {names more : List (List ℕ)} → AsksNames a b names → AsksNames b c more
     → AsksNames a c (names ++ more)
 asks_then h k = search (rules, append_assoc)
 
--- one was opened
+-- one name was opened
 pub asks_one : (a b : SourceState) (name : List ℕ) (gave : Option (Result Reads Fault)) → b ≡ and_opening a name gave
     → AsksNames a b (name ∷ [])
 asks_one a b name gave is = search (rules, map-append)
@@ -34,11 +34,11 @@ reads_weaker {G = G} {H = H} f h =
     λ o (gave, is, read). (gave, is, IfOk-weaker gave _ _ (λ r h. (h.0, λ x. h.1 (f x))) read) in
     let all = All-weaker (ReadsFile G) (ReadsFile H) one h.openings.0 h.openings.2 in search (rules, all)
 
--- nothing was opened
+-- nothing was opened, so nothing was to be read
 pub reads_none : {Whole : Type 0} (a : SourceState) → ReadsToEndIf Whole a a
 reads_none {Whole} a = let none = All-nil (ReadsFile Whole) in search (rules, append-nil, none)
 
--- one call and another
+-- what two calls opened, one after the other, was read to its end
 pub reads_then : {G H K : Type 0} {a b c : SourceState} → (K → G × H) → ReadsToEndIf G a b → ReadsToEndIf H b c
     → ReadsToEndIf K a c
 reads_then {K = K} {a = a} {b = b} {c = c} f g h =
@@ -56,7 +56,7 @@ reads_one {Whole} a b name gave is read =
 
 -- ---- worlds
 
--- the names that a call asked lead on in the world
+-- the world after a call is the one after the names that the call opened
 pub world_after : (w : World) (a b : SourceState) (names : List (List ℕ)) → AsksNames a b names
     → world_at w b ≡ after (world_at w a) names
 world_after w a b names asks = ap (λ opened. record w { opened = opened }) asks.asked
@@ -90,7 +90,7 @@ agrees_before {w = w} {b = b} {c = c} h reads = record {
       gave-front (IsOfAnswer (w.answer name k)) (gave_of b.openings name) (gave_of reads.openings.0 name) k both;
 }
 
--- and with what was read before a file was closed
+-- a world that agrees with what was read after a file was closed agrees with what was read before
 pub agrees_open : {w : World} {b c : SourceState} (before later : List Opening) (o : Opening) → Agrees w c
     → b.openings ≡ before ++ record o { gave = None } ∷ later → c.openings ≡ before ++ o ∷ later
     → Agrees w b
@@ -105,7 +105,7 @@ agrees_open {w} {b} {c} before later o h was is = record {
 
 -- ---- what an opening gave
 
--- it is the answer to the name
+-- what an opening gave fits the answer of each world that agrees
 pub opening_agrees : {w : World} {b : SourceState} → Agrees w b → (before later : List Opening) (name : List ℕ)
     (gave : Result Reads Fault) → b.openings ≡ before ++ record { name = name; gave = Some gave } ∷ later
     → IsOfAnswer (w.answer name (times name (names_of before))) gave

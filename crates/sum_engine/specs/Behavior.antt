@@ -1,4 +1,4 @@
--- What a call can ask of its source, and what it does: a list of steps, between which memory may run out.
+-- What a call can open in its source, and what it does: a list of steps, between which memory may run out.
 use Rattle.std.specs.Prelude.{ℕ, ◌&&◌, Bool, List, [], ◌∷◌, ◌++◌, map, flat_map, Option, None, Some, Result, Ok, Err}
 pub use Rattle.digest_kinds.specs.Bytes.{ByteString}
 pub use Rattle.sum_lines.specs.Sinks.{OutputEvent, output_events}
@@ -10,8 +10,8 @@ pub use Rattle.sum_sources.specs.Contents.{Content, InputState, Reads, IsOf, cli
 pub use Rattle.sum_sources.specs.Sources.{Answer, Answers, SourceState, times}
 pub use Rattle.sum_sources.specs.Inputs.{is_dash}
 
--- what the outside may be: what each opening gives, by its name and by how many openings of that name came before (a
--- file may change in between)
+-- a world, which is what the outside may be: what each opening gives, by its name and by how many openings of that name
+-- came before (a file may change in between)
 pub record World : Type 0 where
   pub answer : Answers
   pub opened : List ByteString  -- the names that were opened before
@@ -29,7 +29,7 @@ abbrev pub digest_or_fault : KindValue → Answer → Result (ByteString) Fault
 digest_or_fault kind (Err f) = Err f
 digest_or_fault kind (Ok c) = elim (clip c).ending [ Whole ↦ Ok (digest kind (clip c).bytes) | Broken f ↦ Err f ]
 
--- a name is opened; or standard error, or standard output, is offered a piece or writes a byte
+-- an event: a name is opened, or an output is offered a piece or writes a byte
 pub data Event : Type 0 where
   open_name : ByteString → Event
   to_err to_out : OutputEvent → Event

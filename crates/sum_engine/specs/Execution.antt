@@ -64,20 +64,20 @@ IsAtEndIf Wanted r = (r.phase ≢ Past) × (Wanted → r.phase ≡ Ended ending.
 abbrev pub ReadsFile : Type 0 → Opening → Type 0
 ReadsFile Wanted o = (gave : Result Reads Fault) × (o.gave ≡ Some gave) × IfOk gave (IsAtEndIf Wanted)
 
--- READ TO THE END, if Wanted holds, and never past it: so a call read each file that it opened. What was opened before
--- stays as it was
+-- READ TO THE END, if Wanted holds, and never past it: this is how a call read each file that it opened. What was
+-- opened before is unchanged
 pub record ReadsToEndIf (Wanted : Type 0) (a b : SourceState) : Type 0 where
   pub told : b.told ≡ a.told
   pub openings : (more : List Opening) × (b.openings ≡ a.openings ++ more) × All (ReadsFile Wanted) more
 
 -- ---- what happened
 
--- these names were opened, and the source was refused no memory
+-- these names were opened, and the source wasn't refused memory
 pub record AsksNames (a b : SourceState) (names : List ByteString) : Type 0 where
   pub asked : asked b ≡ asked a ++ names
   pub refusals : b.refusals ≡ a.refusals
 
--- these events happened: the names were asked, and each output was offered its pieces and wrote its bytes
+-- these events happened: the names were opened, and each output was offered its pieces and wrote its bytes
 pub record Happened (a b : StreamsState) (es : List Event) : Type 0 where
   pub inputs : AsksNames a.inputs b.inputs (filter_map opened_name es)
   pub err : Gets a.outputs.err.sink b.outputs.err.sink (filter_map err_event es)

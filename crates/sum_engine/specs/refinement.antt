@@ -1,5 +1,4 @@
--- How the code's values represent those of the definitions. The headline reaches none of it; the contracts of some
--- calls that a user of the crate makes directly name some of it.
+-- Relates the code's values to those of the definitions. No contract of `run` or `command` leads here.
 pub mod Names
 pub mod FlushedWrites
 pub mod Judging

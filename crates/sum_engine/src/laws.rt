@@ -12,16 +12,16 @@ pub fn some_world_agrees()
     ensures { (a : SourceState) → SomeWorldAgrees a }
 {}
 
-/// If all answers of a source are known, they agree with all that was read so far.
+/// If a source tells all answers, they agree with all that was read so far.
 pub fn told_agree<S: Source>(inputs: &Reader<S>)
     ensures { ToldAgree S.tells inputs.now }
 {
-    // Read, so that the proof sees the source.
+    // This read lets the proof see the source.
     let _source = &inputs.source;
 }
 
 /// After k calls of `step` that each handled a line, exactly the first k steps of the manifest's behavior happened: the
-/// names of the first k lines were asked, and their reports were written. The input gave at most 8192 bytes beyond the
+/// names of the first k lines were opened, and their reports were written. The input gave at most 8192 bytes beyond the
 /// end of line k, and each line's vector held at most as many bytes as its line. If the next call ends or stops, the
 /// manifest's whole behavior was performed. So the call that ends writes exactly the summary or the fault line, and it
 /// comes after all lines.
@@ -30,14 +30,14 @@ pub fn steps_join()
     ensures { StepsJoin }
 {}
 
-/// If the trace of a behavior happened, each output grew by the behavior's text there, and its names were asked.
+/// If the trace of a behavior happened, each output grew by the behavior's text for it, and its names were opened.
 #[tactic(auto, using(crate::proofs::BehaviorLemmas::events_extend))]
 pub fn events_extend()
     ensures { EventsExtend }
 {}
 
-/// What a line spells doesn't depend on later lines; nor does its verdict after the same asks; nor does the form, if
-/// the line is plain. None of these depends on the manifest's name, if both manifests or neither came from standard
+/// What a line spells doesn't depend on later lines; nor does its verdict after the same openings; nor does the form,
+/// if the line is plain. None of these depends on the manifest's name, if both manifests or neither came from standard
 /// input.
 pub fn same_front()
     ensures { SameFront }
@@ -46,7 +46,7 @@ pub fn same_front()
 /// A manifest has the same verdicts under the older profile and the present one if it has no empty line and no carriage
 /// return. A carriage return counts in the manifest's own name, as a byte, and as the escape `\r` in a name after a
 /// leading backslash. Older versions of the tools didn't escape carriage returns in names, didn't drop them at a line's
-/// end, and found empty lines improperly formatted. The verdicts are those after the same asks; the reports and the
+/// end, and found empty lines improperly formatted. The verdicts are those after the same openings; the reports and the
 /// summary are the same, too, and the manifest is good under both or under neither.
 pub fn old_verdicts()
     ensures verdicts { OldVerdicts }

@@ -27,7 +27,7 @@ impl<O: Sink, E: Sink> Model for Outputs<O, E> {
 /// call.
 #[derive(Debug, Drop)]
 pub struct Streams<In, Out> {
-    /// Where it opens and reads: [`Reader`].
+    /// What it opens and reads through: [`Reader`].
     pub inputs: In,
     /// What it writes to: [`Outputs`].
     pub outputs: Out,

@@ -27,7 +27,7 @@ fn hashing(rt: HostRuntime) -> Result<(), Fail> {
     Ok(())
 }
 
-// Checking the manifest of this name, if `l` contains this, returns so and writes these texts.
+// Checking the manifest of this name, if `l` contains this, returns this and writes these texts.
 fn checks(
     rt: &(impl Abort + AllocGlobal),
     settings: CheckSettings,

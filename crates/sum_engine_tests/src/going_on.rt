@@ -34,7 +34,7 @@ fn stage<'a>(
     Ok(known(TwoParts::new(b"", 0, Ending::Whole, 1), source))
 }
 
-// That so much was written; and how many files were opened, and were closed at their end and at their fault.
+// Asserts that this was written, and how many files were opened, closed at their end and closed at their fault.
 fn assert_as(rt: &impl Abort, streams: &Stage, (out, err): (&str, &str), counts: (u64, u64, u64)) {
     assert_wrote(rt, streams, out, err);
     assert_eq!(rt; streams.inputs.source.source().counts(), counts);

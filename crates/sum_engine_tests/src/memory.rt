@@ -49,7 +49,7 @@ fn memory_refused(rt: HostRuntime) -> Result<(), Fail> {
 }
 
 // Steps over all verdicts on a heap of this many bytes, which is all that there is until it stops or ends. After that
-// each step is as the last one. How many steps were done; `None` if there was no room for the files.
+// each step is as the last one. Returns how many steps were done, or `None` if there was no room for the files.
 fn steps_within(rt: &(impl Abort + AllocGlobal), size: usize) -> Result<Option<usize>, Fail> {
     let heap = LocalHeap::new(rt.alloc(), size)?;
     let Ok(source) = files(&heap, "", Ending::Whole) else {

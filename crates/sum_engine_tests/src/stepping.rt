@@ -35,7 +35,7 @@ fn step_by_step(rt: HostRuntime) -> Result<(), Fail> {
     Ok(())
 }
 
-// Three lines of 6,000 bytes each. Without a contract, so that no proof computes them.
+// Three lines of 6,000 bytes each. It has no contract, so that no proof computes them.
 fn long_lines(alloc: Global) -> Result<String, Fail> {
     let long = "x".repeat(alloc, 6000)?;
     let long = long.as_str();

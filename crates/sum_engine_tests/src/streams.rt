@@ -1,4 +1,4 @@
-//! What the tests work on. The calls here have no contracts, so that the proofs of their callers are spared those.
+//! What the tests work on. The calls here have no contracts, so that their callers' proofs stay short.
 ghost use Rattle.std.specs.Prelude.{◌≡◌};
 ghost use Rattle.sum_sources.specs.Contents.{unread};
 

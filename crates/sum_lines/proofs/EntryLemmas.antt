@@ -18,12 +18,12 @@ not_ignored : (p : Profile) (blanks : List ℕ) (e : Bool) (xs rest : List ℕ) 
     → is_ignored p (blanks ++ (mark e ++ (xs ++ rest))) ≡ false
 not_ignored p blanks e xs rest all b = grind (arith, common_steps)
 
--- so a plain line isn't
+-- a plain line isn't ignored
 pub plain-not_ignored : {algos : Algos} {line : List ℕ} {e : Bool} {kind : KindValue} {d tail : List ℕ} (p : Profile)
     → IsPlain algos line e kind d tail → is_ignored p line ≡ false
 plain-not_ignored p plain = let digits = plain-digits plain in grind (arith, not_ignored)
 
--- so no line that spells an entry is
+-- no line that spells an entry is ignored
 pub entry-not_ignored : {escape : List ℕ → List ℕ} {algos : Algos} {f : Form} {line : List ℕ} {s : EntryValue}
     (p : Profile) → IsEntry escape algos f line s → is_ignored p line ≡ false
 entry-not_ignored p e = elim e.shape [
@@ -47,7 +47,7 @@ is-form algos (line ∷ later) = go (plain_parts algos line) refl (is-form algos
     go None h own = rw h (inr (λ e kind d tail plain. let wrong = sym h ∙ plain_is_read _ plain in cc, own))
     go (Some p) h own = rw h (inl (p.escaped, p.kind, p.digest, p.text, read_is_plain h, refl))
 
--- it has no other
+-- a form that the list has is the computed one
 form-is : (algos : Algos) (lines : List (List ℕ)) (f : Form) → IsForm algos lines f → f ≡ form algos lines
 form-is algos [] f h = h
 form-is algos (line ∷ later) f (inl h) =
@@ -61,18 +61,18 @@ one_form algos lines f = (form-is algos lines f, λ e. rw e (is-form algos lines
 
 -- ---- lines after lines
 
--- the form of two lists, one after the other
+-- the form of two lists joined: that of the first, then that of the second
 form-append : (algos : Algos) (before after : List (List ℕ))
     → form algos (before ++ after) ≡ form_then (form algos before) (form algos after)
 form-append algos [] after = refl
 form-append algos (line ∷ before) after = grind (arith, form-append algos before after)
 
--- the form so far, and that of more lines
+-- the form after more lines is that so far, then that of the next line, then that of the later ones
 pub form_next : (algos : Algos) (f : Form) (line : List ℕ) (later : List (List ℕ))
     → form_then f (form algos (line ∷ later)) ≡ form_then (form_then f (line_form algos line)) (form algos later)
 form_next algos f line later = grind arith
 
--- the form of all lines, at a line
+-- the form of all lines, from the lines before one, that line, and the later ones
 pub form_at : (algos : Algos) (before later : List (List ℕ)) (line : List ℕ) → form algos (before ++ (line ∷ later))
     ≡ form_then (form_then (form algos before) (line_form algos line)) (form algos later)
 form_at algos before later line = grind (arith, form-append)

@@ -33,7 +33,7 @@ escape_cut xs (Some k) first =
     let split = ap escape cut ∙ flat_map-append (escape_of own_profile) (take k xs) (get_or xs k 0 ∷ drop (k + 1) xs) in
     rw (escape-plain xs k (omega arith) first.0.before) at split
 
--- the same, of the two parts of a slice that was split there
+-- an escape, cut at the first special byte, of the two parts of a slice that was split there
 pub escape-parts : {prefix back : List ℕ} (xs : List ℕ) (k : ℕ) → prefix ≡ take k xs → back ≡ drop k xs
     → escape xs ≡ take k xs ++ (escape_of own_profile (get_or xs k 0) ++ escape (drop (k + 1) xs))
     → escape xs ≡ prefix ++ (escape_of own_profile (get_or back 0 0) ++ escape (take (length back - 1) (drop 1 back)))
@@ -65,24 +65,24 @@ pub unescaped_bytes-append : (p : Profile) (n rest : List ℕ)
 unescaped_bytes-append p [] rest = refl
 unescaped_bytes-append p (b ∷ bs) rest = grind (arith, append_assoc, unescaped_bytes-append p bs rest, plain-first)
 
--- up to its end
+-- unescaping the escape of a name gives the name
 pub unescaped_bytes-escape : (p : Profile) (n : List ℕ) → unescaped_bytes (escape_by p n) ≡ n
 unescaped_bytes-escape p n = simp append-nil at (unescaped_bytes-append p n [])
 
--- so a name is read back from its escape
+-- a name is read back from its escape
 pub unescape-escape : (p : Profile) (n : List ℕ) → unescape p (escape_by p n) ≡ Some n
 unescape-escape p n = search (rules, unescaped_bytes-escape)
 
 -- ---- the entry of a line's parts
 
--- so parts whose raw name spells a name spell an entry, and only such parts do
+-- parts whose raw name spells a name spell an entry
 pub spelled-is : (p : Profile) (t : LinePartsValue) (n : List ℕ) → All (λ b. 0 < b) n
     → t.text ≡ cond t.escaped (escape_by p n) n
     → entry_of_parts p t ≡ Some (record { kind = t.kind; digest = t.digest; name = n })
 spelled-is p t n no_nul is =
     let all : list_all (nat_lt 0) n ≡ true = grind (arith, list_all-from_AllPass) in grind (arith, unescape-escape)
 
--- only such parts
+-- parts that spell an entry have a raw name that spells a name
 pub is-spelled : (p : Profile) (t : LinePartsValue) (s : EntryValue) → entry_of_parts p t ≡ Some s
     → (n : List ℕ) × All (λ b. 0 < b) n × (t.text ≡ cond t.escaped (escape_by p n) n)
     × (record { kind = t.kind; digest = t.digest; name = n } ≡ s)
@@ -109,7 +109,7 @@ pub record IsHalfUnescaped (start bytes : List ℕ) (read write : ℕ) : Type 0 
   pub size : length bytes ≡ length start
   pub whole : escape (take write bytes) ++ drop read bytes ≡ start
 
--- a rest that no escape begins
+-- if no escape begins what is left, the bytes are the escape of no name
 pub IsHalfUnescaped-refused : {start bytes : List ℕ} {read write : ℕ} → IsHalfUnescaped start bytes read write
     → read < length bytes → ((b : ℕ) (rest : List ℕ) → drop read bytes ≢ escape_of own_profile b ++ rest)
     → (n : List ℕ) → start ≢ escape n
@@ -120,7 +120,7 @@ IsHalfUnescaped-refused {bytes = bytes} {read = read} {write = write} h some non
       | b ∷ bs ↦ λ is. none b (escape bs) is
     ] rest.2
 
--- the bytes from a place on, which were replaced by the name
+-- the bytes from a place on, which were replaced by the name whose escape they were
 pub in_place : (line new : List ℕ) (from : ℕ) (name : List ℕ) → drop from line ≡ escape name
     → new ≡ take from line ++ name
     → (n : List ℕ) → (drop from line ≡ escape n) ↔ ((true ≡ true) × (new ≡ take from line ++ n))

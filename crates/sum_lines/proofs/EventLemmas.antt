@@ -67,15 +67,15 @@ OffersEach-then a b c (offer_piece p ∷ es) fs h k = OffersEach-then _ b c es f
 OffersEach-then a b c (write_byte x left ∷ es) fs h k =
     grind (arith, OffersEach-then a b c es fs, OffersEach-then (a ++ left ∷ []) b c es fs)
 
--- nothing
+-- no events happened to an unchanged sink
 pub Gets-none : {a : SinkState} → Gets a a []
 Gets-none {a} = record { offered = refl; written = sym (append-nil a.written) }
 
--- some events, and then others
+-- some events happened, and then others
 pub Gets-then : {a b c : SinkState} {p q : List OutputEvent} → Gets a b p → Gets b c q → Gets a c (p ++ q)
 Gets-then {a} {b} {c} {p} {q} h k = grind (arith, append_assoc, filter_map-append, OffersEach-then)
 
--- after some events, a prefix of others
+-- some events happened, and then a prefix of others
 pub GetsPrefix-then : {a b c : SinkState} {p q : List OutputEvent} → Gets a b p → GetsPrefix b c q
     → GetsPrefix a c (p ++ q)
 GetsPrefix-then {p} h k = (p ++ k.0, k.1, grind (arith, append_assoc), Gets-then h k.3)

@@ -17,7 +17,7 @@ record Takes (n : ℕ) (left : List ℕ) : Type 0 where
   offers : (old new : List (List ℕ)) (es : List OutputEvent) → OffersEach (old ++ again (drop n left)) new es
       → OffersEach old new (events ++ es)
 
--- after a byte what is left is offered again, if anything is
+-- after a byte was written, what is left of its piece is offered again, if anything is
 offered-again : (b : ℕ) (left : List ℕ) (old new : List (List ℕ)) (es : List OutputEvent)
     → OffersEach (old ++ again left) new es → OffersEach old new (write_byte b left ∷ es)
 offered-again b [] old new es h = inl (rw append-nil at h)
@@ -43,7 +43,7 @@ pub record HasGiven (a b : SinkState) (text rest : List ℕ) : Type 0 where
   pub written : b.written ≡ a.written ++ filter_map written_byte events
   pub failures : b.failures ≡ a.failures
 
--- at first all of it
+-- at first all of the text is the rest
 pub HasGiven-none : (a : SinkState) (text : List ℕ) → length text ≤ 8192 → HasGiven a a text text
 HasGiven-none a [] fits = search (rules, append-nil)
 HasGiven-none a (b ∷ bs) fits =
@@ -63,13 +63,13 @@ HasGiven-more (x ∷ xs) (suc n) h some (within, taken, is) = let t = takes n (x
   failures = h.failures;
 })
 
--- all of it was accepted
+-- all of the text was accepted
 pub HasGiven-all : {a b : SinkState} {text : List ℕ} (rest : List ℕ) → HasGiven a b text rest → rest ≡ []
     → GivesAll {E = Unit {0}} a b text (Ok tt)
 HasGiven-all {b = b} rest h none =
     let offered = h.offers b.offered [] in let cut = h.cut in grind (arith, append-nil)
 
--- the rest was offered, and that failed
+-- the rest was offered, and the write of it failed
 pub HasGiven-failed : {a b c : SinkState} {text : List ℕ} (rest : List ℕ) → HasGiven a b text rest → 0 < length rest
     → WritesSome {E = Unit {0}} b c rest (Err tt) → GivesAll {E = Unit {0}} a c text (Err tt)
 HasGiven-failed [] h some is = absurd (omega (arith, some))

@@ -30,14 +30,14 @@ module _ (p : Profile) (algos : Algos) (f : Form) (line : List ℕ) where
 
   -- ---- the entry that is computed is the line's
 
-  -- what parts with a raw name spell
+  -- parts of a line's shape that have a raw name spell an entry of the line
   by-shape : (s : EntryValue) (t : LinePartsValue) → IsTagged algos line t.escaped t.kind t.digest t.text
       ⊎ ((tail : List ℕ) × IsPlain algos line t.escaped t.kind t.digest tail × IsRawName f tail t.text)
       → entry_of_parts p t ≡ Some s → IsEntry (escape_by p) algos f line s
   by-shape s t shape h = let name = is-spelled p t s h in rw (← name.3)
       (record { escaped = t.escaped; raw = t.text; shape = shape; no_nul = name.1; spells = name.2 })
 
-  -- either of them, as a line is found to be tagged or only plain
+  -- what the parts spell, of a line that is found to be tagged or only plain, is an entry of the line
   by-parts : (s : EntryValue) (t q : Option LinePartsValue) → tagged_parts algos line ≡ t → plain_parts algos line ≡ q
       → option_or t (q >>= with_raw f) >>= entry_of_parts p ≡ Some s → IsEntry (escape_by p) algos f line s
   by-parts s (Some t) q tagged plain h = by-shape s t (inl (read_is_tagged tagged)) h
@@ -48,7 +48,7 @@ module _ (p : Profile) (algos : Algos) (f : Form) (line : List ℕ) where
       by-shape s (record q { text = named.0.text }) (inr (q.text, read_is_plain plain, raw.0))
       (ap (entry_of_parts p) raw.1 ∙ named.2)
 
-  -- so what is computed is an entry of the line
+  -- the computed entry is an entry of the line
   pub value_entry : (s : EntryValue) → entry_of p algos f line ≡ Some s → IsEntry (escape_by p) algos f line s
   unfolding entry_of
   value_entry s h = by-parts s (tagged_parts algos line) (plain_parts algos line) refl refl h
@@ -72,7 +72,7 @@ parse_is_grammar p algos f line =
       );
     }
 
--- so is what equals it
+-- what equals the computed parse fits the grammar
 pub matches : {p : Profile} {algos : Algos} {f : Form} {line : List ℕ} {said : ParsedLine}
     → said ≡ parse_line p algos f line → FitsGrammar p algos f line said
 matches {p} {algos} {f} {line} h = rw h (parse_is_grammar p algos f line)

@@ -16,7 +16,7 @@ use Rattle.sum_lines.proofs.TaggedLemmas.{BeginsText, hex-no_blank, tagged-prefi
 
 -- ---- what is read joins to the line
 
--- what is read is such a cut
+-- what is read of a plain line comes from digits that spell a digest, cut off at the first blank
 plain_parts-some : {a : Algo} (line : List ℕ) {p : LinePartsValue} → plain_parts (One a) line ≡ Some p
     → let t = text line in let tail = after_first is_blank t.1 in
     (d : List ℕ) × BeginsWithDigits a t.1 d
@@ -24,12 +24,12 @@ plain_parts-some : {a : Algo} (line : List ℕ) {p : LinePartsValue} → plain_p
 unfolding plain_parts
 plain_parts-some line h = grind arith
 
--- without a cut no line is plain
+-- without digits to cut off, a line isn't plain
 pub uncut : {a : Algo} (line : List ℕ) → ((d : List ℕ) → ¬ BeginsWithDigits a (text line).1 d)
     → None ≡ plain_parts (One a) line
 uncut line none = grind (arith, plain_parts-some)
 
--- such a text has a blank
+-- a text that begins with digits and a blank has a blank
 pub cut-within : {a : Algo} {s d : List ℕ} → BeginsWithDigits a s d → position_or_len is_blank s < length s
 cut-within cut = grind (arith, length-drop)
 
@@ -66,7 +66,7 @@ pub record AreDigits (ds : List ℕ) : Type 0 where
   pub two : 2 ≤ length ds
   pub begins : BeginsText ds
 
--- what decodes to a digest is such digits
+-- what decodes to a digest is a digest's digits
 pub digits-of : (ds d : List ℕ) → decode_of ds ≡ Ok d → 0 < length d → AreDigits ds
 digits-of ds d h lt = grind (arith, decode_of-ok, All-head)
 
@@ -76,11 +76,11 @@ module _ {algos : Algos} {line : List ℕ} {e : Bool} {kind : KindValue} {d tail
   pub plain-digits : AreDigits t.digits
   plain-digits = search (rules, digits-of)
 
-  -- its blanks and its backslash are passed over
+  -- the blanks and the backslash of a plain line are passed over
   pub plain-prefix : text line ≡ (e, t.digits ++ (t.blank ∷ tail))
   plain-prefix = grind (arith, plain-digits, mark_and_rest-prefix)
 
--- so the line is read as its parts
+-- a plain line is read as its parts
 pub plain_is_read : {algos : Algos} {line : List ℕ} (p : LinePartsValue)
     → IsPlain algos line p.escaped p.kind p.digest p.text → plain_parts algos line ≡ Some p
 unfolding plain_parts

@@ -19,7 +19,7 @@ text line = mark_and_rest (after_while is_blank line)
 pub mark_and_rest-is : (xs : List ℕ) → xs ≡ mark (mark_and_rest xs).0 ++ (mark_and_rest xs).1
 mark_and_rest-is xs = grind arith
 
--- what was passed over began the bytes
+-- a prefix that was stripped began the bytes
 pub strip_prefix-some : (xs ys zs : List ℕ) → strip_prefix xs ys ≡ Some zs → ys ≡ xs ++ zs
 strip_prefix-some xs ys zs h = grind (arith, starts_is)
 
@@ -36,7 +36,7 @@ pub opened-some : (s inner : List ℕ) → option_or (strip_prefix (32 ∷ 40 �
     → (gap : Bool) × (s ≡ opening gap inner)
 opened-some s inner h = grind arith
 
--- and a parenthesis in such a place is found
+-- an opening parenthesis, with a space before it or without, is found
 pub opened-at : (gap : Bool) (inner : List ℕ) → let s = opening gap inner in
     option_or (strip_prefix (32 ∷ 40 ∷ []) s) (strip_prefix (40 ∷ []) s) ≡ Some inner
 opened-at gap inner = grind arith
@@ -48,7 +48,7 @@ last_byte : (c : ℕ) (s : List ℕ) (n : ℕ) → IsLast (Passes (is_byte c) s)
 last_byte c s zero = λ k low high. absurd (omega arith)
 last_byte c s (suc n) = let more = last_byte c s n in grind (arith, Nowhere-more)
 
--- so what is split at the last such byte is what precedes it, and what follows it
+-- a split at the last byte c gives what precedes that byte, and what follows it
 pub last_split : (c : ℕ) (s : List ℕ) (r : Option ℕ) → IsLastByte (is_byte c) s r
     → rsplit_once c s ≡ option_map (λ k. (take k s, drop (k + 1) s)) r
 unfolding rsplit_once
@@ -56,7 +56,7 @@ last_split c s r last =
     let found = IsLastByte-value (is_byte c) s (rfind_below c s (length s)) (last_byte c s (length s)) in
     rw (found, ← IsLastByte-value (is_byte c) s r last) refl
 
--- the parts join again, with that byte between
+-- the parts of a split at the last byte c, with c between them, are the bytes
 pub rsplit-some : (c : ℕ) (s : List ℕ) (p : List ℕ × List ℕ) → rsplit_once c s ≡ Some p → s ≡ p.0 ++ (c ∷ p.1)
 unfolding rsplit_once
 rsplit-some c s p h =

@@ -28,26 +28,26 @@ prefix_of mode kind name digest =
 abbrev inline : ℕ → Bool
 inline b = not (b == 10 || b == 13)
 
--- bytes of a kind that a newline and a carriage return aren't may
+-- bytes that pass a test which a newline and a carriage return fail may be within a line
 inline-all : (test : ℕ → Bool) (xs : List ℕ) → test 10 ≡ false → test 13 ≡ false → AllPass test xs
     → list_all inline xs ≡ true
 inline-all test xs ten thirteen all = grind (arith, list_all-from_AllPass)
 
--- so may what comes between the tag and the name
+-- what comes between the tag and the name may be within a line
 inline-width : (kind : KindValue) (w : List ℕ) → IsWidth kind w → list_all inline w ≡ true
 inline-width kind w (inl none) = rw none.0 refl
 inline-width kind w (inr bits) =
     let digits = decimal-digits kind.len (has_len-range Blake2b kind.len bits.2).1 in
     rw bits.0 (inline-all is_ascii_digit (decimal (8 * kind.len)) refl refl digits)
 
--- and an escaped name
+-- an escaped name may be within a line
 inline-escape : (name : List ℕ) → list_all inline (escape name) ≡ true
 inline-escape [] = refl
 inline-escape (x ∷ xs) = grind (arith, list_all-append, inline-escape xs)
 
 -- ---- the form after a written line
 
--- written lines may follow lines of either form
+-- the forms of lines after which written lines are read back
 abbrev IsReadable : Form → Type 0
 IsReadable f = (f ≡ Undecided) ⊎ (f ≡ Standard)
 
@@ -73,7 +73,7 @@ module _ {kind : KindValue} {name digest : List ℕ} (before later : List (List 
     name-spelled : escape name ≡ cond (escape_differs own_profile name) (escape name) name
     name-spelled = grind (arith, bytes_eq-Decides)
 
-    -- neither line's digits have an end of a line
+    -- the digits of a written line may be within a line
     inline-digits : list_all inline (encode_lower digest) ≡ true
     inline-digits =
         let digits = digits-of (encode_lower digest) digest (decode_of-encode_lower digest w.bytes)
@@ -114,7 +114,7 @@ module _ {kind : KindValue} {name digest : List ℕ} (before later : List (List 
           spells = name-spelled;
         })) (inr (after []))
 
-    -- so is a tagged one
+    -- a tagged line is read back
     tagged-back : (algos : Algos) (width : List ℕ) → Allows algos kind.algo → IsWidth kind width
         → IsReadable (form algos before)
         → SpellsBack algos before later ((mark (escape_differs own_profile name)

@@ -22,7 +22,7 @@ use Rattle.sum_lines.specs.declared.reading.beginnings.Beginning.TheVariants as 
 
 -- ---- a text at the start
 
--- std's comparison finds it
+-- what std's comparison finds after a prefix is what follows that prefix
 pub after_is : (xs ys : List ℕ) (r : Option (Bor (List ℕ)))
     → MatchOption r ((rest : List ℕ) → ys ≢ xs ++ rest) (λ x. ys ≡ xs ++ x.now) → option_copied r ≡ strip_prefix xs ys
 after_is xs ys None other = none_of (strip_prefix xs ys) (λ zs h. other zs (strip_prefix-some xs ys zs h))
@@ -34,21 +34,21 @@ after_is xs ys (Some x) is = grind (arith, starts-append, drop_at)
 pub two_digits : (s d : List ℕ) → decode_of s ≡ Ok d → length s ≡ 2 * length d
 two_digits s d h = (decode_of-ok s d h).2
 
--- so such text is what a digest may be read of
+-- a text that decodes to 1 to 64 bytes is a digest's digits
 pub decoded-digits : (s d : List ℕ) → decode_of s ≡ Ok d → 1 ≤ length d → length d ≤ 64 → IsDigits s
 decoded-digits s d h some few = grind (arith, decode_of-ok)
 
 -- ---- the places of the parts in the line
 
--- the line ends with the bytes
+-- a line ends with these bytes
 abbrev pub EndsIn : List ℕ → List ℕ → Type 0
 EndsIn line s = (prefix : List ℕ) × (line ≡ prefix ++ s)
 
--- a line ends in its text
+-- a line ends with its text
 pub front-ends : {line s : List ℕ} {f : Front} → IsFront line f → s ≡ (text line).1 → EndsIn line s
 front-ends {line} {f = f} front is = (take f.start line, grind (arith, common_steps))
 
--- and so in what follows any part of that
+-- a line that ends with a text ends with what follows the first bytes of the text
 pub ends-after : {line s : List ℕ} (xs rest : List ℕ) → EndsIn line s → s ≡ xs ++ rest → EndsIn line rest
 ends-after xs rest ends is = (ends.0 ++ xs, grind (arith, append_assoc))
 
@@ -67,7 +67,7 @@ name_place {s = s} {inner = inner} {name = name} a w ends wide opened split =
     let is = rsplit-some 41 inner name (sym split) in
     grind (arith, common_steps)
 
--- the end has its place in the line
+-- the bytes with which a line ends have their place in it
 pub tail-place : {line tail : List ℕ} → EndsIn line tail
     → slice_range line (length line - length tail) (length line) ≡ tail
 tail-place ends = grind (arith, common_steps)
@@ -79,7 +79,7 @@ module _ {w : KindValue × List ℕ} {s inner after digits : List ℕ} {name : L
     (opened : Some inner ≡ option_or (strip_prefix (32 ∷ 40 ∷ []) w.1) (strip_prefix (40 ∷ []) w.1))
     (split : Some name ≡ rsplit_once 41 inner) (after_is : after ≡ after_while is_blank name.1)
     (sign : Some digits ≡ strip_prefix (61 ∷ []) after) where
-  -- is read as the line's parts
+  -- what was read of a tagged line, step by step, is the line's parts
   pub tagged-read : {d : List ℕ} → decode_of (after_while is_blank digits) ≡ Ok d → length d ≡ w.0.len
       → 0 < length name.0
       → Some (record { escaped = (text line).0; kind = w.0; digest = d; text = name.0 }) ≡ tagged_parts (One a) line
@@ -92,7 +92,7 @@ module _ {w : KindValue × List ℕ} {s inner after digits : List ℕ} {name : L
   unfolding tagged_parts
   tagged-none none = grind arith
 
--- a cut has two digits for each byte of its digest, and so few that the search meets its blank
+-- a plain line has two digits for each byte of its digest, at most 64, so the search meets the blank after them
 cut-size : {a : Algo} {s d : List ℕ} → BeginsWithDigits a s d
     → (position_or_len is_blank s ≡ 2 * length d) × (length d ≤ 64)
 cut-size cut = search (rules, cut-within, two_digits)
@@ -129,7 +129,7 @@ search_none a s {n} None is none = λ d cut.
     grind (arith, cut-within, length-take, get_or-take, passes_at_first)
 search_none a s (Some i) is first = tt
 
--- the one that is found is the first
+-- the blank that is found is the first one
 pub search_some : (a : Algo) (s : List ℕ) {n : ℕ} (r : Option ℕ) → n ≡ min (length s) 129
     → IsFirstByte (is_byte2 32 9) (take n s) r → IfSome r (EndsAt a s)
 search_some a s r is none = search (rules, position_or_len_is, get_or-take)
@@ -149,21 +149,21 @@ first-blank s d at within blank spelled =
 
 -- ---- a plain line with such digits
 
--- no digest is as long as such digits say
+-- if the algorithm has no digests as long as a line's digits say, the line isn't plain
 pub kind_none : {a : Algo} {s : List ℕ} {at : ℕ} → EndsDigits a s at
     → ◌≡◌ {A = Option KindValue} None (cond (has_len a (at / 2)) (Some (record { algo = a; len = at / 2 })) None)
     → (d : List ℕ) → ¬ BeginsWithDigits a s d
 kind_none ends none d = grind (arith, cut-size)
 
--- or they are none
+-- if what precedes the blank isn't a digest's digits, the line isn't plain
 pub digits_none : {a : Algo} {s : List ℕ} {at : ℕ} → EndsDigits a s at → (IsDigits (take at s) → ⊥)
     → (d : List ℕ) → ¬ BeginsWithDigits a s d
 digits_none ends none d = grind (arith, decoded-digits)
 
--- why a line isn't plain
+-- the reasons why a line isn't plain
 pub ruleset not_plain = (kind_none, digits_none, uncut)
 
--- what is found so is read as the line's parts
+-- if the blank ends a digest's digits, of a length that the algorithm has, the line is read as its parts
 pub plain_read : (a : Algo) (line : List ℕ) {d : List ℕ} {at : ℕ} (k : KindValue) → let s = (text line).1 in
     EndsDigits a s at → decode_of (take at s) ≡ Ok d
     → Some k ≡ cond (has_len a (at / 2)) (Some (record { algo = a; len = at / 2 })) None

@@ -42,7 +42,7 @@ FailsToWrite-in xs ys more first failed is = let own = first.cut in let then = f
   flushed = failed.flushed;
 }
 
--- a text's first part was accepted, and then the rest was written, or that failed
+-- a text's first part was accepted, and then the rest was written, or its write failed
 pub writes_then : {E : Type 0} {a b : BufferState} (c : BufferState) (xs ys : List ℕ) (r : Result (Unit {0}) E)
     → Accepts a b xs → WritesAll b c ys r → WritesAll a c (xs ++ ys) r
 writes_then c xs ys (Ok u) first rest = Accepts-trans xs ys first rest
@@ -81,7 +81,7 @@ accepts_some {a} {b} c piece n made some count sink buffered =
       ],
     )
 
--- the sink failed
+-- the sink failed when room was made, so the write of the piece failed
 pub accept_failed : {a b : BufferState} (piece : List ℕ) → MakesRoom {E = Unit {0}} a b (Err tt) → 0 < length piece
     → FailsToWrite a b piece
 accept_failed {a} piece (inl (full, none, gives)) some =
@@ -100,7 +100,7 @@ pub record HasLeft (a b : BufferState) (text rest : List ℕ) : Type 0 where
 pub HasLeft-all : {a : BufferState} {text : List ℕ} → HasLeft a a text text
 HasLeft-all = search (rules, Accepts-nil)
 
--- that is how a loop begins
+-- what a loop that writes a text begins with
 pub ruleset at_first = (HasLeft-all)
 
 -- a piece of the rest was accepted
@@ -109,7 +109,7 @@ pub HasLeft-step : {a b c : BufferState} {text rest more : List ℕ} (piece : Li
 HasLeft-step piece left cut written = let own = left.cut in
     record { prefix = left.prefix ++ piece; cut = grind (arith, append_assoc); wrote = search (rules, Accepts-trans) }
 
--- a piece of the rest failed: so did the whole text
+-- a piece of the rest failed, and so the whole text did
 pub HasLeft-stop : {E : Type 0} {a b c : BufferState} {text rest piece : List ℕ} (more : List ℕ)
     (r : Result (Unit {0}) E) → HasLeft a b text rest → rest ≡ piece ++ more → FailsToWrite b c piece → IsErr r
     → WritesAll a c text r
@@ -117,7 +117,7 @@ HasLeft-stop more (Ok u) left cut failed err = cc
 HasLeft-stop {piece = piece} more (Err e) left cut failed err =
     FailsToWrite-in left.prefix piece more left.wrote failed (left.cut ∙ ap (λ l. left.prefix ++ l) cut)
 
--- a text's first part failed
+-- the write of a text's first part failed
 pub writes_stop : {E : Type 0} {a b : BufferState} (xs more : List ℕ) (r : Result (Unit {0}) E) → FailsToWrite a b xs
     → IsErr r → WritesAll a b (xs ++ more) r
 writes_stop xs more r failed err = HasLeft-stop more r HasLeft-all refl failed err
@@ -129,7 +129,7 @@ HasLeft-last {rest = rest} c r left last = rw left.cut (writes_then c left.prefi
 
 -- ---- a text, and a flush
 
--- a text was accepted, and then what was buffered was given to the sink, or that failed
+-- a text was accepted, and then the sink was given what was buffered, or failed
 pub given_after : {E : Type 0} {a b : BufferState} (c : SinkState) (text : List ℕ) (r : Result (Unit {0}) E)
     → Accepts a b text → GivesAll b.sink c b.buffered r → GivesAll a.sink c (a.buffered ++ text) r
 given_after {b = b} c text (Ok u) h given = rw (h.cut, output_events-append h.given b.buffered h.full)

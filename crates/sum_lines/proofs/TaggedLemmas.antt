@@ -77,7 +77,7 @@ read_is_tagged {algos} {line} {p} h =
 
 -- ---- bytes that a line may begin with
 
--- their first is no blank, no backslash and no `#`
+-- the first of the bytes is no blank, no backslash and no `#`
 abbrev pub BeginsText : List ℕ → Type 0
 BeginsText [] = ⊥
 BeginsText (x ∷ xs) = (is_blank x ≡ false) × ((x == 92) ≡ false) × ((x == 35) ≡ false)
@@ -103,7 +103,7 @@ kind_and_rest-of kind w g s h = search (rules, parts-at, decimal-digits, kind_of
 
 -- ---- blanks, digits and the parenthesis
 
--- after the blanks the digits are left, to the line's end
+-- after blanks, the digits to the line's end are left
 pub rest-hex : (blanks ds : List ℕ) → AllPass is_blank blanks → AllPass is_hex_digit ds
     → after_while is_blank (blanks ++ ds) ≡ ds
 rest-hex blanks [] are all = grind (arith, common_steps, prefix_len-all)
@@ -114,7 +114,7 @@ rest-hex blanks (d ∷ ds) are all =
 abbrev IsNot41 : ℕ → Type 0
 IsNot41 x = x ≢ 41
 
--- bytes of a kind that it isn't are none
+-- no byte is a closing parenthesis among bytes that pass a test which it fails
 free : (test : ℕ → Bool) (xs : List ℕ) → test 41 ≡ false → AllPass test xs → All IsNot41 xs
 free test xs stop all = grind (arith, All-weaker)
 
@@ -122,15 +122,15 @@ free test xs stop all = grind (arith, All-weaker)
 
 module _ {algos : Algos} {line : List ℕ} {e : Bool} {kind : KindValue} {d raw : List ℕ}
     (t : IsTagged algos line e kind d raw) where
-  -- what follows the opening parenthesis in it
+  -- what follows the opening parenthesis in the tagged line
   abbrev pub inner_of : List ℕ
   inner_of = raw ++ (41 ∷ (t.before ++ (61 ∷ (t.after ++ t.digits))))
 
-  -- its blanks and its backslash are passed over
+  -- the blanks and the backslash of a tagged line are passed over
   pub tagged-prefix : text line ≡ (e, tag kind.algo ++ (t.width ++ opening t.gap inner_of))
   tagged-prefix = grind (arith, mark_and_rest-prefix)
 
--- it is read as its parts
+-- a tagged line is read as its parts
 pub tagged_is_read : {algos : Algos} {line : List ℕ} (p : LinePartsValue)
     → IsTagged algos line p.escaped p.kind p.digest p.text → tagged_parts algos line ≡ Some p
 unfolding tagged_parts

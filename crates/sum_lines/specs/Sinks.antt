@@ -4,8 +4,8 @@ use Rattle.std.specs.Prelude.{ℕ, Bool, true, false, ◌≡◌, ◌<◌, ◌≤
 use Rattle.std.specs.Simd.{first_chunks}
 
 -- a sink's state: the pieces that it was offered, one per write; the bytes of them that it accepted, which are written
--- at once; the number of calls that failed; whether it is flushed. It is so before its first call, and after a flush or a
--- call that failed, by which what was held back is lost; a write that succeeds ends that
+-- at once; the number of calls that failed; whether it is flushed. It is flushed before its first call, and after a
+-- flush or a call that failed, by which what was held back is lost; a write that succeeds ends that
 pub record SinkState : Type 0 where
   pub offered : List ByteString
   pub written : ByteString

@@ -1,5 +1,4 @@
--- How values of the code relate to those of the definitions. The headline reaches none of this; the contracts of some
--- public calls name some of it.
+-- Relates the code's values to those of the definitions. No contract of `run` or `command` leads here.
 pub mod PartTexts
 pub mod Beginnings
 pub mod SinkStates

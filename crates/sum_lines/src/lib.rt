@@ -1,7 +1,7 @@
 //! Lines of checksums: how they are written to a sink, how a name is escaped in them, and how they are read.
 //!
 //! The format of a line and the sinks that lines are written to belong here, but nothing about files or whole
-//! manifests. The crate calls `digest_kinds`, `hex`, `itoa`, `memchr` and `std`, and it takes no memory.
+//! manifests. The crate calls `digest_kinds`, `ghost_log`, `hex`, `itoa`, `memchr` and `std`, and it takes no memory.
 //!
 //! ```rust
 //! let (reading, form) = read_line(Algos::Any, Form::Undecided, &mut line);

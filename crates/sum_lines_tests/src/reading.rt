@@ -26,7 +26,7 @@ fn read(algos: Algos, form: Form, line: &mut Vec<u8>) -> (Reading, Form) {
     read_line(algos, form, line)
 }
 
-// Whether that is what was read of the line.
+// Whether this is what was read of the line.
 fn is_finding(want: Want, reading: &Reading, line: &[u8]) -> bool {
     match (want, reading) {
         (Ignored, Reading::Ignored) | (Bad, Reading::Bad) => true,

@@ -26,7 +26,7 @@ cut_plain b bs plain (p ∷ ps, tail, is, all, none) =
     let rest : All HasNoNewline ps = All-tail HasNoNewline p ps all in
     ((b ∷ p) ∷ ps, tail, ap (λ l. b ∷ l) is, All-cons HasNoNewline (b ∷ p) ps longer rest, none)
 
--- a newline begins an empty piece
+-- after a newline in front, the cut has one more piece, which is empty
 cut_newline : (bs : List ℕ) → IsCut bs → IsCut (10 ∷ bs)
 cut_newline bs (ended, tail, is, all, none) =
     ([] ∷ ended, tail, ap (λ l. 10 ∷ l) is, search (rules, All-cons, All-nil), none)

@@ -4,7 +4,7 @@ use Rattle.std.{proofs.lemmas.Slice.Eq.bytes_eq-Decides, proofs.lemmas.List.Elem
 use Rattle.sum_sources.specs.{Contents.Content, Contents.Reads, Contents.InputState, Contents.HasContent, Contents.IsSameInput, Contents.Fault, Sources.Answer, Sources.Opening, Sources.SourceState, Sources.ToldAnswers, Sources.IsOpen, Sources.IsOfAnswer, Sources.GivesTold, Sources.names_of, Sources.times, Sources.gave_of, Sources.closed_at, Sources.opened_file, Sources.and_opening, Sources.after_closing, Sources.HashesOpened, Contents.HashesInput}
 use Rattle.digest_kinds.specs.Kinds.{KindValue}
 
--- a test of names that answers so
+-- names that the test finds equal are equal
 pub same_name : (a b : List ℕ) → bytes_eq a b ≡ true → a ≡ b
 same_name a b is = (bytes_eq-Decides a b).0 is
 
@@ -14,37 +14,37 @@ is_same a = (bytes_eq-Decides a a).1 refl
 same_test : (o name other : List ℕ) {b : Bool} → bytes_eq name other ≡ true → bytes_eq o name ≡ b → bytes_eq o other ≡ b
 same_test o name other same is = rw (← same_name name other same) is
 
--- either answer to a test
+-- what follows from either answer to a test holds
 pub either : {P : Type 0} (b : Bool) → (b ≡ true → P) → (b ≡ false → P) → P
 either true f g = f refl
 either false f g = g refl
 
--- of an opening that is open, or wasn't made, nothing has to hold
+-- nothing has to hold of an opening that is open, or that wasn't made
 pub nothing : (told : Option Answer) → IfSome told (λ told. IfSome None (IsOfAnswer told))
 nothing None = tt
 nothing (Some told) = tt
 
--- what was read of a file in memory is of its content
+-- what was read of a file in memory fits its content
 pub of_content : (file : InputState) (c : Content) → HasContent file → file.told ≡ Some c
     → IsOfAnswer (Ok c) (Ok file.reads)
 of_content file c has told = let fits = rw told at has.1 in (c, refl, rw (sym fits) has.2)
 
--- they are as many as the openings of the name
+-- what the openings of a name gave is as long as the list of these openings
 pub gave-times : (os : List Opening) (name : List ℕ) → length (gave_of os name) ≡ times name (names_of os)
 gave-times [] name = refl
 gave-times (o ∷ os) name = grind (arith, gave-times os name)
 
--- those of some openings and of others
+-- what the openings of a name gave, of some openings followed by others
 pub gave-append : (xs ys : List Opening) (name : List ℕ)
     → gave_of (xs ++ ys) name ≡ gave_of xs name ++ gave_of ys name
 gave-append xs ys name = filter_map-append _ xs ys
 
--- after one opening more
+-- what the openings of a name gave, after one more opening
 pub gave-opening : (os : List Opening) (o : Opening) (name : List ℕ) → gave_of (os ++ o ∷ []) name
     ≡ (if bytes_eq o.name name then gave_of os name ++ o.gave ∷ [] else gave_of os name)
 gave-opening os o name = grind (arith, gave-append os (o ∷ []) name, append-nil)
 
--- what the opening gave that has these before it
+-- what the opening gave that has this many before it
 gave-here : (gs more : List (Option (Result Reads Fault))) (g : Option (Result Reads Fault))
     → slice_get (gs ++ g ∷ more) (length gs) ≡ Some g
 gave-here [] more g = refl
@@ -73,7 +73,7 @@ names-closed [] name k r = refl
 names-closed (o ∷ os) name zero r = grind (arith, names-closed os name zero r)
 names-closed (o ∷ os) name (suc k) r = ap (λ ns. o.name ∷ ns) (names-closed os name _ r)
 
--- it sets what the opening gave, and keeps what those of another name gave
+-- a closing sets what its opening gave, and keeps what the openings of another name gave
 pub gave-closing : (os : List Opening) (name : List ℕ) (k : ℕ) (r : Reads) (other : List ℕ)
     → gave_of (closed_at os name k r) other
     ≡ (if bytes_eq name other then slice_set (gave_of os other) k (Some (Ok r)) else gave_of os other)
@@ -93,7 +93,7 @@ gave-closing (o ∷ os) name (suc k) r other = either (bytes_eq o.name name)
 abbrev given : List (Option (Result Reads Fault)) → ℕ → Option (Result Reads Fault)
 given gs k = option_and_then (λ gave. gave) (slice_get gs k)
 
--- after one opening more
+-- a statement on what each opening gave stays true after one more opening, if it is true of that one
 pub gives-more : (P : ℕ → Option (Result Reads Fault) → Type 0) (gs : List (Option (Result Reads Fault)))
     (g : Option (Result Reads Fault)) (k : ℕ) → P (length gs) g → P k (given gs k) → P k (given (gs ++ g ∷ []) k)
 gives-more P [] g zero one h = one
@@ -101,7 +101,7 @@ gives-more P [] g (suc k) one h = h
 gives-more P (x ∷ gs) g zero one h = h
 gives-more P (x ∷ gs) g (suc k) one h = gives-more (λ j. P (suc j)) gs g k one h
 
--- and after a closing
+-- a statement on what each opening gave stays true after a closing, if it is true of the closed file
 pub gives-closed : (P : ℕ → Option (Result Reads Fault) → Type 0) (gs : List (Option (Result Reads Fault)))
     (i k : ℕ) (r : Reads) → P i (Some (Ok r)) → P k (given gs k) → P k (given (slice_set gs i (Some (Ok r))) k)
 gives-closed P [] i k r one h = h
@@ -112,7 +112,7 @@ gives-closed P (g ∷ gs) (suc i) (suc k) r one h = gives-closed (λ j. P (suc j
 
 -- ---- the law of a source is kept
 
--- if this opening has the answer, by one opening more
+-- a source gives what it tells after one more opening, if that opening gives what is told
 pub opening_gives : (tells : ToldAnswers) (s : SourceState) (name : List ℕ) (gave : Option (Result Reads Fault))
     → IfSome (tells s.told name (times name (names_of s.openings))) (λ told. IfSome gave (IsOfAnswer told))
     → GivesTold tells s → GivesTold tells (and_opening s name gave)
@@ -127,7 +127,7 @@ pub open_gives : (tells : ToldAnswers) (s : SourceState) (name : List ℕ)
 open_gives tells s name =
     opening_gives tells s name None (nothing (tells s.told name (times name (names_of s.openings))))
 
--- by a closing, if the file is in memory
+-- a source gives what it tells after a closing, if the file is in memory
 pub closing_gives : (tells : ToldAnswers) (s : SourceState) (file : InputState) (c : Content) → HasContent file
     → file.told ≡ Some c → tells s.told file.name file.opening ≡ Some (Ok c) → GivesTold tells s
     → GivesTold tells (after_closing s file)

@@ -5,7 +5,7 @@ use Rattle.std.{specs.List.cons_option, specs.Option.option_and_then, specs.Opti
 use Rattle.sum_sources.specs.{Contents.Content, Contents.InputState, Contents.Reads, Contents.Fault, Contents.HasContent, Contents.unread, Contents.empty_content, StandardInput.unless_closed, StandardInput.GivesUnread, StandardInput.given_by, StandardInput.put_back, StandardInput.taken, Sources.Answer, Sources.Answers, Sources.Pair, Sources.TellsAll, Sources.Opening, Sources.SourceState, Sources.ToldAnswers, Sources.names_of, Sources.times, Sources.gave_of, Sources.closed_at, Sources.content_at, Sources.opened_file, Sources.IsOpen, Sources.IsOfAnswer, Inputs.is_dash, Inputs.given_once, Inputs.with_stdin, Inputs.tells_both, Inputs.answers_with, Inputs.inputs_state, Inputs.without_dash, refinement.InputsStates.IsPlaceOf, refinement.InputsStates.GivesStdin, refinement.InputsStates.InputsInvariant, declared.inputs.stdin.StdinPlace.StdinPlace, declared.inputs.stdin.StdinPlace.TheVariants.Untaken, declared.inputs.stdin.StdinPlace.TheVariants.Taken, declared.inputs.stdin.StdinPlace.TheVariants.Returned, declared.inputs.closable.Closable.Closable, declared.inputs.closable.Closable.TheVariants.Closed, Contents.Whole, Contents.Unfinished}
 use Rattle.sum_sources.proofs.GaveLemmas.{either, same_name, nothing, of_content, gives-more, gives-closed, gave-times, gave-append, gave-opening, gave-closing}
 
--- a test of two names is one of them the other way round
+-- names that differ also differ the other way round
 turned : (a b : List ℕ) → bytes_eq a b ≡ false → bytes_eq b a ≡ false
 turned a b apart = either (bytes_eq b a)
     (λ is. let no = sym apart ∙ (bytes_eq-Decides a b).1 (sym (same_name b a is)) in cc) (λ is. is)
@@ -18,7 +18,7 @@ ok_again (Some c) = refl
 
 -- ---- the invariant
 
--- the openings of a source, but for those of `-`
+-- the openings of a source, without those of `-`
 others-dash : (os : List Opening) → gave_of (filter (λ o. not (is_dash o.name)) os) (codes "-") ≡ []
 others-dash [] = refl
 others-dash (o ∷ os) = grind (arith, others-dash os, turned (codes "-") o.name)
@@ -31,7 +31,7 @@ others-same (o ∷ os) name apart = either (is_dash o.name)
     rw (is, other) (others-same os name apart))
     (λ is. grind (arith, others-same os name apart))
 
--- nothing was read of standard input yet
+-- the invariant holds at first: nothing was read of standard input
 pub kept_new : {I : Type 0} (state : I → InputState) (stdin : StdinPlace I) (source : SourceState)
     → InputsInvariant state stdin (unless_closed state (given_by stdin)) (without_dash source).openings source.openings
 kept_new state stdin source = record {
@@ -43,7 +43,7 @@ kept_new state stdin source = record {
 module _ {I : Type 0} {state : I → InputState} {stdin : StdinPlace I} {untaken : InputState} {os fs : List Opening}
     (kept : InputsInvariant state stdin untaken os fs)
   where
-    -- another name was opened, in the source
+    -- the invariant is kept if another name than `-` was opened in the source
     pub kept_opening : (name : List ℕ) (gave : Option (Result Reads Fault)) → is_dash name ≡ false
         → InputsInvariant state stdin untaken (os ++ record { name = name; gave = gave } ∷ [])
         (fs ++ record { name = name; gave = gave } ∷ [])
@@ -57,7 +57,7 @@ module _ {I : Type 0} {state : I → InputState} {stdin : StdinPlace I} {untaken
           files = λ other is. rw (gave-opening os o other, gave-opening fs o other, kept.files other is) refl;
         }
 
-    -- `-` was opened
+    -- the invariant is kept if `-` was opened
     pub kept_stdin : (name : List ℕ) (new : StdinPlace I) → is_dash name ≡ true → new ≡ taken stdin
         → InputsInvariant state new untaken (os ++ record { name = name; gave = None } ∷ []) fs
     kept_stdin name new is takes =
@@ -82,7 +82,7 @@ module _ {I : Type 0} {state : I → InputState} {stdin : StdinPlace I} {untaken
         later [] old = empty old
         later (g ∷ gs) old = empty old
 
-    -- another name was closed, in the source
+    -- the invariant is kept if a file of another name than `-` was closed in the source
     pub kept_closing : (name : List ℕ) (k : ℕ) (r : Reads) → is_dash name ≡ false
         → InputsInvariant state stdin untaken (closed_at os name k r) (closed_at fs name k r)
     kept_closing name k r apart =
@@ -95,7 +95,7 @@ module _ {I : Type 0} {state : I → InputState} {stdin : StdinPlace I} {untaken
               rw (gave-closing os name k r other, gave-closing fs name k r other, kept.files other is) refl;
         }
 
-    -- standard input was put back
+    -- the invariant is kept if standard input was put back
     pub kept_back : (name : List ℕ) (k : ℕ) (r : Reads) (given : Closable I) → is_dash name ≡ true
         → GivesStdin untaken k (Some (Ok r))
         → InputsInvariant state (put_back stdin given) untaken (closed_at os name k r) fs
@@ -124,13 +124,13 @@ module _ {I : Type 0} {state : I → InputState} {stdin : StdinPlace I} {untaken
 module _ {I : Type 0} {state : I → InputState} {stdin : StdinPlace I} (tells : ToldAnswers) (untaken : InputState)
     (log source : SourceState) (kept : InputsInvariant state stdin untaken log.openings source.openings)
   where
-    -- how often a name was opened
+    -- a name other than `-` was opened as often in the source as in both
     times_there : (name : List ℕ) → is_dash name ≡ false
         → times name (names_of source.openings) ≡ times name (names_of log.openings)
     times_there name apart =
         sym (gave-times source.openings name) ∙ ap length (sym (kept.files name apart)) ∙ gave-times log.openings name
 
-    -- standard input, as it was given
+    -- what opening `-` gives is standard input, as it was given
     pub stdin_opened : (name : List ℕ) (given : Closable I)
         → is_dash name ≡ true → given ≡ given_by stdin → GivesUnread state stdin
         → record (unless_closed state given) { name = name; opening = times name (names_of log.openings) }
@@ -150,13 +150,13 @@ module _ {I : Type 0} {state : I → InputState} {stdin : StdinPlace I} (tells :
         by [] new was = rw (new, was) (rw (ok_again untaken.told) refl)
         by (g ∷ gs) new was = rw was refl
 
-    -- a file of the source
+    -- what opening another name gives is a file of the source
     pub file_opened : (name : List ℕ) → is_dash name ≡ false
         → opened_file tells source name ≡ opened_file (tells_both tells) (inputs_state untaken log source) name
     file_opened name apart =
         rw (apart, times_there name apart) refl
 
-    -- a file of the source is open there
+    -- a file of another name that is open is open in the source
     pub open_there : (file : InputState) → is_dash file.name ≡ false
         → IsOpen (tells_both tells) (inputs_state untaken log source) file → IsOpen tells source file
     open_there file apart here = record {
@@ -164,7 +164,7 @@ module _ {I : Type 0} {state : I → InputState} {stdin : StdinPlace I} (tells :
       told = rw apart at here.told;
     }
 
-    -- what was read of standard input
+    -- what was read of standard input fits its answer, if one is told
     pub stdin_gives : (file : InputState) → HasContent file → is_dash file.name ≡ true
         → IsOpen (tells_both tells) (inputs_state untaken log source) file
         → GivesStdin untaken file.opening (Some (Ok file.reads))

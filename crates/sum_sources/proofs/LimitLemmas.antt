@@ -15,13 +15,13 @@ before_more a b more going is c of =
     let (rest, begins) = rw (is, going) at of in
     rw going (more ++ rest, begins ∙ append_assoc a.bytes more rest)
 
--- a read adds the same past the first m bytes
+-- a read adds the same bytes if only those past the first m count
 pub past_read : (m : ℕ) (a b : InputState) (given : List ℕ) (r : Result ℕ Fault) → m ≤ length a.reads.bytes
     → b ≡ and_read a given r → past m b ≡ and_read (past m a) given r
 past_read m a b given r low is = rw (is, drop-append-le m a.reads.bytes (take (result_unwrap_or r 0) given) low) refl
 
 module _ (a b : InputState) (t : ℕ) (going : a.reads.phase ≡ Unfinished) (few : t < 2 ^ 61) where
-  -- its ending was read
+  -- the ending was read, so it was found
   finds_ending : (e : Ending) → b.reads ≡ record { bytes = a.reads.bytes; phase = Ended e }
       → FindsEnding t a.reads b.reads e
   finds_ending e is = record {
@@ -31,7 +31,7 @@ module _ (a b : InputState) (t : ℕ) (going : a.reads.phase ≡ Unfinished) (fe
     past = rw is (λ past. cc);
   }
 
-  -- a byte was read that reaches the limit
+  -- a byte was read that reaches the limit, so the fault for that was found
   finds_limit : (more : List ℕ) → t + 1 ≡ 2 ^ 61 → length more ≡ 1
       → b.reads ≡ record a.reads { bytes = a.reads.bytes ++ more } → FindsEnding t a.reads b.reads (Broken Other)
   finds_limit more last one is = record {
@@ -51,13 +51,13 @@ module _ (a b : InputState) (t : ℕ) (going : a.reads.phase ≡ Unfinished) (fe
           rw (begins, append_assoc, all, take-append_seam) refl in
           grind (arith, limit-value, size, last, sum, sum2, front, begins)
 
-  -- a read failed
+  -- a read failed, so its fault was found
   pub read_fails : (f : Fault) (given : List ℕ) → 0 < length given → b ≡ and_read a given (Err f)
       → FindsEnding t a.reads b.reads (Broken f)
   read_fails f [] some is = absurd (omega arith)
   read_fails f (x ∷ xs) some is = finds_ending (Broken f) (rw (is, going, append-nil) refl)
 
-  -- its byte reached the limit
+  -- the byte that was read reached the limit, so the fault for that was found
   pub read_reaches : (n : ℕ) (given : List ℕ) → 0 < length given → n ≤ length given → t + n ≡ 2 ^ 61
       → length given ≤ max (2 ^ 61 - 1 - t) 1 → b ≡ and_read a given (Ok n)
       → FindsEnding t a.reads b.reads (Broken Other)
@@ -68,7 +68,7 @@ module _ (a b : InputState) (t : ℕ) (going : a.reads.phase ≡ Unfinished) (fe
       finds_limit (take (suc n) (x ∷ xs)) (omega arith) (length-take-le (suc n) (x ∷ xs) fits ∙ ap suc one)
       (rw (is, going) refl)
 
-  -- it gave bytes, or its end
+  -- a read gave bytes, or the end was found
   pub read_gives : (n : ℕ) (given rest : List ℕ) → 0 < length given → n ≤ length given
       → b ≡ and_read a given (Ok n) → AddsLimited t a.reads b.reads (take n (given ++ rest)) (Ok n)
   read_gives n [] rest some fits is = absurd (omega arith)

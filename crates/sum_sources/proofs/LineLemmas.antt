@@ -51,7 +51,7 @@ pub IsNextLine-fault : (f : Fault) (piece : List ℕ) → HasNoNewline piece
 IsNextLine-fault f piece none =
     (rw append-nil (ap (map strip_carriage_return) (pieces-last (Broken f) piece none)), refl, refl)
 
--- what has a line has a byte
+-- a content that has a line has a byte
 some_bytes : (bytes line : List ℕ) (e : Ending) (ls : List (List ℕ))
     → lines (record { bytes = bytes; ending = e }) ≡ line ∷ ls → 0 < length bytes
 some_bytes bytes line e ls is = grind (arith, common_steps, lines-nil)

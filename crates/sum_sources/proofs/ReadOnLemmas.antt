@@ -6,7 +6,7 @@ use Rattle.sum_sources.specs.{ManifestLines.Next, ManifestLines.Line, ManifestLi
 use Rattle.sum_sources.specs.declared.line_reader.LineStop.TheVariants as stops
 use Rattle.sum_sources.proofs.{ContentLemmas.with_prefix, ContentLemmas.limit-value, LimitLemmas.before_more, LineLemmas.lines-nil, LineLemmas.past_line-piece, LineLemmas.IsNextLine-ended}
 
--- nothing, and then this ending
+-- the content without bytes that has this ending
 abbrev just : Ending → Content
 just e = record { bytes = []; ending = e }
 
@@ -22,12 +22,12 @@ clip-prefix front rest few =
     let d = if nat_lt (length rest.bytes) k then rest else short in
     (d, grind (arith, limit-value, length-append {A = ℕ}, cut))
 
--- past all its bytes a content has its ending
+-- past all its bytes, a content is its ending alone
 over : {k : Content} (n : ℕ) (bytes : List ℕ) (e : Ending) → k ≡ record { bytes = bytes; ending = e } → length bytes ≤ n
     → past n k ≡ just e
 over n bytes e is low = rw (is, drop_all n bytes low) refl
 
--- more bytes were consumed, and fewer remain
+-- bytes that are consumed no longer remain, so both counts add up to the same
 adds_up : (x y : Content) {m : ℕ} (n : ℕ) (a : List ℕ) → x ≡ with_prefix a y → m ≡ n + length a
     → m + length y.bytes ≡ n + length x.bytes
 adds_up x y n a is count = rw is (simp length-append (omega (arith, count)))
@@ -59,7 +59,7 @@ module _ {I : Type 0} {state : I → InputState} {r : LineReaderValue I} (u : Is
       let (d, keeps) = clip-prefix _ (record { bytes = rest; ending = c.ending }) (rw u.taken few) in
       begins_at (clip c) d (ap (λ bs. clip (record { bytes = bs; ending = c.ending })) is ∙ keeps)
 
--- a read adds the same past what was read before the reader was made
+-- a read adds the same to what was read since the reader was made
 pub adds_of : {I : Type 0} {state : I → InputState} (s s' : LineReaderValue I) {result : Result ℕ Fault}
     → IsUnderWay state s → CountsBytes s.taken s'.taken (state s.input) (state s'.input)
     → AddsPast s.taken (state s.input).reads (state s'.input).reads s'.ahead result
@@ -72,7 +72,7 @@ adds_of {state = state} s s' {result} u counts adds =
     subst (λ m. AddsLimited s.taken (reads_of state s) (reads_past m (state s'.input).reads) s'.ahead result) same
     (adds.adds before (omega arith) u.phase)
 
--- these bytes were read of what remained
+-- the reader went from `old` to s by consuming these bytes of what remained
 pub record HasRead {I : Type 0} (state : I → InputState) (old s : LineReaderValue I) (bytes : List ℕ) : Type 0 where
   pub under_way : IsUnderWay state s
   pub count : consumed_count s ≡ consumed_count old + length bytes
@@ -87,7 +87,7 @@ regroup a b c d = simp append_assoc refl
 module _ {I : Type 0} {state : I → InputState} {old s s' : LineReaderValue I} {bytes : List ℕ}
     (h : HasRead state old s bytes)
   where
-    -- a piece that was ahead
+    -- a piece that was ahead was consumed, too
     pub HasRead-more : (more ahead : List ℕ) → s'.taken < 2 ^ 61 → s' ≡ record s { ahead = ahead }
         → s.ahead ≡ more ++ ahead → HasRead state old s' (bytes ++ more)
     HasRead-more more ahead below moved is =
@@ -109,7 +109,7 @@ module _ {I : Type 0} {state : I → InputState} {old s s' : LineReaderValue I} 
           before = h.before;
         })
 
-    -- bytes were read of the input
+    -- bytes were read of the input, and are ahead
     pub HasRead-filled : (n : ℕ) → 0 < n → s.ahead ≡ []
         → AddsLimited s.taken (reads_of state s) (reads_of state s') s'.ahead (Ok n) → FillsReader s s' (Ok n)
         → HasRead state old s' bytes
@@ -133,12 +133,12 @@ module _ {I : Type 0} {state : I → InputState} {old s s' : LineReaderValue I} 
 
 -- ---- a line ends
 
--- the next line of the same content
+-- the next line is the same of equal contents
 next_of : {c c' d d' : Content} (r : Result Next LineStop) (line : List ℕ) → c ≡ c' → d ≡ d'
     → IsNextLine c' d' r line → IsNextLine c d r line
 next_of r line p q h = rw (p, q) h
 
--- by a newline in the buffer
+-- a newline in the buffer ended the line
 pub ends_line : {I : Type 0} {state : I → InputState} {old s s' : LineReaderValue I} {line line' : List ℕ}
     → HasRead state old s line → HasNoNewline line → s' ≡ record s { ahead = s'.ahead } → s'.taken < 2 ^ 61
     → s'.final_answer ≡ None → TakesPiece true s.ahead s'.ahead line line'
@@ -199,7 +199,7 @@ abbrev answer_by : Ending → Result Next LineStop
 answer_by Whole = Ok NoMore
 answer_by (Broken f) = Err (stops.Fault f)
 
--- no bytes, no line
+-- of a content without bytes there is no line, but its ending
 pub no_line : (e : Ending) (line : List ℕ) → IsNextLine (just e) (just e) (answer_by e) line
 no_line Whole line = (lines-nil Whole, refl, refl)
 no_line (Broken f) line = (lines-nil (Broken f), refl, refl)
@@ -208,7 +208,7 @@ whole_by : (e : Ending) → answer_by e ≡ Ok NoMore → e ≡ Whole
 whole_by Whole is = refl
 whole_by (Broken f) is = cc
 
--- the input ended so, after these bytes
+-- the input ended with this ending, after these bytes
 pub ends : {I : Type 0} {state : I → InputState} {old s : LineReaderValue I} (m : LineReaderValue I)
     {n : LineReaderValue I} {line bytes : List ℕ} (e : Ending) (answer : Result Next LineStop)
     → HasRead state old s line → s.ahead ≡ []
@@ -232,7 +232,7 @@ ends {state = state} {old = old} {s = s} m {line = line} e answer h none finds n
       before = λ c of. h.before c (finds.before c of);
     })
 
--- a line is counted
+-- counting a line changes nothing else
 pub counted : {I : Type 0} {state : I → InputState} {old new : LineReaderValue I} {result : Result Next LineStop}
     {bytes : List ℕ} (n : ℕ) → ReadsOn state old new result bytes
     → ReadsOn state old (record new { lines = n }) result bytes

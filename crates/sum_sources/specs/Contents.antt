@@ -77,7 +77,7 @@ IsSameInput a b = b ≡ record a { reads = b.reads }
 -- the effect of a call that hashes an input
 pub record HashesInput (kind : KindValue) (old new : InputState) (result : Result ByteString Fault) : Type 0 where
   pub same : IsSameInput old new
-  -- if it hadn't ended: of each content that the reads of the call are of, the digest, or the fault by which it ends
+  -- if it hadn't ended: the digest of each content that the reads of the call fit, or the fault with which it ends
   pub digest : old.reads.phase ≡ Unfinished → (c : Content) → IsOf (reads_past (length old.reads.bytes) new.reads) c
       → MatchResult result (λ d. ((clip c).ending ≡ Whole) × (d ≡ digest kind (clip c).bytes))
       (λ f. (clip c).ending ≡ Broken f)

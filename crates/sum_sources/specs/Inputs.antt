@@ -20,7 +20,7 @@ tells_both tells [] name k = None
 tells_both tells (stdin ∷ told) name k =
     if is_dash name then given_once stdin.answer (Some (Ok empty_content)) k else tells told name k
 
--- the answers of both, if all are known
+-- the answers of both, if all are told
 abbrev pub answers_with : Content → Answers → Answers
 answers_with stdin answer name k = if is_dash name then given_once (Ok stdin) (Ok empty_content) k else answer name k
 
@@ -31,7 +31,7 @@ inputs_state untaken log source = record source {
   openings = log.openings;
 }
 
--- a source, but for what it opened by the name `-` itself
+-- a source, without what it opened itself by the name `-`
 abbrev pub without_dash : SourceState → SourceState
 without_dash s = record s { openings = filter (λ o. not (is_dash o.name)) s.openings }
 

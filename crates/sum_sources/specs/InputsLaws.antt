@@ -1,4 +1,4 @@
--- The law of standard input and a source of files, as one source: what they gave is of the answers in memory.
+-- The law of standard input and a source of files, as one source: what they gave fits the answers that are told.
 use Rattle.std.proofs.Common.{◌≡◌, ℕ, Bool, true, false, IfSome, refl, codes}
 use Rattle.std.{proofs.Math.Logic.∥∥₁_elim, proofs.lemmas.Slice.Eq.bytes_eq-Decides}
 use Rattle.sum_sources.specs.{Contents.InputState, Faults.ByteString, Sources.ToldAnswers, Sources.gave_at, Sources.IsOfAnswer, Sources.GivesTold, Sources.SourceState, Inputs.is_dash, Inputs.with_stdin, Inputs.tells_both, Inputs.inputs_state, SourceLaws.GivesTold-prop, refinement.InputsStates.InputsInvariant, declared.inputs.stdin.StdinPlace.StdinPlace}

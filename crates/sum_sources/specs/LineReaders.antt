@@ -41,7 +41,7 @@ pub record IsUnderWay {I : Type 0} (state : I → InputState) (r : LineReaderVal
 -- a reader of an input that hadn't ended when the reader was made
 pub record IsReading {I : Type 0} (state : I → InputState) (r : LineReaderValue I) : Type 0 where
   pub under_way : r.final_answer ≡ None → IsUnderWay state r
-  -- a final answer stays right
+  -- a final answer is right for each content that what was read fits
   pub final : (answer : Result Next LineStop) → r.final_answer ≡ Some answer → (line : ByteString) (c : Content)
       → IsOf (reads_of state r) c → IsNextLine (remaining r c) (remaining r c) answer line
   -- the input is at its end if no line remains, and is never read past its end or its fault
@@ -57,14 +57,14 @@ IsFinalAnswerAfter answer later = later ≡ Some answer
 -- the next line was read of an input that hadn't ended when the reader was made, and reading goes on
 pub record ReadsOn {I : Type 0} (state : I → InputState) (old new : LineReaderValue I) (result : Result Next LineStop)
     (bytes : ByteString) : Type 0 where
-  -- of each content that what was read since then is of: the next line, or an end
+  -- for each content that what was read since then fits: the next line, or an end
   pub line : (c : Content) → IsOf (reads_of state new) c
       → IsNextLine (remaining old c) (remaining new c) result bytes
   -- if the result is `Ok`, bytes consumed and bytes that remain add up to the same
   pub sum : (next : Next) → result ≡ Ok next → (c : Content) → IsOf (reads_of state new) c
       → consumed_count new + length (remaining new c).bytes ≡ consumed_count old + length (remaining old c).bytes
   pub reading : IsReading state new
-  -- reads only narrow what they are of
+  -- a content that fits what was read by now also fits what was read before
   pub before : (c : Content) → IsOf (reads_of state new) c → IsOf (reads_of state old) c
 
 -- what a call of next_line changes in a reader

@@ -1,4 +1,4 @@
--- Sources of files: what was asked of one, and what it answered.
+-- Sources of files: which names one opened, and what it answered.
 use Rattle.std.specs.Prelude.{ℕ, zero, suc, slice_get, ◌≡◌, ◌+◌, List, [], ◌∷◌, ◌++◌, map, filter, filter_map, length, Option, None, Some, Result, Ok, Err, IfSome, MatchResult, if◌then◌else◌, ◌&&◌, bytes_eq, nat_le, unwrap_or}
 use Rattle.std.{specs.Option.option_and_then, specs.Result.result_ok}
 use Rattle.digest_kinds.specs.Kinds.{KindValue}
@@ -28,7 +28,7 @@ names_of os = map (λ o. o.name) os
 abbrev pub times : ByteString → List ByteString → ℕ
 times name names = length (filter (λ other. bytes_eq other name) names)
 
--- what the openings of a name gave, in their order; and what the one gave that has k of them before it
+-- what the openings of a name gave, in their order; and what the opening of it gave that has k others before it
 abbrev pub gave_of : List Opening → ByteString → List (Option (Result Reads Fault))
 gave_of os name = filter_map (λ o. if bytes_eq o.name name then Some o.gave else None) os
 
@@ -37,26 +37,26 @@ gave_at os name k = option_and_then (λ gave. gave) (slice_get (gave_of os name)
 
 -- ---- what is in memory
 
--- what a source has in memory: a name, and the answer, if it is known, to the openings of it that have at least so many
--- before them
+-- what a source has in memory: a name, and the answer, if one is told, to the openings of it that have at least this
+-- many before them
 pub record Pair : Type 0 where
   pub name : ByteString
   pub from : ℕ
   pub answer : Option Answer
 
--- the answers of a source, each if it is known, by what it has in memory: any function
+-- the answers that a source tells, as any function of what it has in memory
 abbrev pub ToldAnswers : Type 0
 ToldAnswers = List Pair → ByteString → ℕ → Option Answer
 
--- all answers are known, and they are these
+-- all answers are told, and they are these
 abbrev pub TellsAll : ToldAnswers → List Pair → Answers → Type 0
 TellsAll tells told answer = (name : ByteString) (k : ℕ) → tells told name k ≡ Some (answer name k)
 
--- none is known
+-- no answer is told
 abbrev pub tells_none : ToldAnswers
 tells_none told name k = None
 
--- of a list of pairs that answers by the first that fits; a name without one isn't there
+-- what a list of pairs answers: the first pair that has the name and is early enough; a name without one isn't there
 abbrev pub first_answer : List Pair → Answers
 first_answer [] name k = Err NotFound
 first_answer (p ∷ ps) name k = if bytes_eq p.name name && nat_le p.from k
@@ -77,12 +77,12 @@ pub record SourceState : Type 0 where
 abbrev pub IsOfAnswer : Answer → Result Reads Fault → Type 0
 IsOfAnswer answer gave = MatchResult gave (λ r. (c : Content) × (answer ≡ Ok c) × IsOf r c) (λ f. answer ≡ Err f)
 
--- what an opening gave is of the answer, if that is known
+-- what an opening gave fits the answer, if one is told
 abbrev pub GivesTold : ToldAnswers → SourceState → Type 0
 GivesTold tells s = (name : ByteString) (k : ℕ)
     → IfSome (tells s.told name k) (λ told. IfSome (gave_at s.openings name k) (IsOfAnswer told))
 
--- the content of the file of an opening, if it is known
+-- the content of the file of an opening, if one is told
 abbrev pub content_at : ToldAnswers → SourceState → ByteString → ℕ → Option Content
 content_at tells s name k = option_and_then result_ok (tells s.told name k)
 
@@ -106,7 +106,7 @@ pub record IsOpen (tells : ToldAnswers) (s : SourceState) (file : InputState) : 
   pub opening : slice_get (gave_of s.openings file.name) file.opening ≡ Some None
   pub told : file.told ≡ content_at tells s file.name file.opening
 
--- the openings once the file was closed of that opening of a name which has k of them before it
+-- the openings once a file was closed: that of the opening of this name which has k others before it
 abbrev pub closed_at : List Opening → ByteString → ℕ → Reads → List Opening
 closed_at [] name k r = []
 closed_at (o ∷ os) name zero r = if bytes_eq o.name name then record o { gave = Some (Ok r) } ∷ os

@@ -32,7 +32,7 @@ abbrev pub given_by : {I : Type 0} → StdinPlace I → Closable I
 given_by (Untaken given) = given
 given_by place = Closed Whole Unfinished
 
--- nothing was read of what taking gives
+-- nothing has been read of what taking gives
 abbrev pub GivesUnread : {I : Type 0} → (I → InputState) → StdinPlace I → Type 0
 GivesUnread state place = (unless_closed state (given_by place)).reads ≡ unread
 

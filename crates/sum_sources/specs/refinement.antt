@@ -1,4 +1,4 @@
--- Views of the code's values. The headline reaches none of them; the contracts of some single calls name them.
+-- Relates the code's values to those of the definitions. No contract of `run` or `command` leads here.
 pub mod InputsStates
 pub mod LimitedReads
 pub mod LineStates

@@ -1,5 +1,5 @@
 //! Where bytes come from: inputs and sources of files, in memory and real ones, the digest of an input, and the lines
-//! of a manifest. The crate calls `digest_kinds` and no other of ours.
+//! of a manifest. Of our crates it calls `digest_kinds` and `ghost_log`.
 //!
 //! Inputs and sources keep logs of what their calls gave. Only proofs see them. The code that opens a file must close
 //! it.

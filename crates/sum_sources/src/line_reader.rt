@@ -226,7 +226,7 @@ impl<I: Input> LineReader<I> {
     /// any of these, the content of `line` is unspecified, and every later call returns the same without reading the
     /// input.
     pub fn next_line<A: Allocator>(&mut self, line: &mut Vec<u8, A>) -> Result<Next, LineStop>
-        // Of each content that what was read since `new` is of: the next line of what remained.
+        // For each content that what was read since `new` fits: the next line of what remained.
         ensures line { IsReading I.state self.old
             → ReadsOn I.state self.old self.new result line.new.items }
         // A final answer is returned again, and the reader is unchanged.

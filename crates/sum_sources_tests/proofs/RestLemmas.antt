@@ -5,7 +5,7 @@ use Rattle.std.proofs.lemmas.List.{drop-append-le, length-take-le}
 use Rattle.digest_kinds.specs.{Bytes.ByteString, Kinds.digest, Kinds.KindValue}
 use Rattle.sum_sources.specs.{Contents.Content, Contents.InputState, Contents.Reads, Contents.HashesInput, Contents.IsOf, Contents.and_read, Contents.clip, Contents.reads_past, Contents.unread, LineReaders.AdvancesLines, LineReaders.IsReading, LineReaders.LineReaderValue, LineReaders.ReadsOn, LineReaders.past, LineReaders.remaining, ManifestLines.lines, declared.fault.Fault.Fault, declared.fault.Ending.TheVariants.Whole, declared.inputs.phase.Phase.Phase, declared.line_reader.Next.TheVariants.Line, declared.inputs.phase.Phase.TheVariants.Unfinished, declared.inputs.phase.Phase.TheVariants.Ended, declared.inputs.phase.Phase.TheVariants.Past}
 
--- if reads are of a content, those past the first bytes are of its rest
+-- if reads fit a content, those past the first bytes fit its rest
 rest_is_of : (m : ℕ) (r : Reads) (c : Content) → m ≤ length r.bytes → IsOf r c → IsOf (reads_past m r) (past m c)
 rest_is_of m r c low of = by r.phase refl
   where

@@ -14,7 +14,7 @@ use sum_sources::{
     hash_input, hash_input_over,
 };
 
-// A reader of an input. It fails by the error so often before, and at each fault of the input.
+// A reader of an input. It fails with the error this often before, and at each fault of the input.
 #[derive(Drop)]
 struct Reader<'a> {
     input: TwoParts<'a>,
@@ -66,7 +66,7 @@ fn reads(rt: &impl Abort, input: &mut impl Input, want: Result<usize, Fault>, fi
     assert_eq!(rt; buf, [first, 0, 0, 0]);
 }
 
-// The first read of a reader that fails so often by this error returns this. A fault isn't tried again by itself.
+// The first read of a reader that fails this often with this error returns this. A fault isn't tried again by itself.
 fn assert_first(rt: &impl Abort, left: u32, error: io::Error, first: Result<usize, Fault>) {
     let mut input = abc_read(3, Ending::Whole, error, left);
     if first.is_err() {
@@ -181,7 +181,7 @@ fn hashed(
     result
 }
 
-// The digest of one update. Without a contract, so that no proof computes it.
+// The digest of one update. It has no contract, so that no proof computes it.
 fn of_one_update(mut hasher: impl Hasher + Drop, content: &[u8]) -> Option<Digest> {
     match hasher.try_update(content) {
         Ok(()) => Some(hasher.finish()),
@@ -189,7 +189,7 @@ fn of_one_update(mut hasher: impl Hasher + Drop, content: &[u8]) -> Option<Diges
     }
 }
 
-// It is that of one update, and of one call.
+// The digest is that of one update, and of one call.
 fn hashes(
     rt: &impl Abort,
     content: &[u8],
@@ -205,7 +205,7 @@ fn hashes(
     Ok(())
 }
 
-// There is none if the content is broken.
+// There is no digest if the content is broken.
 fn breaks(rt: &impl Abort, content: &[u8], piece: usize, buffer: &mut [u8; PIECE]) {
     let found = hashed(rt, content, DENIED, piece, buffer);
     let len = content.len();
@@ -242,7 +242,7 @@ fn hashing(rt: HostRuntime) -> Result<(), Fail> {
     Ok(())
 }
 
-// What follows the header "a: " has this digest. Without a contract, so that no proof computes it.
+// What follows the header "a: " has this digest. It has no contract, so that no proof computes it.
 fn hashes_rest(rt: &impl Abort, content: &[u8], digits: &[u8]) {
     let mut input = Told::new(content, Ending::Whole, PIECE);
     let digest = hash_past_header(&mut input, Md5Hasher::new());

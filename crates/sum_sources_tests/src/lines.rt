@@ -22,7 +22,7 @@ const JOINED: &[u8] = b"900150983cd24fb0d6963f7d28e17f72  a\n#c\njunk\n\
 // The same line twice, of which a newline ends only the first.
 const TWICE: &[u8] = b"900150983cd24fb0d6963f7d28e17f72  a\n900150983cd24fb0d6963f7d28e17f72  a";
 
-// The next line is this. Without a contract, so that no proof computes it.
+// The next line is this. It has no contract, so that no proof computes it.
 fn gives<A: Allocator>(
     rt: &impl Abort,
     reader: &mut LineReader<impl Input>,
@@ -45,14 +45,14 @@ fn ends<A: Allocator>(
     }
 }
 
-// This much was returned and read.
+// Asserts how many lines were returned, how many bytes were read, and how far the input was read.
 fn is_at(rt: &impl Abort, reader: LineReader<TwoParts>, lines: usize, place: usize, phase: Phase) {
     assert!(rt; (reader.lines(), reader.taken()) == (lines as u64, place as u64));
     assert_eq!(rt; reader.into_inner().phase(), phase);
 }
 
 // The reader of a content that has this ending after this many bytes, and goes on with the others, gives just these
-// lines. Then it answers the ending, and has read no further.
+// lines. Then it returns the ending, and has read no further.
 fn reads(
     rt: &(impl Abort + AllocGlobal),
     content: &[u8],
@@ -94,7 +94,7 @@ fn lines(rt: HostRuntime) {
     }
 }
 
-// A line "one" and the start of another, of this many bytes in all. Without a contract, so that no proof computes them.
+// A line "one" and the start of another, of this many bytes in all. It has no contract, so that no proof computes them.
 fn two_lines(alloc: Global, len: usize) -> Result<Vec<u8>, Fail> {
     let mut content = Vec::from_slice(alloc, b"one\n")?;
     content.resize(len, b'x')?;

@@ -17,7 +17,7 @@ pub fn hash_past_header<I: Input, H: Hasher + Drop>(
 ) -> Result<Digest, Fault>
     requires new { (I.state input.old).reads ≡ unread }
     requires hasher { H.holds hasher [] }
-    // Of each content that all reads of the input are of, the header's included.
+    // For each content that all reads of the input fit, the header's included.
     ensures { (c : Content) → IsOf (I.state input.new).reads c
         → IfOk result (λ d. d ≡ digest (H.kind_of hasher) (drop 3 c.bytes)) }
 {
@@ -35,7 +35,7 @@ pub fn line_past_header<I: Input + Drop, A: Allocator>(
     line: &mut Vec<u8, A>,
 ) -> Option<LineReader<I>>
     requires { (I.state input).reads ≡ unread }
-    // Of each content that all reads of the input are of, the header's included.
+    // For each content that all reads of the input fit, the header's included.
     ensures { IfSome result (λ r. (c : Content) → IsOf (I.state r.input).reads c
         → lines (clip (past 3 c)) ≡ line.new.items ∷ lines (remaining r (past 3 c))) }
 {

@@ -45,7 +45,7 @@ fn notes<'a, A: Allocator + Copy>(
     Ok(files)
 }
 
-// The name that was asked after this many others.
+// The name that was opened after this many others.
 fn asked<A: Allocator + Copy>(rt: &impl Abort, files: &ToldSource<A>, number: usize, name: &[u8]) {
     assert_eq!(rt; files.asked_name(number), Some(name));
 }
@@ -56,7 +56,7 @@ const BROKEN: &[u8] = b"broken";
 
 const MD5_OF_ABC: &[u8] = b"900150983cd24fb0d6963f7d28e17f72";
 
-// The lines of the crate's front page, the first answer to a name, and the names asked. What finds no room on the heap
+// The lines of the crate's front page, the first answer to a name, and the names opened. What finds no room on the heap
 // changes nothing.
 #[test]
 fn told_source(rt: HostRuntime) -> Result<(), Fail> {

@@ -14,7 +14,7 @@ usage_parts = grind (arith, common_steps)
 abbrev pub option_lines : Tool → List Flag → ByteString
 option_lines t flags = flat_map help_line (filter (has_option t) flags)
 
--- those of the options from a place on are that of the one there, and those of the others
+-- the lines of the options from a place on are that of the option there, and those of the later ones
 pub option_lines_from : (t : Tool) (flags : List Flag) (i : ℕ) (d : Flag) → i < length flags
     → option_lines t (drop i flags) ≡ option_lines t (get_or flags i d ∷ []) ++ option_lines t (drop (i + 1) flags)
 option_lines_from t flags i d less = rw (drop_more flags i d less) (search rules)

@@ -19,7 +19,7 @@ pub CutsAt-push : (bytes word : List ℕ) (from : ℕ) (ends : List ℕ) → Cut
 CutsAt-push bytes word from [] cuts = (omega (arith, cuts, length-append bytes word), refl)
 CutsAt-push bytes word from (end ∷ ends) cuts = (cuts.0, CutsAt-push bytes word end ends cuts.1)
 
--- the places go on from one to the next, up to the end of the bytes
+-- the places at which pieces begin are within the bytes
 CutsAt-within : (bytes : List ℕ) (from : ℕ) (ends : List ℕ) → CutsAt bytes from ends → from ≤ length bytes
 CutsAt-within bytes from [] cuts = omega (arith, cuts)
 CutsAt-within bytes from (end ∷ ends) cuts = omega (arith, cuts.0, CutsAt-within bytes end ends cuts.1)

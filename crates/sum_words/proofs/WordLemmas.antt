@@ -28,7 +28,7 @@ unfolding chars encode is_utf8
 no_dashes word none = false_from_ne_true _ (λ same.
     none (rw ((bytes_eq-Decides word (codes "--")).0 same) (IsUtf8-from_is_utf8 (codes "--") refl)))
 
--- such a word is a fault, and the last item
+-- a word that isn't UTF-8 and begins with a dash is a fault, and the last item
 pub no_text : (t : Tool) (word : List ℕ) (words : List (List ℕ)) → is_option_word word ≡ true → (IsUtf8 word → ⊥)
     → fault (not_text word) ∷ [] ≡ items_from t (word ∷ words) a_word
 no_text t word words dash none = grind (arith, no_dashes, IsUtf8-from_is_utf8)
@@ -36,7 +36,7 @@ no_text t word words dash none = grind (arith, no_dashes, IsUtf8-from_is_utf8)
 -- a text is UTF-8
 pub ruleset utf8 = (is_utf8-from_IsUtf8)
 
--- what is left of the word is the value
+-- what is left of the word, if that isn't empty, is the value
 pub own_value : (t : Tool) (bs : List ℕ) (words : List (List ℕ)) → IsUtf8 bs → length bs ≢ 0
     → attached_value t (chars bs) words ≡ length_value bs ∷ items_from t words a_word
 own_value t bs words valid some = grind (arith, encodes-chars bs valid)

@@ -9,7 +9,7 @@ pub record ArgumentsState : Type 0 where
   pub given : List ByteString
   pub fault : Option (FillError × ℕ)
 
--- one call more, which left this buffer
+-- the state after one more call, which left this buffer
 abbrev pub and_fill : ArgumentsState → ByteString → Result ℕ FillError → ArgumentsState
 and_fill s buffer (Ok n) = record s { given = s.given ++ take n buffer ∷ []; fault = None }
 and_fill s buffer (Err fault) = record s { fault = Some (fault, length buffer) }

@@ -3,8 +3,8 @@ use Rattle.std.specs.Prelude.{◌<◌, ◌⊎◌, ◌==◌, List, Any, length, d
 use Rattle.std.specs.List.{after_last}
 use Rattle.sum_words.specs.Tools.{ByteString, Tool, tool_called}
 
--- what the arguments ask for: a tool on its words, or `None` if they name no tool. The program's name after its last slash
--- (47) names the tool, or else the next argument does
+-- what the arguments ask for: a tool on its words, or `None` if they name no tool. The program's name after its last
+-- slash (47) names the tool, or otherwise the next argument does
 abbrev pub command_line : List ByteString → Option (Tool × List ByteString)
 command_line all =
     let called = option_and_then (λ path. tool_called (after_last (λ b. b == 47) path)) (slice_get all 0) in

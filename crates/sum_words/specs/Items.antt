@@ -66,13 +66,13 @@ name_part text = before_first (λ b. b == byte "=") text
 abbrev pub value_part : ByteString → Option ByteString
 value_part text = option_map (λ i. drop (i + 1) text) (position (λ b. b == byte "=") text)
 
--- the only option in a list, or the fault of a name with which no option begins, or several do
+-- the only option in a list; or the fault of a name that begins no option's name, or several
 abbrev pub only_or_fault : ByteString → List Flag → Result Flag WordFaultValue
 only_or_fault name [] = Err (unknown_long name)
 only_or_fault name (flag ∷ []) = Ok flag
 only_or_fault name several = Err (ambiguous_long name)
 
--- a tool's option that a name means: it has this full name, or else it is the only one whose full name begins with it
+-- a tool's option that a name means: it has this full name, or it is the only one whose full name begins with it
 unfoldable pub name_or_fault : Tool → ByteString → Result Flag WordFaultValue
 name_or_fault t name = option_map_or Ok (find (λ flag. bytes_eq name (full_name flag)) (flags_of t))
     (only_or_fault name (filter (λ flag. starts_with ◌==◌ (full_name flag) name) (flags_of t)))

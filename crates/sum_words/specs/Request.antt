@@ -72,7 +72,7 @@ report_of given = if is_last flags.Status report_flags given then reports.Status
     else if is_last flags.Warn report_flags given then reports.Warn
     else if is_last flags.Quiet report_flags given then reports.Quiet else reports.All
 
--- the request of options without a fault: with --check (true) a check, else lines, for which anysum has no algorithm
+-- what options without a fault ask for: with --check (true) a check, otherwise lines, for which anysum has no algorithm
 abbrev pub request_of_options :
     Bool → Algos → Option KindValue → List Flag → List ByteString → Result Request WordFaultValue
 request_of_options true algos kind given operands = Ok (Check (record {

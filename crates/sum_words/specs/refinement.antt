@@ -1,4 +1,4 @@
--- How the code's values represent those of the definitions. The headline and the program's contract reach none of it.
+-- Relates the code's values to those of the definitions. No contract of `run` or `command` leads here.
 pub mod ItemIterator
 pub mod OptionScan
 pub mod CommandLine

@@ -15,8 +15,8 @@ pub trait Arguments {
     ghost state: { Self → ArgumentsState };
 
     /// Copies the argument at this place, counted from 0, to the front of the buffer, and returns its length. The
-    /// arguments are asked for in their order. `FillError::NotPresent` past the last. `FillError::TooLong` if the
-    /// argument is longer than the buffer.
+    /// arguments are asked for in their order. Returns `FillError::NotPresent` past the last one, and
+    /// `FillError::TooLong` if the argument is longer than the buffer.
     fn fill(&mut self, place: usize, buffer: &mut [u8]) -> Result<usize, FillError>
         requires { place ≡ length (state self.old).given }
         ensures count { IfOk result (λ n. n ≤ length buffer.new) }

@@ -3,7 +3,7 @@ use ghost_log::Notes;
 use std::env::FillError;
 use std::marker::Model;
 
-/// Arguments before the first call. What the calls gave is kept in a log of it, which only proofs see.
+/// Arguments before the first call. A log of them, which only proofs see, keeps what the calls gave.
 #[derive(Drop)]
 pub(crate) struct Fillings;
 

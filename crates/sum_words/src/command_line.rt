@@ -37,8 +37,8 @@ pub enum CommandLine<A: Allocator> {
 /// a tool's name, the next argument names it. The arguments after the tool's place are its words. If they name no tool,
 /// no further argument is read.
 ///
-/// `NotRead` if memory is refused. Memory is needed only if an argument follows the tool's place, or if one is longer
-/// than 4,096 bytes.
+/// Returns `NotRead` if memory is refused. Memory is needed only if an argument follows the tool's place, or if one is
+/// longer than 4,096 bytes.
 pub fn read_command_line<A: Allocator + Copy, G: Arguments>(
     alloc: A,
     arguments: &mut G,
@@ -93,8 +93,8 @@ impl<A: Allocator> Room<A> {
     }
 }
 
-// Copies the argument at this place, which is longer than a page, to the front of the vector, and returns its length.
-// `None` past the last.
+// Copies the argument at this place, which is longer than a page, to the front of the vector, and returns its length,
+// or `None` past the last.
 fn fill_growing<A: Allocator, G: Arguments>(
     arguments: &mut G,
     place: usize,
@@ -136,7 +136,8 @@ fn grow<A: Allocator>(more: &mut Vec<u8, A>) -> Result<(), NotRead>
     }
 }
 
-// The tool, and the place of the first word. The last part of the program's name names it, or else the next argument.
+// The tool, and the place of the first word. The last part of the program's name names it, or otherwise the next
+// argument.
 fn find_tool<A: Allocator, G: Arguments>(
     arguments: &mut G,
     room: &mut Room<A>,

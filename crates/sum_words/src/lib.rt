@@ -1,7 +1,7 @@
 //! What a command line asks for: the tool, its settings and its operands.
 //!
 //! What the arguments alone decide belongs here, and the texts that need no file, such as help and faults of words. The
-//! crate may call those below it (`digest_kinds`, `sum_lines`, `sum_sources`, `sum_engine`), and opens no file.
+//! crate may call those below it, and opens no file.
 //!
 //! It depends on `sum_engine` for the settings that a request asks for and for the stop that a message names, and on
 //! `sum_sources` for `NoRoom`. Types of its own would repeat the same fields, and need a proved conversion.

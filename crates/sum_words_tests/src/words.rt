@@ -16,12 +16,12 @@ pub(crate) fn words_and(alloc: Global, line: &str, last: &[u8]) -> Result<Words<
     Ok(words)
 }
 
-// Whether these are the words, in their order. Without a contract, so that a test knows no more of them than it sees.
+// Whether these are the words, in their order. It has no contract, so that a test knows no more of them than it sees.
 fn are(words: &Words<Global>, wanted: &[&[u8]]) -> bool {
     words.iter().eq(wanted.iter().copied())
 }
 
-// Whether these are the operands of words that ask for lines. Without a contract, as above.
+// Whether these are the operands of words that ask for lines. It has no contract, as above.
 fn are_operands(words: &Words<Global>, wanted: &[&[u8]]) -> bool {
     match read_words(Tool::Md5sum, words) {
         Ok(Request::Generate(_, operands)) => operands.eq(wanted.iter().copied()),

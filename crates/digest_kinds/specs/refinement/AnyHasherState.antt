@@ -1,4 +1,4 @@
--- What contracts see of an `AnyHasher`: what they see of the hasher in it.
+-- Relates an `AnyHasher` to what contracts see of the hasher in it.
 use Rattle.std.specs.Prelude.{◌≡◌, ℕ, length}
 use Rattle.md5.specs.Md5.{Holds as HoldsMd5}
 use Rattle.sha1.specs.Sha1.{Holds as HoldsSha1}

@@ -8,10 +8,10 @@ use std::test::Fail;
 use sum_engine::Stop;
 use sum_sources::{Answer, Ending, NoRoom, Told, ToldSource};
 
-// A place where a run may stop: the texts up to there, and how many names were asked for.
+// A place where a run may stop: the texts up to there, and how many names were opened.
 type Place<'a> = (&'a str, &'a str, usize);
 
-// Whether these are the names that were asked.
+// Whether these are the names that were opened.
 fn asked<A: Allocator + Copy>(streams: &Stage<A, 1024>, names: &[&str]) -> bool {
     for (i, name) in names.iter().enumerate() {
         if streams.inputs.source.source().asked_name(i) != Some(name.as_bytes()) {
@@ -51,7 +51,7 @@ fn place_of<A: Allocator + Copy>(
 }
 
 // Runs a line over the files `a`, `e` and a manifest, on a heap of this many bytes, which the files, the words and the
-// run share. At which of the places it stands. Returns `None` if there was no room for the files or for the words.
+// run share. Returns at which of the places it stands, or `None` if there was no room for the files or the words.
 fn place_within(
     rt: &(impl Abort + AllocGlobal),
     size: usize,

@@ -11,7 +11,7 @@ use sum_lines::{FromWrite, Sink, ToldSink};
 use sum_sources::{Ending, Inputs, Stdin, Told, ToldSource};
 use sum_words::ToldArguments;
 
-// The program itself. Without a contract, so that the proofs of its callers are spared that of `command`.
+// The program itself. It has no contract, so that its callers' proofs don't meet that of `command`.
 fn status_of<A: Allocator + Copy, O: Sink, E: Sink>(
     heap: A,
     arguments: &[&[u8]],
@@ -86,8 +86,8 @@ fn tools_and_words(rt: HostRuntime) -> Result<(), Fail> {
     Ok(())
 }
 
-// Whether there is room for the words on a heap of this many bytes: then the run is as ever, otherwise they aren't
-// read.
+// Whether there is room for the words on a heap of this many bytes: then the run is as with any memory,
+// otherwise they aren't read.
 fn is_read_within(
     rt: &(impl Abort + AllocGlobal),
     size: usize,

@@ -1,4 +1,4 @@
-//! Outputs that stop: the run answers so, and each output holds exactly the bytes that it took.
+//! Outputs that stop: the run returns that, and each output holds exactly the bytes that it took.
 use super::{
     REPORTS, Stage, VERDICTS, WARNINGS, run_line, source_of, spell_all, stage_until, wrote,
 };
@@ -8,8 +8,8 @@ use std::test::Fail;
 use sum_engine::Stop;
 use sum_sources::{Ending, Told};
 
-// Runs a line over standard input without bytes, the usual files and a list `l`, with outputs that stop after so many
-// bytes. They hold prefixes of these texts: of how many bytes, and the outcome.
+// Runs a line over standard input without bytes, the usual files and a list `l`, with outputs that stop after this
+// many bytes. They then hold prefixes of these texts. Returns how many bytes each holds, and the outcome.
 fn lengths(
     rt: &(impl Abort + AllocGlobal),
     (line, out, err): (&str, &str, &str),

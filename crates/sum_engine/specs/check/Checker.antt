@@ -23,14 +23,14 @@ pub record CheckerValue (I : Type 0) : Type 0 where
 abbrev pub step_then : Step → Behavior → Behavior
 step_then s r = record { steps = s ∷ r.steps; good = r.good }
 
--- what a step returns before these steps: Going, if there are any, and otherwise whether all is good
+-- what a step returns if these steps remain after it: Going, if there are any, and otherwise whether all is good
 abbrev pub progress_before : List Step → Bool → Progress
 progress_before [] good = Ended good
 progress_before steps good = Going
 
 -- a step leads the check from a to b, and the streams from s to t: it performs the first step of the behavior that
--- remained; if it returns Going, a line was handled, and the others remain; also after a write fault, unless no step was
--- left
+-- remained; if it returns Going, a line was handled, and the others remain. That also holds after a write fault, unless
+-- no step was left
 pub record IsStep (r : Rules) (labels : LabelsValue) (vector : ByteString) (a b : CheckState) (s t : StreamsState)
     (x : Result Progress Stop) : Type 0 where
   pub step : Step

@@ -28,14 +28,14 @@ pub record RunsManifest (r : Rules) (labels : LabelsValue) (s t : InputState) (a
 
 -- ---- the laws
 
--- if a behavior's trace happened, each output grew by its text, and its names were asked
+-- if a behavior's trace happened, each output grew by its text, and its names were opened
 abbrev pub EventsExtend : Type 0
 EventsExtend = (r : Behavior) (a b : StreamsState) → Happened a b (trace r.steps)
     → AsksNames a.inputs b.inputs (asks r)
     × (b.outputs.err.sink.written ≡ a.outputs.err.sink.written ++ (err_text r))
     × (b.outputs.out.sink.written ≡ a.outputs.out.sink.written ++ (out_text r))
 
--- steps that each returned Going, one after another, and after which the line's vector held these
+-- steps that each returned Going, one after another; after them the line's vector held these, one by one
 abbrev pub StepsGoing : Rules → LabelsValue → CheckState → CheckState → StreamsState → StreamsState → List ByteString
     → Type 0
 StepsGoing r labels a b s t [] = (b ≡ a) × (t ≡ s)
@@ -64,8 +64,8 @@ StepsJoin = (r : Rules) (labels : LabelsValue) (c : Content) (w : World) (b : Ch
     (vectors : List ByteString) → StepsGoing r labels (initial_state c w) b s t vectors
     → AfterSteps r labels c (content_behavior r labels c (all_verdicts r w c)) vectors b s t
 
--- the first n lines of two manifests are the same, of which this is the last: it spells the same entry; their verdicts
--- are the same after the same asks; and if it is plain, the form is the same
+-- the first n lines of two manifests are the same, and this is the last of them: it spells the same entry in both; the
+-- verdicts are the same after the same openings; and if it is plain, the form is the same
 pub record FrontIsSame (r : Rules) (w : World) (n : ℕ) (line : ByteString) (ls ks : List ByteString) : Type 0 where
   pub entry : (s : EntryValue)
       → IsEntry escape r.algo (form r.algo ls) line s ↔ IsEntry escape r.algo (form r.algo ks) line s

@@ -21,7 +21,7 @@ content_behavior r labels content js = let counts = counts_of js in record {
   good = good r content.ending counts;
 }
 
--- the behavior of the manifest of this name, opened with this answer, in the world after that
+-- the behavior of the manifest of this name, opened with this answer, in the world after that opening
 abbrev pub check_behavior_by : Rules → LabelsValue → ByteString → World → Answer → Behavior
 check_behavior_by r labels name w (Err f) =
     single_step (name ∷ []) (name_fault_line r.profile labels.tool labels.manifest f) [] false

@@ -36,7 +36,7 @@ line_verdict r w n ignored = record { number = n; verdict = Ignored; name = [] }
 line_verdict r w n bad = record { number = n; verdict = Bad; name = [] }
 line_verdict r w n (entry s) = record { number = n; verdict = judge r w s; name = s.name }
 
--- the names that a line's verdict asks: that of its entry, unless the line is ignored or bad
+-- the names that a line's verdict opens: that of its entry, unless the line is ignored or bad
 abbrev pub asks_of : LineVerdictValue → List ByteString
 asks_of j = elim j.verdict [ Ignored ↦ [] | Bad ↦ [] | v ↦ j.name ∷ [] ]
 

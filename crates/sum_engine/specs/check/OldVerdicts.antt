@@ -28,8 +28,8 @@ pub record IsOldManifest (r : Rules) (labels : LabelsValue) (c : Content) : Type
   pub no_escape : All (NamesNoCarriageReturn r.algo (form r.algo (raw_lines c))) (raw_lines c)
   pub no_empty : All (λ line. 0 < length line) (raw_lines c)
 
--- such a manifest has the same verdicts under both profiles, whatever was asked before; the same is written for each of
--- its lines and for its end, and it is good under both or under neither
+-- such a manifest has the same verdicts under both profiles, whatever was opened before; the same is written for each
+-- of its lines and for its end, and it is good under both or under neither
 abbrev pub OldVerdicts : Type 0
 OldVerdicts = (r : Rules) (labels : LabelsValue) (w : World) (c : Content) → IsOldManifest r labels c
     → let old = rules_under older_profile r in let new = rules_under own_profile r in

@@ -41,8 +41,8 @@ state_at p c w = record {
   world = w;
 }
 
--- P holds between the check's states at two values and inputs, if the input hadn't ended at the start: of each content
--- of the manifest, and in each world, that agrees with what was read of it since then
+-- P holds between the check's states at two values and inputs, if the input hadn't ended at the start: for each content
+-- of the manifest that what was read of it fits, and in each world that agrees with what was read
 pub record InEachCheck {I : Type 0} (state : I → InputState) (p q : VerdictsValue I) (a b : SourceState)
     (P : CheckState → CheckState → Type 0) : Type 0 where
   pub holds : IsReading state p.reader → (c : Content) → IsOf (reads_of state q.reader) c → (w : World) → Agrees w b
@@ -64,7 +64,7 @@ pub record HasNameRange (vector : ByteString) (v : LineVerdict) : Type 0 where
   pub start : v.start ≤ v.stop
   pub stop : v.stop ≤ length vector
 
--- a line was judged, the first of those that remained; its name was opened, if its verdict asks it
+-- a line was judged, the first of those that remained; its name was opened, if its verdict needs it
 pub record FindsFirstVerdict (r : Rules) (a b : CheckState) (j : LineVerdictValue) : Type 0 where
   pub first : remaining_verdicts r a ≡ j ∷ remaining_verdicts r b
   pub world : b.world ≡ after a.world (asks_of j)
@@ -118,7 +118,7 @@ abbrev pub IsNotUnread : VerdictResult → Type 0
 IsNotUnread (Ok (Some v)) = is_unread v.verdict ≡ false
 IsNotUnread x = ⊤
 
--- what a call for the next verdict asks: the name of the line's verdict, or none; or the source was refused memory
+-- what a call for the next verdict opens: the name of the line's verdict, or none; or the source was refused memory
 abbrev pub AsksFor : ByteString → SourceState → SourceState → VerdictResult → Type 0
 AsksFor vector a b (Ok (Some v)) = AsksNames a b (asks_of (line_verdict_value vector v))
 AsksFor vector a b (Err Memory) = MemoryWasRefused a b ⊎ (b ≡ a)
@@ -135,7 +135,7 @@ pub record AdvancesVerdicts {I : Type 0} (state : I → InputState) (vector : By
   pub found : Result Next LineStop
   pub reader : AdvancesLines state p.reader q.reader found
   pub bounds : IsBounded q.reader
-  -- if the input hadn't ended at the start: reads only narrow what they are of
+  -- if the input hadn't ended at the start: a content that fits what was read by now also fits what was read before
   pub reading : IsReading state p.reader → IsReading state q.reader
   pub before : IsReading state p.reader → (c : Content) → IsOf (reads_of state q.reader) c
       → IsOf (reads_of state p.reader) c

@@ -20,7 +20,7 @@ verdict_of_hash ignore d (Err (hashing.Open (faults.Fault f))) = Ok (Unread f)
 verdict_of_hash ignore d (Err (hashing.Read f)) = Ok (Unread f)
 verdict_of_hash ignore d (Err (hashing.Open faults.Memory)) = Err (record {})
 
--- what the line says that was read last
+-- what the line that was read last says
 abbrev pub parsed_at : {I : Type 0} → VerdictsValue I → ByteString → ParsedLine
 parsed_at p line =
     parse_line p.rules.profile p.rules.algo (form_then p.form (line_form p.rules.algo line)) line

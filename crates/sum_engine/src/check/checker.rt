@@ -46,9 +46,9 @@ impl<'a, I: Input> Checker<'a, I> {
     ghost use Rattle.sum_engine.specs.check.Checker.{AdvancesChecker, TakesStep, outcome_in_step};
     ghost use Rattle.sum_engine.specs.check.Verdicts.{IsAtStart, KeepsOutcome};
 
-    /// A checker of the manifest that `input` gives. Its diagnostics begin with `tool`, for example `md5sum`, and show
-    /// the name `manifest`. `from_stdin` says whether the manifest came from standard input: a line that names `-` is
-    /// then improperly formatted. In any other manifest `-` is opened as any name.
+    /// Creates a checker of the manifest that `input` gives. Its diagnostics begin with `tool`, for example `md5sum`,
+    /// and show the name `manifest`. `from_stdin` says whether the manifest came from standard input: a line that names
+    /// `-` is then improperly formatted. In any other manifest `-` is opened as any name.
     pub fn new(
         settings: CheckSettings,
         tool: &'a str,
@@ -166,7 +166,7 @@ fn report_found<I: Input, O: Sink, E: Sink>(
             outcome_after(written, Progress::Ended(verdicts.is_good()))
         }
         Ok(Some(found)) => {
-            // Each call slows ignored lines.
+            // An ignored line returns here, since each call would slow it.
             if let Verdict::Ignored = found.verdict {
                 return Ok(Progress::Going);
             }

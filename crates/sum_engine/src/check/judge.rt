@@ -67,7 +67,7 @@ pub(crate) struct ListedEntry<'a> {
     pub name: &'a [u8],
 }
 
-/// The verdict of an entry. Returns `NoRoom` if the source is out of memory; nothing was then asked.
+/// The verdict of an entry. Returns `NoRoom` if the source is out of memory; nothing was then opened.
 pub(crate) fn judge<S: Source>(
     rules: CheckRules,
     listed: &ListedEntry,

@@ -112,14 +112,14 @@ impl<I: Input> Verdicts<I> {
         self.counts
     }
 
-    /// Reads the next line, and finds its verdict; `None` if no line is left and the manifest ended whole. `line` is
-    /// grown for the line, and then contains the name of its entry, at the range in the result. Its content before
-    /// doesn't matter. `inputs` is where files are opened. In a manifest that didn't come from standard input, the name
+    /// Reads the next line and returns its verdict, or `None` if no line is left and the manifest ended whole. `line`
+    /// grows to hold the line, and then contains the name of its entry, at the range in the result. Its earlier content
+    /// doesn't matter. Files are opened through `inputs`. In a manifest that didn't come from standard input, the name
     /// `-` is opened there as any other.
     ///
-    /// `LineStop::Fault` if that fault broke the manifest. `LineStop::Memory` only if the source was refused memory, or
-    /// bytes of the manifest were still to come. After either, and after `None`, each call returns the same and changes
-    /// nothing but perhaps `line`.
+    /// Returns `LineStop::Fault` if that fault broke the manifest, and `LineStop::Memory` only if the source was
+    /// refused memory, or bytes of the manifest were still to come. After either, and after `None`, each call returns
+    /// the same and changes nothing but possibly `line`.
     pub fn next<A: Allocator, S: Source>(
         &mut self,
         line: &mut Vec<u8, A>,
@@ -134,7 +134,7 @@ impl<I: Input> Verdicts<I> {
             (λ a b. IsNextVerdict self.old.rules line.new.items a b result) }
         ensures name_range { IfOk result
             (λ found. IfSome found (λ v. HasNameRange line.new.items v)) }
-        // What was asked, the lines counted, and the cause of a stop.
+        // What was opened, the lines counted, and the cause of a stop.
         ensures advances { self.old.outcome ≡ None
             → AdvancesVerdicts I.state line.new.items self.old self.new
             inputs.old inputs.new result }

@@ -16,7 +16,7 @@ unescaped_bytes (b ∷ c ∷ cs) =
     else b ∷ unescaped_bytes (c ∷ cs)
 unescaped_bytes bytes = bytes
 
--- the name whose escape the bytes are, if they are one
+-- the name whose escape the bytes are, if they are an escape
 abbrev pub unescape : Profile → ByteString → Option ByteString
 unescape p bytes = if bytes_eq (escape_by p (unescaped_bytes bytes)) bytes then Some (unescaped_bytes bytes) else None
 

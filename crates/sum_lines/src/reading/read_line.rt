@@ -71,7 +71,7 @@ pub fn read_line<A: Allocator>(algos: Algos, form: Form, line: &mut Vec<u8, A>) 
     // What the line says, as it is computed. An entry's name is a range of the vector.
     ensures parsed { parsed_line_of line.new.items result.0
         ≡ parse_line own_profile algos result.1 line.old.items }
-    // The same by the line grammar: ignored, an entry, or bad, each if and only if the grammar says so.
+    // What the line says by the grammar: ignored, an entry, or bad, each if and only if the grammar says that.
     ensures grammar { FitsGrammar own_profile algos result.1 line.old.items
         (parsed_line_of line.new.items result.0) }
     // The range of an entry's name is in the vector, and its digest is as long as the kind's.

@@ -24,7 +24,7 @@ pub(crate) fn tagged(algo: Algo, line: &[u8], front: Front) -> Option<LineParts>
     ensures size { IfSome result (λ t. length t.digest ≡ t.kind.len) }
 {
     let text = text_after(line, front);
-    // Not by `?`, which the borrow checker doesn't cover for a struct with a reference.
+    // `?` isn't used: the borrow checker doesn't cover it for a struct with a reference.
     let Some(named) = Kind::of_tag_prefix(algo, text) else {
         return None;
     };

@@ -9,12 +9,13 @@ use thiserror::Error;
 #[error("a write failed")]
 pub struct SinkFault;
 
-/// Writes the bytes that it accepts at once, and buffers none. [`Buffered`](crate::Buffered) buffers bytes for a sink.
+/// A destination of bytes, which writes those that it accepts at once and buffers none. [`Buffered`](crate::Buffered)
+/// buffers bytes for a sink.
 ///
 /// A call that returns `SinkFault` counts as one more failure. It leaves the sink flushed: what was held back below the
 /// sink is lost.
 pub trait Sink {
-    /// The pieces that it was offered, one by each write; the bytes of them that it accepted; how many of its calls have
+    /// The pieces that it was offered, one per write; the bytes of them that it accepted; how many of its calls have
     /// failed; and whether it is flushed.
     ghost state: { Self → SinkState };
 

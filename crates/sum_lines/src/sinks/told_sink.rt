@@ -82,7 +82,7 @@ impl<const N: usize> Sink for ToldSink<N> {
     /// Succeeds, and changes neither the bytes nor the room.
     fn flush(&mut self) -> Result<(), SinkFault>
         ensures ok { result ≡ Ok tt }
-        // All but the log stays.
+        // Everything but the log is unchanged.
         ensures same { self.new ≡ record self.old { log = self.new.log } }
         ensures bytes { Flushes (told_sink_state self.old) (told_sink_state self.new) result }
     {

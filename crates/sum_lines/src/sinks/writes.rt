@@ -3,8 +3,8 @@ use crate::sinks::sink::SinkFault;
 use ghost_log::Notes;
 use std::marker::Model;
 
-/// A sink before its first call. What it is offered, what is written of that, how often a call fails, and whether it is
-/// flushed is kept in a log of it, which only proofs see.
+/// A sink before its first call. A log of it, which only proofs see, keeps what it is offered, what is written of that,
+/// how often a call fails, and whether it is flushed.
 #[derive(Drop)]
 pub struct Writes;
 

@@ -1,4 +1,4 @@
--- What a read up to the limit adds to what was read.
+-- Relates a read up to the limit to what was read before it and after it.
 use Rattle.std.specs.Prelude.{ℕ, zero, suc, ◌≡◌, ◌≢◌, ◌+◌, ◌^◌, ◌<◌, ◌≤◌, ◌++◌, length, Result, Ok, Err, IfOk}
 use Rattle.sum_sources.specs.{Contents.Content, Contents.Ending, Contents.Whole, Contents.Broken, Contents.Reads, Contents.InputState, Contents.IsOf, Contents.IsSameInput, Contents.clip, Contents.reads_past, Contents.Fault, Faults.ByteString, Contents.Unfinished, Contents.Ended, Contents.Past}
 
@@ -15,7 +15,7 @@ AddsLimited taken a b bytes (Ok zero) = FindsEnding taken a b Whole
 AddsLimited taken a b bytes (Ok (suc n)) = b ≡ record a { bytes = a.bytes ++ bytes }
 AddsLimited taken a b bytes (Err f) = FindsEnding taken a b (Broken f)
 
--- so does such an input of which only the bytes past the first m count
+-- the same holds of such an input if only its bytes past the first m count
 pub record AddsPast (taken : ℕ) (a b : Reads) (bytes : ByteString) (result : Result ℕ Fault) : Type 0 where
   pub adds : (m : ℕ) → m ≤ length a.bytes → a.phase ≡ Unfinished
       → AddsLimited taken (reads_past m a) (reads_past m b) bytes result

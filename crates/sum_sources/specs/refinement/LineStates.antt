@@ -1,4 +1,4 @@
--- The view of a reader of lines, its invariant, and what its steps change.
+-- Relates the fields of a reader of lines to its view, and its steps to what they change there.
 use Rattle.std.specs.Prelude.{ℕ, ◌≡◌, ◌+◌, ◌-◌, ◌^◌, ◌<◌, ◌≤◌, ◌⊎◌, length, take, drop, Option, None, Some, Result, Ok, Err, Bool, true, false, [], ◌∷◌, ◌++◌}
 use Rattle.sum_sources.specs.{Contents.Fault, LineReaders.LineReaderValue, declared.line_reader.LineReader.TheInside.Inside, declared.line_reader.ReaderState.ReaderState, declared.line_reader.ReaderState.TheVariants.Active, declared.line_reader.ReaderState.TheVariants.Done, declared.line_reader.ReaderState.TheVariants.Stopped, ManifestLines.Next, ManifestLines.NoMore, ManifestLines.LineStop, ManifestLines.HasNoNewline}
 use Rattle.digest_kinds.specs.Bytes.{ByteString}

@@ -1,4 +1,4 @@
--- Views of inputs in memory, and of the answers and pairs of a source in memory.
+-- Relates inputs in memory, and the answers and pairs of a source in memory, to their values.
 use Rattle.std.specs.Prelude.{List, map, Some, Ok, Err}
 use Rattle.sum_sources.specs.declared.{inputs.told.Told.Told, sources.told_source.Answer.Answer as ToldAnswer, sources.told_source.StoredPair.StoredPair}
 use Rattle.sum_sources.specs.{Sources.Answer, Sources.Pair, Sources.SourceState, StandardInput.ToldContent}

@@ -1,4 +1,4 @@
--- How far an input in memory was read.
+-- Relates how far an input in memory was read to the log of its reads.
 use Rattle.std.specs.Prelude.{ℕ, ◌≡◌, ◌<◌, ◌≤◌, ◌++◌, take, length, Result, MatchResult}
 use Rattle.std.specs.Result.{result_unwrap_or}
 use Rattle.sum_sources.specs.{Contents.Content, Contents.Ending, Contents.Reads, Contents.Whole, Contents.Broken, Contents.Fault, Faults.ByteString, StandardInput.told_reads, Contents.Phase, Contents.Ended}

@@ -17,7 +17,7 @@ enum StdinPlace<I> {
     Returned(Closable<I>),
 }
 
-/// Standard input. Its input is given once, and is put back. Before it is given, nothing was read of it.
+/// Standard input. Its input is taken once, and then put back. Until it is taken, nothing has been read of it.
 #[derive(Debug, Drop)]
 pub struct Stdin<I: Input> {
     place: StdinPlace<I>,
@@ -64,8 +64,8 @@ impl<I: Input> Stdin<I> {
         }
     }
 
-    /// Standard input that is closed. Each read of what it gives when it is taken fails with `Fault::Os(EBADF)`, *Bad
-    /// file descriptor*.
+    /// Creates a standard input that is closed. Each read of what it gives when it is taken fails with
+    /// `Fault::Os(EBADF)`, *Bad file descriptor*.
     pub fn closed() -> Self
         ensures { result
             ≡ StdinPlace.Untaken (Closed (Ending.Broken (Fault.Os (pos 9))) Phase.Unfinished) }

@@ -16,7 +16,7 @@ pub struct Told<'a> {
     piece: usize,
     phase: Phase,
     log: ReadLog,
-    // No Model: the borrow checker doesn't cover a source whose files have one and a lifetime.
+    // It has no Model: the borrow checker doesn't cover a source whose files have one and a lifetime.
     ghost is: { ToldInvariant (record { bytes = bytes.now; ending = ending }) given piece
         phase log.reads },
 }
@@ -39,7 +39,7 @@ impl<'a> Told<'a> {
         Told::opened(content, ending, piece, ReadLog::of(&Reads))
     }
 
-    // The same, opened by a source.
+    // Creates such an input, opened by a source.
     pub(crate) fn opened(content: &'a [u8], ending: Ending, piece: usize, log: ReadLog) -> Told<'a>
         requires { log.reads ≡ unread }
         ensures { told_value result ≡ record {

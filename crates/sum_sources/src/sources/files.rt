@@ -57,9 +57,9 @@ where
 
     ghost tells = { tells_none };
 
-    /// Opens the file. A name that isn't UTF-8 is `Fault::Os(EILSEQ)`, *Invalid or incomplete multibyte or wide
-    /// character*, since the runtime's paths are texts. Any other fault is the system's. `OpenFault::Memory` if the
-    /// runtime has no memory for the call.
+    /// Opens the file. A name that isn't UTF-8 gives `Fault::Os(EILSEQ)`, *Invalid or incomplete multibyte or wide
+    /// character*, since the runtime's paths are strings. Any other fault is the system's. Returns `OpenFault::Memory`
+    /// if the runtime has no memory for the call.
     fn open_file(&mut self, name: &[u8]) -> Result<FromRead<R::File>, OpenFault> {
         let Ok(path) = str::from_utf8(name) else {
             let fault = Fault::Os(EILSEQ);

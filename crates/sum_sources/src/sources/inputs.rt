@@ -28,7 +28,8 @@ impl<I: Input, S: Source> Inputs<I, S> {
     ghost use Rattle.sum_sources.specs.Inputs.{inputs_state, with_stdin, without_dash};
     ghost use Rattle.sum_sources.specs.StandardInput.{given_by, unless_closed};
 
-    /// This standard input and this source. What the source opened by the name `-` before doesn't count.
+    /// Creates the inputs with this standard input and this source. What the source opened before by the name `-`
+    /// doesn't count.
     pub fn new(stdin: Stdin<I>, source: S) -> Self
         ensures parts { (result.stdin ≡ stdin) × (result.source ≡ source) }
         ensures state { inputs_state result.untaken result.log (S.state source)
@@ -85,7 +86,7 @@ impl<I: Input + Drop, S: Source> Source for Inputs<I, S> {
         ensures file { IfOk result (λ file. opened_state I.state S.File.state file.place
             ≡ opened_file (tells_both S.tells)
             (inputs_state self.old.untaken self.old.log (S.state self.old.source)) name.now) }
-        // Standard input is the input that it was made of, and nothing else takes it.
+        // `-` gives what taking standard input gives, and no other name takes it.
         ensures stdin { MatchBool (is_dash name.now)
             (MatchResult result
             (λ file. TakesStdin self.old.stdin self.new.stdin file.place) (λ _. ⊥))

@@ -1,4 +1,4 @@
-//! What a name gives that is opened.
+//! What opening a name gives.
 ghost use Rattle.std.specs.Prelude.{◌≡◌};
 ghost use Rattle.sum_sources.specs.Inputs.{is_dash, is_stdin, opened_state};
 
@@ -12,8 +12,8 @@ pub(crate) enum Place<I, F> {
     File(F),
 }
 
-/// What [`Inputs`](crate::Inputs) opened: standard input, or a file. It can't be dropped, so whoever opened it closes
-/// it.
+/// What [`Inputs`](crate::Inputs) opened: standard input, or a file. It can't be dropped, so the code that opened it
+/// must close it.
 #[derive(Debug)]
 pub struct Opened<I: Input, F: Input> {
     pub(crate) place: Place<I, F>,

@@ -19,14 +19,14 @@ pub trait Source {
     /// The input that reads an open file. If its type isn't `Drop`, the code that opened it must close it.
     type File: Input;
 
-    /// What was asked of it, and what it answered. A source that isn't in memory keeps it for proofs alone.
+    /// Which names it opened, and what it answered. A source that isn't in memory keeps it for proofs alone.
     ghost state: { Self → SourceState };
 
-    /// Which answers are known by what it has in memory: any function.
+    /// Which answers it tells, as any function of what it has in memory.
     ghost tells: { ToldAnswers };
 
     /// Opens the file of this name. Returns `OpenFault::Fault` if it can't be opened, and `OpenFault::Memory` only if
-    /// memory was refused; the name then isn't recorded as asked.
+    /// memory was refused; the name then doesn't count as opened.
     fn open_file(&mut self, name: &[u8]) -> Result<Self::File, OpenFault>
         ensures state { state self.new ≡ after_opening (state self.old) name.now result }
         ensures file { IfOk result (λ file. Self.File.state file
@@ -37,6 +37,6 @@ pub trait Source {
         requires { IsOpen tells (state self.old) (Self.File.state file) }
         ensures { state self.new ≡ after_closing (state self.old) (Self.File.state file) };
 
-    /// Law: what an opening gave is of the answer, if that is known.
+    /// Law: what an opening gave fits the answer, if one is told.
     ghost gives_told: { (s : Self) → GivesTold tells (state s) };
 }

@@ -1,4 +1,4 @@
-//! What a source of files was asked, and what it answered, for proofs alone.
+//! Which names a source of files opened, and what it answered, for proofs alone.
 ghost use Rattle.std.specs.Prelude.{◌≡◌};
 ghost use Rattle.sum_sources.specs.Sources.{opened_file, tells_none};
 
@@ -23,12 +23,12 @@ impl Model for Openings {
 /// The openings of a source.
 pub type SourceLog = Log<Openings>;
 
-/// What happens to a source.
+/// A note in the log of a source.
 #[derive(Clone, Copy)]
 pub enum Note<'a> {
     /// The file of that name was opened.
     Opened(&'a [u8]),
-    /// It could not be opened.
+    /// The file of that name could not be opened.
     Failed(&'a [u8], Fault),
     /// A file was closed, after these reads.
     Closed(&'a ReadLog),
@@ -52,7 +52,7 @@ impl<'a, F: Input> Notes<ClosedFile<'a, F>> for Openings {
     ghost noted = { λ s x. after_closing s (F.state x.0.now) };
 }
 
-// The openings of a source, but for those of `-`.
+// The openings of a source, without those of `-`.
 #[derive(Clone, Copy)]
 pub(crate) struct OthersOf<'a, S>(pub(crate) &'a S);
 
@@ -62,12 +62,12 @@ impl<'a, S: Source> Notes<OthersOf<'a, S>> for Openings {
     ghost noted = { λ _ x. without_dash (S.state x.0.now) };
 }
 
-// It is the file that the source opens next, by this name.
+// These are the reads, none so far, of the file that a source with this log opens next, by this name.
 impl<'a> Notes<(&'a SourceLog, &'a [u8])> for Reads {
     ghost noted = { λ _ x. opened_file tells_none x.0.now x.1.now };
 }
 
-/// No reads yet of the file that a source with this log opens next, by this name.
+/// Returns the log, without reads, of the file that a source with this log opens next, by this name.
 pub fn next_file(log: &SourceLog, name: &[u8]) -> ReadLog
     ensures { result ≡ opened_file tells_none log.now name.now }
 {

@@ -23,7 +23,7 @@ pub enum Answer<'a> {
 struct StoredPair<'a, A: Allocator> {
     name: Vec<u8, A>,
     answer: Answer<'a>,
-    // how often its name was asked before it was added
+    // how often its name was opened before it was added
     from: usize,
 }
 
@@ -53,7 +53,7 @@ fn times<A: Allocator>(names: &[Vec<u8, A>], name: &[u8]) -> usize
     count
 }
 
-// The answer of the first pair with the name that was added when it had been asked so often.
+// The answer of the first pair with the name that was added by the time the name had been opened this many times.
 fn answer_to<'a, A: Allocator>(pairs: &[StoredPair<'a, A>], name: &[u8], times: usize) -> Answer<'a>
     ensures { answer_value result ≡ first_answer (map pair_of pairs.now) name.now times }
 {
@@ -104,7 +104,7 @@ impl<'a, A: Allocator + Copy> ToldSource<'a, A> {
         }
     }
 
-    /// Returns the name at place `i`, counted from 0, of the names asked so far.
+    /// Returns the name at place `i`, counted from 0, of the names opened so far.
     pub fn asked_name(&self, i: usize) -> Option<&[u8]>
         ensures { option_map (λ n. n.now) result
             ≡ slice_get (names_of self.now.log.openings) i }
@@ -116,7 +116,7 @@ impl<'a, A: Allocator + Copy> ToldSource<'a, A> {
     }
 }
 
-// Adds a name to the names asked.
+// Adds a name to the names opened.
 fn add_name<A: Allocator + Copy>(alloc: A, asked: &mut Vec<Vec<u8, A>, A>, name: &[u8]) -> bool
     ensures { MatchBool result
         (map (λ v. v.items) asked.new.items ≡ map (λ v. v.items) asked.old.items ++ name.now ∷ [])

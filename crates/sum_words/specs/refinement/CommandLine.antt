@@ -11,7 +11,7 @@ Fills all place buffer (Ok n) = slice_get all place ≡ Some (take n buffer)
 Fills all place buffer (Err TooLong) = IsSomeAnd (slice_get all place) (λ argument. length buffer < length argument)
 Fills all place buffer (Err NotPresent) = slice_get all place ≡ None
 
--- no argument was given: the last call had this fault, with a buffer of at least so many bytes
+-- no argument was given: the last call had this fault, with a buffer of at least this many bytes
 pub record Fails (fault : FillError) (least : ℕ) (a b : ArgumentsState) : Type 0 where
   pub size : ℕ
   pub state : b ≡ record a { fault = Some (fault, size) }

@@ -39,7 +39,7 @@ item_value (items.Length value) = length_value value.now
 item_value (items.Operand word) = operand word.now
 item_value (items.Fault f) = fault (word_fault_value f)
 
--- the items of the value of an option in a cluster, which these letters follow, and of the words after it
+-- the items from the value of an option in a cluster on; the value is these letters or, if there are none, a word
 abbrev pub attached_value : Tool → List ℕ → List ByteString → List ItemValue
 attached_value t [] words = items_from t words (a_value Short)
 attached_value t cs words = length_value (encode_utf8_all cs) ∷ items_from t words a_word

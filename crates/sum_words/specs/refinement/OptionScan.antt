@@ -31,7 +31,7 @@ abbrev pub result_value : {X : Type 0} → Result X WordFault → Result X WordF
 result_value (Ok x) = Ok x
 result_value (Err f) = Err (word_fault_value f)
 
--- the scan returns the options of all items if none of these decides the request early, else that request
+-- the scan returns the options of all items if none of these decides the request early, and otherwise that request
 abbrev pub IsScanOf : ScannedOptions → List ItemValue → Type 0
 IsScanOf (Options c) xs = IsChosenBy c [] xs × (early_request xs ≡ None)
 IsScanOf (Early r) xs = early_request xs ≡ Some (result_value r)

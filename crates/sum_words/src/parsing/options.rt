@@ -93,8 +93,8 @@ impl Flag {
         matches!(self, Flag::Length)
     }
 
-    /// Returns the tool's option that a long name means: the one with this full name, or else the only one whose full
-    /// name begins with it. Fails with `UnknownLong` if no full name does, and with `AmbiguousLong` if several do.
+    /// Returns the tool's option that a long name means: the one with this full name, or otherwise the only one whose
+    /// full name begins with it. Fails with `UnknownLong` if no full name does, and with `AmbiguousLong` if several do.
     #[tactic(auto, unfolding(crate::specs::Items::name_or_fault))]
     pub(crate) fn of_name(tool: Tool, name: &str) -> Result<Flag, WordFault<'_>>
         ensures { result_value result ≡ name_or_fault tool name.now }

@@ -18,14 +18,14 @@ pub returns-in-Ok-Invoke-clause-reads : goal.returns-in-Ok-Invoke-clause-reads
 returns-in-Ok-Invoke-clause-reads g c =
     reads_weaker (λ zero. (c.finish_run.ensures.no_failures zero).0) c.run-outcome.ensures.reads
 
--- no tool of that name: a line says so
+-- no tool is named, and the line for that is written
 pub returns-in-Ok-UnknownTool-clause-behavior : goal.returns-in-Ok-UnknownTool-clause-behavior
 returns-in-Ok-UnknownTool-clause-behavior g c = λ hold all agrees.
     let is = rw c.in-Ok-UnknownTool.field-0-is at (c.in-Ok-UnknownTool.ensures.line all agrees) in
     inl (rw is (CallRefuses-refused c.refuse.result c.args.streams.now
     c.refuse.new.outputs _ c.refuse.ensures.refusal hold))
 
--- the words couldn't be read: another line says so
+-- the words could not be read, and the line for that is written
 pub returns-in-Err-clause-behavior : goal.returns-in-Err-clause-behavior
 returns-in-Err-clause-behavior g c = λ hold all agrees.
     let refused = c.refuse-in-Err in

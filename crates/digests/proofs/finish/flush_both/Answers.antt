@@ -26,7 +26,7 @@ pub returns-in_err-flush-2-clause-bytes : goal.returns-in_err-flush-2-clause-byt
 returns-in_err-flush-2-clause-bytes g c = rw (← c.outputs.view_is) (λ flushed.
     (flushed_none _ _ c.flush.ensures.gives flushed.0, flushed_none _ _ c.flush-2.ensures.gives flushed.1))
 
--- both were flushed
+-- both outputs were flushed
 pub returns-clause-bytes : goal.returns-clause-bytes
 returns-clause-bytes g c = rw (← c.outputs.view_is) (λ flushed.
     (flushed_none _ _ c.flush.ensures.gives flushed.0, flushed_none _ _ c.flush-2.ensures.gives flushed.1))

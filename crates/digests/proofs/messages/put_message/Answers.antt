@@ -6,6 +6,6 @@ pub returns : goal.returns
 returns g c =
     written_flushed _ _ c.flush.result c.in_ok-buffer_message.ensures c.flush.ensures.gives c.flush.ensures.flushed
 
--- that failed
+-- the text could not be written
 pub returns-in_err-buffer_message : goal.returns-in_err-buffer_message
 returns-in_err-buffer_message g c = not_flushed _ _ c.in_err-buffer_message.ensures c.from_residual.ensures.0

@@ -21,7 +21,7 @@ returns-clause-behavior g c =
     let outputs : start.outputs ≡ record { out = fresh_output out; err = fresh_output err } = cc in
     rw (are_fresh start c.command-status.new.streams out err openings refusals outputs did.reads.told) at did.behavior
 
--- so what was opened was opened since
+-- since the streams were fresh, all that was opened was opened by this call
 pub returns-clause-reads : goal.returns-clause-reads
 returns-clause-reads g c =
     let (more, are, read) = c.command-status.ensures.reads.openings in

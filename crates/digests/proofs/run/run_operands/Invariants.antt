@@ -14,6 +14,6 @@ invariant-operands g l = record {
   so_far : StopHasCause (job_refusals l.job) l.fn.streams l.streams (Ok l.good);
 }
 
--- one operand less is left
+-- one operand fewer is left
 abbrev pub decreases-operands : goal.decreases-operands
 decreases-operands g l = length (left l.next l.operands)

@@ -20,7 +20,7 @@ returns-in-Ok-clause-behavior g c =
 pub returns-in-Ok-clause-reads : goal.returns-in-Ok-clause-reads
 returns-in-Ok-clause-reads g c = reads_weaker (λ good. tt) (hashes_name (Ok c.in-Ok.digest) c.in-Ok.ensures.hashed).reads
 
--- it could not be opened or read, and the line of its fault was written
+-- the name could not be opened or read, and the line of its fault was written
 pub returns-in_ok-fault-in-Err-clause-behavior : goal.returns-in_ok-fault-in-Err-clause-behavior
 returns-in_ok-fault-in-Err-clause-behavior g c =
     let settings = c.args.settings.now in
@@ -39,7 +39,7 @@ returns-in_ok-fault-in-Err-clause-reads g c =
     let no = returned c.put_name_fault_line-written.result (sym good ∙ c.outcome_after-in-Err.ensures) in cc)
     (hashes_name (Err c.in-Err.failed) c.in-Err.ensures.hashed).reads
 
--- there was no memory to open it
+-- there was no memory to open the name
 pub returns-in_err-fault-in-Err-clause-behavior : goal.returns-in_err-fault-in-Err-clause-behavior
 returns-in_err-fault-in-Err-clause-behavior g c =
     let settings = c.args.settings.now in

@@ -3,7 +3,7 @@ use Rattle.std.specs.declared.env.FillError.TheVariants.{TooLong}
 use Rattle.sum_words.specs.refinement.CommandLine.{Fails}
 use Rattle.sum_words.proofs.command_line.fill_growing.Given as goal
 
--- the buffer is longer than a page, and a call failed with one that is
+-- the buffer is longer than a page, and a call failed with a buffer of at least a page
 abbrev pub invariant-longer : goal.invariant-longer
 invariant-longer g l = record {
   page : 4096 ≤ vec_len l.more;

@@ -13,7 +13,7 @@ returns-in-Some c =
     (drop-drop 1 at path ∙ sym (last_part-from path (at + 1) (omega (arith, h.0.high)) h.0.after
     (λ some. let here : at + 1 - 1 ≡ at = omega arith in rw here h.1)))
 
--- there is none
+-- there is no slash
 pub returns-in-None : goal.returns-in-None
 returns-in-None c =
     sym (last_part-from c.args.path.now 0 (omega arith) (rw c.in-None.is at c.memrchr.ensures)

@@ -10,7 +10,7 @@ slice_bounds-result-count c =
 pub slice_bounds-result-start : goal.slice_bounds-result-start
 slice_bounds-result-start c = slice_bounds-result-count c
 
--- and ends within the bytes
+-- a piece ends within the bytes
 pub slice_bounds-result-end : goal.slice_bounds-result-end
 slice_bounds-result-end c =
     let found = c.in_ok-end.ensures.lookup in

@@ -2,7 +2,7 @@ use Rattle.std.proofs.Common.{[], sym, ◌∙◌, append-nil}
 use Rattle.digest_kinds.specs.Kinds.{tag}
 use Rattle.digest_kinds.proofs.algo.AlgoFromStr.from_str.Goals as goal
 
--- a tag begins itself, so there is none
+-- if no tag begins the text, it is no tag, since a tag begins itself
 pub returns-in_default-2 : goal.returns-in_default-2
 returns-in_default-2 c = (
   tt,

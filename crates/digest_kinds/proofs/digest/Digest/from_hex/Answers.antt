@@ -10,11 +10,11 @@ decoded c =
     IsOk-decoded c.args.text.now _ _ (grind (arith, common_steps)) (grind (arith, common_steps))
     (grind (arith, common_steps)) c.decode_to_slice.ensures.value
 
--- it isn't
+-- the text isn't a digest's digits
 pub returns-in_err-ok-clause-found : goal.returns-in_err-ok-clause-found
 returns-in_err-ok-clause-found c =
     grind (arith, decoded (goal.at.returns-in_err-ok-clause-found c).After-decode_to_slice)
 
--- it is
+-- the text is a digest's digits
 pub returns-clause-found : goal.returns-clause-found
 returns-clause-found c = grind (arith, decoded (goal.at.returns-clause-found c).After-decode_to_slice)

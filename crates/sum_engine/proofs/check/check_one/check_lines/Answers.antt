@@ -21,7 +21,7 @@ returns-in-Ok-Ended g c =
     c.requires.start so_far (rw c.in-Ok-Ended.field-0-is at (done.advances so_far.going))
     (rw c.in-Ok-Ended.field-0-is at (done.step so_far.going))
 
--- one line more was handled
+-- one more line was handled
 pub lines-preserved : goal.lines-preserved
 lines-preserved g c =
     let so_far = c.lines.invariant in

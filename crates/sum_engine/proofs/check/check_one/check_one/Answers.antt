@@ -28,7 +28,7 @@ returns-in-Err-Fault-clause-behavior g c =
     _ c.put_name_fault_line-written.new.outputs _ failed
     (writes_and_returns c.put_name_fault_line-written.result c.outcome_after.ensures written)
 
--- nothing was read of it
+-- nothing was read of a manifest that could not be opened
 pub returns-in-Err-Fault-clause-ahead : goal.returns-in-Err-Fault-clause-ahead
 returns-in-Err-Fault-clause-ahead g c =
     let failed = rw c.in-Err-Fault.field-0-is at c.in-Err-Fault.ensures.state in

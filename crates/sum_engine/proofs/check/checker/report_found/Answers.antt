@@ -38,7 +38,7 @@ none_out p Status name = refl
 none_out p Quiet name = refl
 none_out p report name = refl
 
--- and nothing is written of it
+-- nothing is written about an ignored line
 pub returns-in-Ignored : goal.returns-in-Ignored
 returns-in-Ignored g c =
     let is : c.args.found ≡ Ok (Some c.in-Ok-Some.found) = search rules in

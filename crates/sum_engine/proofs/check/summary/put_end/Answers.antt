@@ -23,7 +23,7 @@ returns-in_default g c =
     (λ e. c.if-entries-eq0.false (c.entries.ensures ∙ e)) (rw (← c.labels.view_is) c.in_default.not-Status) in
     rw shown c.put_warnings_flushed.ensures
 
--- there are none
+-- there are no entries
 pub returns-then-entries-eq0 : goal.returns-then-entries-eq0
 returns-then-entries-eq0 g c =
     rw (← c.rules.view_is, ← c.labels.view_is, ← c.entries.ensures, c.if-entries-eq0.true)

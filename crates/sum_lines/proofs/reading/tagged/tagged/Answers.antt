@@ -10,7 +10,7 @@ pub of_tag_prefix-requires : goal.of_tag_prefix-requires
 of_tag_prefix-requires c =
     rw c.text_after-text.ensures (_, (tag_in-some (One c.args.algo) (text c.args.line.now).1 c.requires.tag).1)
 
--- another number of digits than the kind's digests have
+-- the digits are more or fewer than those of the kind's digests
 pub returns-then-digits-len-clause-parts : goal.returns-then-digits-len-clause-parts
 returns-then-digits-len-clause-parts c =
     let other = rw (c.skip_blanks-digits.ensures, c.len.ensures.value) at c.if-digits-len.true in
@@ -18,7 +18,7 @@ returns-then-digits-len-clause-parts c =
     c.in_ok-raw.ensures c.skip_blanks.ensures c.in_ok-past_text.ensures (λ d spelled size.
     omega (arith, two_digits _ d spelled))
 
--- as many that spell none
+-- the digits are as many as those of the kind's digests, and spell none
 pub returns-in_err-digest-clause-parts : goal.returns-in_err-digest-clause-parts
 returns-in_err-digest-clause-parts c =
     let size = rw c.len.ensures.value at c.len.ensures in

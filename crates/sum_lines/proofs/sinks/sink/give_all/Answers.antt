@@ -20,6 +20,6 @@ loop-rest-preserved g c =
     rw (take_rest rest c.in_ok-count.count)
     (HasGiven-more rest c.in_ok-count.count c.loop-rest.invariant (search rules) c.in_ok-count.ensures.bytes)
 
--- all was accepted
+-- the sink accepted all of the bytes
 pub returns : goal.returns
 returns g c = HasGiven-all _ c.loop-rest.invariant (nil_from_length c.loop-rest.rest.now (search rules))

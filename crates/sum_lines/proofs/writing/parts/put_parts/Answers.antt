@@ -4,7 +4,7 @@ use Rattle.sum_lines.specs.refinement.PartTexts.{parts_text}
 use Rattle.sum_lines.proofs.SinkLemmas.{HasLeft-step, HasLeft-stop}
 use Rattle.sum_lines.proofs.writing.parts.put_parts.Goals as goal
 
--- a part failed
+-- the write of a part failed
 pub returns-in_err-put_part : goal.returns-in_err-put_part
 returns-in_err-put_part g c =
     let cut = at_drop_more parts_text c.args.parts.now c.loop-part.part-index _ (omega arith) in

@@ -12,7 +12,7 @@ returns-in_err-n-clause-reads g c =
           c.read.new.buf (omega (arith, c.max-size.ensures)) (past_read m _ _ _ _ low c.in_err-n.ensures.reads);
     })
 
--- its byte reached the limit
+-- the byte that was read reached the limit
 pub returns-then-taken-eq-LIMIT-clause-reads : goal.returns-then-taken-eq-LIMIT-clause-reads
 returns-then-taken-eq-LIMIT-clause-reads g c =
     record {
@@ -21,7 +21,7 @@ returns-then-taken-eq-LIMIT-clause-reads g c =
           (omega (arith, c.max-size.ensures, c.min.ensures)) (past_read m _ _ _ _ low c.in_ok-n.ensures.reads);
     }
 
--- it gave bytes, or its end
+-- the read gave bytes, or found the end
 pub returns-clause-reads : goal.returns-clause-reads
 returns-clause-reads g c =
     record {

@@ -4,14 +4,14 @@ use Rattle.sum_words.specs.Items.{all_flags}
 use Rattle.sum_words.proofs.TextLemmas.{usage_parts, option_lines}
 use Rattle.sum_words.proofs.messages.help.put_help.Goals as goal
 
--- the first two lines failed
+-- the write of the first two lines failed
 pub returns-in_err-put_parts : goal.returns-in_err-put_parts
 returns-in_err-put_parts g c =
     let wrote = rw (usage_parts _ _ _ _ _ _ (c.as_bytes.ensures.value ∙ c.name.ensures) c.purpose.ensures)
     at c.in_err-put_parts.ensures in
     HasLeft-stop (option_lines c.args.tool all_flags) _ HasLeft-all refl wrote c.from_residual.ensures.0
 
--- they were written, and then those of the options
+-- the first two lines were written, and then those of the options
 pub returns : goal.returns
 returns g c =
     let wrote = rw (usage_parts _ _ _ _ _ _ (c.as_bytes.ensures.value ∙ c.name.ensures) c.purpose.ensures)

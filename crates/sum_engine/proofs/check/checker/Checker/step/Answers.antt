@@ -1,7 +1,7 @@
 use Rattle.sum_engine.proofs.StepLemmas.{step_taken}
 use Rattle.sum_engine.proofs.check.checker.Checker.step.Goals as goal
 
--- what was found was reported: the line
+-- a line was found, and reported
 pub returns-in-Ok-Going-clause-step : goal.returns-in-Ok-Going-clause-step
 returns-in-Ok-Going-clause-step g c = rw (← c.self.view_is) (λ none.
     let found = c.next-found.ensures in
@@ -9,7 +9,7 @@ returns-in-Ok-Going-clause-step g c = rw (← c.self.view_is) (λ none.
     (found.verdict (c.self.invariant none)) (found.advances (c.self.invariant none))
     (rw c.deref.ensures.value at c.report_found-result.ensures))
 
--- the end
+-- the end was found, and reported
 pub returns-in-Ok-Ended-clause-step : goal.returns-in-Ok-Ended-clause-step
 returns-in-Ok-Ended-clause-step g c = rw (← c.self.view_is) (λ none.
     let found = c.next-found.ensures in
@@ -17,7 +17,7 @@ returns-in-Ok-Ended-clause-step g c = rw (← c.self.view_is) (λ none.
     (found.verdict (c.self.invariant none)) (found.advances (c.self.invariant none))
     (rw c.deref.ensures.value at c.report_found-result.ensures))
 
--- a stop
+-- a stop was found
 pub returns-in-Err-clause-step : goal.returns-in-Err-clause-step
 returns-in-Err-clause-step g c = rw (← c.self.view_is) (λ none.
     let found = c.next-found.ensures in

@@ -22,7 +22,7 @@ returns-in-Ok-clause-verdict g c =
       verdict = done.verdict;
     }))
 
--- there was no memory to open its file
+-- there was no memory to open the file of the line's entry
 pub returns-in-Err-judge_line-clause-verdict : goal.returns-in-Err-judge_line-clause-verdict
 returns-in-Err-judge_line-clause-verdict g c =
     let read = c.in-Ok-Line.ensures in

@@ -18,7 +18,7 @@ invariant_of-self g c =
           (g.S.Source.state c.args.self.now.source) kept file has dash c.requires)));
     }
 
--- a file of the source is open there
+-- a file of the source is open in the source
 pub close_file-requires : goal.close_file-requires
 close_file-requires g c =
     let file = opened_state g.I.Input.state g.S.File.Input.state in
@@ -27,7 +27,7 @@ close_file-requires g c =
     open_there g.S.Source.tells c.args.self.now.untaken c.args.self.now.log
     (g.S.Source.state c.args.self.now.source) kept (file c.args.file.place) other c.requires))
 
--- and is closed there
+-- a file of the source is closed in the source
 pub invariant_of-self-in-File : goal.invariant_of-self-in-File
 invariant_of-self-in-File g c =
     let file = opened_state g.I.Input.state g.S.File.Input.state in

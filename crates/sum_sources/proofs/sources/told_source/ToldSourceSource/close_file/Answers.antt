@@ -9,11 +9,11 @@ has_content : (answer : Answer) (c : Content) → Some c ≡ result_ok answer �
 has_content (Ok d) c is = cc
 has_content (Err f) c is = cc
 
--- the names stay
+-- the names that were opened stay
 pub invariant_of-self-clause-names : goal.invariant_of-self-clause-names
 invariant_of-self-clause-names g c = rw (c.and-self.ensures, names-closed) c.args.self.now.names
 
--- what was read of the file is of its content
+-- what was read of the file fits its content
 pub invariant_of-self-clause-gives : goal.invariant_of-self-clause-gives
 invariant_of-self-clause-gives g c =
     let s = c.args.self.now in
