@@ -1,11 +1,7 @@
 use Rattle.std.proofs.Common.{arith}
-use Rattle.sum_lines.proofs.SinkLemmas.{HasLeft-all, HasLeft-step, HasLeft-stop}
+use Rattle.sum_lines.proofs.SinkLemmas.{HasLeft-step, HasLeft-stop}
 use Rattle.sum_words.proofs.TextLemmas.{option_lines_from}
 use Rattle.sum_words.proofs.messages.help.put_options.Goals as goal
-
--- no line is written yet
-pub loop-flag-init : goal.loop-flag-init
-loop-flag-init g c = HasLeft-all
 
 -- a line failed
 pub returns-in_err-put_option : goal.returns-in_err-put_option
