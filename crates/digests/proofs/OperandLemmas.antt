@@ -1,7 +1,6 @@
 -- Operands, one after another: after those before, the rest completes the whole.
 use Rattle.std.proofs.Common.{◌≡◌, ℕ, Bool, true, List, [], ◌∷◌, ◌++◌, Option, None, Some, Result, Ok, Err, ◌&&◌, Bor}
-use Rattle.std.proofs.Math.Bool.{and_assoc}
-use Rattle.std.proofs.lemmas.Bool.{and_parts}
+use Rattle.std.proofs.{Math.Bool.and_assoc, lemmas.Bool.and_parts}
 use Rattle.sum_engine.proofs.WorldLemmas.{reads_then, agrees_before, world_after}
 use Rattle.sum_engine.specs.declared.stop.Stop.{Stop}
 use Rattle.sum_engine.specs.Behavior.{World, after, Step, Behavior, trace, asks, ByteString}
