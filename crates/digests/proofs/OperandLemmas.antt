@@ -1,12 +1,10 @@
 -- Operands, one after another: after those before, the rest completes the whole.
-use Rattle.std.proofs.Common.{◌≡◌, ℕ, Bool, true, List, [], ◌∷◌, ◌++◌, Option, None, Some, Result, Ok, Err, refl, ◌&&◌, Bor}
-use Rattle.std.proofs.Math.Bool.{and_assoc, and-true}
-use Rattle.std.proofs.lemmas.Bool.{and_parts}
-use Rattle.sum_engine.proofs.WorldLemmas.{reads_none, reads_then, agrees_before, world_after}
+use Rattle.std.proofs.Common.{◌≡◌, ℕ, Bool, true, List, [], ◌∷◌, ◌++◌, Option, None, Some, Result, Ok, Err, ◌&&◌, Bor}
+use Rattle.std.proofs.{Math.Bool.and_assoc, lemmas.Bool.and_parts}
+use Rattle.sum_engine.proofs.WorldLemmas.{reads_then, agrees_before, world_after}
 use Rattle.sum_engine.specs.declared.stop.Stop.{Stop}
 use Rattle.sum_engine.specs.Behavior.{World, after, Step, Behavior, trace, asks, ByteString}
 use Rattle.sum_engine.specs.Execution.{StreamsState, IsFlushed, ReadsToEndIf, Agrees, world_at, Happened, Performs, PerformsSteps}
-use Rattle.sum_engine.proofs.ExecutionLemmas.{Happened-none}
 use Rattle.sum_engine.proofs.BehaviorLemmas.{behavior_then-happened, behavior_then-first, behavior_then-second, events_extend}
 use Rattle.sum_words.specs.refinement.ItemIterator.{TakesFirst}
 use Rattle.digests.specs.Meaning.{operands_behavior, status_of}
@@ -43,13 +41,7 @@ pub record HasReached (one : World → ByteString → Behavior) (names rest : Li
       → PerformsFrom one (world_at w x.inputs) names true x z r
 
 module _ {one : World → ByteString → Behavior} {names : List ByteString} where
-  -- before the first operand nothing happened
-  pub operands_done_start : {rest : List ByteString} {a : StreamsState} → names ≡ rest
-      → HasReached one names rest a a true
-  operands_done_start {a = a} is =
-      record { reads = reads_none a.inputs; completes = λ flushed w agrees z r did. rw is did }
-
-  -- one more operand happened
+  -- one operand more happened
   pub operands_done_step : {Whole : Type 0} {good : Bool} {name : ByteString} {rest : List ByteString}
       {x y : StreamsState} (this : Bool) (z : StreamsState) → HasReached one names (name ∷ rest) x y good
       → (IsFlushed x.outputs → IsFlushed y.outputs) → (this ≡ true → Whole) → ReadsToEndIf Whole y.inputs z.inputs
@@ -63,12 +55,6 @@ module _ {one : World → ByteString → Behavior} {names : List ByteString} whe
         h.completes flushed w (agrees_before agrees reads) end r
         (steps_then end _ run.steps _ r q.1 (rw (world, q.0, and_assoc) at did));
   }
-
-  -- no operand is left
-  pub operands_done_end : {good : Bool} {x y : StreamsState} → HasReached one names [] x y good
-      → Performs (λ w. operands_behavior one w names) status_of x y (Ok (status_of good))
-  operands_done_end {good = good} {y = y} h = λ flushed w agrees.
-      h.completes flushed w agrees y (Ok (status_of good)) (rw and-true (refl, Happened-none y))
 
   -- the next operand stopped the run
   pub operands_done_stop : {Whole : Type 0} {good : Bool} {name : ByteString} {rest : List ByteString}

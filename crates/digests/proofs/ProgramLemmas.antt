@@ -1,10 +1,9 @@
 -- A run and its end, joined: what the whole program does.
 use Rattle.std.proofs.Common.{rules, arith, ℕ, List, [], Option, None, Result, Ok, Err, false, sym, refl, ◌∙◌, append-nil}
-use Rattle.sum_words.specs.Texts.{Stop}
 use Rattle.sum_lines.proofs.EventLemmas.{Gets-then}
 use Rattle.sum_engine.specs.Behavior.{World, Event, Behavior, trace, single_step, ByteString}
 use Rattle.sum_engine.specs.Execution.{OutputsState, StreamsState, world_at, IsFlushed, FailuresMatch, Happened, Performs}
-use Rattle.sum_words.specs.declared.tool.Tool.{Tool}
+use Rattle.sum_words.specs.{Texts.Stop, declared.tool.Tool.Tool}
 use Rattle.digests.specs.{Meaning.status_of, Program.CallPerforms, Program.CallRefuses}
 use Rattle.digests.specs.refinement.FinishRun.{FlushesBoth, KeepsBoth, FinishesRun, Refuses}
 use Rattle.digests.proofs.MessageLemmas.{Performs-texts}

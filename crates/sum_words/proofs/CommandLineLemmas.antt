@@ -1,8 +1,7 @@
 -- The reading of the arguments, one after another, gives the command line.
 use Rattle.std.proofs.Common.{ℕ, ◌≡◌, ◌+◌, ◌-◌, ◌<◌, ◌≤◌, not, ◌==◌, List, [], ◌∷◌, ◌++◌, length, take, drop, Option, Some, None, Result, Ok, Err, OnErr, Any, IsSomeAnd, slice_get, sym, arith, append-nil, append_assoc, ◌∙◌, refl}
 use Rattle.std.specs.List.{after_last}
-use Rattle.std.proofs.lemmas.{List.Sums.suffix_len_is, Bool.not_from_false, Bool.not_from_true, Bool.false_from_ne_true}
-use Rattle.std.proofs.lemmas.Grind.{common_steps}
+use Rattle.std.proofs.lemmas.{Grind.common_steps, List.Sums.suffix_len_is, Bool.not_from_false, Bool.not_from_true, Bool.false_from_ne_true}
 use Rattle.std.specs.declared.{env.FillError.FillError, env.FillError.TheVariants.NotPresent, env.FillError.TheVariants.TooLong}
 use Rattle.memchr.specs.Find.{Passes, Nowhere, is_byte}
 use Rattle.sum_words.specs.{Items.ByteString, Arguments.ArgumentsState, Arguments.Explains, Arguments.AreOf, Arguments.and_fill, ArgumentsLaws.agrees_from, refinement.CommandLine.Fails, refinement.CommandLine.Fills}

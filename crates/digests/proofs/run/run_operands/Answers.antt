@@ -1,12 +1,16 @@
 use Rattle.std.proofs.Common.{rules, arith, ap, Ok}
-use Rattle.sum_engine.proofs.WorldLemmas.{reads_weaker, reads_then}
-use Rattle.digests.proofs.OperandLemmas.{left-next, operands_done_start, operands_done_step, operands_done_end, operands_done_stop}
+use Rattle.std.proofs.Math.Bool.{and-true}
+use Rattle.sum_engine.proofs.{ExecutionLemmas.Happened-none, WorldLemmas.reads_none, WorldLemmas.reads_weaker, WorldLemmas.reads_then}
+use Rattle.digests.proofs.OperandLemmas.{left-next, operands_done_step, operands_done_stop}
 use Rattle.digests.proofs.run.run_operands.Goals as goal
 
 -- before the first operand nothing happened
 pub operands-init : goal.operands-init
 operands-init g c = record {
-  reached = operands_done_start c.first_name.ensures;
+  reached = record {
+    reads = reads_none c.args.streams.now.inputs;
+    completes = λ flushed w agrees z r did. rw c.first_name.ensures did;
+  };
   so_far = search rules;
 }
 
@@ -34,8 +38,10 @@ operands-preserved g c =
 
 -- no operand is left
 pub returns-clause-behavior : goal.returns-clause-behavior
-returns-clause-behavior g c =
-    rw c.status.ensures (operands_done_end (rw c.in_default.is at c.operands.invariant.reached))
+returns-clause-behavior g c = λ flushed w agrees.
+    let reached = rw c.in_default.is at c.operands.invariant.reached in
+    reached.completes flushed w agrees c.operands.streams (Ok c.status.result)
+    (rw and-true (c.status.ensures, Happened-none c.operands.streams))
 
 pub returns-clause-reads : goal.returns-clause-reads
 returns-clause-reads g c =
