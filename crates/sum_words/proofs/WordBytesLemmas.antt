@@ -38,7 +38,7 @@ pieces_cut-length bytes from [] = refl
 pieces_cut-length bytes from (end ∷ ends) = ap suc (pieces_cut-length bytes end ends)
 
 -- the lemmas of a list of words
-pub ruleset pieces = (CutsAt-push, pieces_cut-push)
+pub ruleset pieces = (CutsAt-push, pieces_cut-push, pieces_cut-length)
 
 -- what was found of the pieces is this part of the bytes
 pub record IsPiece (bytes : List ℕ) (found : Option ByteString) (start end : ℕ) : Type 0 where

@@ -34,6 +34,14 @@ impl Tool {
         Tool::Anysum,
     ];
 
+    /// Returns the tool of this name, if there is one.
+    #[tactic(auto, unfolding(crate::specs::Tools::tool_called))]
+    pub fn from_word(word: &str) -> Option<Tool>
+        ensures { (tool : Tool) → (result ≡ Some tool) ↔ (name_of tool ≡ word.now) }
+    {
+        Tool::of_name(word.as_bytes())
+    }
+
     /// Returns the tool whose name these bytes are, if there is one.
     #[tactic(auto, unfolding(crate::specs::Tools::tool_called))]
     pub fn of_name(name: &[u8]) -> Option<Tool>
@@ -89,10 +97,9 @@ impl FromStr for Tool {
 
     ghost from_str_gives = { λ word r. (tool : Tool) → (r ≡ Ok tool) ↔ (name_of tool ≡ word) };
 
-    /// Returns the tool of this name.
-    #[tactic(auto, unfolding(crate::specs::Tools::tool_called))]
+    /// Returns the tool of this name, as [`Tool::from_word`] does.
     fn from_str(word: &str) -> Result<Tool, UnknownTool> {
-        Tool::of_name(word.as_bytes()).ok_or(UnknownTool)
+        Tool::from_word(word).ok_or(UnknownTool)
     }
 }
 

@@ -1,7 +1,7 @@
 //! Lists of words, and the iterator over one.
 ghost use Rattle.std.specs.Iterator.{item_count};
 ghost use Rattle.std.specs.Option.{option_copied};
-ghost use Rattle.std.specs.Prelude.{◌≡◌, ◌<◌, [], ◌∷◌, ◌++◌, ◌+◌, ◌^◌, OnOk, OnErr, OnSome, length, drop, slice_get, slice_index};
+ghost use Rattle.std.specs.Prelude.{◌≡◌, ◌==◌, ◌<◌, [], ◌∷◌, ◌++◌, ◌+◌, ◌^◌, OnOk, OnErr, OnSome, length, drop, slice_get, slice_index};
 ghost use Rattle.sum_words.specs.Words.{pieces_cut, CutsAt};
 ghost use Rattle.sum_words.specs.refinement.ItemIterator.{TakesFirst};
 
@@ -67,6 +67,21 @@ impl<A: Allocator> Words<A> {
         Ok(())
     }
 
+    /// Returns how many words the list has.
+    #[tactic(auto, using(crate::proofs::WordBytesLemmas::pieces))]
+    pub fn len(&self) -> usize
+        ensures { result ≡ length self.now }
+    {
+        self.ends.len()
+    }
+
+    /// Returns whether the list is empty.
+    pub fn is_empty(&self) -> bool
+        ensures { result ≡ (length self.now == 0) }
+    {
+        self.len() == 0
+    }
+
     /// Returns an iterator over the words.
     pub fn iter(&self) -> WordsIter<'_>
         ensures { result ≡ self.now }
@@ -76,6 +91,13 @@ impl<A: Allocator> Words<A> {
             ends: self.ends.as_slice(),
             at: 0,
         }
+    }
+
+    /// Returns the word at this place, counted from 0, or `None` past the last.
+    pub fn get(&self, i: usize) -> Option<&[u8]>
+        ensures { option_copied result ≡ slice_get self.now i }
+    {
+        piece_at(self.bytes.as_slice(), self.ends.as_slice(), i)
     }
 }
 

@@ -19,6 +19,10 @@ pub(crate) fn words_and(alloc: Global, line: &str, last: &[u8]) -> Result<Words<
 // Whether these are the words, in their order. It has no contract, so that a test knows no more of them than it sees.
 fn are(words: &Words<Global>, wanted: &[&[u8]]) -> bool {
     words.iter().eq(wanted.iter().copied())
+        && words.len() == wanted.len()
+        && words.is_empty() == wanted.is_empty()
+        && words.get(2) == wanted.get(2).copied()
+        && words.get(wanted.len()).is_none()
 }
 
 // Whether these are the operands of words that ask for lines. It has no contract, as above.
