@@ -224,7 +224,8 @@ module _ {I : Type 0} (state : I → InputState) (first : CheckerValue I) (m : S
       -- the check ended or stopped as it does from the first line on
       from_start : was.phase ≡ Unfinished → (c : Content) → IsOf (reads_past (length was.bytes) now) c
           → IsFlushed m.outputs → (w : World) → Agrees w o.inputs
-          → EndsAs x taken o (manifest_behavior first.verdicts.rules first.labels (clip c) (world_at w m.inputs)) (clip c)
+          → EndsAs x taken o (manifest_behavior first.verdicts.rules first.labels (clip c) (world_at w m.inputs))
+          (clip c)
       from_start going c of flushed w agrees =
           let before : length was.bytes ≡ length now.bytes - taken =
           omega (arith, none, h.taken, advances.verdict.reader.taken) in

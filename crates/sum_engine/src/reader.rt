@@ -53,7 +53,7 @@ impl<S: Source> Reader<S> {
         self.source.close_file(file);
     }
 
-    /// Hashes the file of that name: opens it in the source, reads it once, to its end or its first fault, and closes it.
+    /// Hashes the file of that name: opens it in the source, reads it to its end or its first fault, and closes it.
     pub(crate) fn hash_file(&mut self, kind: Kind, name: &[u8]) -> Result<Digest, HashFault>
         ensures hashed { HashesFile kind name.now self.old self.new result }
         ensures len { IfOk result (λ d. length d ≡ kind.len) }

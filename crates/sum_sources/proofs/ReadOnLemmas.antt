@@ -190,7 +190,8 @@ ends_memory {state = state} {s = s} {line = begun} h none few some is bytes =
         past_line-piece begun (remaining s c) none ∙ sym (ap past_line (h.remains c of)),
       );
       sum = λ next is. cc;
-      reading = settled (Err stops.Memory) refl (λ bytes c of. (left c of, refl)) (λ is. cc) (rw h.under_way.phase (λ past. cc));
+      reading = settled (Err stops.Memory) refl (λ bytes c of. (left c of, refl)) (λ is. cc)
+          (rw h.under_way.phase (λ past. cc));
       before = h.before;
     })
 

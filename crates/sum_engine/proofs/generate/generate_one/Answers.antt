@@ -18,7 +18,8 @@ returns-in-Ok-clause-behavior g c =
     (writes_and_returns c.put_line_flushed-written.result c.outcome_after.ensures c.put_line_flushed-written.ensures)
 
 pub returns-in-Ok-clause-reads : goal.returns-in-Ok-clause-reads
-returns-in-Ok-clause-reads g c = reads_weaker (λ good. tt) (hashes_name (Ok c.in-Ok.digest) c.in-Ok.ensures.hashed).reads
+returns-in-Ok-clause-reads g c =
+    reads_weaker (λ good. tt) (hashes_name (Ok c.in-Ok.digest) c.in-Ok.ensures.hashed).reads
 
 -- the name could not be opened or read, and the line of its fault was written
 pub returns-in_ok-fault-in-Err-clause-behavior : goal.returns-in_ok-fault-in-Err-clause-behavior
@@ -26,7 +27,8 @@ returns-in_ok-fault-in-Err-clause-behavior g c =
     let settings = c.args.settings.now in
     let tool = c.args.tool.now in
     let name = c.args.name.now in
-    let found = fault_found c.in-Err.failed _ c.in_ok-fault-in-Err.ensures (hashes_name (Err c.in-Err.failed) c.in-Err.ensures.hashed) in
+    let hashed = hashes_name (Err c.in-Err.failed) c.in-Err.ensures.hashed in
+    let found = fault_found c.in-Err.failed _ c.in_ok-fault-in-Err.ensures hashed in
     let wrote = c.put_name_fault_line-written in
     Performs-step (λ w. generate_behavior settings tool w name) (λ g. g) false c.args.streams.now
     (record { inputs = c.hash_file.new.self; outputs = _ }) found.0
@@ -46,7 +48,8 @@ returns-in_err-fault-in-Err-clause-behavior g c =
     let tool = c.args.tool.now in
     let name = c.args.name.now in
     let stop = err_from_is_err_and c.from_residual.result c.from_residual.ensures.1 in
+    let hashed = hashes_name (Err c.in-Err.failed) c.in-Err.ensures.hashed in
     rw (stop.1, stop.2) (Performs-refused (λ w. generate_behavior settings tool w name) (λ g. g)
     c.args.streams.now (record c.args.streams.now { inputs = c.hash_file.new.self })
     (λ w. one_step settings tool name (digest_or_fault settings.kind (answer_to w name)))
-    (refused_memory c.in-Err.failed _ c.in_err-fault-in-Err.ensures (hashes_name (Err c.in-Err.failed) c.in-Err.ensures.hashed)) refl)
+    (refused_memory c.in-Err.failed _ c.in_err-fault-in-Err.ensures hashed) refl)
