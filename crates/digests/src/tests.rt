@@ -143,7 +143,7 @@ fn run_line<A: Allocator + Copy, const N: usize>(
     streams: &mut Stage<A, N>,
 ) -> Option<Result<u8, Stop>> {
     let mut parts = line.split(' ');
-    let tool = parts.next()?.parse().ok()?;
+    let tool = Tool::from_word(parts.next()?)?;
     let mut words = Words::new(alloc);
     for word in parts {
         words.add(word).ok()?;
