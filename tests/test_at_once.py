@@ -111,6 +111,11 @@ class OneFile(Case):
 class AfterAFailedWrite(Case):
     """A list is read no further than what was read ahead."""
 
+    def test_a_list_without_end(self):
+        with self.full() as full:
+            ran = self.run_command(["sh", "-c", f"yes '{M}  a' | '{harness.PROGRAM}' md5sum -c -"], stdout=full)
+        self.assertEqual((ran.status, ran.err), (1, b"md5sum: write error\n"))
+
     def test_what_the_next_program_finds(self):
         self.write("list", f"{M}  a\n" * 10000)
         with self.full() as full, open(self.path("list"), "rb") as list_:

@@ -63,10 +63,14 @@ class Lines(Case):
 
 
 class Hostile(Case):
-    def test_nothing_in_them_and_long_comments(self):
+    def test_nothing_in_them_and_a_long_name(self):
         for content in ("x" * 1000000, "\0" * 1000 + "\n", "   \t\n", "\n" * 100000):
             self.write("h", content)
             self.expect("md5sum -c h", err=[f"md5sum: h: {NONE_FOUND}"], status=1)
+        name = "y" * 99966
+        self.write("h", f"{M}  {name}")
+        self.expect("md5sum -c h", out=[f"{name}: FAILED open or read"],
+                    err=[f"md5sum: {name}: File name too long", unread(1)], status=1)
         for size in range(8185, 8200):
             self.expect("md5sum -c --strict", stdin=["#" * size, f"{M}  a", "", f"{M}  a"], out=["a: OK"] * 2)
 

@@ -38,19 +38,6 @@ class Documents(Case):
         self.assertEqual(sorted(named), sorted((crate, file[:-len(".edit")]) for crate, file in there),
                          "tools/refusals.py makes the table anew")
 
-    def test_names_that_are_quoted(self):
-        """Each word of a name or a path that a page quotes stands in a file of the repository or in a file's name, or
-        belongs to others."""
-        listed = self.run_command(["git", "ls-files", "-co", "--exclude-standard"], cwd=TOP).out.decode().split()
-        code = [name for name in listed if re.match(r"(crates|tools|tests|bench)/|(digests|install|test)$", name)
-                and not name.endswith((".md", ".txt")) and os.path.isfile(os.path.join(TOP, name))]
-        words = set(re.findall(r"\w+", "\n".join([*listed, *map(text_of, code)])))
-        words.update("ANTT BufWriter CONTRACTS MANPATH MODELS OLD TERMS clap libc liblibc_c libos_c sha512t256sum "
-                     "start_io untested XDG_DATA_DIRS".split())
-        for page in (name for name in listed if re.match(r"README.md$|docs/.*\.md$", name)):
-            for quoted in re.findall(r"`([A-Za-z_]\w*(?:(?:::|[./])\w+)*)(?:\(\)|/)?`", text_of(page)):
-                self.assertEqual(set(re.findall(r"\w+", quoted)) - words, set(), f"{page} names {quoted}")
-
     def test_a_second_audit(self):
         """The command of docs/AUDITING.md finds the files of the contracts, those of what `main` makes too."""
         command = re.search(r"(?m)^    git diff OLD .*\$\((.*)\)$", text_of("docs", "AUDITING.md"))[1]

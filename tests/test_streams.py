@@ -1,4 +1,5 @@
-"""Standard streams: pipes, terminals, readers that go away, limits on files, and very many operands."""
+"""Standard streams and devices: pipes, terminals, full outputs, readers that go away, limits on files, and very many
+operands."""
 
 import os
 import pty
@@ -6,8 +7,8 @@ import signal
 import subprocess
 
 import harness
-from harness import E, M, VERDICTS, VERDICTS_ERR, VERDICTS_OUT, WRITE_ERROR, X_MISSING
-from harness import Case, Ran, as_bytes, limits, unread
+from harness import E, M, TOOLS, VERDICTS, VERDICTS_ERR, VERDICTS_OUT, X_MISSING
+from harness import WRITE_ERROR, Case, Ran, as_bytes, limits, unread
 
 
 class StandardInput(Case):
@@ -49,8 +50,36 @@ class BrokenInput(Case):
         self.expect("md5sum -c l", stdin=self.broken_input("abc"), out=["-: FAILED open or read", "a: OK"], status=1,
                     err=["md5sum: -: Input/output error", unread(1)])
 
+    def test_a_manifest_cut_at_every_byte(self):
+        """Only lines that a newline ended are reported, then the fault, and no summary."""
+        manifest = as_bytes(VERDICTS)
+        fault = "md5sum: standard input: Input/output error"
+        reports = {len(as_bytes(VERDICTS[:n])): n for n in range(6)}
+        handled = 0
+        for cut in range(len(manifest) + 1):
+            handled = reports.get(cut, handled)
+            out = VERDICTS_OUT.splitlines()[: [0, 1, 1, 1, 2, 3][handled]]
+            err = [X_MISSING, fault] if handled >= 4 else [fault]
+            self.expect("md5sum -c", stdin=self.broken_input(manifest[:cut]), out=out, err=err, status=1)
+
 
 class Outputs(Case):
+    def test_standard_output_full(self):
+        with self.full() as full:
+            for words in ("md5sum a", "md5sum --help", "md5sum --version", "md5sum -z a e"):
+                self.expect(words, err=WRITE_ERROR, status=1, stdout=full)
+            for tool in TOOLS:
+                self.expect([tool, "a"], err=[f"{tool}: write error"], status=1, stdout=full)
+            self.expect("md5sum x", err=[X_MISSING], status=1, stdout=full)
+
+    def test_standard_error_full(self):
+        with self.full() as full:
+            self.expect("md5sum a x e", out=[f"{M}  a"], status=1, stderr=full)
+            for words in ("md5sum --foo", "shasum", ["md5sum", b"-\xff"]):
+                self.expect(words, status=1, stderr=full)
+            self.expect("md5sum a", out=[f"{M}  a"], stderr=full)
+            self.expect("md5sum a x", status=1, stdout=full, stderr=full)
+
     def test_a_reader_that_goes_away(self):
         """A closed pipe is a write error, whether or not the caller ignores the signal for it."""
         words = [harness.PROGRAM, "md5sum", *["a"] * 20000]
@@ -110,7 +139,8 @@ class EachByteTheLast(Case):
 
 
 class Many(Case):
-    def test_fifty_thousand_options(self):
+    def test_fifty_thousand_operands_and_options(self):
+        self.expect(["md5sum", *["a"] * 50000], out=[f"{M}  a"] * 50000)
         self.expect(["md5sum", *["-b"] * 50000, "a"], out=[f"{M} *a"])
 
     def test_as_many_operands_as_the_system_passes_on(self):
@@ -119,10 +149,13 @@ class Many(Case):
         count = min(count, 200000) - sum(len(name) + len(value) + 10 for name, value in os.environ.items()) // 10
         self.expect(["md5sum", *["a"] * count], out=[f"{M}  a"] * count)
 
-    def test_a_long_name_and_length(self):
+    def test_long_names_and_words(self):
         name = "./" * 2000 + "a"
         self.expect(["md5sum", name, "e"], out=[f"{M}  {name}", f"{E}  e"])
-        self.expect_fault(["b2sum", "-l", name * 25], f"invalid length: '{name * 25}'")
+        name = "y" * 100000
+        self.expect(["md5sum", name], err=[f"md5sum: {name}: File name too long"], status=1)
+        self.expect_fault(["md5sum", f"--{name}"], f"unrecognized option '--{name}'")
+        self.expect_fault(["b2sum", "-l", name], f"invalid length: '{name}'")
 
     def test_the_longest_word(self):
         """The system passes on no word that is longer than 131,071 bytes; that one is read, whatever it is."""
