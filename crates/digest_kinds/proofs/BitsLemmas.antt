@@ -26,7 +26,7 @@ numerals = numerals_by_value _ (record {
 pub decimal-digits : (len : ℕ) → len ≤ 64 → AllPass is_ascii_digit (decimal (8 * len))
 decimal-digits len few = digits_decimal numerals (8 * len) (omega (arith, few))
 
--- only such digits are a number
+-- only one to three digits without a leading zero are a number
 short_number-some : (ds : List ℕ) (v : ℕ) → short_number ds ≡ Some v
     → (v ≡ digits_value 10 ds) × (get_or ds 0 0 ≢ 48) × (0 < length ds) × (length ds ≤ 3)
 short_number-some ds v h = grind arith

@@ -16,7 +16,7 @@ pub record HasWidth (a : Algo) (s : List ℕ) (w : KindValue × List ℕ) : Type
   pub is_width : IsWidth w.0 width
   pub whole : s ≡ width ++ w.1
 
--- nothing, for the full length
+-- a kind of the full length has no width
 width-none : (a : Algo) (s : List ℕ) → HasWidth a s (full_kind a, s)
 width-none a s = record { is_algo = refl; width = []; is_width = inl (refl, refl); whole = refl }
 
@@ -64,7 +64,7 @@ read_named s a kind begun read =
 
 -- ---- the text of a kind
 
--- its bits have at most three digits
+-- the bits of a BLAKE2b kind have at most three digits
 pub length_bits : (len : ℕ) → len ≤ 64 → length (decimal (8 * len)) ≤ 3
 length_bits len few = length-decimal-le 3 (8 * len) (omega arith) (omega (arith, few)) (omega (arith, few))
 

@@ -26,7 +26,7 @@ IfSome-find-begins bytes (a ∷ algos) =
 pub found_tagged : (bytes : List ℕ) (a : Algo) → BeginsWithTag bytes a → find (begins bytes) all_algos ≡ Some a
 found_tagged bytes a begun = rw begun.1 (find-begins a begun.0)
 
--- so an algorithm whose tag begins the bytes, if there is one, is the one that the search finds
+-- an algorithm whose tag begins the bytes, if there is one, is the one that the search finds
 pub search_is : (bytes : List ℕ) (r : Option Algo) → IfSome r (λ a. BeginsWithTag bytes a)
     → ((a : Algo) → BeginsWithTag bytes a → r ≡ Some a) → r ≡ find (begins bytes) all_algos
 search_is bytes (Some a) tagged found = sym (found_tagged bytes a tagged)

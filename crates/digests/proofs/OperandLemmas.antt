@@ -41,7 +41,7 @@ pub record HasReached (one : World → ByteString → Behavior) (names rest : Li
       → PerformsFrom one (world_at w x.inputs) names true x z r
 
 module _ {one : World → ByteString → Behavior} {names : List ByteString} where
-  -- one operand more happened
+  -- one more operand happened
   pub operands_done_step : {Whole : Type 0} {good : Bool} {name : ByteString} {rest : List ByteString}
       {x y : StreamsState} (this : Bool) (z : StreamsState) → HasReached one names (name ∷ rest) x y good
       → (IsFlushed x.outputs → IsFlushed y.outputs) → (this ≡ true → Whole) → ReadsToEndIf Whole y.inputs z.inputs

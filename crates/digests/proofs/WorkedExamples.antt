@@ -58,7 +58,7 @@ e_tagged = codes "BLAKE2b-256 (e) = 0e5751c026e543b2e8ab2eb06099daa1d1e5df47778f
 generation :
     -- each of two files has a line
     (outcome Md5sum (words "a e") empty_content empty_content ≡ (a_line ++ e_line, [], words "a e", true))
-    -- a missing file is told, and the others have a line each
+    -- a missing file is reported, and the others have a line each
     × (outcome Md5sum (words "a x e") empty_content empty_content
     ≡ (a_line ++ e_line, codes "md5sum: x: No such file or directory\n", words "a x e", false))
     -- standard input, with `abc` on it, is empty the second time
@@ -69,7 +69,7 @@ generation :
     ≡ ([], codes "md5sum: -: Input/output error\n", words "-", false))
     -- a tagged line has the length
     × (outcome B2sum (words "-l 256 --tag e") empty_content empty_content ≡ (e_tagged, [], words "e", true))
-    -- a fault before --help is told in place of the help
+    -- a fault before --help is reported in place of the help
     × (outcome Md5sum (words "--foo --help") empty_content empty_content ≡ (
       [],
       codes "md5sum: unrecognized option "

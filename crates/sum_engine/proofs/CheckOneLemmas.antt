@@ -89,7 +89,7 @@ module _ (settings : CheckSettings) (tool name : List ℕ) (a : StreamsState) wh
       (record a { inputs = m; outputs = outputs }) (fault_asks a.inputs m name f opens)
       (λ w agrees. let answer = fault_answer a.inputs m name f opens w agrees in rw answer refl) said
 
-  -- and nothing was read of it
+  -- nothing was read of a manifest that could not be opened
   pub not_read : (m : SourceState) (f : Fault) (outputs : OutputsState) (x : Result Bool Stop)
       → m ≡ and_opening a.inputs name (Some (Err f)) → StoppedAt (record a { inputs = m; outputs = outputs }) x
   not_read m f outputs (Ok good) opens = tt {0}

@@ -16,7 +16,7 @@ IsHashOf kind x (Err (hashing.Open (faults.Fault f))) = x ≡ Err f
 IsHashOf kind x (Err (hashing.Read f)) = (digest_or_fault kind x ≡ Err f) × ((g : Fault) → x ≢ Err g)
 IsHashOf kind x (Err (hashing.Open faults.Memory)) = Unit {0}
 
--- the name is asked, unless memory was refused
+-- the name is opened, unless memory was refused
 abbrev pub AsksUnlessRefused : List ℕ → SourceState → SourceState → Result (List ℕ) HashFault → Type 0
 AsksUnlessRefused name a b (Err (hashing.Open faults.Memory)) = MemoryWasRefused a b
 AsksUnlessRefused name a b r = AsksNames a b (name ∷ [])

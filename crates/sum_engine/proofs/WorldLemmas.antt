@@ -1,4 +1,4 @@
--- Names asked one after another, and the worlds that agree with one call after another.
+-- Names opened one after another, and the worlds that agree with one call after another.
 use Rattle.std.proofs.Common.{rules, ◌≡◌, ap, refl, ℕ, zero, suc, List, [], ◌∷◌, ◌++◌, Option, None, Some, Result, IfSome, IfOk, append_assoc, append-nil, bytes_eq}
 use Rattle.std.specs.Prelude.{slice_get}
 use Rattle.std.specs.Option.{option_and_then}

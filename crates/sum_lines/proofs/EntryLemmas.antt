@@ -84,13 +84,13 @@ pub parse_stays : (p : Profile) (algos : Algos) (f g : Form) (line : List ℕ)
 unfolding entry_of
 parse_stays p algos f g line = grind arith
 
--- so later lines may be others
+-- how a line parses stays if later lines are others
 pub same_parse : (p : Profile) (algos : Algos) (before later others : List (List ℕ)) (line : List ℕ)
     → parse_line p algos (form algos (before ++ (line ∷ later))) line
     ≡ parse_line p algos (form algos (before ++ (line ∷ others))) line
 same_parse p algos before later others line = grind (arith, form_at, parse_stays)
 
--- nor the form after a plain line
+-- no later line changes the form after a plain line
 pub same_form : (algos : Algos) (before later others : List (List ℕ)) (line : List ℕ) (e : Bool) (kind : KindValue)
     (d tail : List ℕ) → IsPlain algos line e kind d tail
     → form algos (before ++ (line ∷ later)) ≡ form algos (before ++ (line ∷ others))

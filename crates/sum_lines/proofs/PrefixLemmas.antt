@@ -64,7 +64,7 @@ rsplit-some c s p h =
     let last = rw found.1 at (last_byte c s (length s)) in
     rw (← found.2) (grind (arith, common_steps))
 
--- if what follows a byte has none of it, the split is there
+-- if nothing that follows a byte c is c, the split at the last c is there
 pub rsplit-at : (c : ℕ) (xs ys : List ℕ) → All (λ x. x ≢ c) ys → rsplit_once c (xs ++ (c ∷ ys)) ≡ Some (xs, ys)
 rsplit-at c xs ys all =
     let s = xs ++ (c ∷ ys) in

@@ -30,7 +30,7 @@ pub past_line-piece : (piece : List ℕ) (d : Content) → HasNoNewline piece
     → past_line d ≡ past_line (with_prefix piece d)
 past_line-piece piece d none = rw (after_piece piece d.bytes none) refl
 
--- no bytes, no line
+-- a content without bytes has no line
 pub lines-nil : (e : Ending) → lines (record { bytes = []; ending = e }) ≡ []
 unfolding raw_lines
 lines-nil e = grind arith

@@ -53,7 +53,7 @@ next_longer {least} {a} all fails agrees =
     let (word, more, are, longer) = follows a.given fails.size all _ here.given here.fault in
     (word, more, are, omega (arith, fails.at_least, longer))
 
--- such an argument is among all
+-- an argument of which something holds is among all
 pub any_longer : {a b : ArgumentsState} (all : List ByteString) → Fails TooLong 4096 a b → AreOf b all
     → Any (λ argument. 4096 < length argument) all
 any_longer {a} all fails agrees =

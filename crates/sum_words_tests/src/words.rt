@@ -43,7 +43,7 @@ fn words_of_any_bytes(rt: HostRuntime) -> Result<(), Fail> {
     Ok(())
 }
 
-// Whether the arguments ask for this tool on these words. Without a contract, as above.
+// Whether the arguments ask for this tool on these words. It has no contract, as above.
 fn invoke(alloc: Global, arguments: &[&[u8]], tool: Tool, words: &[&[u8]]) -> bool {
     match read_command_line(alloc, &mut ToldArguments::new(arguments)) {
         Ok(CommandLine::Invoke(found, all)) => found == tool && are(&all, words),

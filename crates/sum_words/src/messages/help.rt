@@ -40,7 +40,7 @@ fn purpose(tool: Tool) -> (Part<'static>, Part<'static>, Part<'static>)
     )
 }
 
-// Writes the lines of these options, as far as the tool has them.
+// Writes the line of each of these options that the tool has.
 #[tactic(auto, using(sum_lines::proofs::SinkLemmas::at_first))]
 fn put_options<O: Sink>(out: &mut Buffered<O>, tool: Tool, flags: &[Flag]) -> Result<(), SinkFault>
     ensures { WritesAll out.old out.new

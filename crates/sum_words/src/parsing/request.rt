@@ -43,7 +43,7 @@ pub fn read_words<'a, A: Allocator>(
         ScannedOptions::Options(chosen) => chosen,
         ScannedOptions::Early(request) => return request,
     };
-    // Not `?`: the borrow checker has no rule for it if the error holds a `&'static str`.
+    // `?` isn't used: the borrow checker has no rule for it if the error holds a `&'static str`.
     let kind = match chosen.length.map(length_kind) {
         None => None,
         Some(Ok(kind)) => Some(kind),

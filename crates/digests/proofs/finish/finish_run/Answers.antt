@@ -4,7 +4,7 @@ use Rattle.sum_lines.specs.{Sinks.ByteString, Sinks.GivesAll, Buffers.BufferStat
 use Rattle.sum_engine.specs.refinement.FlushedWrites.{WritesAndFlushes}
 use Rattle.digests.proofs.finish.finish_run.Goals as goal
 
--- a line was written and flushed, or that failed
+-- a line was written and flushed, or its write failed
 writes_line : {E : Type 0} (a b : BufferState) (line : ByteString) (r : Result (Unit {0}) E)
     → WritesAndFlushes a b line r → IsFlushed a → (x : Result ⊤ ⊤) × GivesAll a.sink b.sink line x
 writes_line a b line (Ok u) wrote flushed = (Ok tt, wrote.gives flushed.0)

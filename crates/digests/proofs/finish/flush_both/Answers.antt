@@ -3,7 +3,7 @@ use Rattle.sum_lines.specs.{Sinks.SinkState, Sinks.Gets, Sinks.GivesAll, Buffers
 use Rattle.sum_lines.proofs.EventLemmas.{Gets-none}
 use Rattle.digests.proofs.finish.flush_both.Goals as goal
 
--- nothing has no prefix but nothing
+-- the empty list has no prefix but itself
 no_prefix : {A : Type 0} (prefix rest : List A) → [] ≡ prefix ++ rest → prefix ≡ []
 no_prefix [] rest h = refl
 no_prefix (b ∷ bs) rest h = cc

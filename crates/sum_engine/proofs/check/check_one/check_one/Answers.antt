@@ -6,7 +6,7 @@ use Rattle.sum_engine.proofs.check.check_one.check_one.Goals.{After-close}
 use Rattle.sum_engine.proofs.check.check_one.check_one.Given as given
 use Rattle.sum_engine.proofs.check.check_one.check_one.Goals as goal
 
--- ---- there was no memory to open it
+-- ---- there was no memory to open the name
 
 pub returns-in-Err-Memory-clause-behavior : goal.returns-in-Err-Memory-clause-behavior
 returns-in-Err-Memory-clause-behavior g c =

@@ -12,7 +12,7 @@ returns-in-Done-clause-line g c = settled_again _ _ (rw (← c.self.view_is) (ap
 pub returns-in-Stopped-clause-line : goal.returns-in-Stopped-clause-line
 returns-in-Stopped-clause-line g c = settled_again _ _ (rw (← c.self.view_is) (ap final_answer_in c.in-Stopped.is))
 
--- a line is counted
+-- counting a line changes nothing else
 pub returns-in-Ok-Line-clause-line : goal.returns-in-Ok-Line-clause-line
 returns-in-Ok-Line-clause-line g c = λ reading.
     let read = c.read_on-result.ensures.line reading in

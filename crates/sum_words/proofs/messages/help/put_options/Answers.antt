@@ -3,7 +3,7 @@ use Rattle.sum_lines.proofs.SinkLemmas.{HasLeft-step, HasLeft-stop}
 use Rattle.sum_words.proofs.TextLemmas.{option_lines_from}
 use Rattle.sum_words.proofs.messages.help.put_options.Goals as goal
 
--- a line failed
+-- the write of a line failed
 pub returns-in_err-put_option : goal.returns-in_err-put_option
 returns-in_err-put_option g c =
     let cut = option_lines_from c.args.tool c.args.flags.now c.loop-flag.flag-index _ (omega arith) in

@@ -2,7 +2,7 @@ use Rattle.std.proofs.lemmas.Grind.{merely}
 use Rattle.sum_sources.proofs.InputsLemmas.{kept_new}
 use Rattle.sum_sources.proofs.sources.inputs.Inputs.new.Goals as goal
 
--- nothing was read of standard input yet
+-- the invariant holds at first: nothing was read of standard input
 pub invariant_of-result : goal.invariant_of-result
 invariant_of-result g c = record {
   is = rw (c.and-untaken.ensures, c.and-log.ensures)
