@@ -85,8 +85,7 @@ fn put_err<E: Sink>(
     ensures { WritesAndFlushes err.old err.new
         (err_by rules labels.now number verdict name.now) result }
 {
-    // This read lets the proof see the profile of these rules.
-    let _algos = rules.algo;
+    rules.has_own_profile();
     match verdict {
         Verdict::Ignored | Verdict::Right | Verdict::Wrong | Verdict::Missing => Ok(()),
         Verdict::Bad => match labels.report {

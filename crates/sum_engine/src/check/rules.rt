@@ -1,6 +1,7 @@
 //! The rules by which a manifest's lines are judged, and what its reports show.
 ghost use Rattle.std.specs.Prelude.{◌≡◌};
 ghost use Rattle.sum_engine.specs.check.Rules.{rules_of};
+ghost use Rattle.sum_lines.specs.Escape.{own_profile};
 
 use crate::settings::{CheckSettings, Report};
 use digest_kinds::Algos;
@@ -18,7 +19,6 @@ pub(crate) struct CheckRules {
 
 impl Model for CheckRules {
     ghost use Rattle.sum_engine.specs.check.Rules.{Rules};
-    ghost use Rattle.sum_lines.specs.Escape.{own_profile};
 
     ghost Value = { Rules };
 
@@ -49,6 +49,13 @@ impl CheckRules {
             strict: settings.strict,
             from_stdin,
         }
+    }
+
+    // For proofs: these rules have the profile of this version. A proof sees that only where a field is read.
+    pub(crate) fn has_own_profile(self)
+        ensures { self.profile ≡ own_profile }
+    {
+        let _algo = self.algo;
     }
 }
 

@@ -92,8 +92,7 @@ fn put_end<E: Sink>(
     ensures { WritesAndFlushes err.old err.new
         (end_text rules labels.now Whole counts) result }
 {
-    // This read lets the proof see the profile of these rules.
-    let _algos = rules.algo;
+    rules.has_own_profile();
     if counts.entries() == 0 {
         let text = b"no properly formatted checksum lines found";
         return put_tool_line_flushed(err, labels.tool, labels.manifest, text);
