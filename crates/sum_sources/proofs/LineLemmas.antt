@@ -25,7 +25,7 @@ after_piece [] rest none = refl
 after_piece (b ∷ bs) rest none =
     grind (arith, after_piece bs rest (All-tail (λ b. (b == 10) ≡ false) b bs none), All-head)
 
--- so past the first line is the same with it and without it
+-- so the same is past the first line with it and without it
 pub past_line-piece : (piece : List ℕ) (d : Content) → HasNoNewline piece
     → past_line d ≡ past_line (with_prefix piece d)
 past_line-piece piece d none = rw (after_piece piece d.bytes none) refl

@@ -31,7 +31,7 @@ abbrev pub HasNoNewline : ByteString → Type 0
 HasNoNewline piece = All (λ b. (b == 10) ≡ false) piece
 
 -- what next_line returns: the first line, and then the content past it remains; or, if there is no line, the ending,
--- which remains; or that memory was refused, only if something remains, and no newline is gone
+-- which remains; or that memory was refused, only if something remains, and no newline was consumed
 abbrev pub IsNextLine : Content → Content → Result Next LineStop → ByteString → Type 0
 IsNextLine c d (Ok Line) line = (lines c ≡ line ∷ lines d) × (d ≡ past_line c)
 IsNextLine c d (Ok NoMore) line = (lines c ≡ []) × (c.ending ≡ Whole) × (d ≡ record { bytes = []; ending = Whole })
