@@ -1,8 +1,7 @@
 -- Digits that spell a digest, and decoding them.
 use Rattle.std.proofs.Common.{◌≡◌, ℕ, ◌/◌, ◌≤◌, ◌↔◌, List, length, Result, Ok, Err, IsOk, MatchResult, arith, refl, ltb, IsUtf8, rules}
 use Rattle.std.proofs.lemmas.{Bool.ltb-true, List.Sums.AllPass-from_list_all, Str.IsUtf8-from_ascii, Str.Ascii.IsAscii-from_all}
-use Rattle.hex.specs.Hex.{decode_sized, encode_lower, lower_digits}
-use Rattle.hex.specs.declared.error.FromHexError.{FromHexError}
+use Rattle.hex.specs.{Hex.decode_sized, Hex.encode_lower, Hex.lower_digits, declared.error.FromHexError.FromHexError}
 use Rattle.hex.proofs.HexLemmas.{IsAscii-encode_with, IsOk-decode_sized, IsOk-written}
 use Rattle.digest_kinds.specs.Kinds.{IsDigits}
 

@@ -1,7 +1,6 @@
 -- Names opened one after another, and the worlds that agree with one call after another.
 use Rattle.std.proofs.Common.{rules, ◌≡◌, ap, refl, ℕ, zero, suc, List, [], ◌∷◌, ◌++◌, Option, None, Some, Result, IfSome, IfOk, append_assoc, append-nil, bytes_eq}
-use Rattle.std.specs.Prelude.{slice_get}
-use Rattle.std.specs.Option.{option_and_then}
+use Rattle.std.specs.{Prelude.slice_get, Option.option_and_then}
 use Rattle.std.proofs.lemmas.{List.map-append, Result.IfOk-weaker}
 use Rattle.std.proofs.lemmas.List.Elements.{All-nil, All-cons, All-append, All-weaker}
 use Rattle.sum_sources.specs.{Contents.Reads, Sources.Opening, Sources.IsOfAnswer, Sources.and_opening, Sources.gave_of, Sources.gave_at, Sources.names_of, Sources.times}

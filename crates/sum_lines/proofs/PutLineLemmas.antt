@@ -5,8 +5,7 @@ use Rattle.std.proofs.Common.{ℕ, ◌≡◌, ◌*◌, not, cond, Bool, true, fa
 use Rattle.std.specs.{Char.is_ascii_digit, List.AllPass, List.list_all}
 use Rattle.hex.specs.Hex.{encode_lower, is_hex_digit}
 use Rattle.hex.proofs.HexLemmas.{decode_of-encode_lower}
-use Rattle.digest_kinds.specs.{Kinds.KindValue, Kinds.tag, KindTexts.IsWidth}
-use Rattle.digest_kinds.specs.declared.algo.Algo.TheVariants.{Blake2b}
+use Rattle.digest_kinds.specs.{Kinds.KindValue, Kinds.tag, KindTexts.IsWidth, declared.algo.Algo.TheVariants.Blake2b}
 use Rattle.digest_kinds.proofs.{BitsLemmas.decimal-digits, KindLemmas.has_len-range, PrefixLemmas.none_of}
 use Rattle.sum_lines.specs.declared.writing.put_line.Mode.{Mode}
 use Rattle.sum_lines.specs.{Escape.own_profile, Escape.escape, Escape.escape_differs, grammar.LineParts.plain_parts}

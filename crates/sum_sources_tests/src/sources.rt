@@ -27,7 +27,10 @@ fn hashes<S: Source>(
 
 // The file of this name has no digest, by this fault.
 fn refuses<S: Source>(rt: &impl Abort, source: &mut S, name: &[u8], fault: HashFault) {
-    assert_eq!(rt; hash_file(source, name, Md5Hasher::new()).err(), Some(fault));
+    assert_eq!(rt;
+        hash_file(source, name, Md5Hasher::new()).err(),
+        Some(fault)
+    );
 }
 
 // A source with two answers to a name, of which the first counts, a file that can't be read to its end, and no room for
@@ -40,7 +43,10 @@ fn notes<'a, A: Allocator + Copy>(
     let mut files = ToldSource::new(alloc, PIECE);
     files.add(NOTES, Answer::Content(b"abc", Ending::Whole))?;
     files.add(NOTES, Answer::Fault(Fault::Other))?;
-    files.add(BROKEN, Answer::Content(b"abc", Ending::Broken(Fault::Denied)))?;
+    files.add(
+        BROKEN,
+        Answer::Content(b"abc", Ending::Broken(Fault::Denied)),
+    )?;
     assert!(rt; files.add(long, Answer::Fault(Fault::Denied)) == Err(NoRoom));
     Ok(files)
 }
@@ -65,7 +71,12 @@ fn told_source(rt: HostRuntime) -> Result<(), Fail> {
     let mut files = notes(&rt, &heap, &long)?;
     hashes(&rt, &mut files, NOTES, MD5_OF_ABC)?;
     refuses(&rt, &mut files, &long, HashFault::Open(OpenFault::Memory));
-    refuses(&rt, &mut files, &[], HashFault::Open(OpenFault::Fault(Fault::NotFound)));
+    refuses(
+        &rt,
+        &mut files,
+        &[],
+        HashFault::Open(OpenFault::Fault(Fault::NotFound)),
+    );
     refuses(&rt, &mut files, BROKEN, HashFault::Read(Fault::Denied));
     asked(&rt, &files, 0, NOTES);
     asked(&rt, &files, 1, &[]);
@@ -108,7 +119,12 @@ fn real_files(rt: HostRuntime) -> Result<(), Fail> {
         (b"sum_sources_none", Fault::NotFound),
         (b"\xff", Fault::Os(84)),
     ] {
-        refuses(&rt, &mut files, name, HashFault::Open(OpenFault::Fault(fault)));
+        refuses(
+            &rt,
+            &mut files,
+            name,
+            HashFault::Open(OpenFault::Fault(fault)),
+        );
     }
     fs::remove_file(&rt, "sum_sources_real")?;
     Ok(())

@@ -1,5 +1,4 @@
-use Rattle.std.proofs.Common.{refl}
-use Rattle.std.proofs.lemmas.List.{drop-replicate}
+use Rattle.std.proofs.{Common.refl, lemmas.List.drop-replicate}
 use Rattle.blake2b_core.proofs.one_shot.padded_block.Goals as goal
 
 -- the bytes, and zeros after them

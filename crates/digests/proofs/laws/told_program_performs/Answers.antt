@@ -1,7 +1,6 @@
 use Rattle.std.proofs.Common.{ℕ, List, [], Option, None, Some, inl, inr}
 use Rattle.sum_engine.specs.{Behavior.ByteString, Behavior.World, Execution.world_at, Execution.Agrees, Execution.StreamsState, Execution.IsFlushed}
-use Rattle.sum_words.specs.CommandLines.{command_line}
-use Rattle.sum_words.specs.declared.tool.Tool.{Tool}
+use Rattle.sum_words.specs.{CommandLines.command_line, declared.tool.Tool.Tool}
 use Rattle.digests.specs.{Program.CommandPerforms, InMemory.CommandPerformsIn}
 use Rattle.digests.proofs.laws.told_program_performs.Goals as goal
 

@@ -1,5 +1,4 @@
-use Rattle.std.proofs.Common.{arith, take_at}
-use Rattle.std.proofs.lemmas.Option.{slice_get_read, slice_get-map}
+use Rattle.std.proofs.{Common.arith, Common.take_at, lemmas.Option.slice_get_read, lemmas.Option.slice_get-map}
 use Rattle.sum_words.proofs.arguments.fill_from.Goals as goal
 
 -- the buffer starts with the argument

@@ -1,5 +1,4 @@
-use Rattle.std.proofs.Common.{◌∷◌, codes, sym}
-use Rattle.std.proofs.lemmas.List.{map-append}
+use Rattle.std.proofs.{Common.◌∷◌, Common.codes, Common.sym, lemmas.List.map-append}
 use Rattle.sum_words.specs.Items.{operand}
 use Rattle.sum_words_tests.proofs.laws.names_are_operands.Goals as goal
 

@@ -1,5 +1,4 @@
-use Rattle.std.proofs.Common.{arith}
-use Rattle.std.proofs.lemmas.Grind.{common_steps}
+use Rattle.std.proofs.{Common.arith, lemmas.Grind.common_steps}
 use Rattle.hex.proofs.HexLemmas.{length-encode_with}
 use Rattle.digest_kinds.proofs.DigitLemmas.{IsUtf8-encode_lower}
 use Rattle.digest_kinds.proofs.digest.DigestDisplay.fmt.Goals as goal

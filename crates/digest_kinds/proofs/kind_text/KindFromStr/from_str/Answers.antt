@@ -1,5 +1,4 @@
-use Rattle.std.proofs.Common.{◌∙◌, arith}
-use Rattle.std.proofs.lemmas.Grind.{common_steps}
+use Rattle.std.proofs.{Common.◌∙◌, Common.arith, lemmas.Grind.common_steps}
 use Rattle.digest_kinds.proofs.KindTextLemmas.{named_read, read_named}
 use Rattle.digest_kinds.proofs.kind_text.KindFromStr.from_str.Goals as goal
 

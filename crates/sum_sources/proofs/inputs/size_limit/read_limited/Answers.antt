@@ -1,5 +1,4 @@
-use Rattle.std.proofs.Common.{rules, arith}
-use Rattle.std.proofs.lemmas.Result.{err_from_is_err_and}
+use Rattle.std.proofs.{Common.rules, Common.arith, lemmas.Result.err_from_is_err_and}
 use Rattle.sum_sources.proofs.LimitLemmas.{past, past_read, read_fails, read_reaches, read_gives}
 use Rattle.sum_sources.proofs.inputs.size_limit.read_limited.Goals as goal
 

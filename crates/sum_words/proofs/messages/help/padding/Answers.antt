@@ -1,5 +1,4 @@
-use Rattle.std.proofs.Common.{◌-◌, arith}
-use Rattle.std.proofs.lemmas.List.{take-replicate}
+use Rattle.std.proofs.{Common.◌-◌, Common.arith, lemmas.List.take-replicate}
 use Rattle.sum_words.proofs.messages.help.padding.Goals as goal
 
 -- some of 18 spaces

@@ -1,5 +1,4 @@
-use Rattle.std.proofs.Common.{refl, length-take, arith}
-use Rattle.std.proofs.lemmas.Result.{err_from_is_err_and}
+use Rattle.std.proofs.{Common.refl, Common.length-take, Common.arith, lemmas.Result.err_from_is_err_and}
 use Rattle.sum_lines.proofs.SinkLemmas.{accepts_some, accept_failed}
 use Rattle.sum_lines.proofs.sinks.buffered.Buffered.accept.Goals as goal
 
