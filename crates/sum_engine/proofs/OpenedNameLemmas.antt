@@ -22,8 +22,8 @@ pub record WasOpened (Whole : Type 0) (a m b n : SourceState) (name : List ℕ) 
       → (c : Content) × (answer_to (world_at w a) name ≡ Ok c) × IsOf t.reads c
 
 pub was_opened : {Whole : Type 0} (tells : ToldAnswers) {a m b n : SourceState} {name : List ℕ} {s t : InputState}
-    → s ≡ opened_file tells a name → m ≡ and_opening a name None → IsSameInput s t → IsAtEndIf Whole t.reads → ReadsToEndIf Whole m b
-    → n ≡ after_closing b t → WasOpened Whole a m b n name t
+    → s ≡ opened_file tells a name → m ≡ and_opening a name None → IsSameInput s t → IsAtEndIf Whole t.reads
+    → ReadsToEndIf Whole m b → n ≡ after_closing b t → WasOpened Whole a m b n name t
 was_opened {Whole} tells {a} {m} {b} {n} {name} {s} {t} is opens same read reads closes =
     let before = a.openings in
     let later = reads.openings.0 in

@@ -116,8 +116,8 @@ odd_words :
 unfolding words_on_literals
 odd_words = (refl, refl, refl, refl, refl, refl, refl, refl, refl, refl)
 
--- a command line without a word is always read, if the name is no longer than the page; a word that names the tool needs
--- no memory
+-- a command line without a word is always read, if the name is no longer than the page; a word that names the tool
+-- needs no memory
 no_words : ((name : ByteString) → length name ≤ 4096 → NeedsMemory (name ∷ []) → ⊥)
     × (NeedsMemory (words "digests md5sum") → ⊥)
 unfolding tool_called

@@ -9,9 +9,11 @@ close_file-requires g c =
 -- the file was hashed
 pub returns-in-Ok-found-clause-hashed : goal.returns-in-Ok-found-clause-hashed
 returns-in-Ok-found-clause-hashed g c =
-    hashed_last g.S.Source.tells c.in-Ok.ensures.file c.in-Ok.ensures.state c.in-Ok-found.ensures.hashed c.close_file.ensures
+    hashed_last g.S.Source.tells c.in-Ok.ensures.file c.in-Ok.ensures.state c.in-Ok-found.ensures.hashed
+    c.close_file.ensures
 
 -- reading the file failed
 pub returns-in-Err-found-clause-hashed : goal.returns-in-Err-found-clause-hashed
 returns-in-Err-found-clause-hashed g c =
-    hashed_last g.S.Source.tells c.in-Ok.ensures.file c.in-Ok.ensures.state c.in-Err-found.ensures.hashed c.close_file.ensures
+    hashed_last g.S.Source.tells c.in-Ok.ensures.file c.in-Ok.ensures.state c.in-Err-found.ensures.hashed
+    c.close_file.ensures
