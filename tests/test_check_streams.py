@@ -70,15 +70,6 @@ class Outputs(Case):
             self.expect("md5sum -c --quiet good", stdout=full, stderr=full)
             self.expect("md5sum -c good", err=["md5sum: write error"], status=1, stdout=full)
 
-    def test_full_half_way_through(self):
-        """The file that takes the reports is full after 100,000 bytes: exactly these are in it."""
-        reports = as_bytes(["a: OK"] * 50000)
-        self.write("l", [f"{M}  a"] * 50000)
-        with open(self.path("limited"), "wb") as file:
-            how = {"preexec_fn": limits(file_size=100001), "restore_signals": False}
-            self.expect("md5sum -c l", err=["md5sum: write error"], status=1, stdout=file, **how)
-        self.assertEqual(self.read("limited"), reports[:100001])
-
 
 class Sizes(Case):
     """Manifests of many lines and of very long ones. The bounds on memory are wide: they tell a program that keeps
@@ -97,17 +88,6 @@ class Sizes(Case):
         self.assertEqual(self.read("out"), as_bytes(reports))
         self.assertLess(peak, 25 * MEGA)
         self.expect("md5sum -c --quiet --strict", stdin=[f"{M}  a"] * 200000)
-
-    def test_one_line_of_100_megabytes_of_nothing(self):
-        """A line of NULs (a hole in the file) between two good ones."""
-        with open(self.path("l"), "wb") as file:
-            file.write(as_bytes([f"{M}  a"]))
-            file.seek(100 * MEGA, os.SEEK_CUR)
-            file.write(as_bytes(["", f"{M}  a"]))
-        status, err, peak = self.peak_of("md5sum -c l")
-        self.assertEqual((status, err), (0, as_bytes([bad(1)])))
-        self.assertEqual(self.read("out"), b"a: OK\na: OK\n")
-        self.assertLess(peak, 320 * MEGA)
 
     def test_one_name_of_100_megabytes(self):
         name = b"y" * (100 * MEGA)

@@ -50,18 +50,6 @@ class BrokenInput(Case):
         self.expect("md5sum -c l", stdin=self.broken_input("abc"), out=["-: FAILED open or read", "a: OK"], status=1,
                     err=["md5sum: -: Input/output error", unread(1)])
 
-    def test_a_manifest_cut_at_every_byte(self):
-        """Only lines that a newline ended are reported, then the fault, and no summary."""
-        manifest = as_bytes(VERDICTS)
-        fault = "md5sum: standard input: Input/output error"
-        reports = {len(as_bytes(VERDICTS[:n])): n for n in range(6)}
-        handled = 0
-        for cut in range(len(manifest) + 1):
-            handled = reports.get(cut, handled)
-            out = VERDICTS_OUT.splitlines()[: [0, 1, 1, 1, 2, 3][handled]]
-            err = [X_MISSING, fault] if handled >= 4 else [fault]
-            self.expect("md5sum -c", stdin=self.broken_input(manifest[:cut]), out=out, err=err, status=1)
-
 
 class Outputs(Case):
     def test_standard_output_full(self):

@@ -1,4 +1,4 @@
-//! What follows of the laws of `sum_engine`.
+//! What follows from the laws of `sum_engine`.
 ghost use Rattle.std.specs.Prelude.{◌≡◌, ◌≢◌, ◌+◌, List, [], ◌∷◌, ◌++◌, codes, length, take, flat_map, true, slice_range};
 ghost use Rattle.sum_engine.specs.Behavior.{ByteString, Content, Whole, World};
 ghost use Rattle.sum_engine.specs.Execution.{Agrees, PerformsSteps, StreamsState, IsFlushed, world_at};
