@@ -1,7 +1,6 @@
 //! The rules by which a manifest's lines are judged, and what its reports show.
 ghost use Rattle.std.specs.Prelude.{◌≡◌};
 ghost use Rattle.sum_engine.specs.check.Rules.{rules_of};
-ghost use Rattle.sum_lines.specs.Escape.{own_profile};
 
 use crate::settings::{CheckSettings, Report};
 use digest_kinds::Algos;
@@ -19,6 +18,7 @@ pub(crate) struct CheckRules {
 
 impl Model for CheckRules {
     ghost use Rattle.sum_engine.specs.check.Rules.{Rules};
+    ghost use Rattle.sum_lines.specs.Escape.{own_profile};
 
     ghost Value = { Rules };
 
@@ -39,6 +39,8 @@ impl Model for CheckRules {
 }
 
 impl CheckRules {
+    ghost use Rattle.sum_lines.specs.Escape.{own_profile};
+
     /// The rules of these settings.
     pub(crate) fn new(settings: CheckSettings, from_stdin: bool) -> Self
         ensures { result ≡ rules_of settings from_stdin }
