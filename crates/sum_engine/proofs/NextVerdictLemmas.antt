@@ -1,6 +1,5 @@
 -- `Verdicts::next`: the next verdict of a manifest, by what reading and judging its line did.
 use Rattle.std.proofs.Common.{rules, ◌≡◌, ◌∙◌, ℕ, ◌+◌, List, Ok, Err, Result, IfOk, Some, refl, inl, inr, ◌∷◌, ap, sym, arith, length, length-drop, ◌≤◌}
-use Rattle.std.specs.Prelude.{◌⊎◌}
 use Rattle.sum_sources.specs.declared.{line_reader.Next.TheVariants.Line, line_reader.LineReader.LineReader, line_reader.LineStop.LineStop}
 use Rattle.sum_sources.specs.LineReaders.{AdvancesLines, IsBounded, IsReading, ReadsOn, consumed_count, reads_of, remaining}
 use Rattle.sum_sources.specs.{Contents.IsOf, ManifestLines.lines, ManifestLines.past_line}
@@ -10,7 +9,7 @@ use Rattle.sum_engine.specs.{check.Rules.Rules, check.CheckStates.CheckState, ch
 use Rattle.sum_engine.specs.check.Judge.{lines_under, line_verdict, asks_of, form_then, line_form, own_profile}
 use Rattle.sum_engine.specs.check.Verdicts.{LineVerdict, line_verdict_value, InEachCheck, IsNextVerdict, AsksFor, VerdictsValue, counts_after, state_at}
 use Rattle.sum_engine.specs.Behavior.{World, Content, InputState, SourceState, after}
-use Rattle.sum_engine.specs.{Execution.Agrees, Execution.world_at, refinement.Names.NoRoom, refinement.Names.MemoryWasRefused}
+use Rattle.sum_engine.specs.{Execution.Agrees, Execution.world_at, refinement.Names.NoRoom}
 use Rattle.sum_engine.specs.refinement.Judging.{TakesLine, parsed_at, found_verdict}
 use Rattle.sum_engine.proofs.{WorldLemmas.world_after, RemainingLemmas.remaining_next}
 

@@ -1,5 +1,5 @@
 -- A text of one piece is given to a sink. `a`, `b` and `c` are the sink before, between and after.
-use Rattle.std.proofs.Common.{ℕ, zero, suc, ◌≡◌, ◌<◌, ◌≤◌, ◌+◌, List, [], ◌∷◌, ◌++◌, length, take, drop, filter_map, Ok, Err, inl, inr, refl, ap, append_assoc, append-nil, arith, rules}
+use Rattle.std.proofs.Common.{ℕ, zero, suc, ◌≡◌, ◌<◌, ◌≤◌, List, [], ◌∷◌, ◌++◌, length, take, drop, filter_map, Ok, Err, inl, inr, refl, ap, append_assoc, append-nil, arith, rules}
 use Rattle.std.proofs.lemmas.List.Elements.{filter_map-append}
 use Rattle.sum_lines.specs.Sinks.{SinkState, OutputEvent, WritesSome, OffersEach, GivesAll, offer_piece, write_byte, written_byte, byte_events, output_events}
 use Rattle.sum_lines.proofs.EventLemmas.{one_piece}

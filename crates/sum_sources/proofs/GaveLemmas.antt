@@ -1,5 +1,5 @@
 -- What the openings of a name gave, after one more opening and after a closing.
-use Rattle.std.proofs.Common.{◌≡◌, ℕ, zero, suc, Bool, true, false, List, [], ◌∷◌, ◌++◌, length, slice_set, Option, None, Some, Result, Ok, IfSome, refl, ap, sym, ◌∙◌, append-nil, bytes_eq, arith}
+use Rattle.std.proofs.Common.{◌≡◌, ℕ, zero, suc, Bool, true, false, List, [], ◌∷◌, ◌++◌, length, slice_set, Option, None, Some, Result, Ok, IfSome, refl, ap, sym, append-nil, bytes_eq, arith}
 use Rattle.std.{proofs.lemmas.Slice.Eq.bytes_eq-Decides, proofs.lemmas.List.Elements.filter_map-append, specs.Prelude.slice_get, specs.Prelude.if◌then◌else◌, specs.Option.option_and_then}
 use Rattle.sum_sources.specs.{Contents.Content, Contents.Reads, Contents.InputState, Contents.HasContent, Contents.IsSameInput, Contents.Fault, Sources.Answer, Sources.Opening, Sources.SourceState, Sources.ToldAnswers, Sources.IsOpen, Sources.IsOfAnswer, Sources.GivesTold, Sources.names_of, Sources.times, Sources.gave_of, Sources.closed_at, Sources.opened_file, Sources.and_opening, Sources.after_closing, Sources.HashesOpened, Contents.HashesInput}
 use Rattle.digest_kinds.specs.Kinds.{KindValue}

@@ -1,8 +1,8 @@
 -- `Inputs`: what an opening and a closing keep.
 use Rattle.std.proofs.Common.{◌≡◌, ℕ, zero, suc, true, false, List, [], ◌∷◌, ◌++◌, length, slice_set, Option, None, Some, Result, Ok, IfSome, refl, ap, sym, ◌∙◌, codes, bytes_eq, arith}
-use Rattle.std.specs.Prelude.{filter, not, if◌then◌else◌}
-use Rattle.std.{specs.List.cons_option, specs.Option.option_and_then, specs.Option.option_map, specs.Result.result_ok, proofs.lemmas.Slice.Eq.bytes_eq-Decides}
-use Rattle.sum_sources.specs.{Contents.Content, Contents.InputState, Contents.Reads, Contents.Fault, Contents.HasContent, Contents.unread, Contents.empty_content, StandardInput.unless_closed, StandardInput.GivesUnread, StandardInput.given_by, StandardInput.put_back, StandardInput.taken, Sources.Answer, Sources.Answers, Sources.Pair, Sources.TellsAll, Sources.Opening, Sources.SourceState, Sources.ToldAnswers, Sources.names_of, Sources.times, Sources.gave_of, Sources.closed_at, Sources.content_at, Sources.opened_file, Sources.IsOpen, Sources.IsOfAnswer, Inputs.is_dash, Inputs.given_once, Inputs.with_stdin, Inputs.tells_both, Inputs.answers_with, Inputs.inputs_state, Inputs.without_dash, refinement.InputsStates.IsPlaceOf, refinement.InputsStates.GivesStdin, refinement.InputsStates.InputsInvariant, declared.inputs.stdin.StdinPlace.StdinPlace, declared.inputs.stdin.StdinPlace.TheVariants.Untaken, declared.inputs.stdin.StdinPlace.TheVariants.Taken, declared.inputs.stdin.StdinPlace.TheVariants.Returned, declared.inputs.closable.Closable.Closable, declared.inputs.closable.Closable.TheVariants.Closed, Contents.Whole, Contents.Unfinished}
+use Rattle.std.specs.Prelude.{filter, not}
+use Rattle.std.{specs.Option.option_and_then, specs.Option.option_map, specs.Result.result_ok, proofs.lemmas.Slice.Eq.bytes_eq-Decides}
+use Rattle.sum_sources.specs.{Contents.Content, Contents.InputState, Contents.Reads, Contents.Fault, Contents.HasContent, Contents.unread, Contents.empty_content, StandardInput.unless_closed, StandardInput.GivesUnread, StandardInput.given_by, StandardInput.put_back, StandardInput.taken, Sources.Answer, Sources.Opening, Sources.SourceState, Sources.ToldAnswers, Sources.names_of, Sources.times, Sources.gave_of, Sources.closed_at, Sources.opened_file, Sources.IsOpen, Sources.IsOfAnswer, Inputs.is_dash, Inputs.given_once, Inputs.tells_both, Inputs.inputs_state, Inputs.without_dash, refinement.InputsStates.IsPlaceOf, refinement.InputsStates.GivesStdin, refinement.InputsStates.InputsInvariant, declared.inputs.stdin.StdinPlace.StdinPlace, declared.inputs.stdin.StdinPlace.TheVariants.Untaken, declared.inputs.stdin.StdinPlace.TheVariants.Taken, declared.inputs.stdin.StdinPlace.TheVariants.Returned, declared.inputs.closable.Closable.Closable, declared.inputs.closable.Closable.TheVariants.Closed, Contents.Whole, Contents.Unfinished}
 use Rattle.sum_sources.proofs.GaveLemmas.{either, same_name, nothing, of_content, gives-more, gives-closed, gave-times, gave-append, gave-opening, gave-closing}
 
 -- names that differ also differ the other way round

@@ -1,5 +1,5 @@
 -- The lines of a manifest.
-use Rattle.std.specs.Prelude.{ℕ, zero, suc, ◌≡◌, ◌+◌, ◌==◌, false, List, [], ◌∷◌, ◌++◌, map, All, ◌<◌, ◌-◌, take, length, slice_index_or, Result, Ok, Err, flat_map}
+use Rattle.std.specs.Prelude.{ℕ, zero, suc, ◌≡◌, ◌+◌, ◌==◌, false, List, [], ◌∷◌, ◌++◌, map, All, ◌<◌, ◌-◌, take, length, slice_index_or, Result, Ok, Err}
 use Rattle.std.{specs.List.slice_split, specs.List.after_first, specs.Str.Lines.strip_carriage_return}
 use Rattle.digest_kinds.specs.Bytes.{ByteString}
 use Rattle.sum_sources.specs.Contents.{Ending, Whole, Broken, Content}
