@@ -42,7 +42,8 @@ def function_of(crate, path):
     parts = path.split("/")
     for count in range(len(parts) - 1, 0, -1):
         if os.path.exists(os.path.join(TOP, "crates", crate, "src", *parts[:count]) + ".rt") and parts[count:-1]:
-            return re.sub(r"(?:Input|Source|Sink|Hasher|Iterator|FromStr|(?<=Arguments)Arguments)(?=::)", "", "::".join(parts[count:-1]))
+            traits = r"(?:Input|Source|Sink|Hasher|Iterator|FromStr|(?<=Arguments)Arguments)(?=::)"
+            return re.sub(traits, "", "::".join(parts[count:-1]))
     return parts[-1]
 
 
