@@ -2,7 +2,7 @@
 use Rattle.std.proofs.Common.{ℕ, Bool, [], Result, refl}
 use Rattle.sum_engine.specs.declared.stop.Stop.{Stop}
 use Rattle.sum_engine.specs.{Behavior.single_step, Behavior.ByteString, Execution.OutputsState, Execution.StreamsState, Execution.Performs}
-use Rattle.sum_engine.specs.refinement.FlushedWrites.{WritesAndReturns}
+use Rattle.sum_engine.specs.refinement.Writes.{WritesAndReturns}
 use Rattle.sum_engine.proofs.{WorldLemmas.asks_none, BehaviorLemmas.Performs-step}
 use Rattle.digests.specs.Meaning.{status_of}
 

@@ -4,7 +4,7 @@ use Rattle.std.proofs.{Math.Bool.and_assoc, lemmas.Bool.and_parts}
 use Rattle.sum_engine.proofs.WorldLemmas.{reads_then, agrees_before, world_after}
 use Rattle.sum_engine.specs.declared.stop.Stop.{Stop}
 use Rattle.sum_engine.specs.Behavior.{World, after, Step, Behavior, trace, asks, ByteString}
-use Rattle.sum_engine.specs.Execution.{StreamsState, IsFlushed, ReadsToEndIf, Agrees, world_at, Happened, Performs, PerformsSteps}
+use Rattle.sum_engine.specs.Execution.{StreamsState, ReadsToEndIf, Agrees, world_at, Happened, Performs, PerformsSteps}
 use Rattle.sum_engine.proofs.BehaviorLemmas.{behavior_then-happened, behavior_then-first, behavior_then-second, events_extend}
 use Rattle.sum_words.specs.refinement.ItemIterator.{TakesFirst}
 use Rattle.digests.specs.Meaning.{operands_behavior, status_of}
@@ -32,11 +32,11 @@ abbrev PerformsFrom : (World → ByteString → Behavior) → World → List Byt
 PerformsFrom one w names good a b r =
     let all = operands_behavior one w names in PerformsSteps all.steps (status_of (good && all.good)) a b r
 
--- the operands before the rest were done, from x to y: if both outputs were flushed, the rest completes the whole
+-- the operands before the rest were done, from x to y: the rest completes the whole
 pub record HasReached (one : World → ByteString → Behavior) (names rest : List ByteString) (x y : StreamsState)
     (good : Bool) : Type 0 where
   pub reads : ReadsToEndIf (good ≡ true) x.inputs y.inputs
-  pub completes : IsFlushed x.outputs → (w : World) → Agrees w y.inputs → (z : StreamsState) (r : Result ℕ Stop)
+  pub completes : (w : World) → Agrees w y.inputs → (z : StreamsState) (r : Result ℕ Stop)
       → PerformsFrom one (world_at w y.inputs) rest good y z r
       → PerformsFrom one (world_at w x.inputs) names true x z r
 
@@ -44,28 +44,28 @@ module _ {one : World → ByteString → Behavior} {names : List ByteString} whe
   -- one more operand happened
   pub operands_done_step : {Whole : Type 0} {good : Bool} {name : ByteString} {rest : List ByteString}
       {x y : StreamsState} (this : Bool) (z : StreamsState) → HasReached one names (name ∷ rest) x y good
-      → (IsFlushed x.outputs → IsFlushed y.outputs) → (this ≡ true → Whole) → ReadsToEndIf Whole y.inputs z.inputs
+      → (this ≡ true → Whole) → ReadsToEndIf Whole y.inputs z.inputs
       → Performs (λ w. one w name) (λ g. g) y z (Ok this) → HasReached one names rest x z (good && this)
-  operands_done_step {good = good} {name = name} {y = y} this z h kept whole reads k = record {
+  operands_done_step {good = good} {name = name} {y = y} this z h whole reads k = record {
     reads = reads_then (λ all. let parts = and_parts good this all in (parts.0, whole parts.1)) h.reads reads;
-    completes = λ flushed w agrees end r did.
-        let q = k (kept flushed) w agrees in
+    completes = λ w agrees end r did.
+        let q = k w agrees in
         let run = one (world_at w y.inputs) name in
         let world = world_after w y.inputs z.inputs (asks run) (events_extend run y z q.1).0 in
-        h.completes flushed w (agrees_before agrees reads) end r
+        h.completes w (agrees_before agrees reads) end r
         (steps_then end _ run.steps _ r q.1 (rw (world, q.0, and_assoc) at did));
   }
 
   -- the next operand stopped the run
   pub operands_done_stop : {Whole : Type 0} {good : Bool} {name : ByteString} {rest : List ByteString}
       {x y : StreamsState} (stop : Stop) (z : StreamsState) → HasReached one names (name ∷ rest) x y good
-      → (IsFlushed x.outputs → IsFlushed y.outputs) → ReadsToEndIf Whole y.inputs z.inputs
+      → ReadsToEndIf Whole y.inputs z.inputs
       → Performs (λ w. one w name) (λ g. g) y z (Err stop)
       → Performs (λ w. operands_behavior one w names) status_of x z (Err stop)
-  operands_done_stop {good = good} {name = name} {rest = rest} {y = y} stop z h kept reads k = λ flushed w agrees.
+  operands_done_stop {good = good} {name = name} {rest = rest} {y = y} stop z h reads k = λ w agrees.
       let v = world_at w y.inputs in
       let run = one v name in
       let later = operands_behavior one (after v (asks run)) rest in
-      h.completes flushed w (agrees_before agrees reads) z (Err stop)
+      h.completes w (agrees_before agrees reads) z (Err stop)
       (behavior_then-first y z (status_of (good && (run.good && later.good))) run.good run.steps later.steps stop
-      (k (kept flushed) w agrees))
+      (k w agrees))

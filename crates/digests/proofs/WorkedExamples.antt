@@ -140,7 +140,7 @@ checks = (refl, refl, refl, refl, refl, refl, refl)
 -- a run that performed a good behavior and didn't stop: the status is 0, and standard output got the text
 pub good_run : (run : Behavior) (a b : StreamsState) (r : Result ℕ Stop) (text : ByteString)
     → (run.good ≡ true) × (out_text run ≡ text) → PerformsSteps run.steps (status_of run.good) a b r
-    → IfOk r (λ status. (status ≡ 0) × (b.outputs.out.sink.written ≡ a.outputs.out.sink.written ++ text))
+    → IfOk r (λ status. (status ≡ 0) × (b.outputs.out.written ≡ a.outputs.out.written ++ text))
 good_run run a b (Ok status) text is did =
     (did.0 ∙ ap status_of is.0, rw is.1 at (events_extend run a b did.1).2)
 good_run run a b (Err stop) text is did = tt
@@ -161,7 +161,7 @@ empty_stdin w is = rw is (refl, refl)
 pub called_alone : (w : World) (a b : StreamsState) (status : ℕ) → answer_to w (codes "-") ≡ Ok empty_content
     → CommandPerformsIn w (command_line (codes "md5sum" ∷ [])) a b status
     ⊎ (NeedsMemory (codes "md5sum" ∷ []) × CallRefuses not_read_line a b status) → status ≡ 0
-    → b.outputs.out.sink.written ≡ a.outputs.out.sink.written ++ codes "d41d8cd98f00b204e9800998ecf8427e  -\n"
+    → b.outputs.out.written ≡ a.outputs.out.written ++ codes "d41d8cd98f00b204e9800998ecf8427e  -\n"
 unfolding tool_called
 called_alone w a b status is (inl (Ok x, between, did, failed, same, reports)) zero =
     rw reports.1 (good_run (meaning Md5sum [] w) a between (Ok x) _ (empty_stdin w is) did).1

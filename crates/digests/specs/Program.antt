@@ -2,9 +2,9 @@
 use Rattle.std.specs.Prelude.{ℕ, pos, ◌≡◌, ◌⊎◌, true, false, List, [], ⊤, Option, None, Some, Result, Ok, Err, unwrap_or}
 use Rattle.sum_sources.specs.{Contents.Content, Inputs.with_stdin, Sources.Pair}
 use Rattle.sum_sources.specs.declared.{fault.Ending.TheVariants.Broken, fault.Fault.TheVariants.Os}
-use Rattle.sum_lines.specs.{Buffers.BufferState, Sinks.GivesAll}
+use Rattle.sum_lines.specs.Sinks.{SinkState, GivesAll}
 use Rattle.sum_engine.specs.Behavior.{single_step, ByteString}
-use Rattle.sum_engine.specs.Execution.{OutputsState, StreamsState, IsFlushed, FailuresMatch, Performs}
+use Rattle.sum_engine.specs.Execution.{OutputsState, StreamsState, FailuresMatch, Performs}
 use Rattle.sum_words.specs.Arguments.{ArgumentsState, AreOf}
 use Rattle.sum_words.specs.CommandLines.{command_line, NeedsMemory}
 use Rattle.sum_words.specs.declared.tool.Tool.{Tool}
@@ -21,7 +21,7 @@ tool_stop_line (Some tool) stop = stop_line tool stop
 abbrev pub ReportsStop : Option Tool → Result ℕ Stop → OutputsState → OutputsState → ℕ → Type 0
 ReportsStop tool (Ok answer) a b status = (status ≡ answer) × (b ≡ a)
 ReportsStop tool (Err stop) a b status = (status ≡ 1) × (b ≡ record a { err = b.err })
-    × (given : Result ⊤ ⊤) × GivesAll a.err.sink b.err.sink (tool_stop_line tool stop) given
+    × (given : Result ⊤ ⊤) × GivesAll a.err b.err (tool_stop_line tool stop) given
 
 -- THE PROGRAM, for one call: it does what `performs` says, and then reports a stop, if there is a tool
 abbrev pub CallPerforms : Option Tool → (StreamsState → StreamsState → Result ℕ Stop → Type 0)
@@ -39,20 +39,17 @@ abbrev pub CommandPerforms : Option (Tool × List ByteString) → StreamsState �
 CommandPerforms None = CallRefuses unknown_tool_line
 CommandPerforms (Some (tool, words)) = CallPerforms (Some tool) (Performs (meaning tool words) status_of)
 
--- for flushed outputs and each list that agrees: its call is performed or, if it needs memory, that of words not read
+-- for each list that agrees: its call is performed or, if it needs memory, that of words not read
 abbrev pub ProgramPerforms : ArgumentsState → StreamsState → StreamsState → ℕ → Type 0
-ProgramPerforms given a b status = IsFlushed a.outputs → (arguments : List ByteString) → AreOf given arguments
+ProgramPerforms given a b status = (arguments : List ByteString) → AreOf given arguments
     → CommandPerforms (command_line arguments) a b status
     ⊎ (NeedsMemory arguments × CallRefuses not_read_line a b status)
 
 -- ---- the program as the system starts it
 
 -- an output of which no call was made, over a writer that is known to hold this
-abbrev pub fresh_output : Option ByteString → BufferState
-fresh_output held = record {
-  sink = record { offered = []; written = unwrap_or held []; failures = 0; flushed = true };
-  buffered = [];
-}
+abbrev pub fresh_output : Option ByteString → SinkState
+fresh_output held = record { offered = []; written = unwrap_or held []; failures = 0; flushed = true }
 
 -- streams of which nothing was opened, read or written: what is in memory, and what the outputs' writers hold
 abbrev pub fresh_streams : List Pair → Option ByteString → Option ByteString → StreamsState

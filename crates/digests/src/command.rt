@@ -3,36 +3,34 @@ ghost use Rattle.digests.specs.Program.{ProgramPerforms};
 ghost use Rattle.digests.specs.refinement.FinishRun.{Refuses};
 ghost use Rattle.digests.specs.refinement.Messages.{message_text};
 ghost use Rattle.std.specs.Prelude.{◌≡◌, []};
-ghost use Rattle.sum_engine.specs.Execution.{IsFlushed, ReadsToEndIf, failures};
+ghost use Rattle.sum_engine.specs.Execution.{ReadsToEndIf, failures};
 
 use crate::finish::finish_run;
-use crate::messages::{Message, put_err_message};
+use crate::messages::Message;
 use crate::run::run;
 use std::alloc::Allocator;
-use sum_engine::{Outputs, Reader, Streams, outcome_after};
+use sum_engine::{Outputs, Reader, Streams};
 use sum_lines::Sink;
 use sum_sources::Source;
 use sum_words::{Arguments, CommandLine, NotRead, read_command_line};
 
 /// Does what the program was called for, and returns its exit status. If the program was called by a tool's name, as
-/// through a link, it is that tool; otherwise the first word names the tool. If both outputs are flushed at the call,
-/// they are flushed at the end.
+/// through a link, it is that tool; otherwise the first word names the tool.
 ///
 /// If no tool is named, it writes `digests: unknown tool` to standard error, and the status is 1. If memory is needed,
 /// for an argument after the tool's place or for one longer than 4,096 bytes, it may write `digests: words not read`
-/// and nothing else, and the status is 1. After a stop of a tool's run, or if the last flush fails, it writes
-/// `TOOL: memory exhausted` or `TOOL: write error`, or a prefix of that if standard error fails, and the status is 1.
+/// and nothing else, and the status is 1. After a stop of a tool's run, it writes `TOOL: memory exhausted` or
+/// `TOOL: write error`, or a prefix of that if standard error fails, and the status is 1.
 pub fn command<A: Allocator + Copy, G: Arguments, S: Source, O: Sink, E: Sink>(
     alloc: A,
     arguments: &mut G,
     streams: &mut Streams<Reader<S>, Outputs<O, E>>,
 ) -> u8
     requires { (G.state arguments.old).given ≡ [] }
-    // If both outputs are flushed: the behavior of every list of arguments that agrees with what was given, in every
-    // world that agrees with what was read.
+    // The behavior of every list of arguments that agrees with what was given, in every world that agrees with what was
+    // read.
     ensures behavior { ProgramPerforms (G.state arguments.new) streams.old streams.new result }
     ensures told { (G.state arguments.new).told ≡ (G.state arguments.old).told }
-    ensures flushed { IsFlushed streams.old.outputs → IsFlushed streams.new.outputs }
     // The status is 0 only if no call of either output failed. The converse isn't stated.
     ensures no_failures { result ≡ 0 → failures streams.new.outputs ≡ failures streams.old.outputs }
     // The status is 0 only if everything that was opened was read to its end; nothing was read further.
@@ -51,9 +49,8 @@ pub fn command<A: Allocator + Copy, G: Arguments, S: Source, O: Sink, E: Sink>(
 // Writes why no tool is run, and returns the exit status.
 fn refuse<O: Sink, E: Sink>(text: Message, outputs: &mut Outputs<O, E>) -> u8
     ensures refusal { Refuses (message_text text.entry) outputs.old outputs.new result }
-    ensures flushed { IsFlushed outputs.old → IsFlushed outputs.new }
     ensures not_good { result ≡ 0 → ⊥ }
 {
-    let outcome = outcome_after(put_err_message(outputs, text), 1);
+    let outcome = outputs.write_err(&text, 1);
     finish_run(None, outcome, outputs)
 }

@@ -11,8 +11,8 @@ use sum_sources::Source;
 use sum_words::Arguments;
 use sum_words::laws::some_list_agrees;
 
-/// The headline for files in memory, of any types. Suppose that `run` left these streams, and that before it both
-/// outputs were flushed, and the source tells all answers. Then the outputs got exactly the bytes, and `run`
+/// The headline for files in memory, of any types. Suppose that `run` left these streams, and that the source
+/// tells all answers. Then the outputs got exactly the bytes, and `run`
 /// returned exactly the status, that the words mean by these answers; or it stopped, and a prefix of the run happened.
 pub fn told_performs<S: Source, O: Sink, E: Sink>(streams: &Streams<Reader<S>, Outputs<O, E>>)
     ensures { MeansInMemory S.tells streams.now }

@@ -1,11 +1,7 @@
-//! Messages: the texts that the program writes besides lines and reports, each written to an output and flushed.
-ghost use Rattle.digests.specs.refinement.Messages.{message_text};
-ghost use Rattle.std.specs.Prelude.{[]};
-ghost use Rattle.sum_engine.specs.refinement.FlushedWrites.{WritesAndFlushes, WritesAndFlushesBoth};
-ghost use Rattle.sum_lines.specs.Buffers.{WritesAll};
+//! Messages: the texts that the program writes besides lines and reports.
 
-use sum_engine::{Outputs, Stop};
-use sum_lines::{Buffered, Sink, SinkFault};
+use sum_engine::Stop;
+use sum_lines::{Buffered, Sink, SinkFault, Text};
 use sum_words::{
     Tool, WordFault, put_fault, put_help, put_not_read, put_stop, put_unknown, put_version,
 };
@@ -25,45 +21,19 @@ pub(crate) enum Message<'a> {
     Stop(Tool, Stop),
 }
 
-/// Writes a message to standard error and flushes it. If both outputs are flushed before, exactly the text is written
-/// or, if that fails, a prefix of it.
-pub(crate) fn put_err_message<O: Sink, E: Sink>(
-    outputs: &mut Outputs<O, E>,
-    text: Message,
-) -> Result<(), SinkFault>
-    ensures { WritesAndFlushesBoth outputs.old outputs.new (message_text text.entry) [] result }
-{
-    put_message(&mut outputs.err, text)
-}
+impl<'a> Text for Message<'a> {
+    ghost use Rattle.digests.specs.refinement.Messages.{message_text};
 
-/// Writes a message to standard output and flushes it, as [`put_err_message`] does to standard error.
-pub(crate) fn put_out_message<O: Sink, E: Sink>(
-    outputs: &mut Outputs<O, E>,
-    text: Message,
-) -> Result<(), SinkFault>
-    ensures { WritesAndFlushesBoth outputs.old outputs.new [] (message_text text.entry) result }
-{
-    put_message(&mut outputs.out, text)
-}
+    ghost text = { message_text };
 
-/// Writes a message to a buffer and flushes it.
-pub(crate) fn put_message<S: Sink>(sink: &mut Buffered<S>, text: Message) -> Result<(), SinkFault>
-    ensures { WritesAndFlushes sink.old sink.new (message_text text.entry) result }
-{
-    buffer_message(sink, text)?;
-    sink.flush()
-}
-
-// Writes a message to a buffer.
-fn buffer_message<S: Sink>(sink: &mut Buffered<S>, text: Message) -> Result<(), SinkFault>
-    ensures { WritesAll sink.old sink.new (message_text text.entry) result }
-{
-    match text {
-        Message::Fault(tool, fault) => put_fault(sink, tool, fault),
-        Message::Help(tool) => put_help(sink, tool),
-        Message::Version(tool) => put_version(sink, tool),
-        Message::UnknownTool => put_unknown(sink),
-        Message::NotRead => put_not_read(sink),
-        Message::Stop(tool, stop) => put_stop(sink, tool, stop),
+    fn put<S: Sink>(&self, sink: &mut Buffered<S>) -> Result<(), SinkFault> {
+        match *self {
+            Message::Fault(tool, fault) => put_fault(sink, tool, fault),
+            Message::Help(tool) => put_help(sink, tool),
+            Message::Version(tool) => put_version(sink, tool),
+            Message::UnknownTool => put_unknown(sink),
+            Message::NotRead => put_not_read(sink),
+            Message::Stop(tool, stop) => put_stop(sink, tool, stop),
+        }
     }
 }

@@ -1,7 +1,7 @@
 //! The program over what the system gives it. `main` calls nothing else of ours.
 ghost use Rattle.digests.specs.Program.{IsStdinAlone, ProgramPerforms, fresh_streams};
 ghost use Rattle.std.specs.Prelude.{All, ◌≡◌};
-ghost use Rattle.sum_engine.specs.Execution.{IsFlushed, ReadsFile, failures};
+ghost use Rattle.sum_engine.specs.Execution.{ReadsFile, failures};
 
 use crate::command::command;
 use crate::standard_input::standard_input;
@@ -29,7 +29,7 @@ pub struct Ended<G, S> {
 }
 
 /// Does what [`command`] does with the arguments that `env` has, over this standard input, the files that `files` opens
-/// and these outputs. Nothing is read, opened or written before, and both outputs are flushed at the end.
+/// and these outputs. Nothing is read, opened or written before.
 pub fn program<A, R, F, I, O, E>(
     alloc: A,
     env: R,
@@ -51,10 +51,6 @@ where
         (O.contents out) (E.contents err) in
         ProgramPerforms (⟦<SystemArguments<R> as Arguments>⟧.state result.arguments) start
         result.streams result.status }
-    // At the start, as `behavior` assumes, and at the end.
-    ensures flushed { let start = fresh_streams result.streams.inputs.told
-        (O.contents out) (E.contents err) in
-        IsFlushed start.outputs × IsFlushed result.streams.outputs }
     ensures stdin { IsStdinAlone result.streams.inputs.told }
     // The status is 0 only if no call of either output failed.
     ensures no_failures { result.status ≡ 0 → failures result.streams.outputs ≡ (0, 0) }

@@ -2,22 +2,22 @@
 ghost use Rattle.digests.specs.Meaning.{operands_behavior, request_behavior, or_dash, meaning, status_of, allowed_refusals};
 ghost use Rattle.digests.specs.refinement.Operands.{operand_behavior, job_refusals};
 ghost use Rattle.std.specs.Prelude.{◌≡◌, ◌∷◌, true, Ok};
-ghost use Rattle.sum_engine.specs.Execution.{IsFlushed, FailuresMatch, ReadsToEndIf, RefusalsMatch, StopHasCause, Performs};
+ghost use Rattle.sum_engine.specs.Execution.{FailuresMatch, ReadsToEndIf, RefusalsMatch, StopHasCause, Performs};
 ghost use Rattle.sum_words.specs.Request.{request};
 ghost use Rattle.sum_words.specs.Tools.{name_of};
 ghost use Rattle.sum_words.specs.refinement.OptionScan.{result_value};
 
-use crate::messages::{Message, put_err_message, put_out_message};
+use crate::messages::Message;
 use std::alloc::Allocator;
 use sum_engine::{
-    CheckSettings, Outputs, Reader, Settings, Stop, Streams, check_one, generate_one, outcome_after,
+    CheckSettings, Outputs, Reader, Settings, Stop, Streams, check_one, generate_one,
 };
 use sum_lines::Sink;
 use sum_sources::Source;
 use sum_words::{Operands, Request, Tool, WordFault, Words, read_words};
 
 /// Runs a tool on its words, and returns the status: 0 if all is good, otherwise 1 (coreutils manual, "md5sum
-/// invocation"). If both outputs are flushed at the call, they are flushed when it returns.
+/// invocation").
 ///
 /// Returns `Stop::Memory` only if the source was refused memory, or bytes of a manifest were still to come. The first
 /// steps of the behavior then happened: those before an operand or, in checking, before a line of a manifest or its
@@ -28,9 +28,8 @@ pub fn run<A: Allocator + Copy, S: Source, O: Sink, E: Sink>(
     words: &Words<A>,
     streams: &mut Streams<Reader<S>, Outputs<O, E>>,
 ) -> Result<u8, Stop>
-    // If both outputs are flushed: the behavior that the words mean, in every world that agrees with what was read.
+    // The behavior that the words mean, in every world that agrees with what was read.
     ensures behavior { Performs (meaning tool words.now) status_of streams.old streams.new result }
-    ensures flushed { IsFlushed streams.old.outputs → IsFlushed streams.new.outputs }
     // The count of refusals rises only as the request allows.
     ensures refusals { RefusalsMatch (allowed_refusals (request tool words.now)) streams.old.inputs
         streams.new.inputs result }
@@ -56,18 +55,9 @@ fn run_request<A: Allocator + Copy, S: Source, O: Sink, E: Sink>(
     ensures reads { ReadsToEndIf (result ≡ Ok 0) streams.old.inputs streams.new.inputs }
 {
     match asked {
-        Err(fault) => outcome_after(
-            put_err_message(&mut streams.outputs, Message::Fault(tool, &fault)),
-            1,
-        ),
-        Ok(Request::Help) => outcome_after(
-            put_out_message(&mut streams.outputs, Message::Help(tool)),
-            0,
-        ),
-        Ok(Request::Version) => outcome_after(
-            put_out_message(&mut streams.outputs, Message::Version(tool)),
-            0,
-        ),
+        Err(fault) => streams.outputs.write_err(&Message::Fault(tool, &fault), 1),
+        Ok(Request::Help) => streams.outputs.write_out(&Message::Help(tool), 0),
+        Ok(Request::Version) => streams.outputs.write_out(&Message::Version(tool), 0),
         Ok(Request::Generate(settings, operands)) => {
             run_operands(alloc, &Job::Generate(settings), tool, operands, streams)
         }

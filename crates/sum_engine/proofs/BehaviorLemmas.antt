@@ -5,7 +5,7 @@ use Rattle.sum_lines.specs.Sinks.{written_byte}
 use Rattle.sum_lines.proofs.EventLemmas.{output_events-bytes}
 use Rattle.sum_engine.specs.Execution.{Stop, Memory, Write, StreamsState, AsksNames, Agrees, world_at, Happened, with_refusals, PerformsSteps, Performs}
 use Rattle.sum_engine.specs.Behavior.{World, Step, Behavior, trace, events_of, opened_name, err_event, out_event, single_step}
-use Rattle.sum_engine.specs.{check.Checker.step_then, check.CheckerLaws.EventsExtend, refinement.FlushedWrites.WritesAndReturns}
+use Rattle.sum_engine.specs.{check.Checker.step_then, check.CheckerLaws.EventsExtend, refinement.Writes.WritesAndReturns}
 use Rattle.sum_engine.specs.refinement.Names.{MemoryWasRefused}
 use Rattle.sum_engine.proofs.ExecutionLemmas.{step_performed, kind-all, kind-none, Happened-none, Happened-then, refused_first}
 
@@ -78,14 +78,14 @@ pub Performs-step : {A : Type 0} (run : World → Behavior) (outcome : Bool → 
     {names : List (List ℕ)} {err out : List ℕ} {x : Result A Stop} → AsksNames a.inputs b.inputs names
     → ((w : World) → Agrees w b.inputs → run (world_at w a.inputs) ≡ single_step names err out good)
     → WritesAndReturns a.outputs b.outputs err out (outcome good) x → Performs run outcome a b x
-Performs-step run outcome good a b asked is said = λ flushed w agrees.
-    rw (is w agrees) (step_performed 0 asked flushed said)
+Performs-step run outcome good a b {x = x} asked is said = λ w agrees.
+    rw (is w agrees) (step_performed 0 x asked said)
 
 -- the source had no memory to open the first step's name
 pub Performs-refused : {A : Type 0} (run : World → Behavior) (outcome : Bool → A) (a b : StreamsState)
     → ((w : World) → (s : Step) × (rest : List Step) × ((run w).steps ≡ s ∷ rest))
     → MemoryWasRefused a.inputs b.inputs → b.outputs ≡ a.outputs → Performs run outcome a b (Err Memory)
-Performs-refused run outcome a b first refused outputs = λ flushed w agrees.
+Performs-refused run outcome a b first refused outputs = λ w agrees.
     let next = first (world_at w a.inputs) in
     refused_first next.0 next.1 next.2 outputs (inl refused)
 

@@ -11,10 +11,10 @@ use Rattle.sum_engine.specs.check.Checker.{ReportsFound, Progress, Going, Ended,
 use Rattle.sum_sources.specs.declared.{inputs.phase.Phase.TheVariants.Unfinished, line_reader.LineStop.TheVariants.Fault, line_reader.LineStop.TheVariants.Memory}
 use Rattle.sum_engine.specs.{check.CheckerLaws.RunsManifest, check.ReadAhead.StopsAtStep}
 use Rattle.sum_engine.specs.declared.stop.Stop.TheVariants as stops
-use Rattle.sum_engine.specs.Execution.{Stop, Write, OutputsState, StreamsState, IsFlushed, Agrees, ReadsToEndIf, world_at, PerformsSteps, StopHasCause}
-use Rattle.sum_engine.specs.refinement.FlushedWrites.{outcome_after, WritesAndFlushesBoth, WritesAndReturns}
+use Rattle.sum_engine.specs.Execution.{Stop, Write, OutputsState, StreamsState, Agrees, ReadsToEndIf, world_at, PerformsSteps, StopHasCause}
+use Rattle.sum_engine.specs.refinement.Writes.{WritesAndReturns}
 use Rattle.sum_engine.proofs.ReadAheadLemmas.{read_fits_clip, stops_at_step}
-use Rattle.sum_engine.proofs.{CountLemmas.counts_then-none, ExecutionLemmas.one_at_most, FlushedWriteLemmas.returned}
+use Rattle.sum_engine.proofs.{CountLemmas.counts_then-none, ExecutionLemmas.one_at_most}
 use Rattle.sum_engine.proofs.WorldLemmas.{agrees_before, reads_none, reads_then}
 use Rattle.sum_engine.proofs.BehaviorLemmas.{HasDoneUpTo, done_none, done_more, done_stops}
 
@@ -55,9 +55,9 @@ done_last {whole} c step later (Err stop) h is k =
 good_found : {I : Type 0} (q : VerdictsValue I) (labels : LabelsValue) (vector : List ℕ) (found : VerdictResult)
     (a b : OutputsState) → ReportsFound q labels vector found a b (Ok (Ended true))
     → (found ≡ Ok None) × (q.counts.unread ≡ 0)
-good_found q labels vector (Ok None) a b h = let p = returned h.written h.returns in search rules
+good_found q labels vector (Ok None) a b h = let p = h.writes.0 in search rules
 good_found q labels vector (Err Memory) a b h = let p = h.0 in cc
-good_found q labels vector found a b h = let p = returned h.written h.returns in cc
+good_found q labels vector found a b h = let p = h.writes.0 in cc
 
 -- a step goes on only after a line
 going_found : {I : Type 0} (q : VerdictsValue I) (labels : LabelsValue) (vector : List ℕ) (found : VerdictResult)
@@ -65,28 +65,25 @@ going_found : {I : Type 0} (q : VerdictsValue I) (labels : LabelsValue) (vector 
     → (v : LineVerdict) × (found ≡ Ok (Some v))
 going_found q labels vector (Ok (Some v)) a b h = (v, refl)
 going_found q labels vector (Err Memory) a b h = let p = h.0 in cc
-going_found q labels vector found a b h = let p = returned h.written h.returns in cc
+going_found q labels vector found a b h = let p = h.writes.0 in cc
 
 -- a text was written, or a prefix of it, and no memory was refused
-wrote_cause : {A : Type 0} {a b : StreamsState} {err out : List ℕ} {y : A} {x : Result A Stop} {allowed : List ℕ}
+wrote_cause : {A : Type 0} {a b : StreamsState} {err out : List ℕ} {y : A} (x : Result A Stop) {allowed : List ℕ}
     → b.inputs.refusals ≡ a.inputs.refusals → WritesAndReturns a.outputs b.outputs err out y x
     → StopHasCause allowed a b x
-wrote_cause {A} {a} {b} {err} {out} {y} {allowed = allowed} same h = rw h.returns (by h.written h.writes)
-  where
-    by : (w : Result (Unit {0}) (Unit {0})) → WritesAndFlushesBoth a.outputs b.outputs err out w
-        → StopHasCause {A = A} allowed a b (outcome_after w y)
-    by (Ok u) wrote = record { flushed = λ f. (wrote.1 f).0; refusals = same; failures = wrote.0 }
-    by (Err e) wrote = record { flushed = λ f. (wrote.1 f).0; refusals = same; failures = wrote.0 }
+wrote_cause (Ok z) same h = record { refusals = same; failures = h.failures }
+wrote_cause (Err Write) same h = record { refusals = same; failures = h.failures }
+wrote_cause (Err stops.Memory) same h = absurd h.writes
 
 -- a step stops only if memory was refused, at most once, or bytes remained, or one output failed
 cause_found : {I : Type 0} (q : VerdictsValue I) (labels : LabelsValue) (vector : List ℕ) (found : VerdictResult)
     (a b : StreamsState) {x : Result Progress Stop} → AsksFor vector a.inputs b.inputs found
     → ReportsFound q labels vector found a.outputs b.outputs x → StopHasCause (0 ∷ 1 ∷ []) a b x
 cause_found q labels vector (Err Memory) a b asked h = rw h.0
-    (record { flushed = λ f. rw h.1 f; refusals = one_at_most a.inputs b.inputs asked; failures = rw h.1 refl })
-cause_found q labels vector (Err (Fault f)) a b asked h = wrote_cause asked.refusals h
-cause_found q labels vector (Ok (Some v)) a b asked h = wrote_cause asked.refusals h
-cause_found q labels vector (Ok None) a b asked h = wrote_cause asked.refusals h
+    (record { refusals = one_at_most a.inputs b.inputs asked; failures = rw h.1 refl })
+cause_found q labels vector (Err (Fault f)) a b asked h = wrote_cause _ asked.refusals h
+cause_found q labels vector (Ok (Some v)) a b asked h = wrote_cause _ asked.refusals h
+cause_found q labels vector (Ok None) a b asked h = wrote_cause _ asked.refusals h
 
 -- the cause of a stop of a step that ends or stops, after steps that went on
 cause_ends : {a b c : StreamsState} (x : Result Bool Stop) → StopHasCause {A = Bool} (0 ∷ 1 ∷ []) a b (Ok true)
@@ -125,9 +122,9 @@ module _ {I : Type 0} (state : I → InputState) (first : CheckerValue I) (m : S
   abbrev left : CheckState → Behavior
   left a = remaining_behavior first.verdicts.rules first.labels a
 
-  -- P holds between the state there and the state at another place and streams, if both outputs were flushed
+  -- P holds between the state there and the state at another place and streams
   abbrev HoldsUpTo : VerdictsValue I → StreamsState → (CheckState → CheckState → Type 0) → Type 0
-  HoldsUpTo q n P = IsFlushed m.outputs → InEachCheck state first.verdicts q m.inputs n.inputs P
+  HoldsUpTo q n P = InEachCheck state first.verdicts q m.inputs n.inputs P
 
   -- the check came from the state a to b: what is done and what is left is all, and so is what is consumed and what
   -- remains of the content
@@ -151,7 +148,7 @@ module _ {I : Type 0} (state : I → InputState) (first : CheckerValue I) (m : S
   -- before its first step, a check has come as far as its new checker
   pub HasComeTo-none : first.outcome ≡ None → HasComeTo first m
   HasComeTo-none none =
-      let happened : HoldsUpTo first.verdicts m (λ a b. ComesTo a b m) = λ flushed.
+      let happened : HoldsUpTo first.verdicts m (λ a b. ComesTo a b m) =
       record { holds = λ reading c of w agrees. search (rules, done_none) } in
       search (rules, reads_none, happened)
 
@@ -162,12 +159,12 @@ module _ {I : Type 0} (state : I → InputState) (first : CheckerValue I) (m : S
       → ((a b d : CheckState) → ComesTo a b n
       → IsStep first.verdicts.rules first.labels vector b d n o x → P a d)
       → HoldsUpTo next.verdicts o P
-  one_more_step {q = q} {n = n} next o vector x h advances step follows = λ flushed. record {
+  one_more_step {q = q} {n = n} next o vector x h advances step follows = record {
     holds = λ reading c of w agrees.
         let here = h.reading reading in
-        follows _ _ _ ((h.happened flushed).holds reading c (advances.verdict.before here c of) w
+        follows _ _ _ (h.happened.holds reading c (advances.verdict.before here c of) w
         (agrees_before agrees advances.verdict.reads))
-        (rw (h.rules, h.labels) at ((step (h.so_far.flushed flushed)).holds here c of w agrees));
+        (rw (h.rules, h.labels) at (step.holds here c of w agrees));
   }
 
   -- after a step that goes on, the checker has come one line further
@@ -223,10 +220,10 @@ module _ {I : Type 0} (state : I → InputState) (first : CheckerValue I) (m : S
 
       -- the check ended or stopped as it does from the first line on
       from_start : was.phase ≡ Unfinished → (c : Content) → IsOf (reads_past (length was.bytes) now) c
-          → IsFlushed m.outputs → (w : World) → Agrees w o.inputs
+          → (w : World) → Agrees w o.inputs
           → EndsAs x taken o (manifest_behavior first.verdicts.rules first.labels (clip c) (world_at w m.inputs))
           (clip c)
-      from_start going c of flushed w agrees =
+      from_start going c of w agrees =
           let before : length was.bytes ≡ length now.bytes - taken =
           omega (arith, none, h.taken, advances.verdict.reader.taken) in
           let ended : HoldsUpTo last.verdicts o (λ a d. a.consumed ≡ 0 → EndsAs x d.taken o (left a) a.remaining) =
@@ -238,7 +235,7 @@ module _ {I : Type 0} (state : I → InputState) (first : CheckerValue I) (m : S
           subst (λ all. EndsAs x taken o all (clip c))
           (remaining-initial first.verdicts.rules first.labels (clip c) here)
           (subst (λ a. a.consumed ≡ 0 → EndsAs x taken o (left a) a.remaining) (state-initial start c here)
-          ((ended flushed).holds (start.reading going) c (subst (λ n. IsOf (reads_past n now) c) before of) w agrees)
+          (ended.holds (start.reading going) c (subst (λ n. IsOf (reads_past n now) c) before of) w agrees)
           refl)
 
       -- The step that ends completes the manifest's behavior. One that stops leaves a prefix of it after a write fault,
@@ -247,11 +244,11 @@ module _ {I : Type 0} (state : I → InputState) (first : CheckerValue I) (m : S
       pub HasComeTo-last : RunsManifest first.verdicts.rules first.labels (state first.verdicts.reader.input)
           (state last.verdicts.reader.input) m o x
       HasComeTo-last = record {
-        behavior = λ going c of flushed w agrees. (from_start going c of flushed w agrees).performs;
-        stopped = λ going c of flushed w agrees.
+        behavior = λ going c of w agrees. (from_start going c of w agrees).performs;
+        stopped = λ going c of w agrees.
             let past = (reading going).past in
             let fits = read_fits_clip now.phase _ c past of (rw size advances.verdict.bounds.taken) in
-            rw size ((from_start going c of flushed w agrees).stopped (rw size at fits));
+            rw size ((from_start going c of w agrees).stopped (rw size at fits));
         manifest = λ going.
             ((reading going).past, λ good. (reading going).end (advances.verdict.end (good_at good).0));
         same = search rules;

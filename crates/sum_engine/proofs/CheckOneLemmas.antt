@@ -10,7 +10,7 @@ use Rattle.sum_engine.specs.{check.CheckerLaws.RunsManifest, check.Rules.rules_o
 use Rattle.sum_engine.specs.{check.Checking.CheckSettings, check.Checking.check_behavior_by, check.Checking.check_behavior, Generation.name_fault_line}
 use Rattle.sum_engine.specs.check.ReadAhead.{StopsAtLine}
 use Rattle.sum_engine.specs.Execution.{Stop, Memory, asked, OutputsState, StreamsState, world_at, Happened, Performs}
-use Rattle.sum_engine.specs.{refinement.FlushedWrites.WritesAndReturns, refinement.Names.MemoryWasRefused}
+use Rattle.sum_engine.specs.{refinement.Writes.WritesAndReturns, refinement.Names.MemoryWasRefused}
 use Rattle.sum_engine.proofs.{ExecutionLemmas.Happened-by, ExecutionLemmas.Happened-then, ExecutionLemmas.kept_performs, WorldLemmas.world_after}
 use Rattle.sum_engine.proofs.{BehaviorLemmas.behind_step, BehaviorLemmas.Performs-step, BehaviorLemmas.Performs-refused, CheckLinesLemmas.manifest_behavior}
 use Rattle.sum_engine.proofs.OpenedNameLemmas.{WasOpened, fault_asks, fault_answer}
@@ -52,9 +52,9 @@ module _ (settings : CheckSettings) (tool name : List ℕ) (a : StreamsState) wh
           (world_at w m)
 
       pub check_opened : (x : Result Bool Stop) → Ran x → Performed (record b { inputs = n }) x
-      check_opened x run = λ flushed w agrees.
+      check_opened x run = λ w agrees.
           let (c, answer, of) = o.answer w agrees in
-          let ran = (rw fresh at run.behavior) refl c of flushed w (o.agrees w agrees) in
+          let ran = (rw fresh at run.behavior) refl c of w (o.agrees w agrees) in
           let whole = check_behavior settings tool (world_at w a.inputs) name in
           kept_performs whole.steps whole.good a b n x o.asked o.refusals
           (rw (answer, ← world_after w a.inputs m (name ∷ []) o.asks)
@@ -62,11 +62,11 @@ module _ (settings : CheckSettings) (tool name : List ℕ) (a : StreamsState) wh
 
       pub check_stops : (x : Result Bool Stop) → Ran x → StoppedAt (record b { inputs = n }) x
       check_stops (Ok good) run = tt {0}
-      check_stops (Err stop) run = λ flushed w agrees c answer r gave.
+      check_stops (Err stop) run = λ w agrees c answer r gave.
           let (d, is, of) = o.answer w agrees in
           let same : d ≡ c = search (rules, is, answer) in
           let read : t.reads ≡ r = search (rules, o.gave, gave) in
-          let ran = (rw fresh at run.stopped) refl c (subst (λ c. IsOf t.reads c) same of) flushed w
+          let ran = (rw fresh at run.stopped) refl c (subst (λ c. IsOf t.reads c) same of) w
           (o.agrees w agrees) in
           rw (answer, ← world_after w a.inputs m (name ∷ []) o.asks, ← read) (record {
             done = opening name ∷ ran.done;
@@ -93,7 +93,7 @@ module _ (settings : CheckSettings) (tool name : List ℕ) (a : StreamsState) wh
   pub not_read : (m : SourceState) (f : Fault) (outputs : OutputsState) (x : Result Bool Stop)
       → m ≡ and_opening a.inputs name (Some (Err f)) → StoppedAt (record a { inputs = m; outputs = outputs }) x
   not_read m f outputs (Ok good) opens = tt {0}
-  not_read m f outputs (Err stop) opens = λ flushed w agrees c answer r gave.
+  not_read m f outputs (Err stop) opens = λ w agrees c answer r gave.
       let fault = fault_answer a.inputs m name f opens w agrees in cc
 
   -- there was no memory to open the manifest
@@ -110,7 +110,7 @@ module _ (settings : CheckSettings) (tool name : List ℕ) (a : StreamsState) wh
 
   -- so it gave nothing
   pub not_asked : (m : SourceState) → MemoryWasRefused a.inputs m → StoppedAt (from_inputs m) (Err Memory)
-  not_asked m refused = λ flushed w agrees c answer r gave.
+  not_asked m refused = λ w agrees c answer r gave.
       let past = slice_get_past (gave_of a.inputs.openings name) (times name (asked a.inputs))
       (rw gave-times (omega arith)) in
       let none : gave_at a.inputs.openings name (times name (asked a.inputs)) ≡ None = rw past refl in

@@ -5,9 +5,9 @@ use Rattle.std.proofs.lemmas.{List.map-append, List.Elements.filter_map-append}
 use Rattle.sum_lines.specs.Sinks.{Gets}
 use Rattle.sum_lines.proofs.EventLemmas.{Gets-none, Gets-then}
 use Rattle.sum_engine.specs.Behavior.{Event, Step, SourceState, OutputEvent, output_events, open_name, to_err, to_out}
-use Rattle.sum_engine.specs.refinement.FlushedWrites.{WritesBoth, WritesAndReturns, outcome_after}
+use Rattle.sum_engine.specs.refinement.Writes.{WritesBoth, WritesAndReturns}
 use Rattle.sum_engine.specs.refinement.Names.{MemoryWasRefused}
-use Rattle.sum_engine.specs.Execution.{StreamsState, IsFlushed, asked, AsksNames, Stop, Memory, Write, Happened, RunsOutOfMemory, with_refusals, PerformsSteps}
+use Rattle.sum_engine.specs.Execution.{StreamsState, asked, AsksNames, Stop, Memory, Write, Happened, RunsOutOfMemory, with_refusals, PerformsSteps}
 use Rattle.sum_engine.proofs.WorldLemmas.{asks_none, asks_then}
 
 -- ---- what of a step's events is of each kind
@@ -32,8 +32,8 @@ kind-none f h none (x ∷ xs) = search (rules, kind-none f h none xs)
 
 -- these names were opened, and the outputs got these events
 pub Happened-by : {a b : StreamsState} (names : List (List ℕ)) (err out : List OutputEvent)
-    → AsksNames a.inputs b.inputs names → Gets a.outputs.err.sink b.outputs.err.sink err
-    → Gets a.outputs.out.sink b.outputs.out.sink out
+    → AsksNames a.inputs b.inputs names → Gets a.outputs.err b.outputs.err err
+    → Gets a.outputs.out b.outputs.out out
     → Happened a b (events_by names err out)
 Happened-by names err out h p q = search (rules, filter_map-append, kind-all, kind-none)
 
@@ -51,24 +51,23 @@ Happened-then p q h k =
 
 -- the names were opened and the texts written, or a prefix of them: the step that has these was performed
 pub step_performed : {A : Type 0} {a b : StreamsState} {names : List (List ℕ)} {err out : List ℕ} {x : A}
-    {r : Result A Stop} (remaining : ℕ) → AsksNames a.inputs b.inputs names → IsFlushed a.outputs
+    (remaining : ℕ) (r : Result A Stop) → AsksNames a.inputs b.inputs names
     → WritesAndReturns a.outputs b.outputs err out x r
     → PerformsSteps (record { names = names; err = err; out = out; remaining = remaining } ∷ []) x a b r
-step_performed {A} {a} {b} {names} {err} {out} {x} remaining asked flushed said =
-    rw said.returns (by said.written (said.writes.1 flushed).1)
+step_performed {A} {a} {b} {names} {err} {out} {x} remaining r asked said = by r said.writes
   where
-    by : (w : Result (Unit {0}) (Unit {0})) → WritesBoth a.outputs b.outputs err out w
-        → PerformsSteps (record { names = names; err = err; out = out; remaining = remaining } ∷ []) x a b
-        (outcome_after w x)
-    by (Ok u) h = rw append-nil (refl, Happened-by names _ _ asked h.0 h.1)
-    by (Err e) (inl (h, same)) =
+    by : (r : Result A Stop) → WritesBoth a.outputs b.outputs err out x r
+        → PerformsSteps (record { names = names; err = err; out = out; remaining = remaining } ∷ []) x a b r
+    by (Ok y) h = rw append-nil (h.0, Happened-by names _ _ asked h.1 h.2)
+    by (Err Write) (inl (h, same)) =
         let rest : List Event = map to_err h.1 ++ map to_out (output_events out) in
         let did = Happened-by names h.0 [] asked h.3 (rw same Gets-none) in
         rw append-nil (events_by names h.0 [], rest, search (rules, map-append, append_assoc), did)
-    by (Err e) (inr (all, h)) =
+    by (Err Write) (inr (all, h)) =
         let rest : List Event = map to_out h.1 in
         let did = Happened-by names _ h.0 asked all h.3 in
         rw append-nil (events_by names (output_events err) h.0, rest, search (rules, map-append, append_assoc), did)
+    by (Err Memory) h = absurd h
 
 -- memory was refused for the first step, or bytes of the manifest remained, and nothing happened
 pub refused_first : {a b : StreamsState} {steps : List Step} (next : Step) (later : List Step) → steps ≡ next ∷ later

@@ -3,7 +3,6 @@ pub mod OpenedNameLemmas
 pub mod HashLemmas
 pub mod ExecutionLemmas
 pub mod GenerateLemmas
-pub mod FlushedWriteLemmas
 pub mod VerdictLemmas
 pub mod CountLemmas
 pub mod RemainingLemmas

@@ -1,13 +1,13 @@
 -- One step of a checker, `Checker::step`: the next verdict was found, and its text was written.
-use Rattle.std.proofs.Common.{◌≡◌, ℕ, Bool, false, List, [], length, None, Some, Result, Ok, Err, inl, inr, refl, ap, sym, ◌∙◌, arith}
+use Rattle.std.proofs.Common.{◌≡◌, ℕ, Bool, false, List, [], length, None, Some, Result, Ok, Err, inl, inr, refl, ap, ◌∙◌, arith}
 use Rattle.sum_engine.specs.Behavior.{Ending, Whole, Broken, World, Content, InputState, SourceState}
 use Rattle.sum_sources.specs.LineReaders.{remaining}
 use Rattle.sum_engine.specs.{check.Rules.LabelsValue, check.CheckStates.CheckState, check.CheckStates.remaining_verdicts, check.CheckStates.remaining_behavior}
 use Rattle.sum_engine.specs.check.Reports.{err_of, out_of, end_text, good}
 use Rattle.sum_engine.specs.check.Verdicts.{VerdictsValue, state_at, InEachCheck, AdvancesVerdicts, VerdictResult, line_verdict_value, IsNextVerdict, HasNoVerdictLeft}
 use Rattle.sum_engine.specs.check.Checker.{ReportsFound, Progress, Going, Ended, TakesStep}
-use Rattle.sum_engine.specs.Execution.{Stop, Memory, StreamsState, AsksNames, world_at}
-use Rattle.sum_engine.specs.{refinement.FlushedWrites.WritesAndReturns, refinement.FlushedWrites.outcome_after}
+use Rattle.sum_engine.specs.Execution.{Stop, Memory, OutputsState, StreamsState, AsksNames, world_at}
+use Rattle.sum_engine.specs.refinement.Writes.{WritesAndReturns}
 use Rattle.sum_engine.proofs.{ExecutionLemmas.step_performed, ExecutionLemmas.refused_first, CountLemmas.counts_then-nil}
 use Rattle.sum_engine.proofs.RemainingLemmas.{line_step, behavior_by, first_step, found_first, going-before}
 use Rattle.sum_sources.specs.declared.line_reader.LineStop.TheVariants as line_stops
@@ -24,9 +24,9 @@ InEachCheck-map {a = a} {b = b} h f =
 -- ---- a step, by the verdict that was found
 
 -- who writes a text doesn't run out of memory
-not_refused : {A : Type 0} (x : A) (w : Result (Unit {0}) (Unit {0})) → Err Memory ≡ outcome_after w x → ⊥
-not_refused x (Ok u) is = cc
-not_refused x (Err e) is = cc
+not_refused : {A : Type 0} {a b : OutputsState} {err out : List ℕ} {x : A} {r : Result A Stop}
+    → WritesAndReturns a b err out x r → r ≡ Err Memory → ⊥
+not_refused said is = (rw is at said).writes
 
 -- from p and the streams a to q and the streams b
 module _ {I : Type 0} {state : I → InputState} {p q : VerdictsValue I} (a b : StreamsState) (labels : LabelsValue)
@@ -38,13 +38,13 @@ module _ {I : Type 0} {state : I → InputState} {p q : VerdictsValue I} (a b : 
         → AsksNames a.inputs b.inputs [] → q.rules ≡ p.rules → outcome ≡ good q.rules e q.counts
         → WritesAndReturns a.outputs b.outputs (end_text q.rules labels e q.counts) [] (Ended outcome) y
         → TakesStep state vector labels p q a b y
-    step_end e outcome found asked same sum wrote = λ flushed.
+    step_end e outcome {y} found asked same sum wrote =
         InEachCheck-map found (λ c v w f.
         let r = p.rules in
         let said : WritesAndReturns a.outputs b.outputs (end_text r labels e p.counts) [] (Ended outcome) _ =
         rw (same, f.counts) at wrote in
         let k = remaining p.reader c in
-        let did = step_performed (length k.bytes) asked flushed said in
+        let did = step_performed (length k.bytes) y asked said in
         record {
           step = record { names = []; err = end_text r labels e p.counts; out = []; remaining = length k.bytes };
           later = record { steps = []; good = outcome };
@@ -53,7 +53,7 @@ module _ {I : Type 0} {state : I → InputState} {p q : VerdictsValue I} (a b : 
           performs = did;
           going = λ h. let no = (rw h at did).0 in cc;
           failed = λ h. inl refl;
-          refused = λ h. absurd (not_refused _ said.written (sym h ∙ said.returns));
+          refused = λ h. absurd (not_refused said h);
         })
 
     -- the next verdict was found, and then it was reported
@@ -62,7 +62,7 @@ module _ {I : Type 0} {state : I → InputState} {p q : VerdictsValue I} (a b : 
         → AdvancesVerdicts state vector p q a.inputs b.inputs x
         → ReportsFound q labels vector x a.outputs b.outputs y → TakesStep state vector labels p q a b y
     -- a line had a verdict; its report is written, and the lines after it remain
-    step_taken (Ok (Some v)) found did reported = λ flushed.
+    step_taken (Ok (Some v)) {y} found did reported =
         let j = line_verdict_value vector v in
         let said : WritesAndReturns a.outputs b.outputs (err_of p.rules labels j) (out_of p.rules labels j) Going _ =
         rw did.rules at reported in
@@ -74,17 +74,17 @@ module _ {I : Type 0} {state : I → InputState} {p q : VerdictsValue I} (a b : 
           step = line_step p.rules labels (length k.bytes) j;
           later = remaining_behavior p.rules labels next;
           is = found_first p.rules labels first next j f.0.first f.0.counts f.1.remaining;
-          performs = rw (going-before p.rules labels next) (step_performed _ did.asked flushed said);
+          performs = rw (going-before p.rules labels next) (step_performed _ y did.asked said);
           going = λ is. (refl, f.1);
           failed = λ is. inr (refl, f.1);
-          refused = λ is. absurd (not_refused _ said.written (sym is ∙ said.returns));
+          refused = λ is. absurd (not_refused said is);
         })
     -- no line was left; the end is written, and nothing remains
     step_taken (Ok None) found did reported = step_end Whole _ found did.asked did.rules refl reported
     step_taken (Err (line_stops.Fault f)) found did reported =
         step_end (Broken f) false found did.asked did.rules refl reported
     -- memory ran out before the verdict; nothing is written, and all remains
-    step_taken (Err line_stops.Memory) found did reported = λ flushed.
+    step_taken (Err line_stops.Memory) found did reported =
         rw reported.0 (InEachCheck-map found (λ c v w f.
         let k = remaining p.reader c in
         let first = first_step p.rules labels k.ending p.counts k (remaining_verdicts p.rules (state_at p k v)) in

@@ -3,27 +3,23 @@ use Rattle.std.specs.Prelude.{ℕ, ◌≡◌, ◌≢◌, ◌+◌, ◌⊎◌, Boo
 use Rattle.sum_sources.specs.declared.fault.Ending.TheVariants as ending
 use Rattle.sum_sources.specs.declared.{inputs.phase.Phase.TheVariants.Ended, inputs.phase.Phase.TheVariants.Past}
 pub use Rattle.sum_sources.specs.Sources.{Opening, IsOfAnswer, names_of, gave_at}
-use Rattle.sum_lines.specs.{Sinks.Gets, Buffers.BufferState}
-use Rattle.sum_lines.specs.Buffers as buffers
+use Rattle.sum_lines.specs.Sinks.{SinkState, Gets}
 pub use Rattle.sum_engine.specs.declared.streams.Streams.{Streams}
 pub use Rattle.sum_engine.specs.declared.stop.Stop.{Stop}
 pub use Rattle.sum_engine.specs.declared.stop.Stop.TheVariants.{Memory, Write}
 use Rattle.sum_engine.specs.Behavior.{ByteString, World, Event, Step, Behavior, trace, opened_name, err_event, out_event, Reads, SourceState, Fault}
 
+-- both outputs, which hold nothing between calls: what each sink was offered, and what it wrote
 pub record OutputsState : Type 0 where
-  pub out : BufferState
-  pub err : BufferState
+  pub out : SinkState
+  pub err : SinkState
 
 abbrev pub StreamsState : Type 0
 StreamsState = Streams SourceState OutputsState
 
--- both outputs are flushed
-abbrev pub IsFlushed : OutputsState → Type 0
-IsFlushed m = buffers.IsFlushed m.out × buffers.IsFlushed m.err
-
 -- how often a call of standard output failed, and how often one of standard error
 abbrev pub failures : OutputsState → ℕ × ℕ
-failures m = (m.out.sink.failures, m.err.sink.failures)
+failures m = (m.out.failures, m.err.failures)
 
 -- a write fault comes with one more failure, of one output, and any other result with none
 abbrev pub FailuresMatch : {A : Type 0} → OutputsState → OutputsState → Result A Stop → Type 0
@@ -36,9 +32,8 @@ abbrev pub RefusalsMatch : {A : Type 0} → List ℕ → SourceState → SourceS
 RefusalsMatch allowed a b (Err Memory) = Any (λ n. b.refusals ≡ a.refusals + n) allowed
 RefusalsMatch allowed a b r = b.refusals ≡ a.refusals
 
--- a call that may stop keeps flushed outputs flushed, and a stop has its cause
+-- a stop has its cause
 pub record StopHasCause {A : Type 0} (allowed : List ℕ) (a b : StreamsState) (r : Result A Stop) : Type 0 where
-  pub flushed : IsFlushed a.outputs → IsFlushed b.outputs
   pub refusals : RefusalsMatch allowed a.inputs b.inputs r
   pub failures : FailuresMatch a.outputs b.outputs r
 
@@ -80,8 +75,8 @@ pub record AsksNames (a b : SourceState) (names : List ByteString) : Type 0 wher
 -- these events happened: the names were opened, and each output was offered its pieces and wrote its bytes
 pub record Happened (a b : StreamsState) (es : List Event) : Type 0 where
   pub inputs : AsksNames a.inputs b.inputs (filter_map opened_name es)
-  pub err : Gets a.outputs.err.sink b.outputs.err.sink (filter_map err_event es)
-  pub out : Gets a.outputs.out.sink b.outputs.out.sink (filter_map out_event es)
+  pub err : Gets a.outputs.err b.outputs.err (filter_map err_event es)
+  pub out : Gets a.outputs.out b.outputs.out (filter_map out_event es)
 
 -- the streams with this count of the source's refusals
 abbrev pub with_refusals : ℕ → StreamsState → StreamsState
@@ -105,9 +100,9 @@ PerformsSteps steps x a b (Ok outcome) = (outcome ≡ x) × Happened a b (trace 
 PerformsSteps steps x a b (Err Write) = (front rest : List Event) × (trace steps ≡ front ++ rest) × Happened a b front
 PerformsSteps steps x a b (Err Memory) = RunsOutOfMemory steps a b
 
--- a call performs a behavior, if both outputs are flushed before: its steps, in each world that agrees with what was
--- read by the end of the call; what it returns depends on `good`
+-- a call performs a behavior: its steps, in each world that agrees with what was read by the end of the call; what it
+-- returns depends on `good`
 abbrev pub Performs : {A : Type 0} → (World → Behavior) → (Bool → A) → StreamsState → StreamsState → Result A Stop
     → Type 0
-Performs behavior outcome a b r = IsFlushed a.outputs → (w : World) → Agrees w b.inputs
+Performs behavior outcome a b r = (w : World) → Agrees w b.inputs
     → let all = behavior (world_at w a.inputs) in PerformsSteps all.steps (outcome all.good) a b r

@@ -23,11 +23,11 @@
 mod check;
 mod generate;
 pub mod laws;
-mod put_flushed;
 mod reader;
 mod settings;
 mod stop;
 mod streams;
+mod tool_lines;
 
 pub use check::check_one::check_one;
 pub use check::checker::Checker;
@@ -35,7 +35,6 @@ pub use check::judge::{LineVerdict, Verdict};
 pub use check::progress::Progress;
 pub use check::verdicts::Verdicts;
 pub use generate::generate_one;
-pub use put_flushed::outcome_after;
 pub use reader::Reader;
 pub use settings::{CheckSettings, Report, Settings};
 pub use stop::Stop;

@@ -1,18 +1,20 @@
 //! The streams of a call.
-ghost use Rattle.std.specs.Prelude.{◌≡◌, []};
+ghost use Rattle.std.specs.Prelude.{◌≡◌, true, []};
+ghost use Rattle.sum_engine.specs.refinement.Writes.{WritesAndReturns};
 
 use crate::reader::Reader;
+use crate::stop::Stop;
 use std::marker::Model;
-use sum_lines::{Buffered, Sink};
+use sum_lines::{Sink, Text, TextOutput};
 use sum_sources::Source;
 
 /// Both outputs.
 #[derive(Debug, Drop)]
 pub struct Outputs<O: Sink, E: Sink> {
     /// Standard output.
-    pub out: Buffered<O>,
+    pub out: TextOutput<O>,
     /// Standard error.
-    pub err: Buffered<E>,
+    pub err: TextOutput<E>,
 }
 
 impl<O: Sink, E: Sink> Model for Outputs<O, E> {
@@ -23,8 +25,28 @@ impl<O: Sink, E: Sink> Model for Outputs<O, E> {
     ghost view = { λ outputs. record { out = outputs.out; err = outputs.err } };
 }
 
-/// What a call reads from and writes to. What contracts say about bytes assumes that the outputs are flushed at the
-/// call.
+impl<O: Sink, E: Sink> Outputs<O, E> {
+    /// Writes a text to standard error, and then returns `outcome`. Returns `Stop::Write` if that fails; a prefix of
+    /// the text was then written. For the crates above.
+    #[doc(hidden)]
+    pub fn write_err<X: Text, T: Drop>(&mut self, text: &X, outcome: T) -> Result<T, Stop>
+        ensures { WritesAndReturns self.old self.new (X.text text.now) [] outcome result }
+    {
+        self.err.write(text)?;
+        Ok(outcome)
+    }
+
+    /// Writes a text to standard output, and then returns `outcome`, as [`Outputs::write_err`] does.
+    #[doc(hidden)]
+    pub fn write_out<X: Text, T: Drop>(&mut self, text: &X, outcome: T) -> Result<T, Stop>
+        ensures { WritesAndReturns self.old self.new [] (X.text text.now) outcome result }
+    {
+        self.out.write(text)?;
+        Ok(outcome)
+    }
+}
+
+/// What a call reads from and writes to.
 #[derive(Debug, Drop)]
 pub struct Streams<In, Out> {
     /// What it opens and reads through: [`Reader`].
@@ -34,19 +56,19 @@ pub struct Streams<In, Out> {
 }
 
 impl<S: Source, O: Sink, E: Sink> Streams<Reader<S>, Outputs<O, E>> {
-    /// Creates the streams of these parts, with an empty buffer over each output.
+    /// Creates the streams of these parts. The outputs are over sinks that are flushed, as each is before its first
+    /// call.
     pub fn new(source: S, out: O, err: E) -> Self
+        requires out { (O.state out).flushed ≡ true }
+        requires err { (E.state err).flushed ≡ true }
         ensures inputs { result.inputs ≡ S.state source }
-        ensures outputs { result.outputs ≡ record {
-          out = record { sink = O.state out; buffered = [] };
-          err = record { sink = E.state err; buffered = [] };
-        } }
+        ensures outputs { result.outputs ≡ record { out = O.state out; err = E.state err } }
     {
         Streams {
             inputs: Reader::new(source),
             outputs: Outputs {
-                out: Buffered::new(out),
-                err: Buffered::new(err),
+                out: TextOutput::new(out),
+                err: TextOutput::new(err),
             },
         }
     }

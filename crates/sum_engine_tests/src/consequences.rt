@@ -1,7 +1,7 @@
 //! What follows from the laws of `sum_engine`.
 ghost use Rattle.std.specs.Prelude.{◌≡◌, ◌≢◌, ◌+◌, List, [], ◌∷◌, ◌++◌, codes, length, take, flat_map, true, slice_range};
 ghost use Rattle.sum_engine.specs.Behavior.{ByteString, Content, Whole, World};
-ghost use Rattle.sum_engine.specs.Execution.{Agrees, PerformsSteps, StreamsState, IsFlushed, world_at};
+ghost use Rattle.sum_engine.specs.Execution.{Agrees, PerformsSteps, StreamsState, world_at};
 ghost use Rattle.sum_engine.specs.Generation.{generate_behavior};
 ghost use Rattle.sum_engine.specs.check.CheckStates.{CheckState, initial_state};
 ghost use Rattle.sum_engine.specs.check.CheckerLaws.{StepsGoing};
@@ -31,7 +31,6 @@ pub fn hash_in_some_world<S: Source, O: Sink, E: Sink>(
     name: &[u8],
     streams: &mut Streams<Reader<S>, Outputs<O, E>>,
 ) -> Result<bool, Stop>
-    requires { IsFlushed streams.old.outputs }
     ensures { (w : World) × Agrees w streams.new.inputs × PerformsSteps
         (generate_behavior settings.now tool.now (world_at w streams.old.inputs) name.now).steps
         (generate_behavior settings.now tool.now (world_at w streams.old.inputs) name.now).good
@@ -45,7 +44,7 @@ pub fn hash_in_some_world<S: Source, O: Sink, E: Sink>(
 pub fn reports_so_far()
     ensures { (r : Rules) (labels : LabelsValue) (c : Content) (w : World) (b : CheckState) (s t : StreamsState)
         (vectors : List ByteString) → StepsGoing r labels (initial_state c w) b s t vectors
-        → t.outputs.out.sink.written ≡ s.outputs.out.sink.written ++ flat_map (λ step. step.out)
+        → t.outputs.out.written ≡ s.outputs.out.written ++ flat_map (λ step. step.out)
         (take (length vectors) (content_behavior r labels c (all_verdicts r w c)).steps) }
 {
     steps_join();

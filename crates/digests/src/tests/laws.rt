@@ -3,7 +3,6 @@ ghost use Rattle.digests.specs.GenerationRuns.{HasFiles, IsListable};
 ghost use Rattle.digests.specs.Meaning.{meaning, status_of};
 ghost use Rattle.std.specs.Prelude.{ℕ, ◌≡◌, ◌<◌, ◌∷◌, ◌++◌, [], List, Ok, IfOk, Some, codes, length};
 ghost use Rattle.sum_engine.specs.Behavior.{Whole, World, answer_to, out_text, err_text};
-ghost use Rattle.sum_engine.specs.Execution.{IsFlushed};
 ghost use Rattle.sum_sources.specs.Contents.{empty_content, limit};
 ghost use Rattle.sum_sources.specs.Sources.{Answer, Answers, TellsAll};
 ghost use Rattle.sum_words.specs.Items.{ByteString};
@@ -26,10 +25,10 @@ fn run_on_e<A: Allocator + Copy, S: Source, O: Sink, E: Sink>(
     streams: &mut Streams<Reader<S>, Outputs<O, E>>,
 ) -> Result<u8, Stop>
     requires words { words.now ≡ codes "e" ∷ [] }
-    requires start { IsFlushed streams.old.outputs × (streams.old.inputs.openings ≡ []) }
+    requires start { streams.old.inputs.openings ≡ [] }
     ensures { (answer : Answers) → TellsAll S.tells streams.old.inputs.told answer →
         answer (codes "e") 0 ≡ Ok empty_content → IfOk result (λ status. (status ≡ 0)
-        × (streams.new.outputs.out.sink.written ≡ streams.old.outputs.out.sink.written
+        × (streams.new.outputs.out.written ≡ streams.old.outputs.out.written
         ++ codes "d41d8cd98f00b204e9800998ecf8427e  e\n")) }
 {
     let outcome = run(alloc, Tool::Md5sum, words, streams);
@@ -45,10 +44,10 @@ fn command_on_nothing<A: Allocator + Copy, G: Arguments, S: Source, O: Sink, E: 
 ) -> u8
     requires new { (G.state arguments.old).given ≡ [] }
     requires told { (G.state arguments.old).told ≡ Some (codes "md5sum" ∷ []) }
-    requires start { IsFlushed streams.old.outputs × (streams.old.inputs.openings ≡ []) }
+    requires start { streams.old.inputs.openings ≡ [] }
     ensures { (answer : Answers) → TellsAll S.tells streams.old.inputs.told answer →
         answer (codes "-") 0 ≡ Ok empty_content → result ≡ 0 →
-        streams.new.outputs.out.sink.written ≡ streams.old.outputs.out.sink.written
+        streams.new.outputs.out.written ≡ streams.old.outputs.out.written
         ++ codes "d41d8cd98f00b204e9800998ecf8427e  -\n" }
 {
     let status = command(alloc, arguments, streams);

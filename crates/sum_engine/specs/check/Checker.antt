@@ -4,8 +4,8 @@ pub use Rattle.sum_engine.specs.declared.check.progress.Progress.{Progress}
 pub use Rattle.sum_engine.specs.declared.check.progress.Progress.TheVariants.{Going, Ended}
 use Rattle.sum_sources.specs.declared.line_reader.LineStop.TheVariants.{Fault, Memory}
 use Rattle.sum_engine.specs.Behavior.{ByteString, Whole, Broken, Step, Behavior, InputState}
-use Rattle.sum_engine.specs.Execution.{Stop, OutputsState, StreamsState, PerformsSteps, IsFlushed}
-use Rattle.sum_engine.specs.{refinement.FlushedWrites.WritesAndReturns, check.Rules.Rules, check.Rules.LabelsValue}
+use Rattle.sum_engine.specs.Execution.{Stop, OutputsState, StreamsState, PerformsSteps}
+use Rattle.sum_engine.specs.{refinement.Writes.WritesAndReturns, check.Rules.Rules, check.Rules.LabelsValue}
 use Rattle.sum_engine.specs.check.Reports.{out_of, err_of, end_text, good}
 use Rattle.sum_engine.specs.check.CheckStates.{CheckState, HandlesLine, remaining_behavior}
 use Rattle.sum_engine.specs.check.ReadAhead.{remaining_before}
@@ -44,11 +44,11 @@ pub record IsStep (r : Rules) (labels : LabelsValue) (vector : ByteString) (a b 
   pub refused : x ≡ Err stops.Memory
       → b.taken + remaining_before later.steps ≤ a.consumed + length a.remaining.bytes + 8192
 
--- the call takes a step of the check, if both outputs are flushed at the call
+-- the call takes a step of the check
 abbrev pub TakesStep : {I : Type 0} → (I → InputState) → ByteString → LabelsValue → VerdictsValue I → VerdictsValue I
     → StreamsState → StreamsState → Result Progress Stop → Type 0
-TakesStep state vector labels p q a b x = IsFlushed a.outputs
-    → InEachCheck state p q a.inputs b.inputs (λ c d. IsStep p.rules labels vector c d a b x)
+TakesStep state vector labels p q a b x =
+    InEachCheck state p q a.inputs b.inputs (λ c d. IsStep p.rules labels vector c d a b x)
 
 -- the result of a step that ends or stops a check with this outcome
 abbrev pub ends : Result Bool Stop → Result Progress Stop

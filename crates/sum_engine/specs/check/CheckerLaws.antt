@@ -1,7 +1,7 @@
 -- The laws of a checker's steps over a whole manifest, and of the lines that precede a line.
 use Rattle.std.specs.Prelude.{ℕ, ◌≡◌, ◌+◌, ◌≤◌, ◌↔◌, Bool, true, List, [], ◌∷◌, take, length, Result, ◌++◌, Ok, IfErr, slice_index_or}
 use Rattle.sum_lines.specs.grammar.Shapes.{IsPlain, KindValue}
-use Rattle.sum_engine.specs.Execution.{Stop, StreamsState, IsFlushed, Agrees, world_at, StopHasCause, IsAtEndIf, ReadsToEndIf, AsksNames, Happened, PerformsSteps, Performs}
+use Rattle.sum_engine.specs.Execution.{Stop, StreamsState, Agrees, world_at, StopHasCause, IsAtEndIf, ReadsToEndIf, AsksNames, Happened, PerformsSteps, Performs}
 use Rattle.sum_sources.specs.{Contents.IsSameInput, Contents.reads_past, declared.inputs.phase.Phase.TheVariants.Unfinished}
 use Rattle.sum_engine.specs.Behavior.{ByteString, IsOf, InputState, Behavior, trace, out_text, err_text, asks, World, Content, clip}
 use Rattle.sum_engine.specs.{check.Rules.Rules, check.Rules.LabelsValue, check.Checking.content_behavior}
@@ -18,7 +18,7 @@ pub record RunsManifest (r : Rules) (labels : LabelsValue) (s t : InputState) (a
       → Performs (λ w. content_behavior r labels (clip c) (all_verdicts r w (clip c))) (λ good. good) a b x
   -- if it stopped: at which step of that behavior, and that it read at most 8192 bytes past its line
   pub stopped : s.reads.phase ≡ Unfinished → let read = reads_past (length s.reads.bytes) t.reads in
-      (c : Content) → IsOf read c → IsFlushed a.outputs → (w : World) → Agrees w b.inputs → IfErr x (λ stop.
+      (c : Content) → IsOf read c → (w : World) → Agrees w b.inputs → IfErr x (λ stop.
       StopsAtStep stop (content_behavior r labels (clip c) (all_verdicts r (world_at w a.inputs) (clip c))).steps
       (clip c) (length read.bytes) a b)
   pub manifest : s.reads.phase ≡ Unfinished → IsAtEndIf (x ≡ Ok true) t.reads
@@ -32,8 +32,8 @@ pub record RunsManifest (r : Rules) (labels : LabelsValue) (s t : InputState) (a
 abbrev pub EventsExtend : Type 0
 EventsExtend = (r : Behavior) (a b : StreamsState) → Happened a b (trace r.steps)
     → AsksNames a.inputs b.inputs (asks r)
-    × (b.outputs.err.sink.written ≡ a.outputs.err.sink.written ++ (err_text r))
-    × (b.outputs.out.sink.written ≡ a.outputs.out.sink.written ++ (out_text r))
+    × (b.outputs.err.written ≡ a.outputs.err.written ++ (err_text r))
+    × (b.outputs.out.written ≡ a.outputs.out.written ++ (out_text r))
 
 -- steps that each returned Going, one after another; after them the line's vector held these, one by one
 abbrev pub StepsGoing : Rules → LabelsValue → CheckState → CheckState → StreamsState → StreamsState → List ByteString

@@ -1,7 +1,7 @@
 //! Checking one manifest.
 ghost use Rattle.std.specs.Prelude.{◌≡◌, true, [], ◌∷◌, None, Ok, IfErr, codes, if◌then◌else◌};
 ghost use Rattle.sum_sources.specs.Inputs.{is_dash};
-ghost use Rattle.sum_engine.specs.Execution.{IsFlushed, FailuresMatch, RefusalsMatch, Performs, ReadsToEndIf};
+ghost use Rattle.sum_engine.specs.Execution.{FailuresMatch, RefusalsMatch, Performs, ReadsToEndIf};
 ghost use Rattle.sum_engine.specs.check.CheckerLaws.{RunsManifest};
 ghost use Rattle.sum_engine.specs.check.Checking.{check_behavior};
 ghost use Rattle.sum_engine.specs.check.ReadAhead.{StopsAtLine};
@@ -9,11 +9,11 @@ ghost use Rattle.sum_engine.specs.check.Verdicts.{IsAtStart};
 
 use crate::check::checker::Checker;
 use crate::check::progress::Progress;
-use crate::put_flushed::{outcome_after, put_name_fault_line};
 use crate::reader::Reader;
 use crate::settings::CheckSettings;
 use crate::stop::Stop;
 use crate::streams::{Outputs, Streams};
+use crate::tool_lines::NameFaultLine;
 use std::alloc::Allocator;
 use sum_lines::Sink;
 use sum_sources::{Input, OpenFault, Source, is_dash};
@@ -32,10 +32,9 @@ pub fn check_one<A: Allocator + Copy, S: Source, O: Sink, E: Sink>(
     name: &[u8],
     streams: &mut Streams<Reader<S>, Outputs<O, E>>,
 ) -> Result<bool, Stop>
-    // If both outputs are flushed: the behavior of checking that name, in every world that agrees with what was read.
+    // The behavior of checking that name, in every world that agrees with what was read.
     ensures behavior { Performs (λ w. check_behavior settings tool.now w name.now) (λ good. good)
         streams.old streams.new result }
-    ensures flushed { IsFlushed streams.old.outputs → IsFlushed streams.new.outputs }
     // Returns true only if the manifest and each file that was opened were read to their ends; none was read further.
     ensures reads { ReadsToEndIf (result ≡ Ok true) streams.old.inputs streams.new.inputs }
     // After a stop: at most 8,192 bytes of the manifest were read past the line of the step at which it came.
@@ -50,8 +49,9 @@ pub fn check_one<A: Allocator + Copy, S: Source, O: Sink, E: Sink>(
         Ok(opened) => opened,
         Err(OpenFault::Memory) => return Err(Stop::Memory),
         Err(OpenFault::Fault(fault)) => {
-            let written = put_name_fault_line(&mut streams.outputs, tool, shown, fault);
-            return outcome_after(written, false);
+            let name = shown;
+            let line = NameFaultLine { tool, name, fault };
+            return streams.outputs.write_err(&line, false);
         }
     };
     let from_stdin = is_dash(name);

@@ -10,11 +10,11 @@ use crate::check::report::put_report;
 use crate::check::rules::Labels;
 use crate::check::summary::put_summary;
 use crate::check::verdicts::Verdicts;
-use crate::put_flushed::{outcome_after, put_name_fault_line};
 use crate::reader::Reader;
 use crate::settings::CheckSettings;
 use crate::stop::Stop;
 use crate::streams::{Outputs, Streams};
+use crate::tool_lines::NameFaultLine;
 use std::alloc::Allocator;
 use std::marker::Model;
 use sum_lines::Sink;
@@ -42,7 +42,6 @@ impl<'a, I> Model for Checker<'a, I> {
 }
 
 impl<'a, I: Input> Checker<'a, I> {
-    ghost use Rattle.sum_engine.specs.Execution.{IsFlushed};
     ghost use Rattle.sum_engine.specs.check.Checker.{AdvancesChecker, TakesStep, outcome_in_step};
     ghost use Rattle.sum_engine.specs.check.Verdicts.{IsAtStart, KeepsOutcome};
 
@@ -108,15 +107,13 @@ impl<'a, I: Input> Checker<'a, I> {
         // An outcome is returned again; the checker and the streams are unchanged.
         ensures outcome { KeepsOutcome outcome_in_step self.old.outcome self.new.outcome
             ((self.new ≡ self.old) × (streams.new ≡ streams.old)) result }
-        // If both outputs are flushed: the next step of the behavior, for every content and in every world that agree
-        // with what was read.
+        // The next step of the behavior, for every content and in every world that agree with what was read.
         ensures step { self.old.outcome ≡ None → TakesStep I.state line.new.items self.old.labels
             self.old.verdicts self.new.verdicts streams.old streams.new result }
         // What was found, and what was written about it.
         ensures advances { self.old.outcome ≡ None
             → AdvancesChecker I.state line.new.items self.old self.new streams.old
             streams.new result }
-        ensures flushed { IsFlushed streams.old.outputs → IsFlushed streams.new.outputs }
     {
         match self.outcome {
             None => {}
@@ -158,12 +155,13 @@ fn report_found<I: Input, O: Sink, E: Sink>(
     match found {
         Err(LineStop::Memory) => Err(Stop::Memory),
         Err(LineStop::Fault(fault)) => {
-            let written = put_name_fault_line(outputs, labels.tool, labels.manifest, fault);
-            outcome_after(written, Progress::Ended(false))
+            let (tool, name) = (labels.tool, labels.manifest);
+            let line = NameFaultLine { tool, name, fault };
+            outputs.write_err(&line, Progress::Ended(false))
         }
         Ok(None) => {
-            let written = put_summary(outputs, rules, labels, verdicts.counts());
-            outcome_after(written, Progress::Ended(verdicts.is_good()))
+            let ended = Progress::Ended(verdicts.is_good());
+            put_summary(outputs, rules, labels, verdicts.counts(), ended)
         }
         Ok(Some(found)) => {
             // An ignored line returns here, since each call would slow it.
@@ -171,8 +169,7 @@ fn report_found<I: Input, O: Sink, E: Sink>(
                 return Ok(Progress::Going);
             }
             let (number, verdict, name) = (found.number, found.verdict, found.name(line));
-            let written = put_report(outputs, rules, labels, number, verdict, name);
-            outcome_after(written, Progress::Going)
+            put_report(outputs, rules, labels, number, verdict, name)
         }
     }
 }

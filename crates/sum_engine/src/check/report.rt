@@ -1,21 +1,25 @@
 //! The lines that checking writes about a manifest's lines.
 ghost use Rattle.std.specs.List.{concat};
 ghost use Rattle.std.specs.Prelude.{◌≡◌, [], ◌∷◌};
+ghost use Rattle.sum_engine.specs.check.Checker.{Going};
 ghost use Rattle.sum_engine.specs.check.Reports.{bad_line, err_by, out_by, tag_word};
 ghost use Rattle.sum_engine.specs.declared.settings.Report.TheVariants.{All};
-ghost use Rattle.sum_engine.specs.refinement.FlushedWrites.{WritesAndFlushes, WritesAndFlushesBoth};
+ghost use Rattle.sum_engine.specs.refinement.Writes.{WritesAndReturns};
 ghost use Rattle.sum_lines.specs.Escape.{own_profile, escape, escape_differs};
+ghost use Rattle.sum_lines.specs.Sinks.{GivesAll};
 ghost use Rattle.sum_lines.specs.grammar.Shapes.{mark};
 
 use crate::check::judge::Verdict;
+use crate::check::progress::Progress;
 use crate::check::rules::{CheckRules, Labels};
-use crate::put_flushed::{put_name_fault, put_parts_flushed};
 use crate::settings::Report;
+use crate::stop::Stop;
 use crate::streams::Outputs;
+use crate::tool_lines::NameFaultLine;
 use digest_kinds::Algos;
-use sum_lines::{Buffered, Part, Sink, SinkFault, mark_and_name};
+use sum_lines::{Part, Parts, Sink, SinkFault, TextOutput, mark_and_name};
 
-/// Writes the report of a line with this number, verdict and name: first to `err`, and then to `out`.
+/// Writes the report of a line with this number, verdict and name: first to `err`, and then to `out`. Returns `Going`.
 pub(crate) fn put_report<O: Sink, E: Sink>(
     outputs: &mut Outputs<O, E>,
     rules: CheckRules,
@@ -23,22 +27,23 @@ pub(crate) fn put_report<O: Sink, E: Sink>(
     number: u64,
     verdict: Verdict,
     name: &[u8],
-) -> Result<(), SinkFault>
-    ensures { WritesAndFlushesBoth outputs.old outputs.new
+) -> Result<Progress, Stop>
+    ensures { WritesAndReturns outputs.old outputs.new
         (err_by rules labels.now number verdict name.now)
-        (out_by own_profile labels.now.report verdict name.now) result }
+        (out_by own_profile labels.now.report verdict name.now) Going result }
 {
     put_err(&mut outputs.err, rules, labels, number, verdict, name)?;
-    put_out(&mut outputs.out, labels.report, verdict, name)
+    put_out(&mut outputs.out, labels.report, verdict, name)?;
+    Ok(Progress::Going)
 }
 
 fn put_out<O: Sink>(
-    out: &mut Buffered<O>,
+    out: &mut TextOutput<O>,
     report: Report,
     verdict: Verdict,
     name: &[u8],
 ) -> Result<(), SinkFault>
-    ensures { WritesAndFlushes out.old out.new (out_by own_profile report verdict name.now) result }
+    ensures { GivesAll out.old out.new (out_by own_profile report verdict name.now) result }
 {
     match (report, verdict) {
         (Report::Status, _) | (Report::Quiet, Verdict::Right) => Ok(()),
@@ -47,11 +52,11 @@ fn put_out<O: Sink>(
 }
 
 fn put_verdict<O: Sink>(
-    out: &mut Buffered<O>,
+    out: &mut TextOutput<O>,
     verdict: Verdict,
     name: &[u8],
 ) -> Result<(), SinkFault>
-    ensures { WritesAndFlushes out.old out.new (out_by own_profile All verdict name.now) result }
+    ensures { GivesAll out.old out.new (out_by own_profile All verdict name.now) result }
 {
     match verdict {
         Verdict::Ignored | Verdict::Bad | Verdict::Missing => Ok(()),
@@ -63,26 +68,26 @@ fn put_verdict<O: Sink>(
 
 // Writes the name, as a line begins with it, and what follows it.
 fn put_name_line<'a, O: Sink>(
-    out: &mut Buffered<O>,
+    out: &mut TextOutput<O>,
     name: &'a [u8],
     text: &'a [u8],
 ) -> Result<(), SinkFault>
-    ensures { WritesAndFlushes out.old out.new
+    ensures { GivesAll out.old out.new
         (concat (mark (escape_differs own_profile name.now) ∷ escape name.now ∷ text.now ∷ [])) result }
 {
     let (mark, name) = mark_and_name(name);
-    put_parts_flushed(out, &[Part::Bytes(mark), name, Part::Bytes(text)])
+    out.write(&Parts(&[Part::Bytes(mark), name, Part::Bytes(text)]))
 }
 
 fn put_err<E: Sink>(
-    err: &mut Buffered<E>,
+    err: &mut TextOutput<E>,
     rules: CheckRules,
     labels: &Labels,
     number: u64,
     verdict: Verdict,
     name: &[u8],
 ) -> Result<(), SinkFault>
-    ensures { WritesAndFlushes err.old err.new
+    ensures { GivesAll err.old err.new
         (err_by rules labels.now number verdict name.now) result }
 {
     rules.has_own_profile();
@@ -92,33 +97,33 @@ fn put_err<E: Sink>(
             Report::Warn => put_bad_line(err, rules, labels, number),
             _ => Ok(()),
         },
-        Verdict::Unread(fault) => put_name_fault(err, labels.tool, name, fault),
+        Verdict::Unread(fault) => {
+            let tool = labels.tool;
+            err.write(&NameFaultLine { tool, name, fault })
+        }
     }
 }
 
 fn put_bad_line<E: Sink>(
-    err: &mut Buffered<E>,
+    err: &mut TextOutput<E>,
     rules: CheckRules,
     labels: &Labels,
     number: u64,
 ) -> Result<(), SinkFault>
-    ensures { WritesAndFlushes err.old err.new
+    ensures { GivesAll err.old err.new
         (bad_line rules labels.now number) result }
 {
     let word = tag_word(rules.algo);
-    put_parts_flushed(
-        err,
-        &[
-            Part::Bytes(labels.tool.as_bytes()),
-            Part::Bytes(b": "),
-            Part::Escaped(labels.manifest),
-            Part::Bytes(b": "),
-            Part::Number(number),
-            Part::Bytes(b": improperly formatted "),
-            Part::Bytes(word.as_bytes()),
-            Part::Bytes(b" checksum line\n"),
-        ],
-    )
+    err.write(&Parts(&[
+        Part::Bytes(labels.tool.as_bytes()),
+        Part::Bytes(b": "),
+        Part::Escaped(labels.manifest),
+        Part::Bytes(b": "),
+        Part::Number(number),
+        Part::Bytes(b": improperly formatted "),
+        Part::Bytes(word.as_bytes()),
+        Part::Bytes(b" checksum line\n"),
+    ]))
 }
 
 // The word for the tag in a report.

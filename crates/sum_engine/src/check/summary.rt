@@ -2,16 +2,18 @@
 ghost use Rattle.std.specs.Prelude.{◌≡◌, ◌<◌, ◌^◌, []};
 ghost use Rattle.sum_engine.specs.check.CheckStates.{counts_with, total};
 ghost use Rattle.sum_engine.specs.check.Reports.{warning, warnings, unverified_line, end_text, good, entries};
-ghost use Rattle.sum_engine.specs.refinement.FlushedWrites.{WritesAndFlushes, WritesAndFlushesBoth};
+ghost use Rattle.sum_engine.specs.refinement.Writes.{WritesAndReturns};
 ghost use Rattle.sum_lines.specs.Buffers.{WritesAll};
 ghost use Rattle.sum_sources.specs.declared.fault.Ending.TheVariants.{Whole};
 
 use crate::check::judge::Verdict;
+use crate::check::progress::Progress;
 use crate::check::rules::{CheckRules, Labels};
-use crate::put_flushed::{put_tool_line, put_tool_line_flushed};
 use crate::settings::Report;
+use crate::stop::Stop;
 use crate::streams::Outputs;
-use sum_lines::{Buffered, Part, Sink, SinkFault, put_parts};
+use crate::tool_lines::tool_line;
+use sum_lines::{Buffered, Part, Parts, Sink, SinkFault, Text, put_parts};
 
 /// How many lines of a manifest have each verdict but `Ignored`.
 #[derive(Clone, Copy, Debug, PartialEq, Eq)]
@@ -68,52 +70,53 @@ pub(crate) fn is_good(rules: CheckRules, counts: Counts) -> bool
         && (!rules.strict || counts.bad == 0)
 }
 
-/// Writes the end of a manifest that was read whole, to standard error.
+/// Writes the end of a manifest that was read whole to standard error, and then returns `ended`.
 pub(crate) fn put_summary<O: Sink, E: Sink>(
     outputs: &mut Outputs<O, E>,
     rules: CheckRules,
     labels: &Labels,
     counts: Counts,
-) -> Result<(), SinkFault>
+    ended: Progress,
+) -> Result<Progress, Stop>
     requires { total counts < 2 ^ 63 }
-    ensures { WritesAndFlushesBoth outputs.old outputs.new
-        (end_text rules labels.now Whole counts) [] result }
-{
-    put_end(&mut outputs.err, rules, labels, counts)
-}
-
-fn put_end<E: Sink>(
-    err: &mut Buffered<E>,
-    rules: CheckRules,
-    labels: &Labels,
-    counts: Counts,
-) -> Result<(), SinkFault>
-    requires { total counts < 2 ^ 63 }
-    ensures { WritesAndFlushes err.old err.new
-        (end_text rules labels.now Whole counts) result }
+    ensures { WritesAndReturns outputs.old outputs.new
+        (end_text rules labels.now Whole counts) [] ended result }
 {
     rules.has_own_profile();
     if counts.entries() == 0 {
         let text = b"no properly formatted checksum lines found";
-        return put_tool_line_flushed(err, labels.tool, labels.manifest, text);
+        let line = tool_line(labels.tool, labels.manifest, text);
+        return outputs.write_err(&Parts(&line), ended);
     }
     match labels.report {
-        Report::Status => Ok(()),
-        _ => put_warnings_flushed(err, rules, labels, counts),
+        Report::Status => Ok(ended),
+        _ => {
+            let warnings = Warnings {
+                rules,
+                labels,
+                counts,
+            };
+            outputs.write_err(&warnings, ended)
+        }
     }
 }
 
-#[tactic(auto, using(crate::proofs::FlushedWriteLemmas::not_flushed))]
-fn put_warnings_flushed<E: Sink>(
-    err: &mut Buffered<E>,
+// The warnings at a manifest's end.
+#[derive(Clone, Copy)]
+struct Warnings<'a> {
     rules: CheckRules,
-    labels: &Labels,
+    labels: &'a Labels<'a>,
     counts: Counts,
-) -> Result<(), SinkFault>
-    ensures { WritesAndFlushes err.old err.new (warnings rules labels.now counts) result }
-{
-    put_warnings(err, rules, labels, counts)?;
-    err.flush()
+}
+
+impl<'a> Text for Warnings<'a> {
+    ghost use Rattle.sum_engine.specs.check.Reports.{warnings};
+
+    ghost text = { λ w. warnings w.rules w.labels.now w.counts };
+
+    fn put<S: Sink>(&self, sink: &mut Buffered<S>) -> Result<(), SinkFault> {
+        put_warnings(sink, self.rules, self.labels, self.counts)
+    }
 }
 
 #[tactic(auto, using(sum_lines::proofs::SinkLemmas::writes_then, sum_lines::proofs::SinkLemmas::writes_stop))]
@@ -183,7 +186,8 @@ fn put_unverified<E: Sink>(
     ensures { WritesAll err.old err.new (unverified_line rules labels.now counts) result }
 {
     if rules.ignore_missing && counts.right == 0 {
-        return put_tool_line(err, labels.tool, labels.manifest, b"no file was verified");
+        let line = tool_line(labels.tool, labels.manifest, b"no file was verified");
+        return put_parts(err, &line);
     }
     Ok(())
 }

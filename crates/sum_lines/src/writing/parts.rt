@@ -6,6 +6,7 @@ ghost use Rattle.sum_lines.specs.refinement.PartTexts.{part_text, parts_text};
 use crate::escape::put_escaped;
 use crate::sinks::buffered::{Buffered, put_all};
 use crate::sinks::sink::{Sink, SinkFault};
+use crate::sinks::text_output::Text;
 use itoa::Buffer;
 
 /// A part of a text.
@@ -18,6 +19,21 @@ pub enum Part<'a> {
     Escaped(&'a [u8]),
     /// A number in decimal digits, without a leading zero.
     Number(u64),
+}
+
+/// The parts of a text, one after another, as a text.
+#[doc(hidden)]
+#[derive(Clone, Copy)]
+pub struct Parts<'a>(pub &'a [Part<'a>]);
+
+impl<'a> Text for Parts<'a> {
+    ghost use Rattle.sum_lines.specs.refinement.PartTexts.{parts_text};
+
+    ghost text = { λ parts. parts_text parts.0.now };
+
+    fn put<S: Sink>(&self, sink: &mut Buffered<S>) -> Result<(), SinkFault> {
+        put_parts(sink, self.0)
+    }
 }
 
 /// Writes the parts, one after another. Returns `SinkFault` as `put_all` does.

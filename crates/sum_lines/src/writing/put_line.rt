@@ -10,6 +10,7 @@ ghost use Rattle.sum_lines.specs.refinement.PartTexts.{part_text};
 use crate::escape::needs_escape;
 use crate::sinks::buffered::{Buffered, put_all};
 use crate::sinks::sink::{Sink, SinkFault};
+use crate::sinks::text_output::Text;
 use crate::writing::parts::{Part, put_parts};
 use digest_kinds::{Digest, Kind};
 
@@ -31,6 +32,30 @@ pub struct Style {
     pub mode: Mode,
     /// Whether lines end with NUL and names are left unescaped.
     pub zero: bool,
+}
+
+/// The line of a name and its digest, which [`put_line`] writes.
+#[derive(Clone, Copy, Debug)]
+pub struct DigestLine<'a> {
+    /// The form of the line.
+    pub style: Style,
+    /// The digest's algorithm and length.
+    pub kind: Kind,
+    /// The name.
+    pub name: &'a [u8],
+    /// The digest, which has the kind's length.
+    pub digest: &'a Digest,
+    ghost fits: { length digest.now ≡ kind.len },
+}
+
+impl<'a> Text for DigestLine<'a> {
+    ghost use Rattle.sum_lines.specs.Lines.{line};
+
+    ghost text = { λ l. line l.style l.kind l.name.now l.digest.now };
+
+    fn put<S: Sink>(&self, sink: &mut Buffered<S>) -> Result<(), SinkFault> {
+        put_line(sink, self.style, self.kind, self.name, self.digest)
+    }
 }
 
 /// Writes the line of a name and its digest to the buffer. The digest has the kind's length. Returns `SinkFault` as

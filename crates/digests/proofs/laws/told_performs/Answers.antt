@@ -3,5 +3,5 @@ use Rattle.digests.proofs.laws.told_performs.Goals as goal
 
 -- the world of the files in memory is one that agrees
 pub returns : goal.returns
-returns g c = λ tool words answer a r all flushed did reads.
-    did flushed (record { answer = answer; opened = [] }) (c.told_agree.ensures answer (rw (← reads.told) at all))
+returns g c = λ tool words answer a r all did reads.
+    did (record { answer = answer; opened = [] }) (c.told_agree.ensures answer (rw (← reads.told) at all))

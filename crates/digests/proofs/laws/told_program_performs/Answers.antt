@@ -1,23 +1,23 @@
 use Rattle.std.proofs.Common.{ℕ, List, [], Option, None, Some, inl, inr}
-use Rattle.sum_engine.specs.{Behavior.ByteString, Behavior.World, Execution.world_at, Execution.Agrees, Execution.StreamsState, Execution.IsFlushed}
+use Rattle.sum_engine.specs.{Behavior.ByteString, Behavior.World, Execution.world_at, Execution.Agrees, Execution.StreamsState}
 use Rattle.sum_words.specs.{CommandLines.command_line, declared.tool.Tool.Tool}
 use Rattle.digests.specs.{Program.CommandPerforms, InMemory.CommandPerformsIn}
 use Rattle.digests.proofs.laws.told_program_performs.Goals as goal
 
 -- a call of the tool, or of none, in a world that agrees
 command_in : (w : World) (line : Option (Tool × List ByteString)) (a b : StreamsState) (status : ℕ) → Agrees w b.inputs
-    → IsFlushed a.outputs → CommandPerforms line a b status → CommandPerformsIn (world_at w a.inputs) line a b status
-command_in w None a b status agrees flushed did = did
-command_in w (Some (tool, words)) a b status agrees flushed (answer, between, did, failed, same, reports) =
-    (answer, between, did flushed w (rw same at agrees), failed, same, reports)
+    → CommandPerforms line a b status → CommandPerformsIn (world_at w a.inputs) line a b status
+command_in w None a b status agrees did = did
+command_in w (Some (tool, words)) a b status agrees (answer, between, did, failed, same, reports) =
+    (answer, between, did w (rw same at agrees), failed, same, reports)
 
 -- that of the files and the arguments in memory is one
 pub returns : goal.returns
-returns g c = λ arguments answer a status are all flushed did reads.
+returns g c = λ arguments answer a status are all did reads.
     let listed = c.some_list_agrees.ensures.1 in
     let w : World = record { answer = answer; opened = [] } in
     let agrees = c.told_agree.ensures answer (rw (← reads.told) at all) in
-    elim (did flushed arguments (rw (rw are at listed.told) at listed)) [
-      | inl done ↦ inl (command_in w (command_line arguments) a _ status agrees flushed done)
+    elim (did arguments (rw (rw are at listed.told) at listed)) [
+      | inl done ↦ inl (command_in w (command_line arguments) a _ status agrees done)
       | inr refused ↦ inr refused
     ]

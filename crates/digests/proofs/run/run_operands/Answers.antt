@@ -9,7 +9,7 @@ pub operands-init : goal.operands-init
 operands-init g c = record {
   reached = record {
     reads = reads_none c.args.streams.now.inputs;
-    completes = λ flushed w agrees z r did. rw c.first_name.ensures did;
+    completes = λ w agrees z r did. rw c.first_name.ensures did;
   };
   so_far = search rules;
 }
@@ -19,7 +19,7 @@ pub returns-in-Err-clause-behavior : goal.returns-in-Err-clause-behavior
 returns-in-Err-clause-behavior g c =
     let so_far = c.operands.invariant in
     operands_done_stop c.in-Err.stop c.run_operand.new.streams (rw c.in-Some.is at so_far.reached)
-    so_far.so_far.flushed c.in-Err.ensures.reads c.in-Err.ensures.behavior
+    c.in-Err.ensures.reads c.in-Err.ensures.behavior
 
 pub returns-in-Err-clause-reads : goal.returns-in-Err-clause-reads
 returns-in-Err-clause-reads g c =
@@ -32,15 +32,15 @@ operands-preserved g c =
     record {
       reached = rw (← left-next c.operands.operands _ c.next-next.result c.next-next.ensures.steps)
           (operands_done_step c.in-Ok.this c.run_operand.new.streams (rw c.in-Some.is at so_far.reached)
-          so_far.so_far.flushed (λ good. ap Ok good) c.in-Ok.ensures.reads c.in-Ok.ensures.behavior);
+          (λ good. ap Ok good) c.in-Ok.ensures.reads c.in-Ok.ensures.behavior);
       so_far = search rules;
     }
 
 -- no operand is left
 pub returns-clause-behavior : goal.returns-clause-behavior
-returns-clause-behavior g c = λ flushed w agrees.
+returns-clause-behavior g c = λ w agrees.
     let reached = rw c.in_default.is at c.operands.invariant.reached in
-    reached.completes flushed w agrees c.operands.streams (Ok c.status.result)
+    reached.completes w agrees c.operands.streams (Ok c.status.result)
     (rw and-true (c.status.ensures, Happened-none c.operands.streams))
 
 pub returns-clause-reads : goal.returns-clause-reads

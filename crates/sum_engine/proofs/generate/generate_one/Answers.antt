@@ -1,7 +1,7 @@
-use Rattle.std.proofs.Common.{refl, true, false, Ok, Err, ap, sym, ◌∙◌}
+use Rattle.std.proofs.Common.{refl, true, false, Ok, Err, ap}
 use Rattle.std.proofs.lemmas.Result.{err_from_is_err_and}
 use Rattle.sum_engine.specs.{Behavior.answer_to, Behavior.digest_or_fault, Generation.generate_behavior, Generation.generate_behavior_by}
-use Rattle.sum_engine.proofs.{BehaviorLemmas.Performs-step, BehaviorLemmas.Performs-refused, FlushedWriteLemmas.returned, FlushedWriteLemmas.writes_and_returns}
+use Rattle.sum_engine.proofs.{BehaviorLemmas.Performs-step, BehaviorLemmas.Performs-refused}
 use Rattle.sum_engine.proofs.{HashLemmas.hashes_name, GenerateLemmas.fault_found, GenerateLemmas.one_step, GenerateLemmas.refused_memory, WorldLemmas.reads_weaker}
 use Rattle.sum_engine.proofs.generate.generate_one.Goals as goal
 
@@ -15,7 +15,7 @@ returns-in-Ok-clause-behavior g c =
     Performs-step (λ w. generate_behavior settings tool w name) (λ g. g) true c.args.streams.now
     (record { inputs = c.hash_file.new.self; outputs = _ }) done.asked
     (λ w agrees. ap (generate_behavior_by settings tool name) (done.hash w agrees))
-    (writes_and_returns c.put_line_flushed-written.result c.outcome_after.ensures c.put_line_flushed-written.ensures)
+    c.write_out.ensures
 
 pub returns-in-Ok-clause-reads : goal.returns-in-Ok-clause-reads
 returns-in-Ok-clause-reads g c =
@@ -29,16 +29,14 @@ returns-in_ok-fault-in-Err-clause-behavior g c =
     let name = c.args.name.now in
     let hashed = hashes_name (Err c.in-Err.failed) c.in-Err.ensures.hashed in
     let found = fault_found c.in-Err.failed _ c.in_ok-fault-in-Err.ensures hashed in
-    let wrote = c.put_name_fault_line-written in
     Performs-step (λ w. generate_behavior settings tool w name) (λ g. g) false c.args.streams.now
     (record { inputs = c.hash_file.new.self; outputs = _ }) found.0
     (λ w agrees. ap (generate_behavior_by settings tool name) (found.1 w agrees))
-    (writes_and_returns wrote.result c.outcome_after-in-Err.ensures wrote.ensures)
+    c.write_err.ensures
 
 pub returns-in_ok-fault-in-Err-clause-reads : goal.returns-in_ok-fault-in-Err-clause-reads
 returns-in_ok-fault-in-Err-clause-reads g c =
-    reads_weaker (λ good.
-    let no = returned c.put_name_fault_line-written.result (sym good ∙ c.outcome_after-in-Err.ensures) in cc)
+    reads_weaker (λ good. let no = (rw good at c.write_err.ensures.writes).0 in cc)
     (hashes_name (Err c.in-Err.failed) c.in-Err.ensures.hashed).reads
 
 -- there was no memory to open the name

@@ -9,6 +9,6 @@ returns g c = λ answer told empty zero.
     let a = c.args.streams.now in
     let did = c.command-status.ensures in
     let w : World = record { answer = answer; opened = asked a.inputs } in
-    called_alone w a _ c.command-status.result (rw c.requires.start.1 empty)
+    called_alone w a _ c.command-status.result (rw c.requires.start empty)
     (c.told_program_performs.ensures (codes "md5sum" ∷ []) answer a c.command-status.result
-    (did.told ∙ c.requires.told) told c.requires.start.0 did.behavior did.reads) zero
+    (did.told ∙ c.requires.told) told did.behavior did.reads) zero

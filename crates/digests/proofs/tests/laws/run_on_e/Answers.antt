@@ -11,6 +11,6 @@ returns g c = λ answer told empty.
     let a = c.args.streams.now in
     let ran = c.run-outcome.ensures in
     let w : World = record { answer = answer; opened = asked a.inputs } in
-    good_run (meaning Md5sum (codes "e" ∷ []) w) a _ c.run-outcome.result _ (empty_file w (rw c.requires.start.1 empty))
-    (c.told_performs.ensures Md5sum (codes "e" ∷ []) answer a c.run-outcome.result told c.requires.start.0
+    good_run (meaning Md5sum (codes "e" ∷ []) w) a _ c.run-outcome.result _ (empty_file w (rw c.requires.start empty))
+    (c.told_performs.ensures Md5sum (codes "e" ∷ []) answer a c.run-outcome.result told
     (rw c.requires.words at ran.behavior) ran.reads)

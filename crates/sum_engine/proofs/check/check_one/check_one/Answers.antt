@@ -1,6 +1,6 @@
 use Rattle.std.proofs.Common.{refl, ◌≡◌, ap, ◌∙◌, Ok, Err, true}
 use Rattle.sum_engine.specs.{check.Rules.labels_of, check.Rules.rules_of, check.CheckerLaws.RunsManifest, Behavior.InputState, Behavior.is_dash}
-use Rattle.sum_engine.proofs.{CheckOneLemmas.check_opened, CheckOneLemmas.check_stops, CheckOneLemmas.not_read, CheckOneLemmas.not_asked, CheckOneLemmas.no_room, CheckOneLemmas.refused, FlushedWriteLemmas.writes_and_returns}
+use Rattle.sum_engine.proofs.{CheckOneLemmas.check_opened, CheckOneLemmas.check_stops, CheckOneLemmas.not_read, CheckOneLemmas.not_asked, CheckOneLemmas.no_room, CheckOneLemmas.refused}
 use Rattle.sum_engine.proofs.{OpenedNameLemmas.WasOpened, OpenedNameLemmas.was_opened, OpenedNameLemmas.still_open, WorldLemmas.reads_one}
 use Rattle.sum_engine.proofs.check.check_one.check_one.Goals.{After-close}
 use Rattle.sum_engine.proofs.check.check_one.check_one.Given as given
@@ -23,17 +23,16 @@ returns-in-Err-Memory-clause-ahead g c =
 pub returns-in-Err-Fault-clause-behavior : goal.returns-in-Err-Fault-clause-behavior
 returns-in-Err-Fault-clause-behavior g c =
     let failed = rw c.in-Err-Fault.field-0-is at c.in-Err-Fault.ensures.state in
-    let written = rw (c.in-Err-Fault.fault-is, c.shown_name-shown.ensures) at c.put_name_fault_line-written.ensures in
+    let written = rw (c.in-Err-Fault.fault-is, c.shown_name-shown.ensures) at c.write_err.ensures in
     refused c.args.settings c.args.tool.now c.args.name.now c.args.streams.now c.open.new.self
-    _ c.put_name_fault_line-written.new.outputs _ failed
-    (writes_and_returns c.put_name_fault_line-written.result c.outcome_after.ensures written)
+    _ c.write_err.new.self _ failed written
 
 -- nothing was read of a manifest that could not be opened
 pub returns-in-Err-Fault-clause-ahead : goal.returns-in-Err-Fault-clause-ahead
 returns-in-Err-Fault-clause-ahead g c =
     let failed = rw c.in-Err-Fault.field-0-is at c.in-Err-Fault.ensures.state in
     not_read c.args.settings c.args.tool.now c.args.name.now c.args.streams.now c.open.new.self _
-    c.put_name_fault_line-written.new.outputs _ failed
+    c.write_err.new.self _ failed
 
 pub returns-in-Err-Fault-clause-reads : goal.returns-in-Err-Fault-clause-reads
 returns-in-Err-Fault-clause-reads g c =

@@ -3,7 +3,6 @@ use Rattle.sum_lines.proofs.EventLemmas.{Gets-none}
 use Rattle.sum_lines.specs.Escape.{Profile}
 use Rattle.sum_engine.specs.{check.Judge.Ignored, check.Reports.Report, check.Reports.out_by}
 use Rattle.sum_engine.specs.declared.settings.Report.TheVariants.{Quiet, Status}
-use Rattle.sum_engine.proofs.FlushedWriteLemmas.{writes_and_returns}
 use Rattle.sum_sources.specs.declared.line_reader.LineStop.TheVariants.{Fault}
 use Rattle.sum_engine.proofs.check.checker.report_found.Goals as goal
 
@@ -12,25 +11,21 @@ pub returns-in-Err-Fault : goal.returns-in-Err-Fault
 returns-in-Err-Fault g c =
     let is : c.args.found ≡ Err (Fault c.in-Err-Fault.fault) = search rules in
     rw (is, ← c.rules-rules.ensures.value, c.rules-rules.ensures.profile, ← c.labels.view_is)
-    (writes_and_returns c.put_name_fault_line-written.result c.outcome_after.ensures
-    c.put_name_fault_line-written.ensures)
+    c.write_err.ensures
 
 -- no line was left
 pub returns-in-Ok-None : goal.returns-in-Ok-None
 returns-in-Ok-None g c =
     let is : c.args.found ≡ Ok None = search rules in
     let whole = c.requires.whole is in
-    let wrote = rw (c.rules-rules.ensures.value, c.counts.ensures.value) at c.put_summary-written.ensures in
-    let returned = rw (c.is_good.ensures, whole) at c.outcome_after-in-Ok-None.ensures in
-    rw is (writes_and_returns c.put_summary-written.result returned wrote)
+    rw is (rw (c.rules-rules.ensures.value, c.counts.ensures.value, c.is_good.ensures, whole) at c.put_summary.ensures)
 
 -- a line was judged
 pub returns-in_default : goal.returns-in_default
 returns-in_default g c =
     let is : c.args.found ≡ Ok (Some c.in-Ok-Some.found) = search rules in
     let profile = rw c.rules-rules.ensures.value at c.rules-rules.ensures.profile in
-    rw is (writes_and_returns c.put_report-written.result c.outcome_after-in-Ok-Some.ensures
-    (rw (c.rules-rules.ensures.value, c.name-name.ensures, ← profile) at c.put_report-written.ensures))
+    rw is (rw (c.rules-rules.ensures.value, c.name-name.ensures, ← profile) at c.put_report.ensures)
 
 -- an ignored line has no text on standard output
 none_out : (p : Profile) (report : Report) (name : List ℕ) → out_by p report Ignored name ≡ []
@@ -42,8 +37,4 @@ none_out p report name = refl
 pub returns-in-Ignored : goal.returns-in-Ignored
 returns-in-Ignored g c =
     let is : c.args.found ≡ Ok (Some c.in-Ok-Some.found) = search rules in
-    rw (is, c.in-Ignored.is, none_out) (record {
-      written = Ok tt;
-      writes = (refl, λ flushed. (flushed, (Gets-none, Gets-none)));
-      returns = refl;
-    })
+    rw (is, c.in-Ignored.is, none_out) (record { writes = (refl, Gets-none, Gets-none); failures = refl })

@@ -4,7 +4,7 @@ use Rattle.sum_engine.specs.check.Rules.{LabelsValue, Rules}
 use Rattle.sum_engine.specs.check.Reports.{Counts, Report, entries, warnings, unless_status, end_text}
 use Rattle.std.proofs.lemmas.Bool.{cond-false, ne_eqb}
 use Rattle.sum_engine.specs.declared.settings.Report.TheVariants.{Status}
-use Rattle.sum_engine.proofs.check.summary.put_end.Goals as goal
+use Rattle.sum_engine.proofs.check.summary.put_summary.Goals as goal
 
 -- if there are entries, and the setting isn't `--status`, the summary is the warnings
 end_text-shown : (r : Rules) (labels : LabelsValue) (c : Counts) → (entries c ≡ 0 → ⊥)
@@ -21,10 +21,10 @@ pub returns-in_default : goal.returns-in_default
 returns-in_default g c =
     let shown = end_text-shown c.args.rules c.args.labels.now c.args.counts
     (λ e. c.if-entries-eq0.false (c.entries.ensures ∙ e)) (rw (← c.labels.view_is) c.in_default.not-Status) in
-    rw shown c.put_warnings_flushed.ensures
+    rw shown c.write_err-in_default.ensures
 
 -- there are no entries
 pub returns-then-entries-eq0 : goal.returns-then-entries-eq0
 returns-then-entries-eq0 g c =
     rw (c.has_own_profile.ensures, ← c.labels.view_is, ← c.entries.ensures, c.if-entries-eq0.true)
-    c.put_tool_line_flushed.ensures
+    (rw c.tool_line-line.ensures at c.write_err.ensures)

@@ -1,0 +1,15 @@
+use Rattle.std.proofs.lemmas.Result.{err_from_is_err_and}
+use Rattle.sum_lines.proofs.SinkLemmas.{given_after, not_given}
+use Rattle.sum_lines.proofs.sinks.text_output.TextOutput.write.Goals as goal
+
+-- the text could not be written
+pub returns-in_err-put : goal.returns-in_err-put
+returns-in_err-put g c =
+    let stop = err_from_is_err_and c.from_residual.result c.from_residual.ensures.1 in
+    rw (← c.self.view_is, stop.1) (rw c.self.invariant.0 at (not_given c.in_err-put.ensures))
+
+-- the text was written, and then the sink was flushed
+pub returns : goal.returns
+returns g c =
+    rw (← c.self.view_is) (rw c.self.invariant.0 at
+    (given_after _ _ c.flush.result c.in_ok-put.ensures c.flush.ensures.gives))

@@ -1,0 +1,72 @@
+//! An output, to which whole texts are written.
+ghost use Rattle.std.specs.Prelude.{◌≡◌, true};
+ghost use Rattle.sum_lines.specs.Buffers.{WritesAll};
+ghost use Rattle.sum_lines.specs.Sinks.{ByteString, GivesAll};
+
+use crate::sinks::buffered::Buffered;
+use crate::sinks::sink::{Sink, SinkFault};
+use std::marker::Model;
+
+/// A text that can be written to an output.
+pub trait Text {
+    /// The text.
+    ghost text: { Self → ByteString };
+
+    /// Writes the text to the buffer, without a flush. Returns `SinkFault` as [`put_all`](crate::put_all) does.
+    fn put<S: Sink>(&self, sink: &mut Buffered<S>) -> Result<(), SinkFault>
+        ensures { WritesAll sink.old sink.new (text self.now) result };
+}
+
+/// An output over a sink. Between its calls nothing is buffered, and the sink is flushed.
+#[derive(Debug, Drop)]
+pub struct TextOutput<S: Sink> {
+    buffer: Buffered<S>,
+}
+
+impl<S: Sink> Model for TextOutput<S> {
+    ghost use Rattle.sum_lines.specs.Buffers.{IsFlushed};
+    ghost use Rattle.sum_lines.specs.Sinks.{SinkState};
+
+    ghost Value = { SinkState };
+
+    ghost view = { λ o. o.buffer.sink };
+
+    ghost invariant = { λ o. IsFlushed o.buffer };
+}
+
+impl<S: Sink> TextOutput<S> {
+    /// Creates an output over a sink that is flushed, as each is before its first call.
+    pub fn new(sink: S) -> Self
+        requires { (S.state sink).flushed ≡ true }
+        ensures { result ≡ S.state sink }
+    {
+        TextOutput {
+            buffer: Buffered::new(sink),
+        }
+    }
+
+    /// Returns the sink below it.
+    pub fn get_ref(&self) -> &S
+        ensures state { S.state result.now ≡ self.now }
+        ensures flushed { self.now.flushed ≡ true }
+    {
+        self.buffer.get_ref()
+    }
+
+    /// Returns the sink below it.
+    pub fn into_inner(self) -> S
+        ensures state { S.state result ≡ self }
+        ensures flushed { self.flushed ≡ true }
+    {
+        self.buffer.into_inner()
+    }
+
+    /// Writes a text, in one piece if it has at most [`CAPACITY`](crate::CAPACITY) bytes, and flushes the sink. Returns
+    /// `SinkFault` if that fails; a prefix of the text was then written.
+    pub fn write<T: Text>(&mut self, text: &T) -> Result<(), SinkFault>
+        ensures { GivesAll self.old self.new (T.text text.now) result }
+    {
+        text.put(&mut self.buffer)?;
+        self.buffer.flush()
+    }
+}
