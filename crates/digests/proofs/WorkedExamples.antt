@@ -12,7 +12,7 @@ use Rattle.sum_lines.specs.{declared.writing.put_line.Mode.Mode, grammar.LinePar
 use Rattle.sum_sources.specs.{declared.fault.Fault.TheVariants.NotFound, declared.fault.Fault.TheVariants.Other, ManifestLines.raw_lines, Contents.Content, Contents.limit, Contents.empty_content, Sources.Answer, Inputs.answers_with}
 use Rattle.sum_words.specs.{declared.tool.Tool.Tool, declared.tool.Tool.TheVariants.Md5sum, declared.tool.Tool.TheVariants.B2sum, declared.tool.Tool.TheVariants.Anysum, Items.ByteString, CommandLines.command_line, CommandLines.NeedsMemory, Texts.not_read_line, Tools.tool_called}
 use Rattle.sum_words.proofs.WorkedExamples.{words, words_on_literals}
-use Rattle.sum_engine.specs.{declared.settings.CheckSettings.CheckSettings, declared.settings.Report.TheVariants.All, declared.stop.Stop.Stop, Execution.StreamsState, Execution.PerformsSteps}
+use Rattle.sum_engine.specs.{declared.settings.CheckSettings.CheckSettings, declared.settings.Report.TheVariants.All, declared.stop.Stop.Stop, Execution.Agrees, Execution.StreamsState, Execution.PerformsSteps}
 use Rattle.sum_engine.proofs.BehaviorLemmas.{events_extend}
 use Rattle.digests.specs.{Meaning.meaning, Meaning.status_of, GenerationRuns.GenerationRun, Program.CallRefuses, InMemory.CommandPerformsIn}
 
@@ -168,6 +168,21 @@ called_alone w a b status is (inl (Ok x, between, did, failed, same, reports)) z
 called_alone w a b status is (inl (Err stop, between, did, failed, same, reports)) zero =
     let one = reports.0 in absurd (omega arith)
 called_alone w a b status is (inr (needs, refused)) zero = absurd (search rules)
+
+-- the same for `md5sum e`, which needs memory for its words: if they weren't read, the status isn't 0
+pub called_on_e : (w v : World) (a b : StreamsState) (status : ℕ) → answer_to w (codes "e") ≡ Ok empty_content
+    → Agrees v b.inputs → CommandPerformsIn w (command_line (codes "md5sum" ∷ codes "e" ∷ [])) a b status
+    ⊎ (NeedsMemory (codes "md5sum" ∷ codes "e" ∷ []) × CallRefuses not_read_line a b status) → status ≡ 0
+    → b.outputs.out.written ≡ a.outputs.out.written ++ e_line
+unfolding tool_called
+called_on_e w v a b status is agrees (inl (Ok x, between, did, failed, same, reports)) zero =
+    rw reports.1 (good_run (meaning Md5sum (codes "e" ∷ []) w) a between (Ok x) _ (empty_file w is) did).1
+called_on_e w v a b status is agrees (inl (Err stop, between, did, failed, same, reports)) zero =
+    let one = reports.0 in absurd (omega arith)
+called_on_e w v a b status is agrees (inr (needs, (Ok x, between, did, failed, same, reports))) zero =
+    let one = (did v (rw same at agrees)).0 in absurd (omega (arith, one, reports.0))
+called_on_e w v a b status is agrees (inr (needs, (Err stop, between, did, failed, same, reports))) zero =
+    let one = reports.0 in absurd (omega arith)
 
 -- a check without other options
 abbrev pub plain_check : Algos → CheckSettings

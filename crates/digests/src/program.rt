@@ -1,7 +1,9 @@
 //! The program over what the system gives it. `main` calls nothing else of ours.
 ghost use Rattle.digests.specs.Program.{IsStdinAlone, ProgramPerforms, fresh_streams};
-ghost use Rattle.std.specs.Prelude.{All, ◌≡◌};
-ghost use Rattle.sum_engine.specs.Execution.{ReadsFile, failures};
+ghost use Rattle.std.specs.Prelude.{ℕ, suc, All, ◌≡◌, Ok, codes};
+ghost use Rattle.sum_engine.specs.Behavior.{World};
+ghost use Rattle.sum_engine.specs.Execution.{Agrees, ReadsFile, failures};
+ghost use Rattle.sum_sources.specs.Contents.{empty_content};
 
 use crate::command::command;
 use crate::standard_input::standard_input;
@@ -9,6 +11,7 @@ use std::alloc::Allocator;
 use std::io::{Read, Write};
 use std::os::fd::AsFd;
 use std::rt;
+use sum_engine::laws::told_agree;
 use sum_engine::{Outputs, Reader, Streams};
 use sum_lines::FromWrite;
 use sum_sources::{Files, FromRead, Inputs};
@@ -51,6 +54,9 @@ where
         (O.contents out) (E.contents err) in
         ProgramPerforms (⟦<SystemArguments<R> as Arguments>⟧.state result.arguments) start
         result.streams result.status }
+    // Standard input is given once: in some world that agrees, each later opening of `-` gives an empty content.
+    ensures once { (w : World) × Agrees w result.streams.inputs
+        × ((k : ℕ) → w.answer (codes "-") (suc k) ≡ Ok empty_content) }
     ensures stdin { IsStdinAlone result.streams.inputs.told }
     // The status is 0 only if no call of either output failed.
     ensures no_failures { result.status ≡ 0 → failures result.streams.outputs ≡ (0, 0) }
@@ -64,6 +70,7 @@ where
         FromWrite::new(err),
     );
     let status = command(alloc, &mut arguments, &mut streams);
+    told_agree(&streams.inputs);
     Ended {
         status,
         arguments,

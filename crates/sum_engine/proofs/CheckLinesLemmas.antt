@@ -77,7 +77,7 @@ wrote_cause (Err stops.Memory) same h = absurd h.writes
 
 -- a step stops only if memory was refused, at most once, or bytes remained, or one output failed
 cause_found : {I : Type 0} (q : VerdictsValue I) (labels : LabelsValue) (vector : List ℕ) (found : VerdictResult)
-    (a b : StreamsState) {x : Result Progress Stop} → AsksFor vector a.inputs b.inputs found
+    (a b : StreamsState) {x : Result Progress Stop} → AsksFor vector q.reader.ahead a.inputs b.inputs found
     → ReportsFound q labels vector found a.outputs b.outputs x → StopHasCause (0 ∷ 1 ∷ []) a b x
 cause_found q labels vector (Err Memory) a b asked h = rw h.0
     (record { refusals = one_at_most a.inputs b.inputs asked; failures = rw h.1 refl })

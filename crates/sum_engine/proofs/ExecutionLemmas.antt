@@ -90,10 +90,10 @@ refused_first {a} {b} next later are outputs refused =
 -- ---- the cause of a stop
 
 -- memory was refused once, or not at all
-pub one_at_most : (a b : SourceState) → MemoryWasRefused a b ⊎ (b ≡ a)
+pub one_at_most : {X : Type 0} (a b : SourceState) → MemoryWasRefused a b ⊎ ((b ≡ a) × X)
     → Any (λ n. b.refusals ≡ a.refusals + n) (0 ∷ 1 ∷ [])
 one_at_most a b (inl refused) = (1, 1, search arith, refl, rw refused refl)
-one_at_most a b (inr same) = (0, 0, search arith, refl, rw same (omega arith))
+one_at_most a b (inr same) = (0, 0, search arith, refl, rw same.0 (omega arith))
 
 -- ---- a file was closed
 

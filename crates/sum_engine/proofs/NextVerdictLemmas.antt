@@ -31,7 +31,7 @@ pub record JudgesLine {I : Type 0} (state : I → InputState) (p q : VerdictsVal
   pub judged : VerdictsValue I  -- before the outcome was kept
   pub takes : TakesLine (record p { reader = reader }) judged line vector x
   pub kept : q ≡ record judged { outcome = q.outcome }
-  pub asked : AsksFor vector a b (found_verdict x)
+  pub asked : AsksFor vector q.reader.ahead a b (found_verdict x)
   pub verdict : (w : World) → Agrees w b → IfOk x (λ v. line_verdict_value vector v
       ≡ line_verdict p.rules (world_at w a) reader.lines (parsed_at p line))
 
@@ -74,7 +74,7 @@ module _ {I : Type 0} {state : I → InputState} {p q : VerdictsValue I} {a b : 
         let reads = h.reads reading in
         let next = reads.line c of in
         let left = ap (λ (c : Content). length c.bytes) next.1 in (
-          elim h.asked [ inl refused ↦ ap (world_at w) refused | inr same ↦ ap (world_at w) same ],
+          elim h.asked [ inl refused ↦ ap (world_at w) refused | inr same ↦ ap (world_at w) same.0 ],
           line-some (remaining p.reader c) (remaining h.reader c) h.line next,
           omega (arith, h.bounds.ahead, reads.sum Line refl c of, left),
         );

@@ -94,7 +94,7 @@ module _ {I : Type 0} {state : I → InputState} {p q : VerdictsValue I} (a b : 
           is = first.2;
           performs = refused_first first.0 [] refl reported.1 (elim did.asked [
             | inl refused ↦ inl refused
-            | inr same ↦ inr (same, rw first.3 f.1)
+            | inr same ↦ inr (same.0, rw first.3 f.1)
           ]);
           going = λ h. cc;
           failed = λ h. cc;

@@ -1,9 +1,10 @@
--- The law that some world agrees with what was read: by the law of sources.
-use Rattle.std.proofs.Common.{[], Option, None, Some, Result, Ok, Err, IfSome, refl}
+-- The law that some world agrees with what was read and what is told: by the law of sources.
+use Rattle.std.proofs.Common.{◌≡◌, [], Option, None, Some, Result, Ok, Err, IfSome, refl}
 use Rattle.sum_sources.specs.{Contents.Reads, InputLaws.some_content, declared.fault.Fault.TheVariants.NotFound}
-use Rattle.sum_sources.specs.Sources.{ToldAnswers, gave_at, IsOfAnswer, GivesTold}
+use Rattle.sum_sources.specs.Sources.{Answers, ToldAnswers, TellsAll, gave_at, IsOfAnswer, GivesTold}
+use Rattle.sum_engine.specs.Execution.{Agrees}
 use Rattle.sum_engine.specs.Behavior.{Answer, Fault, SourceState}
-use Rattle.sum_engine.specs.WorldLaws.{SomeWorldAgrees, ToldAgree}
+use Rattle.sum_engine.specs.WorldLaws.{ToldAgree}
 
 -- an answer that gave this
 abbrev answer_of : Option (Result Reads Fault) → Answer
@@ -16,11 +17,31 @@ is_given None = tt
 is_given (Some (Ok r)) = let (c, of) = some_content r.bytes r.phase in (c, refl, of)
 is_given (Some (Err f)) = refl
 
-pub some_world : (a : SourceState) → SomeWorldAgrees a
-some_world a = (
-  record { answer = λ name k. answer_of (gave_at a.openings name k); opened = [] },
-  record { gave = λ name k. is_given (gave_at a.openings name k) },
-)
+-- the answer that is told, if there is one
+abbrev told_or : Option Answer → Option (Result Reads Fault) → Answer
+told_or None gave = answer_of gave
+told_or (Some told) gave = told
 
 pub told_agree : (tells : ToldAnswers) (a : SourceState) → GivesTold tells a → ToldAgree tells a
-told_agree tells a gives answer all = record { gave = λ name k. rw (all name k) at (gives name k) }
+told_agree tells a gives = (
+  record { answer = λ name k. told_or (tells a.told name k) (gave_at a.openings name k); opened = [] },
+  record { gave = λ name k. agrees (tells a.told name k) (gave_at a.openings name k) (gives name k) },
+  λ name k. is_told (tells a.told name k) (gave_at a.openings name k),
+)
+  where
+    agrees : (told : Option Answer) (gave : Option (Result Reads Fault))
+        → IfSome told (λ told. IfSome gave (IsOfAnswer told)) → IfSome gave (IsOfAnswer (told_or told gave))
+    agrees None gave fits = is_given gave
+    agrees (Some told) gave fits = fits
+
+    is_told : (told : Option Answer) (gave : Option (Result Reads Fault)) → IfSome told (λ t. told_or told gave ≡ t)
+    is_told None gave = tt
+    is_told (Some told) gave = refl
+
+-- answers that are all told are a world that agrees
+pub all_agree : (tells : ToldAnswers) (a : SourceState) (answer : Answers) → ToldAgree tells a
+    → TellsAll tells a.told answer → Agrees (record { answer = answer; opened = [] }) a
+all_agree tells a answer (w, agrees, are) all = record {
+  gave = λ name k. let is : w.answer name k ≡ answer name k = rw (all name k) at (are name k) in
+      rw is at (agrees.gave name k);
+}

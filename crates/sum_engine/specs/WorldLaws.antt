@@ -1,12 +1,9 @@
--- The laws that some world agrees with what was read, and that answers which are all told are one.
-use Rattle.std.specs.Prelude.{[]}
-use Rattle.sum_sources.specs.Sources.{Answers, ToldAnswers, TellsAll}
-use Rattle.sum_engine.specs.{Behavior.World, Behavior.SourceState, Execution.Agrees}
+-- The law that some world agrees with what was read, and has the answers that are told.
+use Rattle.std.specs.Prelude.{ℕ, ◌≡◌, IfSome}
+use Rattle.sum_sources.specs.Sources.{ToldAnswers}
+use Rattle.sum_engine.specs.{Behavior.ByteString, Behavior.World, Behavior.SourceState, Execution.Agrees}
 
--- some world agrees with what was read so far
-abbrev pub SomeWorldAgrees : SourceState → Type 0
-SomeWorldAgrees a = (w : World) × Agrees w a
-
--- if the source tells all answers, they agree with what was read so far
+-- some world agrees with what was read so far, and has each answer that the source tells
 abbrev pub ToldAgree : ToldAnswers → SourceState → Type 0
-ToldAgree tells a = (answer : Answers) → TellsAll tells a.told answer → Agrees (record { answer = answer; opened = [] }) a
+ToldAgree tells a = (w : World) × Agrees w a
+    × ((name : ByteString) (k : ℕ) → IfSome (tells a.told name k) (λ told. w.answer name k ≡ told))

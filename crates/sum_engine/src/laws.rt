@@ -1,18 +1,12 @@
 //! Laws about what was read, and about whole checks: what the steps of a [`Checker`](crate::Checker) do together.
-ghost use Rattle.sum_engine.specs.Behavior.{SourceState};
-ghost use Rattle.sum_engine.specs.WorldLaws.{SomeWorldAgrees, ToldAgree};
+ghost use Rattle.sum_engine.specs.WorldLaws.{ToldAgree};
 ghost use Rattle.sum_engine.specs.check.CheckerLaws.{StepsJoin, EventsExtend, SameFront};
 ghost use Rattle.sum_engine.specs.check.OldVerdicts.{OldVerdicts, OlderDiffers};
 
 use crate::reader::Reader;
 use sum_sources::Source;
 
-/// Some world agrees with all that was read so far, whatever that is.
-pub fn some_world_agrees()
-    ensures { (a : SourceState) → SomeWorldAgrees a }
-{}
-
-/// If a source tells all answers, they agree with all that was read so far.
+/// Some world agrees with all that was read so far, and has each answer that the source tells.
 pub fn told_agree<S: Source>(inputs: &Reader<S>)
     ensures { ToldAgree S.tells inputs.now }
 {

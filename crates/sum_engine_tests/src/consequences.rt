@@ -11,7 +11,7 @@ ghost use Rattle.sum_engine.specs.check.OldVerdicts.{IsOldManifest, older_profil
 ghost use Rattle.sum_engine.specs.check.Rules.{LabelsValue, Rules};
 ghost use Rattle.sum_engine.specs.check.Verdicts.{HasNameRange};
 
-use sum_engine::laws::{events_extend, old_verdicts, same_front, some_world_agrees, steps_join};
+use sum_engine::laws::{events_extend, old_verdicts, same_front, steps_join, told_agree};
 use sum_engine::{LineVerdict, Outputs, Reader, Settings, Stop, Streams, generate_one};
 use sum_lines::Sink;
 use sum_sources::Source;
@@ -36,8 +36,9 @@ pub fn hash_in_some_world<S: Source, O: Sink, E: Sink>(
         (generate_behavior settings.now tool.now (world_at w streams.old.inputs) name.now).good
         streams.old streams.new result }
 {
-    some_world_agrees();
-    generate_one(settings, tool, name, streams)
+    let result = generate_one(settings, tool, name, streams);
+    told_agree(&streams.inputs);
+    result
 }
 
 /// After k steps of a checker that each handled a line, each output has grown by the texts of the first k steps.

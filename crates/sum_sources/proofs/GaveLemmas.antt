@@ -155,5 +155,5 @@ hashed_last tells {name = name} {a = a} {t = t} is opens hashes closes = record 
   closed = rw (closes, opens, hashes.same, is) (ap (λ os. record a { openings = os })
       (closed-seam a.openings [] (record { name = name; gave = None }) t.reads));
   hashes = let reads = rw (hashes.same, is) at hashes in
-      record { same = refl; digest = reads.digest; end = reads.end; past = reads.past };
+      record { same = refl; digest = reads.digest; before = reads.before; end = reads.end; past = reads.past };
 }

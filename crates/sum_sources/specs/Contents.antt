@@ -81,6 +81,8 @@ pub record HashesInput (kind : KindValue) (old new : InputState) (result : Resul
   pub digest : old.reads.phase ≡ Unfinished → (c : Content) → IsOf (reads_past (length old.reads.bytes) new.reads) c
       → MatchResult result (λ d. ((clip c).ending ≡ Whole) × (d ≡ digest kind (clip c).bytes))
       (λ f. (clip c).ending ≡ Broken f)
+  -- a content that all reads fit also fits those before the call
+  pub before : old.reads.phase ≡ Unfinished → (c : Content) → IsOf new.reads c → IsOf old.reads c
   -- a digest is returned only at its end, and it is never read past its end or its fault
   pub end : old.reads.phase ≡ Unfinished → IfOk result (λ _. new.reads.phase ≡ Ended Whole)
   pub past : old.reads.phase ≡ Unfinished → ¬ (new.reads.phase ≡ Past)

@@ -1,7 +1,7 @@
 -- Standard input and a source of files, as one source.
 use Rattle.std.specs.Prelude.{ℕ, zero, suc, Bool, true, false, ◌≡◌, ◌∷◌, codes, bytes_eq, filter, not, Option, None, Some, Ok, List, [], if◌then◌else◌}
 use Rattle.std.specs.Option.{option_map}
-use Rattle.sum_sources.specs.{Contents.Content, Contents.InputState, Contents.HasContent, Contents.empty_content, Faults.ByteString, InputLaws.closable_has_content, StandardInput.unless_closed, StandardInput.given_by, StandardInput.taken, Sources.Answers, Sources.Pair, Sources.ToldAnswers, Sources.SourceState, declared.inputs.stdin.StdinPlace.StdinPlace, declared.sources.opened.Place.Place, declared.sources.opened.Place.TheVariants.Stdin, declared.sources.opened.Place.TheVariants.File}
+use Rattle.sum_sources.specs.{Contents.Content, Contents.InputState, Contents.HasContent, Contents.empty_content, Faults.ByteString, InputLaws.closable_has_content, StandardInput.unless_closed, StandardInput.given_by, StandardInput.taken, StandardInput.put_back, Sources.Answers, Sources.Pair, Sources.ToldAnswers, Sources.SourceState, Sources.Opening, Sources.after_closing, StandardInput.StdinPlace, declared.sources.opened.Place.Place, declared.sources.opened.Place.TheVariants.Stdin, declared.sources.opened.Place.TheVariants.File}
 
 -- the name of standard input
 abbrev pub is_dash : ByteString → Bool
@@ -24,16 +24,20 @@ tells_both tells (stdin ∷ told) name k =
 abbrev pub answers_with : Content → Answers → Answers
 answers_with stdin answer name k = if is_dash name then given_once (Ok stdin) (Ok empty_content) k else answer name k
 
--- the state of both: standard input before it was taken, what was opened so far, and the source
-abbrev pub inputs_state : InputState → SourceState → SourceState → SourceState
-inputs_state untaken log source = record source {
-  told = with_stdin untaken.told source.told;
+-- the state of both: standard input at first, what was opened so far, and the source
+abbrev pub inputs_state : {I : Type 0} → (I → InputState) → StdinPlace I → SourceState → SourceState → SourceState
+inputs_state state first log source = record source {
+  told = with_stdin (unless_closed state (given_by first)).told source.told;
   openings = log.openings;
 }
 
+-- the openings of names other than `-`
+abbrev pub others : List Opening → List Opening
+others os = filter (λ o. not (is_dash o.name)) os
+
 -- a source, without what it opened itself by the name `-`
 abbrev pub without_dash : SourceState → SourceState
-without_dash s = record s { openings = filter (λ o. not (is_dash o.name)) s.openings }
+without_dash s = record s { openings = others s.openings }
 
 -- the state of what was opened
 abbrev pub opened_state : {I F : Type 0} → (I → InputState) → (F → InputState) → Place I F → InputState
@@ -49,6 +53,12 @@ is_stdin (File f) = false
 abbrev pub TakesStdin : {I F : Type 0} → StdinPlace I → StdinPlace I → Place I F → Type 0
 TakesStdin old new (Stdin given log) = (given ≡ given_by old) × (new ≡ taken old)
 TakesStdin old new (File f) = ⊥
+
+-- closing `-` puts standard input back, and closing another file closes it in the source; the other is unchanged
+abbrev pub closed_place : {I F : Type 0} → (F → InputState) → Place I F → StdinPlace I → SourceState
+    → StdinPlace I × SourceState
+closed_place state (Stdin given log) stdin source = (put_back stdin given, source)
+closed_place state (File f) stdin source = (stdin, after_closing source (state f))
 
 -- the reads of what was opened fit a content
 pub opened_has_content : {I F : Type 0} (stdin : I → InputState) (file : F → InputState)

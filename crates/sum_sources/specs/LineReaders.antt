@@ -1,6 +1,6 @@
 -- The state of a reader of lines, and what a call changes in it.
-use Rattle.std.specs.Prelude.{ℕ, ◌≡◌, ◌+◌, ◌-◌, ◌^◌, ◌≤◌, ◌⊎◌, ◌++◌, length, drop, Option, None, Some, Result, Ok}
-use Rattle.sum_sources.specs.{Contents.Content, Contents.Whole, Contents.InputState, Contents.Reads, Contents.IsOf, Contents.IsSameInput, Contents.clip, Contents.reads_past, Faults.ByteString, Contents.Unfinished, Contents.Ended, Contents.Past, ManifestLines.Next, ManifestLines.Line, ManifestLines.NoMore, ManifestLines.LineStop, ManifestLines.HasNoNewline, ManifestLines.IsNextLine, ManifestLines.lines_after}
+use Rattle.std.specs.Prelude.{ℕ, ◌≡◌, ◌+◌, ◌-◌, ◌^◌, ◌<◌, ◌≤◌, ◌⊎◌, ◌++◌, length, drop, Option, None, Some, Result, Ok, Err}
+use Rattle.sum_sources.specs.{Contents.Content, Contents.Whole, Contents.InputState, Contents.Reads, Contents.IsOf, Contents.IsSameInput, Contents.clip, Contents.reads_past, Faults.ByteString, Contents.Unfinished, Contents.Ended, Contents.Past, ManifestLines.Next, ManifestLines.Line, ManifestLines.NoMore, ManifestLines.LineStop, ManifestLines.HasNoNewline, ManifestLines.IsNextLine, ManifestLines.lines_after, declared.line_reader.LineStop.TheVariants.Memory}
 
 -- a reader of lines
 pub record LineReaderValue (I : Type 0) : Type 0 where
@@ -14,11 +14,13 @@ pub record LineReaderValue (I : Type 0) : Type 0 where
 abbrev pub consumed_count : {I : Type 0} → LineReaderValue I → ℕ
 consumed_count r = r.taken - length r.ahead
 
--- what holds of every reader: each line consumed at least one byte, and at most 8,192 bytes are ahead
+-- what holds of every reader: each line consumed at least one byte, and at most 8,192 bytes are ahead; if it was
+-- refused memory, some are
 pub record IsBounded {I : Type 0} (r : LineReaderValue I) : Type 0 where
   pub lines : r.lines + length r.ahead ≤ r.taken
   pub ahead : length r.ahead ≤ 8192
   pub taken : r.taken ≤ 2 ^ 61
+  pub wants : r.final_answer ≡ Some (Err Memory) → 0 < length r.ahead
 
 -- a content past its first n bytes
 abbrev pub past : ℕ → Content → Content

@@ -1,6 +1,6 @@
 -- Inputs in memory, inputs that may be closed, and standard input: before, when and after it is taken.
-use Rattle.std.specs.Prelude.{ℕ, ◌≡◌, [], take, Some}
-use Rattle.sum_sources.specs.{Contents.Content, Contents.Whole, Contents.InputState, Contents.Reads, Contents.unread, Faults.ByteString, Contents.Phase, Contents.Unfinished, Contents.Ended, declared.inputs.stdin.StdinPlace.StdinPlace, declared.inputs.stdin.StdinPlace.TheVariants.Untaken, declared.inputs.stdin.StdinPlace.TheVariants.Taken, declared.inputs.stdin.StdinPlace.TheVariants.Returned, declared.inputs.closable.Closable.Closable, declared.inputs.closable.Closable.TheVariants.Open, declared.inputs.closable.Closable.TheVariants.Closed}
+use Rattle.std.specs.Prelude.{ℕ, Bool, true, false, not, ◌≡◌, [], take, Option, None, Some}
+use Rattle.sum_sources.specs.{Contents.Content, Contents.Whole, Contents.InputState, Contents.Reads, Contents.unread, Faults.ByteString, Contents.Phase, Contents.Unfinished, Contents.Ended, declared.inputs.closable.Closable.Closable, declared.inputs.closable.Closable.TheVariants.Open, declared.inputs.closable.Closable.TheVariants.Closed}
 
 -- what reads of a content gave: its first n bytes so far; or all of them, and then its ending
 abbrev pub told_reads : Content → ℕ → Phase → Reads
@@ -27,9 +27,17 @@ unless_closed state (Open i) = state i
 unless_closed state (Closed e phase) = let c : Content = record { bytes = []; ending = e } in
     record { opening = 0; name = []; told = Some c; reads = told_reads c 0 phase }
 
+-- standard input: whether it was taken, and the input, unless it is taken and wasn't put back
+abbrev pub StdinPlace : Type 0 → Type 0
+StdinPlace I = Bool × Option (Closable I)
+
+-- it hasn't been taken yet
+abbrev pub is_untaken : {I : Type 0} → StdinPlace I → Bool
+is_untaken place = not place.0
+
 -- what taking gives: the input the first time, and an empty one afterwards
 abbrev pub given_by : {I : Type 0} → StdinPlace I → Closable I
-given_by (Untaken given) = given
+given_by (false, Some given) = given
 given_by place = Closed Whole Unfinished
 
 -- nothing has been read of what taking gives
@@ -38,10 +46,10 @@ GivesUnread state place = (unless_closed state (given_by place)).reads ≡ unrea
 
 -- standard input after it was taken
 abbrev pub taken : {I : Type 0} → StdinPlace I → StdinPlace I
-taken (Untaken given) = Taken
+taken (false, given) = (true, None)
 taken place = place
 
 -- what was taken is put back, and kept if nothing was put back before
 abbrev pub put_back : {I : Type 0} → StdinPlace I → Closable I → StdinPlace I
-put_back Taken given = Returned given
+put_back (true, None) given = (true, Some given)
 put_back place given = place

@@ -3,19 +3,22 @@ ghost use Rattle.digests.specs.GenerationRuns.{HasFiles, IsListable};
 ghost use Rattle.digests.specs.Meaning.{meaning, status_of};
 ghost use Rattle.std.specs.Prelude.{ℕ, ◌≡◌, ◌<◌, ◌∷◌, ◌++◌, [], List, Ok, IfOk, Some, codes, length};
 ghost use Rattle.sum_engine.specs.Behavior.{Whole, World, answer_to, out_text, err_text};
+ghost use Rattle.sum_lines.specs.refinement.SinkStates.{bytes_of};
 ghost use Rattle.sum_sources.specs.Contents.{empty_content, limit};
-ghost use Rattle.sum_sources.specs.Sources.{Answer, Answers, TellsAll};
+ghost use Rattle.sum_sources.specs.Sources.{Answer as AnswerValue, Answers, TellsAll};
 ghost use Rattle.sum_words.specs.Items.{ByteString};
 ghost use Rattle.sum_words.specs.declared.tool.Tool.TheVariants.{Md5sum, Sha256sum, Anysum};
 
 use crate::command::command;
 use crate::laws::{joined_is_good, told_performs, told_program_performs, written_is_good};
 use crate::run::run;
-use std::alloc::Allocator;
+use std::alloc::{Allocator, Global};
+use sum_engine::laws::told_agree;
 use sum_engine::{Outputs, Reader, Stop, Streams};
-use sum_lines::Sink;
-use sum_sources::Source;
-use sum_words::{Arguments, Tool, Words};
+use sum_lines::{Sink, ToldSink};
+use sum_sources::laws::inputs_tell;
+use sum_sources::{Answer, Ending, Inputs, NoRoom, Source, Stdin, Told, ToldSource};
+use sum_words::{Arguments, ToldArguments, Tool, Words};
 
 // `md5sum e` over files in memory, of which `e` is empty: if it doesn't stop, the status is 0, and standard output got
 // the line of `e` and nothing else.
@@ -55,9 +58,48 @@ fn command_on_nothing<A: Allocator + Copy, G: Arguments, S: Source, O: Sink, E: 
     status
 }
 
+// `md5sum e`, if `e` is empty: if the status is 0, standard output got its line.
+fn command_on_e<A: Allocator + Copy, G: Arguments, S: Source, O: Sink, E: Sink>(
+    alloc: A,
+    arguments: &mut G,
+    streams: &mut Streams<Reader<S>, Outputs<O, E>>,
+) -> u8
+    requires new { (G.state arguments.old).given ≡ [] }
+    requires told { (G.state arguments.old).told ≡ Some (codes "md5sum" ∷ codes "e" ∷ []) }
+    requires start { streams.old.inputs.openings ≡ [] }
+    ensures { (answer : Answers) → TellsAll S.tells streams.old.inputs.told answer →
+        answer (codes "e") 0 ≡ Ok empty_content → result ≡ 0 →
+        streams.new.outputs.out.written ≡ streams.old.outputs.out.written
+        ++ codes "d41d8cd98f00b204e9800998ecf8427e  e\n" }
+{
+    let status = command(alloc, arguments, streams);
+    told_program_performs(arguments, streams);
+    told_agree(&streams.inputs);
+    status
+}
+
+// The same with all in memory: what standard output holds.
+fn e_in_memory(alloc: Global) -> Result<(u8, ToldSink<64>), NoRoom>
+    ensures { IfOk result (λ r. r.0 ≡ 0 → bytes_of r.1 ≡ codes "d41d8cd98f00b204e9800998ecf8427e  e\n") }
+{
+    let mut source = ToldSource::new(alloc, 1);
+    source.add(b"e", Answer::Content(b"", Ending::Whole))?;
+    let stdin = Stdin::new(Told::new(b"", Ending::Whole, 1));
+    let inputs = Inputs::new(stdin, source);
+    let mut streams: Streams<
+        Reader<Inputs<Told, ToldSource<Global>>>,
+        Outputs<ToldSink<64>, ToldSink<64>>,
+    > = Streams::new(inputs, ToldSink::new(64), ToldSink::new(64));
+    let words: [&[u8]; 2] = [b"md5sum", b"e"];
+    let mut arguments = ToldArguments::new(&words);
+    inputs_tell();
+    let status = command_on_e(alloc, &mut arguments, &mut streams);
+    Ok((status, streams.outputs.out.into_inner()))
+}
+
 // `md5sum a` wrote `SUMS`, and `a` is the same later: then a check reports `a: OK` and nothing else, with status 0.
 fn one_name_is_good()
-    ensures { (files later : ByteString → Answer) (w v : World) → HasFiles w files → HasFiles v later →
+    ensures { (files later : ByteString → AnswerValue) (w v : World) → HasFiles w files → HasFiles v later →
         IsListable files (codes "a") → later (codes "a") ≡ files (codes "a") →
         let sums = out_text (meaning Md5sum (codes "a" ∷ []) w) in
         length sums < limit → answer_to v (codes "SUMS") ≡ Ok (record { bytes = sums; ending = Whole }) →
@@ -69,7 +111,7 @@ fn one_name_is_good()
 
 // `md5sum --tag a` and `sha256sum --tag b` wrote `SUMS`, one after the other: then `anysum` reports both in its check.
 fn two_tools_are_good()
-    ensures { (files later : ByteString → Answer) (w v : World) → HasFiles w files → HasFiles v later →
+    ensures { (files later : ByteString → AnswerValue) (w v : World) → HasFiles w files → HasFiles v later →
         IsListable files (codes "a") → later (codes "a") ≡ files (codes "a") →
         IsListable files (codes "b") → later (codes "b") ≡ files (codes "b") →
         let sums = out_text (meaning Md5sum (codes "--tag" ∷ codes "a" ∷ []) w)

@@ -118,11 +118,12 @@ abbrev pub IsNotUnread : VerdictResult → Type 0
 IsNotUnread (Ok (Some v)) = is_unread v.verdict ≡ false
 IsNotUnread x = ⊤
 
--- what a call for the next verdict opens: the name of the line's verdict, or none; or the source was refused memory
-abbrev pub AsksFor : ByteString → SourceState → SourceState → VerdictResult → Type 0
-AsksFor vector a b (Ok (Some v)) = AsksNames a b (asks_of (line_verdict_value vector v))
-AsksFor vector a b (Err Memory) = MemoryWasRefused a b ⊎ (b ≡ a)
-AsksFor vector a b x = AsksNames a b []
+-- what a call for the next verdict opens: the name of the line's verdict, or none; or the source was
+-- refused memory, or there was none for a line, of which bytes were read ahead
+abbrev pub AsksFor : ByteString → ByteString → SourceState → SourceState → VerdictResult → Type 0
+AsksFor vector ahead a b (Ok (Some v)) = AsksNames a b (asks_of (line_verdict_value vector v))
+AsksFor vector ahead a b (Err Memory) = MemoryWasRefused a b ⊎ ((b ≡ a) × (0 < length ahead))
+AsksFor vector ahead a b x = AsksNames a b []
 
 -- what a call for the next verdict does
 pub record AdvancesVerdicts {I : Type 0} (state : I → InputState) (vector : ByteString) (p q : VerdictsValue I)
@@ -139,5 +140,5 @@ pub record AdvancesVerdicts {I : Type 0} (state : I → InputState) (vector : By
   pub reading : IsReading state p.reader → IsReading state q.reader
   pub before : IsReading state p.reader → (c : Content) → IsOf (reads_of state q.reader) c
       → IsOf (reads_of state p.reader) c
-  pub asked : AsksFor vector a b x
+  pub asked : AsksFor vector q.reader.ahead a b x
   pub reads : ReadsToEndIf (IsNotUnread x) a b

@@ -1,23 +1,23 @@
 -- Relates standard input and a source of files to the log that both keep as one source.
-use Rattle.std.specs.Prelude.{ℕ, ◌≡◌, false, List, [], ◌∷◌, codes, Option, Some, IfSome, Result, Ok}
+use Rattle.std.specs.Prelude.{ℕ, ◌≡◌, true, false, List, [], ◌∷◌, codes, Option, Some, IfSome, Result, Ok}
 use Rattle.std.specs.Option.{option_map}
-use Rattle.sum_sources.specs.{Contents.InputState, Contents.Reads, Contents.Fault, Contents.empty_content, Contents.Whole, Faults.ByteString, Contents.Unfinished, StandardInput.given_by, StandardInput.unless_closed, Sources.Opening, Sources.gave_of, Sources.gave_at, Sources.IsOfAnswer, Inputs.is_dash, Inputs.given_once, declared.inputs.stdin.StdinPlace.StdinPlace, declared.inputs.closable.Closable.TheVariants.Closed}
+use Rattle.sum_sources.specs.{Contents.InputState, Contents.Reads, Contents.Fault, Contents.empty_content, StandardInput.given_by, StandardInput.is_untaken, StandardInput.unless_closed, Sources.Opening, Sources.gave_of, Sources.gave_at, Sources.IsOfAnswer, Inputs.given_once, Inputs.others, StandardInput.StdinPlace}
 
--- before `-` is opened, what taking gives is what it was at first; afterwards it is empty
-abbrev pub IsPlaceOf : {I : Type 0} → (I → InputState) → StdinPlace I → InputState
-    → List (Option (Result Reads Fault)) → Type 0
-IsPlaceOf state place untaken [] = (unless_closed state (given_by place)).told ≡ untaken.told
-IsPlaceOf state place untaken (g ∷ gs) = given_by place ≡ Closed Whole Unfinished
+-- standard input is as it was at first if `-` wasn't opened, and is taken otherwise
+abbrev pub IsPlaceOf : {I : Type 0} → StdinPlace I → StdinPlace I → List (Option (Result Reads Fault)) → Type 0
+IsPlaceOf first place [] = place ≡ first
+IsPlaceOf first place (g ∷ gs) = is_untaken place ≡ false
 
 -- what an opening of `-` gave fits its answer, if one is told
 abbrev pub GivesStdin : InputState → ℕ → Option (Result Reads Fault) → Type 0
 GivesStdin untaken k gave =
     IfSome (given_once (option_map Ok untaken.told) (Some (Ok empty_content)) k) (λ told. IfSome gave (IsOfAnswer told))
 
--- the invariant of standard input, what it was before it was taken, the openings of both, and those of the source
-pub record InputsInvariant {I : Type 0} (state : I → InputState) (stdin : StdinPlace I) (untaken : InputState)
+-- the invariant of standard input at first and now, the openings of both, and those of the source
+pub record InputsInvariant {I : Type 0} (state : I → InputState) (first stdin : StdinPlace I)
     (openings source : List Opening) : Type 0 where
-  pub place : IsPlaceOf state stdin untaken (gave_of openings (codes "-"))
-  pub given : (k : ℕ) → GivesStdin untaken k (gave_at openings (codes "-") k)
-  -- each other name was opened in the source, and nothing else was
-  pub files : (name : ByteString) → is_dash name ≡ false → gave_of openings name ≡ gave_of source name
+  pub untaken : is_untaken first ≡ true
+  pub place : IsPlaceOf first stdin (gave_of openings (codes "-"))
+  pub given : (k : ℕ) → GivesStdin (unless_closed state (given_by first)) k (gave_at openings (codes "-") k)
+  -- the other names were opened in the source
+  pub files : others openings ≡ others source

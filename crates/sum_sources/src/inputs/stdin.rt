@@ -4,34 +4,25 @@ ghost use Rattle.sum_sources.specs.StandardInput.{GivesUnread, given_by, put_bac
 
 use crate::fault::EBADF;
 use crate::inputs::closable::Closable;
-use crate::inputs::read_log::Reads;
 use crate::{Ending, Fault, Input, Phase};
-use ghost_log::Notes;
 use std::marker::Model;
-use std::mem;
-
-#[derive(Debug, Drop)]
-enum StdinPlace<I> {
-    Untaken(Closable<I>),
-    Taken,
-    Returned(Closable<I>),
-}
 
 /// Standard input. Its input is taken once, and then put back. Until it is taken, nothing has been read of it.
 #[derive(Debug, Drop)]
 pub struct Stdin<I: Input> {
-    place: StdinPlace<I>,
+    taken: bool,
+    // unless it is taken and wasn't put back
+    input: Option<Closable<I>>,
 }
 
 impl<I: Input> Model for Stdin<I> {
-    ghost use Rattle.sum_sources.specs.StandardInput.{GivesUnread};
-    ghost use Rattle.sum_sources.specs.declared.inputs.stdin.StdinPlace.{StdinPlace};
+    ghost use Rattle.sum_sources.specs.StandardInput.{GivesUnread, StdinPlace};
 
     ghost Value = { StdinPlace I };
 
-    ghost view = { λ s. s.place };
+    ghost view = { λ s. (s.taken, s.input) };
 
-    ghost invariant = { λ s. GivesUnread I.state s.place };
+    ghost invariant = { λ s. GivesUnread I.state (s.taken, s.input) };
 }
 
 /// What [`Stdin::take`] gives: the input of standard input the first time, and an empty one afterwards. It can't be
@@ -50,17 +41,18 @@ impl<I> Model for Given<I> {
 }
 
 impl<I: Input> Stdin<I> {
-    ghost use Rattle.std.specs.Prelude.{pos};
+    ghost use Rattle.std.specs.Prelude.{pos, false, Some};
     ghost use Rattle.sum_sources.specs.Contents.{unread};
     ghost use Rattle.sum_sources.specs.declared.inputs.closable.Closable.TheVariants.{Open, Closed};
 
     /// Creates a standard input that gives `input`, which hasn't been read, when it is taken.
     pub fn new(input: I) -> Self
         requires { (I.state input).reads ≡ unread }
-        ensures { result ≡ StdinPlace.Untaken (Open input) }
+        ensures { result ≡ (false, Some (Open input)) }
     {
         Stdin {
-            place: StdinPlace::Untaken(Closable::Open(input)),
+            taken: false,
+            input: Some(Closable::Open(input)),
         }
     }
 
@@ -68,10 +60,11 @@ impl<I: Input> Stdin<I> {
     /// `Fault::Os(EBADF)`, *Bad file descriptor*.
     pub fn closed() -> Self
         ensures { result
-            ≡ StdinPlace.Untaken (Closed (Ending.Broken (Fault.Os (pos 9))) Phase.Unfinished) }
+            ≡ (false, Some (Closed (Ending.Broken (Fault.Os (pos 9))) Phase.Unfinished)) }
     {
         Stdin {
-            place: StdinPlace::Untaken(Closable::Closed(
+            taken: false,
+            input: Some(Closable::Closed(
                 Ending::Broken(Fault::Os(EBADF)),
                 Phase::Unfinished,
             )),
@@ -85,14 +78,11 @@ impl<I: Input + Drop> Stdin<I> {
         ensures given { (result ≡ given_by self.old) × GivesUnread I.state self.old }
         ensures taken { self.new ≡ taken self.old }
     {
-        let input = match mem::replace(&mut self.place, StdinPlace::Taken) {
-            StdinPlace::Untaken(input) => input,
-            place => {
-                self.place = place;
-                Closable::Closed(Ending::Whole, Phase::Unfinished)
-            }
-        };
-        Given { input }
+        let input = if self.taken { None } else { self.input.take() };
+        self.taken = true;
+        Given {
+            input: input.unwrap_or(Closable::Closed(Ending::Whole, Phase::Unfinished)),
+        }
     }
 
     /// Puts back what `take` gave. It is kept if nothing was put back before, and dropped otherwise.
@@ -100,17 +90,10 @@ impl<I: Input + Drop> Stdin<I> {
         ensures { self.new ≡ put_back self.old given }
     {
         let Given { input } = given;
-        if let StdinPlace::Taken = self.place {
-            self.place = StdinPlace::Returned(input);
+        if self.taken && self.input.is_none() {
+            self.input = Some(input);
         }
     }
-}
-
-// It is what is taken of this standard input.
-impl<'a, I: Input> Notes<&'a Stdin<I>> for Reads {
-    ghost use Rattle.sum_sources.specs.StandardInput.{given_by, unless_closed};
-
-    ghost noted = { λ _ x. unless_closed I.state (given_by x.now) };
 }
 
 impl<I: Input> Input for Given<I> {

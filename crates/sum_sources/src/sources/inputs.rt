@@ -3,7 +3,6 @@ ghost use Rattle.std.specs.Prelude.{◌≡◌};
 ghost use Rattle.sum_sources.specs.Inputs.{is_dash};
 ghost use Rattle.sum_sources.specs.refinement.InputsStates.{InputsInvariant};
 
-use crate::inputs::read_log::{ReadLog, Reads};
 use crate::sources::opened::{Opened, Place};
 use crate::sources::source_log::{ClosedFile, Note, Openings, OthersOf, SourceLog, next_file};
 use crate::{Input, OpenFault, Source, Stdin};
@@ -16,33 +15,35 @@ use std::marker::PhantomData;
 pub struct Inputs<I: Input, S: Source> {
     stdin: Stdin<I>,
     source: S,
-    // Standard input before it was taken.
-    untaken: ReadLog,
+    // Standard input at first.
+    first: Log<Stdin<I>>,
     log: SourceLog,
     // A struct that speaks of a source has to name the type of its files.
     files: PhantomData<S::File>,
-    ghost is: { ∥ InputsInvariant I.state stdin untaken log.openings (S.state source).openings ∥₁ },
+    ghost is: { ∥ InputsInvariant I.state first stdin log.openings (S.state source).openings ∥₁ },
 }
 
 impl<I: Input, S: Source> Inputs<I, S> {
-    ghost use Rattle.sum_sources.specs.Inputs.{inputs_state, with_stdin, without_dash};
-    ghost use Rattle.sum_sources.specs.StandardInput.{given_by, unless_closed};
+    ghost use Rattle.sum_sources.specs.Inputs.{inputs_state, others, with_stdin, without_dash};
+    ghost use Rattle.sum_sources.specs.StandardInput.{given_by, is_untaken, unless_closed};
+    ghost use Rattle.std.specs.Prelude.{true};
 
-    /// Creates the inputs with this standard input and this source. What the source opened before by the name `-`
-    /// doesn't count.
+    /// Creates the inputs with this standard input, which hasn't been taken, and this source. What the source opened
+    /// before by the name `-` doesn't count.
     pub fn new(stdin: Stdin<I>, source: S) -> Self
+        requires { is_untaken stdin ≡ true }
         ensures parts { (result.stdin ≡ stdin) × (result.source ≡ source) }
-        ensures state { inputs_state result.untaken result.log (S.state source)
+        ensures state { inputs_state I.state result.first result.log (S.state source)
             ≡ record (without_dash (S.state source)) {
               told = with_stdin (unless_closed I.state (given_by stdin)).told (S.state source).told;
             } }
     {
-        let untaken = Log::of(&Reads).and(&&stdin);
+        let first = Log::of(&stdin);
         let log = Log::of(&Openings).and(&OthersOf(&source));
         Inputs {
             stdin,
             source,
-            untaken,
+            first,
             log,
             files: PhantomData,
         }
@@ -50,7 +51,9 @@ impl<I: Input, S: Source> Inputs<I, S> {
 
     /// The source of files.
     pub fn source(&self) -> &S
-        ensures { result.now ≡ self.now.source }
+        ensures is { result.now ≡ self.now.source }
+        // Each name but `-` was opened in it, in this order.
+        ensures others { others (S.state self.now.source).openings ≡ others self.now.log.openings }
     {
         &self.source
     }
@@ -69,7 +72,7 @@ impl<I: Input + Drop, S: Source> Source for Inputs<I, S> {
 
     type File = Opened<I, S::File>;
 
-    ghost state = { λ s. inputs_state s.untaken s.log (S.state s.source) };
+    ghost state = { λ s. inputs_state I.state s.first s.log (S.state s.source) };
 
     ghost tells = { tells_both S.tells };
 
@@ -79,18 +82,21 @@ impl<I: Input + Drop, S: Source> Source for Inputs<I, S> {
 
     /// Opens the name: `-` gives what [`Stdin::take`] gives, and any other name is opened in the source.
     fn open_file(&mut self, name: &[u8]) -> Result<Opened<I, S::File>, OpenFault>
-        ensures state { inputs_state self.new.untaken self.new.log (S.state self.new.source)
+        ensures state { inputs_state I.state self.new.first self.new.log (S.state self.new.source)
             ≡ after_opening
-            (inputs_state self.old.untaken self.old.log (S.state self.old.source)) name.now
+            (inputs_state I.state self.old.first self.old.log (S.state self.old.source)) name.now
             result }
         ensures file { IfOk result (λ file. opened_state I.state S.File.state file.place
             ≡ opened_file (tells_both S.tells)
-            (inputs_state self.old.untaken self.old.log (S.state self.old.source)) name.now) }
-        // `-` gives what taking standard input gives, and no other name takes it.
-        ensures stdin { MatchBool (is_dash name.now)
+            (inputs_state I.state self.old.first self.old.log (S.state self.old.source)) name.now) }
+        // `-` gives what taking standard input gives, and any other name is opened in the source. The other is
+        // unchanged.
+        ensures parts { MatchBool (is_dash name.now)
             (MatchResult result
-            (λ file. TakesStdin self.old.stdin self.new.stdin file.place) (λ _. ⊥))
-            (self.new.stdin ≡ self.old.stdin) }
+            (λ file. TakesStdin self.old.stdin self.new.stdin file.place) (λ _. ⊥)
+            × (self.new.source ≡ self.old.source))
+            ((self.new.stdin ≡ self.old.stdin)
+            × (S.state self.new.source ≡ after_opening (S.state self.old.source) name.now result)) }
     {
         if is_dash(name) {
             let opened = Opened::of_stdin(self.stdin.take(), next_file(&self.log, name));
@@ -110,7 +116,20 @@ impl<I: Input + Drop, S: Source> Source for Inputs<I, S> {
         }
     }
 
-    fn close_file(&mut self, file: Opened<I, S::File>) {
+    ghost use Rattle.sum_sources.specs.Inputs.{closed_place};
+    ghost use Rattle.sum_sources.specs.Sources.{IsOpen, after_closing};
+
+    fn close_file(&mut self, file: Opened<I, S::File>)
+        requires { IsOpen (tells_both S.tells)
+            (inputs_state I.state self.old.first self.old.log (S.state self.old.source))
+            (opened_state I.state S.File.state file.place) }
+        ensures state { inputs_state I.state self.new.first self.new.log (S.state self.new.source)
+            ≡ after_closing
+            (inputs_state I.state self.old.first self.old.log (S.state self.old.source))
+            (opened_state I.state S.File.state file.place) }
+        ensures parts { (self.new.stdin, S.state self.new.source)
+            ≡ closed_place S.File.state file.place self.old.stdin (S.state self.old.source) }
+    {
         self.log = self.log.and(&ClosedFile(&file));
         let Opened { place } = file;
         match place {
@@ -119,5 +138,5 @@ impl<I: Input + Drop, S: Source> Source for Inputs<I, S> {
         }
     }
 
-    ghost gives_told = { λ s. inputs_give I.state S.tells s.stdin s.untaken s.log (S.state s.source) s.is (S.gives_told s.source) };
+    ghost gives_told = { λ s. inputs_give I.state S.tells s.first s.stdin s.log (S.state s.source) s.is (S.gives_told s.source) };
 }

@@ -2,6 +2,7 @@ use Rattle.std.proofs.Common.{ℕ, List, [], Option, None, Some, inl, inr}
 use Rattle.sum_engine.specs.{Behavior.ByteString, Behavior.World, Execution.world_at, Execution.Agrees, Execution.StreamsState}
 use Rattle.sum_words.specs.{CommandLines.command_line, declared.tool.Tool.Tool}
 use Rattle.digests.specs.{Program.CommandPerforms, InMemory.CommandPerformsIn}
+use Rattle.sum_engine.proofs.WorldLaws.{all_agree}
 use Rattle.digests.proofs.laws.told_program_performs.Goals as goal
 
 -- a call of the tool, or of none, in a world that agrees
@@ -16,7 +17,7 @@ pub returns : goal.returns
 returns g c = λ arguments answer a status are all did reads.
     let listed = c.some_list_agrees.ensures.1 in
     let w : World = record { answer = answer; opened = [] } in
-    let agrees = c.told_agree.ensures answer (rw (← reads.told) at all) in
+    let agrees = all_agree g.S.Source.tells c.args.streams.now.inputs answer c.told_agree.ensures (rw (← reads.told) at all) in
     elim (did arguments (rw (rw are at listed.told) at listed)) [
       | inl done ↦ inl (command_in w (command_line arguments) a _ status agrees done)
       | inr refused ↦ inr refused

@@ -1,6 +1,7 @@
-use Rattle.std.proofs.Common.{arith, ◌≡◌, [], Option}
-use Rattle.sum_engine.specs.{Behavior.ByteString, Execution.StreamsState}
-use Rattle.digests.specs.Program.{fresh_output, fresh_streams}
+use Rattle.std.proofs.Common.{rules, arith, ◌≡◌, ℕ, suc, List, [], Option, Ok, IfSome, codes, inl, inr}
+use Rattle.sum_engine.specs.{Behavior.ByteString, Behavior.World, Execution.StreamsState}
+use Rattle.sum_sources.specs.{Contents.empty_content, Inputs.tells_both, Sources.Pair, Sources.ToldAnswers}
+use Rattle.digests.specs.Program.{IsStdinAlone, fresh_output, fresh_streams}
 use Rattle.digests.proofs.program.program.Goals as goal
 
 -- streams are fresh if nothing was opened, and their outputs are fresh
@@ -20,6 +21,19 @@ returns-clause-behavior g c =
     let refusals : start.inputs.refusals ≡ 0 = grind (arith, c.new-2.ensures.state) in
     let outputs : start.outputs ≡ record { out = fresh_output out; err = fresh_output err } = cc in
     rw (are_fresh start c.command-status.new.streams out err openings refusals outputs did.reads.told) at did.behavior
+
+-- standard input and files tell that a later `-` is empty
+later_empty : (tells : ToldAnswers) (w : World) (told : List Pair) → IsStdinAlone told
+    → ((name : ByteString) (k : ℕ) → IfSome (tells_both tells told name k) (λ told. w.answer name k ≡ told))
+    → (k : ℕ) → w.answer (codes "-") (suc k) ≡ Ok empty_content
+later_empty tells w told (inl is) are k = rw is at (are (codes "-") (suc k))
+later_empty tells w told (inr is) are k = rw is at (are (codes "-") (suc k))
+
+pub returns-clause-once : goal.returns-clause-once
+returns-clause-once g c =
+    let (w, agrees, are) = c.told_agree.ensures in
+    let alone : IsStdinAlone c.command-status.new.streams.inputs.told = search rules in
+    (w, agrees, later_empty _ w _ alone are)
 
 -- since the streams were fresh, all that was opened was opened by this call
 pub returns-clause-reads : goal.returns-clause-reads

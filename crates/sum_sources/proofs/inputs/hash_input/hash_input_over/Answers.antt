@@ -1,6 +1,7 @@
 use Rattle.std.proofs.Common.{rules, arith, refl, ap, ◌≡◌, ◌≤◌, ◌++◌, List, ℕ, length, length-append, drop, ◌∙◌}
 use Rattle.std.{proofs.Math.Seq.drop-append_seam, proofs.lemmas.Result.err_from_is_err_and}
 use Rattle.sum_sources.specs.{Contents.Content, Contents.Ending, Contents.Reads, Contents.IsOf, Contents.clip, Contents.reads_past, Contents.Unfinished, refinement.LimitedReads.FindsEnding}
+use Rattle.sum_sources.proofs.LimitLemmas.{before_more}
 use Rattle.sum_sources.proofs.inputs.hash_input.hash_input_over.Goals as goal
 
 -- the ending was read after these bytes
@@ -13,6 +14,12 @@ ended {a = a} front m was size ends c of =
     let rest : drop (length front) a.bytes ≡ m = rw was (drop-append_seam front m) in
     (ends (length front) low (ap (λ (r : Reads). r.phase) was)).content (ap length rest ∙ size) c of ∙ rw rest refl
 
+-- a content that all reads fit also fits those before the call
+before : {t : ℕ} (old a b : Reads) {e : Ending} (m : List ℕ) → old.phase ≡ Unfinished
+    → a ≡ record { bytes = old.bytes ++ m; phase = Unfinished } → FindsEnding t (reads_past 0 a) (reads_past 0 b) e
+    → (c : Content) → IsOf b c → IsOf old c
+before old a b m going was ends c of = before_more old a m going (rw (was, going) refl) c (ends.before c of)
+
 -- a read failed, or the limit was reached
 pub returns-in_err-n-clause-hashed : goal.returns-in_err-n-clause-hashed
 returns-in_err-n-clause-hashed g c =
@@ -24,6 +31,7 @@ returns-in_err-n-clause-hashed g c =
       same = search rules;
       digest = λ new d of.
           rw (fault.2, ended _ i.read.0 (i.read.2 new) (omega (arith, i.taken, counted)) ends d of) refl;
+      before = λ going. before _ _ _ i.read.0 going (i.read.2 going) (ends 0 (omega arith) (i.phase going));
       end = λ going. tt;
       past = λ going. (ends 0 (omega arith) (i.phase going)).past;
     })
@@ -39,6 +47,7 @@ returns-then-n-eq0-clause-hashed g c =
       digest = λ new d of.
           rw (← i.kind, ended _ i.read.0 (i.read.2 new) (omega (arith, i.taken, counted)) ends d of)
           (refl, c.finish.ensures.value i.read.0 i.read.1);
+      before = λ going. before _ _ _ i.read.0 going (i.read.2 going) (ends 0 (omega arith) (i.phase going));
       end = λ going. (ends 0 (omega arith) (i.phase going)).end refl;
       past = λ going. (ends 0 (omega arith) (i.phase going)).past;
     }

@@ -1,6 +1,6 @@
 use Rattle.std.proofs.lemmas.Grind.{common_steps}
-use Rattle.std.proofs.Common.{ap, arith, ◌≡◌, length}
-use Rattle.sum_sources.specs.{LineReaders.IsBounded, declared.line_reader.LineReader.TheInside.Inside, refinement.LineStates.line_reader_view, refinement.LineStates.final_answer_in, refinement.LineStates.LineReaderInvariant}
+use Rattle.std.proofs.Common.{ap, arith, ◌≡◌, length, Some, Err}
+use Rattle.sum_sources.specs.{LineReaders.IsBounded, declared.line_reader.LineReader.TheInside.Inside, declared.line_reader.LineStop.TheVariants.Memory, declared.line_reader.ReaderState.ReaderState, declared.line_reader.ReaderState.TheVariants.Active, declared.line_reader.ReaderState.TheVariants.Done, declared.line_reader.ReaderState.TheVariants.Stopped, refinement.LineStates.line_reader_view, refinement.LineStates.final_answer_in, refinement.LineStates.LineReaderInvariant}
 use Rattle.sum_sources.proofs.ReadOnLemmas.{counted, settled_again}
 use Rattle.sum_sources.proofs.line_reader.LineReader.next_line.Goals as goal
 
@@ -18,9 +18,20 @@ returns-in-Ok-Line-clause-line g c = λ reading.
     let read = c.read_on-result.ensures.line reading in
     counted {new = line_reader_view c.self-2.inside} _ (rw (c.drop_return.ensures, c.self-2.view_is) read)
 
+-- memory was refused
+is_stopped : (state : ReaderState) → final_answer_in state ≡ Some (Err Memory) → state ≡ Stopped Memory
+is_stopped Active is = cc
+is_stopped Done is = cc
+is_stopped (Stopped e) is = cc
+
 -- what the fields keep
 bounded : {I : Type 0} (s : Inside I) → length s.buf ≡ 8192 → LineReaderInvariant s → IsBounded (line_reader_view s)
-bounded s size i = grind (arith, common_steps, i.each, i.most)
+bounded s size i = record {
+  lines = grind (arith, common_steps, i.each);
+  ahead = grind (arith, common_steps, i.each);
+  taken = i.most;
+  wants = λ stopped. let some = i.wants (is_stopped s.state stopped) in grind (arith, common_steps, some, i.end_in);
+}
 
 pub returns-in-Active-2-clause-bounds : goal.returns-in-Active-2-clause-bounds
 returns-in-Active-2-clause-bounds g c =

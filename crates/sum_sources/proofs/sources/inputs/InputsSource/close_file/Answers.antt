@@ -13,8 +13,8 @@ invariant_of-self g c =
     g.met.S.File.Input.has_content c.args.file.place in
     record {
       is = rw (c.and-self.ensures, c.put_back.ensures) (∥∥₁_map c.args.self.now.is (λ kept.
-          kept_back kept file.name file.opening file.reads c.in-Stdin.given dash
-          (stdin_gives g.S.Source.tells c.args.self.now.untaken c.args.self.now.log
+          kept_back kept file.name file.opening file.reads c.in-Stdin.given dash c.requires.opening
+          (stdin_gives g.S.Source.tells c.args.self.now.log
           (g.S.Source.state c.args.self.now.source) kept file has dash c.requires)));
     }
 
@@ -24,7 +24,7 @@ close_file-requires g c =
     let file = opened_state g.I.Input.state g.S.File.Input.state in
     let other : is_dash (file c.args.file.place).name ≡ false = c.args.file.named ∙ ap is_stdin c.in-File.is in
     rw c.in-File.is at (∥∥₁_elim c.args.self.now.is (hlevel props) (λ kept.
-    open_there g.S.Source.tells c.args.self.now.untaken c.args.self.now.log
+    open_there g.S.Source.tells c.args.self.now.log
     (g.S.Source.state c.args.self.now.source) kept (file c.args.file.place) other c.requires))
 
 -- a file of the source is closed in the source

@@ -1,4 +1,4 @@
-use Rattle.std.proofs.Common.{◌∙◌, sym, ap}
+use Rattle.std.proofs.Common.{◌∙◌, refl, sym, ap}
 use Rattle.std.{proofs.Math.Logic.∥∥₁_elim, proofs.Math.Logic.∥∥₁_map, proofs.Props.props}
 use Rattle.sum_sources.specs.Inputs.{opened_state}
 use Rattle.sum_sources.proofs.InputsLemmas.{kept_opening, kept_stdin, stdin_opened, file_opened}
@@ -15,14 +15,14 @@ invariant_of-self g c = record {
 pub returns-then-is_dash-clause-file : goal.returns-then-is_dash-clause-file
 returns-then-is_dash-clause-file g c = ∥∥₁_elim c.args.self.now.is (hlevel props) (λ kept.
     ap (opened_state g.I.Input.state g.S.File.Input.state) c.of_stdin-opened.ensures ∙ rw c.next_file.ensures
-    (stdin_opened g.S.Source.tells c.args.self.now.untaken c.args.self.now.log
+    (stdin_opened g.S.Source.tells c.args.self.now.log
     (g.S.Source.state c.args.self.now.source) kept c.args.name.now c.take.result
     (sym c.is_dash.ensures ∙ c.if-is_dash.true) c.take.ensures.given.0 c.take.ensures.given.1))
 
-pub returns-then-is_dash-clause-stdin : goal.returns-then-is_dash-clause-stdin
-returns-then-is_dash-clause-stdin g c =
+pub returns-then-is_dash-clause-parts : goal.returns-then-is_dash-clause-parts
+returns-then-is_dash-clause-parts g c =
     rw (sym c.is_dash.ensures ∙ c.if-is_dash.true, c.of_stdin-opened.ensures)
-    (c.take.ensures.given.0, c.take.ensures.taken)
+    ((c.take.ensures.given.0, c.take.ensures.taken), refl)
 
 -- ---- another name
 
@@ -42,5 +42,5 @@ invariant_of-self-in-Err-Fault g c = record {
 pub returns-in-Ok-clause-file : goal.returns-in-Ok-clause-file
 returns-in-Ok-clause-file g c = ∥∥₁_elim c.args.self.now.is (hlevel props) (λ kept.
     c.of_file.ensures ∙ c.in-Ok.ensures.file
-    ∙ file_opened g.S.Source.tells c.args.self.now.untaken c.args.self.now.log
+    ∙ file_opened g.S.Source.tells c.args.self.now.log
     (g.S.Source.state c.args.self.now.source) kept c.args.name.now (sym c.is_dash.ensures ∙ c.if-is_dash.false))

@@ -1,0 +1,27 @@
+use Rattle.std.proofs.Common.{arith, ◌≡◌, ◌∙◌, ap, refl, ◌∷◌, ◌++◌, [], Ok, Some, codes}
+use Rattle.sum_engine.specs.Execution.{OutputsState, StreamsState}
+use Rattle.sum_lines.specs.Sinks.{SinkState}
+use Rattle.sum_sources.specs.{Contents.empty_content, StandardInput.ToldContent, Inputs.answers_with, Inputs.with_stdin}
+use Rattle.sum_sources.specs.Sources.{Pair, SourceState, first_answer, names_of, tells_first, times}
+use Rattle.digests.proofs.tests.laws.e_in_memory.Goals as goal
+
+-- the file `e`, as the source has it
+abbrev e : Pair
+e = record { name = codes "e"; from = 0; answer = Some (Ok empty_content) }
+
+-- all that is told is in memory: standard input and `e`
+pub returns : goal.returns
+returns c = λ zero.
+    let with_e : SourceState → SourceState = λ s. record s {
+      told = s.told ++ record e { from = times (codes "e") (names_of s.openings) } ∷ [];
+    } in
+    let added = c.in_ok-add.ensures.ok ∙ ap with_e c.new-source.ensures.0 in
+    let told : c.new-streams.result.inputs.told ≡ with_stdin (Some empty_content) (e ∷ []) =
+    grind (arith, c.new-inputs.ensures.state, c.new-stdin.ensures, added, c.new.ensures) in
+    let all = c.inputs_tell.ensures empty_content tells_first (e ∷ []) (first_answer (e ∷ [])) (λ name k. refl) in
+    let wrote = c.command_on_e-status.ensures (answers_with empty_content (first_answer (e ∷ [])))
+    (rw told all) refl zero in
+    let none : c.new-streams.result.outputs.out.written ≡ [] =
+    ap (λ (o : OutputsState). o.out.written) c.new-streams.ensures.outputs ∙ c.new-2.ensures.empty in
+    ap (λ (s : SinkState). s.written) c.into_inner.ensures.state
+    ∙ ap (λ (s : StreamsState). s.outputs.out.written) c.streams.view_is ∙ rw none at wrote

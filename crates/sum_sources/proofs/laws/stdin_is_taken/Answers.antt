@@ -1,0 +1,6 @@
+use Rattle.std.{proofs.Math.Logic.∥∥₁_elim, proofs.Props.props}
+use Rattle.sum_sources.proofs.InputsLemmas.{taken_if}
+use Rattle.sum_sources.proofs.laws.stdin_is_taken.Goals as goal
+
+pub returns : goal.returns
+returns g c = ∥∥₁_elim c.args.inputs.now.is (hlevel props) (taken_if _ _ _ _ _)
