@@ -17,7 +17,7 @@ use crate::stop::Stop;
 use crate::streams::Outputs;
 use crate::tool_lines::NameFaultLine;
 use digest_kinds::Algos;
-use sum_lines::{Part, Parts, Sink, SinkFault, TextOutput, mark_and_name};
+use sum_lines::{Part, Parts, Sink, SinkFault, Output, mark_and_name};
 
 /// Writes the report of a line with this number, verdict and name: first to `err`, and then to `out`. Returns `Going`.
 pub(crate) fn put_report<O: Sink, E: Sink>(
@@ -38,7 +38,7 @@ pub(crate) fn put_report<O: Sink, E: Sink>(
 }
 
 fn put_out<O: Sink>(
-    out: &mut TextOutput<O>,
+    out: &mut Output<O>,
     report: Report,
     verdict: Verdict,
     name: &[u8],
@@ -52,7 +52,7 @@ fn put_out<O: Sink>(
 }
 
 fn put_verdict<O: Sink>(
-    out: &mut TextOutput<O>,
+    out: &mut Output<O>,
     verdict: Verdict,
     name: &[u8],
 ) -> Result<(), SinkFault>
@@ -68,7 +68,7 @@ fn put_verdict<O: Sink>(
 
 // Writes the name, as a line begins with it, and what follows it.
 fn put_name_line<'a, O: Sink>(
-    out: &mut TextOutput<O>,
+    out: &mut Output<O>,
     name: &'a [u8],
     text: &'a [u8],
 ) -> Result<(), SinkFault>
@@ -80,7 +80,7 @@ fn put_name_line<'a, O: Sink>(
 }
 
 fn put_err<E: Sink>(
-    err: &mut TextOutput<E>,
+    err: &mut Output<E>,
     rules: CheckRules,
     labels: &Labels,
     number: u64,
@@ -105,7 +105,7 @@ fn put_err<E: Sink>(
 }
 
 fn put_bad_line<E: Sink>(
-    err: &mut TextOutput<E>,
+    err: &mut Output<E>,
     rules: CheckRules,
     labels: &Labels,
     number: u64,
