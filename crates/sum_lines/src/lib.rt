@@ -19,7 +19,7 @@ mod sinks;
 mod writing;
 
 pub use escape::{needs_escape, put_escaped, unescape_in};
-pub use reading::read_line::{Form, Reading, read_line};
+pub use reading::read_line::{Form, Reading, is_ignored, read_line};
 pub use sinks::buffered::{Buffered, CAPACITY, put_all};
 pub use sinks::from_write::FromWrite;
 pub use sinks::output::{Output, Text};
