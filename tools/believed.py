@@ -95,9 +95,11 @@ def made():
     items, claimed = code().items, [claim[:2] for claim in CLAIMS]
     left, found = [it for it in items if (it.crate, it.file, it.name) == ("digests", "main.rt", "main")], []
     while left:
-        for owner, name in CALL.findall(left.pop(0).body):
-            blocks = [it.members for it in items if owner and (it.kind, it.name, it.trait) == ("impl", owner, None)]
-            called = [it for it in sum(blocks, [] if owner else items) if (it.kind, it.name) == ("fn", name)]
+        item = left.pop(0)
+        for owner, name in CALL.findall(item.body):
+            blocks = [it for it in items if owner and (it.kind, it.name, it.trait) == ("impl", owner, None)]
+            members = sum((it.members for it in code().meant(item, blocks)), [])
+            called = [it for it in (members if owner else items) if (it.kind, it.name) == ("fn", name)]
             called = [it for it in called if it.crate == "digests"] or called
             new = [it for it in called if it not in found and (it.crate, it.name) not in claimed]
             left += [it for it in new if it.crate == "digests"]

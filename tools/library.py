@@ -61,19 +61,27 @@ class Library:
 
     def __init__(self):
         self.items = [it for it in Code().items if it.crate in libraries() and "doc(hidden)" not in it.attributes]
-        self.blocks = [it for it in self.items if it.kind == "impl"]
         self.aliases = {it.name: re.search(r"= (\w+)", it.head)[1] for it in self.items if it.kind == "type"}
+
+    def types(self, item, name):
+        """The types that an item means by a name."""
+        return Code.meant(item, [it for it in self.items if it.name == name and it.kind in ("struct", "enum")])
+
+    def blocks(self, item):
+        """The type that an item is, or is another name of, and the blocks of it."""
+        types = self.types(item, self.aliases[item.name] if item.kind == "type" else item.name)
+        return types, [it for it in self.items if it.kind == "impl" and types and it.name == types[0].name
+                       and self.types(it, it.name) == types]
 
     def traits(self, item):
         """The traits of a type, by a derive or by an `impl`; `Model` is for contracts."""
-        name, found = self.aliases.get(item.name, item.name), []
-        for it in self.items:
-            if it.name == name and it.kind in ("struct", "enum"):
-                found += re.findall(r"\w+", " ".join(re.findall(r"derive\((.*)\)", it.attributes)))
-        for block in self.blocks:
-            if block.name == name and block.trait not in (None, "Model"):
+        types, blocks = self.blocks(item)
+        derived = " ".join(line for it in types for line in re.findall(r"derive\((.*)\)", it.attributes))
+        found = re.findall(r"\w+", derived)
+        for block in blocks:
+            if block.trait not in (None, "Model"):
                 types = [re.sub(r"^type |;$", "", it.text) for it in block.members if it.kind == "type"]
-                where = "" if name != item.name else bounds(block, item.head)
+                where = "" if item.kind == "type" else bounds(block, item.head)
                 found.append(block.trait + (f"<{', '.join(types)}>" if types else "") + where)
         return list(dict.fromkeys(found))
 
@@ -95,9 +103,9 @@ class Library:
         """The public calls of a type, and what a trait asks for, each with its bounds."""
         if item.kind == "trait":
             yield from ((it, "") for it in item.members)
-        for block in self.blocks:
-            if block.trait is None and block.name == self.aliases.get(item.name, item.name):
-                where = "" if item.name in self.aliases else bounds(block, item.head)
+        for block in self.blocks(item)[1]:
+            if block.trait is None:
+                where = "" if item.kind == "type" else bounds(block, item.head)
                 yield from ((it, where) for it in block.members if it.public and it.comment)
 
     def described(self, crate):

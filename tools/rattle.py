@@ -6,7 +6,7 @@ little."""
 import re
 from typing import NamedTuple
 
-from sources import TOP, WORD, code_of, crates, files, sources, text_of  # noqa: F401  (some are passed on)
+from sources import TOP, WORD, code_of, crates, files, needs, sources, text_of  # noqa: F401  (some are passed on)
 
 # Code.
 
@@ -96,6 +96,7 @@ class Item(NamedTuple):
     attributes: str
     members: list
     outside: dict
+    brought: dict
 
     @property
     def head(self):
@@ -136,14 +137,17 @@ class Code:
 
     def read(self, path, crate, file):
         text, code, comments = without_comments(path)
-        uses = uses_of("^", code)
+        uses, brought = uses_of("^", code), {}
+        for of, names in re.findall(r"(?<!\bghost )\buse\s+(\w+)([^;]*);", code):
+            for name in re.findall(r"\w+", names):
+                brought.setdefault(name, set()).add(crate if of in ("crate", "self", "super") else of)
 
         def item(start, kind, name, trait, public, uses, members=()):
             before, end = text[:text.rfind("\n", 0, start) + 1], end_of(code, start, kind)
             attributes = re.search(r"(?:^ *#\[.*\](?: //.*)?\n)*\Z", before, re.MULTILINE)
             body = code[end:behind_brace(code, end)] if kind == "fn" and code[end:].lstrip()[:1] == "{" else ""
             return Item(kind, name, trait, public, crate, file, text[start:end], code[start:end], body,
-                        comments.get(attributes.start(), []), attributes[0], list(members), uses)
+                        comments.get(attributes.start(), []), attributes[0], list(members), uses, brought)
 
         for it in ITEM.finditer(code):
             kind = it["kind"] or "impl"
@@ -164,13 +168,21 @@ class Code:
             raise ValueError(f"{crate} has {len(found)} functions {name}")
         return found[0]
 
+    @staticmethod
+    def meant(item, found):
+        """Those of items of one name that an item means by it: of the crates that a path or a `use` of its file says,
+        or else of its own crate, or else of those that this stands on."""
+        name = found[0].name if found else ""
+        said = {*item.brought.get(name, ()), *re.findall(rf"\b(\w+)::(?:\w+::)*{name}\b", item.code + item.body)}
+        chosen = [[it for it in found if it.crate in of] for of in (said, [item.crate], needs()[item.crate])]
+        return next(filter(None, chosen), found)
+
     def named(self, item):
-        """The traits, types and models that an item names outside its clauses: its crate's own or else another's."""
+        """The traits, types and models that an item names outside its clauses."""
         # The name of an enum's variant is no type's.
         said = re.sub(r"(?m)^    [A-Z]\w*", "", item.around) if item.kind == "enum" else item.around
         for name in re.findall(r"\b[A-Z]\w*", said):
-            found = [it for it in self.called if it.name == name]
-            found = [it for it in found if it.crate == item.crate] or found
+            found = self.meant(item, [it for it in self.called if it.name == name])
             if len({it.crate for it in found}) > 1:
                 raise ValueError(f"{name}, which {item.name} of {item.crate} names, is of several crates")
             yield from found
