@@ -8,7 +8,7 @@ import sys
 
 sys.dont_write_bytecode = True
 
-from rattle import TOP, Code, crates, text_of  # noqa: E402  (nothing is to be left beside these files)
+from rattle import TOP, Code, code_of, crates, text_of  # noqa: E402  (nothing is to be left beside these files)
 
 PAGE = os.path.join(TOP, "docs", "LIBRARY.md")
 BEGIN = "<!-- From here on tools/library.py writes. -->\n"
@@ -25,8 +25,11 @@ def source(crate, module):
 
 def exported(crate):
     """What the root of a crate exports: each module's file with the names from there, or None for all of them."""
-    root = text_of(source(crate, "lib"))
-    for module, names, name in re.findall(r"(?m)^pub use ([\w:]+)::(?:\{([^}]*)\}|(\w+));", root):
+    root = code_of(source(crate, "lib"))
+    passed_on = re.findall(r"\bpub\s+use ([\w:]+)::(?:\{([\w\s,]*)\}|(\w+));", root)
+    if len(passed_on) != len(re.findall(r"\bpub\b[^;{]*\buse\b", root)):
+        raise ValueError(f"the root of {crate} exports what can't be read")
+    for module, names, name in passed_on:
         yield module.replace("::", "/"), [name] if name else re.findall(r"\w+", names)
     for module in [*re.findall(r"(?m)^pub mod (\w+);", root), "lib"]:
         yield module, None
@@ -49,10 +52,10 @@ def bounds(block, known=""):
 
 def parts_of(item):
     """The public fields of a struct, or the variants of an enum, as the source has them."""
-    body = re.sub(r"(?m)^ *#\[.*\n", "", item.text.partition("{")[2])
+    body = re.sub(r"(?m)^ *#\[.*\n", "", item.around.partition("{")[2])
     if item.kind == "struct":
-        return re.findall(r"(?m)^    pub (\w+: .*),$", body)
-    found = re.findall(r"(?m)^    (\w+(?:\([^()]*\)| \{[^{}]*\})?),$", body)
+        return re.findall(r"(?m)^    pub (\w+: .*), *$", body)
+    found = re.findall(r"(?m)^    (\w+(?:\([^()]*\)| \{[^{}]*\})?), *$", body)
     return [re.sub(r",? \}", " }", re.sub(r"\s+", " ", part)) for part in found]
 
 
@@ -76,7 +79,7 @@ class Library:
     def traits(self, item):
         """The traits of a type, by a derive or by an `impl`; `Model` is for contracts."""
         types, blocks = self.blocks(item)
-        derived = " ".join(line for it in types for line in re.findall(r"derive\((.*)\)", it.attributes))
+        derived = " ".join(line for it in types for line in re.findall(r"derive\(([^)]*)\)", it.attributes))
         found = re.findall(r"\w+", derived)
         for block in blocks:
             if block.trait not in (None, "Model"):
@@ -120,7 +123,7 @@ class Library:
                     yield f"- `{item.head.replace(item.name, path + item.name, 1)}`  \n  {said}"
                     for it, where in self.members(item):
                         yield f"    - `{it.head}{where}`  \n      {first_sentence(it.comment)}"
-            for other, name in re.findall(r"(?m)^pub use (\w+)::(\w+);", text_of(source(crate, file))):
+            for other, name in re.findall(r"(?m)^pub use (\w+)::(\w+);", code_of(source(crate, file))):
                 if name in (names or []):
                     yield f"- `use {other}::{name}`  \n  The one of `{other}`."
         yield ""
