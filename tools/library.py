@@ -109,7 +109,7 @@ class Library:
         for block in self.blocks(item)[1]:
             if block.trait is None:
                 where = "" if item.kind == "type" else bounds(block, item.head)
-                yield from ((it, where) for it in block.members if it.public and it.comment)
+                yield from ((it, where) for it in block.members if it.public and it.comment and it.kind == "fn")
 
     def described(self, crate):
         """A crate's part of the page."""

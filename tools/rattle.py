@@ -3,23 +3,23 @@ and what the definitions of `specs/` (`.antt`) say and name. What can't be read 
 left out unnoticed. A name counts even where its text binds it, so what is reached may be too much, but never too
 little."""
 
+import collections
 import itertools
 import re
-from typing import NamedTuple
 
 from sources import TOP, blank, code_of, crates, files, needs, sources, text_of, tokens_of  # noqa: F401  (passed on)
 
 # Code.
 
-ITEM = re.compile(r"""(?mx)^(?P<public>pub[ ])?(?:pub\([^)]*\)[ ])?(?:
+ITEM = re.compile(r"""(?mx)^(?P<inner>[ ]{4})?(?P<public>pub[ ])?(?:pub\([^)]*\)[ ])?(?:
     (?:const[ ](?=fn))?(?P<kind>fn|trait|struct|enum|type|const)[ ](?P<name>\w+)
     | impl(?:<.*?>)?[ ](?:(?:\w+::)*(?P<trait>\w+(?:<\w+>)?)[ ]for[ ](?:&mut[ ])?)?(?:\w+::)*(?P<of>\w+)\b)""")
-MEMBER = re.compile(r"(?m)^    (pub )?(?:pub\([^)]*\) )?(?:const (?=fn))?(fn|type) (\w+)")
-ATTRIBUTES = re.compile(r"(?m)(?:^ *#\[(?:[^\[\]]|\[[^\[\]]*\])*\]\s*)*\Z")
-# A function that is called, or named after its type: its type, the dot before a method, and its name.
-CALL = re.compile(r"(?:(\w+)(?:(?:::)?<[^()]*?>)?::|(\.\s*))?\b([a-z_]\w*)\b(?!\s*::\s*\w|\s*!)(?:(?:::<[^()]*>)?(\())?")
 # Where an item begins, at whatever place in its line.
 BEGIN = re.compile(r"\b(?:fn|trait|struct|enum|union)\s+\w|(?:\A|(?<=[{};\]]))\s*impl\b")
+ATTRIBUTES = re.compile(r"(?m)(?:^ *#\[(?:[^\[\]]|\[[^\[\]]*\])*\]\s*)*\Z")
+# A function that is called, or named after its type: its type, the dot before a method, and its name.
+CALL = re.compile(r"""(?x)(?:(\w+)(?:(?:::)?<[^()]*?>)?::|(\.\s*))?
+    \b([a-z_]\w*)\b(?!\s*::\s*\w|\s*!)(?:(?:::<[^()]*>)?(\())?""")
 # The module of definitions of a type of the code, of its variants, or of the constants of a file.
 DECLARED = re.compile(r"Rattle\.(\w+)\.specs\.declared\.([\w.]+?)\.(\w+?)(?:\.The(?:Variants|Inside))?")
 
@@ -49,29 +49,20 @@ def head_end(code, start, kind):
     raise ValueError(f"this item has no end: {code[start:]}")
 
 
-class Clause(NamedTuple):
-    """A clause or a ghost member: its keyword and label, its place, and the tokens in it."""
-
-    head: str
-    start: int
-    end: int
-    tokens: list
-
-    @property
-    def label(self):
-        """What a clause is called of those that the function ensures; `result` if it has no label."""
-        keyword, _, label = self.head.partition(" ")
-        return (label or "result") if keyword == "ensures" else None
+# A clause or a ghost member: its label (`result` without one), if it is one that a function ensures; its place, and the
+# tokens in it.
+Clause = collections.namedtuple("Clause", "label start end tokens")
 
 
-def clauses_of(path):
-    """The clauses and ghost members in a file, in its order."""
+def clauses_in(tokens):
+    """The clauses and ghost members among the tokens of a file."""
     head, said = [], None
-    for it in tokens_of(path):
+    for it in tokens:
         if it.kind == "Head":
             head, said = [*head, it], [] if it.text == "{" else None
         elif it.kind == "End":
-            yield Clause(" ".join(it.text for it in head[:-1]), head[0].start, it.end, said)
+            label = (head[1].text.strip("{") or "result") if head[0].text == "ensures" else None
+            yield Clause(label, head[0].start, it.end, said)
             head, said = [], None
         elif said is None:
             head = []  # it was the `use` of a `ghost use`
@@ -85,31 +76,33 @@ def uses_of(before, text):
     return {name: there for line in lines for name, there in imports_of(" ".join(line.split()))}
 
 
-class Item(NamedTuple):
-    """A function with its contract, a trait, a type, an `impl` (which has the name of its type) or a constant: what
-    precedes its contract or body, on one line; its lines without those of comments; its code outside the clauses, and
-    these; a function's body; the `///` comment and the attributes above it; the items in it; the names that are brought
-    in: for clauses, and, each with its crates, for code; and the lines of its file, from its attributes to its end. What
-    stands in an `impl` or a trait has its name, too."""
+class Item:
+    """A function with its contract, a trait, a type, an `impl` (which has the name of its type) or a constant: its text
+    without comments; its code outside the clauses, and these; a function's body; the `///` comment and the attributes
+    above it; the items in it, and the name of that in which it is; and its lines in its file, from its attributes
+    on."""
 
-    kind: str
-    name: str
-    owner: str
-    trait: str
-    public: bool
-    crate: str
-    file: str
-    head: str
-    text: str
-    around: str
-    clauses: list
-    body: str
-    comment: list
-    attributes: str
-    members: list
-    outside: dict
-    brought: dict
-    lines: range
+    def __init__(self, there, it, owner=None):
+        self.there, self.crate, self.file, self.members = there, there.crate, there.file, []
+        self.kind, self.name, self.owner = it["kind"] or "impl", it["name"] or it["of"], owner and owner.name
+        self.trait = owner.trait if owner else it["trait"]
+        self.public = bool(it["public"] or owner and owner.kind == "trait")
+        start, around, rows = it.end("inner") if owner else it.start(), there.around, there.text.split("\n")
+        body = head_end(around, start, self.kind)
+        self.end = after(around, body)
+        end = len(there.code[:body].rstrip()) if self.kind == "fn" else self.end
+        self.clauses = [it for it in there.clauses if start <= it.start < end]
+        self.around, self.body = around[start:end], around[body:self.end]
+        attributes = ATTRIBUTES.search(around[:it.start()])
+        first, number = (there.text.count("\n", 0, place) + 1 for place in (attributes.start(), start))
+        self.attributes, self.lines = attributes[0], range(first, number + around.count("\n", start, self.end) + 1)
+        self.text = "\n".join(line for at, line in enumerate(there.text[start:end].split("\n"), number)
+                              if at in there.lines or not line.strip())
+        above = range(first - 1, 0, -1)
+        above = [*itertools.takewhile(lambda at: at not in there.lines and rows[at - 1].strip(), above)]
+        comment = [rows[at - 1].strip() for at in reversed(above)]
+        self.comment = [line[4:] for line in comment if line.startswith("///")]
+        self.uses = {**(owner.uses if owner else there.uses), **uses_of(r"^\s+", self.around)}
 
     @property
     def path(self):
@@ -117,8 +110,10 @@ class Item(NamedTuple):
         return f"{self.owner}::{self.name}" if self.owner else self.name
 
     @property
-    def uses(self):
-        return {**self.outside, **uses_of(r"^\s+", self.around)}
+    def head(self):
+        """What precedes the contract or the body, on one line."""
+        head = re.sub(r"\s+", " ", self.around.partition("{")[0]).strip(" ;")
+        return re.sub(r",? \)", ")", head).replace("( ", "(").replace("[ ", "[").removeprefix("pub ")
 
     @property
     def said(self):
@@ -132,75 +127,39 @@ class Item(NamedTuple):
 
 
 class File:
-    """A file of code: its text, also without comments; the code in it, also without clauses; and these."""
+    """A file of code: its text, and the lines that aren't comments; its code, and that outside of clauses; and what it
+    brings in: the names of clauses, and those of code, each with its crates."""
 
     def __init__(self, path, crate, file):
-        self.crate, self.file, self.clauses = crate, file, list(clauses_of(path))
-        self.text, self.bare, self.code = text_of(path), code_of(path, texts=True), code_of(path)
-        self.around, self.comments, above, place = self.code, {}, [], 0
+        self.crate, self.file, self.text, self.code, self.items = crate, file, text_of(path), code_of(path), []
+        self.clauses, self.around, self.brought = list(clauses_in(tokens_of(path))), self.code, {}
+        self.lines = {it.line + more for it in tokens_of(path) for more in range(it.text.count("\n") + 1)}
         for it in self.clauses:
             self.around = self.around[:it.start] + blank(self.code[it.start:it.end]) + self.around[it.end:]
-        for line, bare in zip(self.text.split("\n"), self.bare.split("\n")):
-            above.append(line.strip())
-            if bare.strip() or not line.strip():
-                self.comments[place], above = [it[4:] for it in above[:-1] if it.startswith("///")], []
-            place += len(line) + 1
-        if OTHER_USE.search(self.around):
-            raise ValueError(f"{path} gives a second name, or has a `ghost use` that doesn't begin its line")
-        self.uses, self.brought = uses_of("^", self.around), {}
+        self.uses = uses_of("^", self.around)
         for of, names in re.findall(r"(?<!\bghost )\buse\s+(\w+)([^;]*);", self.around):
             for name in re.findall(r"\w+", names):
                 self.brought.setdefault(name, set()).add(crate if of in ("crate", "self", "super") else of)
-
-    def without_comments(self, start, end):
-        """The lines there that aren't comments."""
-        both = zip(self.text[start:end].split("\n"), self.bare[start:end].split("\n"))
-        return "\n".join(line for line, bare in both if bare.strip() or not line.strip())
-
-    def item(self, start, kind, name, owner, trait, public, uses, members=()):
-        behind = head_end(self.around, start, kind)
-        closed = after(self.around, behind)
-        end = len(self.code[:behind].rstrip()) if kind == "fn" else closed
-        attributes = ATTRIBUTES.search(self.around[:self.text.rfind("\n", 0, start) + 1])
-        clauses = [it for it in self.clauses if start <= it.start < end]
-        head = self.without_comments(start, min([behind, *(it.start for it in clauses)]))
-        head = re.sub(r",? \)", ")", re.sub(r"\s+", " ", head.strip())).replace("( ", "(").replace("[ ", "[")
-        lines = [self.text.count("\n", 0, place) + 1 for place in (attributes.start(), closed)]
-        return Item(kind, name, owner, trait, public, self.crate, self.file, head.removeprefix("pub "),
-                    self.without_comments(start, end), self.around[start:end], clauses, self.around[behind:closed],
-                    self.comments[attributes.start()], attributes[0], members, uses, self.brought,
-                    range(lines[0], lines[1] + 1))
-
-    def items(self):
         for it in ITEM.finditer(self.around):
-            kind, start, name = it["kind"] or "impl", it.start(), it["name"] or it["of"]
-            end = after(self.around, head_end(self.around, start, kind))
-            uses = {**self.uses, **uses_of(r"^\s+", self.around[start:end])}
-            members = [self.item(at.start() + 4, at[2], at[3], name, it["trait"], bool(at[1]) or kind == "trait", uses)
-                       for at in (MEMBER.finditer(self.around, start, end) if kind in ("trait", "impl") else ())]
-            yield self.item(start, kind, name, "", it["trait"], bool(it["public"]), self.uses, members)
+            if not it["inner"]:
+                self.items.append(Item(self, it))
+            elif it.start() < self.items[-1].end and self.items[-1].kind in ("trait", "impl"):
+                self.items[-1].members.append(Item(self, it, self.items[-1]))
+        found = [it for of in self.items for it in [of, *of.members] if it.kind not in ("type", "const")]
+        if OTHER_USE.search(self.around) or len(found) != len(BEGIN.findall(self.around)):
+            raise ValueError(f"{path} gives a second name, or has an item or a `ghost use` that doesn't begin its line")
 
 
 class Code:
     """The items of the program's crates, without those of tests."""
 
     def __init__(self):
-        self.items = []
-        for crate, file, path in sources():
-            self.read(path, crate, f"{file}.rt")
+        self.items = [it for crate, file, path in sources() for it in File(path, crate, f"{file}.rt").items]
         self.called = [it for it in self.items if it.kind not in ("fn", "const", "impl") or it.trait == "Model"]
         self.functions = [it for of in self.items for it in [of, *of.members] if it.kind == "fn"]
         self.by_name = {it.name: [other for other in self.functions if other.name == it.name] for it in self.functions}
         self.types = {it.name: it.name for it in self.items if it.kind in ("struct", "enum")}
         self.types |= {it.name: re.search(r"= (\w+)", it.head)[1] for it in self.items if it.kind == "type"}
-
-    def read(self, path, crate, file):
-        there = File(path, crate, file)
-        new = list(there.items())
-        found = [it for of in new for it in [of, *of.members] if it.kind not in ("type", "const")]
-        if len(found) != len(BEGIN.findall(there.around)):
-            raise ValueError(f"{path} has an item that doesn't begin its line")
-        self.items += new
 
     def laws(self):
         """Each law: a function of a module `laws`."""
@@ -218,7 +177,7 @@ class Code:
             found = self.by_name.get("next" if name == "for" else name, [])
             if owner in self.types or owner == "Self":
                 yield from (it for it in found if it.owner == self.types.get(owner, item.owner))
-            elif dot and call or name == "for" or owner[:1].isupper() and item.brought.get(owner) != {"std"}:
+            elif dot and call or name == "for" or owner[:1].isupper() and item.there.brought.get(owner) != {"std"}:
                 yield from (it for it in found if it.owner)
             elif call:
                 yield from self.meant(item, [it for it in found if not it.owner])
@@ -230,7 +189,7 @@ class Code:
         if len({it.crate for it in found}) < 2:
             return found
         name = found[0].name
-        said = {*item.brought.get(name, ()), *re.findall(rf"\b(\w+)::(?:\w+::)*{name}\b", item.said + item.body)}
+        said = {*item.there.brought.get(name, ()), *re.findall(rf"\b(\w+)::(?:\w+::)*{name}\b", item.said + item.body)}
         chosen = [[it for it in found if it.crate in of] for of in (said, [item.crate], needs()[item.crate])]
         return next(filter(None, chosen), found)
 
@@ -336,7 +295,7 @@ class Module:
         self.crate, self.file = crate, file
         self.name = f"Rattle.{crate}.specs.{file.replace('/', '.')}"
         self.imports, self.definitions, self.head = {}, {}, []
-        self.read(text_of(path).split("\n"), code_of(path, texts=True).split("\n"), tokens_of(path))
+        self.read(text_of(path).split("\n"), code_of(path).split("\n"), tokens_of(path))
 
     def read(self, lines, bare, tokens):
         comment, fixity, block = [], [], []

@@ -1,12 +1,12 @@
 """The files of the repository, its crates, and the code in a file: the tokens that the prover reads, which the kit
 prints."""
 
+import collections
 import functools
 import glob
 import os
 import re
 import subprocess
-from typing import NamedTuple
 
 TOP = os.path.dirname(os.path.dirname(os.path.realpath(__file__)))
 
@@ -43,16 +43,8 @@ def files(folder, ending):
         yield crate, file, path
 
 
-class Token(NamedTuple):
-    """A token of a file: its kind (`rattle fmt --help` lists them), its line, its place in the text, and itself."""
-
-    kind: str
-    line: int
-    start: int
-    end: int
-    text: str
-
-
+# A token: its kind (`rattle fmt --help` says which there are), its line, its place in the text, and itself.
+Token = collections.namedtuple("Token", "kind line start end text")
 # What stands between tokens: comments, up to the end of a line.
 GAP = re.compile(r"(?:\s|(?://|--)[^\n]*)*")
 # Modules in another place than their names say.
@@ -74,7 +66,7 @@ def tokens_of(path):
     """The tokens of a file, as the prover reads it, without comments."""
     text, found, read, place = text_of(path), [], 0, 0
     data = text.encode()
-    for line, start, end, kind in re.findall(rb"(?m)^(\d+) (\d+) (\d+) (\w+) (?!\"//)", printed_tokens()[path]):
+    for line, start, end, kind in re.findall(rb"(?m)^(\d+) (\d+) (\d+) (?!Literal \"//)(\w+)", printed_tokens()[path]):
         gap, token = data[read:int(start)].decode(), data[int(start):int(end)].decode()
         place, read = place + len(gap), int(end)
         found.append(Token(kind.decode(), int(line), place, place + len(token), token))
@@ -92,14 +84,12 @@ def blank(text):
 
 
 @functools.lru_cache(maxsize=None)
-def code_of(path, texts=False):
-    """The code in a file, or what its definitions say: a space for each character of a comment, and of a text or a
-    character unless texts are asked for."""
+def code_of(path):
+    """The code in a file, or what its definitions say, with spaces for comments, texts and characters."""
     text, code, place = text_of(path), "", 0
     for it in tokens_of(path):
-        if texts or it.kind not in ("Literal", "Text"):
-            code += blank(text[place:it.start]) + it.text
-            place = it.end
+        if it.kind not in ("Literal", "Text"):
+            code, place = code + blank(text[place:it.start]) + it.text, it.end
     code += blank(text[place:])
     if ELSEWHERE.search(code):
         raise ValueError(f"{path} has a module that isn't in a file of its name")
