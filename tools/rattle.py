@@ -84,7 +84,7 @@ class Item:
 
     def __init__(self, there, it, owner=None):
         self.there, self.crate, self.file, self.members = there, there.crate, there.file, []
-        self.kind, self.name, self.owner = it["kind"] or "impl", it["name"] or it["of"], owner and owner.name
+        self.kind, self.name, self.owner = it["kind"] or "impl", it["name"] or it["of"], owner.name if owner else ""
         self.trait = owner.trait if owner else it["trait"]
         self.public = bool(it["public"] or owner and owner.kind == "trait")
         start, around, rows = it.end("inner") if owner else it.start(), there.around, there.text.split("\n")
