@@ -1,10 +1,13 @@
 """What no contract holds: which code may touch the system, and by what; destructors; and where the words of contracts
 come from. All goes by the code in the files, without comments and texts."""
 
+import glob
+import os
 import re
 
-from harness import Case
-from sources import NO_DEFINITION, code_in, code_of, crates_of_program, files, needs, sources
+from harness import TOP, Case
+from rattle import Code, File
+from sources import code_of, crates_of_program, files, needs, sources, text_of, tokens_of
 
 # Kit's crates that the program uses. None reads, writes or opens anything. The kit's `io`, `os` and `libc` do.
 KIT = {"byteorder", "hex", "itoa", "linked_list_allocator", "md5", "memchr", "sha1", "sha2", "thiserror"}
@@ -23,24 +26,34 @@ POWERS = set("""
     bind bind_udp connect connect_timeout connect_unix incoming lookup_host shutdown unix_pair unix_socket
     kill spawn spawn_scoped spawn_with try_wait wait wait_with_output abort exit expect expect_err forever
     elapsed fill_bytes monotonic process_cpu_time since_1970 sleep thread_cpu_time
-    fill_buf is_terminal peek read_exact read_to_end read_to_string read_until rewind seek write_all write_some
+    by_ref consume fill_buf is_terminal peek read_exact read_full read_to_end read_to_string read_until read_vectored
+    rewind seek write_all write_some write_vectored
 """.split())
 # What other code has, too. In the files that name one of the above, these can be the system's.
-CALLS = set("alloc flush lines memory open open_file read read_line reader stderr stdin stdout write".split())
+CALLS = set("""
+    alloc bytes chain flush lines memory open open_file read read_line reader stderr stdin stdout take write
+""".split())
 
 FILES = {
     "digests/src/main.rt": "HostRuntime alloc process rt stderr stdin stdout",
     "digests/src/program.rt": "alloc env fd io os rt stdin",
-    "digests/src/standard_input.rt": "as_fd fd io os reader stdin try_clone_to_owned",
+    "digests/src/standard_input.rt": "as_fd fd io os stdin try_clone_to_owned",
     "ghost_log/src/lib.rt": "unsafe",
     "sum_lines/src/sinks/from_write.rt": "flush io write",
     "sum_sources/src/fault.rt": "io read",
     "sum_sources/src/inputs/from_read.rt": "io read reader",
-    "sum_sources/src/inputs/from_read_uninterrupted.rt": "io read reader",
+    "sum_sources/src/inputs/from_read_uninterrupted.rt": "io read",
     "sum_sources/src/sources/files.rt": "fs io open open_file rt",
     "sum_words/src/arguments.rt": "arg env rt",
     "sum_words/src/arguments_log.rt": "env",
     "sum_words/src/command_line.rt": "alloc env",
+}
+
+# All that `main` and the code beside it calls or brings in, of ours, too: what that calls may reach the system.
+CALLED = {
+    "main": "alloc from main program stderr stdin stdout",
+    "program": "command new rt standard_input told_agree",
+    "standard_input": "as_fd closed new raw_os_error try_clone_to_owned",
 }
 
 # The modules whose names a contract or a definition may use: definitions, ours and the kit's, the kit's `std`, and the
@@ -55,14 +68,37 @@ class Border(Case):
     def test_crates(self):
         below = {name for crate in crates_of_program() for name in needs()[crate]}
         self.assertEqual(below - set(crates_of_program()), KIT)
+        lists = [path for above in ("", "crates", "crates/*") for name in ("crates.txt", "*.bazel")
+                 for path in glob.glob(os.path.join(TOP, above, name))]
+        self.assertEqual(lists, [os.path.join(TOP, "crates.txt")])
 
     def test_files(self):
         found = {}
         for crate, file, path in sources():
-            words = set(re.findall(r"\w+", code_of(path)))
+            words = {it.text for it in tokens_of(path) if it.kind == "Code"}
             if words & POWERS:
                 found[f"{crate}/src/{file}.rt"] = " ".join(sorted(words & (POWERS | CALLS)))
         self.assertEqual(found, FILES)
+
+    def test_calls(self):
+        found = {}
+        for name in CALLED:
+            code = File(f"{TOP}/crates/digests/src/{name}.rt", "digests", f"{name}.rt").around
+            code = re.sub(r"#!?\[[^]]*\]|\bghost use [^;]*;", "", code)
+            brought = " ".join(re.findall(r"\buse\s[^;]*;", code))
+            words = re.findall(r"\b([a-z]\w*)(?=\s*[,;}])", brought) + re.findall(r"\b([a-z]\w*)\s*[(!]", code)
+            found[name] = " ".join(sorted({*words, *re.findall(r"::\s*([a-z]\w*)\b(?!\s*::)", code)}))
+        self.assertEqual(found, CALLED)
+
+    def test_types(self):
+        """Each type and trait of ours that these files name is declared once, in a file that docs/AUDITING.md names."""
+        code, page = Code(), text_of("docs", "AUDITING.md")
+        types = [it for it in code.items if it.kind in ("struct", "enum", "trait", "type")]
+        here = [it for it in code.items if (it.crate, it.file[:-len(".rt")]) in {("digests", name) for name in CALLED}]
+        for name in {it.name for item in here for it in code.named(item)}:
+            declared = [it for it in types if it.name == name]
+            self.assertEqual(len(declared), 1, name)
+            self.assertIn(f"`{declared[0].file}`", page, name)
 
     def test_nothing_is_passed_on(self):
         """What one file names of the system, no other can reach by a name of ours."""
@@ -85,13 +121,3 @@ class Border(Case):
                 self.assertRegex(module, WORDS, path)
             others = re.sub(use, "", code_of(path))
             self.assertEqual(re.findall(r"(?m)^.*\b(?:Rattle|denote|package)\b.*", others), [], path)
-
-    def test_what_is_no_code(self):
-        """A text doesn't stand for code, and no code hides behind what looks like a text. The rest isn't read."""
-        for text in ("a '\"' b '\"' c", "a b'\\'' b '\\u{22}' c", 'a "//" b // "\nc', 'a "\\"" b "\\\\" c',
-                     'a "\nb" b c', 'a r"\\" b br#"" "# c', "a /// '\"\nb //\nc"):
-            self.assertEqual(code_in(text).split(), ["a", "b", "c"], text)
-        self.assertEqual(code_in("f::<'a>(b'\"')"), "f::<'a>(    )")
-        self.assertEqual(code_in("a' \"--\" b' -- '\"\n", NO_DEFINITION).split(), ["a'", "b'"])
-        for text in ("/* */ a", "a // \r b", 'a "', "#[path = \"b.rt\"]\nmod a;", "mod a {}", "{- -}", "a -- b"):
-            self.assertRaises(ValueError, code_in, text)

@@ -56,6 +56,14 @@ class Build(Repository):
             os.utime(self.sources[0], (1, 1))
             self.expect_built("mended, with an older time")
 
+    def test_another_list(self):
+        """A file that rt would read in the place of crates.txt is named, and nothing is made."""
+        for name in ("crates/digests/crates.txt", "crates/BUILD.bazel"):
+            path = self.put(name, "digests:\n")
+            said = f"digests: {name} is in the place of crates.txt\n".encode()
+            self.assertEqual((self.script("tools/build"), self.calls), (Ran(1, b"", said), []))
+            os.remove(path)
+
     def test_after_a_power_cut(self):
         """An empty program is neither run nor installed, but built anew. What isn't synced doesn't count as built."""
         self.build()

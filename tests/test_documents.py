@@ -16,10 +16,10 @@ class Documents(Case):
 
     def test_what_is_believed(self):
         written, wanted = believed.page()
-        self.assertEqual(written, wanted, "tools/believed.py --write makes the tables anew")
+        self.assertEqual(written, wanted, "tools/believed.py --write makes the table anew")
         for (crate, file), says in believed.rows_of(written).items():
             self.assertNotEqual(says, "?", f"docs/PROMISES.md doesn't say what {file} of {crate} is")
-        self.assertEqual(believed.in_refinement(), [])
+        self.assertEqual(believed.misplaced(), [])
 
     def test_contracts_that_are_quoted(self):
         """docs/PROMISES.md shows the clauses of `run` and of `command` as they are."""
@@ -56,11 +56,14 @@ class Documents(Case):
                     self.assertRegex(page, rf"(?m)^- `(fn|struct|enum|trait|const|type|use \w+::) ?{name}\b")
 
     def test_sums(self):
-        """The sums of the newest version in CHANGELOG are those of what is built, as docs/PACKAGING.md checks them."""
+        """The sums of the newest version in CHANGELOG, if it has any, are those of what is built, as docs/PACKAGING.md
+        checks them."""
         newest = re.split(r"(?m)^## ", text_of("CHANGELOG.md"))[1]
-        if "  out/" not in newest or not os.path.exists(os.path.join(TOP, "out", "x86-64-v3", "digests")):
-            self.skipTest("the newest version has no sums yet, or nothing is built")
+        if not os.path.exists(os.path.join(TOP, "out", "x86-64-v3", "digests")):
+            self.skipTest("nothing is built")
         command = re.search(r"(?m)^    (grep .* CHANGELOG\.md .*)$", text_of("docs", "PACKAGING.md"))[1]
         ran = self.run_command(["sh", "-c", command.replace("./digests", f"'{harness.PROGRAM}'")], cwd=TOP)
+        if ran.status and "  out/" not in newest:
+            self.skipTest("the programs that are built aren't those that CHANGELOG listed last")
         self.assertEqual(ran, Ran(0, b"out/default/digests: OK\nout/x86-64-v3/digests: OK\n", b""),
                          "what is built is older than its sources, or by another kit (`rt version`) than CHANGELOG's")

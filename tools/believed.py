@@ -1,13 +1,14 @@
 #!/usr/bin/env python3
 """What a reader has to believe: what the contract of a function says, down to the last definition that it reaches.
 
-    tools/believed.py            prints, for the headline and the program, the files, each with its lines
+    tools/believed.py            prints, for the headline, the program and what `main` calls, the files with their lines
     tools/believed.py --text     prints it all, the laws, and the contracts of what `main` makes: the contract first,
                                  each definition before those that it stands on
-    tools/believed.py --write    makes the tables of docs/PROMISES.md anew
+    tools/believed.py --write    makes the table of docs/PROMISES.md anew
 
 Each fails if a definition that the headline or the program reaches stands in a folder specs/refinement/ of a crate:
-such a folder only relates the code's values to those of the definitions, so a reader may pass over it.
+such a folder only relates the code's values to those of the definitions, so a reader may pass over it. Each also fails
+if two definitions outside of these folders have one name.
 
 What a contract says of a value is said in words that others give a meaning: the clauses of the traits that bound the
 function's parameters, and the views of their types. So these count, with the types and constants of the code that are
@@ -31,9 +32,8 @@ from rattle import TOP, Code, Specs, crates, text_of  # noqa: E402  (nothing is 
 
 PROMISES = os.path.join(TOP, "docs", "PROMISES.md")
 # What is believed besides the laws, in the order of the page: a function's crate and name, and what the page calls it.
-CLAIMS = [("digests", "run", "The headline"), ("digests", "command", "The program")]
-# A call: its type, if it is one of a type's functions, and its name.
-CALL = re.compile(r"(?<![.\w])(?:([A-Z]\w*)(?:::<[^()]*>)?::)?([a-z]\w*)(?:::<[^()]*>)?\(")
+CLAIMS = [("digests", "run", "The headline"), ("digests", "command", "The program"),
+          ("digests", "program", "What `main` calls")]
 COMPUTED = {"parse_line": "parse_is_grammar", "form": "one_form"}  # what a law holds against a relation, and the law
 MARKS = "<!-- made by tools/believed.py: what stands below -->\n", "\n<!-- and above this line -->"
 
@@ -61,7 +61,7 @@ def cited(items):
     def find(uses, name):
         return specs.find(*uses.get(name, (None, None)))
     return {found for item in items for clause in item.clauses
-            for found in specs.named(clause, functools.partial(find, item.uses), item.uses)}
+            for found in specs.named(clause.tokens, functools.partial(find, item.uses), item.uses)}
 
 
 def computed():
@@ -91,22 +91,24 @@ def in_files(definitions):
 
 
 def made():
-    """The functions of ours that `main` calls, and those that functions of its crate call too, without the claims."""
-    items, claimed = code().items, [claim[:2] for claim in CLAIMS]
-    left, found = [it for it in items if (it.crate, it.file, it.name) == ("digests", "main.rt", "main")], []
+    """The functions of ours that `main` and `program` call, and those that functions of their crate call too, without
+    the claims."""
+    claimed = [code().function(*claim[:2]) for claim in CLAIMS]
+    left, found = [*code().by_name["main"], claimed[-1]], []
     while left:
-        for owner, name in CALL.findall(left.pop(0).body):
-            blocks = [it.members for it in items if owner and (it.kind, it.name, it.trait) == ("impl", owner, None)]
-            called = [it for it in sum(blocks, [] if owner else items) if (it.kind, it.name) == ("fn", name)]
-            called = [it for it in called if it.crate == "digests"] or called
-            new = [it for it in called if it not in found and (it.crate, it.name) not in claimed]
-            left += [it for it in new if it.crate == "digests"]
-            found += new
+        new = [it for it in code().calls(left.pop(0)) if it not in found and it not in claimed]
+        left += [it for it in new if it.crate == "digests"]
+        found += new
     return found
 
 
+@functools.lru_cache(maxsize=None)
 def claims():
-    """The headline and the program; the laws; and what `main` makes."""
+    """The headline, the program and what `main` calls; the laws; and what `main` makes."""
+    return list(every_claim())
+
+
+def every_claim():
     before, earlier, specs = set(), [], every_definition()
     functions = [(title, f" (`{name}` of `{crate}`)", [code().function(crate, name)]) for crate, name, title in CLAIMS]
     for title, of, functions in [*functions, ("The laws", "", code().laws()), ("What `main` makes", "", made())]:
@@ -140,7 +142,7 @@ def counted(claim):
 def text():
     """A list of the parts, and then the parts: for each crate, the highest first, the items of the code without their
     comments and the definitions of its files, after what the files say of themselves; all of it only once."""
-    all_claims = list(claims())
+    all_claims = claims()
     several = of_several(it for claim in all_claims for definitions in claim.files.values() for it in definitions)
     for claim in all_claims:
         yield f"-- {claim.title}{claim.of.replace('`', '')}: {counted(claim)}"
@@ -178,28 +180,30 @@ def of_several(definitions):
 
 
 def rows_of(page):
-    """The rows of tables in a page, or in a part of one: what each file says."""
-    rows = re.findall(r"^\|`(\w+)/specs/([\w/]+)\.antt`\|(.*?)\|\d+\|", page, re.MULTILINE)
+    """The rows of the table in a page: what each file says."""
+    rows = re.findall(r"^\|`(\w+)/specs/([\w/]+)\.antt`\|(.*?)\|[\d|]*\|$", page, re.MULTILINE)
     return {(crate, file): says for crate, file, says in rows}
 
 
 def tables(page):
-    """The tables of the page as they should be, one row per file. What files say is taken from the page, and is `?` if
-    it isn't there."""
-    lines = []
-    for claim in list(claims())[:len(CLAIMS)]:
-        where = "besides the above:" if lines else "in these files:"
-        lines += [f"**{claim.title}**{claim.of}: {counted(claim)}; {where}", "",
-                  "|definitions|what they say|lines|", "|---|---|---|"]
-        says = rows_of(page.partition(f"**{claim.title}**")[2].partition("\n**")[0])
-        lines += [f"|`{crate}/specs/{file}.antt`|{says.get((crate, file), '?')}|{size(definitions)}|"
-                  for (crate, file), definitions in claim.files.items()]
-        lines += [f"|of the code|the contract, traits, views, types and constants|{size(claim.new)}|", ""]
-        if claim.apart:
-            laws = " and ".join(f"`{law}`" for law in COMPUTED.values())
-            lines += [f"Apart: {len(claim.apart)} definitions, {size(claim.apart)} lines, that compute what relations "
-                      f"say of a line and of a form. By the laws {laws} they need not be believed.", ""]
-    return "\n".join(lines[:-1])
+    """The table of the page as it should be, one row per file, after a line for each claim: the lines that each claim
+    adds to those before it. What files say is taken from the page, and is `?` if it isn't there."""
+    all_claims, says, listed, rows = claims()[:len(CLAIMS)], rows_of(page), crates(), {}
+    for number, claim in enumerate(all_claims):
+        for file, definitions in claim.files.items():
+            rows.setdefault(file, [""] * len(CLAIMS))[number] = str(size(definitions))
+    lines = [f"- **{claim.title}**{claim.of}: {counted(claim)}." for claim in all_claims]
+    for claim in (it for it in all_claims if it.apart):
+        laws = " and ".join(f"`{law}`" for law in COMPUTED.values())
+        lines += ["", f"Apart: {len(claim.apart)} definitions, {size(claim.apart)} lines, that compute what relations "
+                  f"say of a line and of a form. By the laws {laws} they need not be believed."]
+    lines += ["", "|definitions|what they say|" + "".join(f"`{name}`|" for _, name, _ in CLAIMS)]
+    lines += ["|---|---|" + "---|" * len(CLAIMS)]
+    lines += [f"|`{crate}/specs/{file}.antt`|{says.get((crate, file), '?')}|{'|'.join(rows[crate, file])}|"
+              for crate, file in sorted(rows, key=lambda file: -listed.index(file[0]))]
+    lines.append("|of the code|the contract, traits, views, types and constants"
+                 f"|{'|'.join(str(size(claim.new)) for claim in all_claims)}|")
+    return "\n".join(lines)
 
 
 def page():
@@ -209,12 +213,17 @@ def page():
     return written, written[:begin] + tables(written) + written[end:]
 
 
-def in_refinement():
-    """The definitions that the headline or the program reaches, and that stand in a folder specs/refinement/: a line
-    for each."""
-    return [f"{crate}/specs/{file}.antt: {title[0].lower()}{title[1:]} reaches {it.name}; move it out of refinement/"
-            for title, *_, files in list(claims())[:len(CLAIMS)] for (crate, file), definitions in files.items()
-            if file.startswith("refinement/") for it in definitions]
+def misplaced():
+    """The definitions that may not stand where they do, a line for each: what `run` or `command` reaches, in a folder
+    specs/refinement/; and elsewhere, a second one of a name."""
+    found = [f"{crate}/specs/{file}.antt: {claim.title} reaches {it.name}; move it out of refinement/"
+             for claim in claims()[:2] for (crate, file), definitions in claim.files.items()
+             if file.startswith("refinement/") for it in definitions]
+    seen = {}
+    for it in (it for module in every_definition().modules.values() for it in module.definitions.values()):
+        first = seen.setdefault(it.name, it) if not it.module.file.startswith("refinement/") else it
+        found += [f"{it.module.name} and {first.module.name} both define {it.name}"] if first is not it else []
+    return found
 
 
 def main(words):
@@ -228,7 +237,7 @@ def main(words):
         print(tables(written))
     else:
         sys.exit(__doc__)
-    sys.exit("\n".join(in_refinement()) or 0)
+    sys.exit("\n".join(misplaced()) or 0)
 
 
 if __name__ == "__main__":

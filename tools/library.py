@@ -8,7 +8,7 @@ import sys
 
 sys.dont_write_bytecode = True
 
-from rattle import TOP, Code, crates, text_of  # noqa: E402  (nothing is to be left beside these files)
+from rattle import TOP, Code, code_of, crates, text_of  # noqa: E402  (nothing is to be left beside these files)
 
 PAGE = os.path.join(TOP, "docs", "LIBRARY.md")
 BEGIN = "<!-- From here on tools/library.py writes. -->\n"
@@ -25,8 +25,11 @@ def source(crate, module):
 
 def exported(crate):
     """What the root of a crate exports: each module's file with the names from there, or None for all of them."""
-    root = text_of(source(crate, "lib"))
-    for module, names, name in re.findall(r"(?m)^pub use ([\w:]+)::(?:\{([^}]*)\}|(\w+));", root):
+    root = code_of(source(crate, "lib"))
+    passed_on = re.findall(r"\bpub\s+use ([\w:]+)::(?:\{([\w\s,]*)\}|(\w+));", root)
+    if len(passed_on) != len(re.findall(r"\bpub\b[^;{]*\buse\b", root)):
+        raise ValueError(f"the root of {crate} exports what can't be read")
+    for module, names, name in passed_on:
         yield module.replace("::", "/"), [name] if name else re.findall(r"\w+", names)
     for module in [*re.findall(r"(?m)^pub mod (\w+);", root), "lib"]:
         yield module, None
@@ -49,10 +52,10 @@ def bounds(block, known=""):
 
 def parts_of(item):
     """The public fields of a struct, or the variants of an enum, as the source has them."""
-    body = re.sub(r"(?m)^ *#\[.*\n", "", item.text.partition("{")[2])
+    body = re.sub(r"(?m)^ *#\[.*\n", "", item.around.partition("{")[2])
     if item.kind == "struct":
-        return re.findall(r"(?m)^    pub (\w+: .*),$", body)
-    found = re.findall(r"(?m)^    (\w+(?:\([^()]*\)| \{[^{}]*\})?),$", body)
+        return re.findall(r"(?m)^    pub (\w+: .*), *$", body)
+    found = re.findall(r"(?m)^    (\w+(?:\([^()]*\)| \{[^{}]*\})?), *$", body)
     return [re.sub(r",? \}", " }", re.sub(r"\s+", " ", part)) for part in found]
 
 
@@ -61,19 +64,27 @@ class Library:
 
     def __init__(self):
         self.items = [it for it in Code().items if it.crate in libraries() and "doc(hidden)" not in it.attributes]
-        self.blocks = [it for it in self.items if it.kind == "impl"]
         self.aliases = {it.name: re.search(r"= (\w+)", it.head)[1] for it in self.items if it.kind == "type"}
+
+    def types(self, item, name):
+        """The types that an item means by a name."""
+        return Code.meant(item, [it for it in self.items if it.name == name and it.kind in ("struct", "enum")])
+
+    def blocks(self, item):
+        """The type that an item is, or is another name of, and the blocks of it."""
+        types = self.types(item, self.aliases[item.name] if item.kind == "type" else item.name)
+        return types, [it for it in self.items if it.kind == "impl" and types and it.name == types[0].name
+                       and self.types(it, it.name) == types]
 
     def traits(self, item):
         """The traits of a type, by a derive or by an `impl`; `Model` is for contracts."""
-        name, found = self.aliases.get(item.name, item.name), []
-        for it in self.items:
-            if it.name == name and it.kind in ("struct", "enum"):
-                found += re.findall(r"\w+", " ".join(re.findall(r"derive\((.*)\)", it.attributes)))
-        for block in self.blocks:
-            if block.name == name and block.trait not in (None, "Model"):
+        types, blocks = self.blocks(item)
+        derived = " ".join(line for it in types for line in re.findall(r"derive\(([^)]*)\)", it.attributes))
+        found = re.findall(r"\w+", derived)
+        for block in blocks:
+            if block.trait not in (None, "Model"):
                 types = [re.sub(r"^type |;$", "", it.text) for it in block.members if it.kind == "type"]
-                where = "" if name != item.name else bounds(block, item.head)
+                where = "" if item.kind == "type" else bounds(block, item.head)
                 found.append(block.trait + (f"<{', '.join(types)}>" if types else "") + where)
         return list(dict.fromkeys(found))
 
@@ -95,10 +106,10 @@ class Library:
         """The public calls of a type, and what a trait asks for, each with its bounds."""
         if item.kind == "trait":
             yield from ((it, "") for it in item.members)
-        for block in self.blocks:
-            if block.trait is None and block.name == self.aliases.get(item.name, item.name):
-                where = "" if item.name in self.aliases else bounds(block, item.head)
-                yield from ((it, where) for it in block.members if it.public and it.comment)
+        for block in self.blocks(item)[1]:
+            if block.trait is None:
+                where = "" if item.kind == "type" else bounds(block, item.head)
+                yield from ((it, where) for it in block.members if it.public and it.comment and it.kind == "fn")
 
     def described(self, crate):
         """A crate's part of the page."""
@@ -112,7 +123,7 @@ class Library:
                     yield f"- `{item.head.replace(item.name, path + item.name, 1)}`  \n  {said}"
                     for it, where in self.members(item):
                         yield f"    - `{it.head}{where}`  \n      {first_sentence(it.comment)}"
-            for other, name in re.findall(r"(?m)^pub use (\w+)::(\w+);", text_of(source(crate, file))):
+            for other, name in re.findall(r"(?m)^pub use (\w+)::(\w+);", code_of(source(crate, file))):
                 if name in (names or []):
                     yield f"- `use {other}::{name}`  \n  The one of `{other}`."
         yield ""

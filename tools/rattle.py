@@ -3,22 +3,23 @@ and what the definitions of `specs/` (`.antt`) say and name. What can't be read 
 left out unnoticed. A name counts even where its text binds it, so what is reached may be too much, but never too
 little."""
 
+import collections
+import itertools
 import re
-from typing import NamedTuple
 
-from sources import TOP, WORD, code_of, crates, files, sources, text_of  # noqa: F401  (some are passed on)
+from sources import TOP, blank, code_of, crates, files, needs, sources, text_of, tokens_of  # noqa: F401  (passed on)
 
 # Code.
 
-ITEM = re.compile(r"""(?mx)^(?P<public>pub[ ])?(?:pub\([^)]*\)[ ])?(?:
+ITEM = re.compile(r"""(?mx)^(?P<inner>[ ]{4})?(?P<public>pub[ ])?(?:pub\([^)]*\)[ ])?(?:
     (?:const[ ](?=fn))?(?P<kind>fn|trait|struct|enum|type|const)[ ](?P<name>\w+)
     | impl(?:<.*?>)?[ ](?:(?:\w+::)*(?P<trait>\w+(?:<\w+>)?)[ ]for[ ](?:&mut[ ])?)?(?:\w+::)*(?P<of>\w+)\b)""")
-MEMBER = re.compile(r"(?m)^    (pub )?(?:pub\([^)]*\) )?(?:const (?=fn))?(fn|type) (\w+)")
-# What follows the head of an item: a clause, a ghost member, a body, or the end of the line.
-BEHIND_HEAD = re.compile(r"\s*(?:\b(?:requires|ensures)\b|\{|;$)", re.MULTILINE)
-ENSURES = re.compile(r"\s*\b(?:ensures|requires)\b(?:\s+\w+)?\s*(?=\{)")
-# What precedes a clause: in a contract, and before the type and the value of a ghost member.
-CLAUSE = re.compile(ENSURES.pattern + r"|\bghost\s+(?!use\b)\w+\s*[:=]\s*(?=\{)|(?<=\})\s*=\s*(?=\{)")
+# Where an item begins, at whatever place in its line.
+BEGIN = re.compile(r"\b(?:fn|trait|struct|enum|union)\s+\w|(?:\A|(?<=[{};\]]))\s*impl\b")
+ATTRIBUTES = re.compile(r"(?m)(?:^ *#\[(?:[^\[\]]|\[[^\[\]]*\])*\]\s*)*\Z")
+# A function that is called, or named after its type: its type, the dot before a method, and its name.
+CALL = re.compile(r"""(?x)(?:(\w+)(?:(?:::)?<[^()]*?>)?::|(\.\s*))?
+    \b([a-z_]\w*)\b(?!\s*::\s*\w|\s*!)(?:(?:::<[^()]*>)?(\())?""")
 # The module of definitions of a type of the code, of its variants, or of the constants of a file.
 DECLARED = re.compile(r"Rattle\.(\w+)\.specs\.declared\.([\w.]+?)\.(\w+?)(?:\.The(?:Variants|Inside))?")
 
@@ -27,50 +28,46 @@ OTHER_USE = re.compile(r"\S[ \t]*\bghost\s+use\b|\bghost(?! use )\s+use\b|"
                        r"(?<!\bghost )\buse\s+(?!std\b)[^;]*\bas\s+(?!_\s*[;,}])")
 
 
-def behind_brace(text, start):
-    """The place after the brace that closes the first one from here on."""
+def after(code, place):
+    """The place after what begins there: all up to the brace that closes the one there, or the end of a declaration."""
     depth = 0
-    for it in re.compile(r"[{}]").finditer(text, start):
-        depth += 1 if it[0] == "{" else -1
+    for it in re.compile(r"[{};]").finditer(code, place):
+        depth += (it[0] == "{") - (it[0] == "}")
         if not depth:
             return it.end()
-    return len(text)
+    raise ValueError(f"no brace closes this: {code[place:]}")
 
 
-def end_of(text, start, kind):
-    """Where an item ends that begins there: a function's contract before its body, and all else after its braces."""
-    if kind == "const":
-        return text.index(";\n", start) + 1
-    if kind != "fn":
-        first = re.compile(r"[{;]|\[(?![^;\[\]{}]*\])").search(text, start)  # a slice's type isn't in the way
-        if first[0] == "[":
-            raise ValueError(f"an array in a type without braces can't be read: {text[start:first.end()]}")
-        return first.end() if first[0] == ";" else behind_brace(text, first.start())
-    end = BEHIND_HEAD.search(text, start).start()
-    while ENSURES.match(text, end):
-        end = behind_brace(text, end)
-    if not re.compile(r"\s*[{;]").match(text, end):
-        raise ValueError(f"neither a clause nor a body follows this contract: {text[start:end]}")
-    return end
+def head_end(code, start, kind):
+    """Where the head of an item ends that begins there: at its first brace or semicolon outside of brackets; that of a
+    constant is all of it."""
+    depth = 0
+    for it in re.compile(r";(?=\n)" if kind == "const" else r"[()\[\]{;]").finditer(code, start):
+        if it[0] in "{;" and not depth:
+            return it.start()
+        depth += (it[0] in "([") - (it[0] in ")]")
+    raise ValueError(f"this item has no end: {code[start:]}")
 
 
-def without_comments(path):
-    """The text of a file of code without its lines of comments, the code in it, and the lines of the `///` comments by
-    the places there that they precede: of the item, or of the attributes above it."""
-    kept, place, above, comments = [], 0, [], {}
-    for line, code in zip(text_of(path).split("\n"), code_of(path).split("\n")):
-        bare = line.strip()
-        if bare.startswith("//") and not code.strip():
-            above += [bare[4:]] if bare.startswith("///") else []
-            continue
-        if above:
-            comments[place], above = above, []
-        kept.append((line, code))
-        place += len(line) + 1
-    text, code = map("\n".join, zip(*kept))
-    if OTHER_USE.search(code):
-        raise ValueError(f"{path} gives a name to what has another, or has a `ghost use` that doesn't begin its line")
-    return text, code, comments
+# A clause or a ghost member: its label (`result` without one), if it is one that a function ensures; its place, and the
+# tokens in it.
+Clause = collections.namedtuple("Clause", "label start end tokens")
+
+
+def clauses_in(tokens):
+    """The clauses and ghost members among the tokens of a file."""
+    head, said = [], None
+    for it in tokens:
+        if it.kind == "Head":
+            head, said = [*head, it], [] if it.text == "{" else None
+        elif it.kind == "End":
+            label = (head[1].text.strip("{") or "result") if head[0].text == "ensures" else None
+            yield Clause(label, head[0].start, it.end, said)
+            head, said = [], None
+        elif said is None:
+            head = []  # it was the `use` of a `ghost use`
+        else:
+            said.append(it)
 
 
 def uses_of(before, text):
@@ -79,80 +76,90 @@ def uses_of(before, text):
     return {name: there for line in lines for name, there in imports_of(" ".join(line.split()))}
 
 
-class Item(NamedTuple):
+class Item:
     """A function with its contract, a trait, a type, an `impl` (which has the name of its type) or a constant: its text
-    and the code in it, and a function's body; the `///` comment and the attributes above it; and the items in it."""
+    without comments; its code outside the clauses, and these; a function's body; the `///` comment and the attributes
+    above it; the items in it, and the name of that in which it is; and its lines in its file, from its attributes
+    on."""
 
-    kind: str
-    name: str
-    trait: str
-    public: bool
-    crate: str
-    file: str
-    text: str
-    code: str
-    body: str
-    comment: list
-    attributes: str
-    members: list
-    outside: dict
+    def __init__(self, there, it, owner=None):
+        self.there, self.crate, self.file, self.members = there, there.crate, there.file, []
+        self.kind, self.name, self.owner = it["kind"] or "impl", it["name"] or it["of"], owner.name if owner else ""
+        self.trait = owner.trait if owner else it["trait"]
+        self.public = bool(it["public"] or owner and owner.kind == "trait")
+        start, around, rows = it.end("inner") if owner else it.start(), there.around, there.text.split("\n")
+        body = head_end(around, start, self.kind)
+        self.end = after(around, body)
+        end = len(there.code[:body].rstrip()) if self.kind == "fn" else self.end
+        self.clauses = [it for it in there.clauses if start <= it.start < end]
+        self.around, self.body = around[start:end], around[body:self.end]
+        attributes = ATTRIBUTES.search(around[:it.start()])
+        first, number = (there.text.count("\n", 0, place) + 1 for place in (attributes.start(), start))
+        self.attributes, self.lines = attributes[0], range(first, number + around.count("\n", start, self.end) + 1)
+        self.text = "\n".join(line for at, line in enumerate(there.text[start:end].split("\n"), number)
+                              if at in there.lines or not line.strip())
+        above = range(first - 1, 0, -1)
+        above = [*itertools.takewhile(lambda at: at not in there.lines and rows[at - 1].strip(), above)]
+        comment = [rows[at - 1].strip() for at in reversed(above)]
+        self.comment = [line[4:] for line in comment if line.startswith("///")]
+        self.uses = {**(owner.uses if owner else there.uses), **uses_of(r"^\s+", self.around)}
+
+    @property
+    def path(self):
+        """Its name, after that of the type or trait of which it is."""
+        return f"{self.owner}::{self.name}" if self.owner else self.name
 
     @property
     def head(self):
         """What precedes the contract or the body, on one line."""
-        head = re.sub(r"\s+", " ", self.text[:BEHIND_HEAD.search(self.code + "\n{").start()])
+        head = re.sub(r"\s+", " ", self.around.partition("{")[0]).strip(" ;")
         return re.sub(r",? \)", ")", head).replace("( ", "(").replace("[ ", "[").removeprefix("pub ")
 
     @property
-    def uses(self):
-        return {**self.outside, **uses_of(r"^\s+", self.code)}
-
-    @property
-    def clauses(self):
-        return [self.code[it.end() + 1 : behind_brace(self.code, it.end()) - 1] for it in CLAUSE.finditer(self.code)]
-
-    @property
-    def around(self):
-        """What is outside the clauses."""
-        around, end = "", 0
-        for it in CLAUSE.finditer(self.code):
-            around += self.code[end : it.end()]
-            end = behind_brace(self.code, it.end())
-        return re.sub(r"\bghost use [^;]*;", "", around + self.code[end:])
+    def said(self):
+        """What its code says outside the clauses, and in their brackets."""
+        return " ".join([re.sub(r"\bghost use [^;]*;", "", self.around),
+                         *(it.text for clause in self.clauses for it in clause.tokens if it.kind == "Code")])
 
     def origins(self):
-        """Where the names in it come from that a `ghost use` brings in."""
-        return origins_in(self.code, self.uses)
+        """Where the names in its clauses come from that a `ghost use` brings in."""
+        return origins_in([it for clause in self.clauses for it in clause.tokens], self.uses)
+
+
+class File:
+    """A file of code: its text, and the lines that aren't comments; its code, and that outside of clauses; and what it
+    brings in: the names of clauses, and those of code, each with its crates."""
+
+    def __init__(self, path, crate, file):
+        self.crate, self.file, self.text, self.code, self.items = crate, file, text_of(path), code_of(path), []
+        self.clauses, self.around, self.brought = list(clauses_in(tokens_of(path))), self.code, {}
+        self.lines = {it.line + more for it in tokens_of(path) for more in range(it.text.count("\n") + 1)}
+        for it in self.clauses:
+            self.around = self.around[:it.start] + blank(self.code[it.start:it.end]) + self.around[it.end:]
+        self.uses = uses_of("^", self.around)
+        for of, names in re.findall(r"(?<!\bghost )\buse\s+(\w+)([^;]*);", self.around):
+            for name in re.findall(r"\w+", names):
+                self.brought.setdefault(name, set()).add(crate if of in ("crate", "self", "super") else of)
+        for it in ITEM.finditer(self.around):
+            if not it["inner"]:
+                self.items.append(Item(self, it))
+            elif it.start() < self.items[-1].end and self.items[-1].kind in ("trait", "impl"):
+                self.items[-1].members.append(Item(self, it, self.items[-1]))
+        found = [it for of in self.items for it in [of, *of.members] if it.kind not in ("type", "const")]
+        if OTHER_USE.search(self.around) or len(found) != len(BEGIN.findall(self.around)):
+            raise ValueError(f"{path} gives a second name, or has an item or a `ghost use` that doesn't begin its line")
 
 
 class Code:
     """The items of the program's crates, without those of tests."""
 
     def __init__(self):
-        self.items = []
-        for crate, file, path in sources():
-            self.read(path, crate, f"{file}.rt")
+        self.items = [it for crate, file, path in sources() for it in File(path, crate, f"{file}.rt").items]
         self.called = [it for it in self.items if it.kind not in ("fn", "const", "impl") or it.trait == "Model"]
-
-    def read(self, path, crate, file):
-        text, code, comments = without_comments(path)
-        uses = uses_of("^", code)
-
-        def item(start, kind, name, trait, public, uses, members=()):
-            before, end = text[:text.rfind("\n", 0, start) + 1], end_of(code, start, kind)
-            attributes = re.search(r"(?:^ *#\[.*\](?: //.*)?\n)*\Z", before, re.MULTILINE)
-            body = code[end:behind_brace(code, end)] if kind == "fn" and code[end:].lstrip()[:1] == "{" else ""
-            return Item(kind, name, trait, public, crate, file, text[start:end], code[start:end], body,
-                        comments.get(attributes.start(), []), attributes[0], list(members), uses)
-
-        for it in ITEM.finditer(code):
-            kind = it["kind"] or "impl"
-            end = end_of(code, it.start(), kind)
-            inner = MEMBER.finditer(code, it.start(), end) if kind in ("trait", "impl") else ()
-            inside = {**uses, **uses_of(r"^\s+", code[it.start() : end])}
-            members = [item(at.start() + 4, at[2], at[3], None, bool(at[1]) or kind == "trait", inside) for at in inner]
-            name, trait, public = it["name"] or it["of"], it["trait"], bool(it["public"])
-            self.items.append(item(it.start(), kind, name, trait, public, uses, members))
+        self.functions = [it for of in self.items for it in [of, *of.members] if it.kind == "fn"]
+        self.by_name = {it.name: [other for other in self.functions if other.name == it.name] for it in self.functions}
+        self.types = {it.name: it.name for it in self.items if it.kind in ("struct", "enum")}
+        self.types |= {it.name: re.search(r"= (\w+)", it.head)[1] for it in self.items if it.kind == "type"}
 
     def laws(self):
         """Each law: a function of a module `laws`."""
@@ -164,13 +171,33 @@ class Code:
             raise ValueError(f"{crate} has {len(found)} functions {name}")
         return found[0]
 
+    def calls(self, item):
+        """The functions of ours that a function's body can mean: by names, and by types where it says these."""
+        for owner, dot, name, call in CALL.findall(item.body):
+            found = self.by_name.get("next" if name == "for" else name, [])
+            if owner in self.types or owner == "Self":
+                yield from (it for it in found if it.owner == self.types.get(owner, item.owner))
+            elif dot and call or name == "for" or owner[:1].isupper() and item.there.brought.get(owner) != {"std"}:
+                yield from (it for it in found if it.owner)
+            elif call:
+                yield from self.meant(item, [it for it in found if not it.owner])
+
+    @staticmethod
+    def meant(item, found):
+        """Those of items of one name that an item means by it: of the crates that a path or a `use` of its file says,
+        or else of its own crate, or else of those that this stands on."""
+        if len({it.crate for it in found}) < 2:
+            return found
+        name = found[0].name
+        said = {*item.there.brought.get(name, ()), *re.findall(rf"\b(\w+)::(?:\w+::)*{name}\b", item.said + item.body)}
+        chosen = [[it for it in found if it.crate in of] for of in (said, [item.crate], needs()[item.crate])]
+        return next(filter(None, chosen), found)
+
     def named(self, item):
-        """The traits, types and models that an item names outside its clauses: its crate's own or else another's."""
-        # The name of an enum's variant is no type's.
-        said = re.sub(r"(?m)^    [A-Z]\w*", "", item.around) if item.kind == "enum" else item.around
+        """The traits, types and models that an item names, but for the names of an enum's variants."""
+        said = re.sub(r"(?m)^    [A-Z]\w*", "", item.said) if item.kind == "enum" else item.said
         for name in re.findall(r"\b[A-Z]\w*", said):
-            found = [it for it in self.called if it.name == name]
-            found = [it for it in found if it.crate == item.crate] or found
+            found = self.meant(item, [it for it in self.called if it.name == name])
             if len({it.crate for it in found}) > 1:
                 raise ValueError(f"{name}, which {item.name} of {item.crate} names, is of several crates")
             yield from found
@@ -186,7 +213,7 @@ class Code:
         crate, file, owner = found.groups()
         wanted = crate, file.replace(".", "/") + ".rt", name if owner == "TheConstants" else owner
         item = next(it for it in self.items if (it.crate, it.file, it.name) == wanted)
-        if item.kind == "const" and re.search(r"\b[A-Z][A-Z_]+\b", item.code.partition("=")[2]):
+        if item.kind == "const" and re.search(r"\b[A-Z][A-Z_]+\b", item.around.partition("=")[2]):
             raise ValueError(f"a constant that names another can't be read: {item.text}")
         return self.reached(item)
 
@@ -205,9 +232,6 @@ class Code:
 # Definitions.
 
 START = re.compile(r"(?:abbrev|unfoldable|irreducible|infixl|infixr|infix|pub|record|data)(?= (?!use |mod ))")
-NAMED = re.compile(r"(?:(?:abbrev|unfoldable|irreducible) )*(?:pub )?(?:(record|data) )?([^\s:({]+)")
-# A comment, a text, or a name with what follows it after a dot.
-TOKEN = re.compile(rf'--[^\n]*|"(?:\\.|[^"\\])*"|({WORD})(?:\.({WORD}))?(?:\.{WORD})*')
 
 
 def imports_of(line):
@@ -230,26 +254,30 @@ def spellings(name):
     return ("◌>>=◌",) if name == "do" else (name, f"◌{name}◌", f"{name}◌", f"◌{name}")
 
 
-def names_in(text):
-    """The names in a text, each with the one after its dot."""
-    return {(it[1], it[2]) for it in TOKEN.finditer(text) if it[1]}
+def names_in(tokens):
+    """The names among tokens, each with the one after its dot."""
+    return {(*it.text.split("."), None)[:2] for it in tokens if it.kind == "Antt"}
 
 
-def origins_in(text, imports):
-    """The names in a text that are brought in, each with where it comes from."""
-    named = {spelled for name, _ in names_in(text) for spelled in spellings(name)}
+def origins_in(tokens, imports):
+    """The names among tokens that are brought in, each with where it comes from."""
+    named = {spelled for name, _ in names_in(tokens) for spelled in spellings(name)}
     return {spelled: imports[spelled] for spelled in sorted(named & imports.keys())}
 
 
 class Definition:
-    """A definition: its name, its place in its file, and its lines: the comment above it, what fixes it as an operator,
-    and itself."""
+    """A definition: its name, its place in its file, its lines (the comment above it, what fixes it as an operator, and
+    itself), and its tokens; a type's constructors, too."""
 
-    def __init__(self, module, kind, name, comment, fixity, lines):
-        self.module, self.kind, self.name, self.place = module, kind, name, len(module.definitions)
+    def __init__(self, module, comment, fixity, lines, tokens):
+        self.module, self.place, self.tokens = module, len(module.definitions), tokens
         self.size = len(comment) + len(lines)
         self.lines = [*comment, *fixity, *lines]
-        self.text = "\n".join(lines)
+        words = [it.text for it in tokens if it.text not in ("abbrev", "unfoldable", "irreducible", "pub")]
+        self.name = words[words[0] in ("record", "data")]
+        rows = [list(row) for _, row in itertools.groupby(tokens, lambda it: it.line)] if words[0] == "data" else []
+        of_row = (itertools.takewhile(lambda it: it.text != ":", row) for row in rows[1:])
+        self.constructors = [it.text for row in of_row for it in row if it.text != "pub"]
 
     @property
     def file(self):
@@ -257,12 +285,7 @@ class Definition:
 
     def origins(self):
         """Where the names in it come from that a `use` line brings in."""
-        return origins_in(self.text, self.module.imports)
-
-    def constructors(self):
-        """The constructors of a type."""
-        rows = re.findall(r"^  (?:pub )?(\S[^:\n]*) :", self.text, re.MULTILINE) if self.kind == "data" else []
-        return [name for names in rows for name in names.split()]
+        return origins_in(self.tokens, self.module.imports)
 
 
 class Module:
@@ -272,31 +295,28 @@ class Module:
         self.crate, self.file = crate, file
         self.name = f"Rattle.{crate}.specs.{file.replace('/', '.')}"
         self.imports, self.definitions, self.head = {}, {}, []
-        self.read(text_of(path).split("\n"))
+        self.read(text_of(path).split("\n"), code_of(path).split("\n"), tokens_of(path))
 
-    def read(self, lines):
+    def read(self, lines, bare, tokens):
         comment, fixity, block = [], [], []
-        for line in [*lines, ""]:
-            starts = bool(START.match(line))
-            if block and (not line.strip() or starts or line.startswith("--")):
-                self.add(comment, fixity, block)
-                comment, fixity, block = [], [], []
-            if not line.strip() or re.match(r"(pub )?use ", line):
-                self.imports.update(imports_of(line) if line.strip() else [])
+        for number, (line, said) in enumerate(zip([*lines, ""], [*bare, ""]), 1):
+            starts, above = bool(START.match(said)), line.startswith("--")
+            if block and (not line.strip() or starts or above):
+                of_block = [it for it in tokens if number - len(block) <= it.line < number]
+                new = Definition(self, comment, fixity, block, of_block)
+                self.definitions[new.name], comment, fixity, block = new, [], [], []
+            if not line.strip() or re.match(r"(pub )?use ", said):
+                self.imports.update(imports_of(said) if line.strip() else [])
                 self.head = self.head or ([] if self.definitions else comment)
                 comment = []
-            elif line.startswith("--"):
+            elif above:
                 comment.append(line)
-            elif line.startswith("infix"):
+            elif said.startswith("infix"):
                 fixity.append(line)
             elif starts or block:
                 block.append(line)
-            elif not line.startswith("pub mod "):
+            elif not said.startswith("pub mod "):
                 raise ValueError(f"in {self.name} this belongs to no definition: {line}")
-
-    def add(self, comment, fixity, block):
-        kind, name = NAMED.match(block[0]).groups()
-        self.definitions[name] = Definition(self, kind, name, comment, fixity, block)
 
 
 class Specs:
@@ -305,7 +325,7 @@ class Specs:
     def __init__(self):
         self.modules = {it.name: it for it in (Module(*found) for found in files("specs", ".antt"))}
         definitions = [it for module in self.modules.values() for it in module.definitions.values()]
-        self.owners = {(it.module.name, name): it for it in definitions for name in it.constructors()}
+        self.owners = {(it.module.name, name): it for it in definitions for name in it.constructors}
 
     def find(self, module, name):
         """The definition of that name in a module, or that of the type whose constructor it is."""
@@ -326,9 +346,9 @@ class Specs:
             searched = self.modules.get(module)
         return module, name
 
-    def named(self, text, find, imports):
-        """The definitions that a text names, where `find` finds those of its names, and where these are imported."""
-        for name, field in names_in(text):
+    def named(self, tokens, find, imports):
+        """The definitions that tokens name, where `find` finds those of its names, and where these are imported."""
+        for name, field in names_in(tokens):
             found = find(name) or field and name in imports and self.find(imports[name][0], field)
             if found:
                 yield found
@@ -336,7 +356,7 @@ class Specs:
     def references(self, definition):
         """The definitions that this one refers to; in its own file the kit lets it use only what stands above."""
         module = definition.module
-        named = self.named(definition.text, lambda name: self.find(module.name, name), module.imports)
+        named = self.named(definition.tokens, lambda name: self.find(module.name, name), module.imports)
         return {it for it in named if it.module is not module or it.place < definition.place}
 
     def reached(self, first, instead={}):

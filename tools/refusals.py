@@ -23,20 +23,6 @@ IN_PROOF = re.compile(r"refused, as it must be: (?:note: )?(?:\./)?proofs/([\w/]
                       r"(?!`goal\.)")
 
 
-def function_at(text, line):
-    """The function in which a line stands, or whose attribute it is. An edit moves no line."""
-    owner, found, lines = "", "", text.split("\n")
-    while lines[line - 1].lstrip().startswith("#["):
-        line += 1
-    for it in lines[:line]:
-        block = re.match(r"impl(?:<.*?>)? (?:.*? for (?:&mut )?)?(?:\w+::)*(\w+)|\}$", it)
-        function = re.match(r" *(?:pub(?:\([^)]*\))? )?fn (\w+)", it)
-        if block:
-            owner = f"{block[1]}::" if block[1] and not it.endswith("}") else ""
-        found = owner + function[1] if function else found
-    return found
-
-
 def function_of(crate, path):
     """The function whose proof is in a file, or the file, if it is a lemma's; without a trait's name after a type's."""
     parts = path.split("/")
@@ -47,17 +33,13 @@ def function_of(crate, path):
     return parts[-1]
 
 
-def labels_of(code, crate, function):
+def labels_of(code, crate, path):
     """The labels of a function's clauses, and of those that its trait has; `result` for one that has no label."""
-    owner, _, name = function.rpartition("::")
-    blocks = [it for it in code.items if (it.crate, it.kind, it.name) == (crate, "impl", owner)]
-    blocks = [it for it in blocks if name in [member.name for member in it.members]]
-    traits = [it for it in code.items if it.kind == "trait" and it.name in [block.trait for block in blocks]]
-    own = [it for it in code.items if (it.crate, it.kind) == (crate, "fn") and not owner]
-    its = [it for it in own + [member for block in blocks + traits for member in block.members] if it.name == name]
-    labels = {label or "result" for it in its for label in re.findall(r"\bensures\b(?:\s+(\w+))?\s*\{", it.text)}
+    its = [it for it in code.functions if (it.crate, it.path) == (crate, path)]
+    traits = [it for it in code.functions for own in its if (it.owner, it.name) == (own.trait, own.name)]
+    labels = {clause.label for it in its + traits for clause in it.clauses} - {None}
     # The clauses of a trait of std aren't here.
-    return labels or {"result" for it in blocks if it.trait and not traits}
+    return labels or {"result" for it in its if it.trait and not traits}
 
 
 def goal_of(name, whole, labels):
@@ -86,8 +68,9 @@ def rows(said):
         in_code, in_proof = AT.match(how), IN_PROOF.match(how)
         if not in_code and not in_proof:
             sys.exit(f"{crate}/{name}.edit isn't refused by a goal that can be read: {how}")
-        code = text_of("crates", crate, "src", in_code[1]) if in_code else ""
-        function = function_at(code, int(in_code[2])) if in_code else function_of(crate, in_proof[1])
+        function = function_of(crate, in_proof[1]) if in_proof else next(
+            it.path for it in items.functions
+            if (it.crate, it.file) == (crate, in_code[1]) and int(in_code[2]) in it.lines)
         labels = labels_of(items, crate, function)
         goal = goal_of(in_code[3] if in_code else in_proof[2], in_proof or in_code[4], labels)
         if not goal:

@@ -1,9 +1,12 @@
-"""The files of the repository, its crates, and the code in a file, without what is no code."""
+"""The files of the repository, its crates, and the code in a file: the tokens that the prover reads, which the kit
+prints."""
 
+import collections
 import functools
 import glob
 import os
 import re
+import subprocess
 
 TOP = os.path.dirname(os.path.dirname(os.path.realpath(__file__)))
 
@@ -40,31 +43,57 @@ def files(folder, ending):
         yield crate, file, path
 
 
-# What is no code: comments, texts, and characters, which a quote closes, as it doesn't close a lifetime.
-NO_CODE = re.compile(r"""//[^\n]*|\b[bc]?r(\#*)"[\s\S]*?"\1|(?:\b[bc])?"(?:[^"\\]|\\[\s\S])*"
-    |(?:\bb)?'(?:\\(?:u\{\w+\}|x\w\w|.)|[^'\\\n])'""", re.VERBOSE)
-WORD = r'[^\s(){}\[\];,.:λ→×⊎"]+'
-# The same of a definition, and its words, in which nothing begins a comment.
-NO_DEFINITION = re.compile(rf'--[^\n]*|"(?:\\.|[^"\\\n])*"|(?P<word>{WORD})')
-# What neither may have: another comment, a text without an end; in code, a module in another place than its name says.
-UNKNOWN = re.compile(r"""\r|/\*|\{-|"|--|#!?\s*\[\s*(?:path|cfg_attr)\b|\bmod\s+\w+\s*\{""")
+# A token: its kind (`rattle fmt --help` says which there are), its line, its place in the text, and itself.
+Token = collections.namedtuple("Token", "kind line start end text")
+# What stands between tokens: comments, up to the end of a line.
+GAP = re.compile(r"(?:\s|(?://|--)[^\n]*)*")
+# Modules in another place than their names say.
+ELSEWHERE = re.compile(r"#!?\s*\[\s*(?:path|cfg_attr)\b|\bmod\s+\w+\s*\{")
 
 
-def code_in(text, no_code=NO_CODE, path="a text"):
-    """A text with a space for each character of a comment, a text or a character."""
-    def blank(it):
-        return it[0] if it.groupdict().get("word") else re.sub(r"[^\r\n]", " ", it[0])
-    code = no_code.sub(blank, text)
-    unknown = UNKNOWN.search(code)
-    if unknown:
-        raise ValueError(f"in {path} this can't be read: {unknown[0]!r}")
-    return code
+@functools.lru_cache(maxsize=None)
+def printed_tokens():
+    """What the kit prints of the tokens of each file in `src` and `specs`, a line for each."""
+    paths = [path for of in (("src", ".rt"), ("specs", ".antt")) for _, _, path in files(*of)]
+    kit = os.path.dirname(subprocess.run(["rt", "doc"], stdout=subprocess.PIPE, check=True).stdout)
+    command = [os.path.join(kit, b"bin", b"rattle"), "fmt", "--tokens", *paths]
+    printed = subprocess.run(command, stdout=subprocess.PIPE, check=True).stdout
+    return dict(zip(paths, re.split(rb"(?m)^file \d+\n", printed)[1:]))
+
+
+@functools.lru_cache(maxsize=None)
+def tokens_of(path):
+    """The tokens of a file, as the prover reads it, without comments."""
+    text, found, read, place = text_of(path), [], 0, 0
+    data = text.encode()
+    for line, start, end, kind in re.findall(rb"(?m)^(\d+) (\d+) (\d+) (?!Literal \"//)(\w+)", printed_tokens()[path]):
+        gap, token = data[read:int(start)].decode(), data[int(start):int(end)].decode()
+        place, read = place + len(gap), int(end)
+        found.append(Token(kind.decode(), int(line), place, place + len(token), token))
+        place += len(token)
+        if not GAP.fullmatch(gap) or "«" in token:
+            raise ValueError(f"in {path} this can't be read: {gap}{token}")
+    if not GAP.fullmatch(text[place:]) or not text.replace("\n", "").isprintable():
+        raise ValueError(f"in {path} a comment has no end, or a character can't be seen")
+    return found
+
+
+def blank(text):
+    """A text with a space for each character."""
+    return re.sub(r"[^\n]", " ", text)
 
 
 @functools.lru_cache(maxsize=None)
 def code_of(path):
-    """The code in a file, or what its definitions say."""
-    return code_in(text_of(path), NO_CODE if path.endswith(".rt") else NO_DEFINITION, path)
+    """The code in a file, or what its definitions say, with spaces for comments, texts and characters."""
+    text, code, place = text_of(path), "", 0
+    for it in tokens_of(path):
+        if it.kind not in ("Literal", "Text"):
+            code, place = code + blank(text[place:it.start]) + it.text, it.end
+    code += blank(text[place:])
+    if ELSEWHERE.search(code):
+        raise ValueError(f"{path} has a module that isn't in a file of its name")
+    return code
 
 
 def sources():

@@ -3,15 +3,14 @@ pub use Rattle.digest_kinds.specs.Bytes.{ByteString}
 use Rattle.std.specs.Prelude.{ℕ, Bool, true, false, ◌≡◌, ◌<◌, ◌≤◌, ◌+◌, ◌/◌, List, [], ◌∷◌, ◌++◌, length, take, flat_map, filter_map, ⊤, ◌⊎◌, Option, None, Some, Result, Ok, Err}
 use Rattle.std.specs.Simd.{first_chunks}
 
--- what an output got: the pieces that it was offered, one per write; the bytes of them that it accepted, which are
--- written at once; and the number of calls that failed
+-- what an output got: the pieces that it was offered, one per write; the bytes of them that it wrote; its failed calls
 pub record OutputState : Type 0 where
   pub offered : List ByteString
   pub written : ByteString
   pub failures : ℕ
 
 -- a sink's state: what it got, and whether it is flushed. It is flushed before its first call, and after a flush or a
--- call that failed, by which what was held back is lost; a write that succeeds ends that
+-- call that failed, by which what was held back is lost
 pub record SinkState : Type 0 where
   pub output : OutputState
   pub flushed : Bool
@@ -19,14 +18,10 @@ pub record SinkState : Type 0 where
 -- one write, which offers a piece: its first bytes are accepted, at least one if it isn't empty; or the write fails
 abbrev pub WritesSome : {E : Type 0} → SinkState → SinkState → ByteString → Result ℕ E → Type 0
 WritesSome a b piece (Ok n) = (n ≤ length piece) × (0 < length piece → 0 < n)
-    × (let o = a.output in b ≡ record {
-      output = record o { offered = o.offered ++ piece ∷ []; written = o.written ++ take n piece };
-      flushed = false;
-    })
-WritesSome a b piece (Err e) = let o = a.output in b ≡ record {
-  output = record o { offered = o.offered ++ piece ∷ []; failures = o.failures + 1 };
-  flushed = true;
-}
+    × (let o = record a.output { offered = a.output.offered ++ piece ∷ [] } in
+    b ≡ record { output = record o { written = o.written ++ take n piece }; flushed = false })
+WritesSome a b piece (Err e) = let o = record a.output { offered = a.output.offered ++ piece ∷ [] } in
+    b ≡ record { output = record o { failures = o.failures + 1 }; flushed = true }
 
 -- one flush, which offers nothing, or fails
 abbrev pub Flushes : {E : Type 0} → SinkState → SinkState → Result ⊤ E → Type 0
