@@ -74,7 +74,7 @@ module _ (settings : CheckSettings) (tool name : List ℕ) (a : StreamsState) wh
             later = ran.later;
             are = ap (λ steps. opening name ∷ steps) ran.are;
             between = ran.between;
-            happened = Happened-then (events_of (opening name)) (trace ran.done) did ran.happened;
+            happened = Happened-then {c = ran.between} (events_of (opening name)) (trace ran.done) did ran.happened;
             stopped = kept_performs (ran.next ∷ []) (tt {0}) ran.between b n (Err stop) o.asked o.refusals ran.stopped;
             read = ran.read;
           })
