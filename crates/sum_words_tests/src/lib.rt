@@ -2,6 +2,7 @@
 //! lines are, its `proofs/WorkedExamples.antt` has.
 #![tactic(auto)]
 
+pub mod consequences;
 #[cfg(test)]
 mod laws;
 #[cfg(test)]
