@@ -4,6 +4,7 @@
 
 #[cfg(test)]
 mod blake2b;
+pub mod consequences;
 #[cfg(test)]
 mod hashers;
 #[cfg(test)]
