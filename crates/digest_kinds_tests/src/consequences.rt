@@ -3,7 +3,7 @@ ghost use Rattle.blake2b_core.specs.Digest.{blake2b};
 ghost use Rattle.blake2b_core.specs.refinement.Holding.{Holds, digest_len, taken};
 ghost use Rattle.digest_kinds.specs.Bytes.{ByteString};
 ghost use Rattle.digest_kinds.specs.Kinds.{digest};
-ghost use Rattle.std.specs.Prelude.{◌≡◌, ◌↔◌, ◌⊎◌, ◌+◌, ◌^◌, ◌<◌, ◌++◌, length, take, nat_lt, if◌then◌else◌, IsNone, IfSome};
+ghost use Rattle.std.specs.Prelude.{◌≡◌, ◌↔◌, ◌⊎◌, ◌+◌, ◌^◌, ◌<◌, ◌++◌, length, take, slice_get, nat_lt, if◌then◌else◌, Some, IsNone, IfSome};
 
 use blake2b_core::{Blake2b, Output};
 use digest_kinds::{Digest, Hasher, Kind};
@@ -41,4 +41,29 @@ pub fn blake2b_digest(len: usize, message: &[u8]) -> Option<Digest>
     ensures value { IfSome result (λ d. d ≡ blake2b len message.now) }
 {
     Some(Kind::blake2b_bytes(len)?.digest(message))
+}
+
+/// Returns a row of a table of digests, which begins with this one, and the digest's first byte.
+pub fn row_of(digest: &Output) -> ([u8; 64], u8)
+    ensures row { take (length digest.now) result.0 ≡ digest.now }
+    ensures first { slice_get digest.now 0 ≡ Some result.1 }
+{
+    let bytes = digest.as_slice();
+    let mut row = [0; 64];
+    row[..bytes.len()].copy_from_slice(bytes);
+    (row, bytes[0])
+}
+
+/// Returns the digest of this kind in a row of such a table.
+pub fn in_row(kind: Kind, row: &[u8; 64]) -> &[u8]
+    ensures { result.now ≡ take kind.len row.now }
+{
+    &row[..kind.len()]
+}
+
+/// Returns the first byte of a digest.
+pub fn first_byte(digest: &Digest) -> u8
+    ensures { slice_get digest.now 0 ≡ Some result }
+{
+    digest.as_slice()[0]
 }
