@@ -54,13 +54,6 @@ pub fn row_of(digest: &Output) -> ([u8; 64], u8)
     (row, bytes[0])
 }
 
-/// Returns the digest of this kind in a row of such a table.
-pub fn in_row(kind: Kind, row: &[u8; 64]) -> &[u8]
-    ensures { result.now ≡ take kind.len row.now }
-{
-    &row[..kind.len()]
-}
-
 /// Returns the first byte of a digest.
 pub fn first_byte(digest: &Digest) -> u8
     ensures { slice_get digest.now 0 ≡ Some result }

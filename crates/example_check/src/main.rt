@@ -22,7 +22,7 @@ fn main(rt: HostRuntime) -> anyhow::Result<()> {
             Verdict::Unread(Fault::NotFound) => "not there",
             Verdict::Unread(_) => "can't be read",
         };
-        let name = String::from_utf8_lossy(rt.alloc(), &line[found.start..found.stop])?;
+        let name = String::from_utf8_lossy(rt.alloc(), found.name(&line))?;
         println!(rt; "line {}, {name:?}: {why}", found.number)?;
     }
     Ok(())
