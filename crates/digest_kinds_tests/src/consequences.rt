@@ -1,12 +1,12 @@
-//! What the contracts of hashers and of kinds give a caller.
+//! What the contracts of hashers, of kinds and of algorithms give a caller.
 ghost use Rattle.blake2b_core.specs.Digest.{blake2b};
 ghost use Rattle.blake2b_core.specs.refinement.Holding.{Holds, digest_len, taken};
 ghost use Rattle.digest_kinds.specs.Bytes.{ByteString};
 ghost use Rattle.digest_kinds.specs.Kinds.{digest};
-ghost use Rattle.std.specs.Prelude.{◌≡◌, ◌↔◌, ◌⊎◌, ◌+◌, ◌^◌, ◌<◌, ◌++◌, length, take, slice_get, nat_lt, if◌then◌else◌, Some, IsNone, IfSome};
+ghost use Rattle.std.specs.Prelude.{◌≡◌, ◌↔◌, ◌⊎◌, ◌+◌, ◌^◌, ◌<◌, ◌++◌, length, take, slice_get, nat_lt, if◌then◌else◌, Some, Ok, IsNone, IfSome};
 
 use blake2b_core::{Blake2b, Output};
-use digest_kinds::{Digest, Hasher, Kind};
+use digest_kinds::{Algo, Digest, Hasher, Kind, UnknownTag};
 
 /// Takes a piece, unless the message would be too long with it. Returns the digest, its kind, and of how many bytes it
 /// is.
@@ -59,4 +59,11 @@ pub fn first_byte(digest: &Digest) -> u8
     ensures { slice_get digest.now 0 ≡ Some result }
 {
     digest.as_slice()[0]
+}
+
+/// Returns the algorithm from its tag.
+pub fn of_its_tag(algo: Algo) -> Result<Algo, UnknownTag>
+    ensures { result ≡ Ok algo }
+{
+    algo.tag().parse()
 }

@@ -1,9 +1,9 @@
-//! What the contracts of a list of words give a caller.
+//! What the contracts of words and of tools give a caller.
 ghost use Rattle.std.specs.Option.{option_copied};
-ghost use Rattle.std.specs.Prelude.{◌≡◌, ◌⊎◌, ◌-◌, ◌∷◌, ◌++◌, [], OnOk, OnErr, codes, length, slice_get};
+ghost use Rattle.std.specs.Prelude.{◌≡◌, ◌⊎◌, ◌-◌, ◌∷◌, ◌++◌, [], Ok, OnOk, OnErr, codes, length, slice_get};
 
 use std::alloc::Allocator;
-use sum_words::{NoRoom, Words};
+use sum_words::{NoRoom, Tool, UnknownTool, Words};
 
 /// Adds `--` and a name, which is then an operand, whatever it is. If memory is refused, the words are as before, but
 /// for a `--` that may follow them.
@@ -21,4 +21,11 @@ pub fn last_word<A: Allocator>(words: &Words<A>) -> Option<&[u8]>
     ensures { option_copied result ≡ slice_get words.now (length words.now - 1) }
 {
     words.get(words.len().checked_sub(1)?)
+}
+
+/// Returns the tool from its name.
+pub fn of_its_name(tool: Tool) -> Result<Tool, UnknownTool>
+    ensures { result ≡ Ok tool }
+{
+    tool.name().parse()
 }
