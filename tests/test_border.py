@@ -86,10 +86,10 @@ class Border(Case):
         page, found, named = text_of("docs", "AUDITING.md"), {}, set()
         for name in CALLED:
             there = File(f"{TOP}/crates/digests/src/{name}.rt", "digests", f"{name}.rt")
-            code = re.sub(r"#!?\[[^]]*\]", "", there.around)
+            code = re.sub(r"#!?\[[^]]*\]|\bghost use [^;]*;", "", there.around)
             called = {name for owner, _, name, call in CALL.findall(code.replace("!", "")) if owner or call}
             found[name] = " ".join(sorted(called | {it for it in there.brought if it[0].islower()}))
-            named |= set(re.findall(r"\b[A-Z]\w*", there.around))
+            named |= set(re.findall(r"\b[A-Z]\w*", code))
         self.assertEqual(found, CALLED)
         types = [it for it in Code().items if it.name in named and it.kind in ("struct", "enum", "trait", "type")]
         self.assertEqual(len(types), len({it.name for it in types}), [f"{it.crate}/src/{it.file}" for it in types])
