@@ -1,20 +1,20 @@
 -- Worked examples: the meaning of some command lines, computed. It has both texts, the names that are opened, and
 -- whether all is good.
-use Rattle.std.proofs.Common.{rules, arith, ◌≡◌, ◌∙◌, ap, ℕ, ◌++◌, Bool, List, [], ◌∷◌, refl, codes, true, false, if◌then◌else◌, bytes_eq, Result, Ok, Err, IfOk, inl, inr}
+use Rattle.std.proofs.Common.{rules, arith, ◌≡◌, ◌∙◌, ap, ℕ, ◌++◌, Bool, List, [], ◌∷◌, refl, codes, true, false, if◌then◌else◌, bytes_eq, Result, Ok, Err, IfOk, inl, inr, append_assoc}
 use Rattle.std.specs.{Prelude.⊤, Prelude.◌⊎◌, Path.rsplit_once, Fmt.digits}
 use Rattle.md5.specs.Md5.{block_words as md5_words, rounds as md5_rounds, compress as md5_compress, hash_after as md5_after, digest_bytes as md5_bytes, md5}
 use Rattle.blake2b_core.specs.Compression.{mix, round, work_vector, compress}
 use Rattle.blake2b_core.specs.Digest.{hash_after as blake2b_after, blake2b}
-use Rattle.sum_engine.specs.Behavior.{World, Behavior, answer_to, Whole, Broken, out_text, err_text, asks}
-use Rattle.digest_kinds.specs.{Kinds.full_kind, declared.algo.Algo.Algo, declared.algo.Algos.Algos}
+use Rattle.sum_engine.specs.Behavior.{World, Behavior, answer_to, digest_or_fault, Fault, Whole, Broken, out_text, err_text, asks}
+use Rattle.digest_kinds.specs.{Kinds.full_kind, declared.algo.Algo.Algo, declared.algo.Algo.TheVariants.Md5, declared.algo.Algos.Algos}
 use Rattle.hex.specs.Hex.{encode_with, decode_pairs}
-use Rattle.sum_lines.specs.{declared.writing.put_line.Mode.Mode, grammar.LineParts.plain_parts, grammar.LineParts.tagged_parts, grammar.ParsedLines.entry_of}
+use Rattle.sum_lines.specs.{declared.writing.put_line.Mode.Mode, declared.writing.put_line.Mode.TheVariants.Text, Lines.line, grammar.LineParts.plain_parts, grammar.LineParts.tagged_parts, grammar.ParsedLines.entry_of}
 use Rattle.sum_sources.specs.{declared.fault.Fault.TheVariants.NotFound, declared.fault.Fault.TheVariants.Other, ManifestLines.raw_lines, Contents.Content, Contents.limit, Contents.empty_content, Sources.Answer, Inputs.answers_with}
 use Rattle.sum_words.specs.{declared.tool.Tool.Tool, declared.tool.Tool.TheVariants.Md5sum, declared.tool.Tool.TheVariants.B2sum, declared.tool.Tool.TheVariants.Anysum, Items.ByteString, CommandLines.command_line, CommandLines.NeedsMemory, Texts.not_read_line, Tools.tool_called}
 use Rattle.sum_words.proofs.WorkedExamples.{words, words_on_literals}
-use Rattle.sum_engine.specs.{declared.settings.CheckSettings.CheckSettings, declared.settings.Report.TheVariants.All, declared.stop.Stop.Stop, Execution.Agrees, Execution.StreamsState, Execution.PerformsSteps}
+use Rattle.sum_engine.specs.{declared.settings.CheckSettings.CheckSettings, declared.settings.Report.TheVariants.All, declared.stop.Stop.Stop, Execution.Agrees, Execution.asked, Execution.world_at, Execution.StreamsState, Execution.PerformsSteps}
 use Rattle.sum_engine.proofs.BehaviorLemmas.{events_extend}
-use Rattle.digests.specs.{Meaning.meaning, Meaning.status_of, GenerationRuns.GenerationRun, Program.CallRefuses, InMemory.CommandPerformsIn}
+use Rattle.digests.specs.{Meaning.meaning, Meaning.status_of, GenerationRuns.GenerationRun, Program.CallRefuses, Program.CommandPerforms, InMemory.CommandPerformsIn}
 
 -- what a worked example unfolds, so that its texts are computed
 unfoldable meaning_on_literals : ⊤
@@ -182,6 +182,38 @@ called_on_e w v a b status is agrees (inl (Err stop, between, did, failed, same,
 called_on_e w v a b status is agrees (inr (needs, (Ok x, between, did, failed, same, reports))) zero =
     let one = (did v (rw same at agrees)).0 in absurd (omega (arith, one, reports.0))
 called_on_e w v a b status is agrees (inr (needs, (Err stop, between, did, failed, same, reports))) zero =
+    let one = reports.0 in absurd (omega arith)
+
+-- `md5sum - -`, if the second `-` is empty: whatever the first is, the last line is that of an empty file
+dash_twice : (w : World) → w.opened ≡ [] → w.answer (codes "-") 1 ≡ Ok empty_content
+    → (text : ByteString) × (out_text (meaning Md5sum (codes "-" ∷ codes "-" ∷ []) w)
+    ≡ text ++ codes "d41d8cd98f00b204e9800998ecf8427e  -\n")
+unfolding meaning_on_literals
+dash_twice w none later = by (digest_or_fault (full_kind Md5) (w.answer (codes "-") 0)) refl
+  where
+    by : (r : Result ByteString Fault) → digest_or_fault (full_kind Md5) (w.answer (codes "-") 0) ≡ r
+        → (text : ByteString) × (out_text (meaning Md5sum (codes "-" ∷ codes "-" ∷ []) w)
+        ≡ text ++ codes "d41d8cd98f00b204e9800998ecf8427e  -\n")
+    by (Ok d) is = (line (record { mode = Text; zero = false }) (full_kind Md5) (codes "-") d, rw (none, is, later) refl)
+    by (Err f) is = ([], rw (none, is, later) refl)
+
+-- so the program wrote that line last, if it returned 0
+pub called_twice : (w : World) (a b : StreamsState) (status : ℕ) → asked a.inputs ≡ []
+    → w.answer (codes "-") 1 ≡ Ok empty_content → Agrees w b.inputs
+    → CommandPerforms (command_line (codes "md5sum" ∷ codes "-" ∷ codes "-" ∷ [])) a b status
+    ⊎ (NeedsMemory (codes "md5sum" ∷ codes "-" ∷ codes "-" ∷ []) × CallRefuses not_read_line a b status) → status ≡ 0
+    → (text : ByteString) × (b.outputs.out.written ≡ text ++ codes "d41d8cd98f00b204e9800998ecf8427e  -\n")
+unfolding tool_called
+called_twice w a b status none later agrees (inl (Ok x, between, did, failed, same, reports)) zero =
+    let run = meaning Md5sum (codes "-" ∷ codes "-" ∷ []) (world_at w a.inputs) in
+    let (text, is) = dash_twice (world_at w a.inputs) none later in
+    let wrote = (events_extend run a between (did w (rw same at agrees)).1).2 in
+    (a.outputs.out.written ++ text, rw (reports.1, wrote, is, append_assoc) refl)
+called_twice w a b status none later agrees (inl (Err stop, between, did, failed, same, reports)) zero =
+    let one = reports.0 in absurd (omega arith)
+called_twice w a b status none later agrees (inr (needs, (Ok x, between, did, failed, same, reports))) zero =
+    let one = (did w (rw same at agrees)).0 in absurd (omega (arith, one, reports.0))
+called_twice w a b status none later agrees (inr (needs, (Err stop, between, did, failed, same, reports))) zero =
     let one = reports.0 in absurd (omega arith)
 
 -- a check without other options

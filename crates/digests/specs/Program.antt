@@ -2,7 +2,7 @@
 use Rattle.std.specs.Prelude.{ℕ, pos, ◌≡◌, ◌⊎◌, true, false, List, [], ⊤, Option, None, Some, Result, Ok, Err, unwrap_or}
 use Rattle.sum_sources.specs.{Contents.Content, Inputs.with_stdin, Sources.Pair}
 use Rattle.sum_sources.specs.declared.{fault.Ending.TheVariants.Broken, fault.Fault.TheVariants.Os}
-use Rattle.sum_lines.specs.Sinks.{SinkState, GivesAll}
+use Rattle.sum_lines.specs.Sinks.{OutputState, GivesAll}
 use Rattle.sum_engine.specs.Behavior.{single_step, ByteString}
 use Rattle.sum_engine.specs.Execution.{OutputsState, StreamsState, FailuresMatch, Performs}
 use Rattle.sum_words.specs.Arguments.{ArgumentsState, AreOf}
@@ -48,8 +48,8 @@ ProgramPerforms given a b status = (arguments : List ByteString) → AreOf given
 -- ---- the program as the system starts it
 
 -- an output of which no call was made, over a writer that is known to hold this
-abbrev pub fresh_output : Option ByteString → SinkState
-fresh_output held = record { offered = []; written = unwrap_or held []; failures = 0; flushed = true }
+abbrev pub fresh_output : Option ByteString → OutputState
+fresh_output held = record { offered = []; written = unwrap_or held []; failures = 0 }
 
 -- streams of which nothing was opened, read or written: what is in memory, and what the outputs' writers hold
 abbrev pub fresh_streams : List Pair → Option ByteString → Option ByteString → StreamsState

@@ -61,11 +61,11 @@ step_performed {A} {a} {b} {names} {err} {out} {x} remaining r asked said = by r
     by (Ok y) h = rw append-nil (h.0, Happened-by names _ _ asked h.1 h.2)
     by (Err Write) (inl (h, same)) =
         let rest : List Event = map to_err h.1 ++ map to_out (output_events out) in
-        let did = Happened-by names h.0 [] asked h.3 (rw same Gets-none) in
+        let did : Happened a b (events_by names h.0 []) = Happened-by names h.0 [] asked h.3 (rw same Gets-none) in
         rw append-nil (events_by names h.0 [], rest, search (rules, map-append, append_assoc), did)
     by (Err Write) (inr (all, h)) =
         let rest : List Event = map to_out h.1 in
-        let did = Happened-by names _ h.0 asked all h.3 in
+        let did : Happened a b (events_by names (output_events err) h.0) = Happened-by names _ h.0 asked all h.3 in
         rw append-nil (events_by names (output_events err) h.0, rest, search (rules, map-append, append_assoc), did)
     by (Err Memory) h = absurd h
 

@@ -3,16 +3,16 @@ use Rattle.std.specs.Prelude.{ℕ, ◌≡◌, ◌≢◌, ◌+◌, ◌⊎◌, Boo
 use Rattle.sum_sources.specs.declared.fault.Ending.TheVariants as ending
 use Rattle.sum_sources.specs.declared.{inputs.phase.Phase.TheVariants.Ended, inputs.phase.Phase.TheVariants.Past}
 pub use Rattle.sum_sources.specs.Sources.{Opening, IsOfAnswer, names_of, gave_at}
-use Rattle.sum_lines.specs.Sinks.{SinkState, Gets}
+use Rattle.sum_lines.specs.Sinks.{OutputState, Gets}
 pub use Rattle.sum_engine.specs.declared.streams.Streams.{Streams}
 pub use Rattle.sum_engine.specs.declared.stop.Stop.{Stop}
 pub use Rattle.sum_engine.specs.declared.stop.Stop.TheVariants.{Memory, Write}
 use Rattle.sum_engine.specs.Behavior.{ByteString, World, Event, Step, Behavior, trace, opened_name, err_event, out_event, Reads, SourceState, Fault}
 
--- both outputs, which hold nothing between calls: what each sink was offered, and what it wrote
+-- both outputs
 pub record OutputsState : Type 0 where
-  pub out : SinkState
-  pub err : SinkState
+  pub out : OutputState
+  pub err : OutputState
 
 abbrev pub StreamsState : Type 0
 StreamsState = Streams SourceState OutputsState

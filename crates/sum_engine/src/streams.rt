@@ -5,16 +5,16 @@ ghost use Rattle.sum_engine.specs.refinement.Writes.{WritesAndReturns};
 use crate::reader::Reader;
 use crate::stop::Stop;
 use std::marker::Model;
-use sum_lines::{Sink, Text, TextOutput};
+use sum_lines::{Sink, Text, Output};
 use sum_sources::Source;
 
 /// Both outputs.
 #[derive(Debug, Drop)]
 pub struct Outputs<O: Sink, E: Sink> {
     /// Standard output.
-    pub out: TextOutput<O>,
+    pub out: Output<O>,
     /// Standard error.
-    pub err: TextOutput<E>,
+    pub err: Output<E>,
 }
 
 impl<O: Sink, E: Sink> Model for Outputs<O, E> {
@@ -62,13 +62,16 @@ impl<S: Source, O: Sink, E: Sink> Streams<Reader<S>, Outputs<O, E>> {
         requires out { (O.state out).flushed ≡ true }
         requires err { (E.state err).flushed ≡ true }
         ensures inputs { result.inputs ≡ S.state source }
-        ensures outputs { result.outputs ≡ record { out = O.state out; err = E.state err } }
+        ensures outputs { result.outputs ≡ record {
+          out = (O.state out).output;
+          err = (E.state err).output;
+        } }
     {
         Streams {
             inputs: Reader::new(source),
             outputs: Outputs {
-                out: TextOutput::new(out),
-                err: TextOutput::new(err),
+                out: Output::new(out),
+                err: Output::new(err),
             },
         }
     }

@@ -2,7 +2,7 @@
 ghost use Rattle.std.specs.Prelude.{◌≡◌};
 ghost use Rattle.sum_engine.specs.Generation.{tool_line};
 ghost use Rattle.sum_lines.specs.Escape.{own_profile};
-ghost use Rattle.sum_lines.specs.refinement.PartTexts.{parts_text};
+ghost use Rattle.sum_lines.specs.PartTexts.{parts_text};
 
 use sum_lines::{Buffered, Part, Sink, SinkFault, Text, put_parts};
 use sum_sources::Fault;

@@ -2,7 +2,7 @@
 use Rattle.std.proofs.lemmas.{Grind.common_steps, List.take-append-le, List.drop-append-le, List.Concat.flat_map-append, List.Elements.filter_map-append}
 use Rattle.std.proofs.Common.{ℕ, zero, suc, ◌≡◌, ◌<◌, ◌≤◌, ◌+◌, ◌*◌, ◌/◌, ◌%◌, List, [], ◌∷◌, ◌++◌, length, drop, flat_map, filter_map, refl, sym, ap, append_assoc, append-nil, length-append, length-drop, take_all, arith}
 use Rattle.std.specs.{List.concat, Simd.first_chunks}
-use Rattle.sum_lines.specs.Sinks.{SinkState, OutputEvent, offer_piece, write_byte, written_byte, pieces, byte_events, output_events, OffersEach, Gets, GetsPrefix}
+use Rattle.sum_lines.specs.Sinks.{OutputState, OutputEvent, offer_piece, write_byte, written_byte, pieces, byte_events, output_events, OffersEach, Gets, GetsPrefix}
 
 -- ---- the pieces of a text
 
@@ -68,14 +68,14 @@ OffersEach-then a b c (write_byte x left ∷ es) fs h k =
     grind (arith, OffersEach-then a b c es fs, OffersEach-then (a ++ left ∷ []) b c es fs)
 
 -- no events happened to an unchanged sink
-pub Gets-none : {a : SinkState} → Gets a a []
+pub Gets-none : {a : OutputState} → Gets a a []
 Gets-none {a} = record { offered = refl; written = sym (append-nil a.written) }
 
 -- some events happened, and then others
-pub Gets-then : {a b c : SinkState} {p q : List OutputEvent} → Gets a b p → Gets b c q → Gets a c (p ++ q)
+pub Gets-then : {a b c : OutputState} {p q : List OutputEvent} → Gets a b p → Gets b c q → Gets a c (p ++ q)
 Gets-then {a} {b} {c} {p} {q} h k = grind (arith, append_assoc, filter_map-append, OffersEach-then)
 
 -- some events happened, and then a prefix of others
-pub GetsPrefix-then : {a b c : SinkState} {p q : List OutputEvent} → Gets a b p → GetsPrefix b c q
+pub GetsPrefix-then : {a b c : OutputState} {p q : List OutputEvent} → Gets a b p → GetsPrefix b c q
     → GetsPrefix a c (p ++ q)
 GetsPrefix-then {p} h k = (p ++ k.0, k.1, grind (arith, append_assoc), Gets-then h k.3)

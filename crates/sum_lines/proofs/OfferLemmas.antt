@@ -38,10 +38,10 @@ takes (suc n) (b ∷ left) within = let more = takes n left (omega arith) in rec
 pub record HasGiven (a b : SinkState) (text rest : List ℕ) : Type 0 where
   pub events : List OutputEvent
   pub cut : output_events text ≡ events ++ byte_events rest
-  pub offers : (new : List (List ℕ)) (es : List OutputEvent) → OffersEach (b.offered ++ again rest) new es
-      → OffersEach a.offered new (events ++ es)
-  pub written : b.written ≡ a.written ++ filter_map written_byte events
-  pub failures : b.failures ≡ a.failures
+  pub offers : (new : List (List ℕ)) (es : List OutputEvent) → OffersEach (b.output.offered ++ again rest) new es
+      → OffersEach a.output.offered new (events ++ es)
+  pub written : b.output.written ≡ a.output.written ++ filter_map written_byte events
+  pub failures : b.output.failures ≡ a.output.failures
 
 -- at first all of the text is the rest
 pub HasGiven-none : (a : SinkState) (text : List ℕ) → length text ≤ 8192 → HasGiven a a text text
@@ -65,14 +65,14 @@ HasGiven-more (x ∷ xs) (suc n) h some (within, taken, is) = let t = takes n (x
 
 -- all of the text was accepted
 pub HasGiven-all : {a b : SinkState} {text : List ℕ} (rest : List ℕ) → HasGiven a b text rest → rest ≡ []
-    → GivesAll {E = Unit {0}} a b text (Ok tt)
+    → GivesAll {E = Unit {0}} a.output b.output text (Ok tt)
 HasGiven-all {b = b} rest h none =
-    let offered = h.offers b.offered [] in let cut = h.cut in grind (arith, append-nil)
+    let offered = h.offers b.output.offered [] in let cut = h.cut in grind (arith, append-nil)
 
 -- the rest was offered, and the write of it failed
 pub HasGiven-failed : {a b c : SinkState} {text : List ℕ} (rest : List ℕ) → HasGiven a b text rest → 0 < length rest
-    → WritesSome {E = Unit {0}} b c rest (Err tt) → GivesAll {E = Unit {0}} a c text (Err tt)
+    → WritesSome {E = Unit {0}} b c rest (Err tt) → GivesAll {E = Unit {0}} a.output c.output text (Err tt)
 HasGiven-failed [] h some is = absurd (omega (arith, some))
 HasGiven-failed {b = b} (x ∷ xs) h some is =
-    let offered = rw append-nil at (h.offers (b.offered ++ (x ∷ xs) ∷ []) [] refl) in
-    rw is ((h.events, byte_events (x ∷ xs), h.cut, grind arith), grind arith, refl)
+    let offered = rw append-nil at (h.offers (b.output.offered ++ (x ∷ xs) ∷ []) [] refl) in
+    rw is ((h.events, byte_events (x ∷ xs), h.cut, grind arith), grind arith)

@@ -1,7 +1,7 @@
 -- A text is written to a buffer piece by piece. `a`, `b` and `c` are the buffer before, between and after.
 use Rattle.std.proofs.Common.{ℕ, ◌≡◌, ◌<◌, ◌≤◌, ◌-◌, ◌+◌, ◌%◌, List, [], ◌++◌, length, take, Result, Ok, Err, inl, inr, min, refl, sym, ap, ◌∙◌, append_assoc, append-nil, length-append, length-take, lit<, rules, arith}
 use Rattle.std.specs.Result.{IsErr}
-use Rattle.sum_lines.specs.{Sinks.SinkState, Sinks.GivesAll, Sinks.output_events, refinement.SinkStates.MakesRoom}
+use Rattle.sum_lines.specs.{Sinks.OutputState, Sinks.GivesAll, Sinks.output_events, refinement.SinkStates.MakesRoom}
 use Rattle.sum_lines.specs.Buffers.{BufferState, Accepts, FailsToWrite, WritesAll}
 use Rattle.sum_lines.proofs.EventLemmas.{output_events-append, Gets-none, Gets-then, GetsPrefix-then}
 
@@ -38,7 +38,7 @@ FailsToWrite-in xs ys more first failed is = let own = first.cut in let then = f
   cut = grind (arith, append_assoc);
   proper = omega (arith, failed.proper, length-append failed.rest more);
   gives = rw (output_events-append first.given failed.given first.full)
-      (GetsPrefix-then first.gives.0 failed.gives.0, failed.gives.1 ∙ ap (λ n. n + 1) first.gives.1, failed.gives.2);
+      (GetsPrefix-then first.gives.0 failed.gives.0, failed.gives.1 ∙ ap (λ n. n + 1) first.gives.1);
   flushed = failed.flushed;
 }
 
@@ -58,11 +58,11 @@ pub accepts_some : {a b : BufferState} (c : BufferState) (piece : List ℕ) (n :
 accepts_some {a} {b} c piece n made some count sink buffered =
     let size = simp (length-append, length-take) at (ap length buffered) in
     let room : length b.buffered < 8192 =
-    elim made [ inl (full, none, gives) ↦ rw none (lit< tt) | inr (less, same, ok) ↦ rw same less ] in (
+    elim made [ inl (full, none, gives, ok) ↦ rw none (lit< tt) | inr (less, same, ok) ↦ rw same less ] in (
       omega arith,
       omega arith,
       elim made [
-        | inl (full, none, gives) ↦ record {
+        | inl (full, none, gives, ok) ↦ record {
           given = a.buffered;
           full = rw full refl;
           cut = grind (arith, append-nil);
@@ -84,8 +84,8 @@ accepts_some {a} {b} c piece n made some count sink buffered =
 -- the sink failed when room was made, so the write of the piece failed
 pub accept_failed : {a b : BufferState} (piece : List ℕ) → MakesRoom {E = Unit {0}} a b (Err tt) → 0 < length piece
     → FailsToWrite a b piece
-accept_failed {a} piece (inl (full, none, gives)) some =
-    let whole : length a.buffered % 8192 ≡ 0 = rw full refl in search (rules, full)
+accept_failed {a} piece (inl (full, none, gives, flushed)) some =
+    let whole : length a.buffered % 8192 ≡ 0 = rw full refl in search rules
 accept_failed piece (inr (room, same, ok)) some = cc
 
 -- ---- a text, piece after piece
@@ -130,17 +130,17 @@ HasLeft-last {rest = rest} c r left last = rw left.cut (writes_then c left.prefi
 -- ---- a text, and a flush
 
 -- a text was accepted, and then the sink was given what was buffered, or failed
-pub given_after : {E : Type 0} {a b : BufferState} (c : SinkState) (text : List ℕ) (r : Result (Unit {0}) E)
-    → Accepts a b text → GivesAll b.sink c b.buffered r → GivesAll a.sink c (a.buffered ++ text) r
+pub given_after : {E : Type 0} {a b : BufferState} (c : OutputState) (text : List ℕ) (r : Result (Unit {0}) E)
+    → Accepts a b text → GivesAll b.sink.output c b.buffered r → GivesAll a.sink.output c (a.buffered ++ text) r
 given_after {b = b} c text (Ok u) h given = rw (h.cut, output_events-append h.given b.buffered h.full)
     (Gets-then h.gives.0 given.0, grind arith)
 given_after {b = b} c text (Err e) h given = rw (h.cut, output_events-append h.given b.buffered h.full)
-    (GetsPrefix-then h.gives.0 given.0, grind arith, given.2)
+    (GetsPrefix-then h.gives.0 given.0, grind arith)
 
 -- a write of a text failed, so not all was given
 pub not_given : {a b : BufferState} {text : List ℕ} → FailsToWrite a b text
-    → GivesAll {E = Unit {0}} a.sink b.sink (a.buffered ++ text) (Err tt)
+    → GivesAll {E = Unit {0}} a.sink.output b.sink.output (a.buffered ++ text) (Err tt)
 not_given h =
     let (prefix, rest, is, gets) = h.gives.0 in
     rw (h.cut, output_events-append h.given h.rest h.full, is)
-    ((prefix, rest ++ output_events h.rest, append_assoc prefix rest (output_events h.rest), gets), h.gives.1, h.gives.2)
+    ((prefix, rest ++ output_events h.rest, append_assoc prefix rest (output_events h.rest), gets), h.gives.1)

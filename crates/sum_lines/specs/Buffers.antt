@@ -19,7 +19,7 @@ pub record Accepts (a b : BufferState) (text : ByteString) : Type 0 where
   pub cut : a.buffered ++ text ≡ given ++ b.buffered
   pub last : 0 < length given → 0 < length b.buffered
   pub fits : length a.buffered ≤ 8192 → length b.buffered ≤ 8192
-  pub gives : GivesAll {E = ⊤} a.sink b.sink given (Ok tt)
+  pub gives : GivesAll {E = ⊤} a.sink.output b.sink.output given (Ok tt)
 
 -- a write failed: of the buffered bytes and the text, which isn't empty, all but some last bytes were to be given to
 -- the sink in full pieces, a prefix of their events happened, and the other bytes are lost
@@ -30,7 +30,7 @@ pub record FailsToWrite (a b : BufferState) (text : ByteString) : Type 0 where
   pub rest : ByteString
   pub cut : a.buffered ++ text ≡ given ++ rest
   pub proper : 0 < length rest
-  pub gives : GivesAll {E = ⊤} a.sink b.sink given (Err tt)
+  pub gives : GivesAll {E = ⊤} a.sink.output b.sink.output given (Err tt)
   pub flushed : IsFlushed b
 
 -- a call accepts all of the text, or fails; with an empty text it doesn't fail

@@ -3,30 +3,34 @@ pub use Rattle.digest_kinds.specs.Bytes.{ByteString}
 use Rattle.std.specs.Prelude.{ℕ, Bool, true, false, ◌≡◌, ◌<◌, ◌≤◌, ◌+◌, ◌/◌, List, [], ◌∷◌, ◌++◌, length, take, flat_map, filter_map, ⊤, ◌⊎◌, Option, None, Some, Result, Ok, Err}
 use Rattle.std.specs.Simd.{first_chunks}
 
--- a sink's state: the pieces that it was offered, one per write; the bytes of them that it accepted, which are written
--- at once; the number of calls that failed; whether it is flushed. It is flushed before its first call, and after a
--- flush or a call that failed, by which what was held back is lost; a write that succeeds ends that
-pub record SinkState : Type 0 where
+-- what an output got: the pieces that it was offered, one per write; the bytes of them that it wrote; its failed calls
+pub record OutputState : Type 0 where
   pub offered : List ByteString
   pub written : ByteString
   pub failures : ℕ
+
+-- a sink's state: what it got, and whether it is flushed. It is flushed before its first call, and after a flush or a
+-- call that failed, by which what was held back is lost
+pub record SinkState : Type 0 where
+  pub output : OutputState
   pub flushed : Bool
 
 -- one write, which offers a piece: its first bytes are accepted, at least one if it isn't empty; or the write fails
 abbrev pub WritesSome : {E : Type 0} → SinkState → SinkState → ByteString → Result ℕ E → Type 0
 WritesSome a b piece (Ok n) = (n ≤ length piece) × (0 < length piece → 0 < n)
-    × (b ≡ record a { offered = a.offered ++ piece ∷ []; written = a.written ++ take n piece; flushed = false })
-WritesSome a b piece (Err e) = b
-    ≡ record a { offered = a.offered ++ piece ∷ []; failures = a.failures + 1; flushed = true }
+    × (let o = record a.output { offered = a.output.offered ++ piece ∷ [] } in
+    b ≡ record { output = record o { written = o.written ++ take n piece }; flushed = false })
+WritesSome a b piece (Err e) = let o = record a.output { offered = a.output.offered ++ piece ∷ [] } in
+    b ≡ record { output = record o { failures = o.failures + 1 }; flushed = true }
 
 -- one flush, which offers nothing, or fails
 abbrev pub Flushes : {E : Type 0} → SinkState → SinkState → Result ⊤ E → Type 0
 Flushes a b (Ok u) = b ≡ record a { flushed = true }
-Flushes a b (Err e) = b ≡ record a { failures = a.failures + 1; flushed = true }
+Flushes a b (Err e) = let o = a.output in b ≡ record { output = record o { failures = o.failures + 1 }; flushed = true }
 
 -- ---- a text, piece by piece
 
--- what a sink gets: a piece is offered to it; or a byte is written, and these bytes of its piece are left
+-- what an output gets: a piece is offered to it; or a byte is written, and these bytes of its piece are left
 pub data OutputEvent : Type 0 where
   offer_piece : ByteString → OutputEvent
   write_byte : ℕ → ByteString → OutputEvent
@@ -48,7 +52,7 @@ byte_events (b ∷ left) = write_byte b left ∷ byte_events left
 abbrev pub output_events : ByteString → List OutputEvent
 output_events text = flat_map (λ piece. offer_piece piece ∷ byte_events piece) (pieces text)
 
--- what a sink was offered grew by the pieces of these events and, after a byte, perhaps by what was left then: if a
+-- what an output was offered grew by the pieces of these events and, after a byte, perhaps by what was left then: if a
 -- write accepted only a part, what is left is offered again. Nothing else was offered
 abbrev pub OffersEach : List ByteString → List ByteString → List OutputEvent → Type 0
 OffersEach old new [] = new ≡ old
@@ -57,17 +61,15 @@ OffersEach old new (write_byte b left ∷ es) =
     OffersEach old new es ⊎ ((0 < length left) × OffersEach (old ++ left ∷ []) new es)
 
 -- these events happened
-pub record Gets (a b : SinkState) (es : List OutputEvent) : Type 0 where
+pub record Gets (a b : OutputState) (es : List OutputEvent) : Type 0 where
   pub offered : OffersEach a.offered b.offered es
   pub written : b.written ≡ a.written ++ filter_map written_byte es
 
 -- a prefix of these events happened
-abbrev pub GetsPrefix : SinkState → SinkState → List OutputEvent → Type 0
+abbrev pub GetsPrefix : OutputState → OutputState → List OutputEvent → Type 0
 GetsPrefix a b es = (prefix rest : List OutputEvent) × (es ≡ prefix ++ rest) × Gets a b prefix
 
--- a call gives a sink a text: all of its events happened; or a call of the sink failed after a prefix of them,
--- which leaves the sink flushed
-abbrev pub GivesAll : {E : Type 0} → SinkState → SinkState → ByteString → Result ⊤ E → Type 0
+-- a call gives an output a text: all of its events happened; or a call of the sink failed after a prefix of them
+abbrev pub GivesAll : {E : Type 0} → OutputState → OutputState → ByteString → Result ⊤ E → Type 0
 GivesAll a b text (Ok u) = Gets a b (output_events text) × (b.failures ≡ a.failures)
-GivesAll a b text (Err e) =
-    GetsPrefix a b (output_events text) × (b.failures ≡ a.failures + 1) × (b.flushed ≡ true)
+GivesAll a b text (Err e) = GetsPrefix a b (output_events text) × (b.failures ≡ a.failures + 1)

@@ -19,11 +19,11 @@ mod sinks;
 mod writing;
 
 pub use escape::{needs_escape, put_escaped, unescape_in};
-pub use reading::read_line::{Form, Reading, read_line};
+pub use reading::read_line::{Form, Reading, is_ignored, read_line};
 pub use sinks::buffered::{Buffered, CAPACITY, put_all};
 pub use sinks::from_write::FromWrite;
+pub use sinks::output::{Output, Text};
 pub use sinks::sink::{Sink, SinkFault};
-pub use sinks::text_output::{Text, TextOutput};
 pub use sinks::told_sink::ToldSink;
 pub use sinks::writes::{Flushed, Offer, Writes};
 pub use writing::parts::{Part, Parts, put_number, put_parts};

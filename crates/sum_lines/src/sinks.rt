@@ -2,7 +2,7 @@
 
 pub(crate) mod buffered;
 pub(crate) mod from_write;
+pub(crate) mod output;
 pub(crate) mod sink;
-pub(crate) mod text_output;
 pub(crate) mod told_sink;
 pub(crate) mod writes;

@@ -6,19 +6,24 @@ ghost use Rattle.sum_engine.specs.Behavior.{Whole, World, answer_to, out_text, e
 ghost use Rattle.sum_lines.specs.refinement.SinkStates.{bytes_of};
 ghost use Rattle.sum_sources.specs.Contents.{empty_content, limit};
 ghost use Rattle.sum_sources.specs.Sources.{Answer as AnswerValue, Answers, TellsAll};
+ghost use Rattle.sum_words.specs.Arguments.{AreOf};
 ghost use Rattle.sum_words.specs.Items.{ByteString};
 ghost use Rattle.sum_words.specs.declared.tool.Tool.TheVariants.{Md5sum, Sha256sum, Anysum};
 
 use crate::command::command;
 use crate::laws::{joined_is_good, told_performs, told_program_performs, written_is_good};
+use crate::program::{Ended, SystemStreams, program};
 use crate::run::run;
 use std::alloc::{Allocator, Global};
+use std::io::{Read, Write};
+use std::os::fd::AsFd;
+use std::rt;
 use sum_engine::laws::told_agree;
 use sum_engine::{Outputs, Reader, Stop, Streams};
 use sum_lines::{Sink, ToldSink};
 use sum_sources::laws::inputs_tell;
 use sum_sources::{Answer, Ending, Inputs, NoRoom, Source, Stdin, Told, ToldSource};
-use sum_words::{Arguments, ToldArguments, Tool, Words};
+use sum_words::{Arguments, SystemArguments, ToldArguments, Tool, Words};
 
 // `md5sum e` over files in memory, of which `e` is empty: if it doesn't stop, the status is 0, and standard output got
 // the line of `e` and nothing else.
@@ -78,7 +83,31 @@ fn command_on_e<A: Allocator + Copy, G: Arguments, S: Source, O: Sink, E: Sink>(
     status
 }
 
-// The same with all in memory: what standard output holds.
+// `md5sum - -` over what the system gives: if the status is 0, the last line is that of an empty file.
+fn dash_twice<A, R, F, I, O, E>(
+    alloc: A,
+    env: R,
+    files: F,
+    stdin: I,
+    out: O,
+    err: E,
+) -> Ended<SystemArguments<R>, SystemStreams<F, I, O, E>>
+where
+    A: Allocator + Copy,
+    R: rt::Env,
+    F: rt::Files + Drop,
+    I: Read + AsFd + Drop,
+    O: Write,
+    E: Write,
+    ensures { AreOf (⟦<SystemArguments<R> as Arguments>⟧.state result.arguments)
+        (codes "md5sum" ∷ codes "-" ∷ codes "-" ∷ []) → result.status ≡ 0 → (text : ByteString)
+        × (result.streams.outputs.out.written ≡ text
+        ++ codes "d41d8cd98f00b204e9800998ecf8427e  -\n") }
+{
+    program(alloc, env, files, stdin, out, err)
+}
+
+// The same as `command_on_e` with all in memory: what standard output holds.
 fn e_in_memory(alloc: Global) -> Result<(u8, ToldSink<64>), NoRoom>
     ensures { IfOk result (λ r. r.0 ≡ 0 → bytes_of r.1 ≡ codes "d41d8cd98f00b204e9800998ecf8427e  e\n") }
 {

@@ -1,12 +1,15 @@
 //! The whole program, over known arguments.
+ghost use Rattle.std.specs.Prelude.{◌≡◌, true};
+
 use super::{MISSING, source_of, spell, spell_all};
 use crate::command::command;
 use linked_list_allocator::LocalHeap;
 use std::alloc::{Allocator, Global};
+use std::io::{self, ErrorKind, Write};
 use std::process::Abort;
 use std::test::Fail;
 use sum_engine::{Outputs, Reader, Streams};
-use sum_lines::{Sink, ToldSink};
+use sum_lines::{FromWrite, Sink, ToldSink};
 use sum_sources::{Ending, Inputs, Stdin, Told, ToldSource};
 use sum_words::ToldArguments;
 
@@ -19,16 +22,18 @@ fn status_of<A: Allocator + Copy, O: Sink, E: Sink>(
     command(heap, &mut ToldArguments::new(arguments), streams)
 }
 
-// An output in memory.
-type Out = ToldSink<256>;
-
-// Calls the program with these arguments, over the usual files, a list `l` and standard input, and outputs in memory.
+// Calls the program with these arguments, over the usual files, a list `l` and standard input, and these outputs.
 // The words are in the memory of the heap. Both outputs afterwards, and the status.
-fn call<A: Allocator + Copy>(
+fn call<A: Allocator + Copy, O: Sink + Drop, E: Sink + Drop>(
     alloc: Global,
     heap: A,
     arguments: &[&[u8]],
-) -> Result<(Out, Out, u8), Fail> {
+    out: O,
+    err: E,
+) -> Result<(O, E, u8), Fail>
+    requires out { (O.state out).flushed ≡ true }
+    requires err { (E.state err).flushed ≡ true }
+{
     let list = [("l", ("$M  a\n", Ending::Whole))];
     let contents = spell_all(alloc, &list)?;
     let mut streams = Streams::new(
@@ -36,12 +41,19 @@ fn call<A: Allocator + Copy>(
             Stdin::new(Told::new(b"abc", Ending::Whole, 2)),
             source_of(alloc, 100, &list, &contents)?,
         ),
-        ToldSink::new(256),
-        ToldSink::new(256),
+        out,
+        err,
     );
     let status = status_of(heap, arguments, &mut streams);
     let Outputs { out, err } = streams.outputs;
     Ok((out.into_inner(), err.into_inner(), status))
+}
+
+// An output in memory.
+fn output() -> ToldSink<256>
+    ensures { (⟦<ToldSink<256> as Sink>⟧.state result).flushed ≡ true }
+{
+    ToldSink::new(256)
 }
 
 // What a call writes on each output, and its status.
@@ -54,7 +66,7 @@ fn assert_ends<A: Allocator + Copy>(
     arguments: &[&[u8]],
     ends: Ends,
 ) -> Result<(), Fail> {
-    let (out, err, status) = call(rt.alloc(), heap, arguments)?;
+    let (out, err, status) = call(rt.alloc(), heap, arguments, output(), output())?;
     assert_eq!(rt; (out.bytes(), err.bytes(), status), ends, "{arguments:?}");
     Ok(())
 }
@@ -91,7 +103,7 @@ fn is_read_within(
 ) -> Result<bool, Fail> {
     let arguments: [&[u8]; 4] = [b"md5sum", b"a", b"-", b"a"];
     let heap = LocalHeap::new(rt.alloc(), size)?;
-    let (out, err, status) = call(rt.alloc(), &heap, &arguments)?;
+    let (out, err, status) = call(rt.alloc(), &heap, &arguments, output(), output())?;
     let is_read = status == 0;
     let ends: Ends = if is_read {
         (lines, b"", 0)
@@ -115,5 +127,39 @@ fn memory_for_words(rt: HostRuntime) -> Result<(), Fail> {
         }
     }
     assert!(rt; read > 0 && read < 50);
+    Ok(())
+}
+
+// A writer that takes everything, and can't be flushed.
+#[derive(Drop)]
+struct LosesAll;
+
+impl Write for LosesAll {
+    fn write(&mut self, buf: &[u8]) -> io::Result<usize> {
+        Ok(buf.len())
+    }
+
+    fn flush(&mut self) -> io::Result<()> {
+        Err(ErrorKind::PermissionDenied.into())
+    }
+}
+
+fn lost() -> FromWrite<LosesAll>
+    ensures { (⟦<FromWrite<LosesAll> as Sink>⟧.state result).flushed ≡ true }
+{
+    FromWrite::new(LosesAll)
+}
+
+// Both outputs are flushed at the end, even if nothing was written. No contract shows this, since the flush of an
+// output that holds nothing changes nothing that it tells.
+#[test]
+fn flushed_once_more(rt: HostRuntime) -> Result<(), Fail> {
+    let silent: [&[u8]; 4] = [b"md5sum", b"-c", b"--status", b"l"];
+    let (_, err, status) = call(rt.alloc(), rt.alloc(), &silent, lost(), output())?;
+    assert_eq!(rt; status, 1);
+    assert_eq!(rt; err.bytes(), b"md5sum: write error\n".as_slice());
+    let (out, _, status) = call(rt.alloc(), rt.alloc(), &silent, output(), lost())?;
+    assert_eq!(rt; status, 1);
+    assert!(rt; out.bytes().is_empty());
     Ok(())
 }

@@ -17,7 +17,7 @@ use crate::stop::Stop;
 use crate::streams::Outputs;
 use crate::tool_lines::NameFaultLine;
 use digest_kinds::Algos;
-use sum_lines::{Part, Parts, Sink, SinkFault, TextOutput, mark_and_name};
+use sum_lines::{Part, Parts, Sink, SinkFault, Output, mark_and_name};
 
 /// Writes the report of a line with this number, verdict and name: first to `err`, and then to `out`. Returns `Going`.
 pub(crate) fn put_report<O: Sink, E: Sink>(
@@ -28,6 +28,7 @@ pub(crate) fn put_report<O: Sink, E: Sink>(
     verdict: Verdict,
     name: &[u8],
 ) -> Result<Progress, Stop>
+    requires { rules.profile ≡ own_profile }
     ensures { WritesAndReturns outputs.old outputs.new
         (err_by rules labels.now number verdict name.now)
         (out_by own_profile labels.now.report verdict name.now) Going result }
@@ -38,7 +39,7 @@ pub(crate) fn put_report<O: Sink, E: Sink>(
 }
 
 fn put_out<O: Sink>(
-    out: &mut TextOutput<O>,
+    out: &mut Output<O>,
     report: Report,
     verdict: Verdict,
     name: &[u8],
@@ -52,7 +53,7 @@ fn put_out<O: Sink>(
 }
 
 fn put_verdict<O: Sink>(
-    out: &mut TextOutput<O>,
+    out: &mut Output<O>,
     verdict: Verdict,
     name: &[u8],
 ) -> Result<(), SinkFault>
@@ -68,7 +69,7 @@ fn put_verdict<O: Sink>(
 
 // Writes the name, as a line begins with it, and what follows it.
 fn put_name_line<'a, O: Sink>(
-    out: &mut TextOutput<O>,
+    out: &mut Output<O>,
     name: &'a [u8],
     text: &'a [u8],
 ) -> Result<(), SinkFault>
@@ -80,17 +81,17 @@ fn put_name_line<'a, O: Sink>(
 }
 
 fn put_err<E: Sink>(
-    err: &mut TextOutput<E>,
+    err: &mut Output<E>,
     rules: CheckRules,
     labels: &Labels,
     number: u64,
     verdict: Verdict,
     name: &[u8],
 ) -> Result<(), SinkFault>
+    requires { rules.profile ≡ own_profile }
     ensures { GivesAll err.old err.new
         (err_by rules labels.now number verdict name.now) result }
 {
-    rules.has_own_profile();
     match verdict {
         Verdict::Ignored | Verdict::Right | Verdict::Wrong | Verdict::Missing => Ok(()),
         Verdict::Bad => match labels.report {
@@ -105,7 +106,7 @@ fn put_err<E: Sink>(
 }
 
 fn put_bad_line<E: Sink>(
-    err: &mut TextOutput<E>,
+    err: &mut Output<E>,
     rules: CheckRules,
     labels: &Labels,
     number: u64,

@@ -39,8 +39,6 @@ impl Model for CheckRules {
 }
 
 impl CheckRules {
-    ghost use Rattle.sum_lines.specs.Escape.{own_profile};
-
     /// The rules of these settings.
     pub(crate) fn new(settings: CheckSettings, from_stdin: bool) -> Self
         ensures { result ≡ rules_of settings from_stdin }
@@ -51,13 +49,6 @@ impl CheckRules {
             strict: settings.strict,
             from_stdin,
         }
-    }
-
-    // For proofs: these rules have the profile of this version. A proof sees that only where a field is read.
-    pub(crate) fn has_own_profile(self)
-        ensures { self.profile ≡ own_profile }
-    {
-        let _algo = self.algo;
     }
 }
 

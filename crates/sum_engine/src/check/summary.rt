@@ -4,6 +4,7 @@ ghost use Rattle.sum_engine.specs.check.CheckStates.{counts_with, total};
 ghost use Rattle.sum_engine.specs.check.Reports.{warning, warnings, unverified_line, end_text, good, entries};
 ghost use Rattle.sum_engine.specs.refinement.Writes.{WritesAndReturns};
 ghost use Rattle.sum_lines.specs.Buffers.{WritesAll};
+ghost use Rattle.sum_lines.specs.Escape.{own_profile};
 ghost use Rattle.sum_sources.specs.declared.fault.Ending.TheVariants.{Whole};
 
 use crate::check::judge::Verdict;
@@ -35,8 +36,8 @@ impl Counts {
         bad: 0,
     };
 
-    /// One more line, with this verdict.
-    pub(crate) fn counted(self, verdict: Verdict) -> Counts
+    /// These counts and one more line, with this verdict.
+    pub(crate) fn with(self, verdict: Verdict) -> Counts
         requires { total self < 2 ^ 63 }
         ensures { result ≡ counts_with self verdict }
     {
@@ -78,11 +79,11 @@ pub(crate) fn put_summary<O: Sink, E: Sink>(
     counts: Counts,
     ended: Progress,
 ) -> Result<Progress, Stop>
-    requires { total counts < 2 ^ 63 }
+    requires few { total counts < 2 ^ 63 }
+    requires profile { rules.profile ≡ own_profile }
     ensures { WritesAndReturns outputs.old outputs.new
         (end_text rules labels.now Whole counts) [] ended result }
 {
-    rules.has_own_profile();
     if counts.entries() == 0 {
         let text = b"no properly formatted checksum lines found";
         let line = tool_line(labels.tool, labels.manifest, text);

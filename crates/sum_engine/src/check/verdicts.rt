@@ -10,7 +10,7 @@ use crate::reader::Reader;
 use crate::settings::CheckSettings;
 use std::alloc::Allocator;
 use std::marker::Model;
-use sum_lines::{Form, Reading, read_line};
+use sum_lines::{Form, Reading, is_ignored, read_line};
 use sum_sources::{Input, LineReader, LineStop, Next, NoRoom, Source};
 
 /// The verdicts of a manifest's lines, one at a time, for a program that shows them in its own way. Nothing is written.
@@ -144,7 +144,6 @@ impl<I: Input> Verdicts<I> {
             Some(Ok(())) => return Ok(None),
             Some(Err(stop)) => return Err(stop),
         }
-        // After a line the outcome stays `None`; storing it again would slow ignored lines.
         match self.reader.next_line(line) {
             Ok(Next::Line) => {}
             Ok(Next::NoMore) => {
@@ -155,6 +154,10 @@ impl<I: Input> Verdicts<I> {
                 self.outcome = Some(Err(stop));
                 return Err(stop);
             }
+        }
+        // Before `judge_line`, which clears stack space for an entry.
+        if is_ignored(line) {
+            return Ok(Some(self.count_verdict(Verdict::Ignored, 0, 0)));
         }
         match self.judge_line(line, inputs) {
             Ok(found) => Ok(Some(found)),
@@ -218,7 +221,7 @@ impl<I: Input> Verdicts<I> {
         ensures counts { self.new
             ≡ record self.old { counts = counts_with self.old.counts verdict } }
     {
-        self.counts = self.counts.counted(verdict);
+        self.counts = self.counts.with(verdict);
         LineVerdict {
             number: self.reader.lines(),
             verdict,

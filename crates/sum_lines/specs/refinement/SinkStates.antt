@@ -1,16 +1,17 @@
 -- Relates the calls of a buffer to each other, and the states of the sinks to their logs.
-use Rattle.std.specs.Prelude.{ℕ, ◌≡◌, ◌<◌, ◌-◌, [], ◌++◌, length, take, ⊤, Option, unwrap_or, Result, ◌⊎◌, IsOk}
+use Rattle.std.specs.Prelude.{ℕ, ◌≡◌, ◌<◌, ◌-◌, [], ◌++◌, length, take, ⊤, Option, unwrap_or, Result, ◌⊎◌, IsOk, OnErr, true}
 use Rattle.sum_lines.specs.{Sinks.ByteString, Sinks.SinkState, Sinks.GivesAll, Buffers.BufferState}
 use Rattle.sum_lines.specs.declared.sinks.told_sink.ToldSink.{ToldSink}
 
 -- a full buffer is given to the sink; any other one has room, and stays
 abbrev pub MakesRoom : {E : Type 0} → BufferState → BufferState → Result ⊤ E → Type 0
-MakesRoom a b r = ((length a.buffered ≡ 8192) × (b.buffered ≡ []) × GivesAll a.sink b.sink a.buffered r)
+MakesRoom a b r = ((length a.buffered ≡ 8192) × (b.buffered ≡ []) × GivesAll a.sink.output b.sink.output a.buffered r
+    × OnErr r (b.sink.flushed ≡ true))
     ⊎ ((length a.buffered < 8192) × (b ≡ a) × IsOk r)
 
 -- the state of a sink over a writer: what the writer held at first, if that is known, and then the log
 abbrev pub over_writer : Option ByteString → SinkState → SinkState
-over_writer held log = record log { written = unwrap_or held [] ++ log.written }
+over_writer held log = record log { output = record log.output { written = unwrap_or held [] ++ log.output.written } }
 
 -- ---- a ToldSink
 
@@ -24,4 +25,4 @@ remaining_capacity s = s.limit - s.len
 
 -- its state as a sink
 abbrev pub told_sink_state : {N : ℕ} → ToldSink N → SinkState
-told_sink_state s = record s.log { written = bytes_of s }
+told_sink_state s = record s.log { output = record s.log.output { written = bytes_of s } }

@@ -120,8 +120,8 @@ fn read_begun<A: Allocator>(
     }
 }
 
-// Whether the line is empty or begins with `#`.
-fn is_ignored(line: &[u8]) -> bool
+/// Returns whether a line of a manifest is ignored: it is empty or begins with `#`.
+pub fn is_ignored(line: &[u8]) -> bool
     ensures { result ≡ is_ignored own_profile line.now }
 {
     match line {

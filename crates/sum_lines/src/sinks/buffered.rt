@@ -1,5 +1,5 @@
 //! A buffer over a sink.
-ghost use Rattle.std.specs.Prelude.{◌≡◌, ◌<◌, ◌≤◌, ◌-◌, ◌+◌, ◌++◌, [], length, min, take, MatchResult};
+ghost use Rattle.std.specs.Prelude.{◌≡◌, ◌<◌, ◌≤◌, ◌-◌, ◌+◌, ◌++◌, [], length, min, take, true, OnErr, MatchResult};
 ghost use Rattle.sum_lines.specs.Buffers.{Accepts, FailsToWrite, IsFlushed, WritesAll};
 ghost use Rattle.sum_lines.specs.Sinks.{GivesAll};
 ghost use Rattle.sum_lines.specs.refinement.SinkStates.{MakesRoom};
@@ -63,7 +63,7 @@ impl<S: Sink> Buffered<S> {
 
     /// Offers the sink all that is buffered, in one piece, and flushes the sink. Returns `SinkFault` if that fails.
     pub fn flush(&mut self) -> Result<(), SinkFault>
-        ensures gives { GivesAll self.old.sink self.new.sink self.old.buffered result }
+        ensures gives { GivesAll self.old.sink.output self.new.sink.output self.old.buffered result }
         ensures flushed { IsFlushed self.new }
     {
         self.give_buffered()?;
@@ -72,8 +72,9 @@ impl<S: Sink> Buffered<S> {
 
     // Gives the sink what is buffered.
     fn give_buffered(&mut self) -> Result<(), SinkFault>
-        ensures gives { GivesAll self.old.sink self.new.sink self.old.buffered result }
+        ensures gives { GivesAll self.old.sink.output self.new.sink.output self.old.buffered result }
         ensures buffered { self.new.buffered ≡ [] }
+        ensures flushed { OnErr result (self.new.sink.flushed ≡ true) }
     {
         let len = self.len;
         self.len = 0;

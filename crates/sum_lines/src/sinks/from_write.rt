@@ -16,7 +16,7 @@ pub struct FromWrite<W: Write> {
     first: Snapshot<W>,
     log: Log<Writes>,
     ghost known: { ForSome (W.contents first.value) (λ bytes. W.contents writer
-        ≡ Some (bytes ++ log.written)) },
+        ≡ Some (bytes ++ log.output.written)) },
 }
 
 impl<W: Write> FromWrite<W> {
@@ -26,9 +26,11 @@ impl<W: Write> FromWrite<W> {
     pub fn new(writer: W) -> Self
         ensures { ⟦<FromWrite<W> as Sink>⟧.state result
             ≡ record {
-              offered = [];
-              written = unwrap_or (W.contents writer) [];
-              failures = 0;
+              output = record {
+                offered = [];
+                written = unwrap_or (W.contents writer) [];
+                failures = 0;
+              };
               flushed = true;
             } }
     {
@@ -44,7 +46,7 @@ impl<W: Write> FromWrite<W> {
         ensures writer { result ≡ self.writer }
         ensures known { ForSome (W.contents self.first.value) (λ bytes.
             W.contents result
-            ≡ Some (over_writer (W.contents self.first.value) self.log).written) }
+            ≡ Some (over_writer (W.contents self.first.value) self.log).output.written) }
     {
         self.writer
     }
@@ -54,7 +56,8 @@ impl<W: Write> FromWrite<W> {
         ensures writer { self.new.writer ≡ self.old.writer }
         ensures first { self.new.first ≡ self.old.first }
         ensures log { self.new.log
-            ≡ record self.old.log { failures = self.old.log.failures + 1; flushed = true } }
+            ≡ (let o = self.old.log.output in
+            record { output = record o { failures = o.failures + 1 }; flushed = true }) }
     {
         self.log = self.log.and(&SinkFault);
         SinkFault

@@ -1,5 +1,5 @@
 //! The trait of a sink, to which bytes are written.
-ghost use Rattle.std.specs.Prelude.{◌≡◌, ◌≤◌, [], Ok, length};
+ghost use Rattle.std.specs.Prelude.{◌≡◌, ◌≤◌, [], true, Ok, OnErr, length};
 ghost use Rattle.sum_lines.specs.Sinks.{SinkState, WritesSome, Flushes, GivesAll};
 
 use thiserror::Error;
@@ -35,7 +35,8 @@ pub trait Sink {
 /// what remains. Returns `SinkFault` if a write failed; a prefix of the bytes was then written.
 pub(crate) fn give_all<S: Sink>(sink: &mut S, bytes: &[u8]) -> Result<(), SinkFault>
     requires { length bytes.now ≤ 8192 }
-    ensures { GivesAll (S.state sink.old) (S.state sink.new) bytes.now result }
+    ensures gives { GivesAll (S.state sink.old).output (S.state sink.new).output bytes.now result }
+    ensures flushed { OnErr result ((S.state sink.new).flushed ≡ true) }
 {
     let mut rest = bytes;
     while !rest.is_empty() {

@@ -22,7 +22,7 @@ impl<const N: usize> ToldSink<N> {
     pub fn new(stop: usize) -> Self
         ensures empty { bytes_of result ≡ [] }
         ensures room { remaining_capacity result ≡ min stop N }
-        ensures failures { (⟦<ToldSink<N> as Sink>⟧.state result).failures ≡ 0 }
+        ensures failures { (⟦<ToldSink<N> as Sink>⟧.state result).output.failures ≡ 0 }
         ensures flushed { (⟦<ToldSink<N> as Sink>⟧.state result).flushed ≡ true }
     {
         ToldSink {

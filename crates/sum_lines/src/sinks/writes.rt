@@ -14,7 +14,10 @@ impl Model for Writes {
 
     ghost Value = { SinkState };
 
-    ghost view = { λ _. record { offered = []; written = []; failures = 0; flushed = true } };
+    ghost view = { λ _. record {
+      output = record { offered = []; written = []; failures = 0 };
+      flushed = true;
+    } };
 }
 
 /// A piece was offered, and these bytes of it were written.
@@ -24,12 +27,11 @@ pub struct Offer<'a>(pub &'a [u8], pub &'a [u8]);
 impl<'a> Notes<Offer<'a>> for Writes {
     ghost use Rattle.std.specs.Prelude.{false, ◌++◌, ◌∷◌, []};
 
-    ghost noted = { λ s x. record {
-      offered = s.offered ++ x.0.now ∷ [];
-      written = s.written ++ x.1.now;
-      failures = s.failures;
-      flushed = false;
-    } };
+    ghost noted = { λ s x. let o = s.output in
+        record {
+          output = record o { offered = o.offered ++ x.0.now ∷ []; written = o.written ++ x.1.now };
+          flushed = false;
+        } };
 }
 
 /// A flush succeeded.
@@ -46,5 +48,6 @@ impl Notes<Flushed> for Writes {
 impl Notes<SinkFault> for Writes {
     ghost use Rattle.std.specs.Prelude.{true, ◌+◌};
 
-    ghost noted = { λ s _. record s { failures = s.failures + 1; flushed = true } };
+    ghost noted = { λ s _. let o = s.output in
+        record { output = record o { failures = o.failures + 1 }; flushed = true } };
 }

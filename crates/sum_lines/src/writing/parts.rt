@@ -1,16 +1,15 @@
 //! Texts written in parts.
 ghost use Rattle.std.specs.Prelude.{decimal};
 ghost use Rattle.sum_lines.specs.Buffers.{WritesAll};
-ghost use Rattle.sum_lines.specs.refinement.PartTexts.{part_text, parts_text};
+ghost use Rattle.sum_lines.specs.PartTexts.{part_text, parts_text};
 
 use crate::escape::put_escaped;
 use crate::sinks::buffered::{Buffered, put_all};
+use crate::sinks::output::Text;
 use crate::sinks::sink::{Sink, SinkFault};
-use crate::sinks::text_output::Text;
 use itoa::Buffer;
 
 /// A part of a text.
-#[doc(hidden)]
 #[derive(Clone, Copy, Debug)]
 pub enum Part<'a> {
     /// These bytes, as they are.
@@ -21,13 +20,12 @@ pub enum Part<'a> {
     Number(u64),
 }
 
-/// The parts of a text, one after another, as a text.
-#[doc(hidden)]
+/// The text of these parts, one after another.
 #[derive(Clone, Copy)]
 pub struct Parts<'a>(pub &'a [Part<'a>]);
 
 impl<'a> Text for Parts<'a> {
-    ghost use Rattle.sum_lines.specs.refinement.PartTexts.{parts_text};
+    ghost use Rattle.sum_lines.specs.PartTexts.{parts_text};
 
     ghost text = { λ parts. parts_text parts.0.now };
 

@@ -5,12 +5,12 @@ ghost use Rattle.sum_lines.specs.Buffers.{WritesAll};
 ghost use Rattle.sum_lines.specs.Escape.{own_profile, escape, escape_differs};
 ghost use Rattle.sum_lines.specs.Lines.{layout, line};
 ghost use Rattle.sum_lines.specs.grammar.Shapes.{mark};
-ghost use Rattle.sum_lines.specs.refinement.PartTexts.{part_text};
+ghost use Rattle.sum_lines.specs.PartTexts.{part_text};
 
 use crate::escape::needs_escape;
 use crate::sinks::buffered::{Buffered, put_all};
+use crate::sinks::output::Text;
 use crate::sinks::sink::{Sink, SinkFault};
-use crate::sinks::text_output::Text;
 use crate::writing::parts::{Part, put_parts};
 use digest_kinds::{Digest, Kind};
 

@@ -1,7 +1,7 @@
 //! The help and the version text.
 ghost use Rattle.std.specs.Prelude.{◌≡◌, ◌-◌, ◌∷◌, ◌++◌, [], codes, filter, flat_map, if◌then◌else◌, replicate};
 ghost use Rattle.sum_lines.specs.Buffers.{WritesAll};
-ghost use Rattle.sum_lines.specs.refinement.PartTexts.{part_text};
+ghost use Rattle.sum_lines.specs.PartTexts.{part_text};
 ghost use Rattle.sum_words.specs.Items.{has_option, takes_value};
 ghost use Rattle.sum_words.specs.Texts.{help, help_line, letter_column, purpose, version};
 ghost use Rattle.sum_words.specs.Tools.{algos_of};

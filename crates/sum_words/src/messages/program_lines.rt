@@ -1,7 +1,7 @@
 //! The lines for an unknown tool, for words that could not be read, and for a stop.
 ghost use Rattle.std.specs.Prelude.{◌≡◌, ◌++◌};
 ghost use Rattle.sum_lines.specs.Buffers.{WritesAll};
-ghost use Rattle.sum_lines.specs.refinement.PartTexts.{part_text};
+ghost use Rattle.sum_lines.specs.PartTexts.{part_text};
 ghost use Rattle.sum_words.specs.Texts.{stop_line, unknown_tool_line, not_read_line};
 ghost use Rattle.sum_words.specs.Tools.{name_of};
 ghost use Rattle.sum_words.specs.declared.tool.Tool.{Tool};

@@ -1,7 +1,7 @@
 //! The faults of words, and the two lines that report one.
 ghost use Rattle.std.specs.Prelude.{◌≡◌, ◌++◌};
 ghost use Rattle.sum_lines.specs.Buffers.{WritesAll};
-ghost use Rattle.sum_lines.specs.refinement.PartTexts.{part_text};
+ghost use Rattle.sum_lines.specs.PartTexts.{part_text};
 ghost use Rattle.sum_words.specs.Texts.{fault_lines};
 ghost use Rattle.sum_words.specs.WordFaults.{WordFaultValue, wording};
 ghost use Rattle.sum_words.specs.refinement.ItemIterator.{word_fault_value};

@@ -1,6 +1,7 @@
-use Rattle.std.proofs.Common.{inl, inr, refl}
+use Rattle.std.proofs.Common.{Some, inl, inr}
 use Rattle.sum_engine.proofs.WorldLemmas.{reads_weaker}
-use Rattle.digests.proofs.ProgramLemmas.{CallRefuses-refused}
+use Rattle.digests.specs.Meaning.{meaning}
+use Rattle.digests.proofs.ProgramLemmas.{CallPerforms-finished, CallRefuses-refused}
 use Rattle.digests.proofs.command.command.Goals as goal
 
 -- the tool was run
@@ -8,14 +9,10 @@ pub returns-in-Ok-Invoke-clause-behavior : goal.returns-in-Ok-Invoke-clause-beha
 returns-in-Ok-Invoke-clause-behavior g c = λ all agrees.
     let is = rw c.in-Ok-Invoke.field-0-is at (c.in-Ok-Invoke.ensures.line all agrees) in
     let ran = c.run-outcome.ensures in
-    inl (rw is (
-      c.run-outcome.result,
-      c.run-outcome.new.streams,
-      ran.behavior,
-      ran.failures,
-      refl,
-      c.finish_run.ensures.finish,
-    ))
+    inl (rw is (CallPerforms-finished c.finish_run.result
+    (Some c.in-Ok-Invoke.tool) (meaning c.in-Ok-Invoke.tool c.in-Ok-Invoke.words) c.args.streams.now
+    c.run-outcome.new.streams c.finish_run.new.outputs c.run-outcome.result ran.behavior ran.failures
+    c.finish_run.ensures.finish))
 
 pub returns-in-Ok-Invoke-clause-reads : goal.returns-in-Ok-Invoke-clause-reads
 returns-in-Ok-Invoke-clause-reads g c =

@@ -1,5 +1,6 @@
-use Rattle.std.proofs.Common.{rules, arith, ◌≡◌, ℕ, suc, List, [], Option, Ok, IfSome, codes, inl, inr}
-use Rattle.sum_engine.specs.{Behavior.ByteString, Behavior.World, Execution.StreamsState}
+use Rattle.std.proofs.Common.{rules, arith, ◌≡◌, ℕ, suc, List, [], Option, Ok, IfSome, codes, inl, inr, true}
+use Rattle.sum_engine.specs.{Behavior.ByteString, Behavior.World, Execution.OutputsState, Execution.StreamsState}
+use Rattle.sum_lines.specs.Sinks.{SinkState}
 use Rattle.sum_sources.specs.{Contents.empty_content, Inputs.tells_both, Sources.Pair, Sources.ToldAnswers}
 use Rattle.digests.specs.Program.{IsStdinAlone, fresh_output, fresh_streams}
 use Rattle.digests.proofs.program.program.Goals as goal
@@ -10,6 +11,12 @@ are_fresh : (a b : StreamsState) (out err : Option ByteString) → a.inputs.open
     → a ≡ fresh_streams b.inputs.told out err
 are_fresh a b out err openings refusals outputs told = grind arith
 
+-- outputs over fresh sinks are fresh
+outputs_fresh : {a b : SinkState} {o : OutputsState} (out err : Option ByteString)
+    → a ≡ record { output = fresh_output out; flushed = true } → b ≡ record { output = fresh_output err; flushed = true }
+    → o ≡ record { out = a.output; err = b.output } → o ≡ record { out = fresh_output out; err = fresh_output err }
+outputs_fresh out err first second is = rw (first, second) at is
+
 -- the streams were fresh
 pub returns-clause-behavior : goal.returns-clause-behavior
 returns-clause-behavior g c =
@@ -19,7 +26,8 @@ returns-clause-behavior g c =
     let err = g.E.Write.contents c.args.err in
     let openings : start.inputs.openings ≡ [] = grind (arith, c.new-2.ensures.state) in
     let refusals : start.inputs.refusals ≡ 0 = grind (arith, c.new-2.ensures.state) in
-    let outputs : start.outputs ≡ record { out = fresh_output out; err = fresh_output err } = cc in
+    let outputs : start.outputs ≡ record { out = fresh_output out; err = fresh_output err } =
+    outputs_fresh out err c.new-3.ensures c.new-4.ensures c.new-streams.ensures.outputs in
     rw (are_fresh start c.command-status.new.streams out err openings refusals outputs did.reads.told) at did.behavior
 
 -- standard input and files tell that a later `-` is empty

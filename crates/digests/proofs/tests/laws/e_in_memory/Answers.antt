@@ -23,5 +23,5 @@ returns c = λ zero.
     (rw told all) refl zero in
     let none : c.new-streams.result.outputs.out.written ≡ [] =
     ap (λ (o : OutputsState). o.out.written) c.new-streams.ensures.outputs ∙ c.new-2.ensures.empty in
-    ap (λ (s : SinkState). s.written) c.into_inner.ensures.state
+    ap (λ (s : SinkState). s.output.written) c.into_inner.ensures
     ∙ ap (λ (s : StreamsState). s.outputs.out.written) c.streams.view_is ∙ rw none at wrote

@@ -26,5 +26,5 @@ returns-in_default g c =
 -- there are no entries
 pub returns-then-entries-eq0 : goal.returns-then-entries-eq0
 returns-then-entries-eq0 g c =
-    rw (c.has_own_profile.ensures, ← c.labels.view_is, ← c.entries.ensures, c.if-entries-eq0.true)
+    rw (c.requires.profile, ← c.labels.view_is, ← c.entries.ensures, c.if-entries-eq0.true)
     (rw c.tool_line-line.ensures at c.write_err.ensures)

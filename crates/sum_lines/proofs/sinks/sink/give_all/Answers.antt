@@ -8,8 +8,8 @@ pub loop-rest-init : goal.loop-rest-init
 loop-rest-init g c = HasGiven-none _ _ c.requires
 
 -- a write failed
-pub returns-in_err-count : goal.returns-in_err-count
-returns-in_err-count g c =
+pub returns-in_err-count-clause-gives : goal.returns-in_err-count-clause-gives
+returns-in_err-count-clause-gives g c =
     let stop = err_from_is_err_and c.from_residual.result c.from_residual.ensures.1 in
     rw stop.1 (HasGiven-failed _ c.loop-rest.invariant (search rules) c.in_err-count.ensures.bytes)
 
@@ -21,5 +21,5 @@ loop-rest-preserved g c =
     (HasGiven-more rest c.in_ok-count.count c.loop-rest.invariant (search rules) c.in_ok-count.ensures.bytes)
 
 -- the sink accepted all of the bytes
-pub returns : goal.returns
-returns g c = HasGiven-all _ c.loop-rest.invariant (nil_from_length c.loop-rest.rest.now (search rules))
+pub returns-clause-gives : goal.returns-clause-gives
+returns-clause-gives g c = HasGiven-all _ c.loop-rest.invariant (nil_from_length c.loop-rest.rest.now (search rules))

@@ -1,5 +1,5 @@
 use Rattle.std.proofs.{Common.arith, lemmas.List.at_drop_more}
-use Rattle.sum_lines.specs.refinement.PartTexts.{parts_text}
+use Rattle.sum_lines.specs.PartTexts.{parts_text}
 use Rattle.sum_lines.proofs.SinkLemmas.{HasLeft-step, HasLeft-stop}
 use Rattle.sum_lines.proofs.writing.parts.put_parts.Goals as goal
 

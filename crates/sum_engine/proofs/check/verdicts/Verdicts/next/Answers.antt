@@ -1,4 +1,9 @@
-use Rattle.std.proofs.Common.{refl, ap, sym, inl, Ok, Err}
+use Rattle.std.proofs.Common.{rules, arith, ◌≡◌, true, refl, ap, sym, ◌∙◌, inl, Ok, Err}
+use Rattle.sum_lines.specs.grammar.Entries.{is_ignored, form_then}
+use Rattle.sum_lines.specs.declared.reading.read_line.Form.TheVariants.{Undecided, Standard, Reversed}
+use Rattle.sum_lines.specs.Escape.{own_profile}
+use Rattle.sum_lines.proofs.EntryLemmas.{ignored_undecided}
+use Rattle.sum_engine.proofs.WorldLemmas.{asks_none}
 use Rattle.sum_engine.specs.check.Verdicts.{VerdictsValue}
 use Rattle.sum_engine.proofs.NextVerdictLemmas.{next_verdict-line, next_verdict-stop}
 use Rattle.sum_engine.proofs.check.verdicts.Verdicts.next.Goals as goal
@@ -20,6 +25,30 @@ returns-in-Ok-clause-verdict g c =
       kept = refl;
       asked = done.asked;
       verdict = done.verdict;
+    }))
+
+-- the line is ignored
+pub returns-then-is_ignored-clause-verdict : goal.returns-then-is_ignored-clause-verdict
+returns-then-is_ignored-clause-verdict g c =
+    let read = c.in-Ok-Line.ensures in
+    let line = c.next_line.new.line.items in
+    let ignored : is_ignored own_profile line ≡ true =
+    rw c.deref.ensures.value at (sym c.is_ignored.ensures ∙ c.if-is_ignored.true) in
+    let undecided = ignored_undecided c.self.inside.rules.algo line ignored in
+    let same : form_then c.self.inside.form Undecided ≡ c.self.inside.form =
+    elim c.self.inside.form as (λ f. form_then f Undecided ≡ f) [ Undecided ↦ refl | Standard ↦ refl | Reversed ↦ refl ] in
+    rw (← c.self.view_is) (λ going. next_verdict-line (Ok c.count_verdict.result) (record {
+      reader = c.next_line.new.self;
+      line = line;
+      advances = rw c.in-Ok-Line.field-0-is at read.reader;
+      bounds = read.bounds;
+      reads = rw c.in-Ok-Line.field-0-is at read.line;
+      profile = c.self.invariant.2;
+      judged = c.count_verdict.new.self;
+      takes = record { now = rw (undecided, same, c.count_verdict.ensures.is) c.count_verdict.ensures.counts; name_range = rw c.count_verdict.ensures.is (search (rules, arith)); len = search arith };
+      kept = refl;
+      asked = rw c.count_verdict.ensures.is (asks_none _);
+      verdict = λ w agrees. rw (c.count_verdict.ensures.is, c.self.invariant.2, ignored) refl;
     }))
 
 -- there was no memory to open the file of the line's entry

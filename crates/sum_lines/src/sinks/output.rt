@@ -19,44 +19,42 @@ pub trait Text {
 
 /// An output over a sink. Between its calls nothing is buffered, and the sink is flushed.
 #[derive(Debug, Drop)]
-pub struct TextOutput<S: Sink> {
+pub struct Output<S: Sink> {
     buffer: Buffered<S>,
 }
 
-impl<S: Sink> Model for TextOutput<S> {
+impl<S: Sink> Model for Output<S> {
     ghost use Rattle.sum_lines.specs.Buffers.{IsFlushed};
-    ghost use Rattle.sum_lines.specs.Sinks.{SinkState};
+    ghost use Rattle.sum_lines.specs.Sinks.{OutputState};
 
-    ghost Value = { SinkState };
+    ghost Value = { OutputState };
 
-    ghost view = { λ o. o.buffer.sink };
+    ghost view = { λ o. o.buffer.sink.output };
 
     ghost invariant = { λ o. IsFlushed o.buffer };
 }
 
-impl<S: Sink> TextOutput<S> {
+impl<S: Sink> Output<S> {
     /// Creates an output over a sink that is flushed, as each is before its first call.
     pub fn new(sink: S) -> Self
         requires { (S.state sink).flushed ≡ true }
-        ensures { result ≡ S.state sink }
+        ensures { result ≡ (S.state sink).output }
     {
-        TextOutput {
+        Output {
             buffer: Buffered::new(sink),
         }
     }
 
     /// Returns the sink below it.
     pub fn get_ref(&self) -> &S
-        ensures state { S.state result.now ≡ self.now }
-        ensures flushed { self.now.flushed ≡ true }
+        ensures { S.state result.now ≡ record { output = self.now; flushed = true } }
     {
         self.buffer.get_ref()
     }
 
     /// Returns the sink below it.
     pub fn into_inner(self) -> S
-        ensures state { S.state result ≡ self }
-        ensures flushed { self.flushed ≡ true }
+        ensures { S.state result ≡ record { output = self; flushed = true } }
     {
         self.buffer.into_inner()
     }

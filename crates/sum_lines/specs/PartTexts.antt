@@ -1,4 +1,4 @@
--- Relates `put_parts` to its callers: the text of a list of parts, one after another.
+-- The text of a list of parts, one after another.
 use Rattle.std.specs.Prelude.{List, flat_map, decimal}
 use Rattle.sum_lines.specs.declared.writing.parts.Part.{Part}
 use Rattle.sum_lines.specs.declared.writing.parts.Part.TheVariants.{Bytes, Escaped, Number}

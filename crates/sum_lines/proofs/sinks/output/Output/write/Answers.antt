@@ -1,6 +1,6 @@
 use Rattle.std.proofs.lemmas.Result.{err_from_is_err_and}
 use Rattle.sum_lines.proofs.SinkLemmas.{given_after, not_given}
-use Rattle.sum_lines.proofs.sinks.text_output.TextOutput.write.Goals as goal
+use Rattle.sum_lines.proofs.sinks.output.Output.write.Goals as goal
 
 -- the text could not be written
 pub returns-in_err-put : goal.returns-in_err-put
