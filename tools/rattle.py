@@ -15,7 +15,7 @@ ITEM = re.compile(r"""(?mx)^(?P<inner>[ ]{4})?(?P<public>pub[ ])?(?:pub\([^)]*\)
     (?:const[ ](?=fn))?(?P<kind>fn|trait|struct|enum|type|const)[ ](?P<name>\w+)
     | impl(?:<.*?>)?[ ](?:(?:\w+::)*(?P<trait>\w+(?:<\w+>)?)[ ]for[ ](?:&mut[ ])?)?(?:\w+::)*(?P<of>\w+)\b)""")
 # Where an item begins, at whatever place in its line.
-BEGIN = re.compile(r"\b(?:fn|trait|struct|enum|union)\s+\w|(?:\A|(?<=[{};\]]))\s*impl\b")
+BEGIN = re.compile(r"\b(?:fn|trait|struct|enum|union)\s+[\w$]|(?:\A|(?<=[{};\]]))\s*impl\b")
 ATTRIBUTES = re.compile(r"(?m)(?:^ *#\[(?:[^\[\]]|\[[^\[\]]*\])*\]\s*)*\Z")
 # A function that is called, or named after its type: its type, the dot before a method, and its name.
 CALL = re.compile(r"""(?x)(?:(\w+)(?:(?:::)?<[^()]*?>)?::|(\.\s*))?
