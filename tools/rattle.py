@@ -177,8 +177,8 @@ class Code:
             found = self.by_name.get("next" if name == "for" else name, [])
             if owner in self.types or owner == "Self":
                 yield from (it for it in found if it.owner == self.types.get(owner, item.owner))
-            elif dot and call or name == "for" or owner[:1].isupper() and item.there.brought.get(owner) != {"std"}:
-                yield from (it for it in found if it.owner)
+            elif dot and call or name == "for" or owner and (len(owner) == 1 or owner in {it.owner for it in found}):
+                yield from (it for it in found if it.owner)  # of any type: a trait, or a parameter, may be each
             elif call:
                 yield from self.meant(item, [it for it in found if not it.owner])
 
