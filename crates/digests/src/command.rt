@@ -47,10 +47,10 @@ pub fn command<A: Allocator + Copy, G: Arguments, S: Source, O: Sink, E: Sink>(
 }
 
 // Writes why no tool is run, and returns the exit status.
-fn refuse<O: Sink, E: Sink>(text: Message, outputs: &mut Outputs<O, E>) -> u8
-    ensures refusal { Refuses (message_text text.entry) outputs.old outputs.new result }
+fn refuse<O: Sink, E: Sink>(message: Message, outputs: &mut Outputs<O, E>) -> u8
+    ensures refusal { Refuses (message_text message.entry) outputs.old outputs.new result }
     ensures not_good { result ≡ 0 → ⊥ }
 {
-    let outcome = outputs.write_err(&text, 1);
+    let outcome = outputs.write_err(&message, 1);
     finish_run(None, outcome, outputs)
 }

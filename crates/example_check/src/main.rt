@@ -1,14 +1,17 @@
 //! Checks the manifest of SHA-256 digests on standard input, and says in its own words which lines don't hold.
 #![tactic(auto)]
 
+mod bytes;
+
+use bytes::Bytes;
 use digest_kinds::{Algo, Algos};
 use sum_engine::{CheckSettings, Reader, Verdict, Verdicts};
-use sum_sources::{Fault, Files, FromRead};
+use sum_sources::{Fault, Files};
 
 fn main(rt: HostRuntime) -> anyhow::Result<()> {
     let mut settings = CheckSettings::new(Algos::One(Algo::Sha256));
     settings.strict = true;
-    let mut verdicts = Verdicts::new(settings, true, FromRead::new(rt.stdin()));
+    let mut verdicts = Verdicts::new(settings, true, Bytes::new(rt.stdin()));
     let mut inputs = Reader::new(Files::new(rt));
     let mut line = Vec::new(rt.alloc());
     for _ in 0..u64::MAX {
@@ -22,7 +25,7 @@ fn main(rt: HostRuntime) -> anyhow::Result<()> {
             Verdict::Unread(Fault::NotFound) => "not there",
             Verdict::Unread(_) => "can't be read",
         };
-        let name = String::from_utf8_lossy(rt.alloc(), &line[found.start..found.stop])?;
+        let name = String::from_utf8_lossy(rt.alloc(), found.name(&line))?;
         println!(rt; "line {}, {name:?}: {why}", found.number)?;
     }
     Ok(())

@@ -8,7 +8,7 @@ use Rattle.sum_lines.proofs.EventLemmas.{Gets-none}
 use Rattle.sum_engine.specs.Behavior.{Fault, World, is_dash, answer_to, after, Behavior, Step, events_of, trace, Answer, Content, InputState, SourceState, IsOf, clip}
 use Rattle.sum_engine.specs.{check.CheckerLaws.RunsManifest, check.Rules.rules_of, check.Rules.labels_of, check.Judge.own_profile}
 use Rattle.sum_engine.specs.{check.Checking.CheckSettings, check.Checking.check_behavior_by, check.Checking.check_behavior, Generation.name_fault_line}
-use Rattle.sum_engine.specs.check.ReadAhead.{StopsAtLine}
+use Rattle.sum_engine.specs.check.ReadAhead.{StopsAtStep, StopsAtLine}
 use Rattle.sum_engine.specs.Execution.{Stop, Memory, asked, OutputsState, StreamsState, world_at, Happened, Performs}
 use Rattle.sum_engine.specs.{refinement.Writes.WritesAndReturns, refinement.Names.MemoryWasRefused}
 use Rattle.sum_engine.proofs.{ExecutionLemmas.Happened-by, ExecutionLemmas.Happened-then, ExecutionLemmas.kept_performs, WorldLemmas.world_after}
@@ -22,6 +22,22 @@ opening name = record { names = name ∷ []; err = []; out = []; remaining = 0 }
 -- the name that reports show
 abbrev pub shown : List ℕ → List ℕ
 shown name = if is_dash name then codes "standard input" else name
+
+-- a stop among these steps, after one that happened and before a file was closed
+stops_behind : {a m : StreamsState} {steps : List Step} {k : ℕ} (stop : Stop) (s : Step) (c : Content)
+    (b : StreamsState) (n : SourceState) → Happened a m (events_of s) → asked n ≡ asked b.inputs
+    → n.refusals ≡ b.inputs.refusals → StopsAtStep stop steps c k m b
+    → StopsAtStep stop (s ∷ steps) c k a (record b { inputs = n })
+stops_behind stop s c b n did asked refusals ran = record {
+  done = s ∷ ran.done;
+  next = ran.next;
+  later = ran.later;
+  are = ap (λ steps. s ∷ steps) ran.are;
+  between = ran.between;
+  happened = Happened-then (events_of s) (trace ran.done) did ran.happened;
+  stopped = kept_performs (ran.next ∷ []) (tt {0}) ran.between b n (Err stop) asked refusals ran.stopped;
+  read = ran.read;
+}
 
 -- the manifest of that name is checked, from the streams a
 module _ (settings : CheckSettings) (tool name : List ℕ) (a : StreamsState) where
@@ -68,16 +84,8 @@ module _ (settings : CheckSettings) (tool name : List ℕ) (a : StreamsState) wh
           let read : t.reads ≡ r = search (rules, o.gave, gave) in
           let ran = (rw fresh at run.stopped) refl c (subst (λ c. IsOf t.reads c) same of) w
           (o.agrees w agrees) in
-          rw (answer, ← world_after w a.inputs m (name ∷ []) o.asks, ← read) (record {
-            done = opening name ∷ ran.done;
-            next = ran.next;
-            later = ran.later;
-            are = ap (λ steps. opening name ∷ steps) ran.are;
-            between = ran.between;
-            happened = Happened-then (events_of (opening name)) (trace ran.done) did ran.happened;
-            stopped = kept_performs (ran.next ∷ []) (tt {0}) ran.between b n (Err stop) o.asked o.refusals ran.stopped;
-            read = ran.read;
-          })
+          rw (answer, ← world_after w a.inputs m (name ∷ []) o.asks, ← read)
+          (stops_behind stop (opening name) (clip c) b n did o.asked o.refusals ran)
 
   -- the manifest could not be opened, and the line of its fault was written, or a prefix of it
   pub refused : (m : SourceState) (f : Fault) (outputs : OutputsState) (x : Result Bool Stop)

@@ -102,7 +102,7 @@ pub next_verdict-stop : {I : Type 0} {state : I → InputState} {p q : VerdictsV
 next_verdict-stop {p = p} vector r rules reader (Fault f) bytes reads final bounds profile is = rw (is, rules) (record {
   holds = λ reading c of w agrees.
       let next = (reads reading).line c of in
-      search (rules, lines_now p.rules (remaining p.reader c) profile, next);
+      search (lines_now p.rules (remaining p.reader c) profile, next);
 })
 next_verdict-stop {p = p} vector r rules reader Memory bytes reads final bounds profile is = rw is (record {
   holds = λ reading c of w agrees.

@@ -1,5 +1,5 @@
 //! What follows from the laws of `sum_engine`.
-ghost use Rattle.std.specs.Prelude.{◌≡◌, ◌≢◌, ◌+◌, List, [], ◌∷◌, ◌++◌, codes, length, take, flat_map, true, slice_range};
+ghost use Rattle.std.specs.Prelude.{◌≡◌, ◌≢◌, ◌+◌, ◌*◌, false, List, [], ◌∷◌, ◌++◌, codes, length, take, flat_map, true, slice_range};
 ghost use Rattle.sum_engine.specs.Behavior.{ByteString, Content, Whole, World};
 ghost use Rattle.sum_engine.specs.Execution.{Agrees, PerformsSteps, StreamsState, world_at};
 ghost use Rattle.sum_engine.specs.Generation.{generate_behavior};
@@ -10,11 +10,16 @@ ghost use Rattle.sum_engine.specs.check.Judge.{all_verdicts, verdicts, form, lin
 ghost use Rattle.sum_engine.specs.check.OldVerdicts.{IsOldManifest, older_profile, rules_under};
 ghost use Rattle.sum_engine.specs.check.Rules.{LabelsValue, Rules};
 ghost use Rattle.sum_engine.specs.check.Verdicts.{HasNameRange};
+ghost use Rattle.sum_engine.specs.declared.settings.Report.TheVariants.{All};
 
+use digest_kinds::Algos;
 use sum_engine::laws::{events_extend, old_verdicts, same_front, steps_join, told_agree};
-use sum_engine::{LineVerdict, Outputs, Reader, Settings, Stop, Streams, generate_one};
+use sum_engine::{
+    CheckSettings, Checker, LineVerdict, Outputs, Reader, Settings, Stop, Streams, Verdicts,
+    generate_one,
+};
 use sum_lines::Sink;
-use sum_sources::Source;
+use sum_sources::{Input, Source};
 
 /// The name of a line's entry, which its range cuts from the line's vector.
 pub fn entry_name<'a>(found: LineVerdict, line: &'a [u8]) -> &'a [u8]
@@ -39,6 +44,29 @@ pub fn hash_in_some_world<S: Source, O: Sink, E: Sink>(
     let result = generate_one(settings, tool, name, streams);
     told_agree(&streams.inputs);
     result
+}
+
+/// A count of what a check has read, in parts of 7 bytes, can't overflow.
+pub fn sevenths_taken<'a, I: Input>(checker: &Checker<'a, I>) -> u64
+    ensures { result ≡ 7 * checker.now.verdicts.reader.taken }
+{
+    7 * checker.taken()
+}
+
+/// The same of verdicts.
+pub fn sevenths_read<I: Input>(verdicts: &Verdicts<I>) -> u64
+    ensures { result ≡ 7 * verdicts.now.reader.taken }
+{
+    7 * verdicts.taken()
+}
+
+/// The plain check, made strict: no other setting differs from those of the words `--check --strict`.
+pub fn strict_check(algos: Algos) -> CheckSettings
+    ensures { result ≡ record { algo = algos; report = All; strict = true; ignore_missing = false } }
+{
+    let mut settings = CheckSettings::new(algos);
+    settings.strict = true;
+    settings
 }
 
 /// After k steps of a checker that each handled a line, each output has grown by the texts of the first k steps.

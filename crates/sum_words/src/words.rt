@@ -1,7 +1,7 @@
 //! Lists of words, and the iterator over one.
 ghost use Rattle.std.specs.Iterator.{item_count};
 ghost use Rattle.std.specs.Option.{option_copied};
-ghost use Rattle.std.specs.Prelude.{◌≡◌, ◌==◌, ◌<◌, [], ◌∷◌, ◌++◌, ◌+◌, ◌^◌, OnOk, OnErr, OnSome, length, drop, slice_get, slice_index};
+ghost use Rattle.std.specs.Prelude.{◌≡◌, ◌<◌, [], ◌∷◌, ◌++◌, ◌+◌, ◌^◌, OnOk, OnErr, OnSome, length, drop, slice_get, slice_index};
 ghost use Rattle.sum_words.specs.Words.{pieces_cut, CutsAt};
 ghost use Rattle.sum_words.specs.refinement.ItemIterator.{TakesFirst};
 
@@ -73,13 +73,6 @@ impl<A: Allocator> Words<A> {
         ensures { result ≡ length self.now }
     {
         self.ends.len()
-    }
-
-    /// Returns whether the list is empty.
-    pub fn is_empty(&self) -> bool
-        ensures { result ≡ (length self.now == 0) }
-    {
-        self.len() == 0
     }
 
     /// Returns an iterator over the words.

@@ -1,7 +1,8 @@
 //! Tests of `sum_words`: each call once with its answer, and the texts of faults. Which request or fault some command
-//! lines are, its `proofs/WorkedExamples.antt` has.
+//! lines are, its `proofs/WorkedExamples.antt` has. `consequences` has what follows from contracts.
 #![tactic(auto)]
 
+pub mod consequences;
 #[cfg(test)]
 mod laws;
 #[cfg(test)]

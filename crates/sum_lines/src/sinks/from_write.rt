@@ -24,7 +24,8 @@ impl<W: Write> FromWrite<W> {
 
     /// Creates a sink over the writer. What the writer is known to hold counts as written.
     pub fn new(writer: W) -> Self
-        ensures { ⟦<FromWrite<W> as Sink>⟧.state result
+        ensures first { result.first.value ≡ writer }
+        ensures state { ⟦<FromWrite<W> as Sink>⟧.state result
             ≡ record {
               output = record {
                 offered = [];
@@ -41,10 +42,9 @@ impl<W: Write> FromWrite<W> {
         }
     }
 
-    /// Returns the writer.
+    /// Returns the writer. If it was known what it held at first, it holds that and what was written.
     pub fn into_inner(self) -> W
-        ensures writer { result ≡ self.writer }
-        ensures known { ForSome (W.contents self.first.value) (λ bytes.
+        ensures { ForSome (W.contents self.first.value) (λ bytes.
             W.contents result
             ≡ Some (over_writer (W.contents self.first.value) self.log).output.written) }
     {
@@ -65,13 +65,21 @@ impl<W: Write> FromWrite<W> {
 }
 
 impl<W: Write> Sink for FromWrite<W> {
+    ghost use Rattle.std.specs.Prelude.{Ok};
+    ghost use Rattle.sum_lines.specs.Sinks.{WritesSome, Flushes};
     ghost use Rattle.sum_lines.specs.refinement.SinkStates.{over_writer};
 
     ghost state = { λ s. over_writer (W.contents s.first.value) s.log };
 
     /// Writes a nonempty piece to the writer, and retries after each interruption. Returns `SinkFault` if the writer
     /// fails, accepts nothing of it, or is interrupted for the 1,000th time in a row ([`INTERRUPTIONS`]).
-    fn write(&mut self, piece: &[u8]) -> Result<usize, SinkFault> {
+    fn write(&mut self, piece: &[u8]) -> Result<usize, SinkFault>
+        ensures bytes { WritesSome (over_writer (W.contents self.old.first.value) self.old.log)
+            (over_writer (W.contents self.new.first.value) self.new.log)
+            piece.now result }
+        ensures empty { piece.now ≡ [] → result ≡ Ok 0 }
+        ensures first { self.new.first ≡ self.old.first }
+    {
         if piece.is_empty() {
             self.log = self.log.and(&Offer(piece, &[]));
             return Ok(0);
@@ -95,7 +103,12 @@ impl<W: Write> Sink for FromWrite<W> {
     }
 
     /// Flushes the writer, once. Returns `SinkFault` if that fails.
-    fn flush(&mut self) -> Result<(), SinkFault> {
+    fn flush(&mut self) -> Result<(), SinkFault>
+        ensures bytes { Flushes (over_writer (W.contents self.old.first.value) self.old.log)
+            (over_writer (W.contents self.new.first.value) self.new.log)
+            result }
+        ensures first { self.new.first ≡ self.old.first }
+    {
         match self.writer.flush() {
             Ok(()) => {
                 self.log = self.log.and(&Flushed);

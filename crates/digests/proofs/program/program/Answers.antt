@@ -27,7 +27,7 @@ returns-clause-behavior g c =
     let openings : start.inputs.openings ≡ [] = grind (arith, c.new-2.ensures.state) in
     let refusals : start.inputs.refusals ≡ 0 = grind (arith, c.new-2.ensures.state) in
     let outputs : start.outputs ≡ record { out = fresh_output out; err = fresh_output err } =
-    outputs_fresh out err c.new-3.ensures c.new-4.ensures c.new-streams.ensures.outputs in
+    outputs_fresh out err c.new-3.ensures.state c.new-4.ensures.state c.new-streams.ensures.outputs in
     rw (are_fresh start c.command-status.new.streams out err openings refusals outputs did.reads.told) at did.behavior
 
 -- standard input and files tell that a later `-` is empty

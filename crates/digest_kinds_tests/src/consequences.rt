@@ -1,0 +1,69 @@
+//! What the contracts of hashers, of kinds and of algorithms give a caller.
+ghost use Rattle.blake2b_core.specs.Digest.{blake2b};
+ghost use Rattle.blake2b_core.specs.refinement.Holding.{Holds, digest_len, taken};
+ghost use Rattle.digest_kinds.specs.Bytes.{ByteString};
+ghost use Rattle.digest_kinds.specs.Kinds.{digest};
+ghost use Rattle.std.specs.Prelude.{◌≡◌, ◌↔◌, ◌⊎◌, ◌+◌, ◌^◌, ◌<◌, ◌++◌, length, take, slice_get, nat_lt, if◌then◌else◌, Some, Ok, IsNone, IfSome};
+
+use blake2b_core::{Blake2b, Output};
+use digest_kinds::{Algo, Digest, Hasher, Kind, UnknownTag};
+
+/// Takes a piece, unless the message would be too long with it. Returns the digest, its kind, and of how many bytes it
+/// is.
+pub fn digest_with<H: Hasher>(mut hasher: H, piece: &[u8]) -> (Digest, Kind, u64)
+    ensures digest { (m : ByteString) → H.holds hasher m →
+        result.0 ≡ digest result.1 (take result.2 (m ++ piece.now)) }
+    ensures kind { result.1 ≡ H.kind_of hasher }
+    ensures taken { let all = H.taken_of hasher + length piece.now in
+        result.2 ≡ (if nat_lt all (2 ^ 61) then all else H.taken_of hasher) }
+{
+    let _ = hasher.try_update(piece);
+    let (kind, taken) = (hasher.kind(), hasher.taken());
+    (hasher.finish(), kind, taken)
+}
+
+/// The same for BLAKE2b alone.
+pub fn blake2b_with(mut state: Blake2b, piece: &[u8]) -> (Output, u64)
+    ensures digest { (m : ByteString) → Holds state m →
+        result.0 ≡ blake2b (digest_len state) (take result.1 (m ++ piece.now)) }
+    ensures taken { let all = taken state + length piece.now in
+        result.1 ≡ (if nat_lt all (2 ^ 61) then all else taken state) }
+{
+    let _ = state.try_update(piece);
+    let taken = state.taken();
+    (state.finish(), taken)
+}
+
+/// Returns the BLAKE2b digest of `len` bytes of a message, or `None` if and only if there is none of that length.
+pub fn blake2b_digest(len: usize, message: &[u8]) -> Option<Digest>
+    requires { length message.now < 2 ^ 61 }
+    ensures none { IsNone result ↔ ((len ≡ 0) ⊎ (64 < len)) }
+    ensures value { IfSome result (λ d. d ≡ blake2b len message.now) }
+{
+    Some(Kind::blake2b_bytes(len)?.digest(message))
+}
+
+/// Returns a row of a table of digests, which begins with this one, and the digest's first byte.
+pub fn row_of(digest: &Output) -> ([u8; 64], u8)
+    ensures row { take (length digest.now) result.0 ≡ digest.now }
+    ensures first { slice_get digest.now 0 ≡ Some result.1 }
+{
+    let bytes = digest.as_slice();
+    let mut row = [0; 64];
+    row[..bytes.len()].copy_from_slice(bytes);
+    (row, bytes[0])
+}
+
+/// Returns the first byte of a digest.
+pub fn first_byte(digest: &Digest) -> u8
+    ensures { slice_get digest.now 0 ≡ Some result }
+{
+    digest.as_slice()[0]
+}
+
+/// Returns the algorithm from its tag.
+pub fn of_its_tag(algo: Algo) -> Result<Algo, UnknownTag>
+    ensures { result ≡ Ok algo }
+{
+    algo.tag().parse()
+}

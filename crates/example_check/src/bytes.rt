@@ -1,0 +1,36 @@
+//! An input of one's own: the bytes of a reader.
+use std::io::Read;
+use sum_sources::{Fault, Input, ReadLog, ReadNote, Reads};
+
+#[derive(Drop)]
+pub struct Bytes<R> {
+    reader: R,
+    log: ReadLog,
+}
+
+impl<R: Read> Bytes<R> {
+    pub fn new(reader: R) -> Self {
+        Bytes {
+            reader,
+            log: ReadLog::of(&Reads),
+        }
+    }
+}
+
+impl<R: Read> Input for Bytes<R> {
+    ghost use Rattle.std.specs.Prelude.{None};
+    ghost use Rattle.sum_sources.specs.InputLaws.{real_has_content};
+
+    ghost state = { λ s. record s.log { told = None } };
+
+    fn read(&mut self, buf: &mut [u8]) -> Result<usize, Fault> {
+        let read = match self.reader.read(buf) {
+            Ok(count) => Ok(count),
+            Err(_) => Err(Fault::Other),
+        };
+        self.log = self.log.and(&ReadNote(buf, &read));
+        read
+    }
+
+    ghost has_content = { λ s. real_has_content s.log };
+}

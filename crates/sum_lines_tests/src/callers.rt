@@ -1,0 +1,49 @@
+//! What a caller has from the sinks, and from a line that is ignored.
+ghost use Rattle.std.specs.Prelude.{◌≡◌, ◌≤◌, ◌++◌, true, Some, IfOk, codes, length, take};
+ghost use Rattle.sum_lines.specs.refinement.SinkStates.{bytes_of};
+
+use digest_kinds::Algos;
+use std::alloc::Allocator;
+use std::io::Write;
+use sum_lines::{Form, FromWrite, Reading, Sink, SinkFault, ToldSink, read_line};
+
+/// A sink in memory holds a text that it has room for, and no call has failed.
+pub fn holds_text(text: &[u8]) -> ToldSink<64>
+    requires { length text.now ≤ 64 }
+    ensures bytes { bytes_of result ≡ text.now }
+    ensures failures { (⟦<ToldSink<64> as Sink>⟧.state result).output.failures ≡ 0 }
+{
+    let mut sink = ToldSink::new(64);
+    let _ = sink.write(text);
+    sink
+}
+
+/// A sink in memory that is full fails again and again, also after a flush.
+pub fn stays_full() -> ToldSink<8>
+    ensures bytes { bytes_of result ≡ codes "ab" }
+    ensures failures { (⟦<ToldSink<8> as Sink>⟧.state result).output.failures ≡ 2 }
+{
+    let mut sink = ToldSink::new(2);
+    let _ = sink.write(b"abc");
+    let _ = sink.write(b"c");
+    let _ = sink.flush();
+    let _ = sink.write(b"d");
+    sink
+}
+
+/// A writer that is known to hold some bytes got the first ones of the piece after them, as many as were accepted.
+pub fn first_bytes<W: Write>(writer: W, piece: &[u8]) -> (Result<usize, SinkFault>, W)
+    requires { W.contents writer ≡ Some (codes "before ") }
+    ensures { IfOk result.0 (λ n. W.contents result.1 ≡ Some (codes "before " ++ take n piece.now)) }
+{
+    let mut sink = FromWrite::new(writer);
+    let written = sink.write(piece);
+    (written, sink.into_inner())
+}
+
+/// A comment is still in the vector after it was read.
+pub fn keeps_comments<A: Allocator>(algos: Algos, line: &mut Vec<u8, A>) -> bool
+    ensures { result ≡ true → line.new.items ≡ line.old.items }
+{
+    matches!(read_line(algos, Form::Undecided, line).0, Reading::Ignored)
+}

@@ -1,0 +1,31 @@
+//! What the contracts of words and of tools give a caller.
+ghost use Rattle.std.specs.Option.{option_copied};
+ghost use Rattle.std.specs.Prelude.{◌≡◌, ◌⊎◌, ◌-◌, ◌∷◌, ◌++◌, [], Ok, OnOk, OnErr, codes, length, slice_get};
+
+use std::alloc::Allocator;
+use sum_words::{NoRoom, Tool, UnknownTool, Words};
+
+/// Adds `--` and a name, which is then an operand, whatever it is. If memory is refused, the words are as before, but
+/// for a `--` that may follow them.
+pub fn add_name<A: Allocator>(words: &mut Words<A>, name: &[u8]) -> Result<(), NoRoom>
+    ensures ok { OnOk result (words.new ≡ words.old ++ codes "--" ∷ name.now ∷ []) }
+    ensures err { OnErr result ((words.new ≡ words.old)
+        ⊎ (words.new ≡ words.old ++ codes "--" ∷ [])) }
+{
+    words.add("--")?;
+    words.add_bytes(name)
+}
+
+/// Returns the last word, if there is one.
+pub fn last_word<A: Allocator>(words: &Words<A>) -> Option<&[u8]>
+    ensures { option_copied result ≡ slice_get words.now (length words.now - 1) }
+{
+    words.get(words.len().checked_sub(1)?)
+}
+
+/// Returns the tool from its name.
+pub fn of_its_name(tool: Tool) -> Result<Tool, UnknownTool>
+    ensures { result ≡ Ok tool }
+{
+    tool.name().parse()
+}
