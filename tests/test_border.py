@@ -6,7 +6,7 @@ import os
 import re
 
 from harness import TOP, Case
-from rattle import Code, File
+from rattle import CALL, Code, File
 from sources import code_of, crates_of_program, files, needs, sources, text_of, tokens_of
 
 # Kit's crates that the program uses. None reads, writes or opens anything. The kit's `io`, `os` and `libc` do.
@@ -51,9 +51,9 @@ FILES = {
 
 # All that `main` and the code beside it calls or brings in, of ours, too: what that calls may reach the system.
 CALLED = {
-    "main": "alloc from main program stderr stdin stdout",
-    "program": "command new rt standard_input told_agree",
-    "standard_input": "as_fd closed new raw_os_error try_clone_to_owned",
+    "main": "alloc from main process program stderr stdin stdout",
+    "program": "alloc command fd io laws new os rt standard_input told_agree",
+    "standard_input": "as_fd closed fd io new os raw_os_error try_clone_to_owned",
 }
 
 # The modules whose names a contract or a definition may use: definitions, ours and the kit's, the kit's `std`, and the
@@ -81,24 +81,19 @@ class Border(Case):
         self.assertEqual(found, FILES)
 
     def test_calls(self):
-        found = {}
+        """What the files around `program` call or bring in. Each type and trait of ours that they name is declared once,
+        in a file that docs/AUDITING.md names."""
+        page, found, named = text_of("docs", "AUDITING.md"), {}, set()
         for name in CALLED:
-            code = File(f"{TOP}/crates/digests/src/{name}.rt", "digests", f"{name}.rt").around
-            code = re.sub(r"#!?\[[^]]*\]|\bghost use [^;]*;", "", code)
-            brought = " ".join(re.findall(r"\buse\s[^;]*;", code))
-            words = re.findall(r"\b([a-z]\w*)(?=\s*[,;}])", brought) + re.findall(r"\b([a-z]\w*)\s*[(!]", code)
-            found[name] = " ".join(sorted({*words, *re.findall(r"::\s*([a-z]\w*)\b(?!\s*::)", code)}))
+            there = File(f"{TOP}/crates/digests/src/{name}.rt", "digests", f"{name}.rt")
+            code = re.sub(r"#!?\[[^]]*\]|\bghost use [^;]*;", "", there.around)
+            called = {name for owner, _, name, call in CALL.findall(code.replace("!", "")) if owner or call}
+            found[name] = " ".join(sorted(called | {it for it in there.brought if it[0].islower()}))
+            named |= set(re.findall(r"\b[A-Z]\w*", code))
         self.assertEqual(found, CALLED)
-
-    def test_types(self):
-        """Each type and trait of ours that these files name is declared once, in a file that docs/AUDITING.md names."""
-        code, page = Code(), text_of("docs", "AUDITING.md")
-        types = [it for it in code.items if it.kind in ("struct", "enum", "trait", "type")]
-        here = [it for it in code.items if (it.crate, it.file[:-len(".rt")]) in {("digests", name) for name in CALLED}]
-        for name in {it.name for item in here for it in code.named(item)}:
-            declared = [it for it in types if it.name == name]
-            self.assertEqual(len(declared), 1, name)
-            self.assertIn(f"`{declared[0].file}`", page, name)
+        types = [it for it in Code().items if it.name in named and it.kind in ("struct", "enum", "trait", "type")]
+        self.assertEqual(len(types), len({it.name for it in types}), [f"{it.crate}/src/{it.file}" for it in types])
+        self.assertEqual([it.file for it in types if f"`{it.file}`" not in page], [])
 
     def test_nothing_is_passed_on(self):
         """What one file names of the system, no other can reach by a name of ours."""

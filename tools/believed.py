@@ -8,7 +8,7 @@
 
 Each fails if a definition that the headline or the program reaches stands in a folder specs/refinement/ of a crate:
 such a folder only relates the code's values to those of the definitions, so a reader may pass over it. Each also fails
-if two definitions outside of these folders have one name.
+if a definition outside of these folders has the name of another, or of one of the kit's.
 
 What a contract says of a value is said in words that others give a meaning: the clauses of the traits that bound the
 function's parameters, and the views of their types. So these count, with the types and constants of the code that are
@@ -215,14 +215,17 @@ def page():
 
 def misplaced():
     """The definitions that may not stand where they do, a line for each: what `run` or `command` reaches, in a folder
-    specs/refinement/; and elsewhere, a second one of a name."""
+    specs/refinement/; and elsewhere, what has the name of another, or of one of the kit's that is used."""
     found = [f"{crate}/specs/{file}.antt: {claim.title} reaches {it.name}; move it out of refinement/"
              for claim in claims()[:2] for (crate, file), definitions in claim.files.items()
              if file.startswith("refinement/") for it in definitions]
-    seen = {}
-    for it in (it for module in every_definition().modules.values() for it in module.definitions.values()):
-        first = seen.setdefault(it.name, it) if not it.module.file.startswith("refinement/") else it
-        found += [f"{it.module.name} and {first.module.name} both define {it.name}"] if first is not it else []
+    modules = every_definition().modules.values()
+    used = [origin for names in [*(it.imports for it in modules), *(it.uses for it in code().items)]
+            for origin in names.values()]
+    owners = {name: module for module, name in used if name and module.split(".")[1] not in crates()}
+    for name, module in ((name, it.name) for it in modules if "refinement/" not in it.file for name in it.definitions):
+        if owners.setdefault(name, module) != module:
+            found.append(f"{owners[name]} and {module} both define {name}")
     return found
 
 

@@ -63,8 +63,8 @@ class Library:
     """The libraries' items, and which traits their types have."""
 
     def __init__(self):
-        self.items = [it for it in Code().items if it.crate in libraries() and "doc(hidden)" not in it.attributes]
-        self.aliases = {it.name: re.search(r"= (\w+)", it.head)[1] for it in self.items if it.kind == "type"}
+        self.code = Code()
+        self.items = [it for it in self.code.items if it.crate in libraries() and "doc(hidden)" not in it.attributes]
 
     def types(self, item, name):
         """The types that an item means by a name."""
@@ -72,9 +72,10 @@ class Library:
 
     def blocks(self, item):
         """The type that an item is, or is another name of, and the blocks of it."""
-        types = self.types(item, self.aliases[item.name] if item.kind == "type" else item.name)
-        return types, [it for it in self.items if it.kind == "impl" and types and it.name == types[0].name
-                       and self.types(it, it.name) == types]
+        name = self.code.types.get(item.name, item.name)
+        types = self.types(item, name)
+        blocks = [it for it in self.items if (it.kind, it.name) == ("impl", name)]
+        return types, [it for it in blocks if self.types(it, name) == types]
 
     def traits(self, item):
         """The traits of a type, by a derive or by an `impl`; `Model` is for contracts."""
@@ -100,7 +101,8 @@ class Library:
         return [f"*{mark}:* " + ", ".join(f"`{it}`" for it in parts) for mark, parts in found.items() if parts]
 
     def implements(self, item, trait):
-        return item.name not in self.aliases.values() and any(re.match(rf"{trait}\b", it) for it in self.traits(item))
+        others = [self.code.types[it.name] for it in self.items if it.kind == "type"]
+        return item.name not in others and any(re.match(rf"{trait}\b", it) for it in self.traits(item))
 
     def members(self, item):
         """The public calls of a type, and what a trait asks for, each with its bounds."""

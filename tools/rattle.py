@@ -15,7 +15,7 @@ ITEM = re.compile(r"""(?mx)^(?P<inner>[ ]{4})?(?P<public>pub[ ])?(?:pub\([^)]*\)
     (?:const[ ](?=fn))?(?P<kind>fn|trait|struct|enum|type|const)[ ](?P<name>\w+)
     | impl(?:<.*?>)?[ ](?:(?:\w+::)*(?P<trait>\w+(?:<\w+>)?)[ ]for[ ](?:&mut[ ])?)?(?:\w+::)*(?P<of>\w+)\b)""")
 # Where an item begins, at whatever place in its line.
-BEGIN = re.compile(r"\b(?:fn|trait|struct|enum|union)\s+\w|(?:\A|(?<=[{};\]]))\s*impl\b")
+BEGIN = re.compile(r"\b(?:fn|trait|struct|enum|union)\s+[\w$]|(?:\A|(?<=[{};\]]))\s*impl\b")
 ATTRIBUTES = re.compile(r"(?m)(?:^ *#\[(?:[^\[\]]|\[[^\[\]]*\])*\]\s*)*\Z")
 # A function that is called, or named after its type: its type, the dot before a method, and its name.
 CALL = re.compile(r"""(?x)(?:(\w+)(?:(?:::)?<[^()]*?>)?::|(\.\s*))?
@@ -177,8 +177,8 @@ class Code:
             found = self.by_name.get("next" if name == "for" else name, [])
             if owner in self.types or owner == "Self":
                 yield from (it for it in found if it.owner == self.types.get(owner, item.owner))
-            elif dot and call or name == "for" or owner[:1].isupper() and item.there.brought.get(owner) != {"std"}:
-                yield from (it for it in found if it.owner)
+            elif dot and call or name == "for" or owner and (len(owner) == 1 or owner in {it.owner for it in found}):
+                yield from (it for it in found if it.owner)  # of any type: a trait, or a parameter, may be each
             elif call:
                 yield from self.meant(item, [it for it in found if not it.owner])
 
