@@ -1,6 +1,7 @@
 //! The trait of a sink, to which bytes are written.
 ghost use Rattle.std.specs.Prelude.{◌≡◌, ◌≤◌, [], true, Ok, OnErr, length};
 ghost use Rattle.sum_lines.specs.Sinks.{SinkState, WritesSome, Flushes, GivesAll};
+ghost use Rattle.sum_lines.specs.declared.sinks.buffered.TheConstants.{CAPACITY};
 
 use thiserror::Error;
 
@@ -34,7 +35,7 @@ pub trait Sink {
 /// Gives a sink all of the bytes. It offers them in one piece, and after a write that accepts only a part, it offers
 /// what remains. Returns `SinkFault` if a write failed; a prefix of the bytes was then written.
 pub(crate) fn give_all<S: Sink>(sink: &mut S, bytes: &[u8]) -> Result<(), SinkFault>
-    requires { length bytes.now ≤ 8192 }
+    requires { length bytes.now ≤ CAPACITY }
     ensures gives { GivesAll (S.state sink.old).output (S.state sink.new).output bytes.now result }
     ensures flushed { OnErr result ((S.state sink.new).flushed ≡ true) }
 {
