@@ -16,13 +16,14 @@ pub struct Stdin<I: Input> {
 }
 
 impl<I: Input> Model for Stdin<I> {
+    ghost use Rattle.std.specs.Prelude.{◌≡◌, true, None};
     ghost use Rattle.sum_sources.specs.StandardInput.{GivesUnread, StdinPlace};
 
     ghost Value = { StdinPlace I };
 
     ghost view = { λ s. (s.taken, s.input) };
 
-    ghost invariant = { λ s. GivesUnread I.state (s.taken, s.input) };
+    ghost invariant = { λ s. GivesUnread I.state (s.taken, s.input) × (s.input ≡ None → s.taken ≡ true) };
 }
 
 /// What [`Stdin::take`] gives: the input of standard input the first time, and an empty one afterwards. It can't be
