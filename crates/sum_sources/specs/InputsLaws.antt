@@ -1,4 +1,5 @@
--- The law of standard input and a source of files, as one source: what they gave fits the answers that are told.
+-- The law of sources for standard input and a source of files, as one source, with its proofs, which the type names
+-- where it implements `Source`: what they gave fits the answers that are told.
 use Rattle.std.proofs.Common.{◌≡◌, ◌∙◌, ℕ, Bool, true, false, List, [], ◌∷◌, IfSome, refl, ap, sym, codes, bytes_eq, arith}
 use Rattle.std.{proofs.Math.Logic.∥∥₁_elim, proofs.lemmas.Slice.Eq.bytes_eq-Decides}
 use Rattle.sum_sources.specs.{Contents.InputState, Faults.ByteString, Sources.ToldAnswers, Sources.Opening, Sources.gave_of, Sources.gave_at, Sources.IsOfAnswer, Sources.GivesTold, Sources.SourceState, StandardInput.unless_closed, StandardInput.given_by, Inputs.is_dash, Inputs.others, Inputs.with_stdin, Inputs.tells_both, Inputs.inputs_state, SourceLaws.GivesTold-prop, refinement.InputsStates.InputsInvariant, StandardInput.StdinPlace}
