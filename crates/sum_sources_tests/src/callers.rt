@@ -1,6 +1,6 @@
 //! Callers that need what no program of ours does.
 ghost use Rattle.std.specs.Option.{option_map};
-ghost use Rattle.std.specs.Prelude.{ℕ, ◌≡◌, ◌+◌, ◌^◌, Ok, IfOk, IfSome, slice_get};
+ghost use Rattle.std.specs.Prelude.{ℕ, ◌≡◌, ◌<◌, ◌+◌, ◌^◌, Ok, Err, IfOk, IfSome, slice_get};
 ghost use Rattle.sum_sources.specs.Inputs.{others};
 ghost use Rattle.sum_sources.specs.Sources.{first_answer, names_of};
 
@@ -26,6 +26,18 @@ pub fn ask_twice<I: Input, A: Allocator>(
 {
     let _ = reader.next_line(line);
     reader.next_line(line)
+}
+
+/// Asks for a line. Returns the answer, and how many bytes were read beyond one for each line: some if the answer is that
+/// there was no memory.
+pub fn ask<I: Input, A: Allocator>(
+    reader: &mut LineReader<I>,
+    line: &mut Vec<u8, A>,
+) -> (Result<Next, LineStop>, u64)
+    ensures { result.0 ≡ Err LineStop.Memory → 0 < result.1 }
+{
+    let next = reader.next_line(line);
+    (next, reader.taken() - reader.lines())
 }
 
 /// Creates a source of one file, and offers another answer to its name, which never counts.

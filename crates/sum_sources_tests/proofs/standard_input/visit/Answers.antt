@@ -1,17 +1,14 @@
 use Rattle.std.proofs.Common.{◌≡◌, ◌∙◌, ◌++◌, ◌∷◌, [], None, List, ℕ, refl, ap, sym, arith}
 use Rattle.std.specs.Prelude.{MatchBool}
 use Rattle.std.proofs.lemmas.List.{map-append}
-use Rattle.sum_sources.specs.{Contents.InputState, Inputs.closed_place, Inputs.inputs_state, Inputs.is_dash, Inputs.is_stdin, Inputs.tells_both, Inputs.TakesStdin, Sources.SourceState, Sources.and_opening, Sources.names_of, StandardInput.StdinPlace, StandardInput.given_by, StandardInput.put_back, StandardInput.taken, declared.sources.opened.Place.Place, declared.sources.opened.Place.TheVariants.File, declared.sources.opened.Place.TheVariants.Stdin}
+use Rattle.sum_sources.specs.{Contents.InputState, Inputs.closed_place, Inputs.is_dash, Inputs.is_stdin, Inputs.tells_both, Inputs.TakesStdin, Sources.SourceState, Sources.and_opening, Sources.names_of, StandardInput.StdinPlace, StandardInput.given_by, StandardInput.put_back, StandardInput.taken, declared.sources.opened.Place.Place, declared.sources.opened.Place.TheVariants.File, declared.sources.opened.Place.TheVariants.Stdin}
 use Rattle.sum_sources.proofs.GaveLemmas.{is_open_last, names-closed}
 use Rattle.sum_sources_tests.proofs.standard_input.visit.Goals as goal
 
 -- what was opened last is open
 pub close_file-requires : goal.close_file-requires
 close_file-requires g c =
-    let before = c.args.inputs.now in
-    is_open_last (tells_both g.S.Source.tells)
-    (inputs_state g.I.Input.state before.first before.log (g.S.Source.state before.source)) _ c.args.name.now _ _
-    c.in_ok-file.ensures.file c.in_ok-file.ensures.state refl
+    is_open_last (tells_both g.S.Source.tells) _ _ _ _ _ c.in_ok-file.ensures.file c.in_ok-file.ensures.state refl
 
 -- standard input was opened and closed, or a file was
 closes : {I F : Type 0} (state : F → InputState) (p : Place I F) (name : List ℕ) (old mid new : StdinPlace I)
