@@ -42,7 +42,8 @@ impl<I> Model for Given<I> {
 }
 
 impl<I: Input> Stdin<I> {
-    ghost use Rattle.std.specs.Prelude.{pos, false, Some};
+    ghost use Rattle.std.specs.Prelude.{false, Some};
+    ghost use Rattle.sum_sources.specs.Faults.{bad_descriptor};
     ghost use Rattle.sum_sources.specs.Contents.{unread};
     ghost use Rattle.sum_sources.specs.declared.inputs.closable.Closable.TheVariants.{Open, Closed};
 
@@ -60,8 +61,7 @@ impl<I: Input> Stdin<I> {
     /// Creates a standard input that is closed. Each read of what it gives when it is taken fails with
     /// `Fault::Os(EBADF)`, *Bad file descriptor*.
     pub fn closed() -> Self
-        ensures { result
-            ≡ (false, Some (Closed (Ending.Broken (Fault.Os (pos 9))) Phase.Unfinished)) }
+        ensures { result ≡ (false, Some (Closed (Ending.Broken bad_descriptor) Phase.Unfinished)) }
     {
         Stdin {
             taken: false,
