@@ -1,13 +1,13 @@
 //! Callers that need what no program of ours does.
 ghost use Rattle.std.specs.Option.{option_map};
 ghost use Rattle.std.specs.Prelude.{ℕ, ◌≡◌, ◌<◌, ◌+◌, ◌^◌, Ok, Err, IfOk, IfSome, slice_get};
-ghost use Rattle.sum_sources.specs.Inputs.{others};
+ghost use Rattle.sum_sources.specs.WithStdin.{others};
 ghost use Rattle.sum_sources.specs.Sources.{first_answer, names_of};
 
 use digest_kinds::LIMIT;
 use std::alloc::Allocator;
 use sum_sources::{
-    Answer, Ending, Input, Inputs, LineReader, LineStop, Next, NoRoom, PIECE, Source, ToldSource,
+    Answer, Ending, Input, LineReader, LineStop, Next, NoRoom, PIECE, Source, ToldSource, WithStdin,
 };
 
 /// Returns how many more bytes an input may give before it is too long.
@@ -59,7 +59,7 @@ pub fn one_file<'a, A: Allocator + Copy>(
 
 /// Returns the name at place `i` of those that were opened and aren't `-`, if `-` wasn't opened in the files themselves.
 pub fn asked_file<'a, 'b, I: Input, A: Allocator + Copy>(
-    inputs: &'a Inputs<I, ToldSource<'b, A>>,
+    inputs: &'a WithStdin<I, ToldSource<'b, A>>,
     i: usize,
 ) -> Option<&'a [u8]>
     requires { others inputs.now.source.log.openings ≡ inputs.now.source.log.openings }

@@ -1,16 +1,16 @@
 //! Callers of standard input beside a source of files.
 ghost use Rattle.std.specs.Prelude.{◌≡◌, ◌++◌, ◌∷◌, [], false, MatchBool, OnOk};
-ghost use Rattle.sum_sources.specs.Inputs.{is_dash};
+ghost use Rattle.sum_sources.specs.WithStdin.{is_dash};
 ghost use Rattle.sum_sources.specs.Sources.{names_of};
 ghost use Rattle.sum_sources.specs.StandardInput.{given_by, is_untaken, put_back, taken};
 
 use digest_kinds::{Digest, Hasher};
 use sum_sources::laws::stdin_is_taken;
-use sum_sources::{HashFault, Input, Inputs, OpenFault, Source, hash_file};
+use sum_sources::{HashFault, Input, OpenFault, Source, WithStdin, hash_file};
 
 /// Opens the file of a name, and closes it unread. What isn't opened, standard input or the files, is unchanged.
 pub fn visit<I: Input + Drop, S: Source>(
-    inputs: &mut Inputs<I, S>,
+    inputs: &mut WithStdin<I, S>,
     name: &[u8],
 ) -> Result<(), OpenFault>
     ensures { MatchBool (is_dash name.now)
@@ -27,7 +27,7 @@ pub fn visit<I: Input + Drop, S: Source>(
 
 /// Hashes the file of a name. Only `-` takes standard input.
 pub fn hash_name<I: Input + Drop, S: Source, H: Hasher + Drop>(
-    inputs: &mut Inputs<I, S>,
+    inputs: &mut WithStdin<I, S>,
     name: &[u8],
     hasher: H,
 ) -> Result<Digest, HashFault>

@@ -1,7 +1,7 @@
 use Rattle.std.proofs.Common.{◌≡◌, ◌∙◌, ◌++◌, ◌∷◌, [], None, List, ℕ, refl, ap, sym, arith}
 use Rattle.std.specs.Prelude.{MatchBool}
 use Rattle.std.proofs.lemmas.List.{map-append}
-use Rattle.sum_sources.specs.{Contents.InputState, Inputs.closed_place, Inputs.is_dash, Inputs.is_stdin, Inputs.tells_both, Inputs.TakesStdin, Sources.SourceState, Sources.and_opening, Sources.names_of, StandardInput.StdinPlace, StandardInput.given_by, StandardInput.put_back, StandardInput.taken, declared.sources.opened.Place.Place, declared.sources.opened.Place.TheVariants.File, declared.sources.opened.Place.TheVariants.Stdin}
+use Rattle.sum_sources.specs.{Contents.InputState, WithStdin.closed_place, WithStdin.is_dash, WithStdin.is_stdin, WithStdin.tells_both, WithStdin.TakesStdin, Sources.SourceState, Sources.and_opening, Sources.names_of, StandardInput.StdinPlace, StandardInput.given_by, StandardInput.put_back, StandardInput.taken, declared.sources.opened.Place.Place, declared.sources.opened.Place.TheVariants.File, declared.sources.opened.Place.TheVariants.Stdin}
 use Rattle.sum_sources.proofs.GaveLemmas.{is_open_last, names-closed}
 use Rattle.sum_sources_tests.proofs.standard_input.visit.Goals as goal
 
