@@ -9,7 +9,7 @@ use Rattle.sum_engine.specs.Behavior.{World, Behavior, answer_to, digest_or_faul
 use Rattle.digest_kinds.specs.{Kinds.full_kind, declared.algo.Algo.Algo, declared.algo.Algo.TheVariants.Md5, declared.algo.Algos.Algos}
 use Rattle.hex.specs.Hex.{encode_with, decode_pairs}
 use Rattle.sum_lines.specs.{declared.writing.put_line.Mode.Mode, declared.writing.put_line.Mode.TheVariants.Text, Lines.line, grammar.LineParts.plain_parts, grammar.LineParts.tagged_parts, grammar.ParsedLines.entry_of}
-use Rattle.sum_sources.specs.{declared.fault.Fault.TheVariants.NotFound, declared.fault.Fault.TheVariants.Other, ManifestLines.raw_lines, Contents.Content, Contents.limit, Contents.empty_content, Sources.Answer, Inputs.answers_with}
+use Rattle.sum_sources.specs.{declared.fault.Fault.TheVariants.NotFound, declared.fault.Fault.TheVariants.Other, ManifestLines.raw_lines, Contents.Content, Contents.limit, Contents.empty_content, Sources.Answer, WithStdin.answers_with}
 use Rattle.sum_words.specs.{declared.tool.Tool.Tool, declared.tool.Tool.TheVariants.Md5sum, declared.tool.Tool.TheVariants.B2sum, declared.tool.Tool.TheVariants.Anysum, Items.ByteString, CommandLines.command_line, CommandLines.NeedsMemory, Texts.not_read_line, Tools.tool_called}
 use Rattle.sum_words.proofs.WorkedExamples.{words, words_on_literals}
 use Rattle.sum_engine.specs.{declared.settings.CheckSettings.CheckSettings, declared.settings.Report.TheVariants.All, declared.stop.Stop.Stop, Execution.Agrees, Execution.asked, Execution.world_at, Execution.StreamsState, Execution.PerformsSteps}

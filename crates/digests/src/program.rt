@@ -14,12 +14,12 @@ use std::rt;
 use sum_engine::laws::told_agree;
 use sum_engine::{Outputs, Reader, Streams};
 use sum_lines::FromWrite;
-use sum_sources::{Files, FromRead, Inputs};
+use sum_sources::{Files, FromRead, WithStdin};
 use sum_words::{Arguments, SystemArguments};
 
 /// The streams over standard input, files and both outputs that the system gives.
 pub type SystemStreams<F, I, O, E> = Streams<
-    Reader<Inputs<FromRead<I>, Files<F>>>,
+    Reader<WithStdin<FromRead<I>, Files<F>>>,
     Outputs<FromWrite<O>, FromWrite<E>>,
 >;
 
@@ -65,7 +65,7 @@ where
 {
     let mut arguments = SystemArguments::new(env);
     let mut streams = Streams::new(
-        Inputs::new(standard_input(stdin), Files::new(files)),
+        WithStdin::new(standard_input(stdin), Files::new(files)),
         FromWrite::new(out),
         FromWrite::new(err),
     );

@@ -1,8 +1,8 @@
 //! The standard input that the program is started with.
-ghost use Rattle.std.specs.Prelude.{◌≡◌, ◌⊎◌, pos, false, Some};
+ghost use Rattle.std.specs.Prelude.{◌≡◌, ◌⊎◌, false, Some};
+ghost use Rattle.sum_sources.specs.Faults.{bad_descriptor};
 ghost use Rattle.sum_sources.specs.Logs.{no_reads};
 ghost use Rattle.sum_sources.specs.declared.fault.Ending.TheVariants.{Broken};
-ghost use Rattle.sum_sources.specs.declared.fault.Fault.TheVariants.{Os};
 ghost use Rattle.sum_sources.specs.declared.inputs.closable.Closable.TheVariants.{Open, Closed};
 ghost use Rattle.sum_sources.specs.declared.inputs.phase.Phase.TheVariants.{Unfinished};
 
@@ -14,7 +14,7 @@ use sum_sources::{EBADF, FromRead, Stdin};
 /// would give its descriptor to the next file, and that file's bytes would be read as standard input. The contract
 /// doesn't say which of the two it returns.
 pub fn standard_input<I: Read + AsFd + Drop>(stdin: I) -> Stdin<FromRead<I>>
-    ensures { (result ≡ (false, Some (Closed (Broken (Os (pos 9))) Unfinished)))
+    ensures { (result ≡ (false, Some (Closed (Broken bad_descriptor) Unfinished)))
         ⊎ (result ≡ (false, Some (Open (record { reader = stdin; log = no_reads })))) }
 {
     match stdin.as_fd().try_clone_to_owned() {

@@ -15,7 +15,7 @@ use std::process::Abort;
 use std::test::Fail;
 use sum_engine::{Outputs, Reader, Stop, Streams};
 use sum_lines::ToldSink;
-use sum_sources::{Answer, Ending, Fault, Input, Inputs, NoRoom, Stdin, Told, ToldSource};
+use sum_sources::{Answer, Ending, Fault, Input, WithStdin, NoRoom, Stdin, Told, ToldSource};
 use sum_words::{Tool, Words};
 
 // A manifest with a line of each verdict: right, a comment, bad, missing, wrong.
@@ -107,7 +107,7 @@ fn source_of<'a>(
 
 // What a run works on.
 type Stage<'a, A, const N: usize> = Streams<
-    Reader<Inputs<Told<'a>, ToldSource<'a, A>>>,
+    Reader<WithStdin<Told<'a>, ToldSource<'a, A>>>,
     Outputs<ToldSink<N>, ToldSink<N>>,
 >;
 
@@ -129,7 +129,7 @@ fn stage_until<'a, A: Allocator + Copy, const N: usize>(
     requires { (⟦<Told<'a> as Input>⟧.state input).reads ≡ unread }
 {
     Streams::new(
-        Inputs::new(Stdin::new(input), source),
+        WithStdin::new(Stdin::new(input), source),
         ToldSink::new(stops.0),
         ToldSink::new(stops.1),
     )

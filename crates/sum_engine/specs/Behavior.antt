@@ -8,7 +8,7 @@ pub use Rattle.sum_sources.specs.declared.fault.Ending.{Ending}
 pub use Rattle.sum_sources.specs.declared.fault.Ending.TheVariants.{Whole, Broken}
 pub use Rattle.sum_sources.specs.Contents.{Content, InputState, Reads, IsOf, clip}
 pub use Rattle.sum_sources.specs.Sources.{Answer, Answers, SourceState, times}
-pub use Rattle.sum_sources.specs.Inputs.{is_dash}
+pub use Rattle.sum_sources.specs.WithStdin.{is_dash}
 
 -- a world, which is what the outside may be: what each opening gives, by its name and by how many openings of that name
 -- came before (a file may change in between)

@@ -9,7 +9,7 @@
 //! let list = b"900150983cd24fb0d6963f7d28e17f72  abc.txt\n";
 //! let stdin = Stdin::new(Told::new(list, Ending::Whole, 8192));
 //! let mut streams = Streams::new(
-//!     Inputs::new(stdin, source),
+//!     WithStdin::new(stdin, source),
 //!     ToldSink::<99>::new(99),
 //!     ToldSink::<99>::new(99),
 //! );

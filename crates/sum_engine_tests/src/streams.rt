@@ -10,11 +10,11 @@ use sum_engine::{
     generate_one,
 };
 use sum_lines::{Mode, Style, ToldSink};
-use sum_sources::{Answer, Ending, Input, Inputs, NoRoom, Source, Stdin, Told, ToldSource};
+use sum_sources::{Answer, Ending, Input, WithStdin, NoRoom, Source, Stdin, Told, ToldSource};
 
 /// Streams whose outputs are in memory.
 pub(crate) type Known<I, S> = Streams<
-    Reader<Inputs<I, S>>,
+    Reader<WithStdin<I, S>>,
     Outputs<ToldSink<1000>, ToldSink<1000>>,
 >;
 
@@ -22,7 +22,7 @@ pub(crate) fn known<I: Input + Drop, S: Source>(input: I, source: S) -> Known<I,
     requires { (I.state input).reads ≡ unread }
 {
     let (out, err) = (ToldSink::new(1000), ToldSink::new(1000));
-    Streams::new(Inputs::new(Stdin::new(input), source), out, err)
+    Streams::new(WithStdin::new(Stdin::new(input), source), out, err)
 }
 
 /// The plain check of MD5 digests.

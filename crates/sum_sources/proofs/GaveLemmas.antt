@@ -59,6 +59,10 @@ gave-seam before later name gave =
     (gave-here (gave_of before name) (gave_of later name) gave)
 
 -- what was opened last is open
+pub opened_is_open : (tells : ToldAnswers) (a : SourceState) (name : List ℕ)
+    → IsOpen tells (and_opening a name None) (opened_file tells a name)
+opened_is_open tells a name = record { opening = gave-seam a.openings [] name None; told = refl }
+
 pub is_open_last : (tells : ToldAnswers) (a m : SourceState) (name : List ℕ) (s t : InputState)
     → s ≡ opened_file tells a name → m ≡ and_opening a name None → IsSameInput s t → IsOpen tells m t
 is_open_last tells a m name s t is opens same = record {

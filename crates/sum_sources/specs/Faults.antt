@@ -69,6 +69,10 @@ abbrev pub fault_of_number : ℤ → Fault
 fault_of_number n = if int_eq n (pos 2) then NotFound else if int_eq n (pos 13) then Denied
     else if length (reason n) == 0 then Other else Os n
 
+-- the fault of a descriptor that isn't open, EBADF
+abbrev pub bad_descriptor : Fault
+bad_descriptor = Os (pos 9)
+
 -- the fault of an error that has no number
 abbrev pub fault_of_kind : ErrorKind → Fault
 fault_of_kind kinds.NotFound = NotFound

@@ -1,4 +1,5 @@
--- The law of inputs: what was read of one fits a content, the one in memory if there is one.
+-- The law of inputs, with its proofs, which types name where they implement `Input`: what was read of an input fits a
+-- content, the one in memory if there is one.
 use Rattle.std.proofs.Common.{rules, ℕ, None, refl, drop}
 use Rattle.std.proofs.lemmas.List.{take-append-drop}
 use Rattle.sum_sources.specs.{Contents.Content, Contents.InputState, Contents.HasContent, Contents.IsOf, Contents.IsReadTo, Contents.Whole, Contents.empty_content, Faults.ByteString, Contents.Phase, Contents.Unfinished, Contents.Ended, Contents.Past, StandardInput.told_reads, StandardInput.ToldContent, StandardInput.told_file, StandardInput.unless_closed, declared.inputs.closable.Closable.Closable, declared.inputs.closable.Closable.TheVariants.Open, declared.inputs.closable.Closable.TheVariants.Closed}

@@ -1,8 +1,6 @@
 pub mod Contents
 pub mod Faults
 pub mod InputLaws
-pub mod Inputs
-pub mod InputsLaws
 pub mod LineReaders
 pub mod LogNotes
 pub mod Logs
@@ -10,4 +8,6 @@ pub mod ManifestLines
 pub mod SourceLaws
 pub mod Sources
 pub mod StandardInput
+pub mod WithStdin
+pub mod WithStdinLaws
 pub mod refinement

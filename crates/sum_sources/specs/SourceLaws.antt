@@ -1,4 +1,5 @@
--- The law of sources: what an opening gave fits the answer, if one is told.
+-- The law of sources, with its proofs, which types name where they implement `Source`: what an opening gave fits the
+-- answer, if one is told.
 use Rattle.std.proofs.Common.{◌≡◌, Option, None, Some, Result, Ok, Err, IfSome, sym, ap, ◌∙◌}
 use Rattle.std.{specs.Coded.×_prop, proofs.Props.props, proofs.lemmas.List.append_cancel_left}
 use std.HLevel.{Π_prop, Σ_prop_path}

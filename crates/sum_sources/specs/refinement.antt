@@ -1,6 +1,6 @@
 -- Relates the code's values to those of the definitions. No contract of `run` or `command` leads here.
-pub mod InputsStates
 pub mod LimitedReads
 pub mod LineStates
 pub mod ToldPairs
 pub mod ToldSteps
+pub mod WithStdinStates

@@ -1,21 +1,21 @@
 //! The law of standard input and a source that are in memory, as one source.
 ghost use Rattle.std.specs.Prelude.{◌≡◌, ◌==◌, Some, List, codes};
 ghost use Rattle.sum_sources.specs.Contents.{Content};
-ghost use Rattle.sum_sources.specs.Inputs.{answers_with, tells_both, with_stdin};
+ghost use Rattle.sum_sources.specs.WithStdin.{answers_with, tells_both, with_stdin};
 ghost use Rattle.sum_sources.specs.Sources.{Answers, Pair, TellsAll, ToldAnswers, names_of, times};
 ghost use Rattle.sum_sources.specs.StandardInput.{is_untaken};
 
-use crate::{Input, Inputs, Source};
+use crate::{Input, Source, WithStdin};
 
 /// If standard input and the answers of a source are in memory, so are those of both as one source: the first opening
 /// of `-` gives standard input, each later one an empty content, and every other name what it gives in the source.
-pub fn inputs_tell()
+pub fn with_stdin_tells()
     ensures { (stdin : Content) (tells : ToldAnswers) (told : List Pair) (answer : Answers)
         → TellsAll tells told answer
         → TellsAll (tells_both tells) (with_stdin (Some stdin) told) (answers_with stdin answer) }
 {}
 
 /// Standard input was taken if and only if `-` was opened.
-pub fn stdin_is_taken<I: Input, S: Source>(inputs: &Inputs<I, S>)
+pub fn stdin_is_taken<I: Input, S: Source>(inputs: &WithStdin<I, S>)
     ensures { is_untaken inputs.now.stdin ≡ (times (codes "-") (names_of inputs.now.log.openings) == 0) }
 {}

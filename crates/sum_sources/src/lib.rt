@@ -1,7 +1,7 @@
 //! Where bytes come from: inputs and sources of files, in memory and real ones, the digest of an input, and the lines
 //! of a manifest. Of our crates it calls `digest_kinds` and `ghost_log`.
 //!
-//! Inputs and sources keep logs of what their calls gave. Only proofs see them. The code that opens a file must close
+//! WithStdin and sources keep logs of what their calls gave. Only proofs see them. The code that opens a file must close
 //! it.
 //!
 //! ```rust
@@ -29,7 +29,7 @@ pub use inputs::told::Told;
 pub use line_reader::{LineReader, LineStop, Next};
 pub use sources::files::Files;
 pub use sources::hash_file::{HashFault, hash_file, hash_file_over};
-pub use sources::inputs::{Inputs, is_dash};
 pub use sources::source::{OpenFault, Source};
 pub use sources::source_log::{Note, Openings, SourceLog, next_file};
 pub use sources::told_source::{Answer, ToldSource};
+pub use sources::with_stdin::{WithStdin, is_dash};

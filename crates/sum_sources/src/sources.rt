@@ -2,8 +2,8 @@
 
 pub(crate) mod files;
 pub(crate) mod hash_file;
-pub(crate) mod inputs;
 pub(crate) mod opened;
 pub(crate) mod source;
 pub(crate) mod source_log;
 pub(crate) mod told_source;
+pub(crate) mod with_stdin;

@@ -1,7 +1,7 @@
 -- An input of which the first three bytes, its header, don't count.
-use Rattle.std.proofs.Common.{◌≡◌, ◌∷◌, ◌-◌, ◌≤◌, ℕ, [], List, length, drop, None, Ok, Err, Result, refl, ap, ◌∙◌, arith}
+use Rattle.std.proofs.Common.{◌≡◌, ◌∷◌, ◌-◌, ◌≤◌, ℕ, [], List, length, drop, take, None, Ok, Err, Result, refl, ap, ◌∙◌, arith}
 use Rattle.std.specs.Prelude.{IfOk}
-use Rattle.std.proofs.lemmas.List.{drop-append-le, length-take-le}
+use Rattle.std.proofs.{lemmas.List.drop-append-le, Math.Seq.take-append_seam, Math.Seq.take-length}
 use Rattle.digest_kinds.specs.{Bytes.ByteString, Kinds.digest, Kinds.KindValue}
 use Rattle.sum_sources.specs.{Contents.Content, Contents.InputState, Contents.Reads, Contents.HashesInput, Contents.IsOf, Contents.and_read, Contents.clip, Contents.reads_past, Contents.unread, LineReaders.AdvancesLines, LineReaders.IsReading, LineReaders.LineReaderValue, LineReaders.ReadsOn, LineReaders.past, LineReaders.remaining, ManifestLines.lines, declared.fault.Fault.Fault, declared.fault.Ending.TheVariants.Whole, declared.inputs.phase.Phase.Phase, declared.line_reader.Next.TheVariants.Line, declared.inputs.phase.Phase.TheVariants.Unfinished, declared.inputs.phase.Phase.TheVariants.Ended, declared.inputs.phase.Phase.TheVariants.Past}
 
@@ -21,20 +21,24 @@ clip_whole c whole = grind arith
 
 -- after the header
 pub header_read : (a m : InputState) (buf : List ℕ) (n : ℕ) → a.reads ≡ unread → m ≡ and_read a buf (Ok n)
-    → length buf ≡ 3 → n ≡ 3 → (m.reads.phase ≡ Unfinished) × (length m.reads.bytes ≡ 3)
-header_read a m buf n new is size all =
-    rw (is, new, all, size) (refl, length-take-le 3 buf (omega (arith, size)))
+    → length buf ≡ 3 → n ≡ 3 → m.reads ≡ record { bytes = buf; phase = Unfinished }
+header_read a m buf n new is size all = rw (is, new, all, size, ← size, take-length) refl
 
--- the digest of the rest
-pub digest_past_header : {kind : KindValue} {m e : InputState} (result : Result ByteString Fault)
-    → (m.reads.phase ≡ Unfinished) × (length m.reads.bytes ≡ 3) → HashesInput kind m e result
-    → (c : Content) → IsOf e.reads c → IfOk result (λ d. d ≡ digest kind (drop 3 c.bytes))
-digest_past_header (Err f) at hashes c of = tt
-digest_past_header {kind = kind} {e = e} (Ok d) at hashes c of =
-    let end = hashes.end at.0 in
+-- the header, and the digest of the rest
+pub digest_past_header : {kind : KindValue} {m e : InputState} (result : Result ByteString Fault) (header : List ℕ)
+    → length header ≡ 3 → m.reads ≡ record { bytes = header; phase = Unfinished } → HashesInput kind m e result
+    → (c : Content) → IsOf e.reads c
+    → IfOk result (λ d. (take 3 c.bytes ≡ header) × (d ≡ digest kind (drop 3 c.bytes)))
+digest_past_header (Err f) header size at hashes c of = tt
+digest_past_header {kind = kind} {e = e} (Ok d) header size at hashes c of =
+    let going = ap (λ (r : Reads). r.phase) at in
+    let (rest, begins) = rw at at (hashes.before going c of) in
+    let end = hashes.end going in
     let all = rw end at of in
-    let (whole, is) = hashes.digest at.0 (past 3 c) (rw (at.1, end) (ap (past 3) all)) in
-    is ∙ ap (λ (c : Content). digest kind c.bytes) (clip_whole _ whole)
+    let (whole, is) = hashes.digest going (past 3 c) (rw (at, size, end) (ap (past 3) all)) in (
+      rw (begins, ← size) (take-append_seam header rest),
+      is ∙ ap (λ (c : Content). digest kind c.bytes) (clip_whole _ whole),
+    )
 
 -- the first line of the rest
 pub line_past_header : {I : Type 0} {state : I → InputState} {m : I} (old new : LineReaderValue I) {bytes : List ℕ}

@@ -73,7 +73,6 @@ fn assert_first(rt: &impl Abort, left: u32, error: io::Error, first: Result<usiz
         reads(rt, &mut input, first, 0);
     }
     reads(rt, &mut input, Ok(1), b'a');
-    assert_eq!(rt; input.into_inner().left, 0);
 }
 
 // Interruptions; an error goes by its number, and one without a number by its kind (errno(3) has Linux's numbers).
@@ -245,8 +244,10 @@ fn hashing(rt: HostRuntime) -> Result<(), Fail> {
 // What follows the header "a: " has this digest. It has no contract, so that no proof computes it.
 fn hashes_rest(rt: &impl Abort, content: &[u8], digits: &[u8]) {
     let mut input = Told::new(content, Ending::Whole, PIECE);
-    let digest = hash_past_header(&mut input, Md5Hasher::new());
+    let mut header = [0; 3];
+    let digest = hash_past_header(&mut input, &mut header, Md5Hasher::new());
     assert!(rt; digest.ok() == Digest::from_hex(digits));
+    assert_eq!(rt; header, *b"a: ");
 }
 
 // RFC 1321 has the digests of "abc" and of nothing.

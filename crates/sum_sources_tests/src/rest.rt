@@ -1,5 +1,5 @@
 //! Callers that read the header of an input themselves, and hand on the rest of it.
-ghost use Rattle.std.specs.Prelude.{◌≡◌, ◌∷◌, [], drop, IfOk, IfSome};
+ghost use Rattle.std.specs.Prelude.{◌≡◌, ◌∷◌, [], drop, take, IfOk, IfSome};
 ghost use Rattle.digest_kinds.specs.Kinds.{digest};
 ghost use Rattle.sum_sources.specs.Contents.{Content, IsOf, clip, unread};
 ghost use Rattle.sum_sources.specs.LineReaders.{past, remaining};
@@ -9,20 +9,21 @@ use digest_kinds::{Digest, Hasher};
 use std::alloc::Allocator;
 use sum_sources::{Fault, Input, LineReader, Next, hash_input};
 
-/// Returns the digest of what follows the first three bytes of `input`. Fails with `Fault::Other` if one read doesn't
-/// give these.
+/// Reads the first three bytes of `input`, and returns the digest of what follows them. Fails with `Fault::Other` if one
+/// read doesn't give these.
 pub fn hash_past_header<I: Input, H: Hasher + Drop>(
     input: &mut I,
+    header: &mut [u8; 3],
     hasher: H,
 ) -> Result<Digest, Fault>
     requires new { (I.state input.old).reads ≡ unread }
     requires hasher { H.holds hasher [] }
     // For each content that all reads of the input fit, the header's included.
     ensures { (c : Content) → IsOf (I.state input.new).reads c
-        → IfOk result (λ d. d ≡ digest (H.kind_of hasher) (drop 3 c.bytes)) }
+        → IfOk result (λ d. (take 3 c.bytes ≡ header.new)
+        × (d ≡ digest (H.kind_of hasher) (drop 3 c.bytes))) }
 {
-    let mut header = [0; 3];
-    if input.read(&mut header)? < 3 {
+    if input.read(header)? < 3 {
         return Err(Fault::Other);
     }
     hash_input(input, hasher)

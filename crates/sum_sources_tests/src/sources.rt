@@ -9,8 +9,8 @@ use std::process::Abort;
 use std::rt;
 use std::test::Fail;
 use sum_sources::{
-    Answer, Ending, Fault, Files, HashFault, Input, Inputs, NoRoom, OpenFault, PIECE, Source,
-    Stdin, Told, ToldSource, hash_file,
+    Answer, Ending, Fault, Files, HashFault, Input, NoRoom, OpenFault, PIECE, Source, Stdin, Told,
+    ToldSource, WithStdin, hash_file,
 };
 
 // The file of this name has this digest.
@@ -103,7 +103,7 @@ fn computed_source(rt: HostRuntime) -> Result<(), Fail> {
     let stdin: Stdin<Told> = Stdin::closed();
     hashes(
         &rt,
-        &mut Inputs::new(stdin, Fronts::new(b"abcd")),
+        &mut WithStdin::new(stdin, Fronts::new(b"abcd")),
         b"xyz",
         MD5_OF_ABC,
     )

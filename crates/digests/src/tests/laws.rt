@@ -21,8 +21,8 @@ use std::rt;
 use sum_engine::laws::told_agree;
 use sum_engine::{Outputs, Reader, Stop, Streams};
 use sum_lines::{Sink, ToldSink};
-use sum_sources::laws::inputs_tell;
-use sum_sources::{Answer, Ending, Inputs, NoRoom, Source, Stdin, Told, ToldSource};
+use sum_sources::laws::with_stdin_tells;
+use sum_sources::{Answer, Ending, WithStdin, NoRoom, Source, Stdin, Told, ToldSource};
 use sum_words::{Arguments, SystemArguments, ToldArguments, Tool, Words};
 
 // `md5sum e` over files in memory, of which `e` is empty: if it doesn't stop, the status is 0, and standard output got
@@ -114,14 +114,14 @@ fn e_in_memory(alloc: Global) -> Result<(u8, ToldSink<64>), NoRoom>
     let mut source = ToldSource::new(alloc, 1);
     source.add(b"e", Answer::Content(b"", Ending::Whole))?;
     let stdin = Stdin::new(Told::new(b"", Ending::Whole, 1));
-    let inputs = Inputs::new(stdin, source);
+    let inputs = WithStdin::new(stdin, source);
     let mut streams: Streams<
-        Reader<Inputs<Told, ToldSource<Global>>>,
+        Reader<WithStdin<Told, ToldSource<Global>>>,
         Outputs<ToldSink<64>, ToldSink<64>>,
     > = Streams::new(inputs, ToldSink::new(64), ToldSink::new(64));
     let words: [&[u8]; 2] = [b"md5sum", b"e"];
     let mut arguments = ToldArguments::new(&words);
-    inputs_tell();
+    with_stdin_tells();
     let status = command_on_e(alloc, &mut arguments, &mut streams);
     Ok((status, streams.outputs.out.into_inner()))
 }

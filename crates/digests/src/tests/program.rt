@@ -10,14 +10,14 @@ use std::process::Abort;
 use std::test::Fail;
 use sum_engine::{Outputs, Reader, Streams};
 use sum_lines::{FromWrite, Sink, ToldSink};
-use sum_sources::{Ending, Inputs, Stdin, Told, ToldSource};
+use sum_sources::{Ending, WithStdin, Stdin, Told, ToldSource};
 use sum_words::ToldArguments;
 
 // The program itself. It has no contract, so that its callers' proofs don't meet that of `command`.
 fn status_of<A: Allocator + Copy, O: Sink, E: Sink>(
     heap: A,
     arguments: &[&[u8]],
-    streams: &mut Streams<Reader<Inputs<Told, ToldSource<Global>>>, Outputs<O, E>>,
+    streams: &mut Streams<Reader<WithStdin<Told, ToldSource<Global>>>, Outputs<O, E>>,
 ) -> u8 {
     command(heap, &mut ToldArguments::new(arguments), streams)
 }
@@ -37,7 +37,7 @@ fn call<A: Allocator + Copy, O: Sink + Drop, E: Sink + Drop>(
     let list = [("l", ("$M  a\n", Ending::Whole))];
     let contents = spell_all(alloc, &list)?;
     let mut streams = Streams::new(
-        Inputs::new(
+        WithStdin::new(
             Stdin::new(Told::new(b"abc", Ending::Whole, 2)),
             source_of(alloc, 100, &list, &contents)?,
         ),

@@ -1,6 +1,6 @@
 //! Checking one manifest.
 ghost use Rattle.std.specs.Prelude.{◌≡◌, true, [], ◌∷◌, None, Ok, IfErr, codes, if◌then◌else◌};
-ghost use Rattle.sum_sources.specs.Inputs.{is_dash};
+ghost use Rattle.sum_sources.specs.WithStdin.{is_dash};
 ghost use Rattle.sum_engine.specs.Execution.{FailuresMatch, RefusalsMatch, Performs, ReadsToEndIf};
 ghost use Rattle.sum_engine.specs.check.CheckerLaws.{RunsManifest};
 ghost use Rattle.sum_engine.specs.check.Checking.{check_behavior};

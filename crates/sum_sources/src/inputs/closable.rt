@@ -1,4 +1,4 @@
-//! An input that may be closed.
+//! What standard input reads from.
 ghost use Rattle.sum_sources.specs.InputLaws.{closable_has_content};
 ghost use Rattle.sum_sources.specs.StandardInput.{unless_closed};
 

@@ -48,13 +48,6 @@ impl<R: Read> FromRead<R> {
         &self.log
     }
 
-    /// Returns the reader in its current state.
-    pub fn into_inner(self) -> R
-        ensures { result ≡ self.reader }
-    {
-        self.reader
-    }
-
     // Calls the reader once, and logs what it returned. Nothing else calls the reader. Returns `None` if it was
     // interrupted.
     pub(crate) fn read_once(&mut self, buf: &mut [u8]) -> Option<Result<usize, Fault>>

@@ -29,7 +29,10 @@ pub fn hash_input_over<I: Input, H: Hasher + Drop>(
 {
     let mut taken = 0;
     loop {
-        let n = read_limited(input, &mut taken, buffer)?;
+        let n = match read_limited(input, &mut taken, buffer) {
+            Ok(n) => n,
+            Err(fault) => return Err(fault),
+        };
         if n == 0 {
             return Ok(hasher.finish());
         }

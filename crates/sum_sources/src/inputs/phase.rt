@@ -1,4 +1,4 @@
-//! How far an input was read.
+//! The phases of an input.
 ghost use Rattle.std.specs.Prelude.{◌≡◌};
 ghost use Rattle.sum_sources.specs.Contents.{phase_after};
 

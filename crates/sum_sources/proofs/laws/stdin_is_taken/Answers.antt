@@ -1,5 +1,5 @@
 use Rattle.std.{proofs.Math.Logic.∥∥₁_elim, proofs.Props.props}
-use Rattle.sum_sources.proofs.InputsLemmas.{taken_if}
+use Rattle.sum_sources.proofs.WithStdinLemmas.{taken_if}
 use Rattle.sum_sources.proofs.laws.stdin_is_taken.Goals as goal
 
 pub returns : goal.returns

@@ -1,5 +1,5 @@
 use Rattle.std.proofs.Common.{rules, arith, refl, ap, ◌≡◌, ◌≤◌, ◌++◌, List, ℕ, length, length-append, drop, ◌∙◌}
-use Rattle.std.{proofs.Math.Seq.drop-append_seam, proofs.lemmas.Result.err_from_is_err_and}
+use Rattle.std.{proofs.Math.Seq.drop-append_seam}
 use Rattle.sum_sources.specs.{Contents.Content, Contents.Ending, Contents.Reads, Contents.IsOf, Contents.clip, Contents.reads_past, Contents.Unfinished, refinement.LimitedReads.FindsEnding}
 use Rattle.sum_sources.proofs.LimitLemmas.{before_more}
 use Rattle.sum_sources.proofs.inputs.hash_input.hash_input_over.Goals as goal
@@ -21,27 +21,25 @@ before : {t : ℕ} (old a b : Reads) {e : Ending} (m : List ℕ) → old.phase �
 before old a b m going was ends c of = before_more old a m going (rw (was, going) refl) c (ends.before c of)
 
 -- a read failed, or the limit was reached
-pub returns-in_err-n-clause-hashed : goal.returns-in_err-n-clause-hashed
-returns-in_err-n-clause-hashed g c =
-    let fault = err_from_is_err_and c.from_residual.result c.from_residual.ensures.1 in
-    let i = c.loop-hasher.invariant in
-    let counted = g.met.H.Hasher.counts c.loop-hasher.hasher i.read.0 i.read.1 in
-    let ends = c.in_err-n.ensures.reads.adds in
-    rw fault.1 (record {
+pub returns-in-Err-clause-hashed : goal.returns-in-Err-clause-hashed
+returns-in-Err-clause-hashed g c =
+    let i = c.loop-n.invariant in
+    let counted = g.met.H.Hasher.counts c.loop-n.hasher i.read.0 i.read.1 in
+    let ends = c.in-Err.ensures.reads.adds in
+    record {
       same = search rules;
-      digest = λ new d of.
-          rw (fault.2, ended _ i.read.0 (i.read.2 new) (omega (arith, i.taken, counted)) ends d of) refl;
+      digest = λ new d of. rw (ended _ i.read.0 (i.read.2 new) (omega (arith, i.taken, counted)) ends d of) refl;
       before = λ going. before _ _ _ i.read.0 going (i.read.2 going) (ends 0 (omega arith) (i.phase going));
       end = λ going. tt;
       past = λ going. (ends 0 (omega arith) (i.phase going)).past;
-    })
+    }
 
 -- the end was read, and the hasher holds all that was read before
 pub returns-then-n-eq0-clause-hashed : goal.returns-then-n-eq0-clause-hashed
 returns-then-n-eq0-clause-hashed g c =
-    let i = c.loop-hasher.invariant in
-    let counted = g.met.H.Hasher.counts c.loop-hasher.hasher i.read.0 i.read.1 in
-    let ends = (rw c.if-n-eq0.true at c.in_ok-n.ensures.reads).adds in
+    let i = c.loop-n.invariant in
+    let counted = g.met.H.Hasher.counts c.loop-n.hasher i.read.0 i.read.1 in
+    let ends = (rw c.if-n-eq0.true at c.in-Ok.ensures.reads).adds in
     record {
       same = search rules;
       digest = λ new d of.

@@ -3,8 +3,8 @@ use Rattle.sum_sources.specs.Contents.{IsSameInput, Unfinished}
 use Rattle.sum_sources.proofs.inputs.hash_input.hash_input_over.Given as goal
 
 -- the hasher's message is what was read of the input
-abbrev pub invariant-loop-hasher : goal.invariant-loop-hasher
-invariant-loop-hasher g l = record {
+abbrev pub invariant-loop-n : goal.invariant-loop-n
+invariant-loop-n g l = record {
   read : (m : List ℕ) × g.H.Hasher.holds l.hasher m × ((g.I.Input.state l.fn.input).reads.phase ≡ Unfinished
       → (g.I.Input.state l.input).reads
       ≡ record { bytes = (g.I.Input.state l.fn.input).reads.bytes ++ m; phase = Unfinished });
@@ -16,5 +16,5 @@ invariant-loop-hasher g l = record {
 }
 
 -- the bytes that may still come
-abbrev pub decreases-loop-hasher : goal.decreases-loop-hasher
-decreases-loop-hasher g l = 2 ^ 61 - l.taken
+abbrev pub decreases-loop-n : goal.decreases-loop-n
+decreases-loop-n g l = 2 ^ 61 - l.taken

@@ -1,5 +1,5 @@
 use Rattle.std.{proofs.Common.sym, proofs.Math.Logic.∥∥₁_elim, proofs.Props.props}
-use Rattle.sum_sources.proofs.sources.inputs.Inputs.source.Goals as goal
+use Rattle.sum_sources.proofs.sources.with_stdin.WithStdin.source.Goals as goal
 
 pub returns-clause-others : goal.returns-clause-others
 returns-clause-others g c = ∥∥₁_elim c.args.self.now.is (hlevel props) (λ kept. sym kept.files)

@@ -1,8 +1,8 @@
 use Rattle.std.proofs.Common.{◌≡◌, ◌∙◌, ap, true, false}
 use Rattle.std.{proofs.Math.Logic.∥∥₁_elim, proofs.Math.Logic.∥∥₁_map, proofs.Props.props}
-use Rattle.sum_sources.specs.Inputs.{is_dash, is_stdin, opened_state, opened_has_content}
-use Rattle.sum_sources.proofs.InputsLemmas.{kept_closing, kept_back, open_there, stdin_gives}
-use Rattle.sum_sources.proofs.sources.inputs.InputsSource.close_file.Goals as goal
+use Rattle.sum_sources.specs.WithStdin.{is_dash, is_stdin, opened_state, opened_has_content}
+use Rattle.sum_sources.proofs.WithStdinLemmas.{kept_closing, kept_back, open_there, stdin_gives}
+use Rattle.sum_sources.proofs.sources.with_stdin.WithStdinSource.close_file.Goals as goal
 
 -- standard input was put back
 pub invariant_of-self : goal.invariant_of-self

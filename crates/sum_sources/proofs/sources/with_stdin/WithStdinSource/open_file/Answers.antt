@@ -1,8 +1,8 @@
 use Rattle.std.proofs.Common.{◌∙◌, refl, sym, ap}
 use Rattle.std.{proofs.Math.Logic.∥∥₁_elim, proofs.Math.Logic.∥∥₁_map, proofs.Props.props}
-use Rattle.sum_sources.specs.Inputs.{opened_state}
-use Rattle.sum_sources.proofs.InputsLemmas.{kept_opening, kept_stdin, stdin_opened, file_opened}
-use Rattle.sum_sources.proofs.sources.inputs.InputsSource.open_file.Goals as goal
+use Rattle.sum_sources.specs.WithStdin.{opened_state}
+use Rattle.sum_sources.proofs.WithStdinLemmas.{kept_opening, kept_stdin, stdin_opened, file_opened}
+use Rattle.sum_sources.proofs.sources.with_stdin.WithStdinSource.open_file.Goals as goal
 
 -- ---- `-`
 

@@ -1,7 +1,7 @@
 //! Standard input and a source of files, as one source.
 ghost use Rattle.std.specs.Prelude.{◌≡◌};
-ghost use Rattle.sum_sources.specs.Inputs.{is_dash};
-ghost use Rattle.sum_sources.specs.refinement.InputsStates.{InputsInvariant};
+ghost use Rattle.sum_sources.specs.WithStdin.{is_dash};
+ghost use Rattle.sum_sources.specs.refinement.WithStdinStates.{WithStdinInvariant};
 
 use crate::sources::opened::{Opened, Place};
 use crate::sources::source_log::{ClosedFile, Note, Openings, OthersOf, SourceLog, next_file};
@@ -12,7 +12,7 @@ use std::marker::PhantomData;
 /// Standard input and a source of files, as one source. Standard input is the file that is opened under the name `-`:
 /// the first opening gives it, and each later one gives an empty input. Other names are opened in the source.
 #[derive(Debug, Drop)]
-pub struct Inputs<I: Input, S: Source> {
+pub struct WithStdin<I: Input, S: Source> {
     stdin: Stdin<I>,
     source: S,
     // Standard input at first.
@@ -20,11 +20,11 @@ pub struct Inputs<I: Input, S: Source> {
     log: SourceLog,
     // A struct that speaks of a source has to name the type of its files.
     files: PhantomData<S::File>,
-    ghost is: { ∥ InputsInvariant I.state first stdin log.openings (S.state source).openings ∥₁ },
+    ghost is: { ∥ WithStdinInvariant I.state first stdin log.openings (S.state source).openings ∥₁ },
 }
 
-impl<I: Input, S: Source> Inputs<I, S> {
-    ghost use Rattle.sum_sources.specs.Inputs.{inputs_state, others, with_stdin, without_dash};
+impl<I: Input, S: Source> WithStdin<I, S> {
+    ghost use Rattle.sum_sources.specs.WithStdin.{with_stdin_state, others, with_stdin, without_dash};
     ghost use Rattle.sum_sources.specs.StandardInput.{given_by, is_untaken, unless_closed};
     ghost use Rattle.std.specs.Prelude.{true};
 
@@ -33,14 +33,14 @@ impl<I: Input, S: Source> Inputs<I, S> {
     pub fn new(stdin: Stdin<I>, source: S) -> Self
         requires { is_untaken stdin ≡ true }
         ensures parts { (result.stdin ≡ stdin) × (result.source ≡ source) }
-        ensures state { inputs_state I.state result.first result.log (S.state source)
+        ensures state { with_stdin_state I.state result.first result.log (S.state source)
             ≡ record (without_dash (S.state source)) {
               told = with_stdin (unless_closed I.state (given_by stdin)).told (S.state source).told;
             } }
     {
         let first = Log::of(&stdin);
         let log = Log::of(&Openings).and(&OthersOf(&source));
-        Inputs {
+        WithStdin {
             stdin,
             source,
             first,
@@ -66,29 +66,29 @@ pub fn is_dash(name: &[u8]) -> bool
     b"-".as_slice() == name
 }
 
-impl<I: Input + Drop, S: Source> Source for Inputs<I, S> {
-    ghost use Rattle.sum_sources.specs.Inputs.{inputs_state, tells_both};
-    ghost use Rattle.sum_sources.specs.InputsLaws.{inputs_give};
+impl<I: Input + Drop, S: Source> Source for WithStdin<I, S> {
+    ghost use Rattle.sum_sources.specs.WithStdin.{with_stdin_state, tells_both};
+    ghost use Rattle.sum_sources.specs.WithStdinLaws.{with_stdin_gives};
 
     type File = Opened<I, S::File>;
 
-    ghost state = { λ s. inputs_state I.state s.first s.log (S.state s.source) };
+    ghost state = { λ s. with_stdin_state I.state s.first s.log (S.state s.source) };
 
     ghost tells = { tells_both S.tells };
 
     ghost use Rattle.std.specs.Prelude.{IfOk, MatchBool, MatchResult};
-    ghost use Rattle.sum_sources.specs.Inputs.{opened_state, TakesStdin};
+    ghost use Rattle.sum_sources.specs.WithStdin.{opened_state, TakesStdin};
     ghost use Rattle.sum_sources.specs.Sources.{after_opening, opened_file};
 
     /// Opens the name: `-` gives what [`Stdin::take`] gives, and any other name is opened in the source.
     fn open_file(&mut self, name: &[u8]) -> Result<Opened<I, S::File>, OpenFault>
-        ensures state { inputs_state I.state self.new.first self.new.log (S.state self.new.source)
+        ensures state { with_stdin_state I.state self.new.first self.new.log (S.state self.new.source)
             ≡ after_opening
-            (inputs_state I.state self.old.first self.old.log (S.state self.old.source)) name.now
+            (with_stdin_state I.state self.old.first self.old.log (S.state self.old.source)) name.now
             result }
         ensures file { IfOk result (λ file. opened_state I.state S.File.state file.place
             ≡ opened_file (tells_both S.tells)
-            (inputs_state I.state self.old.first self.old.log (S.state self.old.source)) name.now) }
+            (with_stdin_state I.state self.old.first self.old.log (S.state self.old.source)) name.now) }
         // `-` gives what taking standard input gives, and any other name is opened in the source. The other is
         // unchanged.
         ensures parts { MatchBool (is_dash name.now)
@@ -116,16 +116,16 @@ impl<I: Input + Drop, S: Source> Source for Inputs<I, S> {
         }
     }
 
-    ghost use Rattle.sum_sources.specs.Inputs.{closed_place};
+    ghost use Rattle.sum_sources.specs.WithStdin.{closed_place};
     ghost use Rattle.sum_sources.specs.Sources.{IsOpen, after_closing};
 
     fn close_file(&mut self, file: Opened<I, S::File>)
         requires { IsOpen (tells_both S.tells)
-            (inputs_state I.state self.old.first self.old.log (S.state self.old.source))
+            (with_stdin_state I.state self.old.first self.old.log (S.state self.old.source))
             (opened_state I.state S.File.state file.place) }
-        ensures state { inputs_state I.state self.new.first self.new.log (S.state self.new.source)
+        ensures state { with_stdin_state I.state self.new.first self.new.log (S.state self.new.source)
             ≡ after_closing
-            (inputs_state I.state self.old.first self.old.log (S.state self.old.source))
+            (with_stdin_state I.state self.old.first self.old.log (S.state self.old.source))
             (opened_state I.state S.File.state file.place) }
         ensures parts { (self.new.stdin, S.state self.new.source)
             ≡ closed_place S.File.state file.place self.old.stdin (S.state self.old.source) }
@@ -138,5 +138,5 @@ impl<I: Input + Drop, S: Source> Source for Inputs<I, S> {
         }
     }
 
-    ghost gives_told = { λ s. inputs_give I.state S.tells s.first s.stdin s.log (S.state s.source) s.is (S.gives_told s.source) };
+    ghost gives_told = { λ s. with_stdin_gives I.state S.tells s.first s.stdin s.log (S.state s.source) s.is (S.gives_told s.source) };
 }

@@ -1,8 +1,8 @@
--- `Inputs`: what an opening and a closing keep.
+-- `WithStdin`: what an opening and a closing keep.
 use Rattle.std.proofs.Common.{◌≡◌, ℕ, zero, suc, true, false, List, [], ◌∷◌, ◌++◌, length, slice_set, append-nil, Option, None, Some, Result, Ok, IfSome, refl, ap, sym, ◌∙◌, codes, bytes_eq, arith}
 use Rattle.std.specs.Prelude.{◌==◌, not, if◌then◌else◌, slice_get}
 use Rattle.std.{specs.Option.option_and_then, specs.Option.option_map, specs.Result.result_ok, proofs.lemmas.Slice.Eq.bytes_eq-Decides, proofs.lemmas.List.Elements.filter-append}
-use Rattle.sum_sources.specs.{Contents.Content, Contents.InputState, Contents.Reads, Contents.Fault, Contents.HasContent, Contents.unread, Contents.empty_content, StandardInput.unless_closed, StandardInput.GivesUnread, StandardInput.given_by, StandardInput.is_untaken, StandardInput.put_back, StandardInput.taken, Sources.Answer, Sources.Opening, Sources.SourceState, Sources.ToldAnswers, Sources.names_of, Sources.times, Sources.gave_of, Sources.closed_at, Sources.opened_file, Sources.IsOpen, Sources.IsOfAnswer, Inputs.is_dash, Inputs.given_once, Inputs.tells_both, Inputs.inputs_state, Inputs.without_dash, Inputs.others, InputsLaws.gave-both, refinement.InputsStates.IsPlaceOf, refinement.InputsStates.GivesStdin, refinement.InputsStates.InputsInvariant, StandardInput.StdinPlace, declared.inputs.closable.Closable.Closable, declared.inputs.closable.Closable.TheVariants.Closed, Contents.Whole, Contents.Unfinished}
+use Rattle.sum_sources.specs.{Contents.Content, Contents.InputState, Contents.Reads, Contents.Fault, Contents.HasContent, Contents.unread, Contents.empty_content, StandardInput.unless_closed, StandardInput.GivesUnread, StandardInput.given_by, StandardInput.is_untaken, StandardInput.put_back, StandardInput.taken, Sources.Answer, Sources.Opening, Sources.SourceState, Sources.ToldAnswers, Sources.names_of, Sources.times, Sources.gave_of, Sources.closed_at, Sources.opened_file, Sources.IsOpen, Sources.IsOfAnswer, WithStdin.is_dash, WithStdin.given_once, WithStdin.tells_both, WithStdin.with_stdin_state, WithStdin.without_dash, WithStdin.others, WithStdinLaws.gave-both, refinement.WithStdinStates.IsPlaceOf, refinement.WithStdinStates.GivesStdin, refinement.WithStdinStates.WithStdinInvariant, StandardInput.StdinPlace, declared.inputs.closable.Closable.Closable, declared.inputs.closable.Closable.TheVariants.Closed, Contents.Whole, Contents.Unfinished}
 use Rattle.sum_sources.proofs.GaveLemmas.{either, is_same, same_name, nothing, of_content, gives-more, gives-closed, gave-times, gave-append, gave-opening, gave-closing}
 
 -- names that differ also differ the other way round
@@ -46,7 +46,7 @@ others-closing (o ∷ os) name (suc k) r =
 
 -- the invariant holds at first: nothing was read of standard input
 pub kept_new : {I : Type 0} (state : I → InputState) (stdin : StdinPlace I) (source : SourceState)
-    → is_untaken stdin ≡ true → InputsInvariant state stdin stdin (without_dash source).openings source.openings
+    → is_untaken stdin ≡ true → WithStdinInvariant state stdin stdin (without_dash source).openings source.openings
 kept_new state stdin source untaken = record {
   untaken = untaken;
   place = rw (others-dash source.openings) refl;
@@ -55,11 +55,11 @@ kept_new state stdin source untaken = record {
 }
 
 module _ {I : Type 0} {state : I → InputState} {first stdin : StdinPlace I} {os fs : List Opening}
-    (kept : InputsInvariant state first stdin os fs)
+    (kept : WithStdinInvariant state first stdin os fs)
   where
     -- the invariant is kept if another name than `-` was opened in the source
     pub kept_opening : (name : List ℕ) (gave : Option (Result Reads Fault)) → is_dash name ≡ false
-        → InputsInvariant state first stdin (os ++ record { name = name; gave = gave } ∷ [])
+        → WithStdinInvariant state first stdin (os ++ record { name = name; gave = gave } ∷ [])
         (fs ++ record { name = name; gave = gave } ∷ [])
     kept_opening name gave apart =
         let o : Opening = record { name = name; gave = gave } in
@@ -74,7 +74,7 @@ module _ {I : Type 0} {state : I → InputState} {first stdin : StdinPlace I} {o
 
     -- the invariant is kept if `-` was opened
     pub kept_stdin : (name : List ℕ) (new : StdinPlace I) → is_dash name ≡ true → new ≡ taken stdin
-        → InputsInvariant state first new (os ++ record { name = name; gave = None } ∷ []) fs
+        → WithStdinInvariant state first new (os ++ record { name = name; gave = None } ∷ []) fs
     kept_stdin name new is takes =
         let o : Opening = record { name = name; gave = None } in
         let same : codes "-" ≡ name = same_name (codes "-") name is in
@@ -99,7 +99,7 @@ module _ {I : Type 0} {state : I → InputState} {first stdin : StdinPlace I} {o
 
     -- the invariant is kept if a file of another name than `-` was closed in the source
     pub kept_closing : (name : List ℕ) (k : ℕ) (r : Reads) → is_dash name ≡ false
-        → InputsInvariant state first stdin (closed_at os name k r) (closed_at fs name k r)
+        → WithStdinInvariant state first stdin (closed_at os name k r) (closed_at fs name k r)
     kept_closing name k r apart =
         let same : gave_of (closed_at os name k r) (codes "-") ≡ gave_of os (codes "-") =
         rw (gave-closing os name k r (codes "-"), turned (codes "-") name apart) refl in
@@ -114,7 +114,7 @@ module _ {I : Type 0} {state : I → InputState} {first stdin : StdinPlace I} {o
     pub kept_back : (name : List ℕ) (k : ℕ) (r : Reads) (given : Closable I) → is_dash name ≡ true
         → slice_get (gave_of os name) k ≡ Some None
         → GivesStdin (unless_closed state (given_by first)) k (Some (Ok r))
-        → InputsInvariant state first (put_back stdin given) (closed_at os name k r) fs
+        → WithStdinInvariant state first (put_back stdin given) (closed_at os name k r) fs
     kept_back name k r given is was one =
         let same : codes "-" ≡ name = same_name (codes "-") name is in
         let now = gave-closing os (codes "-") k r (codes "-") in
@@ -138,7 +138,7 @@ module _ {I : Type 0} {state : I → InputState} {first stdin : StdinPlace I} {o
 
 -- it was taken if `-` was opened
 pub taken_if : {I : Type 0} (state : I → InputState) (first stdin : StdinPlace I) (os fs : List Opening)
-    → InputsInvariant state first stdin os fs → is_untaken stdin ≡ (times (codes "-") (names_of os) == 0)
+    → WithStdinInvariant state first stdin os fs → is_untaken stdin ≡ (times (codes "-") (names_of os) == 0)
 taken_if state first stdin os fs kept = rw (← gave-times os (codes "-")) (by _ kept.place)
   where
     by : (gs : List (Option (Result Reads Fault))) → IsPlaceOf first stdin gs → is_untaken stdin ≡ (length gs == 0)
@@ -148,7 +148,7 @@ taken_if state first stdin os fs kept = rw (← gave-times os (codes "-")) (by _
 -- ---- what was opened, and what is closed
 
 module _ {I : Type 0} {state : I → InputState} {first stdin : StdinPlace I} (tells : ToldAnswers)
-    (log source : SourceState) (kept : InputsInvariant state first stdin log.openings source.openings)
+    (log source : SourceState) (kept : WithStdinInvariant state first stdin log.openings source.openings)
   where
     -- a name other than `-` was opened as often in the source as in both
     times_there : (name : List ℕ) → is_dash name ≡ false
@@ -161,7 +161,7 @@ module _ {I : Type 0} {state : I → InputState} {first stdin : StdinPlace I} (t
     pub stdin_opened : (name : List ℕ) (given : Closable I)
         → is_dash name ≡ true → given ≡ given_by stdin → GivesUnread state stdin
         → record (unless_closed state given) { name = name; opening = times name (names_of log.openings) }
-        ≡ opened_file (tells_both tells) (inputs_state state first log source) name
+        ≡ opened_file (tells_both tells) (with_stdin_state state first log source) name
     stdin_opened name given is gives fresh =
         let same : codes "-" ≡ name = same_name (codes "-") name is in
         rw (← same, ← gave-times log.openings (codes "-")) (rw gives (by _ fresh kept.place))
@@ -183,13 +183,13 @@ module _ {I : Type 0} {state : I → InputState} {first stdin : StdinPlace I} (t
 
     -- what opening another name gives is a file of the source
     pub file_opened : (name : List ℕ) → is_dash name ≡ false
-        → opened_file tells source name ≡ opened_file (tells_both tells) (inputs_state state first log source) name
+        → opened_file tells source name ≡ opened_file (tells_both tells) (with_stdin_state state first log source) name
     file_opened name apart =
         rw (apart, times_there name apart) refl
 
     -- a file of another name that is open is open in the source
     pub open_there : (file : InputState) → is_dash file.name ≡ false
-        → IsOpen (tells_both tells) (inputs_state state first log source) file → IsOpen tells source file
+        → IsOpen (tells_both tells) (with_stdin_state state first log source) file → IsOpen tells source file
     open_there file apart here = record {
       opening = rw (← gave-both log.openings source.openings kept.files file.name apart) here.opening;
       told = rw apart at here.told;
@@ -197,7 +197,7 @@ module _ {I : Type 0} {state : I → InputState} {first stdin : StdinPlace I} (t
 
     -- what was read of standard input fits its answer, if one is told
     pub stdin_gives : (file : InputState) → HasContent file → is_dash file.name ≡ true
-        → IsOpen (tells_both tells) (inputs_state state first log source) file
+        → IsOpen (tells_both tells) (with_stdin_state state first log source) file
         → GivesStdin (unless_closed state (given_by first)) file.opening (Some (Ok file.reads))
     stdin_gives file has is here =
         let same : codes "-" ≡ file.name = same_name (codes "-") file.name is in

@@ -25,8 +25,8 @@ abbrev pub answers_with : Content → Answers → Answers
 answers_with stdin answer name k = if is_dash name then given_once (Ok stdin) (Ok empty_content) k else answer name k
 
 -- the state of both: standard input at first, what was opened so far, and the source
-abbrev pub inputs_state : {I : Type 0} → (I → InputState) → StdinPlace I → SourceState → SourceState → SourceState
-inputs_state state first log source = record source {
+abbrev pub with_stdin_state : {I : Type 0} → (I → InputState) → StdinPlace I → SourceState → SourceState → SourceState
+with_stdin_state state first log source = record source {
   told = with_stdin (unless_closed state (given_by first)).told source.told;
   openings = log.openings;
 }

@@ -1,7 +1,7 @@
 -- Relates standard input and a source of files to the log that both keep as one source.
 use Rattle.std.specs.Prelude.{ℕ, ◌≡◌, true, false, List, [], ◌∷◌, codes, Option, Some, IfSome, Result, Ok}
 use Rattle.std.specs.Option.{option_map}
-use Rattle.sum_sources.specs.{Contents.InputState, Contents.Reads, Contents.Fault, Contents.empty_content, StandardInput.given_by, StandardInput.is_untaken, StandardInput.unless_closed, Sources.Opening, Sources.gave_of, Sources.gave_at, Sources.IsOfAnswer, Inputs.given_once, Inputs.others, StandardInput.StdinPlace}
+use Rattle.sum_sources.specs.{Contents.InputState, Contents.Reads, Contents.Fault, Contents.empty_content, StandardInput.given_by, StandardInput.is_untaken, StandardInput.unless_closed, Sources.Opening, Sources.gave_of, Sources.gave_at, Sources.IsOfAnswer, WithStdin.given_once, WithStdin.others, StandardInput.StdinPlace}
 
 -- standard input is as it was at first if `-` wasn't opened, and is taken otherwise
 abbrev pub IsPlaceOf : {I : Type 0} → StdinPlace I → StdinPlace I → List (Option (Result Reads Fault)) → Type 0
@@ -14,7 +14,7 @@ GivesStdin untaken k gave =
     IfSome (given_once (option_map Ok untaken.told) (Some (Ok empty_content)) k) (λ told. IfSome gave (IsOfAnswer told))
 
 -- the invariant of standard input at first and now, the openings of both, and those of the source
-pub record InputsInvariant {I : Type 0} (state : I → InputState) (first stdin : StdinPlace I)
+pub record WithStdinInvariant {I : Type 0} (state : I → InputState) (first stdin : StdinPlace I)
     (openings source : List Opening) : Type 0 where
   pub untaken : is_untaken first ≡ true
   pub place : IsPlaceOf first stdin (gave_of openings (codes "-"))

@@ -1,6 +1,6 @@
 use Rattle.std.proofs.lemmas.Grind.{merely}
-use Rattle.sum_sources.proofs.InputsLemmas.{kept_new}
-use Rattle.sum_sources.proofs.sources.inputs.Inputs.new.Goals as goal
+use Rattle.sum_sources.proofs.WithStdinLemmas.{kept_new}
+use Rattle.sum_sources.proofs.sources.with_stdin.WithStdin.new.Goals as goal
 
 -- the invariant holds at first: nothing was read of standard input
 pub invariant_of-result : goal.invariant_of-result

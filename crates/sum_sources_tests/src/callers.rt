@@ -1,0 +1,69 @@
+//! Callers that need what no program of ours does.
+ghost use Rattle.std.specs.Option.{option_map};
+ghost use Rattle.std.specs.Prelude.{ℕ, ◌≡◌, ◌<◌, ◌+◌, ◌^◌, Ok, Err, IfOk, IfSome, slice_get};
+ghost use Rattle.sum_sources.specs.WithStdin.{others};
+ghost use Rattle.sum_sources.specs.Sources.{first_answer, names_of};
+
+use digest_kinds::LIMIT;
+use std::alloc::Allocator;
+use sum_sources::{
+    Answer, Ending, Input, LineReader, LineStop, Next, NoRoom, PIECE, Source, ToldSource, WithStdin,
+};
+
+/// Returns how many more bytes an input may give before it is too long.
+pub fn bytes_left<I: Input>(reader: &LineReader<I>) -> u64
+    ensures { result + reader.now.taken ≡ 2 ^ 61 }
+{
+    LIMIT - reader.taken()
+}
+
+/// Asks for a line twice, and returns the second answer. A final answer is returned both times.
+pub fn ask_twice<I: Input, A: Allocator>(
+    reader: &mut LineReader<I>,
+    line: &mut Vec<u8, A>,
+) -> Result<Next, LineStop>
+    ensures { IfSome reader.old.final_answer (λ answer. (result ≡ answer) × (reader.new ≡ reader.old)) }
+{
+    let _ = reader.next_line(line);
+    reader.next_line(line)
+}
+
+/// Asks for a line. Returns the answer, and how many bytes were read beyond one for each line: some if the answer is that
+/// there was no memory.
+pub fn ask<I: Input, A: Allocator>(
+    reader: &mut LineReader<I>,
+    line: &mut Vec<u8, A>,
+) -> (Result<Next, LineStop>, u64)
+    ensures { result.0 ≡ Err LineStop.Memory → 0 < result.1 }
+{
+    let next = reader.next_line(line);
+    (next, reader.taken() - reader.lines())
+}
+
+/// Creates a source of one file, and offers another answer to its name, which never counts.
+pub fn one_file<'a, A: Allocator + Copy>(
+    alloc: A,
+    name: &[u8],
+    content: &'a [u8],
+    other: Answer<'a>,
+) -> Result<ToldSource<'a, A>, NoRoom>
+    ensures { IfOk result (λ files. (k : ℕ) →
+        first_answer (⟦<ToldSource<'a, A> as Source>⟧.state files).told name.now k
+        ≡ Ok (record { bytes = content.entry.now; ending = Ending.Whole })) }
+{
+    let mut files = ToldSource::new(alloc, PIECE);
+    files.add(name, Answer::Content(content, Ending::Whole))?;
+    let _ = files.add(name, other);
+    Ok(files)
+}
+
+/// Returns the name at place `i` of those that were opened and aren't `-`, if `-` wasn't opened in the files themselves.
+pub fn asked_file<'a, 'b, I: Input, A: Allocator + Copy>(
+    inputs: &'a WithStdin<I, ToldSource<'b, A>>,
+    i: usize,
+) -> Option<&'a [u8]>
+    requires { others inputs.now.source.log.openings ≡ inputs.now.source.log.openings }
+    ensures { option_map (λ n. n.now) result ≡ slice_get (names_of (others inputs.now.log.openings)) i }
+{
+    inputs.source().asked_name(i)
+}

@@ -1,0 +1,41 @@
+//! Callers of standard input beside a source of files.
+ghost use Rattle.std.specs.Prelude.{◌≡◌, ◌++◌, ◌∷◌, [], false, MatchBool, OnOk};
+ghost use Rattle.sum_sources.specs.WithStdin.{is_dash};
+ghost use Rattle.sum_sources.specs.Sources.{names_of};
+ghost use Rattle.sum_sources.specs.StandardInput.{given_by, is_untaken, put_back, taken};
+
+use digest_kinds::{Digest, Hasher};
+use sum_sources::laws::stdin_is_taken;
+use sum_sources::{HashFault, Input, OpenFault, Source, WithStdin, hash_file};
+
+/// Opens the file of a name, and closes it unread. What isn't opened, standard input or the files, is unchanged.
+pub fn visit<I: Input + Drop, S: Source>(
+    inputs: &mut WithStdin<I, S>,
+    name: &[u8],
+) -> Result<(), OpenFault>
+    ensures { MatchBool (is_dash name.now)
+        ((inputs.new.stdin ≡ put_back (taken inputs.old.stdin) (given_by inputs.old.stdin))
+        × (S.state inputs.new.source ≡ S.state inputs.old.source))
+        ((inputs.new.stdin ≡ inputs.old.stdin)
+        × OnOk result (names_of (S.state inputs.new.source).openings
+        ≡ names_of (S.state inputs.old.source).openings ++ name.now ∷ [])) }
+{
+    let file = inputs.open_file(name)?;
+    inputs.close_file(file);
+    Ok(())
+}
+
+/// Hashes the file of a name. Only `-` takes standard input.
+pub fn hash_name<I: Input + Drop, S: Source, H: Hasher + Drop>(
+    inputs: &mut WithStdin<I, S>,
+    name: &[u8],
+    hasher: H,
+) -> Result<Digest, HashFault>
+    requires { H.holds hasher [] }
+    ensures { is_dash name.now ≡ false → is_untaken inputs.new.stdin ≡ is_untaken inputs.old.stdin }
+{
+    stdin_is_taken(inputs);
+    let result = hash_file(inputs, name, hasher);
+    stdin_is_taken(inputs);
+    result
+}
