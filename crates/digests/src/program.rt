@@ -12,14 +12,14 @@ use std::io::{Read, Write};
 use std::os::fd::AsFd;
 use std::rt;
 use sum_engine::laws::told_agree;
-use sum_engine::{Outputs, Reader, Streams};
+use sum_engine::{Inputs, Outputs, Streams};
 use sum_lines::FromWrite;
 use sum_sources::{Files, FromRead, WithStdin};
 use sum_words::{Arguments, SystemArguments};
 
 /// The streams over standard input, files and both outputs that the system gives.
 pub type SystemStreams<F, I, O, E> = Streams<
-    Reader<WithStdin<FromRead<I>, Files<F>>>,
+    Inputs<WithStdin<FromRead<I>, Files<F>>>,
     Outputs<FromWrite<O>, FromWrite<E>>,
 >;
 

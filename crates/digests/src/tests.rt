@@ -13,9 +13,9 @@ use crate::run::run;
 use std::alloc::{Allocator, Global};
 use std::process::Abort;
 use std::test::Fail;
-use sum_engine::{Outputs, Reader, Stop, Streams};
+use sum_engine::{Inputs, Outputs, Stop, Streams};
 use sum_lines::ToldSink;
-use sum_sources::{Answer, Ending, Fault, Input, WithStdin, NoRoom, Stdin, Told, ToldSource};
+use sum_sources::{Answer, Ending, Fault, Input, NoRoom, Stdin, Told, ToldSource, WithStdin};
 use sum_words::{Tool, Words};
 
 // A manifest with a line of each verdict: right, a comment, bad, missing, wrong.
@@ -107,7 +107,7 @@ fn source_of<'a>(
 
 // What a run works on.
 type Stage<'a, A, const N: usize> = Streams<
-    Reader<WithStdin<Told<'a>, ToldSource<'a, A>>>,
+    Inputs<WithStdin<Told<'a>, ToldSource<'a, A>>>,
     Outputs<ToldSink<N>, ToldSink<N>>,
 >;
 

@@ -5,14 +5,14 @@ mod bytes;
 
 use bytes::Bytes;
 use digest_kinds::{Algo, Algos};
-use sum_engine::{CheckSettings, Reader, Verdict, Verdicts};
+use sum_engine::{CheckSettings, Inputs, Verdict, Verdicts};
 use sum_sources::{Fault, Files};
 
 fn main(rt: HostRuntime) -> anyhow::Result<()> {
     let mut settings = CheckSettings::new(Algos::One(Algo::Sha256));
     settings.strict = true;
     let mut verdicts = Verdicts::new(settings, true, Bytes::new(rt.stdin()));
-    let mut inputs = Reader::new(Files::new(rt));
+    let mut inputs = Inputs::new(Files::new(rt));
     let mut line = Vec::new(rt.alloc());
     for _ in 0..u64::MAX {
         let Some(found) = verdicts.next(&mut line, &mut inputs)? else {

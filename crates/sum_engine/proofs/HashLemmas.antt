@@ -1,4 +1,4 @@
--- `Reader::hash_file`: a name is hashed, and in each world that agrees with what was read this is of its answer.
+-- `Inputs::hash_file`: a name is hashed, and in each world that agrees with what was read this is of its answer.
 use Rattle.std.proofs.Common.{rules, refl, ◌≡◌, ◌≢◌, [], ◌∷◌, ℕ, List, Result, Ok, Err}
 use Rattle.digest_kinds.specs.Kinds.{KindValue}
 use Rattle.sum_sources.specs.Sources.{HashesFile}

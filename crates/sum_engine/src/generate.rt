@@ -4,7 +4,7 @@ ghost use Rattle.sum_engine.specs.Execution.{FailuresMatch, RefusalsMatch, Perfo
 ghost use Rattle.sum_engine.specs.Generation.{generate_behavior};
 ghost use Rattle.sum_engine.specs.refinement.Names.{fault_in};
 
-use crate::reader::Reader;
+use crate::inputs::Inputs;
 use crate::settings::Settings;
 use crate::stop::Stop;
 use crate::streams::{Outputs, Streams};
@@ -21,7 +21,7 @@ pub fn generate_one<S: Source, O: Sink, E: Sink>(
     settings: &Settings,
     tool: &str,
     name: &[u8],
-    streams: &mut Streams<Reader<S>, Outputs<O, E>>,
+    streams: &mut Streams<Inputs<S>, Outputs<O, E>>,
 ) -> Result<bool, Stop>
     // The behavior of hashing that name, in every world that agrees with what was read.
     ensures behavior { Performs (λ w. generate_behavior settings.now tool.now w name.now)

@@ -3,11 +3,11 @@ ghost use Rattle.sum_engine.specs.WorldLaws.{ToldAgree};
 ghost use Rattle.sum_engine.specs.check.CheckerLaws.{StepsJoin, EventsExtend, SameFront};
 ghost use Rattle.sum_engine.specs.check.OldVerdicts.{OldVerdicts, OlderDiffers};
 
-use crate::reader::Reader;
+use crate::inputs::Inputs;
 use sum_sources::Source;
 
 /// Some world agrees with all that was read so far, and has each answer that the source tells.
-pub fn told_agree<S: Source>(inputs: &Reader<S>)
+pub fn told_agree<S: Source>(inputs: &Inputs<S>)
     ensures { ToldAgree S.tells inputs.now }
 {
     // This read lets the proof see the source.

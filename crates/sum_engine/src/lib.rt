@@ -22,8 +22,8 @@
 
 mod check;
 mod generate;
+mod inputs;
 pub mod laws;
-mod reader;
 mod settings;
 mod stop;
 mod streams;
@@ -35,7 +35,7 @@ pub use check::judge::{LineVerdict, Verdict};
 pub use check::progress::Progress;
 pub use check::verdicts::Verdicts;
 pub use generate::generate_one;
-pub use reader::Reader;
+pub use inputs::Inputs;
 pub use settings::{CheckSettings, Report, Settings};
 pub use stop::Stop;
 pub use streams::{Outputs, Streams};

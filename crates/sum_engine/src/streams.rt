@@ -2,10 +2,10 @@
 ghost use Rattle.std.specs.Prelude.{◌≡◌, true, []};
 ghost use Rattle.sum_engine.specs.refinement.Writes.{WritesAndReturns};
 
-use crate::reader::Reader;
+use crate::inputs::Inputs;
 use crate::stop::Stop;
 use std::marker::Model;
-use sum_lines::{Sink, Text, Output};
+use sum_lines::{Output, Sink, Text};
 use sum_sources::Source;
 
 /// Both outputs.
@@ -49,13 +49,13 @@ impl<O: Sink, E: Sink> Outputs<O, E> {
 /// What a call reads from and writes to.
 #[derive(Debug, Drop)]
 pub struct Streams<In, Out> {
-    /// What it opens and reads through: [`Reader`].
+    /// What it opens and reads through: [`Inputs`].
     pub inputs: In,
     /// What it writes to: [`Outputs`].
     pub outputs: Out,
 }
 
-impl<S: Source, O: Sink, E: Sink> Streams<Reader<S>, Outputs<O, E>> {
+impl<S: Source, O: Sink, E: Sink> Streams<Inputs<S>, Outputs<O, E>> {
     /// Creates the streams of these parts. The outputs are over sinks that are flushed, as each is before its first
     /// call.
     pub fn new(source: S, out: O, err: E) -> Self
@@ -68,7 +68,7 @@ impl<S: Source, O: Sink, E: Sink> Streams<Reader<S>, Outputs<O, E>> {
         } }
     {
         Streams {
-            inputs: Reader::new(source),
+            inputs: Inputs::new(source),
             outputs: Outputs {
                 out: Output::new(out),
                 err: Output::new(err),

@@ -15,7 +15,7 @@ ghost use Rattle.sum_engine.specs.declared.settings.Report.TheVariants.{All};
 use digest_kinds::Algos;
 use sum_engine::laws::{events_extend, old_verdicts, same_front, steps_join, told_agree};
 use sum_engine::{
-    CheckSettings, Checker, LineVerdict, Outputs, Reader, Settings, Stop, Streams, Verdicts,
+    CheckSettings, Checker, Inputs, LineVerdict, Outputs, Settings, Stop, Streams, Verdicts,
     generate_one,
 };
 use sum_lines::Sink;
@@ -34,7 +34,7 @@ pub fn hash_in_some_world<S: Source, O: Sink, E: Sink>(
     settings: &Settings,
     tool: &str,
     name: &[u8],
-    streams: &mut Streams<Reader<S>, Outputs<O, E>>,
+    streams: &mut Streams<Inputs<S>, Outputs<O, E>>,
 ) -> Result<bool, Stop>
     ensures { (w : World) × Agrees w streams.new.inputs × PerformsSteps
         (generate_behavior settings.now tool.now (world_at w streams.old.inputs) name.now).steps

@@ -5,7 +5,7 @@ use crate::streams::{
 use std::alloc::Global;
 use std::process::Abort;
 use std::test::Fail;
-use sum_engine::{CheckSettings, Progress, Reader, Verdict, Verdicts};
+use sum_engine::{CheckSettings, Inputs, Progress, Verdict, Verdicts};
 use sum_sources::{Ending, Fault, Told};
 
 #[test]
@@ -65,7 +65,7 @@ fn finds(
     lines: &[(Verdict, &str)],
     good: bool,
 ) -> Result<(), Fail> {
-    let mut inputs = Reader::new(files(rt.alloc(), "", Ending::Whole)?);
+    let mut inputs = Inputs::new(files(rt.alloc(), "", Ending::Whole)?);
     let input = Told::new(manifest.as_bytes(), Ending::Whole, 7);
     let mut verdicts = Verdicts::new(settings, false, input);
     let mut line = Vec::new(rt.alloc());

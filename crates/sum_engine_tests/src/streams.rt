@@ -6,15 +6,15 @@ use digest_kinds::{Algo, Algos, Kind};
 use std::alloc::{Allocator, Global};
 use std::process::Abort;
 use sum_engine::{
-    CheckSettings, Checker, Outputs, Progress, Reader, Settings, Stop, Streams, check_one,
+    CheckSettings, Checker, Inputs, Outputs, Progress, Settings, Stop, Streams, check_one,
     generate_one,
 };
 use sum_lines::{Mode, Style, ToldSink};
-use sum_sources::{Answer, Ending, Input, WithStdin, NoRoom, Source, Stdin, Told, ToldSource};
+use sum_sources::{Answer, Ending, Input, NoRoom, Source, Stdin, Told, ToldSource, WithStdin};
 
 /// Streams whose outputs are in memory.
 pub(crate) type Known<I, S> = Streams<
-    Reader<WithStdin<I, S>>,
+    Inputs<WithStdin<I, S>>,
     Outputs<ToldSink<1000>, ToldSink<1000>>,
 >;
 

@@ -19,10 +19,10 @@ use std::io::{Read, Write};
 use std::os::fd::AsFd;
 use std::rt;
 use sum_engine::laws::told_agree;
-use sum_engine::{Outputs, Reader, Stop, Streams};
+use sum_engine::{Inputs, Outputs, Stop, Streams};
 use sum_lines::{Sink, ToldSink};
 use sum_sources::laws::with_stdin_tells;
-use sum_sources::{Answer, Ending, WithStdin, NoRoom, Source, Stdin, Told, ToldSource};
+use sum_sources::{Answer, Ending, NoRoom, Source, Stdin, Told, ToldSource, WithStdin};
 use sum_words::{Arguments, SystemArguments, ToldArguments, Tool, Words};
 
 // `md5sum e` over files in memory, of which `e` is empty: if it doesn't stop, the status is 0, and standard output got
@@ -30,7 +30,7 @@ use sum_words::{Arguments, SystemArguments, ToldArguments, Tool, Words};
 fn run_on_e<A: Allocator + Copy, S: Source, O: Sink, E: Sink>(
     alloc: A,
     words: &Words<A>,
-    streams: &mut Streams<Reader<S>, Outputs<O, E>>,
+    streams: &mut Streams<Inputs<S>, Outputs<O, E>>,
 ) -> Result<u8, Stop>
     requires words { words.now ≡ codes "e" ∷ [] }
     requires start { streams.old.inputs.openings ≡ [] }
@@ -48,7 +48,7 @@ fn run_on_e<A: Allocator + Copy, S: Source, O: Sink, E: Sink>(
 fn command_on_nothing<A: Allocator + Copy, G: Arguments, S: Source, O: Sink, E: Sink>(
     alloc: A,
     arguments: &mut G,
-    streams: &mut Streams<Reader<S>, Outputs<O, E>>,
+    streams: &mut Streams<Inputs<S>, Outputs<O, E>>,
 ) -> u8
     requires new { (G.state arguments.old).given ≡ [] }
     requires told { (G.state arguments.old).told ≡ Some (codes "md5sum" ∷ []) }
@@ -67,7 +67,7 @@ fn command_on_nothing<A: Allocator + Copy, G: Arguments, S: Source, O: Sink, E: 
 fn command_on_e<A: Allocator + Copy, G: Arguments, S: Source, O: Sink, E: Sink>(
     alloc: A,
     arguments: &mut G,
-    streams: &mut Streams<Reader<S>, Outputs<O, E>>,
+    streams: &mut Streams<Inputs<S>, Outputs<O, E>>,
 ) -> u8
     requires new { (G.state arguments.old).given ≡ [] }
     requires told { (G.state arguments.old).told ≡ Some (codes "md5sum" ∷ codes "e" ∷ []) }
@@ -116,7 +116,7 @@ fn e_in_memory(alloc: Global) -> Result<(u8, ToldSink<64>), NoRoom>
     let stdin = Stdin::new(Told::new(b"", Ending::Whole, 1));
     let inputs = WithStdin::new(stdin, source);
     let mut streams: Streams<
-        Reader<WithStdin<Told, ToldSource<Global>>>,
+        Inputs<WithStdin<Told, ToldSource<Global>>>,
         Outputs<ToldSink<64>, ToldSink<64>>,
     > = Streams::new(inputs, ToldSink::new(64), ToldSink::new(64));
     let words: [&[u8]; 2] = [b"md5sum", b"e"];

@@ -8,16 +8,16 @@ use std::alloc::{Allocator, Global};
 use std::io::{self, ErrorKind, Write};
 use std::process::Abort;
 use std::test::Fail;
-use sum_engine::{Outputs, Reader, Streams};
+use sum_engine::{Inputs, Outputs, Streams};
 use sum_lines::{FromWrite, Sink, ToldSink};
-use sum_sources::{Ending, WithStdin, Stdin, Told, ToldSource};
+use sum_sources::{Ending, Stdin, Told, ToldSource, WithStdin};
 use sum_words::ToldArguments;
 
 // The program itself. It has no contract, so that its callers' proofs don't meet that of `command`.
 fn status_of<A: Allocator + Copy, O: Sink, E: Sink>(
     heap: A,
     arguments: &[&[u8]],
-    streams: &mut Streams<Reader<WithStdin<Told, ToldSource<Global>>>, Outputs<O, E>>,
+    streams: &mut Streams<Inputs<WithStdin<Told, ToldSource<Global>>>, Outputs<O, E>>,
 ) -> u8 {
     command(heap, &mut ToldArguments::new(arguments), streams)
 }

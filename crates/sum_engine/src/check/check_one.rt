@@ -9,7 +9,7 @@ ghost use Rattle.sum_engine.specs.check.Verdicts.{IsAtStart};
 
 use crate::check::checker::Checker;
 use crate::check::progress::Progress;
-use crate::reader::Reader;
+use crate::inputs::Inputs;
 use crate::settings::CheckSettings;
 use crate::stop::Stop;
 use crate::streams::{Outputs, Streams};
@@ -30,7 +30,7 @@ pub fn check_one<A: Allocator + Copy, S: Source, O: Sink, E: Sink>(
     settings: CheckSettings,
     tool: &str,
     name: &[u8],
-    streams: &mut Streams<Reader<S>, Outputs<O, E>>,
+    streams: &mut Streams<Inputs<S>, Outputs<O, E>>,
 ) -> Result<bool, Stop>
     // The behavior of checking that name, in every world that agrees with what was read.
     ensures behavior { Performs (λ w. check_behavior settings tool.now w name.now) (λ good. good)
@@ -76,7 +76,7 @@ fn shown_name(name: &[u8]) -> &[u8]
 fn run_to_end<'a, A: Allocator, I: Input, S: Source, O: Sink, E: Sink>(
     alloc: A,
     mut checker: Checker<'a, I>,
-    streams: &mut Streams<Reader<S>, Outputs<O, E>>,
+    streams: &mut Streams<Inputs<S>, Outputs<O, E>>,
 ) -> (Result<bool, Stop>, I)
     requires start { IsAtStart I.state checker.verdicts checker.verdicts.reader.input }
     requires outcome { checker.outcome ≡ None }
@@ -93,7 +93,7 @@ fn run_to_end<'a, A: Allocator, I: Input, S: Source, O: Sink, E: Sink>(
 fn check_lines<'a, A: Allocator, I: Input, S: Source, O: Sink, E: Sink>(
     checker: &mut Checker<'a, I>,
     line: &mut Vec<u8, A>,
-    streams: &mut Streams<Reader<S>, Outputs<O, E>>,
+    streams: &mut Streams<Inputs<S>, Outputs<O, E>>,
 ) -> Result<bool, Stop>
     requires start { IsAtStart I.state checker.old.verdicts checker.old.verdicts.reader.input }
     requires outcome { checker.old.outcome ≡ None }

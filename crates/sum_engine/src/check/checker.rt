@@ -10,7 +10,7 @@ use crate::check::report::put_report;
 use crate::check::rules::Labels;
 use crate::check::summary::put_summary;
 use crate::check::verdicts::Verdicts;
-use crate::reader::Reader;
+use crate::inputs::Inputs;
 use crate::settings::CheckSettings;
 use crate::stop::Stop;
 use crate::streams::{Outputs, Streams};
@@ -102,7 +102,7 @@ impl<'a, I: Input> Checker<'a, I> {
     pub fn step<A: Allocator, S: Source, O: Sink, E: Sink>(
         &mut self,
         line: &mut Vec<u8, A>,
-        streams: &mut Streams<Reader<S>, Outputs<O, E>>,
+        streams: &mut Streams<Inputs<S>, Outputs<O, E>>,
     ) -> Result<Progress, Stop>
         // An outcome is returned again; the checker and the streams are unchanged.
         ensures outcome { KeepsOutcome outcome_in_step self.old.outcome self.new.outcome

@@ -9,7 +9,7 @@ ghost use Rattle.sum_engine.specs.refinement.Judging.{listed_entry, verdict_of_h
 ghost use Rattle.sum_engine.specs.refinement.Names.{MemoryWasRefused};
 
 use crate::check::rules::CheckRules;
-use crate::reader::Reader;
+use crate::inputs::Inputs;
 use digest_kinds::{Digest, Kind};
 use std::ops::Range;
 use sum_sources::{Fault, HashFault, NoRoom, OpenFault, Source, is_dash};
@@ -71,7 +71,7 @@ pub(crate) struct ListedEntry<'a> {
 pub(crate) fn judge<S: Source>(
     rules: CheckRules,
     listed: &ListedEntry,
-    inputs: &mut Reader<S>,
+    inputs: &mut Inputs<S>,
 ) -> Result<Verdict, NoRoom>
     ensures verdict { (w : World) → Agrees w inputs.new
         → IfOk result (λ v. v ≡ judge rules (world_at w inputs.old) (listed_entry listed.now)) }

@@ -6,7 +6,7 @@ ghost use Rattle.sum_engine.specs.check.Rules.{rules_of};
 use crate::check::judge::{LineVerdict, ListedEntry, Verdict, judge};
 use crate::check::rules::CheckRules;
 use crate::check::summary::{Counts, is_good};
-use crate::reader::Reader;
+use crate::inputs::Inputs;
 use crate::settings::CheckSettings;
 use std::alloc::Allocator;
 use std::marker::Model;
@@ -123,7 +123,7 @@ impl<I: Input> Verdicts<I> {
     pub fn next<A: Allocator, S: Source>(
         &mut self,
         line: &mut Vec<u8, A>,
-        inputs: &mut Reader<S>,
+        inputs: &mut Inputs<S>,
     ) -> Result<Option<LineVerdict>, LineStop>
         // An outcome is returned again; everything but `line` is unchanged.
         ensures outcome { KeepsOutcome outcome_in_next self.old.outcome self.new.outcome
@@ -172,7 +172,7 @@ impl<I: Input> Verdicts<I> {
     fn judge_line<A: Allocator, S: Source>(
         &mut self,
         line: &mut Vec<u8, A>,
-        inputs: &mut Reader<S>,
+        inputs: &mut Inputs<S>,
     ) -> Result<LineVerdict, NoRoom>
         requires few { total self.old.counts < self.old.reader.lines }
         ensures verdict { (w : World) → Agrees w inputs.new

@@ -8,7 +8,7 @@ use sum_sources::{HashFault, OpenFault, PIECE, Source, hash_file_over};
 
 /// A source, and what its files are read into.
 #[derive(Debug, Drop)]
-pub struct Reader<S: Source> {
+pub struct Inputs<S: Source> {
     /// Where names are opened.
     pub source: S,
     // Files are read into this, one after another.
@@ -17,20 +17,20 @@ pub struct Reader<S: Source> {
     files: PhantomData<S::File>,
 }
 
-impl<S: Source> Model for Reader<S> {
+impl<S: Source> Model for Inputs<S> {
     ghost use Rattle.sum_sources.specs.Sources.{SourceState};
 
     ghost Value = { SourceState };
 
-    ghost view = { λ reader. S.state reader.source };
+    ghost view = { λ inputs. S.state inputs.source };
 }
 
-impl<S: Source> Reader<S> {
-    /// A reader of this source.
+impl<S: Source> Inputs<S> {
+    /// Creates the inputs of this source.
     pub fn new(source: S) -> Self
         ensures { result ≡ S.state source }
     {
-        Reader {
+        Inputs {
             source,
             buffer: [0; PIECE],
             files: PhantomData,
