@@ -68,7 +68,7 @@ def rows(said):
         in_code, in_proof = AT.match(how), IN_PROOF.match(how)
         if not in_code and not in_proof:
             sys.exit(f"{crate}/{name}.edit isn't refused by a goal that can be read: {how}")
-        function = function_of(items, crate, in_proof[1]) if in_proof else next(
+        function = function_of(items, crate, in_proof[1]) if in_proof else "".join(
             it.path for it in items.functions
             if (it.crate, it.file) == (crate, in_code[1]) and int(in_code[2]) in it.lines)
         labels = labels_of(items, crate, function)
