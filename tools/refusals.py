@@ -23,14 +23,14 @@ IN_PROOF = re.compile(r"refused, as it must be: (?:note: )?(?:\./)?proofs/([\w/]
                       r"(?!`goal\.)")
 
 
-def function_of(crate, path):
-    """The function whose proof is in a file, or the file, if it is a lemma's; without a trait's name after a type's."""
-    parts = path.split("/")
-    for count in range(len(parts) - 1, 0, -1):
-        if os.path.exists(os.path.join(TOP, "crates", crate, "src", *parts[:count]) + ".rt") and parts[count:-1]:
-            traits = r"(?:Input|Source|Sink|Hasher|Iterator|FromStr|(?<=Arguments)Arguments)(?=::)"
-            return re.sub(traits, "", "::".join(parts[count:-1]))
-    return parts[-1]
+def function_of(code, crate, path):
+    """The function whose proof is in a file, or the file, if it is a lemma's."""
+    *folders, file = path.split("/")
+    for it in (it for it in code.functions if (it.crate, [it.name]) == (crate, folders[-1:])):
+        of = [it.owner + re.sub(r"\W", "", it.trait or "")] if it.owner else it.file[:-len(".rt")].split("/")
+        if of in (folders[-2:-1], folders[:-1]):
+            return it.path
+    return file
 
 
 def labels_of(code, crate, path):
@@ -68,7 +68,7 @@ def rows(said):
         in_code, in_proof = AT.match(how), IN_PROOF.match(how)
         if not in_code and not in_proof:
             sys.exit(f"{crate}/{name}.edit isn't refused by a goal that can be read: {how}")
-        function = function_of(crate, in_proof[1]) if in_proof else next(
+        function = function_of(items, crate, in_proof[1]) if in_proof else "".join(
             it.path for it in items.functions
             if (it.crate, it.file) == (crate, in_code[1]) and int(in_code[2]) in it.lines)
         labels = labels_of(items, crate, function)

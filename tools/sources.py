@@ -47,8 +47,6 @@ def files(folder, ending):
 Token = collections.namedtuple("Token", "kind line start end text")
 # What stands between tokens: comments, up to the end of a line.
 GAP = re.compile(r"(?:\s|(?://|--)[^\n]*)*")
-# Modules in another place than their names say.
-ELSEWHERE = re.compile(r"#!?\s*\[\s*(?:path|cfg_attr)\b|\bmod\s+\w+\s*\{")
 
 
 @functools.lru_cache(maxsize=None)
@@ -90,10 +88,7 @@ def code_of(path):
     for it in tokens_of(path):
         if it.kind not in ("Literal", "Text"):
             code, place = code + blank(text[place:it.start]) + it.text, it.end
-    code += blank(text[place:])
-    if ELSEWHERE.search(code):
-        raise ValueError(f"{path} has a module that isn't in a file of its name")
-    return code
+    return code + blank(text[place:])
 
 
 def sources():
