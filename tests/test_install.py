@@ -2,8 +2,10 @@
 
 import fcntl
 import os
+import re
 import shutil
 import subprocess
+import sys
 import tempfile
 
 from harness import GNU_TOOLS, NAMES, TOOLS, Ran
@@ -11,10 +13,10 @@ from rattle import text_of
 from repository import DEFAULT, FAST, OF_A, Repository
 from tracing import faults, needs_strace, strace
 
-CURRENT, MAN, OWN = "lib/digests/current", "share/man/man1", "--only-own-names"
+CURRENT, MAN, ALL, OWN = "lib/digests/current", "share/man/man1", "--all-names", "--only-own-names"
 BASH, FISH, ZSH = "share/bash-completion/completions", "share/fish/vendor_completions.d", "share/zsh/site-functions"
 EARLIER, WAITS = "share/digests/installed", b"install: waiting for another one to end\n"
-CALLS = "mkdir,symlink,rename,unlink,unlinkat,rmdir,chmod,write,flock"  # those that fail in turn
+CALLS = "mkdir,symlink,rename,unlink,unlinkat,rmdir,chmod,chown,write,flock"  # those that fail in turn
 
 
 def paths_of(own_names):
@@ -25,7 +27,7 @@ def paths_of(own_names):
             *(path for name in names for path in (f"bin/{name}", f"{BASH}/{name}", f"{FISH}/{name}.fish"))}
 
 
-class Installing(Repository):
+class Install(Repository):
     """`./install PREFIX` and `./install --remove PREFIX`, below a prefix with a space in its name."""
 
     def setUp(self):
@@ -43,6 +45,10 @@ class Installing(Repository):
         self.assertEqual((ran.status, ran.err if status == 0 else ran.out), (status, b""), ran.err)
         return os.fsdecode(ran.out + ran.err)
 
+    def shell(self, command, *words):
+        """What a command says in the prefix."""
+        return self.run_command(["sh", "-c", command, *words], cwd=self.prefix).out
+
     def at(self, path):
         return os.path.join(self.prefix, path)
 
@@ -58,15 +64,19 @@ class Installing(Repository):
             self.write(self.at(path), "theirs")
 
     def expect_installed(self, level=DEFAULT, own_names=False, theirs=()):
-        """One directory has all, and a link leads to each thing in it; of others, there are these."""
+        """One directory has all, for everyone to read, and a link leads to each thing in it; of others, there are
+        these."""
         tree, home = self.tree(), f"lib/digests/{os.readlink(self.at(CURRENT))}"
-        self.assertRegex(home, r"\Alib/digests/[\d.]+-[0-9a-f]{16}\Z")
+        self.assertRegex(home, r"\Alib/digests/[\d.]+-[0-9a-f]{16}(\.2)?\Z")
         inside = {os.path.relpath(path, home): tree.pop(path) for path in list(tree) if path.startswith(f"{home}/")}
+        self.assertEqual(inside.pop("options").decode(), f"--cpu {level} {OWN if own_names else ALL}\n")
         self.assertEqual(set(inside), paths_of(own_names))
         links = {path: "../" * path.count("/") + f"{CURRENT}/{path}" for path in inside}
         self.assertEqual(tree, {**links, CURRENT: os.path.basename(home), **{path: b"theirs" for path in theirs}})
         self.assertEqual(inside.pop("bin/digests"), self.read(self.in_top(f"out/{level}/digests")))
         self.assertEqual({thing for path, thing in inside.items() if path.startswith("bin/")}, {"digests"})
+        self.assertEqual(self.shell(f"find . ! -uid {os.geteuid()} -o -type d ! -perm 755 -o -type f ! -perm 644 "
+                                    "! -path '*/bin/digests' -o -path './lib/*/bin/digests' ! -perm 755"), b"")
         self.expect_works()
 
     def expect_works(self):
@@ -78,35 +88,37 @@ class Installing(Repository):
         self.assertEqual(self.tree(), {path: b"theirs" for path in theirs})
         self.assertFalse(os.path.lexists(self.at("lib/digests")))
 
-
-class Install(Installing):
     def test_what_is_put_there(self):
-        """Everyone may read it, whatever the umask; it needs no repository, and may be moved."""
+        """It is the same whatever the umask, needs no repository, and may be moved."""
         self.installs(umask=0o077)
         self.prefix = shutil.move(self.prefix, f"{self.folder}/moved")
         self.assertNotIn("first on the PATH", self.installs(PATH=f"{self.prefix}/bin:{self.env['PATH']}"))
         self.expect_installed()
         shutil.rmtree(self.top)
-        closed = ["find", self.prefix, "!", "-perm", "-a=r", "-o", "-type", "d", "!", "-perm", "-a=rx"]
-        self.assertEqual(self.run_command(closed), Ran(0, b"", b""))
         for tool, (_, _, digest) in TOOLS.items():
             self.assertEqual(self.run_command([self.at(f"bin/{tool}"), "a"]), Ran(0, f"{digest}  a\n".encode(), b""))
 
     def test_each_over_another(self):
-        """With own names, nothing is called by GNU's. Directories that others may use stay."""
+        """Names and level stay if nothing is said of them. With own names, nothing is called by GNU's."""
         theirs = ["bin/theirs", f"{MAN}/theirs.1", "lib/theirs"]
         self.theirs(*theirs)
-        for words, level in (([], DEFAULT), ([OWN], DEFAULT), (["--cpu", FAST], FAST), (["--cpu", "native", OWN], FAST),
-                             (["--cpu", "x86-64-v2"], DEFAULT)):
-            said = self.installs(*words)
+        for words, level, own, kept in (
+                ("", DEFAULT, False, []), (f"--cpu {FAST} {OWN}", FAST, True, []),
+                ("", FAST, True, [f"--cpu {FAST} {OWN}"]), (f"--cpu native {ALL}", FAST, False, []),
+                ("--cpu x86-64-v2", DEFAULT, False, [ALL])):
+            said = self.installs(*words.split())
             self.assertIn(f"installed for the level {level} in {self.prefix}/lib/digests/2", said)
-            self.expect_installed(level, OWN in words, theirs)
+            self.assertEqual(re.findall("kept: (.*)", said), kept)
+            self.expect_installed(level, own, theirs)
             tools = self.read(self.at(f"{BASH}/digests")).splitlines()[-1]
-            self.assertEqual((b"md5sum" in tools, "/usr/bin/sha256sum" in said), (OWN not in words,) * 2)
+            self.assertEqual((b"md5sum" in tools, "/usr/bin/sha256sum" in said), (not own,) * 2)
+        self.write(self.at(f"{CURRENT}/options"), "--cpu")
+        self.assertIn("doesn't say what to keep: say --cpu LEVEL, and ", self.installs(OWN, status=1))
         self.write_command("later", "#!/bin/sh\nexit 127\n")
         shutil.rmtree(self.in_top("out"))
         self.build(RT_FAST=self.path("commands/later"))
-        self.assertIn(f"installed for the level {DEFAULT} in ", self.installs("--cpu", "native"))
+        for words, level in ((["--cpu", "native", ALL], DEFAULT), (["--cpu", FAST], FAST)):
+            self.assertIn(f"installed for the level {level} in ", self.installs(*words))
         self.expect_removed(theirs)
         self.assertTrue(os.path.isdir(self.at(FISH)))
         self.assertIn("nothing is installed", self.installs("--remove", status=1))
@@ -138,22 +150,63 @@ class Install(Installing):
     def test_what_cannot_be_seen(self):
         """Only ENOENT means that nothing is there."""
         self.theirs("bin/md5sum")
-        calls = "readlink,readlinkat,lstat,stat,newfstatat,statx"
-        for fault in ("ESTALE", "EIO"):
-            traced = [strace(), "-qq", "-o", "/dev/null", "-P", "bin/md5sum", "-e", f"inject={calls}:error={fault}"]
-            ran = self.run_command([*traced, self.in_top("install"), self.prefix], env=self.env)
-            self.assertEqual((ran.status, self.tree()), (1, {"bin/md5sum": b"theirs"}))
-            self.assertIn(f"install: {self.prefix}/bin/md5sum: ", ran.err.decode())
+        traced = [strace(), "-qq", "-o", "/dev/null", "-P", "bin/md5sum", "-e", "inject=readlink,readlinkat:error=EIO"]
+        ran = self.run_command([*traced, self.in_top("install"), self.prefix], env=self.env)
+        self.assertEqual((ran.status, self.tree()), (1, {"bin/md5sum": b"theirs"}))
+        self.assertIn(f"install: {self.prefix}/bin/md5sum: Input/output error", ran.err.decode())
 
     def test_what_somebody_changed(self):
-        """What was changed in our directory is replaced. Links that no longer lead there are removed."""
+        """What was changed in lib/digests is replaced. Links that no longer lead there are removed."""
         self.installs()
-        for change in (lambda path: self.write(path, ""), lambda path: os.chmod(path, 0o644), os.remove):
-            change(self.at(f"{CURRENT}/bin/digests"))
+        for change in ("true >$0", "rm $0", "rm $0; mkfifo $0", "touch $0.old", "chmod 644 $0", "chmod 4755 $0",
+                       "chmod 777 lib/digests", "chmod 700 lib/digests/2*", "chmod a+w lib/digests/2*/share/man/man1/*",
+                       "chown nobody lib/digests", "chown nobody lib/digests/2*", "chown nobody $0"):
+            self.shell(change, f"{CURRENT}/bin/digests")
             self.installs()
             self.expect_installed()
         shutil.rmtree(self.at("lib/digests"))
         self.expect_removed()
+
+    def test_what_cannot_be_looked_through(self):
+        """Removing names it, and removes all else. A prefix that can't be written to stays as it is."""
+        os.mkdir(self.prefix, 0o555)
+        how = self.nobody()
+        self.assertIn(f"{self.prefix}/lib: Permission denied", self.installs(status=1, **how))
+        self.assertEqual(os.listdir(self.prefix), [])
+        for change, name in (("rm -r bin; echo >bin", "bin"), ("rm -r bin; ln -s no bin", "bin"),
+                             ("rm -r share; ln -s no share", "share"), ("chmod 0 bin", "bin")):
+            shutil.rmtree(self.prefix)
+            os.mkdir(self.prefix)
+            os.chown(self.prefix, how.get("user", -1), -1)
+            self.installs(**how)
+            self.shell(change)
+            said = self.installs("--remove", status=1, **how)
+            self.assertRegex(said, rf"\A(install: {self.prefix}/{name}.*: .*\n)+\Z")
+            self.assertEqual([path for path in self.tree() if not path.startswith(name)], [])
+            self.assertFalse(os.path.lexists(self.at("lib/digests")))
+        os.chmod(self.at("bin"), 0o755)
+        self.expect_removed()
+
+    def test_what_was_moved(self):
+        """Directories of links may be moved, to another disk, too. A link that leads to another installation stays. The
+        command of docs/PACKAGING.md removes all."""
+        with tempfile.TemporaryDirectory(dir="/dev/shm") as other:
+            self.installs()
+            self.shell('mv bin share "$0" && ln -s "$0/bin" "$0/share" .', other)
+            os.makedirs(f"{other}/{CURRENT}/{FISH}")
+            self.write(f"{other}/{CURRENT}/{FISH}/digests.fish", "")
+            self.assertIn(f"others:\n{self.at(FISH)}/digests.fish\n", self.installs(status=1))
+            self.installs("--remove")
+            self.assertEqual(sum((names for _, _, names in os.walk(other)), []), ["digests.fish"] * 2)
+            shutil.rmtree(f"{other}/lib")
+            self.installs()
+            self.expect_works()
+            self.shell('rm bin share && mv "$0/bin" "$0/share" .', other)
+            self.installs()
+            self.expect_installed()
+        command = re.search(r"(?m)^    (cd PREFIX .*)", text_of("docs", "PACKAGING.md"))[1]
+        self.shell(command.replace("PREFIX", '"$PWD"'))
+        self.assertEqual((self.tree(), os.listdir(self.at("lib"))), ({}, []))
 
     def test_prefixes(self):
         """With DESTDIR everything is below that directory. A prefix may have any bytes."""
@@ -168,20 +221,6 @@ class Install(Installing):
         self.prefix = f"{self.folder}/a stage/usr"
         self.expect_installed()
 
-    def test_a_link_to_another_disk(self):
-        with tempfile.TemporaryDirectory(dir="/dev/shm") as other:
-            os.mkdir(self.prefix)
-            os.symlink(other, self.at("bin"))
-            self.installs()
-            self.expect_works()
-            self.installs("--remove")
-            self.assertEqual((self.tree(), os.listdir(other)), ({"bin": other}, []))
-
-    def test_read_only(self):
-        os.mkdir(self.prefix, 0o555)
-        self.assertIn(f"{self.prefix}/lib: Permission denied", self.installs(status=1, **self.nobody()))
-        self.assertEqual(os.listdir(self.prefix), [])
-
     def test_nobody_listens(self):
         """Standard output is full or closed: the status tells what was done."""
         with self.full() as full:
@@ -194,7 +233,7 @@ class Install(Installing):
         """Each run waits for the others, and the last one's installation is whole."""
         other, how = f"{self.top} again", {"env": self.env, "stdout": subprocess.DEVNULL, "stderr": subprocess.PIPE}
         shutil.copytree(self.top, other, symlinks=True)
-        commands = [[f"{self.top}/install", OWN], [f"{other}/install", "--cpu", FAST]] * 3
+        commands = [[f"{self.top}/install", OWN, "--cpu", DEFAULT], [f"{other}/install", ALL, "--cpu", FAST]] * 3
         started = [subprocess.Popen([*words, self.prefix], **how) for words in commands]
         for run in started:
             self.assertIn(run.communicate()[1], (b"", WAITS))
@@ -208,29 +247,32 @@ class Install(Installing):
         self.assertEqual((run.returncode, self.tree()), (0, {}))
 
     def test_wrong_words(self):
-        """One line names what is wrong."""
+        """One line names what is wrong, or missing."""
         for *words, it in (["PREFIX"], ["", "PREFIX"], ["x", "y", "y"], ["-x", "x", "-x"], ["--cpu", "o", "x", "'o'"]):
             ran = self.script("install", *words)
             self.assertEqual((ran.status, ran.out, ran.err.count(b"\n")), (2, b"", 1), words)
             self.assertRegex(ran.err.decode(), rf"\Ainstall: .*{it}")
         self.assertFalse(os.path.exists(self.path("x")))
-
-
-class Ends(Installing):
-    """Whatever ends a run, the old installation works or the new one, and the next run completes it."""
+        os.symlink(sys.executable, self.path("python3"))
+        said = "install: sync, of GNU coreutils, isn't on the PATH\n"
+        self.assertEqual(self.installs(status=1, PATH=self.folder), said)
 
     @needs_strace
     def test_each_end(self):
-        """A call fails, or the run is killed. What others have stays."""
+        """A call fails, or the run is killed, over what somebody changed: a command is the old program or the new one,
+        and the next run completes it. What others have stays."""
         traced = [strace(), "-qq", "-o", self.path("trace"), "-e"]
-        for words in (["--cpu", FAST], ["--remove"]):
-            self.prefix = f"{self.folder}/for {words[0]}"
+        for number, words in enumerate((["--cpu", FAST, ALL], [], ["--remove"])):
+            self.prefix = f"{self.folder}/{number}"
             self.installs(OWN)
             self.theirs("bin/theirs", f"{MAN}/theirs.1", "lib/digests/theirs")
+            self.shell(f"echo >>{CURRENT}/bin/digests")
             shutil.copytree(self.prefix, f"{self.prefix} before", symlinks=True)
             command, old = [self.in_top("install"), *words, self.prefix], self.tree()
+            programs = [self.read(self.at("bin/anysum"))]
             self.assertEqual(self.run_command([*traced, f"trace={CALLS}", *command], env=self.env).status, 0)
             new = self.tree()
+            programs += [self.read(self.at("bin/anysum"))] if CURRENT in new else []
             for fault in faults(self.read("trace").decode()):
                 shutil.rmtree(self.prefix)
                 shutil.copytree(f"{self.prefix} before", self.prefix, symlinks=True)
@@ -241,6 +283,7 @@ class Ends(Installing):
                 if "write:error" in fault:
                     self.assertEqual(self.tree(), old)
                 if words != ["--remove"]:
+                    self.assertIn(self.read(self.at("bin/anysum")), programs)
                     self.expect_works()
                 self.script("install", *words, self.prefix)
                 self.assertEqual(self.tree(), new)
@@ -253,8 +296,6 @@ class Ends(Installing):
             self.write_command("sync", f"#!/bin/sh\necho >>{count}; [ $(wc -l <{count}) -ne {number} ]\n")
             self.assertIn(" is on the disk" if status else "installed for", self.installs(status=status))
 
-
-class PowerCut(Installing):
     def use(self, disks):
         """The prefix and its `bin` are on disks of their own."""
         self.prefix = f"{self.folder}/with {disks}/a prefix"
@@ -266,7 +307,7 @@ class PowerCut(Installing):
         os.remove(self.path("commands/sync"))
         self.use("disk")
         there = self.prefix
-        for words in ([OWN], ["--cpu", FAST], ["--remove"]):
+        for words in ([OWN], ["--cpu", FAST, ALL], ["--remove"]):
             self.prefix = there
             self.installs(*words)
             tree = self.tree()
