@@ -5,13 +5,12 @@ import os
 import re
 import shutil
 import subprocess
-import sys
 import tempfile
 
 from harness import GNU_TOOLS, NAMES, TOOLS, Ran
 from rattle import text_of
 from repository import DEFAULT, FAST, OF_A, Repository
-from tracing import faults, needs_strace, strace
+from tracing import each_end, needs_strace, strace
 
 CURRENT, MAN, ALL, OWN = "lib/digests/current", "share/man/man1", "--all-names", "--only-own-names"
 BASH, FISH, ZSH = "share/bash-completion/completions", "share/fish/vendor_completions.d", "share/zsh/site-functions"
@@ -46,7 +45,6 @@ class Install(Repository):
         return os.fsdecode(ran.out + ran.err)
 
     def shell(self, command, *words):
-        """What a command says in the prefix."""
         return self.run_command(["sh", "-c", command, *words], cwd=self.prefix).out
 
     def at(self, path):
@@ -64,8 +62,7 @@ class Install(Repository):
             self.write(self.at(path), "theirs")
 
     def expect_installed(self, level=DEFAULT, own_names=False, theirs=()):
-        """One directory has all, for everyone to read, and a link leads to each thing in it; of others, there are
-        these."""
+        """One directory has all, for everyone to read, and a link leads to each thing; of others, there are these."""
         tree, home = self.tree(), f"lib/digests/{os.readlink(self.at(CURRENT))}"
         self.assertRegex(home, r"\Alib/digests/[\d.]+-[0-9a-f]{16}(\.2)?\Z")
         inside = {os.path.relpath(path, home): tree.pop(path) for path in list(tree) if path.startswith(f"{home}/")}
@@ -77,23 +74,24 @@ class Install(Repository):
         self.assertEqual({thing for path, thing in inside.items() if path.startswith("bin/")}, {"digests"})
         self.assertEqual(self.shell(f"find . ! -uid {os.geteuid()} -o -type d ! -perm 755 -o -type f ! -perm 644 "
                                     "! -path '*/bin/digests' -o -path './lib/*/bin/digests' ! -perm 755"), b"")
-        self.expect_works()
-
-    def expect_works(self):
         self.assertEqual(self.run_command([self.at("bin/digests"), "md5sum", "a"]), OF_A)
 
     def expect_removed(self, theirs=()):
         """Removes all; of others, there are these."""
         self.assertEqual(self.installs("--remove"), "")
         self.assertEqual(self.tree(), {path: b"theirs" for path in theirs})
-        self.assertFalse(os.path.lexists(self.at("lib/digests")))
+        self.assertNotIn("digests", os.listdir(self.at("lib")))
 
     def test_what_is_put_there(self):
-        """It is the same whatever the umask, needs no repository, and may be moved."""
-        self.installs(umask=0o077)
-        self.prefix = shutil.move(self.prefix, f"{self.folder}/moved")
-        self.assertNotIn("first on the PATH", self.installs(PATH=f"{self.prefix}/bin:{self.env['PATH']}"))
+        """It is the same whatever the umask, and if nobody listens. It needs no repository, and may be moved."""
+        with self.full() as full:
+            self.installs(umask=0o077, stdout=full)
         self.expect_installed()
+        self.expect_removed()
+        self.installs(preexec_fn=lambda: os.close(1))
+        self.prefix = shutil.move(self.prefix, f"{self.folder}/moved")
+        self.expect_installed()
+        self.assertNotIn("first on the PATH", self.installs(PATH=f"{self.prefix}/bin:{self.env['PATH']}"))
         shutil.rmtree(self.top)
         for tool, (_, _, digest) in TOOLS.items():
             self.assertEqual(self.run_command([self.at(f"bin/{tool}"), "a"]), Ran(0, f"{digest}  a\n".encode(), b""))
@@ -103,34 +101,29 @@ class Install(Repository):
         theirs = ["bin/theirs", f"{MAN}/theirs.1", "lib/theirs"]
         self.theirs(*theirs)
         for words, level, own, kept in (
-                ("", DEFAULT, False, []), (f"--cpu {FAST} {OWN}", FAST, True, []),
-                ("", FAST, True, [f"--cpu {FAST} {OWN}"]), (f"--cpu native {ALL}", FAST, False, []),
-                ("--cpu x86-64-v2", DEFAULT, False, [ALL])):
+                ("", DEFAULT, False, ""), (f"--cpu {FAST} {OWN}", FAST, True, ""),
+                ("", FAST, True, f"kept: --cpu {FAST} {OWN}\n"), (f"--cpu native {ALL}", FAST, False, ""),
+                ("--cpu x86-64-v2", DEFAULT, False, f"kept: {ALL}\n")):
             said = self.installs(*words.split())
-            self.assertIn(f"installed for the level {level} in {self.prefix}/lib/digests/2", said)
-            self.assertEqual(re.findall("kept: (.*)", said), kept)
+            self.assertRegex(said, rf"\A{kept}installed for the level {level} in {self.prefix}/lib/digests/2")
             self.expect_installed(level, own, theirs)
             tools = self.read(self.at(f"{BASH}/digests")).splitlines()[-1]
             self.assertEqual((b"md5sum" in tools, "/usr/bin/sha256sum" in said), (not own,) * 2)
         self.write(self.at(f"{CURRENT}/options"), "--cpu")
         self.assertIn("doesn't say what to keep: say --cpu LEVEL, and ", self.installs(OWN, status=1))
-        self.write_command("later", "#!/bin/sh\nexit 127\n")
-        shutil.rmtree(self.in_top("out"))
-        self.build(RT_FAST=self.path("commands/later"))
+        os.replace(shutil.copy2(self.in_top("out/default/digests"), self.folder), self.in_top("out/digests"))
+        self.put(f"out/{FAST}/digests", "#!/bin/sh\nexit 127\n")  # as on a machine that lacks a feature of this level
         for words, level in ((["--cpu", "native", ALL], DEFAULT), (["--cpu", FAST], FAST)):
             self.assertIn(f"installed for the level {level} in ", self.installs(*words))
         self.expect_removed(theirs)
-        self.assertTrue(os.path.isdir(self.at(FISH)))
         self.assertIn("nothing is installed", self.installs("--remove", status=1))
 
     def test_what_is_in_the_place(self):
         """What others have is named, and nothing changes. One sentence says how an earlier form is removed."""
         self.theirs(CURRENT, *paths_of(False) - {"bin/b2sum", "bin/sha1sum"})
-        os.mkdir(self.at("bin/sha1sum"))
-        os.symlink("../lib/digests/current/bin/digests", self.at("bin/b2sum"))
+        self.shell("mkdir bin/sha1sum; ln -s ../lib/digests/current/bin/digests bin/b2sum")
         before = self.tree()
-        named = {self.at(path) for path in [CURRENT, *paths_of(False)]}
-        self.assertEqual(set(self.installs(status=1).splitlines()[1:]), named)
+        self.assertEqual(set(self.installs(status=1).splitlines()[1:]), set(map(self.at, [CURRENT, *paths_of(False)])))
         self.assertEqual(self.tree(), before)
         for path, *words in (["bin"], ["lib"], ["lib/digests"], ["share"], [EARLIER], [EARLIER, "--remove"]):
             shutil.rmtree(self.prefix)
@@ -170,26 +163,22 @@ class Install(Repository):
     def test_what_cannot_be_looked_through(self):
         """Removing names it, and removes all else. A prefix that can't be written to stays as it is."""
         os.mkdir(self.prefix, 0o555)
-        how = self.nobody()
-        self.assertIn(f"{self.prefix}/lib: Permission denied", self.installs(status=1, **how))
+        self.assertIn(f"{self.prefix}/lib: Permission denied", self.installs(status=1, **self.nobody()))
         self.assertEqual(os.listdir(self.prefix), [])
-        for change, name in (("rm -r bin; echo >bin", "bin"), ("rm -r bin; ln -s no bin", "bin"),
-                             ("rm -r share; ln -s no share", "share"), ("chmod 0 bin", "bin")):
+        for name, change in (("bin", "rm -r bin; echo >bin"), ("bin", "rm -r bin; ln -s no bin"),
+                             ("share", "rm -r share; ln -s no share"), ("bin", "chmod 0 bin")):
             shutil.rmtree(self.prefix)
-            os.mkdir(self.prefix)
-            os.chown(self.prefix, how.get("user", -1), -1)
-            self.installs(**how)
-            self.shell(change)
-            said = self.installs("--remove", status=1, **how)
-            self.assertRegex(said, rf"\A(install: {self.prefix}/{name}.*: .*\n)+\Z")
+            self.installs()
+            self.shell(f"{change}; chown -Rh nobody .")
+            self.assertRegex(self.installs("--remove", status=1, **self.nobody()),
+                             rf"\A(install: {self.at(name)}.*: .*\n)+\Z")
             self.assertEqual([path for path in self.tree() if not path.startswith(name)], [])
             self.assertFalse(os.path.lexists(self.at("lib/digests")))
-        os.chmod(self.at("bin"), 0o755)
+        self.shell("chmod 755 bin")
         self.expect_removed()
 
     def test_what_was_moved(self):
-        """Directories of links may be moved, to another disk, too. A link that leads to another installation stays. The
-        command of docs/PACKAGING.md removes all."""
+        """Directories of links may be moved, to another disk, too. Links that lead to another installation stay."""
         with tempfile.TemporaryDirectory(dir="/dev/shm") as other:
             self.installs()
             self.shell('mv bin share "$0" && ln -s "$0/bin" "$0/share" .', other)
@@ -200,42 +189,29 @@ class Install(Repository):
             self.assertEqual(sum((names for _, _, names in os.walk(other)), []), ["digests.fish"] * 2)
             shutil.rmtree(f"{other}/lib")
             self.installs()
-            self.expect_works()
+            self.assertTrue(os.path.exists(self.at("bin/md5sum")) and os.path.exists(self.at(f"{MAN}/md5sum.1")))
             self.shell('rm bin share && mv "$0/bin" "$0/share" .', other)
             self.installs()
             self.expect_installed()
-        command = re.search(r"(?m)^    (cd PREFIX .*)", text_of("docs", "PACKAGING.md"))[1]
-        self.shell(command.replace("PREFIX", '"$PWD"'))
-        self.assertEqual((self.tree(), os.listdir(self.at("lib"))), ({}, []))
 
     def test_prefixes(self):
-        """With DESTDIR everything is below that directory. A prefix may have any bytes."""
-        for name in ("one/two/three", os.fsdecode(b"a \n\xff b")):
+        """With DESTDIR everything is below that directory. A prefix may have any bytes. The command of PACKAGING, for
+        those who have no clone, removes all."""
+        command = re.search(r"(?m)^    (cd PREFIX .*)", text_of("docs", "PACKAGING.md"))[1]
+        for name, stage in (("one/two/three", ""), (os.fsdecode(b"a \n\xff b"), ""), ("/usr", "a stage")):
             self.prefix = name
-            self.assertIn(f"/{name}/bin first on the PATH\n", self.installs())
-            self.prefix = os.path.join(self.folder, name)
+            self.assertEqual(f"/{name}/bin first on the PATH\n" in self.installs(DESTDIR=stage), not stage)
+            self.prefix = os.path.join(self.folder, stage + name)
             self.expect_installed()
-            self.expect_removed()
-        self.prefix = "/usr"
-        self.assertNotIn("PATH", self.installs(DESTDIR=f"{self.folder}/a stage"))
-        self.prefix = f"{self.folder}/a stage/usr"
-        self.expect_installed()
-
-    def test_nobody_listens(self):
-        """Standard output is full or closed: the status tells what was done."""
-        with self.full() as full:
-            for how in ({"stdout": full}, {"preexec_fn": lambda: os.close(1)}):
-                self.installs(**how)
-                self.expect_installed()
-                self.expect_removed()
+            self.shell(command.replace("PREFIX", '"$PWD"'))
+            self.assertEqual((self.tree(), os.listdir(self.at("lib"))), ({}, []))
 
     def test_two_clones_at_once(self):
         """Each run waits for the others, and the last one's installation is whole."""
         other, how = f"{self.top} again", {"env": self.env, "stdout": subprocess.DEVNULL, "stderr": subprocess.PIPE}
         shutil.copytree(self.top, other, symlinks=True)
         commands = [[f"{self.top}/install", OWN, "--cpu", DEFAULT], [f"{other}/install", ALL, "--cpu", FAST]] * 3
-        started = [subprocess.Popen([*words, self.prefix], **how) for words in commands]
-        for run in started:
+        for run in [subprocess.Popen([*words, self.prefix], **how) for words in commands]:
             self.assertIn(run.communicate()[1], (b"", WAITS))
         fast = os.path.exists(self.at("bin/md5sum"))
         self.expect_installed(FAST if fast else DEFAULT, own_names=not fast)
@@ -253,38 +229,29 @@ class Install(Repository):
             self.assertEqual((ran.status, ran.out, ran.err.count(b"\n")), (2, b"", 1), words)
             self.assertRegex(ran.err.decode(), rf"\Ainstall: .*{it}")
         self.assertFalse(os.path.exists(self.path("x")))
-        os.symlink(sys.executable, self.path("python3"))
-        said = "install: sync, of GNU coreutils, isn't on the PATH\n"
-        self.assertEqual(self.installs(status=1, PATH=self.folder), said)
+        os.symlink(shutil.which("python3"), self.path("python3"))
+        self.assertIn("install: sync, of GNU coreutils, isn't on the PATH", self.installs(status=1, PATH=self.folder))
 
     @needs_strace
     def test_each_end(self):
-        """A call fails, or the run is killed, over what somebody changed: a command is the old program or the new one,
-        and the next run completes it. What others have stays."""
-        traced = [strace(), "-qq", "-o", self.path("trace"), "-e"]
+        """A call fails, or the run is killed: a command is the old program or the new one, and the next run completes
+        what it did. What others have stays. The directory that is installed was changed before."""
         for number, words in enumerate((["--cpu", FAST, ALL], [], ["--remove"])):
             self.prefix = f"{self.folder}/{number}"
             self.installs(OWN)
             self.theirs("bin/theirs", f"{MAN}/theirs.1", "lib/digests/theirs")
             self.shell(f"echo >>{CURRENT}/bin/digests")
-            shutil.copytree(self.prefix, f"{self.prefix} before", symlinks=True)
-            command, old = [self.in_top("install"), *words, self.prefix], self.tree()
-            programs = [self.read(self.at("bin/anysum"))]
-            self.assertEqual(self.run_command([*traced, f"trace={CALLS}", *command], env=self.env).status, 0)
-            new = self.tree()
-            programs += [self.read(self.at("bin/anysum"))] if CURRENT in new else []
-            for fault in faults(self.read("trace").decode()):
-                shutil.rmtree(self.prefix)
-                shutil.copytree(f"{self.prefix} before", self.prefix, symlinks=True)
-                ran = self.run_command([*traced, fault, *command], env=self.env)
-                self.assertTrue(ran.status or self.tree() == new)
+            programs = [self.at("bin/anysum"), *(self.in_top(f"out/{level}/digests") for level in (DEFAULT, FAST))]
+            old, new, programs = self.tree(), None, list(map(self.read, programs))
+            for fault, ran in each_end(self, CALLS, [self.in_top("install"), *words], self.prefix, env=self.env):
+                new = new or self.tree()
+                self.assertTrue(self.tree() == new or ran.status and "inject" in fault, ran.err)
                 if ran.status == 1:
                     self.assertRegex(ran.err, rb"\Ainstall: /.*: (No space left on device|Input/output error)\n\Z")
                 if "write:error" in fault:
                     self.assertEqual(self.tree(), old)
-                if words != ["--remove"]:
-                    self.assertIn(self.read(self.at("bin/anysum")), programs)
-                    self.expect_works()
+                self.assertTrue(words == ["--remove"] or self.read(self.at("bin/anysum")) in programs and
+                                os.access(self.at("bin/anysum"), os.X_OK))
                 self.script("install", *words, self.prefix)
                 self.assertEqual(self.tree(), new)
 
@@ -296,24 +263,16 @@ class Install(Repository):
             self.write_command("sync", f"#!/bin/sh\necho >>{count}; [ $(wc -l <{count}) -ne {number} ]\n")
             self.assertIn(" is on the disk" if status else "installed for", self.installs(status=status))
 
-    def use(self, disks):
-        """The prefix and its `bin` are on disks of their own."""
-        self.prefix = f"{self.folder}/with {disks}/a prefix"
-        self.disk(f"{disks}.1", os.path.dirname(self.prefix))
-        self.disk(f"{disks}.2", self.at("bin"))
-
     def test_a_power_cut(self):
-        """After each run the disks are copied as they are."""
+        """After each run the disks of the prefix and of its `bin` are copied as they are."""
         os.remove(self.path("commands/sync"))
-        self.use("disk")
-        there = self.prefix
-        for words in ([OWN], ["--cpu", FAST, ALL], ["--remove"]):
-            self.prefix = there
+        self.disk("disk.1", self.path("disk"))
+        self.disk("disk.2", self.path("disk/a prefix/bin"))
+        for number, words in enumerate(([OWN], ["--cpu", FAST, ALL], ["--remove"])):
+            self.prefix = f"{self.folder}/disk/a prefix"
             self.installs(*words)
-            tree = self.tree()
-            for number in "12":
-                shutil.copy(self.path(f"disk.{number}"), self.path(f"after {words[0]}.{number}"))
-            self.use(f"after {words[0]}")
+            tree, self.prefix = self.tree(), f"{self.folder}/{number}/a prefix"
+            for part, at in (("1", os.path.dirname(self.prefix)), ("2", self.at("bin"))):
+                shutil.copy(self.path(f"disk.{part}"), self.path(f"{number}.{part}"))
+                self.disk(f"{number}.{part}", at)
             self.assertEqual(self.tree(), tree)
-            if words != ["--remove"]:
-                self.expect_works()

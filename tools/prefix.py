@@ -49,7 +49,7 @@ def ours(path):
 def is_ours(path):
     """Whether our link is at this path: it ends as ours do, and leads here or, if a directory was moved, nowhere."""
     return (link_at(path) or "").endswith(f"/{CURRENT}/{path}") and (
-        not os.path.exists(path) or os.path.realpath(path) == os.path.realpath(f"{CURRENT}/{path}"))
+        os.path.realpath(path) == os.path.realpath(f"{CURRENT}/{path}") or link_at(os.path.realpath(path)) is None)
 
 
 def links(folder):
