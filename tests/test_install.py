@@ -235,8 +235,8 @@ class Install(Repository):
 
     @needs_strace
     def test_each_end(self):
-        """A call fails, or the run is killed: a command is the old or the new program, and the next run completes it."""
-        for calls, *words in ((CALLS, OWN), ("symlink,rename,unlink,unlinkat", "--cpu", FAST, ALL), (CALLS, "--remove")):
+        """A call fails, or the run is killed: a command is the old or the new program, and the next run ends it."""
+        for calls, *words in ((CALLS, OWN), ("rename,symlink,unlink", ALL, "--cpu", FAST), (CALLS, "--remove")):
             self.prefix = f"{self.folder}/for {words[0]}"
             self.installs(OWN)
             self.theirs("bin/theirs", f"{MAN}/theirs.1", "lib/digests/theirs")
