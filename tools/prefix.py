@@ -101,7 +101,7 @@ def write(things):
 
 
 def turn(name, things):
-    """Has `current` lead to a directory with just these things. One that differs stays as it is till then."""
+    """Has `current` lead to a directory with just these things. The old one isn't touched, as commands run from it."""
     try:
         write(things)
     except OSError:
@@ -134,7 +134,7 @@ def install(name, things):
     for path in (CURRENT, *paths):
         os.makedirs(os.path.dirname(path), exist_ok=True)
     os.chown(HOME, os.geteuid(), -1)
-    os.chmod(HOME, 0o755)  # before anything is in it, as nobody else may write there
+    os.chmod(HOME, 0o755)  # from now on nobody else writes there
     drop(current())  # what a run has left that was ended
     turn(name, things)
     for path in paths:
