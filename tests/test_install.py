@@ -30,11 +30,11 @@ class Install(Repository):
     """`./install PREFIX` and `./install --remove PREFIX`, below a prefix with a space in its name."""
 
     def setUp(self):
-        """Pages are made by fewer runs of the program, and nothing is synced, so that a test takes less time."""
+        """Pages are made by fewer runs of the program, and nothing is synced but looked at, so that a test is short."""
         super().setUp()
         text = text_of("tools", "options.py")
         self.put("tools/options.py", text.replace("    ran = ", "    return '--=' not in words\n    ran = "))
-        self.write_command("sync", "#!/bin/sh\n")
+        self.write_command("sync", '#!/bin/sh\nshift; for at; do [ -r "$at/." ] || exit; done\n')
         self.build()
         self.prefix = os.path.join(self.folder, "a prefix")
 
