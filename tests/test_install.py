@@ -2,6 +2,7 @@
 
 import fcntl
 import os
+import re
 import shutil
 import subprocess
 import tempfile
@@ -9,12 +10,12 @@ import tempfile
 from harness import GNU_TOOLS, NAMES, TOOLS, Ran
 from rattle import text_of
 from repository import DEFAULT, FAST, OF_A, Repository
-from tracing import faults, needs_strace, strace
+from tracing import each_end, needs_strace, strace
 
-CURRENT, MAN, OWN = "lib/digests/current", "share/man/man1", "--only-own-names"
+CURRENT, MAN, ALL, OWN = "lib/digests/current", "share/man/man1", "--all-names", "--only-own-names"
 BASH, FISH, ZSH = "share/bash-completion/completions", "share/fish/vendor_completions.d", "share/zsh/site-functions"
 EARLIER, WAITS = "share/digests/installed", b"install: waiting for another one to end\n"
-CALLS = "mkdir,symlink,rename,unlink,unlinkat,rmdir,chmod,write,flock"  # those that fail in turn
+CALLS = "mkdir,symlink,rename,unlink,unlinkat,rmdir,chmod,chown,write,flock"  # those that fail in turn
 
 
 def paths_of(own_names):
@@ -25,15 +26,15 @@ def paths_of(own_names):
             *(path for name in names for path in (f"bin/{name}", f"{BASH}/{name}", f"{FISH}/{name}.fish"))}
 
 
-class Installing(Repository):
+class Install(Repository):
     """`./install PREFIX` and `./install --remove PREFIX`, below a prefix with a space in its name."""
 
     def setUp(self):
-        """Pages are made by fewer runs of the program, and nothing is synced, so that a test takes less time."""
+        """Pages are made by fewer runs of the program, and nothing is synced but looked at, so that a test is short."""
         super().setUp()
         text = text_of("tools", "options.py")
         self.put("tools/options.py", text.replace("    ran = ", "    return '--=' not in words\n    ran = "))
-        self.write_command("sync", "#!/bin/sh\n")
+        self.write_command("sync", '#!/bin/sh\nshift; for at; do [ -r "$at/." ] || exit; done\n')
         self.build()
         self.prefix = os.path.join(self.folder, "a prefix")
 
@@ -42,6 +43,9 @@ class Installing(Repository):
         ran = self.script("install", *words, self.prefix, **how)
         self.assertEqual((ran.status, ran.err if status == 0 else ran.out), (status, b""), ran.err)
         return os.fsdecode(ran.out + ran.err)
+
+    def shell(self, command, *words):
+        return self.run_command(["sh", "-c", command, *words], cwd=self.prefix).out
 
     def at(self, path):
         return os.path.join(self.prefix, path)
@@ -58,67 +62,72 @@ class Installing(Repository):
             self.write(self.at(path), "theirs")
 
     def expect_installed(self, level=DEFAULT, own_names=False, theirs=()):
-        """One directory has all, and a link leads to each thing in it; of others, there are these."""
+        """One directory has all, for everyone to read, and a link leads to each thing; of others, there are these."""
         tree, home = self.tree(), f"lib/digests/{os.readlink(self.at(CURRENT))}"
-        self.assertRegex(home, r"\Alib/digests/[\d.]+-[0-9a-f]{16}\Z")
+        self.assertRegex(home, r"\Alib/digests/[\d.]+-[0-9a-f]{16}(\.2)?\Z")
         inside = {os.path.relpath(path, home): tree.pop(path) for path in list(tree) if path.startswith(f"{home}/")}
+        self.assertEqual(inside.pop("options").decode(), f"--cpu {level} {OWN if own_names else ALL}\n")
         self.assertEqual(set(inside), paths_of(own_names))
         links = {path: "../" * path.count("/") + f"{CURRENT}/{path}" for path in inside}
         self.assertEqual(tree, {**links, CURRENT: os.path.basename(home), **{path: b"theirs" for path in theirs}})
         self.assertEqual(inside.pop("bin/digests"), self.read(self.in_top(f"out/{level}/digests")))
         self.assertEqual({thing for path, thing in inside.items() if path.startswith("bin/")}, {"digests"})
-        self.expect_works()
-
-    def expect_works(self):
+        self.assertEqual(self.shell(f"find . ! -uid {os.geteuid()} -o -type d ! -perm 755 -o -type f ! -perm 644 "
+                                    "! -path '*/bin/digests' -o -path './lib/*/bin/digests' ! -perm 755"), b"")
         self.assertEqual(self.run_command([self.at("bin/digests"), "md5sum", "a"]), OF_A)
 
     def expect_removed(self, theirs=()):
         """Removes all; of others, there are these."""
         self.assertEqual(self.installs("--remove"), "")
         self.assertEqual(self.tree(), {path: b"theirs" for path in theirs})
-        self.assertFalse(os.path.lexists(self.at("lib/digests")))
+        self.assertNotIn("digests", os.listdir(self.at("lib")))
 
-
-class Install(Installing):
     def test_what_is_put_there(self):
-        """Everyone may read it, whatever the umask; it needs no repository, and may be moved."""
+        """It is the same whatever the umask, needs no repository, and may be moved."""
         self.installs(umask=0o077)
         self.prefix = shutil.move(self.prefix, f"{self.folder}/moved")
         self.assertNotIn("first on the PATH", self.installs(PATH=f"{self.prefix}/bin:{self.env['PATH']}"))
         self.expect_installed()
         shutil.rmtree(self.top)
-        closed = ["find", self.prefix, "!", "-perm", "-a=r", "-o", "-type", "d", "!", "-perm", "-a=rx"]
-        self.assertEqual(self.run_command(closed), Ran(0, b"", b""))
         for tool, (_, _, digest) in TOOLS.items():
             self.assertEqual(self.run_command([self.at(f"bin/{tool}"), "a"]), Ran(0, f"{digest}  a\n".encode(), b""))
 
+    def test_nobody_listens(self):
+        """Standard output is full or closed: the status tells what was done."""
+        with self.full() as full:
+            for how in ({"stdout": full}, {"preexec_fn": lambda: os.close(1)}):
+                self.installs(**how)
+                self.expect_installed()
+                self.expect_removed()
+
     def test_each_over_another(self):
-        """With own names, nothing is called by GNU's. Directories that others may use stay."""
+        """Names and level stay if nothing is said of them. With own names, nothing is called by GNU's."""
         theirs = ["bin/theirs", f"{MAN}/theirs.1", "lib/theirs"]
         self.theirs(*theirs)
-        for words, level in (([], DEFAULT), ([OWN], DEFAULT), (["--cpu", FAST], FAST), (["--cpu", "native", OWN], FAST),
-                             (["--cpu", "x86-64-v2"], DEFAULT)):
-            said = self.installs(*words)
-            self.assertIn(f"installed for the level {level} in {self.prefix}/lib/digests/2", said)
-            self.expect_installed(level, OWN in words, theirs)
+        for words, level, own, kept in (
+                ("", DEFAULT, False, ""), (f"--cpu {FAST} {OWN}", FAST, True, ""),
+                ("", FAST, True, f"kept: --cpu {FAST} {OWN}\n"), (f"--cpu native {ALL}", FAST, False, ""),
+                ("--cpu x86-64-v2", DEFAULT, False, f"kept: {ALL}\n")):
+            said = self.installs(*words.split())
+            self.assertRegex(said, rf"\A{kept}installed for the level {level} in {self.prefix}/lib/digests/2")
+            self.expect_installed(level, own, theirs)
             tools = self.read(self.at(f"{BASH}/digests")).splitlines()[-1]
-            self.assertEqual((b"md5sum" in tools, "/usr/bin/sha256sum" in said), (OWN not in words,) * 2)
-        self.write_command("later", "#!/bin/sh\nexit 127\n")
-        shutil.rmtree(self.in_top("out"))
-        self.build(RT_FAST=self.path("commands/later"))
-        self.assertIn(f"installed for the level {DEFAULT} in ", self.installs("--cpu", "native"))
+            self.assertEqual((b"md5sum" in tools, "/usr/bin/sha256sum" in said), (not own,) * 2)
+        self.write(self.at(f"{CURRENT}/options"), "--cpu")
+        self.assertIn("doesn't say what to keep: say --cpu LEVEL, and ", self.installs(OWN, status=1))
+        os.replace(shutil.copy2(self.in_top("out/default/digests"), self.folder), self.in_top("out/digests"))
+        self.put(f"out/{FAST}/digests", "#!/bin/sh\nexit 127\n")  # as on a machine that lacks a feature of this level
+        for words, level in ((["--cpu", "native", ALL], DEFAULT), (["--cpu", FAST], FAST)):
+            self.assertIn(f"installed for the level {level} in ", self.installs(*words))
         self.expect_removed(theirs)
-        self.assertTrue(os.path.isdir(self.at(FISH)))
         self.assertIn("nothing is installed", self.installs("--remove", status=1))
 
     def test_what_is_in_the_place(self):
         """What others have is named, and nothing changes. One sentence says how an earlier form is removed."""
         self.theirs(CURRENT, *paths_of(False) - {"bin/b2sum", "bin/sha1sum"})
-        os.mkdir(self.at("bin/sha1sum"))
-        os.symlink("../lib/digests/current/bin/digests", self.at("bin/b2sum"))
+        self.shell("mkdir bin/sha1sum; ln -s ../lib/digests/current/bin/digests bin/b2sum")
         before = self.tree()
-        named = {self.at(path) for path in [CURRENT, *paths_of(False)]}
-        self.assertEqual(set(self.installs(status=1).splitlines()[1:]), named)
+        self.assertEqual(set(self.installs(status=1).splitlines()[1:]), set(map(self.at, [CURRENT, *paths_of(False)])))
         self.assertEqual(self.tree(), before)
         for path, *words in (["bin"], ["lib"], ["lib/digests"], ["share"], [EARLIER], [EARLIER, "--remove"]):
             shutil.rmtree(self.prefix)
@@ -138,65 +147,72 @@ class Install(Installing):
     def test_what_cannot_be_seen(self):
         """Only ENOENT means that nothing is there."""
         self.theirs("bin/md5sum")
-        calls = "readlink,readlinkat,lstat,stat,newfstatat,statx"
-        for fault in ("ESTALE", "EIO"):
-            traced = [strace(), "-qq", "-o", "/dev/null", "-P", "bin/md5sum", "-e", f"inject={calls}:error={fault}"]
-            ran = self.run_command([*traced, self.in_top("install"), self.prefix], env=self.env)
-            self.assertEqual((ran.status, self.tree()), (1, {"bin/md5sum": b"theirs"}))
-            self.assertIn(f"install: {self.prefix}/bin/md5sum: ", ran.err.decode())
+        traced = [strace(), "-qq", "-o", "/dev/null", "-P", "bin/md5sum", "-e", "inject=readlink,readlinkat:error=EIO"]
+        ran = self.run_command([*traced, self.in_top("install"), self.prefix], env=self.env)
+        self.assertEqual((ran.status, self.tree()), (1, {"bin/md5sum": b"theirs"}))
+        self.assertIn(f"install: {self.prefix}/bin/md5sum: Input/output error", ran.err.decode())
 
     def test_what_somebody_changed(self):
-        """What was changed in our directory is replaced. Links that no longer lead there are removed."""
+        """What was changed in lib/digests is replaced: contents, modes and owners."""
         self.installs()
-        for change in (lambda path: self.write(path, ""), lambda path: os.chmod(path, 0o644), os.remove):
-            change(self.at(f"{CURRENT}/bin/digests"))
+        for change in ("true >bin/digests; chmod 777 ..", "touch more; chown nobody ..", "chmod 4755 bin/digests",
+                       "cd share/man/man1; rm md5sum.1; mkfifo md5sum.1", "chmod 700 .", "chown nobody bin/digests"):
+            self.shell(f"cd -P {CURRENT}; {change}")
             self.installs()
             self.expect_installed()
-        shutil.rmtree(self.at("lib/digests"))
-        self.expect_removed()
 
-    def test_prefixes(self):
-        """With DESTDIR everything is below that directory. A prefix may have any bytes."""
-        for name in ("one/two/three", os.fsdecode(b"a \n\xff b")):
-            self.prefix = name
-            self.assertIn(f"/{name}/bin first on the PATH\n", self.installs())
-            self.prefix = os.path.join(self.folder, name)
-            self.expect_installed()
-            self.expect_removed()
-        self.prefix = "/usr"
-        self.assertNotIn("PATH", self.installs(DESTDIR=f"{self.folder}/a stage"))
-        self.prefix = f"{self.folder}/a stage/usr"
-        self.expect_installed()
-
-    def test_a_link_to_another_disk(self):
-        with tempfile.TemporaryDirectory(dir="/dev/shm") as other:
-            os.mkdir(self.prefix)
-            os.symlink(other, self.at("bin"))
-            self.installs()
-            self.expect_works()
-            self.installs("--remove")
-            self.assertEqual((self.tree(), os.listdir(other)), ({"bin": other}, []))
-
-    def test_read_only(self):
+    def test_what_cannot_be_looked_through(self):
+        """Removing names it, and removes all else. A prefix that can't be written to stays as it is."""
         os.mkdir(self.prefix, 0o555)
         self.assertIn(f"{self.prefix}/lib: Permission denied", self.installs(status=1, **self.nobody()))
         self.assertEqual(os.listdir(self.prefix), [])
+        for name, change in (("bin", "rm -r bin; echo >bin"), ("bin", "rm -r bin; ln -s no bin"),
+                             ("share", "rm -r share; ln -s no share"), ("bin", "chmod 0 bin")):
+            shutil.rmtree(self.prefix)
+            self.installs()
+            self.shell(f"{change}; chown -Rh nobody .")
+            self.assertRegex(self.installs("--remove", status=1, **self.nobody()),
+                             rf"\A(install: {self.at(name)}.*: .*\n)+\Z")
+            self.assertEqual([path for path in self.tree() if not path.startswith(name)], [])
+            self.assertFalse(os.path.lexists(self.at("lib/digests")))
+        self.shell("chmod 755 bin")
+        self.expect_removed()
 
-    def test_nobody_listens(self):
-        """Standard output is full or closed: the status tells what was done."""
-        with self.full() as full:
-            for how in ({"stdout": full}, {"preexec_fn": lambda: os.close(1)}):
-                self.installs(**how)
-                self.expect_installed()
-                self.expect_removed()
+    def test_what_was_moved(self):
+        """Directories of links may be moved, to another disk, too. Links that lead to another installation stay."""
+        with tempfile.TemporaryDirectory(dir="/dev/shm") as other:
+            self.installs()
+            self.shell('mv bin share "$0" && ln -s "$0/bin" "$0/share" .', other)
+            os.makedirs(f"{other}/{CURRENT}/{FISH}")
+            self.write(f"{other}/{CURRENT}/{FISH}/digests.fish", "")
+            self.assertIn(f"others:\n{self.at(FISH)}/digests.fish\n", self.installs(status=1))
+            self.installs("--remove")
+            self.assertEqual(sum((names for _, _, names in os.walk(other)), []), ["digests.fish"] * 2)
+            shutil.rmtree(f"{other}/lib")
+            self.installs()
+            self.assertTrue(os.path.exists(self.at("bin/md5sum")) and os.path.exists(self.at(f"{MAN}/md5sum.1")))
+            self.shell('rm bin share && mv "$0/bin" "$0/share" .', other)
+            self.installs()
+            self.expect_installed()
+
+    def test_prefixes(self):
+        """With DESTDIR everything is below that directory. A prefix may have any bytes. The command of PACKAGING, for
+        those who have no clone, removes all."""
+        command = re.search(r"(?m)^    (cd PREFIX .*)", text_of("docs", "PACKAGING.md"))[1]
+        for name, stage in (("one/two/three", ""), (os.fsdecode(b"a \n\xff b"), ""), ("/usr", "a stage")):
+            self.prefix = name
+            self.assertEqual(f"/{name}/bin first on the PATH\n" in self.installs(DESTDIR=stage), not stage)
+            self.prefix = os.path.join(self.folder, stage + name)
+            self.expect_installed()
+            self.shell(command.replace("PREFIX", '"$PWD"'))
+            self.assertEqual((self.tree(), os.listdir(self.at("lib"))), ({}, []))
 
     def test_two_clones_at_once(self):
         """Each run waits for the others, and the last one's installation is whole."""
         other, how = f"{self.top} again", {"env": self.env, "stdout": subprocess.DEVNULL, "stderr": subprocess.PIPE}
         shutil.copytree(self.top, other, symlinks=True)
-        commands = [[f"{self.top}/install", OWN], [f"{other}/install", "--cpu", FAST]] * 3
-        started = [subprocess.Popen([*words, self.prefix], **how) for words in commands]
-        for run in started:
+        commands = [[f"{self.top}/install", OWN, "--cpu", DEFAULT], [f"{other}/install", ALL, "--cpu", FAST]] * 3
+        for run in [subprocess.Popen([*words, self.prefix], **how) for words in commands]:
             self.assertIn(run.communicate()[1], (b"", WAITS))
         fast = os.path.exists(self.at("bin/md5sum"))
         self.expect_installed(FAST if fast else DEFAULT, own_names=not fast)
@@ -208,42 +224,36 @@ class Install(Installing):
         self.assertEqual((run.returncode, self.tree()), (0, {}))
 
     def test_wrong_words(self):
-        """One line names what is wrong."""
+        """One line names what is wrong, or missing."""
         for *words, it in (["PREFIX"], ["", "PREFIX"], ["x", "y", "y"], ["-x", "x", "-x"], ["--cpu", "o", "x", "'o'"]):
             ran = self.script("install", *words)
             self.assertEqual((ran.status, ran.out, ran.err.count(b"\n")), (2, b"", 1), words)
             self.assertRegex(ran.err.decode(), rf"\Ainstall: .*{it}")
         self.assertFalse(os.path.exists(self.path("x")))
-
-
-class Ends(Installing):
-    """Whatever ends a run, the old installation works or the new one, and the next run completes it."""
+        os.symlink(shutil.which("python3"), self.path("python3"))
+        self.assertIn("install: sync, of GNU coreutils, isn't on the PATH", self.installs(status=1, PATH=self.folder))
 
     @needs_strace
     def test_each_end(self):
-        """A call fails, or the run is killed. What others have stays."""
-        traced = [strace(), "-qq", "-o", self.path("trace"), "-e"]
-        for words in (["--cpu", FAST], ["--remove"]):
+        """A call fails, or the run is killed: a command is the old or the new program, and the next run ends it."""
+        for calls, *words in ((CALLS, OWN), ("rename,symlink,unlink", ALL, "--cpu", FAST), (CALLS, "--remove")):
             self.prefix = f"{self.folder}/for {words[0]}"
             self.installs(OWN)
             self.theirs("bin/theirs", f"{MAN}/theirs.1", "lib/digests/theirs")
-            shutil.copytree(self.prefix, f"{self.prefix} before", symlinks=True)
-            command, old = [self.in_top("install"), *words, self.prefix], self.tree()
-            self.assertEqual(self.run_command([*traced, f"trace={CALLS}", *command], env=self.env).status, 0)
-            new = self.tree()
-            for fault in faults(self.read("trace").decode()):
-                shutil.rmtree(self.prefix)
-                shutil.copytree(f"{self.prefix} before", self.prefix, symlinks=True)
-                ran = self.run_command([*traced, fault, *command], env=self.env)
-                self.assertTrue(ran.status or self.tree() == new)
+            self.shell(f"echo >>{CURRENT}/bin/digests")
+            programs = [self.at("bin/anysum"), *(self.in_top(f"out/{level}/digests") for level in (DEFAULT, FAST))]
+            old, new, programs = self.tree(), None, list(map(self.read, programs))
+            for fault, ran in each_end(self, calls, [self.in_top("install"), *words], self.prefix, env=self.env):
+                there = self.tree()
+                new = new or there
+                self.assertTrue("inject" in fault if ran.status else there == new, ran.err)
                 if ran.status == 1:
                     self.assertRegex(ran.err, rb"\Ainstall: /.*: (No space left on device|Input/output error)\n\Z")
-                if "write:error" in fault:
-                    self.assertEqual(self.tree(), old)
-                if words != ["--remove"]:
-                    self.expect_works()
-                self.script("install", *words, self.prefix)
-                self.assertEqual(self.tree(), new)
+                self.assertTrue(there == old or "write:error" not in fault)
+                self.assertTrue(words == ["--remove"] or self.read(self.at("bin/anysum")) in programs and
+                                os.access(self.at("bin/anysum"), os.X_OK))
+                self.assertTrue(there in (old, new) or
+                                self.script("install", *words, self.prefix) and self.tree() == new)
 
     def test_syncing(self):
         """A run whose data may not be on the disk says so, and the next one syncs again."""
@@ -253,26 +263,16 @@ class Ends(Installing):
             self.write_command("sync", f"#!/bin/sh\necho >>{count}; [ $(wc -l <{count}) -ne {number} ]\n")
             self.assertIn(" is on the disk" if status else "installed for", self.installs(status=status))
 
-
-class PowerCut(Installing):
-    def use(self, disks):
-        """The prefix and its `bin` are on disks of their own."""
-        self.prefix = f"{self.folder}/with {disks}/a prefix"
-        self.disk(f"{disks}.1", os.path.dirname(self.prefix))
-        self.disk(f"{disks}.2", self.at("bin"))
-
     def test_a_power_cut(self):
-        """After each run the disks are copied as they are."""
+        """After each run the disks of the prefix and of its `bin` are copied as they are."""
         os.remove(self.path("commands/sync"))
-        self.use("disk")
-        there = self.prefix
-        for words in ([OWN], ["--cpu", FAST], ["--remove"]):
-            self.prefix = there
+        self.disk("disk.1", self.path("disk"))
+        self.disk("disk.2", self.path("disk/a prefix/bin"))
+        for number, words in enumerate(([OWN], ["--cpu", FAST, ALL], ["--remove"])):
+            self.prefix = f"{self.folder}/disk/a prefix"
             self.installs(*words)
-            tree = self.tree()
-            for number in "12":
-                shutil.copy(self.path(f"disk.{number}"), self.path(f"after {words[0]}.{number}"))
-            self.use(f"after {words[0]}")
+            tree, self.prefix = self.tree(), f"{self.folder}/{number}/a prefix"
+            for part, at in (("1", os.path.dirname(self.prefix)), ("2", self.at("bin"))):
+                shutil.copy(self.path(f"disk.{part}"), self.path(f"{number}.{part}"))
+                self.disk(f"{number}.{part}", at)
             self.assertEqual(self.tree(), tree)
-            if words != ["--remove"]:
-                self.expect_works()

@@ -24,6 +24,7 @@ SORTS = {
     "check by pv": r"pv .* -c image\.sum",
     "check list": r"^digests \w+ -c --quiet --strict SUMS$",
     "check list on all": r"\bsplit ",
+    "check list of others": r"\\xef",
     "check gpg": r"gpg --decrypt",
     "check names": r"printf '%b",
     "check one": r"^grep ",
@@ -268,6 +269,22 @@ class Recipes(Typed):
                 self.assertEqual(self.fails(recipe, shell).out, b"")
             self.assertEqual(self.fails(self.recipe("unlisted")), Ran(1, b"./image.iso\n", b""))
 
+    def test_a_list_of_others(self):
+        """A byte-order mark, and each tag of `openssl dgst` and of `rhash --bsd`. Names stay as they are."""
+        self.make(good=False)
+        for name in ("a", "SHA1  (a)", "(a) = SHA2-"):
+            for tool, (tag, _, _) in TOOLS.items():
+                digest = hasher(tag, name.encode()).hexdigest()
+                for before, after in ((f"{re.sub('SHA(?!1)', 'SHA2-', tag).replace('b', 'B-512')}(", ")= "),
+                                      (f"{tag:5} (", ") = "), ("\ufeff", ""), (f"\ufeff{tag}(", ")= ")):
+                    line = f"{before}{name}{after}{digest}\n" if after else f"{before}{digest}  {name}\n"
+                    recipe = self.recipe("check list of others").replace("sha256sum", tool)
+                    self.put("SUMS", line)
+                    self.put(name, name)
+                    self.passes(recipe)
+                    self.put(name, "changed")
+                    self.assertEqual(self.fails(recipe).out.decode(), f"{name}: FAILED\n")
+
     def test_a_name_within_another(self):
         """One file's check doesn't pass by another whose name holds its own as a line would."""
         self.make(good=False, more=["y  ./image.iso", "x ./image.iso"])
@@ -289,11 +306,12 @@ class Recipes(Typed):
                 ("find", "printf './x\\0'", "list on all"),
                 ("xargs", "exit 123", "list on all"),
                 ("mktemp", "exit 1", *lists, *images, "unlisted"),
+                ("sed", "cat SUMS; exit 1", "check list of others"),
                 *((command, "exit 1", "unlisted") for command in ("sort", "comm")),
                 *((command, "exit 1", "unlisted", "not UTF-8") for command in ("sed", "tr"))):
             for recipe, sort, shell in self.each_recipe(*sorts):
                 self.make()
-                if sort in ("unlisted", "check gpg"):
+                if sort in ("unlisted", "check gpg", "check list of others"):
                     self.passes(self.recipe("list"))
                 listed = self.is_there("SUMS")
                 self.command(command, script)

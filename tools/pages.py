@@ -15,7 +15,7 @@ from rattle import TOP, text_of  # noqa: E402
 from roff import WIDTH, bullet, escaped, inline, item, page, section, shown  # noqa: E402
 
 PROGRAM = os.path.join(TOP, "digests")  # builds what is stale
-DATE = "2026-11-28"  # of the last change of the texts
+DATE = "2026-11-29"  # of the last change of the texts
 FEWER = ", or fewer with `--length`"
 
 

@@ -70,3 +70,15 @@ def faults(trace):
     places = [(call, at) for call, all in counts.items() for at in sorted({1, all // 3 + 1, all * 2 // 3 + 1})]
     ends = itertools.cycle(("error=ENOSPC", "signal=KILL", "error=EIO"))
     return [f"inject={call}:{end}:when={at}" for (call, at), end in zip(places, ends)]
+
+
+def each_end(case, calls, command, folder, **how):
+    """Runs a command on a folder, to its end and then with each of the faults at these calls, each time with the same
+    in the folder: yields the option of `strace`, and what the run left."""
+    shutil.copytree(folder, f"{folder} before", symlinks=True)
+    traced, options = [strace(), "-qq", "-o", case.path("trace"), "-e"], [f"trace={calls}"]
+    for option in options:
+        shutil.rmtree(folder)
+        shutil.copytree(f"{folder} before", folder, symlinks=True)
+        yield option, case.run_command([*traced, option, *command, folder], **how)
+        options += faults(case.read("trace").decode()) if len(options) == 1 else []
