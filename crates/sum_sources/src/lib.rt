@@ -1,7 +1,7 @@
 //! Where bytes come from: inputs and sources of files, in memory and real ones, the digest of an input, and the lines
 //! of a manifest. Of our crates it calls `digest_kinds` and `ghost_log`.
 //!
-//! WithStdin and sources keep logs of what their calls gave. Only proofs see them. The code that opens a file must close
+//! Inputs and sources keep logs of what their calls gave. Only proofs see them. The code that opens a file must close
 //! it.
 //!
 //! ```rust

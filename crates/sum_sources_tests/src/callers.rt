@@ -1,4 +1,4 @@
-//! Callers that need what no program of ours does.
+//! Callers of readers and of told sources that need what no program here does.
 ghost use Rattle.std.specs.Option.{option_map};
 ghost use Rattle.std.specs.Prelude.{ℕ, ◌≡◌, ◌<◌, ◌+◌, ◌^◌, Ok, Err, IfOk, IfSome, slice_get};
 ghost use Rattle.sum_sources.specs.WithStdin.{others};
@@ -28,8 +28,8 @@ pub fn ask_twice<I: Input, A: Allocator>(
     reader.next_line(line)
 }
 
-/// Asks for a line. Returns the answer, and how many bytes were read beyond one for each line: some if the answer is that
-/// there was no memory.
+/// Asks for a line. Returns the answer, and how many bytes were read beyond one for each line: at least one if memory
+/// for the line was refused.
 pub fn ask<I: Input, A: Allocator>(
     reader: &mut LineReader<I>,
     line: &mut Vec<u8, A>,
@@ -57,7 +57,7 @@ pub fn one_file<'a, A: Allocator + Copy>(
     Ok(files)
 }
 
-/// Returns the name at place `i` of those that were opened and aren't `-`, if `-` wasn't opened in the files themselves.
+/// Returns the name at place `i` of those that were opened, without `-`. The premise: below, `-` was never opened.
 pub fn asked_file<'a, 'b, I: Input, A: Allocator + Copy>(
     inputs: &'a WithStdin<I, ToldSource<'b, A>>,
     i: usize,

@@ -9,8 +9,8 @@ use digest_kinds::{Digest, Hasher};
 use std::alloc::Allocator;
 use sum_sources::{Fault, Input, LineReader, Next, hash_input};
 
-/// Reads the first three bytes of `input`, and returns the digest of what follows them. Fails with `Fault::Other` if one
-/// read doesn't give these.
+/// Reads the first three bytes of `input` into `header`, and returns the digest of what follows them. Fails with
+/// `Fault::Other` if one read doesn't give these.
 pub fn hash_past_header<I: Input, H: Hasher + Drop>(
     input: &mut I,
     header: &mut [u8; 3],

@@ -8,7 +8,8 @@ use digest_kinds::{Digest, Hasher};
 use sum_sources::laws::stdin_is_taken;
 use sum_sources::{HashFault, Input, OpenFault, Source, WithStdin, hash_file};
 
-/// Opens the file of a name, and closes it unread. What isn't opened, standard input or the files, is unchanged.
+/// Opens the file of a name, and closes it unread. If the name is `-`, the source of files is unchanged; otherwise
+/// standard input is.
 pub fn visit<I: Input + Drop, S: Source>(
     inputs: &mut WithStdin<I, S>,
     name: &[u8],
@@ -25,7 +26,7 @@ pub fn visit<I: Input + Drop, S: Source>(
     Ok(())
 }
 
-/// Hashes the file of a name. Only `-` takes standard input.
+/// Hashes the file of a name. Only the name `-` takes standard input.
 pub fn hash_name<I: Input + Drop, S: Source, H: Hasher + Drop>(
     inputs: &mut WithStdin<I, S>,
     name: &[u8],

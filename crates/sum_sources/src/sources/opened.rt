@@ -12,8 +12,8 @@ pub(crate) enum Place<I, F> {
     File(F),
 }
 
-/// What [`WithStdin`](crate::WithStdin) opened: standard input, or a file. It can't be dropped, so the code that opened it
-/// must close it.
+/// What [`WithStdin`](crate::WithStdin) opened: standard input, or a file. It can't be dropped, so the code that opened
+/// it must close it.
 #[derive(Debug)]
 pub struct Opened<I: Input, F: Input> {
     pub(crate) place: Place<I, F>,

@@ -49,7 +49,7 @@ impl<I: Input, S: Source> WithStdin<I, S> {
         }
     }
 
-    /// The source of files.
+    /// Returns the source of files.
     pub fn source(&self) -> &S
         ensures is { result.now ≡ self.now.source }
         // Each name but `-` was opened in it, in this order.
