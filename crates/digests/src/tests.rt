@@ -13,10 +13,10 @@ use crate::run::run;
 use std::alloc::{Allocator, Global};
 use std::process::Abort;
 use std::test::Fail;
-use sum_engine::{Inputs, Outputs, Stop, Streams};
+use sum_engine::{Inputs, Outputs, Stop, Streams, check_one};
 use sum_lines::ToldSink;
 use sum_sources::{Answer, Ending, Fault, Input, NoRoom, Stdin, Told, ToldSource, WithStdin};
-use sum_words::{Tool, Words};
+use sum_words::{Request, Tool, Words, read_words};
 
 // A manifest with a line of each verdict: right, a comment, bad, missing, wrong.
 const VERDICTS: &str = "$M  a\n#c\njunk\n$M *x\n$M  e\n";
@@ -135,20 +135,45 @@ fn stage_until<'a, A: Allocator + Copy, const N: usize>(
     )
 }
 
-// Runs a line, whose first word is the tool and whose words are separated by single spaces. Returns `None` if there is
-// no room for the words. It has no contract, so that its callers' proofs don't meet that of `run`.
-fn run_line<A: Allocator + Copy, const N: usize>(
-    alloc: A,
-    line: &str,
-    streams: &mut Stage<A, N>,
-) -> Option<Result<u8, Stop>> {
+// The tool and the words of a line, which are separated by single spaces, or `None` if there is no room for the words.
+fn words_of<A: Allocator + Copy>(alloc: A, line: &str) -> Option<(Tool, Words<A>)> {
     let mut parts = line.split(' ');
     let tool = Tool::from_word(parts.next()?)?;
     let mut words = Words::new(alloc);
     for word in parts {
         words.add(word).ok()?;
     }
+    Some((tool, words))
+}
+
+// Runs a line, if there is room for its words. It has no contract, so that its callers' proofs don't meet that of `run`.
+fn run_line<A: Allocator + Copy, const N: usize>(
+    alloc: A,
+    line: &str,
+    streams: &mut Stage<A, N>,
+) -> Option<Result<u8, Stop>> {
+    let (tool, words) = words_of(alloc, line)?;
     Some(run(alloc, tool, &words, streams))
+}
+
+// The status by `check_one`, if the line checks one manifest. It has no contract, either.
+fn check_line<const N: usize>(
+    alloc: Global,
+    line: &str,
+    streams: &mut Stage<Global, N>,
+) -> Option<Result<u8, Stop>> {
+    let (tool, words) = words_of(alloc, line)?;
+    let Ok(Request::Check(settings, mut operands)) = read_words(tool, &words) else {
+        return None;
+    };
+    let name = operands.next()?;
+    if operands.next().is_some() {
+        return None;
+    }
+    match check_one(alloc, settings, tool.name(), name, streams) {
+        Ok(good) => Some(Ok(if good { 0 } else { 1 })),
+        Err(stop) => Some(Err(stop)),
+    }
 }
 
 // What a run wrote on standard output and on standard error.
@@ -188,7 +213,13 @@ fn assert_example(
     let source = source_of(rt.alloc(), piece, files, contents)?;
     let mut streams: Stage<Global, 1024> = stage(Told::new(input, ending, piece), source);
     let outcome = run_line(rt.alloc(), example.0, &mut streams);
-    assert_ended(rt, &streams, outcome, example)
+    assert_ended(rt, &streams, outcome, example)?;
+    let source = source_of(rt.alloc(), piece, files, contents)?;
+    let mut streams: Stage<Global, 1024> = stage(Told::new(input, ending, piece), source);
+    match check_line(rt.alloc(), example.0, &mut streams) {
+        Some(outcome) => assert_ended(rt, &streams, Some(outcome), example),
+        None => Ok(()),
+    }
 }
 
 // Asserts that each line does as its example says, in whatever pieces its input is read.

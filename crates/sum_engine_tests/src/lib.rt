@@ -1,10 +1,10 @@
-//! Tests of `sum_engine`: each call with its answer, one manifest in each setting, memory that is refused, and files
-//! that go on after an end or a fault. And what follows of its laws.
+//! Tests of `sum_engine`: each call with its answer, memory that is refused, and files that go on after an end or a
+//! fault. And what follows of its laws.
 #![tactic(auto)]
 
-#[cfg(test)]
-mod checking;
 pub mod consequences;
+#[cfg(test)]
+mod generating;
 #[cfg(test)]
 mod going_on;
 #[cfg(test)]

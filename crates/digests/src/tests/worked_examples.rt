@@ -125,7 +125,7 @@ fn settings_of_reports(rt: HostRuntime) -> Result<(), Fail> {
     const NAMED: &str = "anysum: m: 4: improperly formatted tagged checksum line\n\
         anysum: m: 5: improperly formatted tagged checksum line\n\
         anysum: WARNING: 2 lines are improperly formatted\n";
-    const EXAMPLES: [Example<'static>; 12] = [
+    const EXAMPLES: [Example<'static>; 14] = [
         ("md5sum -c l", REPORTS, WARNINGS, 1),
         ("md5sum -c --quiet l", NOT_X, WARNINGS, 1),
         ("md5sum -c --status l", "", MISSING, 1),
@@ -138,6 +138,8 @@ fn settings_of_reports(rt: HostRuntime) -> Result<(), Fail> {
         ("md5sum -c l4", "a: OK\n", FAULT, 1),
         ("md5sum -c l5", "-: OK\n", "", 0),
         ("md5sum -c l5 l5", "-: OK\n-: FAILED\n", WRONG, 1),
+        ("md5sum -c l8", "a: OK\n", "", 0),
+        ("md5sum -c x", "", MISSING, 1),
         ("md5sum -c l8 x", "a: OK\n", MISSING, 1),
         ("md5sum -c l9 l9", "a: OK\na: OK\n", BAD, 0),
         ("anysum -c m", OF_M, TWO, 0),
