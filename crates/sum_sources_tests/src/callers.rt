@@ -1,8 +1,8 @@
 //! Callers of readers and of told sources that need what no program here does.
 ghost use Rattle.std.specs.Option.{option_map};
 ghost use Rattle.std.specs.Prelude.{ℕ, ◌≡◌, ◌<◌, ◌+◌, ◌^◌, Ok, Err, IfOk, IfSome, slice_get};
-ghost use Rattle.sum_sources.specs.WithStdin.{others};
 ghost use Rattle.sum_sources.specs.Sources.{first_answer, names_of};
+ghost use Rattle.sum_sources.specs.WithStdin.{others};
 
 use digest_kinds::LIMIT;
 use std::alloc::Allocator;

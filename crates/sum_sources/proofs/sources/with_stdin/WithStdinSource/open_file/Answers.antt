@@ -6,6 +6,11 @@ use Rattle.sum_sources.proofs.sources.with_stdin.WithStdinSource.open_file.Goals
 
 -- ---- `-`
 
+pub returns-then-is_dash-clause-parts : goal.returns-then-is_dash-clause-parts
+returns-then-is_dash-clause-parts g c =
+    rw (sym c.is_dash.ensures ∙ c.if-is_dash.true, c.of_stdin-opened.ensures)
+    ((c.take.ensures.given.0, c.take.ensures.taken), refl)
+
 pub invariant_of-self : goal.invariant_of-self
 invariant_of-self g c = record {
   is = rw c.and-self.ensures (∥∥₁_map c.args.self.now.is (λ kept.
@@ -18,11 +23,6 @@ returns-then-is_dash-clause-file g c = ∥∥₁_elim c.args.self.now.is (hlevel
     (stdin_opened g.S.Source.tells c.args.self.now.log
     (g.S.Source.state c.args.self.now.source) kept c.args.name.now c.take.result
     (sym c.is_dash.ensures ∙ c.if-is_dash.true) c.take.ensures.given.0 c.take.ensures.given.1))
-
-pub returns-then-is_dash-clause-parts : goal.returns-then-is_dash-clause-parts
-returns-then-is_dash-clause-parts g c =
-    rw (sym c.is_dash.ensures ∙ c.if-is_dash.true, c.of_stdin-opened.ensures)
-    ((c.take.ensures.given.0, c.take.ensures.taken), refl)
 
 -- ---- another name
 
