@@ -298,34 +298,6 @@ class Case(unittest.TestCase):
         self.until(is_read, "the program reads the pipe with a name")
         return os.fdopen(opened[0], "wb", buffering=0)
 
-    def writes_of(self, words, out="out", err="err", **how):
-        """Runs `digests` with its outputs into two files: its status, and how often it called the system to write. The
-        system adds what a child did to the counts of its parent, when that has waited for it."""
-        with open(self.path(out), "wb") as out_file, open(self.path(err), "wb") as err_file:
-            how.setdefault("stdout", out_file)
-            how.setdefault("stderr", err_file)
-            before = self.writes_so_far()
-            status = self.start(words, **how).wait(timeout=RUN_SECONDS)
-            return status, self.writes_so_far() - before
-
-    def writes_so_far(self):
-        """How often this process and the children that it waited for called the system to write."""
-        try:
-            with open("/proc/self/io", "rb") as counts:
-                return next(int(line.split()[1]) for line in counts if line.startswith(b"syscw:"))
-        except (OSError, StopIteration):
-            self.skipTest("this system counts no calls of a process")
-
-    def peak_of(self, words, out="out", **how):
-        """Runs `digests` with standard output into the file `out`: its status, its standard error and its peak memory
-        in bytes. A process of its own starts it, since a child counts the memory of the one that it was forked from."""
-        peak_file = self.path("peak")
-        starter = os.path.join(TOP, "tests", "support", "peak.py")
-        watcher = [sys.executable, "-IS", starter, peak_file, PROGRAM, *as_words(words)]
-        with open(self.path(out), "wb") as sink:
-            ran = self.run_command(watcher, stdout=sink, **how)
-        return ran.status, ran.err, int(self.read("peak"))
-
 
 def end(started):
     """Ends a process that a test started."""
