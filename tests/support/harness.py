@@ -1,6 +1,7 @@
 """What the end-to-end tests share: a folder for each test, a run of the program with a time limit, and the values that
 the tests expect. The values are published digests, and were not taken from any output of the program."""
 
+import collections
 import datetime
 import errno
 import functools
@@ -19,7 +20,6 @@ import tempfile
 import time
 import tty
 import unittest
-from typing import NamedTuple
 
 import options
 from rattle import TOP, text_of
@@ -48,12 +48,8 @@ _, _, S = TOOLS["sha256sum"]
 B = "0e5751c026e543b2e8ab2eb06099daa1d1e5df47778f7787faab45cdf12fe3a8"  # BLAKE2b-256 of nothing
 
 
-class Ran(NamedTuple):
-    """What a run left: its status (negative: the signal that ended it) and its two outputs."""
-
-    status: int
-    out: bytes
-    err: bytes
+# What a run left: its status (negative: the signal that ended it) and its two outputs.
+Ran = collections.namedtuple("Ran", "status out err")
 
 
 def as_bytes(text):

@@ -1,17 +1,13 @@
-"""The commands that the manual pages and README show, for their tests."""
+"""The sections of the manual pages, for the tests of what they say and show."""
 
 import functools
 import re
-import subprocess
 
 import harness
 import pages
 from harness import NAMES
-from rattle import text_of
 
 PAGES = [*NAMES, "digests"]
-
-
 made_by = functools.cache(pages.pages)  # each page's name and text, by the program
 
 
@@ -22,20 +18,3 @@ def sections_of(page):
         text = text.replace(spelled, sign)
     _, *parts = re.split(r"(?m)^\.SH (.*)\n", text)
     return dict(zip(parts[::2], parts[1::2]))
-
-
-def sessions_of_readme():
-    """README's commands after a `$`, block by block, each with the lines that it is to write."""
-    blocks = re.findall(r"(?m)(?:^    .*\n)+", text_of("README.md"))
-    sessions = [re.findall(r"(?m)^    \$ (.*)\n((?:    (?!\$ ).*\n)*)", block) for block in blocks]
-    return [[(command, [line[4:] for line in said.splitlines()]) for command, said in session]
-            for session in sessions if session]
-
-
-def type_session(case, shell, session, **how):
-    """Types the commands of a session, one after another into one shell, and compares what each writes to both outputs
-    with what is shown."""
-    script = "".join(f"{command}\nshown=$?; printf '\\0'; (exit $shown)\n" for command, _ in session)
-    ran = case.run_command([shell, "-c", script], stderr=subprocess.STDOUT, **how)
-    got = [part.splitlines() for part in ran.out.decode().split("\0")]
-    case.assertEqual(got, [lines for _, lines in session] + [[]], session)
