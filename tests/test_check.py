@@ -1,6 +1,5 @@
 """Checking: the manifests of each tool, those that can't be read, lines that are read back, and hostile ones."""
 
-import harness
 from harness import M, TOOLS, X_MISSING, Case, bad, unread, wrong
 from reference import NO_TEXT
 

@@ -92,8 +92,7 @@ class Typed(Case):
         path = self.path(f"commands/{name}")
         if os.path.lexists(path):
             os.remove(path)
-        self.write(f"commands/{name}", f"#!/bin/sh\n{script}\n")
-        os.chmod(path, 0o755)
+        self.write_command(name, f"#!/bin/sh\n{script}\n")
 
     def put(self, name, content="more"):
         """Makes a file in the tree, and the folders above it."""

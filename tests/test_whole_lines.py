@@ -6,7 +6,6 @@ import os
 import select
 import signal
 import subprocess
-import unittest
 
 import harness
 from harness import M, NAMES, S, TOOLS, VERDICTS, VERDICTS_ERR, VERDICTS_OUT, X_MISSING
@@ -15,7 +14,7 @@ from reference_words import help_text
 
 SPECIAL = "q\\\nz\r"
 SPECIAL_SHOWN = "q\\\\\\nz\\r"
-SET_PIPE_SIZE, GET_PIPE_SIZE = 1031, 1032  # Python names them from 3.10 on
+SET_PIPE_SIZE = 1031  # Python names it from 3.10 on
 
 
 def lines_of(text, end=b"\n"):
@@ -25,29 +24,19 @@ def lines_of(text, end=b"\n"):
 
 def state_of(pid):
     """The state of a process as the system has it: `S` if it waits, `Z` if it has ended."""
-    try:
-        with open(f"/proc/{pid}/stat", "rb") as file:
-            return file.read().rpartition(b")")[2].split()[0].decode()
-    except OSError:
-        raise unittest.SkipTest("this system tells no state of a process") from None
+    with open(f"/proc/{pid}/stat", "rb") as file:
+        return file.read().rpartition(b")")[2].split()[0].decode()
 
 
 class Packets(Case):
-    """A run whose outputs are pipes that keep each write apart: packet by packet."""
-
-    def packet_pipe(self):
-        """A pipe in which each write of up to 4,096 bytes is a packet, which one read takes."""
-        try:
-            return os.pipe2(os.O_DIRECT)
-        except (AttributeError, OSError):
-            self.skipTest("there are no packet pipes here")
+    """A run whose outputs are pipes in which each write of up to 4,096 bytes is a packet, which one read takes."""
 
     def packets(self, words, **how):
         """Runs `digests` with these words: its status, and the packets of both outputs that aren't given."""
         ends, got = {}, {"stdout": [], "stderr": []}
         for name in got:
             if name not in how:
-                reads, how[name] = self.packet_pipe()
+                reads, how[name] = os.pipe2(os.O_DIRECT)
                 self.addCleanup(os.close, reads)
                 ends[reads] = name
         how.setdefault("stdin", subprocess.DEVNULL)
@@ -156,11 +145,7 @@ class ShortWrites(Case):
         """A pipe that holds a page, and how many bytes that are."""
         reads, writes = os.pipe()
         self.addCleanup(os.close, reads)
-        try:
-            fcntl.fcntl(writes, SET_PIPE_SIZE, 1)
-            return reads, writes, fcntl.fcntl(writes, GET_PIPE_SIZE)
-        except OSError:
-            self.skipTest("the size of a pipe can't be set here")
+        return reads, writes, fcntl.fcntl(writes, SET_PIPE_SIZE, 1)
 
     def taken_in_parts(self, words, output):
         """Runs `digests` with this output into a small pipe. Whenever it waits inside a write, it is stopped and

@@ -158,6 +158,11 @@ class Case(unittest.TestCase):
         with open(self.path(name), "wb") as file:
             file.write(as_bytes(content))
 
+    def write_command(self, name, text):
+        """Makes a command in the folder `commands` of the test's folder."""
+        self.write(f"commands/{name}", text)
+        os.chmod(self.path(f"commands/{name}"), 0o755)
+
     def read(self, name):
         """The content of a file in the test's folder."""
         with open(self.path(name), "rb") as file:
@@ -212,8 +217,6 @@ class Case(unittest.TestCase):
 
     def full(self):
         """The device that has no room for a single byte, opened for writing."""
-        if not os.path.exists("/dev/full"):
-            self.skipTest("there is no /dev/full")
         return open("/dev/full", "wb")
 
     def disk(self, image, at):
