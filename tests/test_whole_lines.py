@@ -163,24 +163,18 @@ class ShortWrites(Case):
             got.append(os.read(reads, size))
         return started.wait(timeout=harness.RUN_SECONDS), b"".join(got)
 
-    def test_a_part_of_a_long_line(self):
-        """A line of 30,000 bytes comes through a pipe that holds a page, though each write is cut short."""
-        name = "y" * 30000
-        lines = [f"md5sum: {name}: File name too long", X_MISSING] * 3
-        status, err = self.taken_in_parts(["md5sum", *[name, "x"] * 3], "stderr")
-        self.same(err, lines)
-        self.assertEqual(status, 1)
+    def test_parts_of_lines(self):
+        """Lines of 30,000 bytes, and a thousand lines, come through a pipe that holds a page, though each write is cut
+        short."""
         name = "y" * 30000
         self.write("l", [f"{M}  {name}", f"{M}  a"] * 3)
-        status, out = self.taken_in_parts("md5sum -c l", "stdout")
-        self.same(out, [f"{name}: FAILED open or read", "a: OK"] * 3)
-        self.assertEqual(status, 1)
-
-    def test_many_lines_through_a_small_pipe(self):
-        """A thousand lines come through a pipe that holds a page, though each write is interrupted."""
-        status, out = self.taken_in_parts(["md5sum", *["a"] * 1000], "stdout")
-        self.same(out, [f"{M}  a"] * 1000)
-        self.assertEqual(status, 0)
+        for words, output, status, lines in (
+                (["md5sum", *[name, "x"] * 3], "stderr", 1, [f"md5sum: {name}: File name too long", X_MISSING] * 3),
+                ("md5sum -c l", "stdout", 1, [f"{name}: FAILED open or read", "a: OK"] * 3),
+                (["md5sum", *["a"] * 1000], "stdout", 0, [f"{M}  a"] * 1000)):
+            ended, got = self.taken_in_parts(words, output)
+            self.same(got, lines)
+            self.assertEqual(ended, status)
 
     def test_a_pipe_that_does_not_wait(self):
         """If the output has room for one more line and then reports that it has none, that line is there whole, nothing
