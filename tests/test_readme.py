@@ -6,8 +6,8 @@ import re
 import shutil
 
 from harness import NAMES, TOP, Ran
+from manual import PAGES
 from rattle import text_of
-from recipes import PAGES
 from repository import Repository
 
 

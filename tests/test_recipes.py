@@ -9,7 +9,7 @@ import subprocess
 
 import harness
 from harness import NAMES, TOOLS, Case, Ran, hasher
-from recipes import PAGES, sections_of
+from manual import PAGES, sections_of
 
 # What a recipe is for, and how it is known. Each recipe is of one sort.
 SORTS = {
