@@ -1,19 +1,13 @@
 """Running commands for the benchmarks: their processor time in interleaved rounds, and the peak of their memory."""
 
+import collections
 import os
 import subprocess
-from typing import NamedTuple
 
 
-class Contender:
-    """One of the commands that are compared: a name, its words, the program where the first word isn't it, and the
-    status that is wanted of it. What it says on standard error of a status that is wanted isn't shown."""
-
-    def __init__(self, name, words, program=None, status=0):
-        self.name = name
-        self.words = [str(word) for word in words]
-        self.program = program
-        self.status = status
+class Contender(collections.namedtuple("Contender", "name words program status", defaults=(None, 0))):
+    """One of the commands that are compared: a name, its words, the program if the first word isn't it, and the status
+    that is wanted of it. What it says on standard error of a status that is wanted isn't shown."""
 
     def start(self, stdin, stdout, folder):
         """Starts it with standard input from the file `stdin` and standard output into the file `stdout`."""
@@ -23,12 +17,8 @@ class Contender:
                                     cwd=folder)
 
 
-class Times(NamedTuple):
-    """The least seconds of processor time that one contender took, and how much of the time of all its runs was the
-    kernel's."""
-
-    least: float
-    kernel: float
+# The least seconds of processor time that one contender took, and how much of all its runs' time was the kernel's.
+Times = collections.namedtuple("Times", "least kernel")
 
 
 def times_of(runs):

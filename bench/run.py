@@ -83,11 +83,8 @@ class Bench:
         self.bare = built_bare() if hashes and not asked.no_bare else None
         with open(LOOPS, encoding="utf-8") as source:
             self.looped = re.findall(r'b"(\w+)" =>', source.read())  # the digests of the kit
-        self.rounds = asked.rounds
-        self.size = asked.size
-        self.folder = folder
-        self.out = os.path.join(folder, "out")
-        self.rows = []
+        self.rounds, self.size, self.rows = asked.rounds, asked.size, []
+        self.folder, self.out = folder, os.path.join(folder, "out")
 
     def contenders(self, tool, *words, status=0):
         """Ours, and GNU's where it is installed, with the same words."""
@@ -102,13 +99,13 @@ class Bench:
         words = ["openssl", "dgst", "-blake2b512" if tool == "b2sum" else f"-{tool[:-3]}"]
         return found + ([Contender(OPENSSL, words)] if works(words) else [])
 
-    def large(self, mebibytes):
-        """A file of that size."""
-        path = os.path.join(self.folder, f"large{mebibytes}")
+    def large(self):
+        """A file of the size that was asked for."""
+        path = os.path.join(self.folder, "large")
         if not os.path.exists(path):
             block = random.Random(1).randbytes(MIB)
             with open(path, "wb") as file:
-                for _ in range(mebibytes):
+                for _ in range(self.size):
                     file.write(block)
         return path
 
@@ -160,7 +157,7 @@ def print_speeds(bench):
 def hashing(bench):
     """Each tool over standard input."""
     for tool in options.DIGESTS:
-        bench.add(f"`{tool}`, {bench.size} MiB", bench.hashers(tool), stdin=bench.large(bench.size))
+        bench.add(f"`{tool}`, {bench.size} MiB", bench.hashers(tool), stdin=bench.large())
 
 
 def start(bench):
@@ -206,8 +203,8 @@ def memory(bench):
     with open(os.path.join(bench.folder, "a"), "wb") as file:
         file.write(b"abc")
     works_on = [
-        (f"`sha256sum`, {bench.size} MiB", "sha256sum", [bench.large(bench.size)]),
-        (f"`b2sum`, {bench.size} MiB", "b2sum", [bench.large(bench.size)]),
+        (f"`sha256sum`, {bench.size} MiB", "sha256sum", [bench.large()]),
+        (f"`b2sum`, {bench.size} MiB", "b2sum", [bench.large()]),
         ("`md5sum`, 100,000 operands", "md5sum", ["a"] * 100000),
         ("`md5sum -c`, 200,000 lines", "md5sum", ["-c", bench.manifest("md5sum")]),
     ]
@@ -219,8 +216,7 @@ def memory(bench):
     table(["megabytes at most", *(it.name for it in found)], rows)
 
 
-TIMED = {"hashing": hashing, "start": start, "files": files, "reading": reading}
-OTHER = {"memory": memory}
+PARTS = {"hashing": hashing, "start": start, "files": files, "reading": reading, "memory": memory}
 
 
 def print_conditions(bench, rounds):
@@ -230,8 +226,8 @@ def print_conditions(bench, rounds):
         model = next((line.partition(":")[2].strip() for line in file if line.startswith("model name")), "unknown")
     print(f"{platform.platform()}, {os.cpu_count()} processors ({model}); all on processor {processor}")
     print(f"load {os.getloadavg()[0]:.1f} at the start; {rounds} rounds or more")
-    for path in filter(None, [gnu("md5sum")]):
-        print(subprocess.run([path, "--version"], stdout=subprocess.PIPE, text=True).stdout.splitlines()[0])
+    if gnu("md5sum"):
+        print(subprocess.check_output([gnu("md5sum"), "--version"], text=True).splitlines()[0])
     for name in ([] if shutil.which("openssl") else [OPENSSL]) + ([] if bench.bare else [BARE]):
         print(f"{name}: left out")
 
@@ -241,7 +237,7 @@ def main():
     number = {"type": int, "metavar": "N"}
     reader.add_argument("--size", default=256, help="size of the large input in MiB (256)", **number)
     reader.add_argument("--rounds", default=5, help="rounds at least, of which the least counts (5)", **number)
-    reader.add_argument("--only", choices=[*TIMED, *OTHER], action="append", help="only this part; may be repeated")
+    reader.add_argument("--only", choices=PARTS, action="append", help="only this part; may be repeated")
     reader.add_argument("--program", metavar="FILE", action="append",
                         help="this program, in place of the two levels'; may be repeated")
     reader.add_argument("--no-bare", action="store_true", help="leave out the bare loops")
@@ -251,14 +247,10 @@ def main():
         bench = Bench(asked, folder)
         os.sched_setaffinity(0, {max(os.sched_getaffinity(0))})
         print_conditions(bench, asked.rounds)
-        for name, part in TIMED.items():
-            if not asked.only or name in asked.only:
-                part(bench)
+        for name in asked.only or PARTS:
+            PARTS[name](bench)
         if bench.rows:
             print_speeds(bench)
-        for name, part in OTHER.items():
-            if not asked.only or name in asked.only:
-                part(bench)
         print(f"\nload {os.getloadavg()[0]:.1f} at the end")
 
 

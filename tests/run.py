@@ -53,11 +53,6 @@ def tests_below(suite, word, again):
             yield test
 
 
-def names_of(entries):
-    """The names of the tests that these entries of a result are of."""
-    return {getattr(test, "test_case", test).id() for test, _ in entries}
-
-
 def run_over(program, asked, again):
     """Runs the tests over a program: how many passed, failed and were skipped, or None if none was chosen."""
     harness.PROGRAM = program
@@ -69,9 +64,8 @@ def run_over(program, asked, again):
         return None
     print(f"{program}: the seed of what is tried at random is {harness.SEED}", flush=True)
     result = unittest.TextTestRunner(sys.stdout, verbosity=2 if asked.verbose else 1).run(chosen)
-    # Parts of one test that fail, or are skipped, each have an entry; the test counts once.
-    failed = names_of(result.failures + result.errors)
-    skipped = names_of(result.skipped) - failed
+    failed = {test.id() for test, _ in result.failures + result.errors}  # once, though its end fails, too
+    skipped = {test.id() for test, _ in result.skipped} - failed
     for why, count in collections.Counter(why for _, why in result.skipped).items():
         print(f"skipped {count}: {why}")
     counts = [result.testsRun - len(failed) - len(skipped), len(failed), len(skipped)]

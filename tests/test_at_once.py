@@ -7,7 +7,7 @@ import signal
 import subprocess
 
 import harness
-from harness import E, M, VERDICTS, X_MISSING, Case, as_bytes, bad, unread, wrong
+from harness import E, M, X_MISSING, Case, as_bytes, bad, unread, wrong
 
 
 class FirstLines(Case):
@@ -45,16 +45,11 @@ class Ended(Case):
         return self.read("out")
 
     def test_after_500_lines(self):
-        """A run that is ended after 500 files leaves their 500 lines."""
-        os.mkfifo(self.path("p"))
-        for number in (signal.SIGTERM, signal.SIGKILL, signal.SIGINT):
-            out = self.ended_at_the_pipe(["md5sum", *["a"] * 500, "p", "e"], number)
-            self.same(out, [f"{M}  a"] * 500)
-
-    def test_after_500_reports(self):
+        """A run that is ended after 500 files leaves their 500 lines, or reports."""
         os.mkfifo(self.path("p"))
         self.write("l", [*[f"{M}  a"] * 500, f"{M}  p", f"{M}  a"])
-        for number in (signal.SIGTERM, signal.SIGKILL):
+        for number in (signal.SIGTERM, signal.SIGKILL, signal.SIGINT):
+            self.same(self.ended_at_the_pipe(["md5sum", *["a"] * 500, "p", "e"], number), [f"{M}  a"] * 500)
             self.same(self.ended_at_the_pipe("md5sum -c l", number), ["a: OK"] * 500)
 
     def test_at_any_moment(self):
@@ -96,16 +91,10 @@ class OneFile(Case):
         """What a line gives is in its place: for a file that can't be read the diagnostic, then the report."""
         os.mkdir(self.path("d"))
         self.write("l", [f"{M}  a", f"{M}  x", "junk", f"{M}  e", f"{M}  d", f"{E}  e"])
-        self.expect_together("md5sum -cw l x l", [*self.reports("l"), X_MISSING, *self.reports("l")], 1)
-        self.write("l", VERDICTS)
-        lines = ["a: OK", X_MISSING, "x: FAILED open or read", "e: FAILED", bad(1), unread(1), wrong(1)]
-        self.expect_together("md5sum -c l", lines, 1)
-
-    def reports(self, name):
-        """What the manifest of `test_checking` comes to."""
-        return ["a: OK", X_MISSING, "x: FAILED open or read",
-                f"md5sum: {name}: 3: improperly formatted MD5 checksum line", "e: FAILED",
-                "md5sum: d: Is a directory", "d: FAILED open or read", "e: OK", bad(1), unread(2), wrong(1)]
+        lines = ["a: OK", X_MISSING, "x: FAILED open or read", "md5sum: l: 3: improperly formatted MD5 checksum line",
+                 "e: FAILED", "md5sum: d: Is a directory", "d: FAILED open or read", "e: OK",
+                 bad(1), unread(2), wrong(1)]
+        self.expect_together("md5sum -cw l x l", [*lines, X_MISSING, *lines], 1)
 
 
 class AfterAFailedWrite(Case):

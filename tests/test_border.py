@@ -81,8 +81,8 @@ class Border(Case):
         self.assertEqual(found, FILES)
 
     def test_calls(self):
-        """What the files around `program` call or bring in. Each type and trait of ours that they name is declared once,
-        in a file that docs/AUDITING.md names."""
+        """What the files around `program` call or bring in. Each type and trait of ours that they name is declared
+        once, in a file that docs/AUDITING.md names."""
         page, found, named = text_of("docs", "AUDITING.md"), {}, set()
         for name in CALLED:
             there = File(f"{TOP}/crates/digests/src/{name}.rt", "digests", f"{name}.rt")

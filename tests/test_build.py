@@ -85,8 +85,8 @@ class Build(Repository):
         said = b"digests: rt, the command of the Rattle kit, isn't on the PATH: see Set-up in README.md\n"
         for words in (["digests", "md5sum", "a"], ["install", "prefix"]):
             self.assertEqual(self.script(*words, PATH=os.pathsep.join(folders)), Ran(1, b"", said))
-        self.assertIn("\n## Set-up\n", self.read(os.path.join(TOP, "README.md")).decode())
         self.assertFalse(os.path.exists(self.in_top("out")) or os.path.exists(self.path("prefix")))
+
 
 class SameBytes(Case):
     of_the_repository = True

@@ -1,7 +1,6 @@
 """Checking: the manifests of each tool, those that can't be read, lines that are read back, and hostile ones."""
 
-import harness
-from harness import M, TOOLS, X_MISSING, Case, Ran, bad, unread, wrong
+from harness import M, TOOLS, X_MISSING, Case, bad, unread, wrong
 from reference import NO_TEXT
 
 NONE_FOUND = "no properly formatted checksum lines found"
@@ -20,12 +19,6 @@ class Manifests(Case):
         self.expect("md5sum -c --status x", err=[X_MISSING], status=1)
         self.expect("md5sum -c --ignore-missing x", err=[X_MISSING], status=1)
         self.expect(["md5sum", "-c", SPECIAL], err=["md5sum: q\\\\\\nz: No such file or directory"], status=1)
-
-    def test_open_files_are_closed_again(self):
-        """With few descriptors allowed, many manifests and many listed files are read one after the other."""
-        self.write("l", [f"{M}  a"] * 100)
-        script = 'ulimit -n 16; exec "$0" md5sum -c --quiet --strict "$@"'
-        self.assertEqual(self.run_command(["sh", "-c", script, harness.PROGRAM, *["l"] * 50]), Ran(0, b"", b""))
 
     def test_standard_input(self):
         self.write("l5", [f"{M}  -"])
@@ -63,14 +56,10 @@ class Lines(Case):
 
 
 class Hostile(Case):
-    def test_nothing_in_them_and_a_long_name(self):
+    def test_nothing_in_them_and_lines_around_the_buffer(self):
         for content in ("x" * 1000000, "\0" * 1000 + "\n", "   \t\n", "\n" * 100000):
             self.write("h", content)
             self.expect("md5sum -c h", err=[f"md5sum: h: {NONE_FOUND}"], status=1)
-        name = "y" * 99966
-        self.write("h", f"{M}  {name}")
-        self.expect("md5sum -c h", out=[f"{name}: FAILED open or read"],
-                    err=[f"md5sum: {name}: File name too long", unread(1)], status=1)
         for size in range(8185, 8200):
             self.expect("md5sum -c --strict", stdin=["#" * size, f"{M}  a", "", f"{M}  a"], out=["a: OK"] * 2)
 

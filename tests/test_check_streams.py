@@ -1,12 +1,11 @@
 """Checking in time and size: reports that appear while the manifest still comes, and manifests of many or very long
-lines, with a bound on the memory that they take."""
+lines, with a limit on the memory that they take."""
 
 import os
 import subprocess
 
 import harness
-from harness import E, M, VERDICTS, VERDICTS_ERR, WRITE_ERROR, X_MISSING, Case, Ran
-from harness import as_bytes, bad, limits, unread, wrong
+from harness import E, M, VERDICTS, VERDICTS_ERR, WRITE_ERROR, X_MISSING, Case, as_bytes, bad, limits, unread, wrong
 
 MEGA = 1000 * 1000
 
@@ -72,34 +71,29 @@ class Outputs(Case):
 
 
 class Sizes(Case):
-    """Manifests of many lines and of very long ones. The bounds on memory are wide: they tell a program that keeps
+    """Manifests of many lines and of very long ones. The limits on memory are wide: they tell a program that keeps
     one line from one that keeps the manifest."""
 
     def test_many_lines(self):
         lines = [f"{M}  a", f"{E} *e"] * 100000
         lines[77777], lines[177777], lines[199999] = "junk", f"{E}  a", f"{M}  x"
         self.write("l", lines)
-        status, err, peak = self.peak_of("md5sum -cw l")
         named = b"md5sum: l: 77778: improperly formatted MD5 checksum line\n"
-        self.assertEqual((status, err), (1, named + VERDICTS_ERR))
         reports = ["a: OK", "e: OK"] * 100000
         reports[177777], reports[199999] = "a: FAILED", "x: FAILED open or read"
         del reports[77777]
-        self.assertEqual(self.read("out"), as_bytes(reports))
-        self.assertLess(peak, 25 * MEGA)
+        ran = self.run_words("md5sum -cw l", preexec_fn=limits(memory=10 * MEGA))
+        self.assertEqual((ran.status, ran.err), (1, named + VERDICTS_ERR))
+        self.same(ran.out, reports)
         self.expect("md5sum -c --quiet --strict", stdin=[f"{M}  a"] * 200000)
 
     def test_one_name_of_100_megabytes(self):
         name = b"y" * (100 * MEGA)
-        with open(self.path("l"), "wb") as file:
-            file.write(f"{M}  a\n{M}  ".encode())
-            file.write(name)
-        with open(self.path("err"), "wb") as faults:
-            status, _, peak = self.peak_of("md5sum -c l", stderr=faults)
-        self.assertEqual(status, 1)
-        self.same(self.read("out"), b"a: OK\n" + name + b": FAILED open or read\n")
-        self.same(self.read("err"), b"md5sum: " + name + b": File name too long\n" + as_bytes([unread(1)]))
-        self.assertLess(peak, 620 * MEGA)
+        self.write("l", f"{M}  a\n{M}  ".encode() + name)
+        ran = self.run_words("md5sum -c l", preexec_fn=limits(memory=620 * MEGA))
+        self.assertEqual(ran.status, 1)
+        self.same(ran.out, b"a: OK\n" + name + b": FAILED open or read\n")
+        self.same(ran.err, b"md5sum: " + name + b": File name too long\n" + as_bytes([unread(1)]))
 
     def test_long_lines_are_not_kept(self):
         """Twenty lines of five megabytes take the memory of one."""
@@ -107,28 +101,20 @@ class Sizes(Case):
             for _ in range(20):
                 file.seek(5 * MEGA, os.SEEK_CUR)
                 file.write(as_bytes(["", f"{M}  a"]))
-        status, err, peak = self.peak_of("md5sum -c --quiet l")
-        self.assertEqual((status, err), (0, as_bytes([bad(20)])))
-        self.assertLess(peak, 50 * MEGA)
+        self.expect("md5sum -c --quiet l", err=[bad(20)], preexec_fn=limits(memory=50 * MEGA))
 
     def test_want_of_memory(self):
-        """A line longer than the memory that is available: what came before it is reported."""
-        with open(self.path("l"), "wb") as file:
-            file.write(as_bytes([f"{M}  a"]))
-            file.seek(2000 * MEGA, os.SEEK_CUR)
-            file.write(as_bytes(["", f"{M}  a"]))
-        ran = self.run_words("md5sum -c l x", preexec_fn=limits(memory=400 * MEGA))
-        self.assertEqual(ran, Ran(1, b"a: OK\n", b"md5sum: memory exhausted\n"))
-
-    def test_want_of_memory_and_a_full_output(self):
-        """The run ends at what comes first, and reports that: a line for which there is no memory, or a report that
-        can't be written. The full output isn't used if memory was short before the first report."""
-        for before, said in (("", b"md5sum: memory exhausted\n"), (f"{M}  a\n", b"md5sum: write error\n")):
-            with self.full() as full:
-                with open(self.path("l"), "wb") as file:
-                    file.write(as_bytes(before))
-                    file.seek(2000 * MEGA, os.SEEK_CUR)
-                    file.write(as_bytes(["", f"{M}  a"]))
-                limited = {"stdout": full, "preexec_fn": limits(memory=400 * MEGA)}
-                self.expect("md5sum -c l", err=said, status=1, **limited)
-                self.expect("md5sum -c l", status=1, stderr=full, **limited)
+        """At a line longer than the memory that is available the run ends: what came before it is reported. If the
+        output is full, the run ends at what comes first, and reports that. The full output isn't used if memory was
+        short before the first report."""
+        exhausted = b"md5sum: memory exhausted\n"
+        for before, out, said in (("", b"", exhausted), (f"{M}  a\n", b"a: OK\n", WRITE_ERROR)):
+            with self.full() as full, open(self.path("l"), "wb") as file:
+                file.write(as_bytes(before))
+                file.seek(2000 * MEGA, os.SEEK_CUR)
+                file.write(as_bytes(["", f"{M}  a"]))
+                file.flush()
+                limited = {"status": 1, "preexec_fn": limits(memory=400 * MEGA)}
+                self.expect("md5sum -c l x", out=out, err=exhausted, **limited)
+                self.expect("md5sum -c l", err=said, stdout=full, **limited)
+                self.expect("md5sum -c l", stdout=full, stderr=full, **limited)

@@ -30,8 +30,7 @@ class Closing(Case):
     def expect_closed(self, *rows):
         """Expects of words, with these streams closed, a status and what they write to both outputs."""
         for words, streams, status, out, err in rows:
-            with self.subTest(words=words, streams=streams):
-                self.assertEqual(self.closed(words, *streams), Ran(status, as_bytes(out), as_bytes(err)))
+            self.assertEqual(self.closed(words, *streams), Ran(status, as_bytes(out), as_bytes(err)))
 
 
 class ClosedInput(Closing):

@@ -15,12 +15,6 @@ NAMES += ["é", "日本", "d/f", "new\nline", "\n", "both\\\n"]
 BACKSLASH_NAMES = ["back\\slash", "\\n", "\\", "d/\\"]
 
 
-def escapes_returns(path):
-    """Whether this version of the tool escapes a carriage return in a name, as ours does."""
-    said = subprocess.run([path, "--", "a\rb"], capture_output=True, cwd="/", timeout=harness.RUN_SECONDS)
-    return b"a\\rb" in said.stdout + said.stderr
-
-
 class Beside(Case):
     """A folder of files, and both tools."""
 
@@ -147,11 +141,12 @@ class Verified(Beside):
             self.expect([tool, "-c", "--strict"], stdin=manifest, out=["a: OK", "e: OK", " lead: OK"])
 
     def test_names_with_a_carriage_return(self):
+        """Newer versions of theirs escape it, as ours does."""
         self.write("a\rb", "abc")
         for tool in GNU_TOOLS:
             theirs = self.run_command([gnu(tool), "a\rb"]).out
             self.expect([tool, "-c", "--strict"], stdin=theirs, out=["\\a\\rb: OK"])
             ours = self.run_words([tool, "a\rb"]).out
             self.expect([tool, "-c", "--strict"], stdin=ours, out=["\\a\\rb: OK"])
-            if escapes_returns(gnu(tool)):
+            if theirs.startswith(b"\\"):
                 self.assertEqual(ours, theirs)

@@ -3,7 +3,7 @@ which makes a call fail."""
 
 import os
 
-from harness import E, M, S, WRITE_ERROR, X_MISSING, Case, Ran, as_bytes, unread
+from harness import E, M, S, WRITE_ERROR, X_MISSING, Ran, as_bytes, unread
 from tracing import Traced, needs_strace, sizes
 
 FEW = "1..999"  # a thousand interruptions in a row are a fault
@@ -90,30 +90,23 @@ class Calls(Traced):
             self.assertEqual(sizes(calls, 2), [short, *[8192] * whole, *[behind] * (behind > 0), short])
             self.assertEqual(ran.err, as_bytes([X_MISSING, f"md5sum: {name}: File name too long", X_MISSING]))
 
-
-class Counts(Case):
-    """How often the system is called to write, as it counts itself."""
-
     def test_a_million_escapes(self):
         """A line of a manifest with a million escaped characters is written by the buffer, not by the character."""
         self.write("l", [f"\\{M}  " + "\\\\" * 1000000, f"{M}  a"])
-        status, count = self.writes_of("md5sum -c l")
+        ran, calls = self.traced("-e trace=write,writev", "md5sum -c l")
         report = as_bytes(["\\" + "\\\\" * 1000000 + ": FAILED open or read", "a: OK"])
         fault = as_bytes(["md5sum: " + "\\\\" * 1000000 + ": File name too long", unread(1)])
-        self.assertEqual(status, 1)
-        self.same(self.read("out") + self.read("err"), report + fault)
-        self.assertLessEqual(count, (len(report) + len(fault)) // 8192 + 4)
+        self.assertEqual(ran.status, 1)
+        self.same(ran.out + ran.err, report + fault)
+        self.assertLessEqual(len(calls), (len(report) + len(fault)) // 8192 + 4)
 
-    def test_standard_error_that_takes_nothing(self):
-        """`md5sum x 2>/dev/full` tries to report the file and then the write error, and no more."""
+    def test_outputs_that_take_nothing(self):
+        """`md5sum x 2>/dev/full` tries to report the file and then the write error, and no more. `md5sum a a a
+        >/dev/full` tries one line, and reports the write error in one write."""
         with self.full() as full:
             for words in ("md5sum x", "md5sum x x x", "md5sum --foo", "shasum"):
-                status, count = self.writes_of(words, stderr=full)
-                self.assertEqual(status, 1)
-                self.assertLessEqual(count, 2)
-
-    def test_standard_output_that_takes_nothing(self):
-        """`md5sum a a a >/dev/full` tries one line, and reports the write error in one write."""
-        with self.full() as full:
-            self.assertEqual(self.writes_of("md5sum a a a", stdout=full), (1, 2))
-            self.assertEqual(self.read("err"), WRITE_ERROR)
+                ran, calls = self.traced("-e trace=write,writev", words, stderr=full)
+                self.assertEqual(ran.status, 1)
+                self.assertLessEqual(len(calls), 2)
+            ran, calls = self.traced("-e trace=write,writev", "md5sum a a a", stdout=full)
+            self.assertEqual((ran, len(calls)), (Ran(1, b"", WRITE_ERROR), 2))

@@ -5,8 +5,8 @@ import re
 
 import harness
 from harness import NAMES, Case
+from manual import sections_of
 from options import takes
-from recipes import sections_of
 from reference import REASONS
 
 

@@ -6,8 +6,8 @@ import re
 import shutil
 
 from harness import NAMES, TOP, Ran
+from manual import PAGES
 from rattle import text_of
-from recipes import PAGES, sessions_of_readme, type_session
 from repository import Repository
 
 
@@ -34,6 +34,13 @@ class Stranger(Repository):
         """Runs a command as README shows it."""
         return self.run_command(["sh", "-c", command.replace("PREFIX", f"'{self.prefix}'")], cwd=self.top, env=self.env)
 
+    def type_session(self, session):
+        """Types the commands of a session, one after another into one shell, and compares what each writes to both
+        outputs with what is shown."""
+        typed = "".join(f"{command}\nshown=$?; printf '\\0'; (exit $shown)\n" for command, _ in session)
+        shown = [re.sub("(?m)^    ", "", said) for _, said in session]
+        self.assertEqual(self.shell(f"exec 2>&1\n{typed}").out.decode().split("\0"), [*shown, ""], session)
+
     def test_the_way(self):
         build, test = commands("Set-up")
         self.assertEqual(test, "./test")
@@ -42,8 +49,8 @@ class Stranger(Repository):
         self.assertEqual((ran.status, ran.out.decode()), (0, f"{hashlib.sha256(page).hexdigest()}  README.md\n"))
         self.assertIn(b"digests: proving and building the program", ran.err)
         self.assertEqual(self.shell(build).err, b"")
-        for session in sessions_of_readme():
-            type_session(self, "sh", session, cwd=self.top, env=self.env)
+        for block in re.findall(r"(?m)(?:^    .*\n)+", text_of("README.md")):
+            self.type_session(re.findall(r"(?m)^    \$ (.*)\n((?:    (?!\$ ).*\n)*)", block))
         self.run_command(["git", "-C", self.top, "clean", "-fdq"])  # what the examples made
         put, away = commands("Installing")[:2]
         ran = self.shell(put)

@@ -9,7 +9,7 @@ import subprocess
 
 import harness
 from harness import NAMES, TOOLS, Case, Ran, hasher
-from recipes import PAGES, sections_of
+from manual import PAGES, sections_of
 
 # What a recipe is for, and how it is known. Each recipe is of one sort.
 SORTS = {
@@ -92,8 +92,7 @@ class Typed(Case):
         path = self.path(f"commands/{name}")
         if os.path.lexists(path):
             os.remove(path)
-        self.write(f"commands/{name}", f"#!/bin/sh\n{script}\n")
-        os.chmod(path, 0o755)
+        self.write_command(name, f"#!/bin/sh\n{script}\n")
 
     def put(self, name, content="more"):
         """Makes a file in the tree, and the folders above it."""

@@ -41,8 +41,6 @@ class SideBySide(Case):
 
     def run_script(self, script, left, **how):
         """Runs a script in the tree, which calls the program `$0` for the files named in `$1`, and leaves `$2`."""
-        if shutil.which("xargs") is None:
-            self.skipTest("there is no xargs here")
         words = [harness.PROGRAM, self.path("names"), self.path(left)]
         return self.run_command(["sh", "-c", script, *words], cwd=self.tree, **how)
 

@@ -6,7 +6,6 @@ import os
 import select
 import signal
 import subprocess
-import unittest
 
 import harness
 from harness import M, NAMES, S, TOOLS, VERDICTS, VERDICTS_ERR, VERDICTS_OUT, X_MISSING
@@ -15,7 +14,7 @@ from reference_words import help_text
 
 SPECIAL = "q\\\nz\r"
 SPECIAL_SHOWN = "q\\\\\\nz\\r"
-SET_PIPE_SIZE, GET_PIPE_SIZE = 1031, 1032  # Python names them from 3.10 on
+SET_PIPE_SIZE = 1031  # Python names it from 3.10 on
 
 
 def lines_of(text, end=b"\n"):
@@ -25,29 +24,19 @@ def lines_of(text, end=b"\n"):
 
 def state_of(pid):
     """The state of a process as the system has it: `S` if it waits, `Z` if it has ended."""
-    try:
-        with open(f"/proc/{pid}/stat", "rb") as file:
-            return file.read().rpartition(b")")[2].split()[0].decode()
-    except OSError:
-        raise unittest.SkipTest("this system tells no state of a process") from None
+    with open(f"/proc/{pid}/stat", "rb") as file:
+        return file.read().rpartition(b")")[2].split()[0].decode()
 
 
 class Packets(Case):
-    """A run whose outputs are pipes that keep each write apart: packet by packet."""
-
-    def packet_pipe(self):
-        """A pipe in which each write of up to 4,096 bytes is a packet, which one read takes."""
-        try:
-            return os.pipe2(os.O_DIRECT)
-        except (AttributeError, OSError):
-            self.skipTest("there are no packet pipes here")
+    """A run whose outputs are pipes in which each write of up to 4,096 bytes is a packet, which one read takes."""
 
     def packets(self, words, **how):
         """Runs `digests` with these words: its status, and the packets of both outputs that aren't given."""
         ends, got = {}, {"stdout": [], "stderr": []}
         for name in got:
             if name not in how:
-                reads, how[name] = self.packet_pipe()
+                reads, how[name] = os.pipe2(os.O_DIRECT)
                 self.addCleanup(os.close, reads)
                 ends[reads] = name
         how.setdefault("stdin", subprocess.DEVNULL)
@@ -156,11 +145,7 @@ class ShortWrites(Case):
         """A pipe that holds a page, and how many bytes that are."""
         reads, writes = os.pipe()
         self.addCleanup(os.close, reads)
-        try:
-            fcntl.fcntl(writes, SET_PIPE_SIZE, 1)
-            return reads, writes, fcntl.fcntl(writes, GET_PIPE_SIZE)
-        except OSError:
-            self.skipTest("the size of a pipe can't be set here")
+        return reads, writes, fcntl.fcntl(writes, SET_PIPE_SIZE, 1)
 
     def taken_in_parts(self, words, output):
         """Runs `digests` with this output into a small pipe. Whenever it waits inside a write, it is stopped and
@@ -178,24 +163,18 @@ class ShortWrites(Case):
             got.append(os.read(reads, size))
         return started.wait(timeout=harness.RUN_SECONDS), b"".join(got)
 
-    def test_a_part_of_a_long_line(self):
-        """A line of 30,000 bytes comes through a pipe that holds a page, though each write is cut short."""
-        name = "y" * 30000
-        lines = [f"md5sum: {name}: File name too long", X_MISSING] * 3
-        status, err = self.taken_in_parts(["md5sum", *[name, "x"] * 3], "stderr")
-        self.same(err, lines)
-        self.assertEqual(status, 1)
+    def test_parts_of_lines(self):
+        """Lines of 30,000 bytes, and a thousand lines, come through a pipe that holds a page, though each write is cut
+        short."""
         name = "y" * 30000
         self.write("l", [f"{M}  {name}", f"{M}  a"] * 3)
-        status, out = self.taken_in_parts("md5sum -c l", "stdout")
-        self.same(out, [f"{name}: FAILED open or read", "a: OK"] * 3)
-        self.assertEqual(status, 1)
-
-    def test_many_lines_through_a_small_pipe(self):
-        """A thousand lines come through a pipe that holds a page, though each write is interrupted."""
-        status, out = self.taken_in_parts(["md5sum", *["a"] * 1000], "stdout")
-        self.same(out, [f"{M}  a"] * 1000)
-        self.assertEqual(status, 0)
+        for words, output, status, lines in (
+                (["md5sum", *[name, "x"] * 3], "stderr", 1, [f"md5sum: {name}: File name too long", X_MISSING] * 3),
+                ("md5sum -c l", "stdout", 1, [f"{name}: FAILED open or read", "a: OK"] * 3),
+                (["md5sum", *["a"] * 1000], "stdout", 0, [f"{M}  a"] * 1000)):
+            ended, got = self.taken_in_parts(words, output)
+            self.same(got, lines)
+            self.assertEqual(ended, status)
 
     def test_a_pipe_that_does_not_wait(self):
         """If the output has room for one more line and then reports that it has none, that line is there whole, nothing

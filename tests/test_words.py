@@ -4,7 +4,7 @@ import os
 
 import harness
 import options
-from harness import B, M, NAMES, S, TOOLS, Case, as_bytes, gnu
+from harness import B, M, NAMES, TOOLS, Case, as_bytes, gnu
 from library import parts_of
 from rattle import Code
 from reference_words import help_text, meaning
@@ -23,12 +23,6 @@ class ToolNames(Case):
             for called in (f"./{tool}", os.fsdecode(self.path(tool))):
                 ran = self.run_command([called, "a", "e"])
                 self.assertEqual(ran, (0, f"{of_abc}  a\n{of_nothing}  e\n".encode(), b""))
-        folder = os.fsdecode(self.path("bin folder"))
-        os.mkdir(folder)
-        os.symlink(harness.PROGRAM, os.path.join(folder, "sha256sum"))
-        path = folder + os.pathsep + os.environ["PATH"]
-        ran = self.run_command(["sh", "-c", 'sha256sum "$1"', "sh", "a"], env={**os.environ, "PATH": path})
-        self.assertEqual(ran, (0, f"{S}  a\n".encode(), b""))
 
     def test_other_links(self):
         """A link is the tool that it is named for, though it points to one of another name."""

@@ -1,24 +1,18 @@
 """The tools, and the options of each as the program has them: its help names them, and it accepts or refuses them."""
 
+import collections
 import functools
 import re
 import subprocess
 import sys
-from typing import NamedTuple, Optional
 
 from rattle import text_of
 
 LINE = re.compile(r"  (?:-(?P<short>\w), |    )--(?P<long>[a-z-]+)(?:=(?P<value>[A-Z]+))? +(?P<help>.*)")
 
 
-class Tool(NamedTuple):
-    """A tool: whether GNU has it; and of its digest, if it has one, the tag, the bits and the standard."""
-
-    of_gnu: bool
-    tag: Optional[str] = None
-    bits: Optional[int] = None
-    standard: Optional[str] = None
-
+# A tool: whether GNU has it; and of its digest, if it has one, the tag, the bits and the standard.
+Tool = collections.namedtuple("Tool", "of_gnu tag bits standard", defaults=(None, None, None))
 
 ROWS = [line.split(maxsplit=4) for line in text_of("tools", "tools.txt").splitlines() if not line.startswith("#")]
 TOOLS = {name: Tool(owner == "GNU", *(digest and (digest[0], int(digest[1]), digest[2])))
@@ -29,16 +23,9 @@ DIGESTS = {name: tool for name, tool in TOOLS.items() if tool.tag}  # those that
 ALWAYS, WITH_CHECK, WITHOUT_CHECK, NEVER = "always", "with check", "without check", "never"
 
 
-class Option(NamedTuple):
+class Option(collections.namedtuple("Option", "short long value help where at_once")):
     """An option: its letter, name and value, what the help says of it, where it is taken, and whether the program then
     answers at once and reads no word after it."""
-
-    short: Optional[str]
-    long: str
-    value: Optional[str]
-    help: str
-    where: str
-    at_once: bool
 
     def words(self):
         return [*([f"-{self.short}"] if self.short else []), f"--{self.long}"]

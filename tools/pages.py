@@ -1,20 +1,12 @@
-#!/usr/bin/env python3
-"""Writes the manual pages into a folder: `pages.py [--program FILE] FOLDER`.
+"""The manual pages, which `install` makes from the program's own help and the texts in pages/."""
 
-They are made from the program's own help and the texts in pages/. `install` makes those of an installation."""
-
-import argparse
-import os
 import re
 import sys
 
-sys.dont_write_bytecode = True  # nothing is to be left beside these files
+from options import ALWAYS, DIGESTS, NEVER, TOOLS, WITH_CHECK, WITHOUT_CHECK, options_of
+from rattle import text_of
+from roff import WIDTH, bullet, escaped, inline, item, page, section, shown
 
-from options import ALWAYS, DIGESTS, NEVER, TOOLS, WITH_CHECK, WITHOUT_CHECK, options_of  # noqa: E402  (see above)
-from rattle import TOP, text_of  # noqa: E402
-from roff import WIDTH, bullet, escaped, inline, item, page, section, shown  # noqa: E402
-
-PROGRAM = os.path.join(TOP, "digests")  # builds what is stale
 DATE = "2026-11-29"  # of the last change of the texts
 FEWER = ", or fewer with `--length`"
 
@@ -141,18 +133,3 @@ def pages(program, own=False):
         sys.exit(f"pages.py: pages/options.txt has a word on no option: {', '.join(sorted(unknown))}")
     made = {"digests": page_of_program(own), **{it: page_of_tool(it, own, known[it], said) for it in TOOLS}}
     return {page_title(name, own): text for name, text in made.items()}
-
-
-def main():
-    reader = argparse.ArgumentParser(description="Writes the manual pages.")
-    reader.add_argument("--program", default=PROGRAM, help="the built program; without it, this repository's own")
-    reader.add_argument("folder", metavar="FOLDER")
-    asked = reader.parse_args()
-    os.makedirs(asked.folder, exist_ok=True)
-    for name, text in pages(asked.program).items():
-        with open(os.path.join(asked.folder, f"{name}.1"), "w", encoding="utf-8") as file:
-            file.write(text)
-
-
-if __name__ == "__main__":
-    main()

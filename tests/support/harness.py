@@ -1,6 +1,7 @@
 """What the end-to-end tests share: a folder for each test, a run of the program with a time limit, and the values that
 the tests expect. The values are published digests, and were not taken from any output of the program."""
 
+import collections
 import datetime
 import errno
 import functools
@@ -19,7 +20,6 @@ import tempfile
 import time
 import tty
 import unittest
-from typing import NamedTuple
 
 import options
 from rattle import TOP, text_of
@@ -48,12 +48,8 @@ _, _, S = TOOLS["sha256sum"]
 B = "0e5751c026e543b2e8ab2eb06099daa1d1e5df47778f7787faab45cdf12fe3a8"  # BLAKE2b-256 of nothing
 
 
-class Ran(NamedTuple):
-    """What a run left: its status (negative: the signal that ended it) and its two outputs."""
-
-    status: int
-    out: bytes
-    err: bytes
+# What a run left: its status (negative: the signal that ended it) and its two outputs.
+Ran = collections.namedtuple("Ran", "status out err")
 
 
 def as_bytes(text):
@@ -162,6 +158,11 @@ class Case(unittest.TestCase):
         with open(self.path(name), "wb") as file:
             file.write(as_bytes(content))
 
+    def write_command(self, name, text):
+        """Makes a command in the folder `commands` of the test's folder."""
+        self.write(f"commands/{name}", text)
+        os.chmod(self.path(f"commands/{name}"), 0o755)
+
     def read(self, name):
         """The content of a file in the test's folder."""
         with open(self.path(name), "rb") as file:
@@ -216,8 +217,6 @@ class Case(unittest.TestCase):
 
     def full(self):
         """The device that has no room for a single byte, opened for writing."""
-        if not os.path.exists("/dev/full"):
-            self.skipTest("there is no /dev/full")
         return open("/dev/full", "wb")
 
     def disk(self, image, at):
@@ -297,34 +296,6 @@ class Case(unittest.TestCase):
 
         self.until(is_read, "the program reads the pipe with a name")
         return os.fdopen(opened[0], "wb", buffering=0)
-
-    def writes_of(self, words, out="out", err="err", **how):
-        """Runs `digests` with its outputs into two files: its status, and how often it called the system to write. The
-        system adds what a child did to the counts of its parent, when that has waited for it."""
-        with open(self.path(out), "wb") as out_file, open(self.path(err), "wb") as err_file:
-            how.setdefault("stdout", out_file)
-            how.setdefault("stderr", err_file)
-            before = self.writes_so_far()
-            status = self.start(words, **how).wait(timeout=RUN_SECONDS)
-            return status, self.writes_so_far() - before
-
-    def writes_so_far(self):
-        """How often this process and the children that it waited for called the system to write."""
-        try:
-            with open("/proc/self/io", "rb") as counts:
-                return next(int(line.split()[1]) for line in counts if line.startswith(b"syscw:"))
-        except (OSError, StopIteration):
-            self.skipTest("this system counts no calls of a process")
-
-    def peak_of(self, words, out="out", **how):
-        """Runs `digests` with standard output into the file `out`: its status, its standard error and its peak memory
-        in bytes. A process of its own starts it, since a child counts the memory of the one that it was forked from."""
-        peak_file = self.path("peak")
-        starter = os.path.join(TOP, "tests", "support", "peak.py")
-        watcher = [sys.executable, "-IS", starter, peak_file, PROGRAM, *as_words(words)]
-        with open(self.path(out), "wb") as sink:
-            ran = self.run_command(watcher, stdout=sink, **how)
-        return ran.status, ran.err, int(self.read("peak"))
 
 
 def end(started):

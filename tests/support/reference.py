@@ -4,10 +4,10 @@ The words that ask for it are read in `reference_words.py`.
 It follows the manual and the decisions in `docs/DECISIONS.md` and knows nothing of the crates: to agree on a misread
 rule, both would have to misread it in the same way. Files are those of the current folder."""
 
+import collections
 import errno
 import os
 import re
-from dataclasses import dataclass
 
 import options
 from harness import Ran, hasher
@@ -119,16 +119,8 @@ def entry(tag, in_reversed, text):
     return None if name is None or b"\0" in name else (own, found, name)
 
 
-@dataclass
-class Fault:
-    """Why a name could not be read, and whether it could not even be opened."""
-
-    text: bytes
-    in_opening: bool
-
-    @staticmethod
-    def of(error, in_opening):
-        return Fault(REASONS.get(error.errno, OTHER), in_opening)
+# Why a name could not be read, and whether it could not even be opened.
+Fault = collections.namedtuple("Fault", "text in_opening")
 
 
 class World:
@@ -147,11 +139,11 @@ class World:
         except UnicodeDecodeError:
             return Fault(NO_TEXT, True)
         except OSError as error:
-            return Fault.of(error, True)
+            return Fault(REASONS.get(error.errno, OTHER), True)
         try:
             return b"".join(iter(lambda: os.read(file, 65536), b""))
         except OSError as error:
-            return Fault.of(error, False)
+            return Fault(REASONS.get(error.errno, OTHER), False)
         finally:
             os.close(file)
 

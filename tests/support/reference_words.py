@@ -1,9 +1,9 @@
 """The rules of the words, implemented a second time: what a command line asks for, and what it then writes and
 returns."""
 
+import collections
 import os
 import re
-from dataclasses import dataclass
 
 from harness import Ran
 from rattle import text_of
@@ -89,16 +89,8 @@ class Words:
         return ([None] + [option for option in self.options if option in names])[-1]
 
 
-@dataclass
-class Options:
-    """What the options come to. A size of 0 is the algorithm's own."""
-
-    mode: str
-    zero: bool
-    size: int
-    report: str
-    strict: bool
-    ignore_missing: bool
+# What the options come to. A size of 0 is the algorithm's own.
+Options = collections.namedtuple("Options", "mode zero size report strict ignore_missing")
 
 
 def size_asked(lengths):
