@@ -22,7 +22,7 @@ const JOINED: &[u8] = b"900150983cd24fb0d6963f7d28e17f72  a\n#c\njunk\n\
 // The same line twice, of which a newline ends only the first.
 const TWICE: &[u8] = b"900150983cd24fb0d6963f7d28e17f72  a\n900150983cd24fb0d6963f7d28e17f72  a";
 
-// The next line is this. It has no contract, so that no proof computes it.
+// Checks that the reader's next line is this one. It has no contract, so that no proof computes it.
 fn gives<A: Allocator>(
     rt: &impl Abort,
     reader: &mut LineReader<impl Input>,
