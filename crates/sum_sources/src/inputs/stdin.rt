@@ -64,10 +64,7 @@ impl<I: Input> Stdin<I> {
     {
         Stdin {
             taken: false,
-            input: Some(Closable::Closed(
-                Ending::Broken(Fault::Os(EBADF)),
-                Phase::Unfinished,
-            )),
+            input: Some(Closable::Closed(Ending::Broken(Fault::Os(EBADF)), Phase::Unfinished)),
         }
     }
 }
