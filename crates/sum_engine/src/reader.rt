@@ -26,7 +26,7 @@ impl<S: Source> Model for Reader<S> {
 }
 
 impl<S: Source> Reader<S> {
-    /// A reader of this source.
+    /// Creates the value over this source.
     pub fn new(source: S) -> Self
         ensures { result ≡ S.state source }
     {

@@ -58,7 +58,7 @@ fn abc_read(
 
 const DENIED: Ending = Ending::Broken(Fault::Denied);
 
-// A read into four bytes returns this, and writes this as the first, if it isn't 0, and no other.
+// Asserts that a read into four zeros returns this, and changes at most the first of them, to `first`.
 fn reads(rt: &impl Abort, input: &mut impl Input, want: Result<usize, Fault>, first: u8) {
     let mut buf = [0; 4];
     let found = input.read(&mut buf);

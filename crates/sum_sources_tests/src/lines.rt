@@ -51,8 +51,8 @@ fn is_at(rt: &impl Abort, reader: LineReader<TwoParts>, lines: usize, place: usi
     assert_eq!(rt; reader.into_inner().phase(), phase);
 }
 
-// The reader of a content that has this ending after this many bytes, and goes on with the others, gives just these
-// lines. Then it returns the ending, and has read no further.
+// Asserts what a reader returns if its input has this ending after this many bytes, and goes on with the others: just
+// these lines, and then the ending. It has read no further.
 fn reads(
     rt: &(impl Abort + AllocGlobal),
     content: &[u8],

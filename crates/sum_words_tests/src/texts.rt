@@ -16,7 +16,7 @@ fn is_called(name: &str, tool: Option<Tool>) -> bool {
     Tool::from_word(name) == tool && name.parse() == tool.ok_or(UnknownTool)
 }
 
-// Whether the tool has this name, is shown as it, and is called by it.
+// Whether this is the tool's name, `Display` writes it, and it names the tool.
 fn is_named(alloc: Global, tool: Tool, name: &str) -> Result<bool, Fail> {
     let shown = format!(in alloc; "{tool}")?;
     Ok(tool.name() == name && shown.as_str() == name && is_called(name, Some(tool)))
@@ -163,7 +163,7 @@ fn faults(rt: HostRuntime) -> Result<(), Fail> {
     Ok(())
 }
 
-// Of bytes that are no text, and of a tool that only checks.
+// The faults of a tool that only checks, one of them about bytes that aren't text.
 #[test]
 fn faults_of_anysum(rt: HostRuntime) -> Result<(), Fail> {
     let lines = b"anysum: unrecognized option '-\xff\\\\'\n\

@@ -16,7 +16,7 @@ pub fn hash_input<I: Input, H: Hasher + Drop>(input: &mut I, hasher: H) -> Resul
     hash_input_over(input, hasher, &mut buffer)
 }
 
-/// As `hash_input`, but reads into the caller's buffer, so that one buffer serves many inputs. The buffer's previous
+/// Does what `hash_input` does, but reads into the caller's buffer, so that one serves many inputs. The buffer's previous
 /// content doesn't matter; its content afterwards is unspecified.
 pub fn hash_input_over<I: Input, H: Hasher + Drop>(
     input: &mut I,

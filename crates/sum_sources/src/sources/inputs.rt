@@ -49,7 +49,7 @@ impl<I: Input, S: Source> Inputs<I, S> {
         }
     }
 
-    /// The source of files.
+    /// Returns the source of files.
     pub fn source(&self) -> &S
         ensures is { result.now ≡ self.now.source }
         // Each name but `-` was opened in it, in this order.
@@ -59,7 +59,7 @@ impl<I: Input, S: Source> Inputs<I, S> {
     }
 }
 
-/// Whether the name is that of standard input, `-`.
+/// Returns whether the name is that of standard input, `-`.
 pub fn is_dash(name: &[u8]) -> bool
     ensures { result ≡ is_dash name.now }
 {
