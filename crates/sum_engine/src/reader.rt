@@ -26,7 +26,7 @@ impl<S: Source> Model for Reader<S> {
 }
 
 impl<S: Source> Reader<S> {
-    /// Creates the value over this source.
+    /// Creates the inputs of this source.
     pub fn new(source: S) -> Self
         ensures { result ≡ S.state source }
     {

@@ -5,7 +5,7 @@ ghost use Rattle.sum_engine.specs.refinement.Writes.{WritesAndReturns};
 use crate::reader::Reader;
 use crate::stop::Stop;
 use std::marker::Model;
-use sum_lines::{Sink, Text, Output};
+use sum_lines::{Output, Sink, Text};
 use sum_sources::Source;
 
 /// Both outputs.

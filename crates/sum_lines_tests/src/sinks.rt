@@ -96,7 +96,7 @@ fn a_piece_is_one_call_of_a_writer(rt: HostRuntime) {
     }
 }
 
-// Whether a flush of a buffer over the writer gets this answer, and is asked once.
+// Whether a flush of a buffer over the writer returns this answer, and flushes the writer once.
 fn is_asked_once(writer: &mut Writer, answer: Result<(), SinkFault>) -> bool {
     let mut sink = Buffered::new(FromWrite::new(writer));
     let answers = [put(&mut sink, b"abc"), flush(&mut sink)];

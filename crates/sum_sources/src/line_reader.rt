@@ -116,7 +116,7 @@ impl<I: Input> LineReader<I> {
         self.taken
     }
 
-    /// Returns how many lines were read so far.
+    /// Returns how many lines were returned so far.
     pub fn lines(&self) -> u64
         ensures { result ≡ self.now.lines }
     {

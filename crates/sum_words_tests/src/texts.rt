@@ -77,7 +77,7 @@ fn help(rt: HostRuntime) -> Result<(), Fail> {
     Ok(())
 }
 
-// The lines of the fault that words have.
+// The lines that are written for the fault of these words.
 fn lines_of_fault(tool: Tool, words: &Words<Global>) -> Result<ToldSink<256>, Fail> {
     let mut err = Buffered::new(ToldSink::new(256));
     match read_words(tool, words) {
@@ -114,7 +114,7 @@ fn check_fault(
     check_lines(rt, Tool::B2sum, (line, last.as_bytes()), lines.as_bytes())
 }
 
-// Each fault, as the words of a line, one more, and the text. What was typed is escaped.
+// For each fault: the words of a line, one more word, and the text. What was typed is escaped.
 const FAULTS: &[(&str, &str, &str)] = &[
     ("a", "--a\\b\nc\rd=e", UNKNOWN),
     ("a", "--st", "option '--st' is ambiguous"),

@@ -17,7 +17,7 @@ use crate::stop::Stop;
 use crate::streams::Outputs;
 use crate::tool_lines::NameFaultLine;
 use digest_kinds::Algos;
-use sum_lines::{Part, Parts, Sink, SinkFault, Output, mark_and_name};
+use sum_lines::{Output, Part, Parts, Sink, SinkFault, mark_and_name};
 
 /// Writes the report of a line with this number, verdict and name: first to `err`, and then to `out`. Returns `Going`.
 pub(crate) fn put_report<O: Sink, E: Sink>(
@@ -52,11 +52,7 @@ fn put_out<O: Sink>(
     }
 }
 
-fn put_verdict<O: Sink>(
-    out: &mut Output<O>,
-    verdict: Verdict,
-    name: &[u8],
-) -> Result<(), SinkFault>
+fn put_verdict<O: Sink>(out: &mut Output<O>, verdict: Verdict, name: &[u8]) -> Result<(), SinkFault>
     ensures { GivesAll out.old out.new (out_by own_profile All verdict name.now) result }
 {
     match verdict {
