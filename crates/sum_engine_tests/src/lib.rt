@@ -1,5 +1,5 @@
-//! Tests of `sum_engine`: each call with its answer, one manifest in each setting, memory that is refused, files that go
-//! on after an end or a fault, and what follows from its laws.
+//! Tests of `sum_engine`: each call with its answer, one manifest in each setting, memory that is refused, files that
+//! go on after an end or a fault, and what follows from its laws.
 #![tactic(auto)]
 
 #[cfg(test)]
