@@ -54,6 +54,8 @@ class Documents(Case):
             for use in re.findall(r"pub use [\w:]+::(\{[^}]*\}|\w+);", text_of("crates", crate, "src", "lib.rt")):
                 for name in set(re.findall(r"\w+", use)) - hidden:
                     self.assertRegex(page, rf"(?m)^- `(fn|struct|enum|trait|const|type|use \w+::) ?{name}\b")
+        sample = re.sub(r"(?m)^(?=.)", "    ", text_of("crates", "example_check", "src", "bytes.rt"))
+        self.assertIn(sample, page, "docs/LIBRARY.md doesn't show the input of example_check as it is")
 
     def test_sums(self):
         """The sums of the newest version in CHANGELOG, if it has any, are those of what is built, as docs/PACKAGING.md

@@ -115,7 +115,7 @@ impl FromStr for Algo {
     // The text is the tag of the returned algorithm, and for each tag its algorithm is returned.
     ghost from_str_gives = { λ s r. IfOk r (λ a. s ≡ tag a) × ((a : Algo) → s ≡ tag a → r ≡ Ok a) };
 
-    /// The algorithm with this tag.
+    /// Returns the algorithm with this tag.
     fn from_str(s: &str) -> Result<Algo, UnknownTag> {
         match Algo::of_tag_prefix(s.as_bytes()) {
             Some(algo) if algo.tag() == s => Ok(algo),

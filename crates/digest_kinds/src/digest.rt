@@ -179,7 +179,7 @@ impl Hash for Digest {
 impl AsSlice<u8> for Digest {
     ghost items = { λ d. d };
 
-    /// Returns the digest's bytes. This is the kit's `AsRef<[u8]>`.
+    /// Returns the digest's bytes. The kit has this trait in place of `AsRef<[u8]>`.
     fn as_slice(&self) -> &[u8] {
         Digest::as_slice(self)
     }

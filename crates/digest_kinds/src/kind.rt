@@ -91,7 +91,7 @@ impl Kind {
         }
     }
 
-    /// The algorithm.
+    /// Returns the algorithm.
     pub fn algo(self) -> Algo
         ensures { result ≡ self.algo }
     {

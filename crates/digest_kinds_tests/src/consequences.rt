@@ -8,8 +8,8 @@ ghost use Rattle.std.specs.Prelude.{◌≡◌, ◌↔◌, ◌⊎◌, ◌+◌, �
 use blake2b_core::{Blake2b, Output};
 use digest_kinds::{Algo, Digest, Hasher, Kind, UnknownTag};
 
-/// Takes a piece, unless the message would be too long with it. Returns the digest, its kind, and of how many bytes it
-/// is.
+/// Takes a piece, unless the message would be too long with it. Returns the digest, its kind, and the length of its
+/// message.
 pub fn digest_with<H: Hasher>(mut hasher: H, piece: &[u8]) -> (Digest, Kind, u64)
     ensures digest { (m : ByteString) → H.holds hasher m →
         result.0 ≡ digest result.1 (take result.2 (m ++ piece.now)) }

@@ -53,7 +53,7 @@ fn algo_of(text: &str) -> Result<Algo, UnknownTag> {
     text.parse()
 }
 
-// Whether the kind, and its algorithm, are written as this text.
+// Whether `Display` writes the kind as this text, and its algorithm as the kind's tag.
 fn is_written(alloc: Global, kind: Kind, text: &str) -> Result<bool, Fail> {
     let (kind_text, tag) = (
         format!(in alloc; "{kind}")?,

@@ -11,17 +11,17 @@ use sum_sources::Source;
 use sum_words::Arguments;
 use sum_words::laws::some_list_agrees;
 
-/// The headline for files in memory, of any types. Suppose that `run` left these streams, and that the source
-/// tells all answers. Then the outputs got exactly the bytes, and `run`
-/// returned exactly the status, that the words mean by these answers; or it stopped, and a prefix of the run happened.
+/// The headline for files in memory, of any types. Suppose that `run` left these streams, and that the source tells all
+/// answers. Then the outputs got exactly the bytes, and `run` returned exactly the status, that the words mean by these
+/// answers; or it stopped, and a prefix of the run happened.
 pub fn told_performs<S: Source, O: Sink, E: Sink>(streams: &Streams<Inputs<S>, Outputs<O, E>>)
     ensures { MeansInMemory S.tells streams.now }
 {
     told_agree(&streams.inputs);
 }
 
-/// The same for the program and arguments in memory. Say that `command` left these arguments and streams. Then the tool
-/// and the words are those of the list in memory.
+/// The same for the program and arguments in memory. Suppose that `command` left these arguments and streams. Then the
+/// tool and the words are those of the list in memory.
 pub fn told_program_performs<G: Arguments, S: Source, O: Sink, E: Sink>(
     arguments: &G,
     streams: &Streams<Inputs<S>, Outputs<O, E>>,

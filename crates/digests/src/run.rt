@@ -130,7 +130,7 @@ fn run_operands<A: Allocator + Copy, S: Source, O: Sink, E: Sink>(
     Ok(status(good))
 }
 
-// The status.
+// The exit status of a run: 0 if all of it was good.
 fn status(good: bool) -> u8
     ensures { result ≡ status_of good }
 {

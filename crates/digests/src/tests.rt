@@ -74,7 +74,7 @@ fn repeat(alloc: Global, text: &str, count: usize) -> Result<String, Fail> {
     Ok(text.repeat(alloc, count)?)
 }
 
-// The contents of files, spelled.
+// The contents of the files, as `spell` writes them out.
 fn spell_all(alloc: Global, files: &[File]) -> Result<Vec<String>, Fail> {
     let mut contents = Vec::new(alloc);
     for (_, (content, _)) in files {
@@ -184,7 +184,7 @@ fn wrote<'s, A: Allocator + Copy, const N: usize>(
     (outputs.out.get_ref().bytes(), outputs.err.get_ref().bytes())
 }
 
-// Asserts that a run of a line, with this outcome, did as its example says.
+// Asserts that a run with this outcome wrote and returned what the example says.
 fn assert_ended<A: Allocator + Copy, const N: usize>(
     rt: &(impl Abort + AllocGlobal),
     streams: &Stage<A, N>,

@@ -1,8 +1,8 @@
 //! What inputs and outputs share: logs that only proofs see, and how often an interrupted call is retried. Logs take no
 //! room, and their calls do nothing.
 //!
-//! A log's state is a value of its type parameter, as clauses see it. No code can hold it: only a contract says what a
-//! log's state is, so a contract that speaks of it tells a caller nothing, unless a trait's clause reads it.
+//! Clauses see a log as a value of its type parameter, its state. No code can read it, so what a contract says of it
+//! matters to a caller only if a clause of a trait depends on it.
 //!
 //! ```rust
 //! let log: Log<Writes> = Log::of(&Writes);

@@ -16,7 +16,7 @@
 //! let settings = CheckSettings::new(Algos::One(Algo::Md5));
 //! let good = check_one(rt.alloc(), settings, "md5sum", b"-", &mut streams);
 //! assert!(rt; good == Ok(true));
-//! assert!(rt; streams.outputs.out.bytes() == b"abc.txt: OK\n".as_slice());
+//! assert!(rt; streams.outputs.out.get_ref().bytes() == b"abc.txt: OK\n".as_slice());
 //! ```
 #![tactic(auto)]
 

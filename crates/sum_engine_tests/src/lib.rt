@@ -1,5 +1,5 @@
-//! Tests of `sum_engine`: each call with its answer, memory that is refused, and files that go on after an end or a
-//! fault. And what follows of its laws.
+//! Tests of `sum_engine`: each call with its answer, memory that is refused, files that go on after an end or a fault,
+//! and what follows from its laws.
 #![tactic(auto)]
 
 pub mod consequences;

@@ -1,4 +1,5 @@
-//! Sinks, to which bytes are written: the trait, its implementations, and the buffer over a sink.
+//! Sinks, to which bytes are written: the trait, its implementations, the buffer over a sink, and outputs, to which
+//! whole texts are written.
 
 pub(crate) mod buffered;
 pub(crate) mod from_write;

@@ -1,4 +1,4 @@
-//! What a caller has from the sinks, and from a line that is ignored.
+//! What callers know of sinks, and of a line that is ignored.
 ghost use Rattle.std.specs.Prelude.{◌≡◌, ◌≤◌, ◌++◌, true, Some, IfOk, codes, length, take};
 ghost use Rattle.sum_lines.specs.refinement.SinkStates.{bytes_of};
 

@@ -96,7 +96,7 @@ fn a_piece_is_one_call_of_a_writer(rt: HostRuntime) {
     }
 }
 
-// Whether a flush of a buffer over the writer gets this answer, and is asked once.
+// Whether a flush of a buffer over the writer returns this answer, and flushes the writer once.
 fn is_asked_once(writer: &mut Writer, answer: Result<(), SinkFault>) -> bool {
     let mut sink = Buffered::new(FromWrite::new(writer));
     let answers = [put(&mut sink, b"abc"), flush(&mut sink)];
@@ -115,7 +115,7 @@ fn a_flush_is_asked_once(rt: HostRuntime) {
     ] {
         let mut writer = writer_of(&rt, 2, 0..0, kind);
         assert!(rt; is_asked_once(&mut writer, answer));
-        // of a buffer that holds nothing, too
+        // A buffer that holds nothing is flushed, too.
         let mut buffer = Buffered::new(FromWrite::new(writer));
         assert_eq!(rt; flush(&mut buffer), answer);
     }
@@ -133,7 +133,7 @@ fn put_twice(writer: &mut Writer) -> [Result<(), SinkFault>; 5] {
     ]
 }
 
-// Whether this many writes bring these bytes, the first flush returns this, and every other call succeeds.
+// Whether the writer gets these bytes in this many writes, the first flush returns this, and every other call succeeds.
 fn is_one_piece(
     writer: &mut Writer,
     answer: Result<(), SinkFault>,

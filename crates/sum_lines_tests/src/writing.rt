@@ -30,7 +30,7 @@ const ZERO: Style = Style {
     zero: true,
 };
 
-// What a line is written of.
+// What a line is made of.
 #[derive(Drop)]
 struct Entry<'a> {
     style: Style,
@@ -65,7 +65,7 @@ fn is_line(entry: &Entry, line: &[u8]) -> bool {
     all
 }
 
-// A worked example: the style, the digits and the name, and the line that is written of them.
+// A worked example: the style, the digits and the name, and the line that they make.
 type Example<'a> = (Style, &'a str, &'a [u8], &'a str);
 
 fn check_example(
@@ -150,7 +150,7 @@ fn escaped_names_are_read_back(rt: HostRuntime) -> Result<(), Fail> {
     Ok(())
 }
 
-// Puts the parts in their order, and what else is written for a name.
+// Writes parts of each sort, and then a name and numbers by calls of their own.
 fn put_all_parts(sink: &mut Buffered<ToldSink<256>>) -> Result<(), SinkFault> {
     let (mark, name) = mark_and_name(b"\n");
     put_parts(

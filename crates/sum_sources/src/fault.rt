@@ -114,7 +114,7 @@ fn reasons() -> &'static [&'static str]
     &REASONS
 }
 
-// The texts of the system's numbers from 0 on. A line that ends with a number begins with the text of that number.
+// The texts of the system's numbers from 0 on. The number at a line's end is that of the first text in the line.
 #[rattlefmt::skip]
 static REASONS: [&str; 134] = [
     "", "Operation not permitted", "", "No such process", "Interrupted system call", "",  // 0

@@ -108,7 +108,7 @@ impl<I: Input> LineReader<I> {
         }
     }
 
-    /// How many bytes were read from the input.
+    /// Returns how many bytes were read from the input.
     pub fn taken(&self) -> u64
         ensures value { result ≡ self.now.taken }
         ensures most { result ≤ 2 ^ 61 }
@@ -116,7 +116,7 @@ impl<I: Input> LineReader<I> {
         self.taken
     }
 
-    /// How many lines were returned.
+    /// Returns how many lines were returned so far.
     pub fn lines(&self) -> u64
         ensures { result ≡ self.now.lines }
     {

@@ -14,7 +14,7 @@ use sum_sources::{
     hash_input, hash_input_over,
 };
 
-// A reader of an input. It fails with the error this often before, and at each fault of the input.
+// A reader of an input. It fails with the error this often first, and then at each fault of the input.
 #[derive(Drop)]
 struct Reader<'a> {
     input: TwoParts<'a>,
@@ -58,7 +58,7 @@ fn abc_read(
 
 const DENIED: Ending = Ending::Broken(Fault::Denied);
 
-// A read into four bytes returns this, and writes this as the first, if it isn't 0, and no other.
+// Asserts that a read into four zeros returns this, and changes at most the first of them, to `first`.
 fn reads(rt: &impl Abort, input: &mut impl Input, want: Result<usize, Fault>, first: u8) {
     let mut buf = [0; 4];
     let found = input.read(&mut buf);
@@ -130,7 +130,7 @@ fn given_once(rt: &impl Abort, place: usize, ending: Ending) {
 // Neither a wrapper nor a reader's input reads again by itself, and a digest is that of the bytes before the end.
 #[test]
 fn inputs_that_go_on(rt: HostRuntime) {
-    // Python's hashlib, of no byte of "abc", of one, two and three.
+    // By Python's hashlib: of no byte of "abc", of one, two and three.
     for (place, digits) in [
         (0, b"d41d8cd98f00b204e9800998ecf8427e"),
         (1, b"0cc175b9c0f1b6a831c399e269772661"),
@@ -153,7 +153,7 @@ fn all_go_on(rt: &impl Abort, place: usize, ending: Ending, digits: &[u8]) {
     assert_hashed(rt, abc(place, ending), ending, digits);
 }
 
-// Over an input with this ending a hasher is given the bytes with this digest, or there is none. Nothing more is read.
+// Asserts that an input with this ending has this digest, or none if it is broken, and that nothing more is read.
 fn assert_hashed(rt: &impl Abort, mut input: TwoParts, ending: Ending, digits: &[u8]) {
     match hash_input(&mut input, Md5Hasher::new()) {
         Ok(digest) => {

@@ -22,7 +22,7 @@ const JOINED: &[u8] = b"900150983cd24fb0d6963f7d28e17f72  a\n#c\njunk\n\
 // The same line twice, of which a newline ends only the first.
 const TWICE: &[u8] = b"900150983cd24fb0d6963f7d28e17f72  a\n900150983cd24fb0d6963f7d28e17f72  a";
 
-// The next line is this. It has no contract, so that no proof computes it.
+// Checks that the reader's next line is this one. It has no contract, so that no proof computes it.
 fn gives<A: Allocator>(
     rt: &impl Abort,
     reader: &mut LineReader<impl Input>,
@@ -51,8 +51,8 @@ fn is_at(rt: &impl Abort, reader: LineReader<TwoParts>, lines: usize, place: usi
     assert_eq!(rt; reader.into_inner().phase(), phase);
 }
 
-// The reader of a content that has this ending after this many bytes, and goes on with the others, gives just these
-// lines. Then it returns the ending, and has read no further.
+// Asserts what a reader returns if its input has this ending after this many bytes, and goes on with the others: just
+// these lines, and then the ending. It has read no further.
 fn reads(
     rt: &(impl Abort + AllocGlobal),
     content: &[u8],

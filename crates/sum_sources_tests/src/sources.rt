@@ -34,7 +34,7 @@ fn refuses<S: Source>(rt: &impl Abort, source: &mut S, name: &[u8], fault: HashF
 }
 
 // A source with two answers to a name, of which the first counts, a file that can't be read to its end, and no room for
-// this name. Without a contract, so that no proof computes it.
+// this name. It has no contract, so that no proof computes it.
 fn notes<'a, A: Allocator + Copy>(
     rt: &impl Abort,
     alloc: A,
@@ -62,8 +62,8 @@ const BROKEN: &[u8] = b"broken";
 
 const MD5_OF_ABC: &[u8] = b"900150983cd24fb0d6963f7d28e17f72";
 
-// The lines of the crate's front page, the first answer to a name, and the names opened. What finds no room on the heap
-// changes nothing.
+// The lines of the crate's front page, the first answer to a name, and the names opened. An answer for which the
+// heap has no room changes nothing.
 #[test]
 fn told_source(rt: HostRuntime) -> Result<(), Fail> {
     let heap = LocalHeap::new(rt.alloc(), 1024)?;

@@ -16,7 +16,7 @@ fn is_called(name: &str, tool: Option<Tool>) -> bool {
     Tool::from_word(name) == tool && name.parse() == tool.ok_or(UnknownTool)
 }
 
-// Whether the tool has this name, is shown as it, and is called by it.
+// Whether this is the tool's name, `Display` writes it, and it names the tool.
 fn is_named(alloc: Global, tool: Tool, name: &str) -> Result<bool, Fail> {
     let shown = format!(in alloc; "{tool}")?;
     Ok(tool.name() == name && shown.as_str() == name && is_called(name, Some(tool)))
@@ -77,7 +77,7 @@ fn help(rt: HostRuntime) -> Result<(), Fail> {
     Ok(())
 }
 
-// The lines of the fault that words have.
+// The lines that are written for the fault of these words.
 fn lines_of_fault(tool: Tool, words: &Words<Global>) -> Result<ToldSink<256>, Fail> {
     let mut err = Buffered::new(ToldSink::new(256));
     match read_words(tool, words) {
@@ -114,7 +114,7 @@ fn check_fault(
     check_lines(rt, Tool::B2sum, (line, last.as_bytes()), lines.as_bytes())
 }
 
-// Each fault, as the words of a line, one more, and the text. What was typed is escaped.
+// For each fault: the words of a line, one more word, and the text. What was typed is escaped.
 const FAULTS: &[(&str, &str, &str)] = &[
     ("a", "--a\\b\nc\rd=e", UNKNOWN),
     ("a", "--st", "option '--st' is ambiguous"),
@@ -163,7 +163,7 @@ fn faults(rt: HostRuntime) -> Result<(), Fail> {
     Ok(())
 }
 
-// Of bytes that are no text, and of a tool that only checks.
+// The faults of a tool that only checks, one of them about bytes that aren't text.
 #[test]
 fn faults_of_anysum(rt: HostRuntime) -> Result<(), Fail> {
     let lines = b"anysum: unrecognized option '-\xff\\\\'\n\

@@ -138,8 +138,8 @@ impl<'a, I: Input> Checker<'a, I> {
     }
 }
 
-// Writes the report of the line in `line`, or the end of the manifest, according to what `next` returned; and returns
-// what the step returns.
+// Writes the report of the line in `line`, or the end of the manifest, according to what `next` returned. Returns what
+// the step returns.
 fn report_found<I: Input, O: Sink, E: Sink>(
     verdicts: &Verdicts<I>,
     labels: &Labels,

@@ -39,7 +39,7 @@ impl Model for CheckRules {
 }
 
 impl CheckRules {
-    /// The rules of these settings.
+    /// Creates the rules of these settings.
     pub(crate) fn new(settings: CheckSettings, from_stdin: bool) -> Self
         ensures { result ≡ rules_of settings from_stdin }
     {

@@ -6,8 +6,8 @@ use crate::inputs::size_limit::read_limited;
 use crate::{Fault, Input, PIECE};
 use digest_kinds::{Digest, Hasher};
 
-/// Reads what remains of `input`, which hasn't ended, and returns the digest that `hasher`, a new one, computes of these
-/// bytes, or the fault with which the input ends. If `LIMIT` bytes or more remain, that is `Fault::Other`.
+/// Reads what remains of `input`, which hasn't ended, and returns the digest that `hasher`, a new one, computes of
+/// these bytes, or the fault with which the input ends. If `LIMIT` bytes or more remain, that is `Fault::Other`.
 pub fn hash_input<I: Input, H: Hasher + Drop>(input: &mut I, hasher: H) -> Result<Digest, Fault>
     requires { H.holds hasher [] }
     ensures { HashesInput (H.kind_of hasher) (I.state input.old) (I.state input.new) result }
@@ -16,8 +16,8 @@ pub fn hash_input<I: Input, H: Hasher + Drop>(input: &mut I, hasher: H) -> Resul
     hash_input_over(input, hasher, &mut buffer)
 }
 
-/// As `hash_input`, but reads into the caller's buffer, so that one buffer serves many inputs. The buffer's previous
-/// content doesn't matter; its content afterwards is unspecified.
+/// Does what `hash_input` does, but reads into the caller's buffer, so that one serves many inputs. The buffer's
+/// previous content doesn't matter; its content afterwards is unspecified.
 pub fn hash_input_over<I: Input, H: Hasher + Drop>(
     input: &mut I,
     mut hasher: H,

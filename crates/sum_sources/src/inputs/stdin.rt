@@ -58,8 +58,8 @@ impl<I: Input> Stdin<I> {
         }
     }
 
-    /// Creates a standard input that is closed. Each read of what it gives when it is taken fails with
-    /// `Fault::Os(EBADF)`, *Bad file descriptor*.
+    /// Creates a standard input that is closed. Each read of what the first [`Stdin::take`] gives fails
+    /// with `Fault::Os(EBADF)`, *Bad file descriptor*.
     pub fn closed() -> Self
         ensures { result ≡ (false, Some (Closed (Ending.Broken bad_descriptor) Phase.Unfinished)) }
     {

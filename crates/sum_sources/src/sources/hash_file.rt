@@ -30,7 +30,7 @@ pub fn hash_file<S: Source, H: Hasher + Drop>(
     hash_file_over(source, name, hasher, &mut buffer)
 }
 
-/// As `hash_file`, but reads into the caller's buffer, so that one buffer serves many files. The buffer's previous
+/// Does what `hash_file` does, but reads into the caller's buffer, so that one serves many files. The buffer's previous
 /// content doesn't matter; its content afterwards is unspecified.
 pub fn hash_file_over<S: Source, H: Hasher + Drop>(
     source: &mut S,

@@ -59,7 +59,7 @@ impl<I: Input, S: Source> WithStdin<I, S> {
     }
 }
 
-/// Whether the name is that of standard input, `-`.
+/// Returns whether the name is that of standard input, `-`.
 pub fn is_dash(name: &[u8]) -> bool
     ensures { result ≡ is_dash name.now }
 {
@@ -89,8 +89,8 @@ impl<I: Input + Drop, S: Source> Source for WithStdin<I, S> {
         ensures file { IfOk result (λ file. opened_state I.state S.File.state file.place
             ≡ opened_file (tells_both S.tells)
             (with_stdin_state I.state self.old.first self.old.log (S.state self.old.source)) name.now) }
-        // `-` gives what taking standard input gives, and any other name is opened in the source. The other is
-        // unchanged.
+        // `-` gives what taking standard input gives, and the source is unchanged. Any other name is opened in the
+        // source, and standard input is unchanged.
         ensures parts { MatchBool (is_dash name.now)
             (MatchResult result
             (λ file. TakesStdin self.old.stdin self.new.stdin file.place) (λ _. ⊥)

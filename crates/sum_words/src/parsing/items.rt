@@ -41,8 +41,8 @@ enum ParserState<'a> {
     Done,
 }
 
-// The step of one option or word. It is an item, and what is read next; or the next word is the value of an option; or
-// all further words are operands.
+// The step of one option or word: an item, and what is read next; or an option whose value is the next word; or all
+// further words are operands.
 #[derive(Clone, Copy)]
 enum ParserStep<'a> {
     Item(Item<'a>, ParserState<'a>),
@@ -104,7 +104,7 @@ fn next_step<'a>(
     }
 }
 
-// The next item, by a step.
+// Applies the step, and returns the next item, if there is one.
 fn apply_step<'a>(
     tool: Tool,
     words: &mut WordsIter<'a>,
