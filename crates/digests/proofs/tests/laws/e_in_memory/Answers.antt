@@ -15,7 +15,7 @@ returns c = λ zero.
     let with_e : SourceState → SourceState = λ s. record s {
       told = s.told ++ record e { from = times (codes "e") (names_of s.openings) } ∷ [];
     } in
-    let added = c.in_ok-add.ensures.ok ∙ ap with_e c.new-source.ensures.0 in
+    let added = c.in_ok-add.ensures.ok ∙ ap with_e c.new-source.ensures in
     let told : c.new-streams.result.inputs.told ≡ with_stdin (Some empty_content) (e ∷ []) =
     grind (arith, c.new-inputs.ensures.state, c.new-stdin.ensures, added, c.new.ensures) in
     let all = c.with_stdin_tells.ensures empty_content tells_first (e ∷ []) (first_answer (e ∷ [])) (λ name k. refl) in
