@@ -237,8 +237,10 @@ module _ {I : Type 0} (state : I → InputState) (first : CheckerValue I) (m : S
       pub HasComeTo-last : RunsManifest first.verdicts.rules first.labels (state first.verdicts.reader.input)
           (state last.verdicts.reader.input) m o x
       HasComeTo-last =
-          let reading = λ (going : was.phase ≡ Unfinished). advances.verdict.reading (h.reading (start.reading going)) in
-          let good_at = λ (good : x ≡ Ok true). good_found last.verdicts q.labels vector advances.found n.outputs o.outputs
+          let reading = λ (going : was.phase ≡ Unfinished).
+          advances.verdict.reading (h.reading (start.reading going)) in
+          let good_at = λ (good : x ≡ Ok true).
+          good_found last.verdicts q.labels vector advances.found n.outputs o.outputs
           (rw good at advances.reports) in
           record {
             behavior = λ going c of w agrees. (from_start going c of w agrees).performs;

@@ -41,7 +41,8 @@ judged : (r : Rules) (files : List ℕ → Answer) (w : World) (n : ℕ) (f : Fo
 judged r files w n f i steady h e =
     let is = parse_is_grammar own_profile r.algo f (prefix i) in
     let verdict : judge r w (spelled_for i) ≡ Right =
-    rw (steady i.name (times i.name w.opened) h.no_dash) (search (rules, clip-short, limit-value, and-false, bytes_eq-Decides)) in
+    rw (steady i.name (times i.name w.opened) h.no_dash)
+    (search (rules, clip-short, limit-value, and-false, bytes_eq-Decides)) in
     rw ((is.when_entry (spelled_for i)).1 e, verdict) refl
 
 -- written lines are all judged right, each in the world that those before it leave

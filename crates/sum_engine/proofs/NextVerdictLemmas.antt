@@ -59,7 +59,8 @@ module _ {I : Type 0} {state : I → InputState} {p q : VerdictsValue I} {a b : 
           let reads = h.reads reading in
           let next = reads.line c of in
           let first : CheckState = state_at p (remaining p.reader c) (world_at w a) in
-          let last : CheckState = state_at (after_line p q reader line (Ok found)) (remaining reader c) (world_at w b) in
+          let last : CheckState =
+          state_at (after_line p q reader line (Ok found)) (remaining reader c) (world_at w b) in
           let f : next_judged p.rules first line ≡ line_verdict_value vector found =
           sym (rw h.advances.lines at (h.verdict w agrees)) in
           let lines : lines_under p.rules.profile (remaining p.reader c)

@@ -26,7 +26,8 @@ pub lines-preserved : goal.lines-preserved
 lines-preserved g c =
     let so_far = c.lines.invariant in
     let done = c.in-Ok-Going.ensures in
-    HasComeTo-more _ _ _ _ _ _ _ _ so_far (rw c.in-Ok-Going.field-0-is at (done.advances so_far.going)) (rw c.in-Ok-Going.field-0-is at done.outcome.kept)
+    HasComeTo-more _ _ _ _ _ _ _ _ so_far (rw c.in-Ok-Going.field-0-is at (done.advances so_far.going))
+    (rw c.in-Ok-Going.field-0-is at done.outcome.kept)
     (rw c.in-Ok-Going.field-0-is at (done.step so_far.going))
 
 -- each line is counted, below the limit

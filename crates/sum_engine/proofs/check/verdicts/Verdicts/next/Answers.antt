@@ -14,8 +14,10 @@ returns-in-Ok-clause-verdict g c =
     let read = c.in-Ok-Line.ensures in
     let advances = rw c.in-Ok-Line.field-0-is at read.reader in
     let reads = rw c.in-Ok-Line.field-0-is at read.line in
+    let done = c.in-Ok.ensures in
     rw (← c.self.view_is) (λ going. next_verdict-line c.next_line.new.self c.next_line.new.line.items
-    c.judge_line.new.self (Ok c.in-Ok.found) (search (rules, advances, reads, read.bounds, c.self.invariant, c.in-Ok.ensures)))
+    c.judge_line.new.self (Ok c.in-Ok.found)
+    (search (rules, advances, reads, read.bounds, c.self.invariant, done)))
 
 -- the line is ignored
 pub returns-then-is_ignored-clause-verdict : goal.returns-then-is_ignored-clause-verdict
@@ -26,7 +28,8 @@ returns-then-is_ignored-clause-verdict g c =
     rw c.deref.ensures.value at (sym c.is_ignored.ensures ∙ c.if-is_ignored.true) in
     let undecided = ignored_undecided c.self.inside.rules.algo line ignored in
     let same : form_then c.self.inside.form Undecided ≡ c.self.inside.form =
-    elim c.self.inside.form as (λ f. form_then f Undecided ≡ f) [ Undecided ↦ refl | Standard ↦ refl | Reversed ↦ refl ] in
+    elim c.self.inside.form as (λ f. form_then f Undecided ≡ f)
+    [ Undecided ↦ refl | Standard ↦ refl | Reversed ↦ refl ] in
     let count = c.count_verdict.ensures in
     rw (← c.self.view_is) (λ going. next_verdict-line c.next_line.new.self line c.count_verdict.new.self
     (Ok c.count_verdict.result) (record {
@@ -52,7 +55,8 @@ returns-in-Err-judge_line-clause-verdict g c =
     let reads = rw c.in-Ok-Line.field-0-is at read.line in
     let done = c.in-Err-judge_line.ensures in
     rw (← c.self.view_is) (λ going. next_verdict-line {vector = c.judge_line.new.line.items}
-    c.next_line.new.self c.next_line.new.line.items c.judge_line.new.self (Err _) (search (rules, advances, reads, read.bounds, c.self.invariant, done, c.self-2.view_is)))
+    c.next_line.new.self c.next_line.new.line.items c.judge_line.new.self (Err _)
+    (search (rules, advances, reads, read.bounds, c.self.invariant, done, c.self-2.view_is)))
 
 -- the reader stopped
 pub returns-in-Err-clause-verdict : goal.returns-in-Err-clause-verdict
