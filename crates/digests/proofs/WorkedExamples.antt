@@ -1,20 +1,20 @@
 -- Worked examples: the meaning of some command lines, computed. It has both texts, the names that are opened, and
 -- whether all is good.
-use Rattle.std.proofs.Common.{rules, arith, ◌≡◌, ◌∙◌, ap, ℕ, ◌++◌, Bool, List, [], ◌∷◌, refl, codes, true, false, if◌then◌else◌, bytes_eq, Result, Ok, Err, IfOk, inl, inr, append_assoc}
+use Rattle.std.proofs.Common.{arith, ◌≡◌, ◌∙◌, ap, ℕ, ◌++◌, Bool, List, [], ◌∷◌, refl, codes, true, false, if◌then◌else◌, bytes_eq, Result, Ok, Err, IfOk, Some, sym, inl, inr}
 use Rattle.std.specs.{Prelude.⊤, Prelude.◌⊎◌, Path.rsplit_once, Fmt.digits}
 use Rattle.md5.specs.Md5.{block_words as md5_words, rounds as md5_rounds, compress as md5_compress, hash_after as md5_after, digest_bytes as md5_bytes, md5}
 use Rattle.blake2b_core.specs.Compression.{mix, round, work_vector, compress}
 use Rattle.blake2b_core.specs.Digest.{hash_after as blake2b_after, blake2b}
-use Rattle.sum_engine.specs.Behavior.{World, Behavior, answer_to, digest_or_fault, Fault, Whole, Broken, out_text, err_text, asks}
+use Rattle.sum_engine.specs.Behavior.{World, answer_to, digest_or_fault, Fault, Whole, Broken, out_text, err_text, asks}
 use Rattle.digest_kinds.specs.{Kinds.full_kind, declared.algo.Algo.Algo, declared.algo.Algo.TheVariants.Md5, declared.algo.Algos.Algos}
 use Rattle.hex.specs.Hex.{encode_with, decode_pairs}
 use Rattle.sum_lines.specs.{declared.writing.put_line.Mode.Mode, declared.writing.put_line.Mode.TheVariants.Text, Lines.line, grammar.LineParts.plain_parts, grammar.LineParts.tagged_parts, grammar.ParsedLines.entry_of}
 use Rattle.sum_sources.specs.{declared.fault.Fault.TheVariants.NotFound, declared.fault.Fault.TheVariants.Other, ManifestLines.raw_lines, Contents.Content, Contents.limit, Contents.empty_content, Sources.Answer, WithStdin.answers_with}
-use Rattle.sum_words.specs.{declared.tool.Tool.Tool, declared.tool.Tool.TheVariants.Md5sum, declared.tool.Tool.TheVariants.B2sum, declared.tool.Tool.TheVariants.Anysum, Items.ByteString, CommandLines.command_line, CommandLines.NeedsMemory, Texts.not_read_line, Tools.tool_called}
+use Rattle.sum_words.specs.{declared.tool.Tool.Tool, declared.tool.Tool.TheVariants.Md5sum, declared.tool.Tool.TheVariants.B2sum, declared.tool.Tool.TheVariants.Anysum, Items.ByteString, Texts.not_read_line}
 use Rattle.sum_words.proofs.WorkedExamples.{words, words_on_literals}
-use Rattle.sum_engine.specs.{declared.settings.CheckSettings.CheckSettings, declared.settings.Report.TheVariants.All, declared.stop.Stop.Stop, Execution.Agrees, Execution.asked, Execution.world_at, Execution.StreamsState, Execution.PerformsSteps}
+use Rattle.sum_engine.specs.{declared.settings.CheckSettings.CheckSettings, declared.settings.Report.TheVariants.All, declared.stop.Stop.Stop, Execution.Agrees, Execution.StreamsState, Execution.PerformsSteps}
 use Rattle.sum_engine.proofs.BehaviorLemmas.{events_extend}
-use Rattle.digests.specs.{Meaning.meaning, Meaning.status_of, GenerationRuns.GenerationRun, Program.CallRefuses, Program.CommandPerforms, InMemory.CommandPerformsIn}
+use Rattle.digests.specs.{Meaning.meaning, Meaning.status_of, GenerationRuns.GenerationRun, Program.CallPerforms, Program.CallRefuses}
 
 -- what a worked example unfolds, so that its texts are computed
 unfoldable meaning_on_literals : ⊤
@@ -137,13 +137,17 @@ checks = (refl, refl, refl, refl, refl, refl, refl)
 
 -- ---- what the laws say of some command lines
 
+-- what `md5sum` on some words does in a world
+abbrev pub does : List ByteString → World → StreamsState → StreamsState → Result ℕ Stop → Type 0
+does words w = let run = meaning Md5sum words w in PerformsSteps run.steps (status_of run.good)
+
 -- a run that performed a good behavior and didn't stop: the status is 0, and standard output got the text
-pub good_run : (run : Behavior) (a b : StreamsState) (r : Result ℕ Stop) (text : ByteString)
-    → (run.good ≡ true) × (out_text run ≡ text) → PerformsSteps run.steps (status_of run.good) a b r
+pub good_run : (words : List ByteString) (w : World) (a b : StreamsState) (r : Result ℕ Stop) (text : ByteString)
+    → let run = meaning Md5sum words w in (run.good ≡ true) × (out_text run ≡ text) → does words w a b r
     → IfOk r (λ status. (status ≡ 0) × (b.outputs.out.written ≡ a.outputs.out.written ++ text))
-good_run run a b (Ok status) text is did =
-    (did.0 ∙ ap status_of is.0, rw is.1 at (events_extend run a b did.1).2)
-good_run run a b (Err stop) text is did = tt
+good_run ws w a b (Ok status) text is did =
+    (did.0 ∙ ap status_of is.0, rw is.1 at (events_extend (meaning Md5sum ws w) a b did.1).2)
+good_run ws w a b (Err stop) text is did = tt
 
 -- `md5sum e`, if `e` is empty
 pub empty_file : (w : World) → answer_to w (codes "e") ≡ Ok empty_content
@@ -152,40 +156,26 @@ unfolding meaning_on_literals
 empty_file w is = rw is (refl, refl)
 
 -- `md5sum`, if standard input is empty
-empty_stdin : (w : World) → answer_to w (codes "-") ≡ Ok empty_content → let run = meaning Md5sum [] w in
+pub empty_stdin : (w : World) → answer_to w (codes "-") ≡ Ok empty_content → let run = meaning Md5sum [] w in
     (run.good ≡ true) × (out_text run ≡ codes "d41d8cd98f00b204e9800998ecf8427e  -\n")
 unfolding meaning_on_literals
 empty_stdin w is = rw is (refl, refl)
 
--- so the program, which needs no memory for that, wrote the line if it returned 0
-pub called_alone : (w : World) (a b : StreamsState) (status : ℕ) → answer_to w (codes "-") ≡ Ok empty_content
-    → CommandPerformsIn w (command_line (codes "md5sum" ∷ [])) a b status
-    ⊎ (NeedsMemory (codes "md5sum" ∷ []) × CallRefuses not_read_line a b status) → status ≡ 0
-    → b.outputs.out.written ≡ a.outputs.out.written ++ codes "d41d8cd98f00b204e9800998ecf8427e  -\n"
-unfolding tool_called
-called_alone w a b status is (inl (Ok x, between, did, failed, same, reports)) zero =
-    rw reports.1 (good_run (meaning Md5sum [] w) a between (Ok x) _ (empty_stdin w is) did).1
-called_alone w a b status is (inl (Err stop, between, did, failed, same, reports)) zero =
-    let one = reports.0 in absurd (omega arith)
-called_alone w a b status is (inr (needs, refused)) zero = absurd (search rules)
-
--- the same for `md5sum e`, which needs memory for its words: if they weren't read, the status isn't 0
-pub called_on_e : (w v : World) (a b : StreamsState) (status : ℕ) → answer_to w (codes "e") ≡ Ok empty_content
-    → Agrees v b.inputs → CommandPerformsIn w (command_line (codes "md5sum" ∷ codes "e" ∷ [])) a b status
-    ⊎ (NeedsMemory (codes "md5sum" ∷ codes "e" ∷ []) × CallRefuses not_read_line a b status) → status ≡ 0
-    → b.outputs.out.written ≡ a.outputs.out.written ++ e_line
-unfolding tool_called
-called_on_e w v a b status is agrees (inl (Ok x, between, did, failed, same, reports)) zero =
-    rw reports.1 (good_run (meaning Md5sum (codes "e" ∷ []) w) a between (Ok x) _ (empty_file w is) did).1
-called_on_e w v a b status is agrees (inl (Err stop, between, did, failed, same, reports)) zero =
-    let one = reports.0 in absurd (omega arith)
-called_on_e w v a b status is agrees (inr (needs, (Ok x, between, did, failed, same, reports))) zero =
-    let one = (did v (rw same at agrees)).0 in absurd (omega (arith, one, reports.0))
-called_on_e w v a b status is agrees (inr (needs, (Err stop, between, did, failed, same, reports))) zero =
-    let one = reports.0 in absurd (omega arith)
+-- a call that returned 0 ran to its end, and its words were read
+pub ran_to_end : {Needs : Type 0} {b : StreamsState} {status : ℕ} (a : StreamsState)
+    (Did : StreamsState → StreamsState → Result ℕ Stop → Type 0) → (Needs → (w : World) × Agrees w b.inputs)
+    → CallPerforms (Some Md5sum) Did a b status ⊎ (Needs × CallRefuses not_read_line a b status) → status ≡ 0
+    → (c : StreamsState) × Did a c (Ok 0) × (b.inputs ≡ c.inputs) × (b.outputs ≡ c.outputs)
+ran_to_end a Did known (inl (Ok x, c, did, failed, same, reports)) zero =
+    (c, rw (sym reports.0 ∙ zero) at did, same, reports.1)
+ran_to_end a Did known (inr (needs, (Ok x, c, did, failed, same, reports))) zero =
+    let (w, agrees) = known needs in
+    let one = (did w (rw same at agrees)).0 in absurd (omega (arith, one, reports.0))
+ran_to_end a Did known (inl (Err stop, c, did, failed, same, reports)) zero = let one = reports.0 in cc
+ran_to_end a Did known (inr (needs, (Err stop, c, did, failed, same, reports))) zero = let one = reports.0 in cc
 
 -- `md5sum - -`, if the second `-` is empty: whatever the first is, the last line is that of an empty file
-dash_twice : (w : World) → w.opened ≡ [] → w.answer (codes "-") 1 ≡ Ok empty_content
+pub dash_twice : (w : World) → w.opened ≡ [] → w.answer (codes "-") 1 ≡ Ok empty_content
     → (text : ByteString) × (out_text (meaning Md5sum (codes "-" ∷ codes "-" ∷ []) w)
     ≡ text ++ codes "d41d8cd98f00b204e9800998ecf8427e  -\n")
 unfolding meaning_on_literals
@@ -196,25 +186,6 @@ dash_twice w none later = by (digest_or_fault (full_kind Md5) (w.answer (codes "
         ≡ text ++ codes "d41d8cd98f00b204e9800998ecf8427e  -\n")
     by (Ok d) is = (line (record { mode = Text; zero = false }) (full_kind Md5) (codes "-") d, rw (none, is, later) refl)
     by (Err f) is = ([], rw (none, is, later) refl)
-
--- so the program wrote that line last, if it returned 0
-pub called_twice : (w : World) (a b : StreamsState) (status : ℕ) → asked a.inputs ≡ []
-    → w.answer (codes "-") 1 ≡ Ok empty_content → Agrees w b.inputs
-    → CommandPerforms (command_line (codes "md5sum" ∷ codes "-" ∷ codes "-" ∷ [])) a b status
-    ⊎ (NeedsMemory (codes "md5sum" ∷ codes "-" ∷ codes "-" ∷ []) × CallRefuses not_read_line a b status) → status ≡ 0
-    → (text : ByteString) × (b.outputs.out.written ≡ text ++ codes "d41d8cd98f00b204e9800998ecf8427e  -\n")
-unfolding tool_called
-called_twice w a b status none later agrees (inl (Ok x, between, did, failed, same, reports)) zero =
-    let run = meaning Md5sum (codes "-" ∷ codes "-" ∷ []) (world_at w a.inputs) in
-    let (text, is) = dash_twice (world_at w a.inputs) none later in
-    let wrote = (events_extend run a between (did w (rw same at agrees)).1).2 in
-    (a.outputs.out.written ++ text, rw (reports.1, wrote, is, append_assoc) refl)
-called_twice w a b status none later agrees (inl (Err stop, between, did, failed, same, reports)) zero =
-    let one = reports.0 in absurd (omega arith)
-called_twice w a b status none later agrees (inr (needs, (Ok x, between, did, failed, same, reports))) zero =
-    let one = (did w (rw same at agrees)).0 in absurd (omega (arith, one, reports.0))
-called_twice w a b status none later agrees (inr (needs, (Err stop, between, did, failed, same, reports))) zero =
-    let one = reports.0 in absurd (omega arith)
 
 -- a check without other options
 abbrev pub plain_check : Algos → CheckSettings

@@ -7,7 +7,7 @@ use Rattle.sum_engine.specs.Execution.{Stop, Memory, Write, StreamsState, AsksNa
 use Rattle.sum_engine.specs.Behavior.{World, Step, Behavior, trace, events_of, opened_name, err_event, out_event, single_step}
 use Rattle.sum_engine.specs.{check.Checker.step_then, check.CheckerLaws.EventsExtend, refinement.Writes.WritesAndReturns}
 use Rattle.sum_engine.specs.refinement.Names.{MemoryWasRefused}
-use Rattle.sum_engine.proofs.ExecutionLemmas.{step_performed, kind-all, kind-none, Happened-none, Happened-then, refused_first}
+use Rattle.sum_engine.proofs.ExecutionLemmas.{step_performed, kind-all, kind-none, Happened-then, refused_first}
 
 -- ---- a behavior after a step, and one behavior after another
 
@@ -49,10 +49,6 @@ pub record HasDoneUpTo (whole left : Behavior) (a b : StreamsState) : Type 0 whe
   pub steps : whole.steps ≡ done ++ left.steps
   pub good : left.good ≡ whole.good
   pub happened : Happened a b (trace done)
-
--- nothing has happened so far, so the whole behavior is left
-pub done_none : (whole : Behavior) (a : StreamsState) → HasDoneUpTo whole whole a a
-done_none whole a = record { done = []; steps = refl; good = refl; happened = Happened-none a }
 
 -- one more step happened
 pub done_more : {a b c : StreamsState} {whole left : Behavior} (step : Step) (later : Behavior)

@@ -14,16 +14,16 @@ use Rattle.sum_engine.specs.declared.stop.Stop.TheVariants as stops
 use Rattle.sum_engine.specs.Execution.{Stop, Write, OutputsState, StreamsState, Agrees, ReadsToEndIf, world_at, PerformsSteps, StopHasCause}
 use Rattle.sum_engine.specs.refinement.Writes.{WritesAndReturns}
 use Rattle.sum_engine.proofs.ReadAheadLemmas.{read_fits_clip, stops_at_step}
-use Rattle.sum_engine.proofs.{CountLemmas.counts_then-none, ExecutionLemmas.one_at_most}
+use Rattle.sum_engine.proofs.ExecutionLemmas.{one_at_most, Happened-none}
 use Rattle.sum_engine.proofs.WorldLemmas.{agrees_before, reads_none, reads_then}
-use Rattle.sum_engine.proofs.BehaviorLemmas.{HasDoneUpTo, done_none, done_more, done_stops}
+use Rattle.sum_engine.proofs.BehaviorLemmas.{HasDoneUpTo, done_more, done_stops}
 
 -- ---- before the first step
 
 -- all of a new checker's behavior remains
 pub remaining-initial : (r : Rules) (labels : LabelsValue) (c : Content) (w : World)
     → remaining_behavior r labels (initial_state c w) ≡ content_behavior r labels c (all_verdicts r w c)
-remaining-initial r labels c w = rw counts_then-none refl
+remaining-initial r labels c w = search rules
 
 -- at the first line the state is the initial one
 state-initial : {I : Type 0} {state : I → InputState} {p : VerdictsValue I} {input : I} → IsAtStart state p input
@@ -149,7 +149,7 @@ module _ {I : Type 0} (state : I → InputState) (first : CheckerValue I) (m : S
   pub HasComeTo-none : first.outcome ≡ None → HasComeTo first m
   HasComeTo-none none =
       let happened : HoldsUpTo first.verdicts m (λ a b. ComesTo a b m) =
-      record { holds = λ reading c of w agrees. search (rules, done_none) } in
+      record { holds = λ reading c of w agrees. search (rules, Happened-none) } in
       search (rules, reads_none, happened)
 
   -- after one more step, which returned x, P holds if it follows from what happened before and from the step
@@ -211,13 +211,6 @@ module _ {I : Type 0} (state : I → InputState) (first : CheckerValue I) (m : S
       size : length (drop (length was.bytes) now.bytes) ≡ taken
       size = length-drop (length was.bytes) now.bytes ∙ omega (arith, none, h.taken, advances.verdict.reader.taken)
 
-      reading : was.phase ≡ Unfinished → IsReading state last.verdicts.reader
-      reading going = advances.verdict.reading (h.reading (start.reading going))
-
-      good_at : x ≡ Ok true → (advances.found ≡ Ok None) × (last.verdicts.counts.unread ≡ 0)
-      good_at good = good_found last.verdicts q.labels vector advances.found n.outputs o.outputs
-          (rw good at advances.reports)
-
       -- the check ended or stopped as it does from the first line on
       from_start : was.phase ≡ Unfinished → (c : Content) → IsOf (reads_past (length was.bytes) now) c
           → (w : World) → Agrees w o.inputs
@@ -243,16 +236,22 @@ module _ {I : Type 0} (state : I → InputState) (first : CheckerValue I) (m : S
       -- its end or a fault; and to its end, if it is good
       pub HasComeTo-last : RunsManifest first.verdicts.rules first.labels (state first.verdicts.reader.input)
           (state last.verdicts.reader.input) m o x
-      HasComeTo-last = record {
-        behavior = λ going c of w agrees. (from_start going c of w agrees).performs;
-        stopped = λ going c of w agrees.
-            let past = (reading going).past in
-            let fits = read_fits_clip now.phase _ c past of (rw size advances.verdict.bounds.taken) in
-            rw size ((from_start going c of w agrees).stopped (rw size at fits));
-        manifest = λ going.
-            ((reading going).past, λ good. (reading going).end (advances.verdict.end (good_at good).0));
-        same = search rules;
-        cause = cause_ends x h.so_far (step_cause advances);
-        reads = reads_then (λ good. none_unread q.verdicts last.verdicts advances.found advances.verdict.counts
-            (good_at good).1) h.reads advances.verdict.reads;
-      }
+      HasComeTo-last =
+          let reading = λ (going : was.phase ≡ Unfinished).
+          advances.verdict.reading (h.reading (start.reading going)) in
+          let good_at = λ (good : x ≡ Ok true).
+          good_found last.verdicts q.labels vector advances.found n.outputs o.outputs
+          (rw good at advances.reports) in
+          record {
+            behavior = λ going c of w agrees. (from_start going c of w agrees).performs;
+            stopped = λ going c of w agrees.
+                let past = (reading going).past in
+                let fits = read_fits_clip now.phase _ c past of (rw size advances.verdict.bounds.taken) in
+                rw size ((from_start going c of w agrees).stopped (rw size at fits));
+            manifest = λ going.
+                ((reading going).past, λ good. (reading going).end (advances.verdict.end (good_at good).0));
+            same = search rules;
+            cause = cause_ends x h.so_far (step_cause advances);
+            reads = reads_then (λ good. none_unread q.verdicts last.verdicts advances.found advances.verdict.counts
+                (good_at good).1) h.reads advances.verdict.reads;
+          }

@@ -11,9 +11,9 @@ use Rattle.sum_engine.specs.{check.Checking.CheckSettings, check.Checking.check_
 use Rattle.sum_engine.specs.check.ReadAhead.{StopsAtStep, StopsAtLine}
 use Rattle.sum_engine.specs.Execution.{Stop, Memory, asked, OutputsState, StreamsState, world_at, Happened, Performs}
 use Rattle.sum_engine.specs.{refinement.Writes.WritesAndReturns, refinement.Names.MemoryWasRefused}
-use Rattle.sum_engine.proofs.{ExecutionLemmas.Happened-by, ExecutionLemmas.Happened-then, ExecutionLemmas.kept_performs, WorldLemmas.world_after}
+use Rattle.sum_engine.proofs.{ExecutionLemmas.Happened-by, ExecutionLemmas.Happened-then, ExecutionLemmas.kept_performs, WorldLemmas.asks_one, WorldLemmas.world_after}
 use Rattle.sum_engine.proofs.{BehaviorLemmas.behind_step, BehaviorLemmas.Performs-step, BehaviorLemmas.Performs-refused, CheckLinesLemmas.manifest_behavior}
-use Rattle.sum_engine.proofs.OpenedNameLemmas.{WasOpened, fault_asks, fault_answer}
+use Rattle.sum_engine.proofs.OpenedNameLemmas.{WasOpened, fault_answer}
 
 -- the step that opens a manifest of that name
 abbrev pub opening : List ℕ → Step
@@ -94,7 +94,7 @@ module _ (settings : CheckSettings) (tool name : List ℕ) (a : StreamsState) wh
       → Performed (record a { inputs = m; outputs = outputs }) x
   refused m f outputs x opens said =
       Performs-step (λ w. check_behavior settings tool w name) (λ g. g) false a
-      (record a { inputs = m; outputs = outputs }) (fault_asks a.inputs m name f opens)
+      (record a { inputs = m; outputs = outputs }) (asks_one a.inputs m name (Some (Err f)) opens)
       (λ w agrees. let answer = fault_answer a.inputs m name f opens w agrees in rw answer refl) said
 
   -- nothing was read of a manifest that could not be opened

@@ -41,7 +41,8 @@ judged : (r : Rules) (files : List ℕ → Answer) (w : World) (n : ℕ) (f : Fo
 judged r files w n f i steady h e =
     let is = parse_is_grammar own_profile r.algo f (prefix i) in
     let verdict : judge r w (spelled_for i) ≡ Right =
-    rw (steady i.name (times i.name w.opened) h.no_dash) (search (rules, clip-short, limit-value, and-false, bytes_eq-Decides)) in
+    rw (steady i.name (times i.name w.opened) h.no_dash)
+    (search (rules, clip-short, limit-value, and-false, bytes_eq-Decides)) in
     rw ((is.when_entry (spelled_for i)).1 e, verdict) refl
 
 -- written lines are all judged right, each in the world that those before it leave
@@ -84,10 +85,6 @@ module _ (r : Rules) (labels : LabelsValue) where
   texts-are end c (j ∷ js) =
       let (out, err) = texts-are end (past_line c) js in search (rules, append_assoc, out, err)
 
-  -- the text at the end of a manifest of right lines is empty
-  no-summary : (k : ℕ) → end_text r labels Whole (right_counts (suc k)) ≡ []
-  no-summary k = search rules
-
 -- a manifest of right lines is good
 is-good : (r : Rules) (k : ℕ) → good r Whole (right_counts (suc k)) ≡ true
 is-good r k = rw (ne_eqb (suc k) 0 (λ e. omega (arith, e)), or-true) refl
@@ -124,5 +121,5 @@ manifest_good check tool manifest files w (i ∷ is) steady all some fits given 
       good = ap (λ (q : Behavior). q.good) here ∙ ap (good r Whole) are.2 ∙ is-good r (length is);
       out = ap out_text here ∙ texts.0 ∙ are.0;
       err = ap err_text here ∙ texts.1 ∙ ap (λ t. t ++ end) are.1
-          ∙ ap (end_text r labels Whole) are.2 ∙ no-summary r labels (length is);
+          ∙ ap (end_text r labels Whole) are.2 ∙ search rules;
     }

@@ -2,11 +2,11 @@
 use Rattle.std.proofs.Common.{rules, ◌≡◌, ℕ, zero, suc, ◌+◌, ◌-◌, ◌≤◌, List, [], ◌∷◌, ◌++◌, Ok, length, take, drop, refl, ap, sym, ◌∙◌, arith, length-drop, slice_index_or}
 use Rattle.std.proofs.lemmas.List.{take-append-drop}
 use Rattle.sum_engine.specs.{check.Rules.Rules, check.Rules.LabelsValue, check.Reports.counts_of, check.Reports.end_text}
-use Rattle.sum_engine.specs.check.Judge.{Form, form, lines_under, LineVerdictValue, asks_of, verdicts, all_verdicts, line_verdict, parse_line, past_line, past_lines}
+use Rattle.sum_engine.specs.check.Judge.{Form, form, lines_under, LineVerdictValue, verdicts, all_verdicts, past_line, past_lines}
 use Rattle.sum_engine.specs.check.Checking.{line_steps, content_behavior}
 use Rattle.sum_engine.specs.check.CheckStates.{CheckState, remaining_behavior, initial_state}
 use Rattle.sum_engine.specs.{check.Checker.Going, check.Checker.IsStep, check.Checker.step_then, Execution.StreamsState, Execution.Happened}
-use Rattle.sum_engine.specs.Behavior.{World, after, Behavior, trace, Content}
+use Rattle.sum_engine.specs.Behavior.{World, Behavior, trace, Content}
 use Rattle.sum_engine.specs.check.CheckerLaws.{StepsGoing, StepsJoin}
 use Rattle.sum_engine.proofs.{RemainingLemmas.past_next, ExecutionLemmas.Happened-none, BehaviorLemmas.HasDoneUpTo, BehaviorLemmas.behavior_then-happened}
 use Rattle.sum_engine.proofs.CheckLinesLemmas.{remaining-initial, none_left, done_last}
@@ -14,12 +14,10 @@ use Rattle.sum_engine.proofs.CheckLinesLemmas.{remaining-initial, none_left, don
 -- ---- as many steps as lines, and one more
 
 -- there are as many verdicts as lines
-length_verdicts : (r : Rules) (f : Form) (w : World) (n : ℕ) (ls : List (List ℕ))
+length_verdicts : (r : Rules) (f : Form) (ls : List (List ℕ)) (w : World) (n : ℕ)
     → length (verdicts r f w n ls) ≡ length ls
-length_verdicts r f w n [] = refl
-length_verdicts r f w n (l ∷ ls) =
-    let asked = asks_of (line_verdict r w (n + 1) (parse_line r.profile r.algo f l)) in
-    ap suc (length_verdicts r f (after w asked) (n + 1) ls)
+length_verdicts r f [] w n = refl
+length_verdicts r f (l ∷ ls) w n = ap suc (length_verdicts r f ls _ (n + 1))
 
 -- a manifest has one more step than it has verdicts
 length_steps : (r : Rules) (labels : LabelsValue) (end : List ℕ) (c : Content) (js : List LineVerdictValue)
@@ -50,10 +48,6 @@ module _ (r : Rules) (labels : LabelsValue) (c : Content) (w : World) (s : Strea
     pub done : Happened s t (trace (take k whole.steps))
     pub steps : (remaining_behavior r labels b).steps ≡ drop k whole.steps
     pub good : (remaining_behavior r labels b).good ≡ whole.good
-
-  -- no step was taken yet
-  after_none : After (initial_state c w) s 0
-  after_none = search (rules, remaining-initial, Happened-none)
 
   -- one more step was taken
   after_more : {b d : CheckState} {t z : StreamsState} {v : List ℕ} {k : ℕ} → After b t k
@@ -94,7 +88,7 @@ steps_join r labels c w b s t vectors going =
     let k = length vectors in
     let start : 0 + k ≡ k = omega arith in
     let h : After r labels c w s b t k = rw start at (after_all r labels c w s (initial_state c w) b s t 0 vectors
-    (after_none r labels c w s) going) in
+    (search (rules, remaining-initial, Happened-none)) going) in
     let js = all_verdicts r w c in
     let all = content_behavior r labels c js in
     let along : HasDoneUpTo all (remaining_behavior r labels b) s t = search (rules, take-append-drop) in
@@ -113,6 +107,6 @@ steps_join r labels c w b s t vectors going =
             arith,
             one,
             length_steps r labels (end_text r labels c.ending (counts_of js)) c js,
-            length_verdicts r (form r.algo ls) w 0 ls,
+            length_verdicts r (form r.algo ls) ls w 0,
           );
     }

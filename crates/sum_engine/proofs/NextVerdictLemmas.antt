@@ -19,66 +19,70 @@ lines_now r c h = rw h refl
 
 -- ---- a line was read
 
--- the reader of p read a line, and the line was then judged, which gave x and led to q
+-- the reader of p read a line, and the line was then judged, which gave x and led to q; before the outcome was kept it
+-- had led to `judged`
 pub record JudgesLine {I : Type 0} (state : I → InputState) (p q : VerdictsValue I) (a b : SourceState)
-    (vector : List ℕ) (x : Result LineVerdict NoRoom) : Type 0 where
-  pub reader : LineReader I  -- after the line
-  pub line : List ℕ
+    (vector : List ℕ) (x : Result LineVerdict NoRoom) (reader : LineReader I) (line : List ℕ)
+    (judged : VerdictsValue I) : Type 0 where
   pub advances : AdvancesLines state p.reader reader (Ok Line)
   pub bounds : IsBounded reader
   pub reads : IsReading state p.reader → ReadsOn state p.reader reader (Ok Line) line
   pub profile : p.rules.profile ≡ own_profile
-  pub judged : VerdictsValue I  -- before the outcome was kept
   pub takes : TakesLine (record p { reader = reader }) judged line vector x
   pub kept : q ≡ record judged { outcome = q.outcome }
   pub asked : AsksFor vector q.reader.ahead a b (found_verdict x)
   pub verdict : (w : World) → Agrees w b → IfOk x (λ v. line_verdict_value vector v
       ≡ line_verdict p.rules (world_at w a) reader.lines (parsed_at p line))
 
-module _ {I : Type 0} {state : I → InputState} {p q : VerdictsValue I} {a b : SourceState} {vector : List ℕ} where
-  -- the value after it
-  abbrev after_line : {x : Result LineVerdict NoRoom} → JudgesLine state p q a b vector x → VerdictsValue I
-  after_line {x} h = record q {
-    rules = p.rules;
-    reader = h.reader;
-    form = form_then p.form (line_form p.rules.algo h.line);
-    counts = counts_after p.counts (found_verdict x);
-  }
+-- the value after it, which led from p to q
+abbrev after_line : {I : Type 0} (p q : VerdictsValue I) (reader : LineReader I) (line : List ℕ)
+    → Result LineVerdict NoRoom → VerdictsValue I
+after_line p q reader line x = record q {
+  rules = p.rules;
+  reader = reader;
+  form = form_then p.form (line_form p.rules.algo line);
+  counts = counts_after p.counts (found_verdict x);
+}
 
-  is_after : {x : Result LineVerdict NoRoom} (h : JudgesLine state p q a b vector x) → q ≡ after_line h
-  is_after h = h.kept ∙ ap (λ (r : VerdictsValue I). record r { outcome = q.outcome }) h.takes.now
+module _ {I : Type 0} {state : I → InputState} {p q : VerdictsValue I} {a b : SourceState} {vector : List ℕ}
+    (reader : LineReader I) (line : List ℕ) (judged : VerdictsValue I)
+  where
+    is_after : {x : Result LineVerdict NoRoom} → JudgesLine state p q a b vector x reader line judged
+        → q ≡ after_line p q reader line x
+    is_after h = h.kept ∙ ap (λ (r : VerdictsValue I). record r { outcome = q.outcome }) h.takes.now
 
-  -- the line is the first of those that remained; or memory to open its file was refused, and it remained
-  pub next_verdict-line : (x : Result LineVerdict NoRoom) → JudgesLine state p q a b vector x
-      → InEachCheck state p q a b (λ c d. IsNextVerdict p.rules vector c d (found_verdict x))
-  next_verdict-line (Ok found) h = rw (is_after h) (record {
-    holds = λ reading c of w agrees.
-        let reads = h.reads reading in
-        let next = reads.line c of in
-        let first : CheckState = state_at p (remaining p.reader c) (world_at w a) in
-        let last : CheckState = state_at (after_line h) (remaining h.reader c) (world_at w b) in
-        let f : next_judged p.rules first h.line ≡ line_verdict_value vector found =
-        sym (rw h.advances.lines at (h.verdict w agrees)) in
-        let lines : lines_under p.rules.profile (remaining p.reader c)
-        ≡ h.line ∷ lines_under p.rules.profile (remaining h.reader c) =
-        lines_now p.rules (remaining p.reader c) h.profile ∙ next.0
-        ∙ ap (λ l. h.line ∷ l) (sym (lines_now p.rules (remaining h.reader c) h.profile)) in
-        let sum = reads.sum Line refl c of in
-        let handled : HandlesLine p.rules first last vector = search (rules, arith, lines, next, sum, f) in
-        let world : world_at w b ≡ after (world_at w a) (asks_of (line_verdict_value vector found)) =
-        world_after w a b _ h.asked in
-        (search (rules, remaining_next p.rules first last vector handled, f, world), handled);
-  })
-  next_verdict-line (Err e) h = rw (is_after h) (record {
-    holds = λ reading c of w agrees.
-        let reads = h.reads reading in
-        let next = reads.line c of in
-        let left = ap (λ (c : Content). length c.bytes) next.1 in (
-          elim h.asked [ inl refused ↦ ap (world_at w) refused | inr same ↦ ap (world_at w) same.0 ],
-          line-some (remaining p.reader c) (remaining h.reader c) h.line next,
-          omega (arith, h.bounds.ahead, reads.sum Line refl c of, left),
-        );
-  })
+    -- the line is the first of those that remained; or memory to open its file was refused, and it remained
+    pub next_verdict-line : (x : Result LineVerdict NoRoom) → JudgesLine state p q a b vector x reader line judged
+        → InEachCheck state p q a b (λ c d. IsNextVerdict p.rules vector c d (found_verdict x))
+    next_verdict-line (Ok found) h = rw (is_after h) (record {
+      holds = λ reading c of w agrees.
+          let reads = h.reads reading in
+          let next = reads.line c of in
+          let first : CheckState = state_at p (remaining p.reader c) (world_at w a) in
+          let last : CheckState =
+          state_at (after_line p q reader line (Ok found)) (remaining reader c) (world_at w b) in
+          let f : next_judged p.rules first line ≡ line_verdict_value vector found =
+          sym (rw h.advances.lines at (h.verdict w agrees)) in
+          let lines : lines_under p.rules.profile (remaining p.reader c)
+          ≡ line ∷ lines_under p.rules.profile (remaining reader c) =
+          lines_now p.rules (remaining p.reader c) h.profile ∙ next.0
+          ∙ ap (λ l. line ∷ l) (sym (lines_now p.rules (remaining reader c) h.profile)) in
+          let sum = reads.sum Line refl c of in
+          let handled : HandlesLine p.rules first last vector = search (rules, arith, lines, next, sum, f) in
+          let world : world_at w b ≡ after (world_at w a) (asks_of (line_verdict_value vector found)) =
+          world_after w a b _ h.asked in
+          (search (rules, remaining_next p.rules first last vector handled, f, world), handled);
+    })
+    next_verdict-line (Err e) h = rw (is_after h) (record {
+      holds = λ reading c of w agrees.
+          let reads = h.reads reading in
+          let next = reads.line c of in
+          let left = ap (λ (c : Content). length c.bytes) next.1 in (
+            elim h.asked [ inl refused ↦ ap (world_at w) refused | inr same ↦ ap (world_at w) same.0 ],
+            line-some (remaining p.reader c) (remaining reader c) line next,
+            omega (arith, h.bounds.ahead, reads.sum Line refl c of, left),
+          );
+    })
 
 -- ---- no line was read
 

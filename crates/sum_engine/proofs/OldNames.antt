@@ -30,14 +30,12 @@ part_clean front part rest line is free =
 
 -- ---- the escape
 
--- the profiles differ in the escape of a carriage return alone
-byte_same : (b : ℕ) → b ≢ 13 → escape_of older_profile b ≡ escape_of own_profile b
-byte_same b free = grind (arith, nat_tests)
-
 -- a name without a carriage return has the same escape under both profiles
 pub same_escape : (name : List ℕ) → HasNoCarriageReturn name → escape_by older_profile name ≡ escape_by own_profile name
 same_escape [] free = refl
-same_escape (b ∷ bs) free = search (rules, All-head, byte_same, same_escape bs (All-tail IsNoCarriageReturn b bs free))
+same_escape (b ∷ bs) free =
+    let one = All-head IsNoCarriageReturn b bs free in
+    grind (arith, nat_tests, same_escape bs (All-tail IsNoCarriageReturn b bs free))
 
 -- ---- names
 

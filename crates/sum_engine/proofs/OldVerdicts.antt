@@ -2,14 +2,14 @@
 use Rattle.std.proofs.Common.{rules, ◌≡◌, ℕ, ◌+◌, ◌<◌, List, [], ◌∷◌, length, refl, sym, subst, append_assoc, ◌++◌, All, flat_map}
 use Rattle.std.proofs.lemmas.List.Elements.{All-nil, All-cons, All-head, All-tail}
 use Rattle.sum_engine.specs.{check.Rules.LabelsValue, check.Rules.Rules, check.Checking.line_steps}
-use Rattle.sum_engine.specs.check.Judge.{Algos, Form, LineVerdictValue, line_verdict, asks_of, verdicts, all_verdicts, form, own_profile, ParsedLine, parse_line}
+use Rattle.sum_engine.specs.check.Judge.{Algos, Form, LineVerdictValue, line_verdict, asks_of, verdicts, all_verdicts, form, own_profile, parse_line}
 use Rattle.sum_engine.specs.check.Reports.{Counts, end_text}
 use Rattle.sum_engine.specs.Behavior.{Ending, Whole, Broken, World, after, Content}
 use Rattle.sum_sources.specs.ManifestLines.{raw_lines, last_line, past_line}
 use Rattle.sum_sources.proofs.CutLemmas.{bytes_of_lines, cut, raw_lines-joined}
 use Rattle.sum_engine.specs.check.OldVerdicts.{older_profile, rules_under, HasNoCarriageReturn, NamesNoCarriageReturn, IsOldManifest, OldVerdicts, OlderDiffers}
 use Rattle.sum_lines.proofs.{EntryLemmas.entry-not_ignored, ParsedLineLemmas.bad_exactly}
-use Rattle.sum_engine.proofs.OldNames.{parts_clean, same_escape, CleanParsedLine, parse_line_same}
+use Rattle.sum_engine.proofs.OldNames.{parts_clean, same_escape, parse_line_same}
 use Rattle.sum_engine.proofs.CarriageReturnLemmas.{strips-kept}
 
 -- ---- the lines
@@ -53,10 +53,6 @@ module _ (r : Rules) (labels : LabelsValue) where
   abbrev new : Rules
   new = rules_under own_profile r
 
-  -- what is judged names no carriage return, if the line doesn't
-  judged_clean : (w : World) (n : ℕ) (x : ParsedLine) → CleanParsedLine x → CleanName (line_verdict new w n x)
-  judged_clean w n x h = search rules
-
   -- the verdicts are the same
   verdicts_same : (f : Form) (w : World) (n : ℕ) (ls : List (List ℕ)) → All (Alike r.algo f) ls
       → (verdicts old f w n ls ≡ verdicts new f w n ls) × All CleanName (verdicts new f w n ls)
@@ -67,7 +63,7 @@ module _ (r : Rules) (labels : LabelsValue) where
       let j = line_verdict new w (n + 1) (parse_line own_profile r.algo f l) in
       let one : line_verdict old w (n + 1) (parse_line older_profile r.algo f l) ≡ j = search (rules, s.0) in
       let more = verdicts_same f (after w (asks_of j)) (n + 1) ls (All-tail (Alike r.algo f) l ls all) in
-      let clean = judged_clean w (n + 1) (parse_line own_profile r.algo f l) s.1 in
+      let clean : CleanName j = search (rules, s.1) in
       (rw (one, more.0) refl, All-cons CleanName j _ clean more.1)
 
   -- the verdicts of such a manifest are the same under both profiles, and name no carriage return

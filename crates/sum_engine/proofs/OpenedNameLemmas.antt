@@ -52,9 +52,6 @@ still_open a {name = name} is opens same reads =
 
 -- ---- a fault of opening
 
-module _ (a m : SourceState) (name : List ℕ) (f : Fault) (opens : m ≡ and_opening a name (Some (Err f))) where
-  pub fault_asks : AsksNames a m (name ∷ [])
-  fault_asks = asks_one a m name (Some (Err f)) opens
-
-  pub fault_answer : (w : World) → Agrees w m → answer_to (world_at w a) name ≡ Err f
-  fault_answer w agrees = opening_agrees agrees a.openings [] name (Err f) (rw opens refl)
+pub fault_answer : (a m : SourceState) (name : List ℕ) (f : Fault) → m ≡ and_opening a name (Some (Err f))
+    → (w : World) → Agrees w m → answer_to (world_at w a) name ≡ Err f
+fault_answer a m name f opens w agrees = opening_agrees agrees a.openings [] name (Err f) (rw opens refl)

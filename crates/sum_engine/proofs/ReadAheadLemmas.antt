@@ -14,10 +14,8 @@ use Rattle.sum_engine.proofs.{BehaviorLemmas.HasDoneUpTo, BehaviorLemmas.behavio
 -- reads that didn't go past an end gave, up to the limit, not many more bytes than the content has below the limit
 pub read_fits_clip : (phase : Phase) (bytes : List ℕ) (c : Content) → ¬ (phase ≡ Past) → IsReadTo phase bytes c
     → length bytes ≤ 2 ^ 61 → length bytes ≤ length (clip c).bytes + 8192
-read_fits_clip Unfinished bytes c past of few =
-    let fits = ap length of.1 in grind (arith, limit-value, length-take, length-append)
-read_fits_clip (Ended e) bytes c past of few =
-    let fits = ap (λ (c : Content). length c.bytes) of in grind (arith, limit-value, length-take)
+read_fits_clip Unfinished bytes c past of few = grind (arith, limit-value, length-take, length-append)
+read_fits_clip (Ended e) bytes c past of few = grind (arith, limit-value, length-take)
 read_fits_clip Past bytes c past of few = absurd (past refl)
 
 -- a check came from the state a to b, where a step ended or stopped it and left it in the state d

@@ -1,25 +1,18 @@
 -- The verdicts and the behavior that remain, after one line and the next.
-use Rattle.std.proofs.Common.{rules, arith, ◌≡◌, ◌≤◌, ℕ, zero, suc, ◌+◌, List, [], ◌∷◌, length, refl, ap, ◌∙◌}
+use Rattle.std.proofs.Common.{rules, arith, ◌≡◌, ◌≤◌, ℕ, zero, suc, List, [], ◌∷◌, length, refl, ap, ◌∙◌}
 use Rattle.sum_lines.proofs.EntryLemmas.{form_next, parse_stays}
 use Rattle.sum_engine.specs.Behavior.{after, Ending, Step, Behavior, Content}
 use Rattle.sum_engine.specs.{check.Rules.Rules, check.Rules.LabelsValue, check.Checking.line_steps}
-use Rattle.sum_engine.specs.check.Judge.{lines_under, LineVerdictValue, asks_of, verdicts, past_line, past_lines, form, form_then}
+use Rattle.sum_engine.specs.check.Judge.{LineVerdictValue, asks_of, past_line, past_lines}
 use Rattle.sum_engine.specs.check.Reports.{Counts, counts_of, out_of, err_of, end_text, good}
 use Rattle.sum_engine.specs.check.CheckStates.{counts_with, counts_then, CheckState, HandlesLine, next_judged, remaining_verdicts, remaining_behavior}
 use Rattle.sum_engine.specs.{check.Checker.Going, check.Checker.step_then, check.Checker.progress_before, check.ReadAhead.remaining_before}
-
--- the first of those that remain: what its line says by the form of all lines is what it says by the form so far
-pub remaining_head : (r : Rules) (a : CheckState) (l : List ℕ) (ls : List (List ℕ))
-    → lines_under r.profile a.remaining ≡ l ∷ ls
-    → remaining_verdicts r a ≡ next_judged r a l ∷ verdicts r (form_then a.form (form r.algo (l ∷ ls)))
-    (after a.world (asks_of (next_judged r a l))) (a.number + 1) ls
-remaining_head r a l ls h = rw h (search (rules, form_next, parse_stays))
 
 -- one line's verdict, and those that remain after it
 pub remaining_next : (r : Rules) (a b : CheckState) (v : List ℕ) (h : HandlesLine r a b v)
     → b.world ≡ after a.world (asks_of (next_judged r a h.line))
     → remaining_verdicts r a ≡ next_judged r a h.line ∷ remaining_verdicts r b
-remaining_next r a b v h world = search (rules, remaining_head, form_next)
+remaining_next r a b v h world = rw h.lines (search (rules, form_next, parse_stays))
 
 -- ---- the behavior that remains
 

@@ -3,7 +3,7 @@ use Rattle.std.proofs.Common.{rules, ◌≡◌, ap, refl, ℕ, zero, suc, List, 
 use Rattle.std.specs.{Prelude.slice_get, Option.option_and_then}
 use Rattle.std.proofs.lemmas.{List.map-append, Result.IfOk-weaker}
 use Rattle.std.proofs.lemmas.List.Elements.{All-nil, All-cons, All-append, All-weaker}
-use Rattle.sum_sources.specs.{Contents.Reads, Sources.Opening, Sources.IsOfAnswer, Sources.and_opening, Sources.gave_of, Sources.gave_at, Sources.names_of, Sources.times}
+use Rattle.sum_sources.specs.{Contents.Reads, Sources.Opening, Sources.IsOfAnswer, Sources.and_opening, Sources.gave_of, Sources.names_of, Sources.times}
 use Rattle.sum_sources.proofs.GaveLemmas.{either, gave-append, gave-seam}
 use Rattle.sum_engine.specs.Behavior.{World, Fault, SourceState, after}
 use Rattle.sum_engine.specs.Execution.{AsksNames, Agrees, world_at, IsAtEndIf, ReadsFile, ReadsToEndIf}
@@ -109,7 +109,4 @@ pub opening_agrees : {w : World} {b : SourceState} → Agrees w b → (before la
     (gave : Result Reads Fault) → b.openings ≡ before ++ record { name = name; gave = Some gave } ∷ later
     → IsOfAnswer (w.answer name (times name (names_of before))) gave
 opening_agrees {w} {b} h before later name gave is =
-    let k = times name (names_of before) in
-    let here : gave_at b.openings name k ≡ Some gave =
-    rw (is, gave-seam before later name (Some gave)) refl in
-    rw here at (h.gave name k)
+    rw (is, gave-seam before later name (Some gave)) at (h.gave name (times name (names_of before)))

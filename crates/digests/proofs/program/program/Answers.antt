@@ -5,30 +5,23 @@ use Rattle.sum_sources.specs.{Contents.empty_content, WithStdin.tells_both, Sour
 use Rattle.digests.specs.Program.{IsStdinAlone, fresh_output, fresh_streams}
 use Rattle.digests.proofs.program.program.Goals as goal
 
--- streams are fresh if nothing was opened, and their outputs are fresh
-are_fresh : (a b : StreamsState) (out err : Option ByteString) → a.inputs.openings ≡ [] → a.inputs.refusals ≡ 0
-    → a.outputs ≡ record { out = fresh_output out; err = fresh_output err } → b.inputs.told ≡ a.inputs.told
-    → a ≡ fresh_streams b.inputs.told out err
-are_fresh a b out err openings refusals outputs told = grind arith
-
--- outputs over fresh sinks are fresh
-outputs_fresh : {a b : SinkState} {o : OutputsState} (out err : Option ByteString)
-    → a ≡ record { output = fresh_output out; flushed = true } → b ≡ record { output = fresh_output err; flushed = true }
-    → o ≡ record { out = a.output; err = b.output } → o ≡ record { out = fresh_output out; err = fresh_output err }
-outputs_fresh out err first second is = rw (first, second) at is
+-- streams over fresh sinks are fresh if nothing was opened
+are_fresh : {p q : SinkState} (a b : StreamsState) (out err : Option ByteString) → a.inputs.openings ≡ []
+    → a.inputs.refusals ≡ 0 → p ≡ record { output = fresh_output out; flushed = true }
+    → q ≡ record { output = fresh_output err; flushed = true } → a.outputs ≡ record { out = p.output; err = q.output }
+    → b.inputs.told ≡ a.inputs.told → a ≡ fresh_streams b.inputs.told out err
+are_fresh a b out err openings refusals first second outputs told = grind arith
 
 -- the streams were fresh
 pub returns-clause-behavior : goal.returns-clause-behavior
 returns-clause-behavior g c =
     let did = c.command-status.ensures in
     let start = c.new-streams.result in
-    let out = g.O.Write.contents c.args.out in
-    let err = g.E.Write.contents c.args.err in
     let openings : start.inputs.openings ≡ [] = grind (arith, c.new-2.ensures.state) in
     let refusals : start.inputs.refusals ≡ 0 = grind (arith, c.new-2.ensures.state) in
-    let outputs : start.outputs ≡ record { out = fresh_output out; err = fresh_output err } =
-    outputs_fresh out err c.new-3.ensures.state c.new-4.ensures.state c.new-streams.ensures.outputs in
-    rw (are_fresh start c.command-status.new.streams out err openings refusals outputs did.reads.told) at did.behavior
+    rw (are_fresh start c.command-status.new.streams (g.O.Write.contents c.args.out) (g.E.Write.contents c.args.err)
+    openings refusals c.new-3.ensures.state c.new-4.ensures.state c.new-streams.ensures.outputs did.reads.told)
+    at did.behavior
 
 -- standard input and files tell that a later `-` is empty
 later_empty : (tells : ToldAnswers) (w : World) (told : List Pair) → IsStdinAlone told

@@ -1,6 +1,6 @@
-use Rattle.std.proofs.Common.{refl, true, false, Ok, Err, ap}
+use Rattle.std.proofs.Common.{refl, true, false, Ok, Err}
 use Rattle.std.proofs.lemmas.Result.{err_from_is_err_and}
-use Rattle.sum_engine.specs.{Behavior.answer_to, Behavior.digest_or_fault, Generation.generate_behavior, Generation.generate_behavior_by}
+use Rattle.sum_engine.specs.{Behavior.World, Generation.generate_behavior}
 use Rattle.sum_engine.proofs.{BehaviorLemmas.Performs-step, BehaviorLemmas.Performs-refused}
 use Rattle.sum_engine.proofs.{HashLemmas.hashes_name, GenerateLemmas.fault_found, GenerateLemmas.one_step, GenerateLemmas.refused_memory, WorldLemmas.reads_weaker}
 use Rattle.sum_engine.proofs.generate.generate_one.Goals as goal
@@ -8,14 +8,9 @@ use Rattle.sum_engine.proofs.generate.generate_one.Goals as goal
 -- the name was read, and its line written
 pub returns-in-Ok-clause-behavior : goal.returns-in-Ok-clause-behavior
 returns-in-Ok-clause-behavior g c =
-    let settings = c.args.settings.now in
-    let tool = c.args.tool.now in
-    let name = c.args.name.now in
+    let one = λ (w : World). generate_behavior c.args.settings.now c.args.tool.now w c.args.name.now in
     let done = hashes_name (Ok c.in-Ok.digest) c.in-Ok.ensures.hashed in
-    Performs-step (λ w. generate_behavior settings tool w name) (λ g. g) true c.args.streams.now
-    (record { inputs = c.hash_file.new.self; outputs = _ }) done.asked
-    (λ w agrees. ap (generate_behavior_by settings tool name) (done.hash w agrees))
-    c.write_out.ensures
+    Performs-step one (λ g. g) true _ _ done.asked (λ w agrees. rw (done.hash w agrees) refl) c.write_out.ensures
 
 pub returns-in-Ok-clause-reads : goal.returns-in-Ok-clause-reads
 returns-in-Ok-clause-reads g c =
@@ -24,15 +19,10 @@ returns-in-Ok-clause-reads g c =
 -- the name could not be opened or read, and the line of its fault was written
 pub returns-in_ok-fault-in-Err-clause-behavior : goal.returns-in_ok-fault-in-Err-clause-behavior
 returns-in_ok-fault-in-Err-clause-behavior g c =
-    let settings = c.args.settings.now in
-    let tool = c.args.tool.now in
-    let name = c.args.name.now in
+    let one = λ (w : World). generate_behavior c.args.settings.now c.args.tool.now w c.args.name.now in
     let hashed = hashes_name (Err c.in-Err.failed) c.in-Err.ensures.hashed in
     let found = fault_found c.in-Err.failed _ c.in_ok-fault-in-Err.ensures hashed in
-    Performs-step (λ w. generate_behavior settings tool w name) (λ g. g) false c.args.streams.now
-    (record { inputs = c.hash_file.new.self; outputs = _ }) found.0
-    (λ w agrees. ap (generate_behavior_by settings tool name) (found.1 w agrees))
-    c.write_err.ensures
+    Performs-step one (λ g. g) false _ _ found.0 (λ w agrees. rw (found.1 w agrees) refl) c.write_err.ensures
 
 pub returns-in_ok-fault-in-Err-clause-reads : goal.returns-in_ok-fault-in-Err-clause-reads
 returns-in_ok-fault-in-Err-clause-reads g c =
@@ -42,12 +32,9 @@ returns-in_ok-fault-in-Err-clause-reads g c =
 -- there was no memory to open the name
 pub returns-in_err-fault-in-Err-clause-behavior : goal.returns-in_err-fault-in-Err-clause-behavior
 returns-in_err-fault-in-Err-clause-behavior g c =
-    let settings = c.args.settings.now in
-    let tool = c.args.tool.now in
-    let name = c.args.name.now in
     let stop = err_from_is_err_and c.from_residual.result c.from_residual.ensures.1 in
     let hashed = hashes_name (Err c.in-Err.failed) c.in-Err.ensures.hashed in
-    rw (stop.1, stop.2) (Performs-refused (λ w. generate_behavior settings tool w name) (λ g. g)
-    c.args.streams.now (record c.args.streams.now { inputs = c.hash_file.new.self })
-    (λ w. one_step settings tool name (digest_or_fault settings.kind (answer_to w name)))
+    rw (stop.1, stop.2) (Performs-refused
+    (λ w. generate_behavior c.args.settings.now c.args.tool.now w c.args.name.now) (λ g. g) _ _
+    (λ w. one_step c.args.settings.now c.args.tool.now c.args.name.now _)
     (refused_memory c.in-Err.failed _ c.in_err-fault-in-Err.ensures hashed) refl)

@@ -1,15 +1,17 @@
-use Rattle.std.proofs.Common.{[], ◌∷◌, ◌∙◌, codes}
+use Rattle.std.proofs.Common.{Ok, [], ◌∷◌, ◌∙◌, codes}
 use Rattle.sum_engine.specs.{Behavior.World, Execution.asked}
-use Rattle.digests.proofs.WorkedExamples.{called_on_e}
+use Rattle.sum_words.specs.Tools.{tool_called}
+use Rattle.digests.proofs.WorkedExamples.{does, ran_to_end, good_run, empty_file}
 use Rattle.digests.proofs.tests.laws.command_on_e.Goals as goal
 
 -- the law, in the world of the files in memory
 pub returns : goal.returns
+unfolding tool_called
 returns g c = λ answer told empty zero.
-    let a = c.args.streams.now in
     let did = c.command-status.ensures in
-    let w : World = record { answer = answer; opened = asked a.inputs } in
+    let w : World = record { answer = answer; opened = asked c.args.streams.now.inputs } in
     let (v, agrees, are) = c.told_agree.ensures in
-    called_on_e w v a _ c.command-status.result (rw c.requires.start empty) agrees
-    (c.told_program_performs.ensures (codes "md5sum" ∷ codes "e" ∷ []) answer a c.command-status.result
-    (did.told ∙ c.requires.told) told did.behavior did.reads) zero
+    let (end, ran, same, out) = ran_to_end _ (does (codes "e" ∷ []) w) (λ needs. (v, agrees))
+    (c.told_program_performs.ensures (codes "md5sum" ∷ codes "e" ∷ []) answer _ _ (did.told ∙ c.requires.told) told
+    did.behavior did.reads) zero in
+    rw out (good_run (codes "e" ∷ []) w _ end (Ok 0) _ (empty_file w (rw c.requires.start empty)) ran).1

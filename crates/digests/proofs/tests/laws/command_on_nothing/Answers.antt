@@ -1,14 +1,16 @@
-use Rattle.std.proofs.Common.{[], ◌∷◌, ◌∙◌, codes}
+use Rattle.std.proofs.Common.{rules, Ok, [], ◌∷◌, ◌∙◌, codes}
 use Rattle.sum_engine.specs.{Behavior.World, Execution.asked}
-use Rattle.digests.proofs.WorkedExamples.{called_alone}
+use Rattle.sum_words.specs.Tools.{tool_called}
+use Rattle.digests.proofs.WorkedExamples.{does, ran_to_end, good_run, empty_stdin}
 use Rattle.digests.proofs.tests.laws.command_on_nothing.Goals as goal
 
 -- the law, in the world of the files in memory
 pub returns : goal.returns
+unfolding tool_called
 returns g c = λ answer told empty zero.
-    let a = c.args.streams.now in
     let did = c.command-status.ensures in
-    let w : World = record { answer = answer; opened = asked a.inputs } in
-    called_alone w a _ c.command-status.result (rw c.requires.start empty)
-    (c.told_program_performs.ensures (codes "md5sum" ∷ []) answer a c.command-status.result
-    (did.told ∙ c.requires.told) told did.behavior did.reads) zero
+    let w : World = record { answer = answer; opened = asked c.args.streams.now.inputs } in
+    let (end, ran, same, out) = ran_to_end _ (does [] w) (λ needs. absurd (search rules))
+    (c.told_program_performs.ensures (codes "md5sum" ∷ []) answer _ _ (did.told ∙ c.requires.told) told did.behavior
+    did.reads) zero in
+    rw out (good_run [] w _ end (Ok 0) _ (empty_stdin w (rw c.requires.start empty)) ran).1

@@ -1,14 +1,19 @@
-use Rattle.std.proofs.Common.{[], ◌∷◌, codes, refl}
-use Rattle.digests.proofs.WorkedExamples.{called_twice}
-use Rattle.digests.specs.Program.{fresh_streams}
+use Rattle.std.proofs.Common.{[], ◌∷◌, ◌++◌, codes, refl, append_assoc}
+use Rattle.sum_engine.proofs.BehaviorLemmas.{events_extend}
+use Rattle.sum_engine.specs.Execution.{Performs}
+use Rattle.sum_words.specs.{Tools.tool_called, declared.tool.Tool.TheVariants.Md5sum}
+use Rattle.digests.specs.{Meaning.meaning, Meaning.status_of, Program.fresh_output}
+use Rattle.digests.proofs.WorkedExamples.{ran_to_end, dash_twice}
 use Rattle.digests.proofs.tests.laws.dash_twice.Goals as goal
 
 -- the second `-` is empty in some world that agrees
 pub returns : goal.returns
+unfolding tool_called
 returns g c = λ are zero.
-    let p = c.program.ensures in
-    let (w, agrees, later) = p.once in
-    let streams = c.program.result.streams in
-    let start = fresh_streams streams.inputs.told (g.O.Write.contents c.args.out) (g.E.Write.contents c.args.err) in
-    called_twice w start streams c.program.result.status refl (later 0) agrees
-    (p.behavior (codes "md5sum" ∷ codes "-" ∷ codes "-" ∷ []) are) zero
+    let (w, agrees, later) = c.program.ensures.once in
+    let run = meaning Md5sum (codes "-" ∷ codes "-" ∷ []) in
+    let (end, did, same, out) = ran_to_end _ (Performs run status_of) (λ needs. (w, agrees))
+    (c.program.ensures.behavior (codes "md5sum" ∷ codes "-" ∷ codes "-" ∷ []) are) zero in
+    let (text, is) = dash_twice (record w { opened = [] }) refl (later 0) in
+    let wrote = (events_extend (run (record w { opened = [] })) _ end (did w (rw same at agrees)).1).2 in
+    ((fresh_output (g.O.Write.contents c.args.out)).written ++ text, rw (out, wrote, is, append_assoc) refl)

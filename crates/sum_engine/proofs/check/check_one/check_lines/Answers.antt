@@ -9,16 +9,16 @@ lines-init g c = HasComeTo-none _ _ _ c.requires.outcome
 pub returns-in-Err : goal.returns-in-Err
 returns-in-Err g c =
     let so_far = c.lines.invariant in
-    HasComeTo-last _ _ _ _ c.step.new.self _ c.step.new.streams c.step.new.line.items (Err c.in-Err.stop)
-    c.requires.start so_far (c.in-Err.ensures.advances so_far.going) (c.in-Err.ensures.step so_far.going)
+    HasComeTo-last _ _ _ _ _ _ _ _ (Err _) c.requires.start so_far (c.in-Err.ensures.advances so_far.going)
+    (c.in-Err.ensures.step so_far.going)
 
 -- the end was handled
 pub returns-in-Ok-Ended : goal.returns-in-Ok-Ended
 returns-in-Ok-Ended g c =
     let so_far = c.lines.invariant in
     let done = c.in-Ok-Ended.ensures in
-    HasComeTo-last _ _ _ _ c.step.new.self _ c.step.new.streams c.step.new.line.items (Ok c.in-Ok-Ended.good)
-    c.requires.start so_far (rw c.in-Ok-Ended.field-0-is at (done.advances so_far.going))
+    HasComeTo-last _ _ _ _ _ _ _ _ (Ok _) c.requires.start so_far
+    (rw c.in-Ok-Ended.field-0-is at (done.advances so_far.going))
     (rw c.in-Ok-Ended.field-0-is at (done.step so_far.going))
 
 -- one more line was handled
@@ -26,8 +26,8 @@ pub lines-preserved : goal.lines-preserved
 lines-preserved g c =
     let so_far = c.lines.invariant in
     let done = c.in-Ok-Going.ensures in
-    HasComeTo-more _ _ _ _ c.step.new.self _ c.step.new.streams c.step.new.line.items so_far
-    (rw c.in-Ok-Going.field-0-is at (done.advances so_far.going)) (rw c.in-Ok-Going.field-0-is at done.outcome.kept)
+    HasComeTo-more _ _ _ _ _ _ _ _ so_far (rw c.in-Ok-Going.field-0-is at (done.advances so_far.going))
+    (rw c.in-Ok-Going.field-0-is at done.outcome.kept)
     (rw c.in-Ok-Going.field-0-is at (done.step so_far.going))
 
 -- each line is counted, below the limit

@@ -10,13 +10,11 @@ use Rattle.sum_engine.proofs.check.check_one.check_one.Goals as goal
 
 pub returns-in-Err-Memory-clause-behavior : goal.returns-in-Err-Memory-clause-behavior
 returns-in-Err-Memory-clause-behavior g c =
-    no_room c.args.settings c.args.tool.now c.args.name.now c.args.streams.now c.open.new.self
-    (rw c.in-Err-Memory.field-0-is at c.in-Err-Memory.ensures.state)
+    no_room _ _ _ _ _ (rw c.in-Err-Memory.field-0-is at c.in-Err-Memory.ensures.state)
 
 pub returns-in-Err-Memory-clause-ahead : goal.returns-in-Err-Memory-clause-ahead
 returns-in-Err-Memory-clause-ahead g c =
-    not_asked c.args.settings c.args.tool.now c.args.name.now c.args.streams.now c.open.new.self
-    (rw c.in-Err-Memory.field-0-is at c.in-Err-Memory.ensures.state)
+    not_asked _ _ _ _ _ (rw c.in-Err-Memory.field-0-is at c.in-Err-Memory.ensures.state)
 
 -- ---- it could not be opened, and the line of its fault was written, or a prefix of it
 
@@ -24,20 +22,16 @@ pub returns-in-Err-Fault-clause-behavior : goal.returns-in-Err-Fault-clause-beha
 returns-in-Err-Fault-clause-behavior g c =
     let failed = rw c.in-Err-Fault.field-0-is at c.in-Err-Fault.ensures.state in
     let written = rw (c.in-Err-Fault.fault-is, c.shown_name-shown.ensures) at c.write_err.ensures in
-    refused c.args.settings c.args.tool.now c.args.name.now c.args.streams.now c.open.new.self
-    _ c.write_err.new.self _ failed written
+    refused _ _ _ _ _ _ _ _ failed written
 
 -- nothing was read of a manifest that could not be opened
 pub returns-in-Err-Fault-clause-ahead : goal.returns-in-Err-Fault-clause-ahead
 returns-in-Err-Fault-clause-ahead g c =
-    let failed = rw c.in-Err-Fault.field-0-is at c.in-Err-Fault.ensures.state in
-    not_read c.args.settings c.args.tool.now c.args.name.now c.args.streams.now c.open.new.self _
-    c.write_err.new.self _ failed
+    not_read _ _ _ _ _ _ _ _ (rw c.in-Err-Fault.field-0-is at c.in-Err-Fault.ensures.state)
 
 pub returns-in-Err-Fault-clause-reads : goal.returns-in-Err-Fault-clause-reads
 returns-in-Err-Fault-clause-reads g c =
-    reads_one c.args.streams.now.inputs c.open.new.self c.args.name.now (Err c.in-Err-Fault.fault)
-    (rw c.in-Err-Fault.field-0-is at c.in-Err-Fault.ensures.state) tt
+    reads_one _ _ _ (Err _) (rw c.in-Err-Fault.field-0-is at c.in-Err-Fault.ensures.state) tt
 
 -- ---- it was opened, checked and closed
 
@@ -77,16 +71,12 @@ ran g c =
 pub returns-clause-behavior : goal.returns-clause-behavior
 returns-clause-behavior g c =
     let at = (goal.at.returns-clause-behavior g c).After-close in
-    check_opened c.args.settings c.args.tool.now c.args.name.now c.args.streams.now c.open.new.self c.close.new.self
-    (g.S.File.Input.state c.in-Ok.opened) _ c.run_to_end-result.new.streams
-    (ap (λ (s : InputState). s.reads) c.in-Ok.ensures.file) (opened g at) c.run_to_end-result.result.0 (ran g at)
+    check_opened _ _ _ _ _ _ _ _ _ (ap (λ (s : InputState). s.reads) c.in-Ok.ensures.file) (opened g at) _ (ran g at)
 
 pub returns-clause-ahead : goal.returns-clause-ahead
 returns-clause-ahead g c =
     let at = (goal.at.returns-clause-ahead g c).After-close in
-    check_stops c.args.settings c.args.tool.now c.args.name.now c.args.streams.now c.open.new.self c.close.new.self
-    (g.S.File.Input.state c.in-Ok.opened) _ c.run_to_end-result.new.streams
-    (ap (λ (s : InputState). s.reads) c.in-Ok.ensures.file) (opened g at) c.run_to_end-result.result.0 (ran g at)
+    check_stops _ _ _ _ _ _ _ _ _ (ap (λ (s : InputState). s.reads) c.in-Ok.ensures.file) (opened g at) _ (ran g at)
 
 pub returns-clause-reads : goal.returns-clause-reads
 returns-clause-reads g c = (opened g (goal.at.returns-clause-reads g c).After-close).reads

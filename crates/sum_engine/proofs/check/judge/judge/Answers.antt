@@ -6,8 +6,7 @@ use Rattle.sum_engine.proofs.check.judge.judge.Goals as goal
 pub returns-clause-reads : goal.returns-clause-reads
 returns-clause-reads g c =
     let hashed = hashes_name c.hash_file-found.result c.hash_file-found.ensures.hashed in
-    reads_weaker (verdict_read c.rules.inside.ignore_missing c.args.listed.now.digest.now c.hash_file-found.result _
-    c.compare.ensures) hashed.reads
+    reads_weaker (verdict_read _ _ c.hash_file-found.result _ c.compare.ensures) hashed.reads
 
 -- the verdict is that of the answer
 pub returns-clause-verdict : goal.returns-clause-verdict

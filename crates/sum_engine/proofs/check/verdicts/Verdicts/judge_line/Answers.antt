@@ -6,15 +6,12 @@ use Rattle.sum_engine.proofs.check.verdicts.Verdicts.judge_line.Goals as goal
 -- an entry was judged
 pub returns-in_ok-verdict-in-Entry-clause-verdict : goal.returns-in_ok-verdict-in-Entry-clause-verdict
 returns-in_ok-verdict-in-Entry-clause-verdict g c =
-    let old = c.args.self.now in
-    let line = c.args.line.now.items in
-    let vector = c.read_line-reading.new.line.items in
     let listed = c.in-Entry in
-    let name = slice_range vector listed.start listed.stop in
+    let name = slice_range c.read_line-reading.new.line.items listed.start listed.stop in
     let s : EntryValue = record { kind = listed.kind; digest = listed.digest; name = name } in
     let read = c.read_line-reading.ensures in
-    let said : parsed_at old line ≡ entry s = rw (← c.self.view_is, ← c.self-inside.view_is)
-    (sym (rw (listed.is, read.form) at read.parsed)) in
+    let said : parsed_at c.args.self.now c.args.line.now.items ≡ entry s =
+    rw (← c.self.view_is, ← c.self-inside.view_is) (sym (rw (listed.is, read.form) at read.parsed)) in
     let judged = rw c.deref.ensures.value at c.in_ok-verdict-in-Entry.ensures.verdict in
     rw c.count_verdict-in-Entry.ensures.is (λ w agrees. rw (said, judged w agrees)
     (rw (← c.self.view_is, ← c.self-inside.view_is) refl))

@@ -1,4 +1,4 @@
-use Rattle.std.proofs.Common.{rules, arith, ◌≡◌, true, refl, ap, sym, ◌∙◌, inl, Ok, Err}
+use Rattle.std.proofs.Common.{rules, arith, ◌≡◌, true, refl, ap, sym, ◌∙◌, Ok, Err}
 use Rattle.sum_lines.specs.grammar.Entries.{is_ignored, form_then}
 use Rattle.sum_lines.specs.declared.reading.read_line.Form.TheVariants.{Undecided, Standard, Reversed}
 use Rattle.sum_lines.specs.Escape.{own_profile}
@@ -12,20 +12,12 @@ use Rattle.sum_engine.proofs.check.verdicts.Verdicts.next.Goals as goal
 pub returns-in-Ok-clause-verdict : goal.returns-in-Ok-clause-verdict
 returns-in-Ok-clause-verdict g c =
     let read = c.in-Ok-Line.ensures in
+    let advances = rw c.in-Ok-Line.field-0-is at read.reader in
+    let reads = rw c.in-Ok-Line.field-0-is at read.line in
     let done = c.in-Ok.ensures in
-    rw (← c.self.view_is) (λ going. next_verdict-line (Ok _) (record {
-      reader = c.next_line.new.self;
-      line = c.next_line.new.line.items;
-      advances = rw c.in-Ok-Line.field-0-is at read.reader;
-      bounds = read.bounds;
-      reads = rw c.in-Ok-Line.field-0-is at read.line;
-      profile = c.self.invariant.2;
-      judged = c.judge_line.new.self;
-      takes = done.takes;
-      kept = refl;
-      asked = done.asked;
-      verdict = done.verdict;
-    }))
+    rw (← c.self.view_is) (λ going. next_verdict-line c.next_line.new.self c.next_line.new.line.items
+    c.judge_line.new.self (Ok c.in-Ok.found)
+    (search (rules, advances, reads, read.bounds, c.self.invariant, done)))
 
 -- the line is ignored
 pub returns-then-is_ignored-clause-verdict : goal.returns-then-is_ignored-clause-verdict
@@ -36,39 +28,35 @@ returns-then-is_ignored-clause-verdict g c =
     rw c.deref.ensures.value at (sym c.is_ignored.ensures ∙ c.if-is_ignored.true) in
     let undecided = ignored_undecided c.self.inside.rules.algo line ignored in
     let same : form_then c.self.inside.form Undecided ≡ c.self.inside.form =
-    elim c.self.inside.form as (λ f. form_then f Undecided ≡ f) [ Undecided ↦ refl | Standard ↦ refl | Reversed ↦ refl ] in
-    rw (← c.self.view_is) (λ going. next_verdict-line (Ok c.count_verdict.result) (record {
-      reader = c.next_line.new.self;
-      line = line;
+    elim c.self.inside.form as (λ f. form_then f Undecided ≡ f)
+    [ Undecided ↦ refl | Standard ↦ refl | Reversed ↦ refl ] in
+    let count = c.count_verdict.ensures in
+    rw (← c.self.view_is) (λ going. next_verdict-line c.next_line.new.self line c.count_verdict.new.self
+    (Ok c.count_verdict.result) (record {
       advances = rw c.in-Ok-Line.field-0-is at read.reader;
       bounds = read.bounds;
       reads = rw c.in-Ok-Line.field-0-is at read.line;
       profile = c.self.invariant.2;
-      judged = c.count_verdict.new.self;
-      takes = record { now = rw (undecided, same, c.count_verdict.ensures.is) c.count_verdict.ensures.counts; name_range = rw c.count_verdict.ensures.is (search (rules, arith)); len = search arith };
+      takes = record {
+        now = rw (undecided, same, count.is) count.counts;
+        name_range = rw count.is (search (rules, arith));
+        len = search arith;
+      };
       kept = refl;
-      asked = rw c.count_verdict.ensures.is (asks_none _);
-      verdict = λ w agrees. rw (c.count_verdict.ensures.is, c.self.invariant.2, ignored) refl;
+      asked = rw count.is (asks_none _);
+      verdict = λ w agrees. rw (count.is, c.self.invariant.2, ignored) refl;
     }))
 
 -- there was no memory to open the file of the line's entry
 pub returns-in-Err-judge_line-clause-verdict : goal.returns-in-Err-judge_line-clause-verdict
 returns-in-Err-judge_line-clause-verdict g c =
     let read = c.in-Ok-Line.ensures in
+    let advances = rw c.in-Ok-Line.field-0-is at read.reader in
+    let reads = rw c.in-Ok-Line.field-0-is at read.line in
     let done = c.in-Err-judge_line.ensures in
-    rw (← c.self.view_is) (λ going. next_verdict-line (Err _) (record {
-      reader = c.next_line.new.self;
-      line = c.next_line.new.line.items;
-      advances = rw c.in-Ok-Line.field-0-is at read.reader;
-      bounds = read.bounds;
-      reads = rw c.in-Ok-Line.field-0-is at read.line;
-      profile = c.self.invariant.2;
-      judged = c.judge_line.new.self;
-      takes = done.takes;
-      kept = rw (← c.self-2.view_is) refl;
-      asked = inl done.asked;
-      verdict = done.verdict;
-    }))
+    rw (← c.self.view_is) (λ going. next_verdict-line {vector = c.judge_line.new.line.items}
+    c.next_line.new.self c.next_line.new.line.items c.judge_line.new.self (Err _)
+    (search (rules, advances, reads, read.bounds, c.self.invariant, done, c.self-2.view_is)))
 
 -- the reader stopped
 pub returns-in-Err-clause-verdict : goal.returns-in-Err-clause-verdict
