@@ -1,5 +1,5 @@
 -- What the program does, from the list of its arguments to its status.
-use Rattle.std.specs.Prelude.{ℕ, ◌≡◌, ◌⊎◌, true, false, List, [], ⊤, Option, None, Some, Result, Ok, Err, unwrap_or}
+use Rattle.std.specs.Prelude.{ℕ, ◌≡◌, ◌⊎◌, false, List, [], ⊤, Option, None, Some, Result, Ok, Err, unwrap_or}
 use Rattle.sum_sources.specs.{Contents.Content, Faults.bad_descriptor, WithStdin.with_stdin, Sources.Pair, declared.fault.Ending.TheVariants.Broken}
 use Rattle.sum_lines.specs.Sinks.{OutputState, GivesAll}
 use Rattle.sum_engine.specs.Behavior.{single_step, ByteString}

@@ -1,5 +1,5 @@
 use Rattle.std.proofs.Common.{rules, arith, ◌≡◌, ℕ, suc, List, [], Option, Ok, IfSome, codes, inl, inr, true}
-use Rattle.sum_engine.specs.{Behavior.ByteString, Behavior.World, Execution.OutputsState, Execution.StreamsState}
+use Rattle.sum_engine.specs.{Behavior.ByteString, Behavior.World, Execution.StreamsState}
 use Rattle.sum_lines.specs.Sinks.{SinkState}
 use Rattle.sum_sources.specs.{Contents.empty_content, WithStdin.tells_both, Sources.Pair, Sources.ToldAnswers}
 use Rattle.digests.specs.Program.{IsStdinAlone, fresh_output, fresh_streams}
