@@ -146,7 +146,7 @@ fn words_of<A: Allocator + Copy>(alloc: A, line: &str) -> Option<(Tool, Words<A>
     Some((tool, words))
 }
 
-// Runs a line, if there is room for its words. It has no contract, so that its callers' proofs don't meet that of `run`.
+// Runs a line, if there is room for its words. It has no contract, so its callers' proofs don't meet that of `run`.
 fn run_line<A: Allocator + Copy, const N: usize>(
     alloc: A,
     line: &str,
