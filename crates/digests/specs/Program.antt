@@ -1,6 +1,6 @@
 -- What the program does, from the list of its arguments to its status.
 use Rattle.std.specs.Prelude.{ℕ, ◌≡◌, ◌⊎◌, false, List, [], ⊤, Option, None, Some, Result, Ok, Err, unwrap_or}
-use Rattle.sum_sources.specs.{Contents.Content, Faults.bad_descriptor, WithStdin.with_stdin, Sources.Pair, declared.fault.Ending.TheVariants.Broken}
+use Rattle.sum_sources.specs.{Sources.Pair}
 use Rattle.sum_lines.specs.Sinks.{OutputState, GivesAll}
 use Rattle.sum_engine.specs.Behavior.{single_step, ByteString}
 use Rattle.sum_engine.specs.Execution.{OutputsState, StreamsState, FailuresMatch, Performs}
@@ -56,11 +56,3 @@ fresh_streams told out err = record {
   inputs = record { told = told; openings = []; refusals = 0 };
   outputs = record { out = fresh_output out; err = fresh_output err };
 }
-
--- a closed standard input: no bytes, and then the fault EBADF
-abbrev pub closed_stdin : Content
-closed_stdin = record { bytes = []; ending = Broken bad_descriptor }
-
--- nothing is in memory but standard input, if that is closed
-abbrev pub IsStdinAlone : List Pair → Type 0
-IsStdinAlone told = (told ≡ with_stdin None []) ⊎ (told ≡ with_stdin (Some closed_stdin) [])

@@ -1,5 +1,5 @@
 //! The program over what the system gives it. `main` calls nothing else of ours.
-ghost use Rattle.digests.specs.Program.{IsStdinAlone, ProgramPerforms, fresh_streams};
+ghost use Rattle.digests.specs.Program.{ProgramPerforms, fresh_streams};
 ghost use Rattle.std.specs.Prelude.{ℕ, suc, All, ◌≡◌, Ok, codes};
 ghost use Rattle.sum_engine.specs.Behavior.{World};
 ghost use Rattle.sum_engine.specs.Execution.{Agrees, ReadsFile, failures};
@@ -57,7 +57,6 @@ where
     // Standard input is given once: in some world that agrees, each later opening of `-` gives an empty content.
     ensures once { (w : World) × Agrees w result.streams.inputs
         × ((k : ℕ) → w.answer (codes "-") (suc k) ≡ Ok empty_content) }
-    ensures stdin { IsStdinAlone result.streams.inputs.told }
     // The status is 0 only if no call of either output failed.
     ensures no_failures { result.status ≡ 0 → failures result.streams.outputs ≡ (0, 0) }
     // The status is 0 only if everything that was opened was read to its end; nothing was read further.

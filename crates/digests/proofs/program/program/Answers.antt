@@ -1,8 +1,8 @@
-use Rattle.std.proofs.Common.{rules, arith, ◌≡◌, ℕ, suc, List, [], Option, Ok, IfSome, codes, inl, inr, true}
+use Rattle.std.proofs.Common.{rules, arith, ◌≡◌, ◌⊎◌, ℕ, suc, List, [], ◌∷◌, Option, None, Some, Ok, IfSome, codes, inl, inr, true}
 use Rattle.sum_engine.specs.{Behavior.ByteString, Behavior.World, Execution.StreamsState}
 use Rattle.sum_lines.specs.Sinks.{SinkState}
-use Rattle.sum_sources.specs.{Contents.empty_content, WithStdin.tells_both, Sources.Pair, Sources.ToldAnswers}
-use Rattle.digests.specs.Program.{IsStdinAlone, fresh_output, fresh_streams}
+use Rattle.sum_sources.specs.{Contents.Content, Contents.empty_content, Faults.bad_descriptor, WithStdin.tells_both, WithStdin.with_stdin, Sources.Pair, Sources.ToldAnswers, declared.fault.Ending.TheVariants.Broken}
+use Rattle.digests.specs.Program.{fresh_output, fresh_streams}
 use Rattle.digests.proofs.program.program.Goals as goal
 
 -- streams over fresh sinks are fresh if nothing was opened
@@ -24,17 +24,18 @@ returns-clause-behavior g c =
     at did.behavior
 
 -- standard input and files tell that a later `-` is empty
-later_empty : (tells : ToldAnswers) (w : World) (told : List Pair) → IsStdinAlone told
+later_empty : {first : Pair} {told more : List Pair} (tells : ToldAnswers) (w : World) → told ≡ first ∷ more
     → ((name : ByteString) (k : ℕ) → IfSome (tells_both tells told name k) (λ told. w.answer name k ≡ told))
     → (k : ℕ) → w.answer (codes "-") (suc k) ≡ Ok empty_content
-later_empty tells w told (inl is) are k = rw is at (are (codes "-") (suc k))
-later_empty tells w told (inr is) are k = rw is at (are (codes "-") (suc k))
+later_empty tells w is are k = rw is at (are (codes "-") (suc k))
 
 pub returns-clause-once : goal.returns-clause-once
 returns-clause-once g c =
     let (w, agrees, are) = c.told_agree.ensures in
-    let alone : IsStdinAlone c.command-status.new.streams.inputs.told = search rules in
-    (w, agrees, later_empty _ w _ alone are)
+    let told = c.command-status.new.streams.inputs.told in
+    let closed : Content = record { bytes = []; ending = Broken bad_descriptor } in
+    let alone : (told ≡ with_stdin None []) ⊎ (told ≡ with_stdin (Some closed) []) = search rules in
+    (w, agrees, elim alone [ inl is ↦ later_empty _ w is are | inr is ↦ later_empty _ w is are ])
 
 -- since the streams were fresh, all that was opened was opened by this call
 pub returns-clause-reads : goal.returns-clause-reads
