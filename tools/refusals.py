@@ -53,8 +53,8 @@ def goal_of(name, whole, labels):
             return " or ".join(sorted(labels)) or None
         return min((it for it in labels if it == label or not whole and it.startswith(label)), default=None)
     for pattern, says in ((r"(\w+)[\w-]*-requires", "what `{}` requires"),
-                          (r"loop-(\w+)-(?:init|preserved)", "loop's `{}`"),
-                          (r"invariant_of-(\w+)", "the invariant of `{}`")):
+                          (r"(?:loop-)?(\w+)-(?:init|preserved)", "loop's `{}`"),
+                          (r"invariant_of-(\w+)", "the invariant of `{}`"), (r"(invariant)", "the {} of its type")):
         found = re.match(pattern, name)
         if found:
             return says.format(found[1])
