@@ -1,4 +1,7 @@
 //! An input of one's own: the bytes of a reader.
+ghost use Rattle.std.specs.Prelude.{◌≡◌};
+ghost use Rattle.sum_sources.specs.Logs.{no_reads};
+
 use std::io::Read;
 use sum_sources::{Fault, Input, ReadLog, ReadNote, Reads};
 
@@ -9,7 +12,10 @@ pub struct Bytes<R> {
 }
 
 impl<R: Read> Bytes<R> {
-    pub fn new(reader: R) -> Self {
+    /// Creates an input of which nothing was read.
+    pub fn new(reader: R) -> Self
+        ensures { result ≡ record { reader = reader; log = no_reads } }
+    {
         Bytes {
             reader,
             log: ReadLog::of(&Reads),
