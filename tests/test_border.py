@@ -35,7 +35,7 @@ CALLS = set("""
 """.split())
 
 FILES = {
-    "digests/src/main.rt": "HostRuntime alloc process rt stderr stdin stdout",
+    "digests_main/src/main.rt": "HostRuntime alloc process rt stderr stdin stdout",
     "digests/src/program.rt": "alloc env fd io os rt stdin",
     "digests/src/standard_input.rt": "as_fd fd io os stdin try_clone_to_owned",
     "ghost_log/src/lib.rt": "unsafe",
@@ -85,7 +85,8 @@ class Border(Case):
         once, in a file that docs/AUDITING.md names."""
         page, found, named = text_of("docs", "AUDITING.md"), {}, set()
         for name in CALLED:
-            there = File(f"{TOP}/crates/digests/src/{name}.rt", "digests", f"{name}.rt")
+            crate = "digests_main" if name == "main" else "digests"
+            there = File(f"{TOP}/crates/{crate}/src/{name}.rt", crate, f"{name}.rt")
             code = re.sub(r"#!?\[[^]]*\]|\bghost use [^;]*;", "", there.around)
             called = {name for owner, _, name, call in CALL.findall(code.replace("!", "")) if owner or call}
             found[name] = " ".join(sorted(called | {it for it in there.brought if it[0].islower()}))

@@ -20,7 +20,7 @@ class Build(Repository):
         """A build has a line for each crate, with its time; what rt says is kept."""
         first, *lines = self.expect_built("nothing is built").splitlines()
         self.assertEqual(first, "digests: proving and building the program; a first build takes some minutes")
-        named = ["crate 1 of 2, low", "crate 2 of 2, digests", f"the program for {FAST}"]
+        named = ["crate 1 of 2, low", "crate 2 of 2, digests_main", f"the program for {FAST}"]
         self.assertEqual([re.sub(r": \d+ s$", "", line) for line in lines], named)
         self.assertIn(b"rt says: lib\n", self.read(self.in_top("out/build.log")))
 
@@ -34,7 +34,7 @@ class Build(Repository):
             self.assertFalse(set(before.values()) & set(self.programs().values()), path)
         os.remove(self.sources[0])
         self.expect_built("a source is gone")
-        self.put("crates.txt", "low:\ndigests: low\n")
+        self.put("crates.txt", "low:\ndigests_main: low\n")
         self.expect_built("crates.txt")
 
     def test_a_failed_build(self):
@@ -42,7 +42,7 @@ class Build(Repository):
         log = self.in_top("out/build.log")
         end = f"rt: this is why\ndigests: the build failed; all that the kit said is in {log}\n"
         for old in (False, True):
-            for fails, step in (("lib low", "crate 1 of 2, low"), ("run digests", "crate 2 of 2, digests"),
+            for fails, step in (("lib low", "crate 1 of 2, low"), ("run digests_main", "crate 2 of 2, digests_main"),
                                 ("--cpu", f"the program for {FAST}")):
                 self.write(self.sources[0], f"{old} {fails}\n")
                 before = self.programs()
@@ -58,7 +58,7 @@ class Build(Repository):
 
     def test_another_list(self):
         """A file that rt would read in the place of crates.txt is named, and nothing is made."""
-        for name in ("crates/digests/crates.txt", "crates/BUILD.bazel"):
+        for name in ("crates/digests_main/crates.txt", "crates/BUILD.bazel"):
             path = self.put(name, "digests:\n")
             said = f"digests: {name} is in the place of crates.txt\n".encode()
             self.assertEqual((self.script("tools/build"), self.calls), (Ran(1, b"", said), []))
@@ -67,7 +67,7 @@ class Build(Repository):
     def test_after_a_power_cut(self):
         """An empty program is neither run nor installed, but built anew. What isn't synced doesn't count as built."""
         self.build()
-        for names, calls in ((["out/digests"], BOTH), (["out/default/digests", "crates/digests/out/digests"], ASKED)):
+        for names, calls in ((["out/digests"], BOTH), (["out/default/digests", "crates/digests_main/out/digests_main"], ASKED)):
             for name in names:
                 self.put(name, "")
             said = self.expect_built(names, calls)
@@ -97,7 +97,7 @@ class SameBytes(Case):
             self.skipTest("the command rt of the Rattle kit is not on the PATH")
         names = [os.path.join(TOP, name) for name in ("crates", "crates.txt", "tools")]
         self.run_command(["sh", "-c", 'cp -Rl "$@" . 2>/dev/null || cp -R "$@" .', "sh", *names])
-        self.run_command(["sh", "-c", "rm -f crates/digests/out/digests*"])  # so both are compiled anew
+        self.run_command(["sh", "-c", "rm -f crates/digests_main/out/digests_main*"])  # so both are compiled anew
         env = {**os.environ, "HOME": self.folder, "TZ": "Asia/Tokyo", "USER": "other", "SOURCE_DATE_EPOCH": "1"}
         ran = self.run_command(["tools/build"], env=env)
         self.assertEqual(ran.status, 0, ran.err)

@@ -30,7 +30,7 @@ def crates():
 
 def crates_of_program():
     """The crates of the program `digests`, in that order: it, and what it stands on."""
-    found, lines = {"digests"}, needs()
+    found, lines = {"digests_main"}, needs()
     while more := {it for name in found for it in lines[name] if it in lines} - found:
         found |= more
     return [name for name in lines if name in found]

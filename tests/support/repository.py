@@ -10,8 +10,8 @@ from rattle import text_of
 DEFAULT, FAST = "default", "x86-64-v3"
 
 # How rt is called by a build of both programs.
-ASKED = ["low lib", "digests run -- sha256sum"]
-BOTH = [*ASKED, f"digests run --cpu {FAST} -- sha256sum"]
+ASKED = ["low lib", "digests_main run -- sha256sum"]
+BOTH = [*ASKED, f"digests_main run --cpu {FAST} -- sha256sum"]
 
 # What `digests md5sum a` comes to.
 OF_A = Ran(0, f"{M}  a\n".encode(), b"")
@@ -26,9 +26,9 @@ class Repository(Case):
         os.mkdir(self.top)
         parts = [os.path.join(TOP, name) for name in ("digests", "install", "CHANGELOG.md", "tools", "completions")]
         self.run_command(["cp", "-R", *parts, self.top])
-        self.put("crates.txt", "low: memchr\ndigests: low\nexample_some: low\n")
+        self.put("crates.txt", "low: memchr\ndigests_main: low\nexample_some: low\n")
         self.sources = [self.put(f"crates/{crate}/{part}/Some.antt", f"{crate} {part}\n")
-                        for crate in ("low", "digests") for part in ("src", "specs", "proofs")]
+                        for crate in ("low", "digests_main") for part in ("src", "specs", "proofs")]
         os.mkdir(self.path("commands"))
         self.write_command("rt", text_of("tests", "support", "rt.sh"))
         self.env = {**os.environ, "PATH": f"{self.folder}/commands:{os.environ['PATH']}",

@@ -11,11 +11,11 @@ case ${RT_FAILS-none} in "$1 ${PWD##*/}" | "$2") echo 'rt: this is why'; exit 1 
 sum=$(find ../.. -name '*.antt' -exec cat ../../crates.txt {} + | cksum)
 mkdir -p out
 if [ "$2" = --cpu ]; then
-    rm -f out/digests.stamp
-    { cat "$RT_FAST"; echo "$3 of $sum"; } >out/digests
-elif ! [ -e out/digests ] || [ "$sum" != "$(cat out/digests.stamp 2>/dev/null)" ]; then
-    { cat "$RT_PROGRAM"; echo "default of $sum"; } >out/digests
-    printf %s "$sum" >out/digests.stamp
+    rm -f out/digests_main.stamp
+    { cat "$RT_FAST"; echo "$3 of $sum"; } >out/digests_main
+elif ! [ -e out/digests_main ] || [ "$sum" != "$(cat out/digests_main.stamp 2>/dev/null)" ]; then
+    { cat "$RT_PROGRAM"; echo "default of $sum"; } >out/digests_main
+    printf %s "$sum" >out/digests_main.stamp
 fi
-chmod 755 out/digests
-exec out/digests sha256sum
+chmod 755 out/digests_main
+exec out/digests_main sha256sum

@@ -1,6 +1,6 @@
 //! Inputs over the readers of `std`.
 ghost use Rattle.std.specs.Io.KnownBytes.{Keeps, ReadConsumes};
-ghost use Rattle.std.specs.Prelude.{◌≡◌, ◌≤◌, length, IfOk, IfSome, MatchOption};
+ghost use Rattle.std.specs.Prelude.{◌≡◌, ◌≤◌, [], length, IfOk, IfSome, MatchOption};
 ghost use Rattle.sum_sources.specs.Contents.{and_read};
 ghost use Rattle.sum_sources.specs.Logs.{no_reads};
 
@@ -9,20 +9,27 @@ use crate::fault::fault_of;
 use crate::inputs::read_log::{ReadLog, ReadNote, Reads};
 use std::io::{ErrorKind, Read};
 use std::marker::Model;
+use std::snapshot::Snapshot;
 
 /// An `Input` over any `std::io::Read`.
-#[derive(Debug, Drop)]
-pub struct FromRead<R> {
+#[derive(Drop)]
+pub struct FromRead<R: Read> {
     reader: R,
+    // the reader as it was at first: only proofs see it
+    first: Snapshot<R>,
     log: ReadLog,
 }
 
-impl<R> Model for FromRead<R> {
+impl<R: Read> Model for FromRead<R> {
+    ghost use Rattle.std.specs.Io.KnownBytes.{Consumes};
     ghost use Rattle.sum_sources.specs.Contents.{OverReader};
 
     ghost Value = { OverReader R };
 
     ghost view = { λ s. record { reader = s.reader; log = s.log } };
+
+    // What the reader was known to give is what the log has, and then what remains.
+    ghost invariant = { λ s. Consumes (R.remaining s.first.value) (R.remaining s.reader) s.log.reads.bytes };
 }
 
 impl<R: Read> FromRead<R> {
@@ -36,9 +43,14 @@ impl<R: Read> FromRead<R> {
 
     // The input for a file that a source opened, with this log.
     pub(crate) fn with_log(reader: R, log: ReadLog) -> Self
+        requires { log.reads.bytes ≡ [] }
         ensures { result ≡ record { reader = reader; log = log } }
     {
-        FromRead { reader, log }
+        FromRead {
+            first: Snapshot::of(&reader),
+            reader,
+            log,
+        }
     }
 
     // What its reads gave.

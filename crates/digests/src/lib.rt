@@ -1,4 +1,4 @@
-//! The GNU digest tools and `anysum`, in one program.
+//! The GNU digest tools and `anysum`, in one program, without its `main`.
 //!
 //! What joins the crates into runs of the tools belongs here: the run of a tool, the program around it, and the laws of
 //! both. It may call all crates below it; each rule about a single operand, line or word is in one of these.
@@ -13,11 +13,3 @@ pub mod run;
 pub mod standard_input;
 #[cfg(test)]
 mod tests;
-
-use program::program;
-use std::process::ExitCode;
-
-fn main(rt: HostRuntime) -> ExitCode {
-    let ended = program(rt.alloc(), rt, rt, rt.stdin(), rt.stdout(), rt.stderr());
-    ExitCode::from(ended.status)
-}
