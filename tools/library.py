@@ -15,9 +15,8 @@ BEGIN = "<!-- From here on tools/library.py writes. -->\n"
 
 
 def libraries():
-    """The crates that are libraries, the lowest first; those of tests export nothing, and `digests` is the program."""
-    found = [it for it in crates() if os.path.exists(source(it, "lib")) and not it.endswith("_tests")]
-    return [it for it in found if it != "digests"]
+    """The crates that are libraries, the lowest first; those of tests export nothing."""
+    return [it for it in crates() if os.path.exists(source(it, "lib")) and not it.endswith("_tests")]
 
 
 def source(crate, module):

@@ -3,4 +3,3 @@ mod OperandLemmas
 mod ProgramLemmas
 mod CheckWords
 mod WrittenIsGood
-mod WorkedExamples

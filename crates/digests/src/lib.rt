@@ -11,5 +11,3 @@ mod messages;
 pub mod program;
 pub mod run;
 pub mod standard_input;
-#[cfg(test)]
-mod tests;

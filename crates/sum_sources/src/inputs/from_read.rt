@@ -1,12 +1,14 @@
 //! Inputs over the readers of `std`.
 ghost use Rattle.std.specs.Io.KnownBytes.{Keeps, ReadConsumes};
-ghost use Rattle.std.specs.Prelude.{◌≡◌, ◌≤◌, [], length, IfOk, IfSome, MatchOption};
-ghost use Rattle.sum_sources.specs.Contents.{and_read};
+ghost use Rattle.std.specs.Prelude.{◌≡◌, ◌≤◌, length, IfOk, IfSome, MatchOption};
+ghost use Rattle.sum_sources.specs.Contents.{and_read, unread};
 ghost use Rattle.sum_sources.specs.Logs.{no_reads};
 
 use crate::Fault;
 use crate::fault::fault_of;
 use crate::inputs::read_log::{ReadLog, ReadNote, Reads};
+use std::fmt;
+use std::fmt::{Debug, Formatter, Write};
 use std::io::{ErrorKind, Read};
 use std::marker::Model;
 use std::snapshot::Snapshot;
@@ -22,14 +24,25 @@ pub struct FromRead<R: Read> {
 
 impl<R: Read> Model for FromRead<R> {
     ghost use Rattle.std.specs.Io.KnownBytes.{Consumes};
-    ghost use Rattle.sum_sources.specs.Contents.{OverReader};
+    ghost use Rattle.std.specs.Prelude.{◌≡◌, IfSome};
+    ghost use Rattle.sum_sources.specs.Contents.{Ended, OverReader, Whole};
 
     ghost Value = { OverReader R };
 
     ghost view = { λ s. record { reader = s.reader; log = s.log } };
 
-    // What the reader was known to give is what the log has, and then what remains.
-    ghost invariant = { λ s. Consumes (R.remaining s.first.value) (R.remaining s.reader) s.log.reads.bytes };
+    // What the reader was known to give at first is what the log has, and then what remains. At an end it is what the
+    // log has.
+    ghost invariant = { λ s.
+        Consumes (R.remaining s.first.value) (R.remaining s.reader) s.log.reads.bytes
+        × (s.log.reads.phase ≡ Ended Whole
+        → IfSome (R.remaining s.first.value) (λ all. all ≡ s.log.reads.bytes)) };
+}
+
+impl<R: Read> Debug for FromRead<R> {
+    fn fmt<W: Write>(&self, f: &mut Formatter<W>) -> fmt::Result {
+        f.write_str("FromRead")
+    }
 }
 
 impl<R: Read> FromRead<R> {
@@ -43,7 +56,7 @@ impl<R: Read> FromRead<R> {
 
     // The input for a file that a source opened, with this log.
     pub(crate) fn with_log(reader: R, log: ReadLog) -> Self
-        requires { log.reads.bytes ≡ [] }
+        requires { log.reads ≡ unread }
         ensures { result ≡ record { reader = reader; log = log } }
     {
         FromRead {

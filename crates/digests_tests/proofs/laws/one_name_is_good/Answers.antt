@@ -4,8 +4,8 @@ use Rattle.sum_lines.specs.declared.writing.put_line.Mode.TheVariants.{Text}
 use Rattle.sum_words.specs.declared.tool.Tool.TheVariants.{Md5sum}
 use Rattle.sum_words.proofs.WorkedExamples.{words_on_literals}
 use Rattle.digests.specs.GenerationRuns.{IsCheckable}
-use Rattle.digests.proofs.WorkedExamples.{lines_of, plain_check}
-use Rattle.digests.proofs.tests.laws.one_name_is_good.Goals as goal
+use Rattle.digests_tests.proofs.WorkedExamples.{lines_of, plain_check}
+use Rattle.digests_tests.proofs.laws.one_name_is_good.Goals as goal
 
 -- the list is what the run wrote
 pub returns : goal.returns

@@ -3,7 +3,7 @@ use Rattle.sum_engine.specs.Execution.{OutputsState, StreamsState}
 use Rattle.sum_lines.specs.Sinks.{SinkState}
 use Rattle.sum_sources.specs.{Contents.empty_content, StandardInput.ToldContent, WithStdin.answers_with, WithStdin.with_stdin}
 use Rattle.sum_sources.specs.Sources.{Pair, SourceState, first_answer, names_of, tells_first, times}
-use Rattle.digests.proofs.tests.laws.e_in_memory.Goals as goal
+use Rattle.digests_tests.proofs.laws.e_in_memory.Goals as goal
 
 -- the file `e`, as the source has it
 abbrev e : Pair

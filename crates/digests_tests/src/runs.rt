@@ -4,12 +4,11 @@ ghost use Rattle.sum_sources.specs.Contents.{unread};
 
 mod growths;
 mod hostile;
-mod laws;
 mod program;
 mod stops;
 mod worked_examples;
 
-use crate::run::run;
+use digests::run::run;
 use std::alloc::{Allocator, Global};
 use std::process::Abort;
 use std::test::Fail;

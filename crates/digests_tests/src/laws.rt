@@ -10,10 +10,10 @@ ghost use Rattle.sum_words.specs.Arguments.{AreOf};
 ghost use Rattle.sum_words.specs.Items.{ByteString};
 ghost use Rattle.sum_words.specs.declared.tool.Tool.TheVariants.{Md5sum, Sha256sum, Anysum};
 
-use crate::command::command;
-use crate::laws::{joined_is_good, told_performs, told_program_performs, written_is_good};
-use crate::program::{Ended, SystemStreams, program};
-use crate::run::run;
+use digests::command::command;
+use digests::laws::{joined_is_good, told_performs, told_program_performs, written_is_good};
+use digests::program::{Ended, SystemStreams, program};
+use digests::run::run;
 use std::alloc::{Allocator, Global};
 use std::io::{Read, Write};
 use std::os::fd::AsFd;
@@ -25,9 +25,9 @@ use sum_sources::laws::with_stdin_tells;
 use sum_sources::{Answer, Ending, NoRoom, Source, Stdin, Told, ToldSource, WithStdin};
 use sum_words::{Arguments, SystemArguments, ToldArguments, Tool, Words};
 
-// `md5sum e` over files in memory, of which `e` is empty: if it doesn't stop, the status is 0, and standard output got
-// the line of `e` and nothing else.
-fn run_on_e<A: Allocator + Copy, S: Source, O: Sink, E: Sink>(
+/// `md5sum e` over files in memory, of which `e` is empty: if it doesn't stop, the status is 0, and standard output got
+/// the line of `e` and nothing else.
+pub fn run_on_e<A: Allocator + Copy, S: Source, O: Sink, E: Sink>(
     alloc: A,
     words: &Words<A>,
     streams: &mut Streams<Inputs<S>, Outputs<O, E>>,
@@ -44,8 +44,8 @@ fn run_on_e<A: Allocator + Copy, S: Source, O: Sink, E: Sink>(
     outcome
 }
 
-// `md5sum` without words, if standard input is empty: if the status is 0, standard output got its line.
-fn command_on_nothing<A: Allocator + Copy, G: Arguments, S: Source, O: Sink, E: Sink>(
+/// `md5sum` without words, if standard input is empty: if the status is 0, standard output got its line.
+pub fn command_on_nothing<A: Allocator + Copy, G: Arguments, S: Source, O: Sink, E: Sink>(
     alloc: A,
     arguments: &mut G,
     streams: &mut Streams<Inputs<S>, Outputs<O, E>>,
@@ -63,8 +63,8 @@ fn command_on_nothing<A: Allocator + Copy, G: Arguments, S: Source, O: Sink, E: 
     status
 }
 
-// `md5sum e`, if `e` is empty: if the status is 0, standard output got its line.
-fn command_on_e<A: Allocator + Copy, G: Arguments, S: Source, O: Sink, E: Sink>(
+/// `md5sum e`, if `e` is empty: if the status is 0, standard output got its line.
+pub fn command_on_e<A: Allocator + Copy, G: Arguments, S: Source, O: Sink, E: Sink>(
     alloc: A,
     arguments: &mut G,
     streams: &mut Streams<Inputs<S>, Outputs<O, E>>,
@@ -83,8 +83,8 @@ fn command_on_e<A: Allocator + Copy, G: Arguments, S: Source, O: Sink, E: Sink>(
     status
 }
 
-// `md5sum - -` over what the system gives: if the status is 0, the last line is that of an empty file.
-fn dash_twice<A, R, F, I, O, E>(
+/// `md5sum - -` over what the system gives: if the status is 0, the last line is that of an empty file.
+pub fn dash_twice<A, R, F, I, O, E>(
     alloc: A,
     env: R,
     files: F,
@@ -107,8 +107,8 @@ where
     program(alloc, env, files, stdin, out, err)
 }
 
-// The same as `command_on_e` with all in memory: what standard output holds.
-fn e_in_memory(alloc: Global) -> Result<(u8, ToldSink<64>), NoRoom>
+/// The same as `command_on_e` with all in memory: what standard output holds.
+pub fn e_in_memory(alloc: Global) -> Result<(u8, ToldSink<64>), NoRoom>
     ensures { IfOk result (λ r. r.0 ≡ 0 → bytes_of r.1 ≡ codes "d41d8cd98f00b204e9800998ecf8427e  e\n") }
 {
     let mut source = ToldSource::new(alloc, 1);
@@ -126,8 +126,8 @@ fn e_in_memory(alloc: Global) -> Result<(u8, ToldSink<64>), NoRoom>
     Ok((status, streams.outputs.out.into_inner()))
 }
 
-// `md5sum a` wrote `SUMS`, and `a` is the same later: then a check reports `a: OK` and nothing else, with status 0.
-fn one_name_is_good()
+/// `md5sum a` wrote `SUMS`, and `a` is the same later: then a check reports `a: OK` and nothing else, with status 0.
+pub fn one_name_is_good()
     ensures { (files later : ByteString → AnswerValue) (w v : World) → HasFiles w files → HasFiles v later →
         IsListable files (codes "a") → later (codes "a") ≡ files (codes "a") →
         let sums = out_text (meaning Md5sum (codes "a" ∷ []) w) in
@@ -138,8 +138,8 @@ fn one_name_is_good()
     written_is_good();
 }
 
-// `md5sum --tag a` and `sha256sum --tag b` wrote `SUMS`, one after the other: then `anysum` reports both in its check.
-fn two_tools_are_good()
+/// `md5sum --tag a` and `sha256sum --tag b` wrote `SUMS`, one after the other: then `anysum` reports both in its check.
+pub fn two_tools_are_good()
     ensures { (files later : ByteString → AnswerValue) (w v : World) → HasFiles w files → HasFiles v later →
         IsListable files (codes "a") → later (codes "a") ≡ files (codes "a") →
         IsListable files (codes "b") → later (codes "b") ≡ files (codes "b") →

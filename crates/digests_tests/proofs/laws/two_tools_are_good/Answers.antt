@@ -4,8 +4,8 @@ use Rattle.sum_lines.specs.declared.writing.put_line.Mode.TheVariants.{Tag}
 use Rattle.sum_words.specs.declared.tool.Tool.TheVariants.{Anysum}
 use Rattle.sum_words.proofs.WorkedExamples.{words_on_literals}
 use Rattle.digests.specs.GenerationRuns.{IsCheckable}
-use Rattle.digests.proofs.WorkedExamples.{lines_of, plain_check}
-use Rattle.digests.proofs.tests.laws.two_tools_are_good.Goals as goal
+use Rattle.digests_tests.proofs.WorkedExamples.{lines_of, plain_check}
+use Rattle.digests_tests.proofs.laws.two_tools_are_good.Goals as goal
 
 -- the list is what both runs wrote
 pub returns : goal.returns

@@ -2,7 +2,7 @@
 ghost use Rattle.std.specs.Prelude.{◌≡◌, true};
 
 use super::{MISSING, source_of, spell, spell_all};
-use crate::command::command;
+use digests::command::command;
 use linked_list_allocator::LocalHeap;
 use std::alloc::{Allocator, Global};
 use std::io::{self, ErrorKind, Write};

@@ -1,8 +1,8 @@
 use Rattle.std.proofs.Common.{[], ◌∷◌, codes}
 use Rattle.sum_engine.specs.{Behavior.World, Execution.asked}
 use Rattle.sum_words.specs.declared.tool.Tool.TheVariants.{Md5sum}
-use Rattle.digests.proofs.WorkedExamples.{good_run, empty_file}
-use Rattle.digests.proofs.tests.laws.run_on_e.Goals as goal
+use Rattle.digests_tests.proofs.WorkedExamples.{good_run, empty_file}
+use Rattle.digests_tests.proofs.laws.run_on_e.Goals as goal
 
 -- the law, in the world of the files in memory
 pub returns : goal.returns

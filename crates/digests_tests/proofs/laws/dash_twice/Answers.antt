@@ -3,8 +3,8 @@ use Rattle.sum_engine.proofs.BehaviorLemmas.{events_extend}
 use Rattle.sum_engine.specs.Execution.{Performs}
 use Rattle.sum_words.specs.{Tools.tool_called, declared.tool.Tool.TheVariants.Md5sum}
 use Rattle.digests.specs.{Meaning.meaning, Meaning.status_of, Program.fresh_output}
-use Rattle.digests.proofs.WorkedExamples.{ran_to_end, dash_twice}
-use Rattle.digests.proofs.tests.laws.dash_twice.Goals as goal
+use Rattle.digests_tests.proofs.WorkedExamples.{ran_to_end, dash_twice}
+use Rattle.digests_tests.proofs.laws.dash_twice.Goals as goal
 
 -- the second `-` is empty in some world that agrees
 pub returns : goal.returns

@@ -1,8 +1,8 @@
 use Rattle.std.proofs.Common.{Ok, [], ◌∷◌, ◌∙◌, codes}
 use Rattle.sum_engine.specs.{Behavior.World, Execution.asked}
 use Rattle.sum_words.specs.Tools.{tool_called}
-use Rattle.digests.proofs.WorkedExamples.{does, ran_to_end, good_run, empty_file}
-use Rattle.digests.proofs.tests.laws.command_on_e.Goals as goal
+use Rattle.digests_tests.proofs.WorkedExamples.{does, ran_to_end, good_run, empty_file}
+use Rattle.digests_tests.proofs.laws.command_on_e.Goals as goal
 
 -- the law, in the world of the files in memory
 pub returns : goal.returns
