@@ -24,7 +24,7 @@ pub type SystemStreams<F, I, O, E> = Streams<
 >;
 
 /// How a call of the program ended: its exit status, and the arguments and streams as they are then.
-#[derive(Drop)]
+#[derive(Debug, Drop)]
 pub struct Ended<G, S> {
     pub status: u8,
     pub arguments: G,

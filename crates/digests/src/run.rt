@@ -120,11 +120,9 @@ fn run_operands<A: Allocator + Copy, S: Source, O: Sink, E: Sink>(
 {
     let mut next = Some(first_name(&mut operands));
     let mut good = true;
+    // The label names the loop for its proof.
     'operands: while let Some(name) = next {
-        match run_operand(alloc, job, tool, name, streams) {
-            Ok(this) => good &= this,
-            Err(stop) => return Err(stop),
-        }
+        good &= run_operand(alloc, job, tool, name, streams)?;
         next = operands.next();
     }
     Ok(status(good))

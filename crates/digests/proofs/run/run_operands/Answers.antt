@@ -1,4 +1,5 @@
 use Rattle.std.proofs.Common.{rules, arith, ap, Ok}
+use Rattle.std.proofs.lemmas.Result.{err_from_is_err_and}
 use Rattle.std.proofs.Math.Bool.{and-true}
 use Rattle.sum_engine.proofs.{ExecutionLemmas.Happened-none, WorldLemmas.reads_none, WorldLemmas.reads_weaker, WorldLemmas.reads_then}
 use Rattle.digests.proofs.OperandLemmas.{left-next, operands_done_step, operands_done_stop}
@@ -15,15 +16,15 @@ operands-init g c = record {
 }
 
 -- an operand stopped the run
-pub returns-in-Err-clause-behavior : goal.returns-in-Err-clause-behavior
-returns-in-Err-clause-behavior g c =
-    let so_far = c.operands.invariant in
-    operands_done_stop c.in-Err.stop c.run_operand.new.streams (rw c.in-Some.is at so_far.reached)
-    c.in-Err.ensures.reads c.in-Err.ensures.behavior
+pub returns-in_err-good-clause-behavior : goal.returns-in_err-good-clause-behavior
+returns-in_err-good-clause-behavior g c =
+    let stop = err_from_is_err_and c.from_residual.result c.from_residual.ensures.1 in
+    rw (stop.1, stop.2) (operands_done_stop _ c.run_operand.new.streams (rw c.in-Some.is at c.operands.invariant.reached)
+    c.in_err-good.ensures.reads c.in_err-good.ensures.behavior)
 
-pub returns-in-Err-clause-reads : goal.returns-in-Err-clause-reads
-returns-in-Err-clause-reads g c =
-    reads_then (λ good. cc) c.operands.invariant.reached.reads c.in-Err.ensures.reads
+pub returns-in_err-good-clause-reads : goal.returns-in_err-good-clause-reads
+returns-in_err-good-clause-reads g c =
+    reads_then (λ good. grind arith) c.operands.invariant.reached.reads c.in_err-good.ensures.reads
 
 -- an operand happened
 pub operands-preserved : goal.operands-preserved
@@ -31,8 +32,8 @@ operands-preserved g c =
     let so_far = c.operands.invariant in
     record {
       reached = rw (← left-next c.operands.operands _ c.next-next.result c.next-next.ensures.steps)
-          (operands_done_step c.in-Ok.this c.run_operand.new.streams (rw c.in-Some.is at so_far.reached)
-          (λ good. ap Ok good) c.in-Ok.ensures.reads c.in-Ok.ensures.behavior);
+          (operands_done_step c.in_ok-good.field-0 c.run_operand.new.streams (rw c.in-Some.is at so_far.reached)
+          (λ good. ap Ok good) c.in_ok-good.ensures.reads c.in_ok-good.ensures.behavior);
       so_far = search rules;
     }
 
