@@ -21,12 +21,12 @@ use sum_engine::{
 use sum_lines::Sink;
 use sum_sources::{Input, Source};
 
-/// The name of a line's entry, which its range cuts from the line's vector.
+/// The name of a line's entry, which is cut from the line's vector.
 pub fn entry_name<'a>(found: LineVerdict, line: &'a [u8]) -> &'a [u8]
     requires { HasNameRange line.now found }
     ensures { result.now ≡ slice_range line.now found.start found.stop }
 {
-    &line[found.name_range()]
+    found.name(line)
 }
 
 /// Hashes a name. Whatever was read, there is a world in which exactly this was to be done.

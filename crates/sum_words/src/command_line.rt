@@ -111,6 +111,7 @@ fn fill_growing<A: Allocator, G: Arguments>(
     if more.len() < PAGE {
         grow(more)?;
     }
+    // The label names the loop for its proof.
     'longer: loop {
         match arguments.fill(place, more.as_mut_slice()) {
             Ok(len) => return Ok(Some(len)),
@@ -191,6 +192,7 @@ fn words_from<A: Allocator + Copy, G: Arguments>(
     ensures told { (G.state arguments.new).told ≡ (G.state arguments.old).told }
 {
     let mut words = Words::new(alloc);
+    // The label names the loop for its proof.
     'places: for place in first..usize::MAX {
         let Some(word) = room.argument(arguments, place)? else {
             return Ok(words);

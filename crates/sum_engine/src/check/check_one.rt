@@ -49,8 +49,11 @@ pub fn check_one<A: Allocator + Copy, S: Source, O: Sink, E: Sink>(
         Ok(opened) => opened,
         Err(OpenFault::Memory) => return Err(Stop::Memory),
         Err(OpenFault::Fault(fault)) => {
-            let name = shown;
-            let line = NameFaultLine { tool, name, fault };
+            let line = NameFaultLine {
+                tool,
+                name: shown,
+                fault,
+            };
             return streams.outputs.write_err(&line, false);
         }
     };
@@ -101,6 +104,7 @@ fn check_lines<'a, A: Allocator, I: Input, S: Source, O: Sink, E: Sink>(
         (I.state checker.old.verdicts.reader.input)
         (I.state checker.new.verdicts.reader.input) streams.old streams.new result }
 {
+    // The label names the loop for its proof.
     'lines: loop {
         match checker.step(line, streams) {
             Err(stop) => return Err(stop),

@@ -11,7 +11,6 @@ ghost use Rattle.sum_engine.specs.refinement.Names.{MemoryWasRefused};
 use crate::check::rules::CheckRules;
 use crate::inputs::Inputs;
 use digest_kinds::{Digest, Kind};
-use std::ops::Range;
 use sum_sources::{Fault, HashFault, NoRoom, OpenFault, Source, is_dash};
 
 /// What checking finds about a manifest's line.
@@ -42,14 +41,6 @@ pub struct LineVerdict {
 }
 
 impl LineVerdict {
-    /// Returns the range of its entry's name in the line's vector.
-    pub fn name_range(self) -> Range<usize>
-        ensures start { result.start ≡ self.start }
-        ensures end { result.end ≡ self.stop }
-    {
-        self.start..self.stop
-    }
-
     /// Returns the name of its entry, in the line's vector as `next` has left it. It is empty if the line has no entry.
     pub fn name<'a>(self, line: &'a [u8]) -> &'a [u8]
         requires { HasNameRange line.now self }
