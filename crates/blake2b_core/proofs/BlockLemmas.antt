@@ -4,12 +4,12 @@ use Rattle.std.proofs.lemmas.List.{take-append-le, drop-append-le, length-drop, 
 use Rattle.std.proofs.lemmas.{List.FromFn.map-range_with_len_more, List.Sums.fold-append}
 use Rattle.std.specs.Simd.{first_chunks}
 use Rattle.byteorder.specs.Endian.{little_bytes}
-use Rattle.blake2b_core.specs.{Bytes.ByteString, Compression.compress, Digest.before_last, Digest.hash_after, Digest.blake2b, refinement.Holding.AreBlocksFrom}
+use Rattle.blake2b_core.specs.{Bytes.ByteString, Compression.compress, Digest.count_before_last, Digest.hash_after, Digest.blake2b, refinement.Holding.HasBlocksFrom}
 use Rattle.blake2b_core.proofs.CompressionLemmas.{length-first_chunks, get_or-first_chunks}
 
 -- the chunks of a message from one of its blocks on are its blocks
 pub are_blocks : {bs : List ByteString} (m : ByteString) (k count : ℕ)
-    → bs ≡ first_chunks 128 count (drop (128 * k) m) → AreBlocksFrom m k bs
+    → bs ≡ first_chunks 128 count (drop (128 * k) m) → HasBlocksFrom m k bs
 are_blocks m k count are = grind (arith, length-first_chunks, get_or-first_chunks, drop-drop)
 
 -- whole chunks don't change when what follows them is cut off
@@ -42,7 +42,7 @@ hash_after-append n m x (suc k) fits =
     (rw (drop-append-le, take-append-le) refl)
 
 -- the digest, from the hash before the last block and that block's bytes
-pub blake2b-from : {last bytes : ByteString} {h : List ℕ} {k t : ℕ} (n : ℕ) (m : ByteString) → k ≡ before_last m
+pub blake2b-from : {last bytes : ByteString} {h : List ℕ} {k t : ℕ} (n : ℕ) (m : ByteString) → k ≡ count_before_last m
     → h ≡ hash_after n m k → last ≡ bytes ++ replicate (128 - length bytes) 0 → bytes ≡ drop (128 * k) m → t ≡ length m
     → take n (flat_map (little_bytes 8) (compress h last t true)) ≡ blake2b n m
 unfolding blake2b

@@ -1,9 +1,13 @@
 //! The digest of a message that comes in pieces.
-ghost use Rattle.std.specs.Prelude.{◌≡◌, ◌↔◌, ◌⊎◌, ℕ, ◌+◌, ◌-◌, ◌*◌, ◌/◌, ◌^◌, ◌<◌, ◌≤◌, [], ◌++◌, length, take, IsNone, IfSome, IsOk, OnOk, OnErr};
+ghost use Rattle.blake2b_core.specs.declared.incremental.TheConstants.{LIMIT};
+ghost use Rattle.blake2b_core.specs.declared.one_shot.TheConstants.{BLOCK};
+ghost use Rattle.std.specs.Prelude.{◌≡◌, ◌↔◌, ◌+◌, ◌-◌, ◌<◌, ◌≤◌, [], ◌++◌, length, take, IsSome, IfSome, IsOk, OnOk, OnErr};
 
 use crate::compression::compress;
 use crate::one_shot::{BLOCK, followed_blocks, initial, padded_block, state_after};
 use crate::output::Output;
+use std::alloc::AllocError;
+use thiserror::Error;
 
 /// The bound on messages that come in pieces: they have fewer bytes than this. FIPS 180-4 defines SHA-1, SHA-224 and
 /// SHA-256 for messages of fewer than 2^64 bits, which is 2^61 bytes. BLAKE2b would allow more, but has the same bound
@@ -11,13 +15,14 @@ use crate::output::Output;
 pub const LIMIT: u64 = 1 << 61;
 
 /// The message would have [`LIMIT`] bytes or more.
-#[derive(Clone, Copy, Debug, PartialEq, Eq)]
+#[derive(Clone, Copy, Debug, PartialEq, Eq, Error)]
+#[error("a message has fewer than 2^61 bytes")]
 pub struct MessageTooLong;
 
 impl MessageTooLong {
     /// Fails if and only if a message of `taken` bytes and then the piece would have [`LIMIT`] bytes or more.
     pub fn check(taken: u64, piece: &[u8]) -> Result<(), MessageTooLong>
-        ensures { IsOk result ↔ (taken + length piece.now < 2 ^ 61) }
+        ensures { IsOk result ↔ (taken + length piece.now < LIMIT) }
     {
         if piece.len() as u64 >= LIMIT.saturating_sub(taken) {
             return Err(MessageTooLong);
@@ -36,20 +41,20 @@ pub struct Blake2b {
     buffer_len: usize,
     taken: u64,
     len: usize,
-    ghost buffer_len_high: { buffer_len ≤ 128 },
+    ghost buffer_len_high: { buffer_len ≤ BLOCK },
     ghost len_low: { 1 ≤ len },
     ghost len_high: { len ≤ 64 },
 }
 
 impl Blake2b {
     ghost use Rattle.blake2b_core.specs.Bytes.{ByteString};
-    ghost use Rattle.blake2b_core.specs.Digest.{blake2b};
-    ghost use Rattle.blake2b_core.specs.refinement.Holding.{Holds, HoldsSoFar, digest_len, taken};
+    ghost use Rattle.blake2b_core.specs.Digest.{IsDigestLen, blake2b};
+    ghost use Rattle.blake2b_core.specs.refinement.Holding.{Holds, HoldsSoFar, digest_len, taken_count};
 
     /// Creates the state of the empty message, for a digest of `len` bytes. Returns `None` if and only if `len` is 0 or
     /// over 64.
     pub fn new(len: usize) -> Option<Blake2b>
-        ensures none { IsNone result ↔ ((len ≡ 0) ⊎ (64 < len)) }
+        ensures some { IsSome result ↔ IsDigestLen len }
         ensures holds { IfSome result (λ s. Holds s []) }
         ensures len { IfSome result (λ s. digest_len s ≡ len) }
     {
@@ -74,18 +79,22 @@ impl Blake2b {
 
     /// Returns the length of the message so far, in bytes.
     pub fn taken(&self) -> u64
-        ensures { result ≡ taken self.now }
+        ensures { result ≡ taken_count self.now }
     {
         self.taken
     }
 
     // Adds bytes to those that are buffered.
     fn buffer_bytes(&mut self, bytes: &[u8])
-        requires room { self.old.buffer_len + length bytes.now ≤ 128 }
-        requires fits { self.old.taken + length bytes.now < 2 ^ 61 }
+        requires room { self.old.buffer_len + length bytes.now ≤ BLOCK }
+        requires fits { self.old.taken + length bytes.now < LIMIT }
+
+        // If the state had taken a message, it has now taken the bytes, too.
         ensures holds { (m : ByteString) → HoldsSoFar self.old m
             → HoldsSoFar self.new (m ++ bytes.now) }
-        ensures size { length self.new.buffer ≡ 128 }
+
+        // What it counts, and what stays.
+        ensures size { length self.new.buffer ≡ BLOCK }
         ensures buffer_len { self.new.buffer_len ≡ self.old.buffer_len + length bytes.now }
         ensures taken { self.new.taken ≡ self.old.taken + length bytes.now }
         ensures len { self.new.len ≡ self.old.len }
@@ -99,14 +108,23 @@ impl Blake2b {
     // If some bytes are buffered and the piece has more than fit in the buffer: fills the buffer and compresses it.
     // Returns how many bytes it took.
     fn fill(&mut self, piece: &[u8]) -> usize
-        requires { self.old.taken + length piece.now < 2 ^ 61 }
+        requires { self.old.taken + length piece.now < LIMIT }
+
+        // If the state had taken a message, it has now taken this part of the piece, too.
         ensures holds { (m : ByteString) → HoldsSoFar self.old m
             → HoldsSoFar self.new (m ++ take result piece.now) }
+
+        // Something of a piece is left, and an empty piece changes nothing.
         ensures below { 0 < length piece.now → result < length piece.now }
-        ensures empty_piece { length piece.now ≡ 0 → (result ≡ 0)
-            × (self.new.buffer_len ≡ self.old.buffer_len) }
-        ensures room { 128 < self.new.buffer_len + (length piece.now - result)
+        ensures empty_piece { length piece.now ≡ 0 → result ≡ 0 }
+        ensures empty_stays { length piece.now ≡ 0
+            → self.new.buffer_len ≡ self.old.buffer_len }
+
+        // Nothing is buffered if the rest doesn't fit in the buffer.
+        ensures room { BLOCK < self.new.buffer_len + (length piece.now - result)
             → self.new.buffer_len ≡ 0 }
+
+        // What it counts, and what stays.
         ensures taken { self.new.taken ≡ self.old.taken + result }
         ensures len { self.new.len ≡ self.old.len }
     {
@@ -123,13 +141,19 @@ impl Blake2b {
     // If nothing is buffered: compresses the whole blocks at the front of the piece, but the last block only if a byte
     // follows it. Returns how many bytes it took.
     fn absorb(&mut self, piece: &[u8]) -> usize
-        requires fits { self.old.taken + length piece.now < 2 ^ 61 }
-        requires room { 128 < self.old.buffer_len + length piece.now → self.old.buffer_len ≡ 0 }
+        requires fits { self.old.taken + length piece.now < LIMIT }
+        requires room { BLOCK < self.old.buffer_len + length piece.now → self.old.buffer_len ≡ 0 }
+
+        // If the state had taken a message, it has now taken this part of the piece, too.
         ensures holds { (m : ByteString) → HoldsSoFar self.old m
             → HoldsSoFar self.new (m ++ take result piece.now) }
+
+        // Something of a piece is left, and the rest fits in the buffer.
         ensures below { 0 < length piece.now → result < length piece.now }
         ensures empty_piece { length piece.now ≡ 0 → result ≡ 0 }
-        ensures room { self.new.buffer_len + (length piece.now - result) ≤ 128 }
+        ensures room { self.new.buffer_len + (length piece.now - result) ≤ BLOCK }
+
+        // What it counts, and what stays.
         ensures buffer_len { self.new.buffer_len ≡ self.old.buffer_len }
         ensures taken { self.new.taken ≡ self.old.taken + result }
         ensures len { self.new.len ≡ self.old.len }
@@ -145,10 +169,10 @@ impl Blake2b {
 
     /// Appends a piece to the message, which must stay below `LIMIT` bytes.
     pub fn update(&mut self, piece: &[u8])
-        requires { taken self.old + length piece.now < 2 ^ 61 }
+        requires { taken_count self.old + length piece.now < LIMIT }
         // If the state may have taken a message, it may then have taken that message and the piece.
         ensures holds { (m : ByteString) → Holds self.old m → Holds self.new (m ++ piece.now) }
-        ensures taken { taken self.new ≡ taken self.old + length piece.now }
+        ensures taken { taken_count self.new ≡ taken_count self.old + length piece.now }
         ensures len { digest_len self.new ≡ digest_len self.old }
     {
         let filled = self.fill(piece);
@@ -160,10 +184,11 @@ impl Blake2b {
     /// Appends a piece to the message. Returns `MessageTooLong` if and only if the message would have `LIMIT` bytes or
     /// more. It is then unchanged.
     pub fn try_update(&mut self, piece: &[u8]) -> Result<(), MessageTooLong>
-        ensures fits { IsOk result ↔ (taken self.old + length piece.now < 2 ^ 61) }
+        ensures fits { IsOk result ↔ (taken_count self.old + length piece.now < LIMIT) }
         ensures holds { OnOk result ((m : ByteString) → Holds self.old m
             → Holds self.new (m ++ piece.now)) }
-        ensures taken { OnOk result (taken self.new ≡ taken self.old + length piece.now) }
+        ensures taken { OnOk result (taken_count self.new
+            ≡ taken_count self.old + length piece.now) }
         ensures len { digest_len self.new ≡ digest_len self.old }
         ensures err { OnErr result (self.new ≡ self.old) }
     {
@@ -179,6 +204,24 @@ impl Blake2b {
     {
         let last = padded_block(&self.buffer[..self.buffer_len]);
         let h = compress(&self.h, &last, u128::from(self.taken), true);
-        Output::of_state(&h, self.len)
+        Output::from_state(&h, self.len)
+    }
+}
+
+impl Clone for Blake2b {
+    ghost use Rattle.std.specs.Prelude.{⊤};
+
+    ghost is_clone = { λ state copy. copy ≡ state };
+
+    ghost is_infallible = { λ _. ⊤ };
+
+    fn clone(&self) -> Result<Blake2b, AllocError> {
+        Ok(Blake2b {
+            h: self.h,
+            buffer: self.buffer,
+            buffer_len: self.buffer_len,
+            taken: self.taken,
+            len: self.len,
+        })
     }
 }

@@ -1,8 +1,9 @@
 //! The digest of a whole message (RFC 7693, 3.3).
 ghost use Rattle.blake2b_core.specs.Bytes.{ByteString};
-ghost use Rattle.blake2b_core.specs.Digest.{before_last, blake2b, hash_after};
-ghost use Rattle.blake2b_core.specs.refinement.Holding.{AreBlocksFrom};
-ghost use Rattle.std.specs.Prelude.{◌≡◌, ◌↔◌, ◌⊎◌, ℕ, ◌+◌, ◌-◌, ◌*◌, ◌/◌, ◌^◌, ◌<◌, ◌≤◌, ◌++◌, length, replicate, IsNone, IfSome};
+ghost use Rattle.blake2b_core.specs.Digest.{IsDigestLen, count_before_last, blake2b, hash_after};
+ghost use Rattle.blake2b_core.specs.refinement.Holding.{HasBlocksFrom};
+ghost use Rattle.blake2b_core.specs.declared.one_shot.TheConstants.{BLOCK};
+ghost use Rattle.std.specs.Prelude.{◌≡◌, ◌↔◌, ℕ, ◌+◌, ◌-◌, ◌*◌, ◌^◌, ◌<◌, ◌≤◌, ◌++◌, length, replicate, IsSome, IfSome};
 ghost use Rattle.std.specs.Simd.{first_chunks};
 
 use crate::compression::{IV, advance, compress};
@@ -26,8 +27,8 @@ pub(crate) fn initial(len: usize) -> [u64; 8]
 // block.
 #[tactic(auto, using(std::proofs::lemmas::Grind::common_steps, crate::proofs::BlockLemmas::first_chunks_take))]
 pub(crate) fn followed_blocks(bytes: &[u8]) -> &[[u8; 128]]
-    ensures value { result.now ≡ first_chunks 128 (before_last bytes.now) bytes.now }
-    ensures count { length result.now ≡ before_last bytes.now }
+    ensures value { result.now ≡ first_chunks BLOCK (count_before_last bytes.now) bytes.now }
+    ensures count { length result.now ≡ count_before_last bytes.now }
 {
     let followed = bytes.len().saturating_sub(1);
     bytes[..followed].as_chunks::<128>().0
@@ -36,8 +37,8 @@ pub(crate) fn followed_blocks(bytes: &[u8]) -> &[[u8; 128]]
 // The state after the blocks `followed`, none of which is the last, from the state `h` after the `before` bytes that
 // precede them.
 pub(crate) fn state_after(mut h: [u64; 8], followed: &[[u8; 128]], before: u64) -> [u64; 8]
-    requires { before + 128 * length followed.now < 2 ^ 64 }
-    ensures { (n : ℕ) (m : ByteString) (k : ℕ) → 128 * k ≡ before → AreBlocksFrom m k followed.now
+    requires { before + BLOCK * length followed.now < 2 ^ 64 }
+    ensures { (n : ℕ) (m : ByteString) (k : ℕ) → BLOCK * k ≡ before → HasBlocksFrom m k followed.now
         → h ≡ hash_after n m k → result ≡ hash_after n m (k + length followed.now) }
 {
     let mut taken = before;
@@ -50,8 +51,8 @@ pub(crate) fn state_after(mut h: [u64; 8], followed: &[[u8; 128]], before: u64) 
 
 // The bytes, padded with zeros to a whole block.
 pub(crate) fn padded_block(bytes: &[u8]) -> [u8; 128]
-    requires { length bytes.now ≤ 128 }
-    ensures { result ≡ bytes.now ++ replicate (128 - length bytes.now) 0 }
+    requires { length bytes.now ≤ BLOCK }
+    ensures { result ≡ bytes.now ++ replicate (BLOCK - length bytes.now) 0 }
 {
     let mut block = [0; 128];
     block[..bytes.len()].copy_from_slice(bytes);
@@ -61,7 +62,7 @@ pub(crate) fn padded_block(bytes: &[u8]) -> [u8; 128]
 /// Computes the BLAKE2b digest of `len` bytes of a message, without a key (RFC 7693, 3.3). Returns `None` if and only
 /// if `len` is 0 or over 64.
 pub fn blake2b(len: usize, message: &[u8]) -> Option<Output>
-    ensures none { IsNone result ↔ ((len ≡ 0) ⊎ (64 < len)) }
+    ensures some { IsSome result ↔ IsDigestLen len }
     ensures digest { IfSome result (λ d. d ≡ blake2b len message.now) }
 {
     if len == 0 || len > 64 {
@@ -71,5 +72,5 @@ pub fn blake2b(len: usize, message: &[u8]) -> Option<Output>
     let last = padded_block(&message[BLOCK * front.len()..]);
     let h = state_after(initial(len), front, 0);
     let h = compress(&h, &last, message.len() as u128, true);
-    Some(Output::of_state(&h, len))
+    Some(Output::from_state(&h, len))
 }

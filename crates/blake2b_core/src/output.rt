@@ -15,18 +15,19 @@ pub struct Output {
 
 impl Model for Output {
     ghost use Rattle.blake2b_core.specs.Bytes.{ByteString};
-    ghost use Rattle.std.specs.Prelude.{◌≤◌, take};
+    ghost use Rattle.blake2b_core.specs.Digest.{IsDigestLen};
+    ghost use Rattle.std.specs.Prelude.{take};
 
     ghost Value = { ByteString };
 
     ghost view = { λ o. take o.len o.bytes };
 
-    ghost invariant = { λ o. (1 ≤ o.len) × (o.len ≤ 64) };
+    ghost invariant = { λ o. IsDigestLen o.len };
 }
 
 impl Output {
     // The first `len` bytes of the words of `h`, each written low byte first.
-    pub(crate) fn of_state(h: &[u64; 8], len: usize) -> Output
+    pub(crate) fn from_state(h: &[u64; 8], len: usize) -> Output
         requires low { 1 ≤ len }
         requires high { len ≤ 64 }
         ensures value { result ≡ take len (flat_map (little_bytes 8) h.now) }

@@ -1,6 +1,6 @@
 -- The texts that name kinds: a tag and, for BLAKE2b, the digest's bits.
 use Rattle.std.specs.Prelude.{◌≡◌, ℕ, ◌*◌, ◌⊎◌, ◌==◌, ◌&&◌, not, nat_lt, [], ◌∷◌, ◌++◌, length, codes, IsTrue, Option, None, Some, option_map, if◌then◌else◌, decimal, take_while}
-use Rattle.std.specs.{Char.is_ascii_digit, Result.result_ok, Str.Parse.digits_value}
+use Rattle.std.specs.{Char.is_ascii_digit, Result.result_ok, Str.byte, Str.Parse.digits_value}
 use Rattle.digest_kinds.specs.Bytes.{ByteString, ◌>>=◌, after_while}
 use Rattle.digest_kinds.specs.Kinds.{Algo, Blake2b, KindValue, blake2b_of_bits, full_kind, full_len, has_len, tag}
 
@@ -19,18 +19,19 @@ NamesKind text kind = (width : ByteString) × (text ≡ tag kind.algo ++ width) 
 
 -- ---- computed: these need not be believed
 
--- the number in a text of one to three digits without a leading zero (48)
+-- the number in a text of one to three digits without a leading zero
 abbrev pub short_number : ByteString → Option ℕ
 short_number [] = None
-short_number (d ∷ ds) = if not (d == 48) && nat_lt (length ds) 3 then Some (digits_value 10 (d ∷ ds)) else None
+short_number (d ∷ ds) = if not (d == byte "0") && nat_lt (length ds) 3 then Some (digits_value 10 (d ∷ ds)) else None
 
 -- the kind of BLAKE2b digests whose number of bits is in these digits
 abbrev pub kind_of_digits : ByteString → Option KindValue
 kind_of_digits ds = short_number ds >>= (λ bits. result_ok (blake2b_of_bits bits))
 
--- the kind that an algorithm and the text after its tag name, and the rest; for BLAKE2b a `-` (45) may precede its bits
+-- the kind that an algorithm and the text after its tag name, and the rest; for BLAKE2b a `-` may precede its bits
 abbrev pub kind_and_rest : Algo → ByteString → Option (KindValue × ByteString)
 kind_and_rest Blake2b (b ∷ bs) =
-    if b == 45 then option_map (λ k. (k, after_while is_ascii_digit bs)) (kind_of_digits (take_while is_ascii_digit bs))
+    if b == byte "-" then
+    option_map (λ k. (k, after_while is_ascii_digit bs)) (kind_of_digits (take_while is_ascii_digit bs))
     else Some (full_kind Blake2b, b ∷ bs)
 kind_and_rest a s = Some (full_kind a, s)

@@ -17,24 +17,29 @@ pub use Rattle.digest_kinds.specs.declared.algo.Algos.{Algos}
 abbrev pub all_algos : List Algo
 all_algos = Md5 ∷ Sha1 ∷ Sha224 ∷ Sha256 ∷ Sha384 ∷ Sha512 ∷ Blake2b ∷ []
 
--- an algorithm's tag in lines, the length in bytes of its full digest, and its digest of n bytes of a message; only
--- BLAKE2b has digests of more than one length, so only it uses n
-abbrev pub about : Algo → ByteString × ℕ × (ℕ → ByteString → ByteString)
-about Md5 = (codes "MD5", 16, λ n m. md5 m)
-about Sha1 = (codes "SHA1", 20, λ n m. sha1 m)
-about Sha224 = (codes "SHA224", 28, λ n m. sha224 m)
-about Sha256 = (codes "SHA256", 32, λ n m. sha256 m)
-about Sha384 = (codes "SHA384", 48, λ n m. sha384 m)
-about Sha512 = (codes "SHA512", 64, λ n m. sha512 m)
-about Blake2b = (codes "BLAKE2b", 64, blake2b)
+-- what is known of an algorithm: its tag in lines, the bytes of its full digest, and its digest of n bytes of a message
+pub record AlgoFacts : Type 0 where
+  pub tag : ByteString
+  pub full_len : ℕ
+  pub digest : ℕ → ByteString → ByteString
+
+-- the facts of an algorithm; only BLAKE2b has digests of more than one length, so only it uses n
+abbrev pub algo_facts : Algo → AlgoFacts
+algo_facts Md5 = record { tag = codes "MD5"; full_len = 16; digest = λ n m. md5 m }
+algo_facts Sha1 = record { tag = codes "SHA1"; full_len = 20; digest = λ n m. sha1 m }
+algo_facts Sha224 = record { tag = codes "SHA224"; full_len = 28; digest = λ n m. sha224 m }
+algo_facts Sha256 = record { tag = codes "SHA256"; full_len = 32; digest = λ n m. sha256 m }
+algo_facts Sha384 = record { tag = codes "SHA384"; full_len = 48; digest = λ n m. sha384 m }
+algo_facts Sha512 = record { tag = codes "SHA512"; full_len = 64; digest = λ n m. sha512 m }
+algo_facts Blake2b = record { tag = codes "BLAKE2b"; full_len = 64; digest = blake2b }
 
 -- the tag of an algorithm in lines
 abbrev pub tag : Algo → ByteString
-tag a = (about a).0
+tag a = (algo_facts a).tag
 
 -- the length of the full digest of an algorithm, in bytes
 abbrev pub full_len : Algo → ℕ
-full_len a = (about a).1
+full_len a = (algo_facts a).full_len
 
 -- whether an algorithm has digests of n bytes: for BLAKE2b 1 to 64 bytes (RFC 7693, 2.1), for others the full length
 abbrev pub has_len : Algo → ℕ → Bool
@@ -56,7 +61,7 @@ blake2b_kind n = record { algo = Blake2b; len = n }
 
 -- the digest, of this kind, of a message
 abbrev pub digest : KindValue → ByteString → ByteString
-digest k m = (about k.algo).2 k.len m
+digest k m = (algo_facts k.algo).digest k.len m
 
 -- the kind of BLAKE2b digests of this many bits (0 means 512); TooLong above 512, NotBytes if they aren't whole bytes
 abbrev pub blake2b_of_bits : ℕ → Result KindValue LengthFault

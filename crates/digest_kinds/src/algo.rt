@@ -10,7 +10,7 @@ use std::str::FromStr;
 use thiserror::Error;
 
 /// A digest algorithm.
-#[derive(Clone, Copy, Debug, PartialEq, Eq)]
+#[derive(Clone, Copy, Debug, PartialEq, Eq, Hash)]
 pub enum Algo {
     /// MD5 (RFC 1321), of 16 bytes.
     Md5,
@@ -29,7 +29,7 @@ pub enum Algo {
 }
 
 /// The algorithms that a manifest may use.
-#[derive(Clone, Copy, Debug, PartialEq, Eq)]
+#[derive(Clone, Copy, Debug, PartialEq, Eq, Hash)]
 pub enum Algos {
     /// This one alone.
     One(Algo),

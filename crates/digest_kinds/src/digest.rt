@@ -20,19 +20,20 @@ pub struct Digest {
 }
 
 impl Model for Digest {
+    ghost use Rattle.blake2b_core.specs.Digest.{IsDigestLen};
     ghost use Rattle.digest_kinds.specs.Bytes.{ByteString};
-    ghost use Rattle.std.specs.Prelude.{◌≤◌, take};
+    ghost use Rattle.std.specs.Prelude.{take};
 
     ghost Value = { ByteString };
 
     ghost view = { λ d. take d.len d.bytes };
 
-    ghost invariant = { λ d. (1 ≤ d.len) × (d.len ≤ 64) };
+    ghost invariant = { λ d. IsDigestLen d.len };
 }
 
 impl Digest {
     /// The digest of these bytes.
-    pub(crate) fn of_bytes(digest: &[u8]) -> Digest
+    pub(crate) fn from_bytes(digest: &[u8]) -> Digest
         requires at_least { 1 ≤ length digest.now }
         requires at_most { length digest.now ≤ 64 }
         ensures { result ≡ digest.now }

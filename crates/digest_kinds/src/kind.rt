@@ -1,7 +1,9 @@
 //! An algorithm with its digest's length.
 
+ghost use Rattle.blake2b_core.specs.Digest.{IsDigestLen};
+ghost use Rattle.digest_kinds.specs.Bytes.{LIMIT};
 ghost use Rattle.digest_kinds.specs.Kinds.{blake2b_kind, full_kind, tag, blake2b_of_bits, digest};
-ghost use Rattle.std.specs.Prelude.{◌≡◌, ◌↔◌, ◌⊎◌, ◌*◌, ◌^◌, ◌<◌, ◌≤◌, length, IsNone, IfSome};
+ghost use Rattle.std.specs.Prelude.{◌≡◌, ◌↔◌, ◌*◌, ◌<◌, ◌≤◌, length, IsSome, IfSome};
 
 use crate::algo::Algo;
 use crate::digest::Digest;
@@ -21,7 +23,7 @@ pub enum LengthFault {
 }
 
 /// An algorithm and the number of bytes of its digest: 1 to 64 for BLAKE2b, the full digest for the others.
-#[derive(Clone, Copy, Debug, PartialEq, Eq)]
+#[derive(Clone, Copy, Debug, PartialEq, Eq, Hash)]
 pub struct Kind {
     algo: Algo,
     len: usize,
@@ -70,7 +72,7 @@ impl Kind {
 
     /// Returns BLAKE2b with a digest of `len` bytes, or `None` if and only if `len` is 0 or over 64.
     pub fn blake2b_bytes(len: usize) -> Option<Kind>
-        ensures none { IsNone result ↔ ((len ≡ 0) ⊎ (64 < len)) }
+        ensures some { IsSome result ↔ IsDigestLen len }
         ensures value { IfSome result (λ kind. kind ≡ blake2b_kind len) }
     {
         if len == 0 || len > 64 {
@@ -100,7 +102,7 @@ impl Kind {
 
     /// Computes the digest of a message, which must have fewer than [`LIMIT`](crate::LIMIT) bytes.
     pub fn digest(self, message: &[u8]) -> Digest
-        requires { length message.now < 2 ^ 61 }
+        requires { length message.now < LIMIT }
         ensures { result ≡ digest self message.now }
     {
         let mut hasher = AnyHasher::new(self);

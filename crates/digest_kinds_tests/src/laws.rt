@@ -10,7 +10,8 @@ use digest_kinds::{Kind, UnknownKind};
 
 /// Returns the digest of `abc` that RFC 7693 has in appendix A.
 pub fn blake2b_of_abc() -> Output
-    ensures { result ≡ big_bytes 32 0xba80a53f981c4d0d6a2797b69f12f6e94c212f14685ac4b74b12bb6fdbffa2d1
+    ensures { result
+        ≡ big_bytes 32 0xba80a53f981c4d0d6a2797b69f12f6e94c212f14685ac4b74b12bb6fdbffa2d1
         ++ big_bytes 32 0x7d87c5392aab792dc252d5de4533cc9518d38aa8dbf1925ab92386edd4009923 }
 {
     blake2b_core::laws::vectors();

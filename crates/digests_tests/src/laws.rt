@@ -3,7 +3,6 @@ ghost use Rattle.digests.specs.GenerationRuns.{HasFiles, IsListable};
 ghost use Rattle.digests.specs.Meaning.{meaning, status_of};
 ghost use Rattle.std.specs.Prelude.{ℕ, ◌≡◌, ◌<◌, ◌∷◌, ◌++◌, [], List, Ok, IfOk, Some, codes, length};
 ghost use Rattle.sum_engine.specs.Behavior.{Whole, World, answer_to, out_text, err_text};
-ghost use Rattle.sum_lines.specs.refinement.SinkStates.{bytes_of};
 ghost use Rattle.sum_sources.specs.Contents.{empty_content, limit};
 ghost use Rattle.sum_sources.specs.Sources.{Answer as AnswerValue, Answers, TellsAll};
 ghost use Rattle.sum_words.specs.Arguments.{AreOf};
@@ -109,7 +108,8 @@ where
 
 /// The same as `command_on_e` with all in memory: what standard output holds.
 pub fn e_in_memory(alloc: Global) -> Result<(u8, ToldSink<64>), NoRoom>
-    ensures { IfOk result (λ r. r.0 ≡ 0 → bytes_of r.1 ≡ codes "d41d8cd98f00b204e9800998ecf8427e  e\n") }
+    ensures { IfOk result (λ r. r.0 ≡ 0 →
+        r.1.state.output.written ≡ codes "d41d8cd98f00b204e9800998ecf8427e  e\n") }
 {
     let mut source = ToldSource::new(alloc, 1);
     source.add(b"e", Answer::Content(b"", Ending::Whole))?;

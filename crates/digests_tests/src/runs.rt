@@ -1,6 +1,6 @@
 //! Tests of the run and of the program, over known input and known files, into known sinks.
 ghost use Rattle.std.specs.Prelude.{◌≡◌};
-ghost use Rattle.sum_sources.specs.Contents.{unread};
+ghost use Rattle.sum_sources.specs.Contents.{empty_reads};
 
 mod growths;
 mod hostile;
@@ -114,7 +114,7 @@ fn stage<'a, A: Allocator + Copy, const N: usize>(
     input: Told<'a>,
     source: ToldSource<'a, A>,
 ) -> Stage<'a, A, N>
-    requires { (⟦<Told<'a> as Input>⟧.state input).reads ≡ unread }
+    requires { (⟦<Told<'a> as Input>⟧.state input).reads ≡ empty_reads }
 {
     stage_until(input, source, (N, N))
 }
@@ -125,7 +125,7 @@ fn stage_until<'a, A: Allocator + Copy, const N: usize>(
     source: ToldSource<'a, A>,
     stops: (usize, usize),
 ) -> Stage<'a, A, N>
-    requires { (⟦<Told<'a> as Input>⟧.state input).reads ≡ unread }
+    requires { (⟦<Told<'a> as Input>⟧.state input).reads ≡ empty_reads }
 {
     Streams::new(
         WithStdin::new(Stdin::new(input), source),

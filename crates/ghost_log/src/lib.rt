@@ -20,9 +20,9 @@ use std::fmt;
 use std::fmt::{Debug, Formatter, Write};
 use std::marker::{Model, PhantomData};
 
-/// What a log's state becomes when something is noted.
+/// What a log's state becomes by a note.
 pub trait Notes<X> {
-    ghost noted: { Self → X → Self };
+    ghost after_note: { Self → X → Self };
 }
 
 /// A log. Clauses see its state.
@@ -39,8 +39,6 @@ impl<T> Model for Log<T> {
 
     ghost also_owns = { λ _. ftrue };
 }
-
-unsafe impl<T> Sync for Log<T> {}
 
 impl<T> Debug for Log<T> {
     fn fmt<W: Write>(&self, f: &mut Formatter<W>) -> fmt::Result {
@@ -62,7 +60,7 @@ impl<T> Says<T, T> for It {
 struct AndNote;
 
 impl<'a, X, T: Notes<X>> Says<(&'a Log<T>, &'a X), T> for AndNote {
-    ghost says = { λ x. T.noted x.0.now x.1.now };
+    ghost says = { λ x. T.after_note x.0.now x.1.now };
 }
 
 impl<T> Log<T> {
@@ -84,7 +82,7 @@ impl<T> Log<T> {
     pub fn and<X>(&self, note: &X) -> Log<T>
     where
         T: Notes<X>,
-        ensures { result ≡ T.noted self.now note.now }
+        ensures { result ≡ T.after_note self.now note.now }
     {
         Log::made::<_, AndNote>(&(self, note))
     }

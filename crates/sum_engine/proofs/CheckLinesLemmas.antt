@@ -2,7 +2,7 @@
 -- (`HasComeTo`). A step that goes on keeps this. The step that ends or stops proves the contract by it.
 use Rattle.std.proofs.Common.{rules, ◌^◌, ◌-◌, ◌+◌, ◌<◌, ◌≤◌, ◌≡◌, ℕ, length, drop, length-drop, Bool, List, [], ◌∷◌, ◌++◌, Result, Ok, Err, Some, None, true, refl, ap, ◌∙◌, subst, arith, append-nil}
 use Rattle.std.specs.Prelude.{IfErr}
-use Rattle.sum_sources.specs.{Contents.IsSameInput, Contents.IsOf, Contents.reads_past, LineReaders.remaining, LineReaders.IsReading}
+use Rattle.sum_sources.specs.{Contents.IsSameInput, Contents.Fits, Contents.reads_past, LineReaders.remaining_content, LineReaders.IsReading}
 use Rattle.sum_engine.specs.Behavior.{World, Reads, Step, Behavior, Content, InputState, clip}
 use Rattle.sum_engine.specs.{check.Rules.Rules, check.Rules.LabelsValue, check.Judge.all_verdicts, check.Checking.content_behavior}
 use Rattle.sum_engine.specs.check.CheckStates.{CheckState, initial_state, remaining_behavior}
@@ -27,7 +27,7 @@ remaining-initial r labels c w = search rules
 
 -- at the first line the state is the initial one
 state-initial : {I : Type 0} {state : I → InputState} {p : VerdictsValue I} {input : I} → IsAtStart state p input
-    → (c : Content) (w : World) → state_at p (remaining p.reader c) w ≡ initial_state (clip c) w
+    → (c : Content) (w : World) → state_at p (remaining_content p.reader c) w ≡ initial_state (clip c) w
 state-initial start c w = rw (start.reader, start.form, start.counts) refl
 
 -- ---- the step that ends or stops
@@ -212,7 +212,7 @@ module _ {I : Type 0} (state : I → InputState) (first : CheckerValue I) (m : S
       size = length-drop (length was.bytes) now.bytes ∙ omega (arith, none, h.taken, advances.verdict.reader.taken)
 
       -- the check ended or stopped as it does from the first line on
-      from_start : was.phase ≡ Unfinished → (c : Content) → IsOf (reads_past (length was.bytes) now) c
+      from_start : was.phase ≡ Unfinished → (c : Content) → Fits (reads_past (length was.bytes) now) c
           → (w : World) → Agrees w o.inputs
           → EndsAs x taken o (manifest_behavior first.verdicts.rules first.labels (clip c) (world_at w m.inputs))
           (clip c)
@@ -228,7 +228,7 @@ module _ {I : Type 0} (state : I → InputState) (first : CheckerValue I) (m : S
           subst (λ all. EndsAs x taken o all (clip c))
           (remaining-initial first.verdicts.rules first.labels (clip c) here)
           (subst (λ a. a.consumed ≡ 0 → EndsAs x taken o (left a) a.remaining) (state-initial start c here)
-          (ended.holds (start.reading going) c (subst (λ n. IsOf (reads_past n now) c) before of) w agrees)
+          (ended.holds (start.reading going) c (subst (λ n. Fits (reads_past n now) c) before of) w agrees)
           refl)
 
       -- The step that ends completes the manifest's behavior. One that stops leaves a prefix of it after a write fault,

@@ -2,10 +2,10 @@
 use Rattle.std.proofs.Common.{rules, ◌≡◌, ℕ, Bool, false, List, [], ◌∷◌, Result, Ok, Err, None, Some, refl, ap, subst, codes, if◌then◌else◌, arith}
 use Rattle.std.specs.Prelude.{IfErr}
 use Rattle.std.proofs.lemmas.Option.{slice_get_past}
-use Rattle.sum_sources.specs.{Contents.unread, Sources.and_opening, Sources.gave_of, Sources.gave_at, Sources.times}
+use Rattle.sum_sources.specs.{Contents.empty_reads, Sources.and_opening, Sources.gave_of, Sources.gave_at, Sources.times}
 use Rattle.sum_sources.proofs.GaveLemmas.{gave-times}
 use Rattle.sum_lines.proofs.EventLemmas.{Gets-none}
-use Rattle.sum_engine.specs.Behavior.{Fault, World, is_dash, answer_to, after, Behavior, Step, events_of, trace, Answer, Content, InputState, SourceState, IsOf, clip}
+use Rattle.sum_engine.specs.Behavior.{Fault, World, is_dash, answer_to, after, Behavior, Step, events_of, trace, Answer, Content, InputState, SourceState, Fits, clip}
 use Rattle.sum_engine.specs.{check.CheckerLaws.RunsManifest, check.Rules.rules_of, check.Rules.labels_of, check.Judge.own_profile}
 use Rattle.sum_engine.specs.{check.Checking.CheckSettings, check.Checking.check_behavior_by, check.Checking.check_behavior, Generation.name_fault_line}
 use Rattle.sum_engine.specs.check.ReadAhead.{StopsAtStep, StopsAtLine}
@@ -54,7 +54,7 @@ module _ (settings : CheckSettings) (tool name : List ℕ) (a : StreamsState) wh
   StoppedAt b x = IfErr x (λ stop. StopsAtLine stop (λ w. check_behavior settings tool w name) name a b)
 
   -- it was opened, run and closed: the opening happened, and the behavior of the content comes behind it, or a stop
-  module _ {Whole : Type 0} (m n : SourceState) (s t : InputState) (b : StreamsState) (fresh : s.reads ≡ unread)
+  module _ {Whole : Type 0} (m n : SourceState) (s t : InputState) (b : StreamsState) (fresh : s.reads ≡ empty_reads)
       (o : WasOpened Whole a.inputs m b.inputs n name t)
     where
       abbrev Ran : Result Bool Stop → Type 0
@@ -82,7 +82,7 @@ module _ (settings : CheckSettings) (tool name : List ℕ) (a : StreamsState) wh
           let (d, is, of) = o.answer w agrees in
           let same : d ≡ c = search (rules, is, answer) in
           let read : t.reads ≡ r = search (rules, o.gave, gave) in
-          let ran = (rw fresh at run.stopped) refl c (subst (λ c. IsOf t.reads c) same of) w
+          let ran = (rw fresh at run.stopped) refl c (subst (λ c. Fits t.reads c) same of) w
           (o.agrees w agrees) in
           rw (answer, ← world_after w a.inputs m (name ∷ []) o.asks, ← read)
           (stops_behind stop (opening name) (clip c) b n did o.asked o.refusals ran)

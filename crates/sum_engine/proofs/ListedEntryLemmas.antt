@@ -1,6 +1,6 @@
 -- A manifest of lines that were written for whole files: each line is read back.
 use Rattle.std.proofs.Common.{rules, ◌≡◌, ◌≢◌, ◌==◌, ℕ, ◌<◌, false, List, [], ◌∷◌, ◌++◌, length, map, refl, ap, sym, ◌∙◌, subst, ◌⊎◌, inl, IsTrue, flat_map, All, Ok}
-use Rattle.std.specs.Str.Lines.{strip_carriage_return}
+use Rattle.std.specs.{Char.is_newline, Str.Lines.strip_carriage_return}
 use Rattle.std.proofs.lemmas.{Bool.ne_eqb, List.append-nil, List.append_cancel_right, List.Elements.All-nil, List.Elements.All-map, List.Elements.All-weaker}
 use Rattle.digest_kinds.specs.{Kinds.KindValue, Kinds.has_len, Kinds.digest, declared.algo.Algos.Algos}
 use Rattle.digest_kinds.proofs.DigestLemmas.{length-digest, IsBytes-digest}
@@ -88,7 +88,7 @@ lines-are algos answer is all =
     All-map Plainly prefix is (All-weaker (Listed algos answer) (λ i. Plainly (prefix i)) one is all) in
     let make : List ℕ → Content = λ bytes. record { bytes = bytes; ending = Whole } in
     let none = All-weaker Plainly HasNoNewline (λ l h k d lt. ne_eqb _ 10 (h k d lt).0) (map prefix is) plain in
-    let cut = raw_lines-joined Whole (map prefix is) [] none (All-nil (λ b. (b == 10) ≡ false)) in
+    let cut = raw_lines-joined Whole (map prefix is) [] none (All-nil (λ b. is_newline b ≡ false)) in
     ap (map strip_carriage_return) (ap (λ b. raw_lines (make b)) (texts is ∙ sym (append-nil _)) ∙ cut
     ∙ append-nil (map prefix is))
     ∙ strips-kept (map prefix is)

@@ -1,8 +1,8 @@
 -- `Verdicts::next`: the next verdict of a manifest, by what reading and judging its line did.
 use Rattle.std.proofs.Common.{rules, ◌≡◌, ◌∙◌, ℕ, ◌+◌, List, Ok, Err, Result, IfOk, Some, refl, inl, inr, ◌∷◌, ap, sym, arith, length, length-drop, ◌≤◌}
 use Rattle.sum_sources.specs.declared.{line_reader.Next.TheVariants.Line, line_reader.LineReader.LineReader, line_reader.LineStop.LineStop}
-use Rattle.sum_sources.specs.LineReaders.{AdvancesLines, IsBounded, IsReading, ReadsOn, consumed_count, reads_of, remaining}
-use Rattle.sum_sources.specs.{Contents.IsOf, ManifestLines.lines, ManifestLines.past_line}
+use Rattle.sum_sources.specs.LineReaders.{AdvancesLines, IsBounded, IsReading, ReadsOn, consumed_count, reads_of, remaining_content}
+use Rattle.sum_sources.specs.{Contents.Fits, ManifestLines.lines, ManifestLines.past_line}
 use Rattle.sum_sources.specs.declared.line_reader.LineStop.TheVariants.{Fault, Memory}
 use Rattle.sum_sources.proofs.LineLemmas.{line-some}
 use Rattle.sum_engine.specs.{check.Rules.Rules, check.CheckStates.CheckState, check.CheckStates.HandlesLine, check.CheckStates.next_judged}
@@ -58,15 +58,15 @@ module _ {I : Type 0} {state : I → InputState} {p q : VerdictsValue I} {a b : 
       holds = λ reading c of w agrees.
           let reads = h.reads reading in
           let next = reads.line c of in
-          let first : CheckState = state_at p (remaining p.reader c) (world_at w a) in
+          let first : CheckState = state_at p (remaining_content p.reader c) (world_at w a) in
           let last : CheckState =
-          state_at (after_line p q reader line (Ok found)) (remaining reader c) (world_at w b) in
+          state_at (after_line p q reader line (Ok found)) (remaining_content reader c) (world_at w b) in
           let f : next_judged p.rules first line ≡ line_verdict_value vector found =
           sym (rw h.advances.lines at (h.verdict w agrees)) in
-          let lines : lines_under p.rules.profile (remaining p.reader c)
-          ≡ line ∷ lines_under p.rules.profile (remaining reader c) =
-          lines_now p.rules (remaining p.reader c) h.profile ∙ next.0
-          ∙ ap (λ l. line ∷ l) (sym (lines_now p.rules (remaining reader c) h.profile)) in
+          let lines : lines_under p.rules.profile (remaining_content p.reader c)
+          ≡ line ∷ lines_under p.rules.profile (remaining_content reader c) =
+          lines_now p.rules (remaining_content p.reader c) h.profile ∙ next.0
+          ∙ ap (λ l. line ∷ l) (sym (lines_now p.rules (remaining_content reader c) h.profile)) in
           let sum = reads.sum Line refl c of in
           let handled : HandlesLine p.rules first last vector = search (rules, arith, lines, next, sum, f) in
           let world : world_at w b ≡ after (world_at w a) (asks_of (line_verdict_value vector found)) =
@@ -79,7 +79,7 @@ module _ {I : Type 0} {state : I → InputState} {p q : VerdictsValue I} {a b : 
           let next = reads.line c of in
           let left = ap (λ (c : Content). length c.bytes) next.1 in (
             elim h.asked [ inl refused ↦ ap (world_at w) refused | inr same ↦ ap (world_at w) same.0 ],
-            line-some (remaining p.reader c) (remaining reader c) line next,
+            line-some (remaining_content p.reader c) (remaining_content reader c) line next,
             omega (arith, h.bounds.ahead, reads.sum Line refl c of, left),
           );
     })
@@ -89,8 +89,8 @@ module _ {I : Type 0} {state : I → InputState} {p q : VerdictsValue I} {a b : 
 -- a reader that was refused memory for its line read at most 8192 bytes past it
 pub reads_one_line : {I : Type 0} {state : I → InputState} (old new : LineReader I) (bytes : List ℕ)
     → ReadsOn state old new (Err Memory) bytes → new.final_answer ≡ Some (Err Memory) → IsBounded new → (c : Content)
-    → IsOf (reads_of state new) c → new.taken + length (past_line (remaining old c)).bytes
-    ≤ consumed_count old + length (remaining old c).bytes + 8192
+    → Fits (reads_of state new) c → new.taken + length (past_line (remaining_content old c)).bytes
+    ≤ consumed_count old + length (remaining_content old c).bytes + 8192
 reads_one_line old new bytes reads final bounds c of =
     let (some, same) = reads.line c of in
     let more = (reads.reading.final (Err Memory) final bytes c of).0 in
@@ -106,7 +106,7 @@ pub next_verdict-stop : {I : Type 0} {state : I → InputState} {p q : VerdictsV
 next_verdict-stop {p = p} vector r rules reader (Fault f) bytes reads final bounds profile is = rw (is, rules) (record {
   holds = λ reading c of w agrees.
       let next = (reads reading).line c of in
-      search (lines_now p.rules (remaining p.reader c) profile, next);
+      search (lines_now p.rules (remaining_content p.reader c) profile, next);
 })
 next_verdict-stop {p = p} vector r rules reader Memory bytes reads final bounds profile is = rw is (record {
   holds = λ reading c of w agrees.

@@ -1,7 +1,7 @@
 -- `check_one`: a name is opened, read and closed, and in between other calls may open names.
 use Rattle.std.proofs.Common.{rules, refl, ◌≡◌, ◌∙◌, [], ◌∷◌, ◌++◌, ℕ, List, Ok, Err, None, Some, append_assoc}
 use Rattle.std.proofs.lemmas.{List.map-append, List.Elements.All-cons}
-use Rattle.sum_sources.specs.Contents.{IsOf, IsSameInput}
+use Rattle.sum_sources.specs.Contents.{Fits, IsSameInput}
 use Rattle.sum_sources.specs.Sources.{Opening, ToldAnswers, opened_file, and_opening, after_closing, IsOpen}
 use Rattle.sum_sources.proofs.GaveLemmas.{closed-seam, gave-seam}
 use Rattle.sum_engine.specs.Behavior.{World, Content, Fault, InputState, SourceState, answer_to, times}
@@ -19,7 +19,7 @@ pub record WasOpened (Whole : Type 0) (a m b n : SourceState) (name : List ℕ) 
   pub refusals : n.refusals ≡ b.refusals
   pub agrees : (w : World) → Agrees w n → Agrees w b
   pub answer : (w : World) → Agrees w n
-      → (c : Content) × (answer_to (world_at w a) name ≡ Ok c) × IsOf t.reads c
+      → (c : Content) × (answer_to (world_at w a) name ≡ Ok c) × Fits t.reads c
 
 pub was_opened : {Whole : Type 0} (tells : ToldAnswers) {a m b n : SourceState} {name : List ℕ} {s t : InputState}
     → s ≡ opened_file tells a name → m ≡ and_opening a name None → IsSameInput s t → IsAtEndIf Whole t.reads

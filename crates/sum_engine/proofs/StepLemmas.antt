@@ -1,7 +1,7 @@
 -- One step of a checker, `Checker::step`: the next verdict was found, and its text was written.
 use Rattle.std.proofs.Common.{◌≡◌, ℕ, Bool, false, List, [], length, None, Some, Result, Ok, Err, inl, inr, refl, ap, ◌∙◌, arith}
 use Rattle.sum_engine.specs.Behavior.{Ending, Whole, Broken, World, Content, InputState, SourceState}
-use Rattle.sum_sources.specs.LineReaders.{remaining}
+use Rattle.sum_sources.specs.LineReaders.{remaining_content}
 use Rattle.sum_engine.specs.{check.Rules.LabelsValue, check.CheckStates.CheckState, check.CheckStates.remaining_verdicts, check.CheckStates.remaining_behavior}
 use Rattle.sum_engine.specs.check.Reports.{err_of, out_of, end_text, good}
 use Rattle.sum_engine.specs.check.Verdicts.{VerdictsValue, state_at, InEachCheck, AdvancesVerdicts, VerdictResult, line_verdict_value, IsNextVerdict, HasNoVerdictLeft}
@@ -15,8 +15,9 @@ use Rattle.sum_sources.specs.declared.line_reader.LineStop.TheVariants as line_s
 -- what follows from what holds of the states of a check holds of them, too
 InEachCheck-map : {I : Type 0} {state : I → InputState} {p q : VerdictsValue I} {a b : SourceState}
     {P R : CheckState → CheckState → Type 0} → InEachCheck state p q a b P
-    → ((c : Content) (v w : World) → P (state_at p (remaining p.reader c) v) (state_at q (remaining q.reader c) w)
-    → R (state_at p (remaining p.reader c) v) (state_at q (remaining q.reader c) w))
+    → ((c : Content) (v w : World)
+    → P (state_at p (remaining_content p.reader c) v) (state_at q (remaining_content q.reader c) w)
+    → R (state_at p (remaining_content p.reader c) v) (state_at q (remaining_content q.reader c) w))
     → InEachCheck state p q a b R
 InEachCheck-map {a = a} {b = b} h f =
     record { holds = λ reading c of w agrees. f c (world_at w a) (world_at w b) (h.holds reading c of w agrees) }
@@ -43,7 +44,7 @@ module _ {I : Type 0} {state : I → InputState} {p q : VerdictsValue I} (a b : 
         let r = p.rules in
         let said : WritesAndReturns a.outputs b.outputs (end_text r labels e p.counts) [] (Ended outcome) _ =
         rw (same, f.counts) at wrote in
-        let k = remaining p.reader c in
+        let k = remaining_content p.reader c in
         let did = step_performed (length k.bytes) y asked said in
         record {
           step = record { names = []; err = end_text r labels e p.counts; out = []; remaining = length k.bytes };
@@ -67,9 +68,9 @@ module _ {I : Type 0} {state : I → InputState} {p q : VerdictsValue I} (a b : 
         let said : WritesAndReturns a.outputs b.outputs (err_of p.rules labels j) (out_of p.rules labels j) Going _ =
         rw did.rules at reported in
         InEachCheck-map found (λ c v w f.
-        let k = remaining p.reader c in
+        let k = remaining_content p.reader c in
         let first = state_at p k v in
-        let next = state_at q (remaining q.reader c) w in
+        let next = state_at q (remaining_content q.reader c) w in
         record {
           step = line_step p.rules labels (length k.bytes) j;
           later = remaining_behavior p.rules labels next;
@@ -86,7 +87,7 @@ module _ {I : Type 0} {state : I → InputState} {p q : VerdictsValue I} (a b : 
     -- memory ran out before the verdict; nothing is written, and all remains
     step_taken (Err line_stops.Memory) found did reported =
         rw reported.0 (InEachCheck-map found (λ c v w f.
-        let k = remaining p.reader c in
+        let k = remaining_content p.reader c in
         let first = first_step p.rules labels k.ending p.counts k (remaining_verdicts p.rules (state_at p k v)) in
         record {
           step = first.0;

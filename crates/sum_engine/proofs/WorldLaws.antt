@@ -1,7 +1,7 @@
 -- The law that some world agrees with what was read and what is told: by the law of sources.
 use Rattle.std.proofs.Common.{◌≡◌, [], Option, None, Some, Result, Ok, Err, IfSome, refl}
 use Rattle.sum_sources.specs.{Contents.Reads, InputLaws.some_content, declared.fault.Fault.TheVariants.NotFound}
-use Rattle.sum_sources.specs.Sources.{Answers, ToldAnswers, TellsAll, gave_at, IsOfAnswer, GivesTold}
+use Rattle.sum_sources.specs.Sources.{Answers, ToldAnswers, TellsAll, gave_at, FitsAnswer, GivesTold}
 use Rattle.sum_engine.specs.Execution.{Agrees}
 use Rattle.sum_engine.specs.Behavior.{Answer, Fault, SourceState}
 use Rattle.sum_engine.specs.WorldLaws.{ToldAgree}
@@ -12,7 +12,7 @@ answer_of None = Err NotFound
 answer_of (Some (Ok r)) = Ok (some_content r.bytes r.phase).0
 answer_of (Some (Err f)) = Err f
 
-is_given : (gave : Option (Result Reads Fault)) → IfSome gave (IsOfAnswer (answer_of gave))
+is_given : (gave : Option (Result Reads Fault)) → IfSome gave (FitsAnswer (answer_of gave))
 is_given None = tt
 is_given (Some (Ok r)) = let (c, of) = some_content r.bytes r.phase in (c, refl, of)
 is_given (Some (Err f)) = refl
@@ -30,7 +30,7 @@ told_agree tells a gives = (
 )
   where
     agrees : (told : Option Answer) (gave : Option (Result Reads Fault))
-        → IfSome told (λ told. IfSome gave (IsOfAnswer told)) → IfSome gave (IsOfAnswer (told_or told gave))
+        → IfSome told (λ told. IfSome gave (FitsAnswer told)) → IfSome gave (FitsAnswer (told_or told gave))
     agrees None gave fits = is_given gave
     agrees (Some told) gave fits = fits
 

@@ -1,10 +1,10 @@
 -- Names opened one after another, and the worlds that agree with one call after another.
 use Rattle.std.proofs.Common.{rules, ◌≡◌, ap, refl, ℕ, zero, suc, List, [], ◌∷◌, ◌++◌, Option, None, Some, Result, IfSome, IfOk, append_assoc, append-nil, bytes_eq}
-use Rattle.std.specs.{Prelude.slice_get, Option.option_and_then}
+use Rattle.std.specs.{Prelude.slice_get, Option.option_flatten}
 use Rattle.std.proofs.lemmas.{List.map-append, Result.IfOk-weaker}
 use Rattle.std.proofs.lemmas.List.Elements.{All-nil, All-cons, All-append, All-weaker}
-use Rattle.sum_sources.specs.{Contents.Reads, Sources.Opening, Sources.IsOfAnswer, Sources.and_opening, Sources.gave_of, Sources.names_of, Sources.times}
-use Rattle.sum_sources.proofs.GaveLemmas.{either, gave-append, gave-seam}
+use Rattle.sum_sources.specs.{Contents.Reads, Sources.Opening, Sources.FitsAnswer, Sources.and_opening, Sources.gave_of, Sources.names_of, Sources.times}
+use Rattle.sum_sources.proofs.GaveLemmas.{true_or_false, gave-append, gave-seam}
 use Rattle.sum_engine.specs.Behavior.{World, Fault, SourceState, after}
 use Rattle.sum_engine.specs.Execution.{AsksNames, Agrees, world_at, IsAtEndIf, ReadsFile, ReadsToEndIf}
 
@@ -65,7 +65,7 @@ abbrev Gave : Type 0
 Gave = List (Option (Result Reads Fault))
 
 abbrev at : Gave → ℕ → Option (Result Reads Fault)
-at gs k = option_and_then (λ gave. gave) (slice_get gs k)
+at gs k = option_flatten (slice_get gs k)
 
 -- what holds of an opening holds before later ones, and as long as it is open
 gave-front : (P : Result Reads Fault → Type 0) (gs more : Gave) (k : ℕ) → IfSome (at (gs ++ more) k) P
@@ -86,7 +86,7 @@ pub agrees_before : {Whole : Type 0} {w : World} {b c : SourceState} → Agrees 
 agrees_before {w = w} {b = b} {c = c} h reads = record {
   gave = λ name k.
       let both = rw (reads.openings.1, gave-append b.openings reads.openings.0 name) at (h.gave name k) in
-      gave-front (IsOfAnswer (w.answer name k)) (gave_of b.openings name) (gave_of reads.openings.0 name) k both;
+      gave-front (FitsAnswer (w.answer name k)) (gave_of b.openings name) (gave_of reads.openings.0 name) k both;
 }
 
 -- a world that agrees with what was read after a file was closed agrees with what was read before
@@ -96,8 +96,8 @@ pub agrees_open : {w : World} {b c : SourceState} (before later : List Opening) 
 agrees_open {w} {b} {c} before later o h was is = record {
   gave = λ name k.
       let here = rw (is, gave-append before (o ∷ later) name) at (h.gave name k) in
-      rw (was, gave-append before (record o { gave = None } ∷ later) name) (either (bytes_eq o.name name)
-      (λ same. rw same (gave-open (IsOfAnswer (w.answer name k)) (gave_of before name) (gave_of later name) o.gave k
+      rw (was, gave-append before (record o { gave = None } ∷ later) name) (true_or_false (bytes_eq o.name name)
+      (λ same. rw same (gave-open (FitsAnswer (w.answer name k)) (gave_of before name) (gave_of later name) o.gave k
       (rw same at here)))
       (λ apart. rw apart (rw apart at here)));
 }
@@ -107,6 +107,6 @@ agrees_open {w} {b} {c} before later o h was is = record {
 -- what an opening gave fits the answer of each world that agrees
 pub opening_agrees : {w : World} {b : SourceState} → Agrees w b → (before later : List Opening) (name : List ℕ)
     (gave : Result Reads Fault) → b.openings ≡ before ++ record { name = name; gave = Some gave } ∷ later
-    → IsOfAnswer (w.answer name (times name (names_of before))) gave
+    → FitsAnswer (w.answer name (times name (names_of before))) gave
 opening_agrees {w} {b} h before later name gave is =
     rw (is, gave-seam before later name (Some gave)) at (h.gave name (times name (names_of before)))

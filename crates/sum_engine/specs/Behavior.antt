@@ -6,7 +6,7 @@ use Rattle.digest_kinds.specs.Kinds.{KindValue, digest}
 pub use Rattle.sum_sources.specs.declared.fault.Fault.{Fault}
 pub use Rattle.sum_sources.specs.declared.fault.Ending.{Ending}
 pub use Rattle.sum_sources.specs.declared.fault.Ending.TheVariants.{Whole, Broken}
-pub use Rattle.sum_sources.specs.Contents.{Content, InputState, Reads, IsOf, clip}
+pub use Rattle.sum_sources.specs.Contents.{Content, InputState, Reads, Fits, clip}
 pub use Rattle.sum_sources.specs.Sources.{Answer, Answers, SourceState, times}
 pub use Rattle.sum_sources.specs.WithStdin.{is_dash}
 

@@ -2,7 +2,7 @@
 use Rattle.std.specs.Prelude.{ℕ, ◌≡◌, ◌≢◌, ◌+◌, ◌⊎◌, Bool, Some, IfSome, IfOk, Result, Ok, Err, ◌<◌, List, ◌∷◌, ◌++◌, filter_map, All, Any}
 use Rattle.sum_sources.specs.declared.fault.Ending.TheVariants as ending
 use Rattle.sum_sources.specs.declared.{inputs.phase.Phase.TheVariants.Ended, inputs.phase.Phase.TheVariants.Past}
-pub use Rattle.sum_sources.specs.Sources.{Opening, IsOfAnswer, names_of, gave_at}
+pub use Rattle.sum_sources.specs.Sources.{Opening, FitsAnswer, names_of, gave_at}
 use Rattle.sum_lines.specs.Sinks.{OutputState, Gets}
 pub use Rattle.sum_engine.specs.declared.streams.Streams.{Streams}
 pub use Rattle.sum_engine.specs.declared.stop.Stop.{Stop}
@@ -41,7 +41,7 @@ pub record StopHasCause {A : Type 0} (allowed : List ℕ) (a b : StreamsState) (
 
 -- a world agrees with all that was read so far
 pub record Agrees (w : World) (a : SourceState) : Type 0 where
-  pub gave : (name : ByteString) (k : ℕ) → IfSome (gave_at a.openings name k) (IsOfAnswer (w.answer name k))
+  pub gave : (name : ByteString) (k : ℕ) → IfSome (gave_at a.openings name k) (FitsAnswer (w.answer name k))
 
 -- the names that were opened so far
 abbrev pub asked : SourceState → List ByteString

@@ -1,6 +1,6 @@
 //! What the tests work on. The calls here have no contracts, so that their callers' proofs stay short.
 ghost use Rattle.std.specs.Prelude.{◌≡◌};
-ghost use Rattle.sum_sources.specs.Contents.{unread};
+ghost use Rattle.sum_sources.specs.Contents.{empty_reads};
 
 use digest_kinds::{Algo, Algos, Kind};
 use std::alloc::{Allocator, Global};
@@ -19,7 +19,7 @@ pub(crate) type Known<I, S> = Streams<
 >;
 
 pub(crate) fn known<I: Input + Drop, S: Source>(input: I, source: S) -> Known<I, S>
-    requires { (I.state input).reads ≡ unread }
+    requires { (I.state input).reads ≡ empty_reads }
 {
     let (out, err) = (ToldSink::new(1000), ToldSink::new(1000));
     Streams::new(WithStdin::new(Stdin::new(input), source), out, err)

@@ -8,7 +8,7 @@ use Rattle.std.specs.{List.list_all, Option.is_some}
 use Rattle.memchr.specs.Find.{Nowhere, Passes, IsFirstByte, is_byte3, is_byte}
 use Rattle.sum_lines.specs.Escape.{own_profile, escape, escape_of, escape_differs, Profile, escape_by}
 use Rattle.sum_lines.specs.{grammar.Entries.EntryValue, grammar.Entries.Standard, grammar.Entries.begins_standard, grammar.LineParts.LinePartsValue}
-use Rattle.sum_lines.specs.grammar.ParsedLines.{unescaped_bytes, unescape, entry_of_parts, with_raw}
+use Rattle.sum_lines.specs.grammar.ParsedLines.{unescaped_bytes, unescape, entry_of_parts, parts_with_raw_name}
 use Rattle.digest_kinds.proofs.PrefixLemmas.{bind_some}
 use Rattle.sum_lines.specs.declared.reading.line_parts.LineParts.{LineParts}
 use Rattle.sum_lines.specs.refinement.Beginnings.{line_parts}
@@ -152,6 +152,6 @@ no_nul xs r h = search (rules, list_all-from_AllPass, list_all_at)
 
 -- the raw name begins one place further on
 pub raw_standard : (line : List ℕ) (p : LineParts) → begins_standard (line_parts line p).text ≡ true
-    → with_raw Standard (line_parts line p) ≡ Some (line_parts line (record p { start = p.start + 1 }))
+    → parts_with_raw_name Standard (line_parts line p) ≡ Some (line_parts line (record p { start = p.start + 1 }))
 raw_standard line p h =
     let one = drop-take 1 (p.stop - (p.start + 1)) (drop p.start line) in grind (arith, drop-drop 1 p.start line)

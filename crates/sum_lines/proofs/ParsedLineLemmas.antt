@@ -6,10 +6,10 @@ use Rattle.digest_kinds.specs.Bytes.{◌>>=◌}
 use Rattle.sum_lines.specs.{grammar.Shapes.Algos, grammar.Shapes.IsPlain, grammar.Shapes.IsTagged, Escape.Profile, Escape.own_profile, Escape.escape_by}
 use Rattle.sum_lines.specs.grammar.Entries.{Form, EntryValue, IsEntry, IsRawName, is_ignored}
 use Rattle.sum_lines.specs.grammar.LineParts.{LinePartsValue, tagged_parts, plain_parts}
-use Rattle.sum_lines.specs.grammar.ParsedLines.{with_raw, entry_of_parts, entry_of, ParsedLine, bad, parse_line}
+use Rattle.sum_lines.specs.grammar.ParsedLines.{parts_with_raw_name, entry_of_parts, entry_of, ParsedLine, bad, parse_line}
 use Rattle.sum_lines.specs.grammar.LineLaws.{HasOneEntry, FitsGrammar, ParsesByGrammar}
 use Rattle.digest_kinds.proofs.PrefixLemmas.{bind_some, none_of}
-use Rattle.sum_lines.proofs.{PlainLemmas.apart, PlainLemmas.plain_is_read, PlainLemmas.read_is_plain, TaggedLemmas.tagged_is_read, TaggedLemmas.read_is_tagged, EntryLemmas.entry-not_ignored, EscapeLemmas.spelled-is, EscapeLemmas.is-spelled}
+use Rattle.sum_lines.proofs.{PlainLemmas.one_shape, PlainLemmas.plain_is_read, PlainLemmas.read_is_plain, TaggedLemmas.tagged_is_read, TaggedLemmas.read_is_tagged, EntryLemmas.entry-not_ignored, EscapeLemmas.spelled-is, EscapeLemmas.is-spelled}
 
 module _ (p : Profile) (algos : Algos) (f : Form) (line : List ℕ) where
   -- ---- the entry that a line has is computed
@@ -24,7 +24,7 @@ module _ (p : Profile) (algos : Algos) (f : Form) (line : List ℕ) where
         | inl t ↦ rw (tagged_is_read q t) named
         | inr t ↦ let plain : LinePartsValue = record q { text = t.0 } in
             let raw = t.2 in
-            rw (← none_of (tagged_parts algos line) (λ q h. apart t.1 (read_is_tagged h)), plain_is_read plain t.1)
+            rw (← none_of (tagged_parts algos line) (λ q h. one_shape t.1 (read_is_tagged h)), plain_is_read plain t.1)
             (grind arith)
       ]
 
@@ -39,11 +39,11 @@ module _ (p : Profile) (algos : Algos) (f : Form) (line : List ℕ) where
 
   -- what the parts spell, of a line that is found to be tagged or only plain, is an entry of the line
   by-parts : (s : EntryValue) (t q : Option LinePartsValue) → tagged_parts algos line ≡ t → plain_parts algos line ≡ q
-      → option_or t (q >>= with_raw f) >>= entry_of_parts p ≡ Some s → IsEntry (escape_by p) algos f line s
+      → option_or t (q >>= parts_with_raw_name f) >>= entry_of_parts p ≡ Some s → IsEntry (escape_by p) algos f line s
   by-parts s (Some t) q tagged plain h = by-shape s t (inl (read_is_tagged tagged)) h
   by-parts s None None tagged plain h = cc
   by-parts s None (Some q) tagged plain h =
-      let named = bind_some (with_raw f q) (entry_of_parts p) h in
+      let named = bind_some (parts_with_raw_name f q) (entry_of_parts p) h in
       let raw : IsRawName f q.text named.0.text × (record q { text = named.0.text } ≡ named.0) = grind arith in
       by-shape s (record q { text = named.0.text }) (inr (q.text, read_is_plain plain, raw.0))
       (ap (entry_of_parts p) raw.1 ∙ named.2)

@@ -99,9 +99,9 @@ no_prefix a (x ∷ y ∷ xs) s rest all two e =
 no_prefix a ds s rest all two e = absurd (omega arith)
 
 -- no line is both plain and tagged
-pub apart : {algos others : Algos} {line : List ℕ} {e f : Bool} {kind other : KindValue} {d c tail raw : List ℕ}
+pub one_shape : {algos others : Algos} {line : List ℕ} {e f : Bool} {kind other : KindValue} {d c tail raw : List ℕ}
     → IsPlain algos line e kind d tail → IsTagged others line f other c raw → ⊥
-apart {other = other} p t =
+one_shape {other = other} p t =
     let digits = plain-digits p in
     no_prefix other.algo p.digits _ _ digits.are digits.two
     (ap (λ (x : Bool × List ℕ). x.1) (sym (plain-prefix p) ∙ tagged-prefix t))

@@ -13,7 +13,7 @@ use Rattle.sum_lines.specs.grammar.Shapes.{Algos, One, mark, Allows, IsPlain, Is
 use Rattle.sum_lines.specs.grammar.Entries.{Form, Undecided, Standard, begins_standard, IsEntry, line_form, form}
 use Rattle.sum_lines.specs.grammar.LineLaws.{IsWritable, SpellsBack, IsReadBack}
 use Rattle.sum_lines.proofs.{EntryLemmas.form_at, EscapeLemmas.length-escape, ParsedLineLemmas.one_entry}
-use Rattle.sum_lines.proofs.PlainLemmas.{apart, digits-of, plain_is_read, read_is_plain}
+use Rattle.sum_lines.proofs.PlainLemmas.{one_shape, digits-of, plain_is_read, read_is_plain}
 use Rattle.sum_lines.specs.Lines as lines
 
 -- a line that ends with a newline, without it
@@ -139,7 +139,7 @@ module _ {kind : KindValue} {name digest : List ℕ} (before later : List (List 
           size = w.size;
           whole = refl;
         } in
-        let other = none_of (plain_parts algos line) (λ p h. apart (read_is_plain h) shape) in
+        let other = none_of (plain_parts algos line) (λ p h. one_shape (read_is_plain h) shape) in
         back algos line (grind (arith, list_all-append, inline-width, inline-escape, inline-digits)) (record {
           escaped = escape_differs own_profile name;
           raw = escape name;

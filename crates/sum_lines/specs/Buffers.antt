@@ -1,6 +1,7 @@
 -- A buffer over a sink, and what a call that writes a text to it does.
 use Rattle.std.specs.Prelude.{true, ◌≡◌, ◌<◌, ◌≤◌, ◌%◌, [], ◌++◌, length, ⊤, Result, Ok, Err}
 use Rattle.sum_lines.specs.Sinks.{ByteString, SinkState, GivesAll}
+use Rattle.sum_lines.specs.declared.sinks.buffered.TheConstants.{CAPACITY}
 
 -- a buffer's state: that of the sink below it, and the bytes that are buffered
 pub record BufferState : Type 0 where
@@ -11,14 +12,13 @@ pub record BufferState : Type 0 where
 abbrev pub IsFlushed : BufferState → Type 0
 IsFlushed b = (b.buffered ≡ []) × (b.sink.flushed ≡ true)
 
--- a text was accepted: of the buffered bytes and the text, all but the last piece was given to the sink in full pieces,
--- and the last piece is buffered
+-- a text was accepted: of the buffered bytes and it, all but the last piece, which is buffered, was given in full pieces
 pub record Accepts (a b : BufferState) (text : ByteString) : Type 0 where
   pub given : ByteString
-  pub full : length given % 8192 ≡ 0
+  pub full : length given % CAPACITY ≡ 0
   pub cut : a.buffered ++ text ≡ given ++ b.buffered
   pub last : 0 < length given → 0 < length b.buffered
-  pub fits : length a.buffered ≤ 8192 → length b.buffered ≤ 8192
+  pub fits : length a.buffered ≤ CAPACITY → length b.buffered ≤ CAPACITY
   pub gives : GivesAll {E = ⊤} a.sink.output b.sink.output given (Ok tt)
 
 -- a write failed: of the buffered bytes and the text, which isn't empty, all but some last bytes were to be given to
@@ -26,7 +26,7 @@ pub record Accepts (a b : BufferState) (text : ByteString) : Type 0 where
 pub record FailsToWrite (a b : BufferState) (text : ByteString) : Type 0 where
   pub nonempty : 0 < length text
   pub given : ByteString
-  pub full : length given % 8192 ≡ 0
+  pub full : length given % CAPACITY ≡ 0
   pub rest : ByteString
   pub cut : a.buffered ++ text ≡ given ++ rest
   pub proper : 0 < length rest

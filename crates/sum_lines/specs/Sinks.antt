@@ -9,11 +9,15 @@ pub record OutputState : Type 0 where
   pub written : ByteString
   pub failures : ℕ
 
--- a sink's state: what it got, and whether it is flushed. It is flushed before its first call, and after a flush or a
--- call that failed, by which what was held back is lost
+-- a sink's state: what it got, and whether it is flushed, as before its first call, after a flush, and after a failure
 pub record SinkState : Type 0 where
   pub output : OutputState
   pub flushed : Bool
+
+-- a sink in memory: its state, and how many bytes it still accepts before it fails
+pub record ToldSinkValue : Type 0 where
+  pub state : SinkState
+  pub room : ℕ
 
 -- one write, which offers a piece: its first bytes are accepted, at least one if it isn't empty; or the write fails
 abbrev pub WritesSome : {E : Type 0} → SinkState → SinkState → ByteString → Result ℕ E → Type 0
@@ -35,6 +39,7 @@ pub data OutputEvent : Type 0 where
   offer_piece : ByteString → OutputEvent
   write_byte : ℕ → ByteString → OutputEvent
 
+-- the byte that an event writes
 abbrev pub written_byte : OutputEvent → Option ℕ
 written_byte (write_byte b left) = Some b
 written_byte event = None
@@ -52,8 +57,7 @@ byte_events (b ∷ left) = write_byte b left ∷ byte_events left
 abbrev pub output_events : ByteString → List OutputEvent
 output_events text = flat_map (λ piece. offer_piece piece ∷ byte_events piece) (pieces text)
 
--- what an output was offered grew by the pieces of these events and, after a byte, perhaps by what was left then: if a
--- write accepted only a part, what is left is offered again. Nothing else was offered
+-- these pieces were offered and, after a write that accepted only a part, what was left of its piece; nothing else was
 abbrev pub OffersEach : List ByteString → List ByteString → List OutputEvent → Type 0
 OffersEach old new [] = new ≡ old
 OffersEach old new (offer_piece piece ∷ es) = OffersEach (old ++ piece ∷ []) new es

@@ -94,7 +94,8 @@ fn unescape(bytes: &mut [u8]) -> Option<usize>
 
 // The byte whose escape the bytes begin with, and the length of that escape, or `None` if they begin with no escape.
 fn first_escaped(bytes: &[u8]) -> Option<(u8, usize)>
-    ensures escape { IfSome result (λ r. bytes.now ≡ escape_of own_profile r.0 ++ drop r.1 bytes.now) }
+    ensures escape { IfSome result (λ r. bytes.now
+        ≡ escape_of own_profile r.0 ++ drop r.1 bytes.now) }
     ensures width { IfSome result (λ r. (0 < r.1) × (r.1 ≤ length bytes.now)) }
     ensures no_escape { IfNone result ((b : ℕ) (rest : ByteString)
         → bytes.now ≢ escape_of own_profile b ++ rest) }

@@ -2,13 +2,13 @@
 //! holds whatever the code does.
 ghost use Rattle.std.specs.Prelude.{◌≡◌, ◌<◌, ◌≤◌, ◌∷◌, [], length};
 ghost use Rattle.sum_lines.specs.Sinks.{ByteString, pieces};
-ghost use Rattle.sum_lines.specs.grammar.LineLaws.{AreApart, HasOneEntry, HasOneForm, ParsesByGrammar, IsReadBack};
+ghost use Rattle.sum_lines.specs.grammar.LineLaws.{HasOneShape, HasOneEntry, HasOneForm, ParsesByGrammar, IsReadBack};
 
 /// For given algorithms and a given form, a line spells at most one entry. No line is both plain and tagged, even with
 /// different algorithms.
 pub fn one_entry()
     ensures entry { HasOneEntry }
-    ensures apart { AreApart }
+    ensures shape { HasOneShape }
 {}
 
 /// A list of lines has one form: the one that is computed.

@@ -1,6 +1,5 @@
 //! What callers know of sinks, and of a line that is ignored.
 ghost use Rattle.std.specs.Prelude.{◌≡◌, ◌≤◌, ◌++◌, true, Some, IfOk, codes, length, take};
-ghost use Rattle.sum_lines.specs.refinement.SinkStates.{bytes_of};
 
 use digest_kinds::Algos;
 use std::alloc::Allocator;
@@ -10,8 +9,8 @@ use sum_lines::{Form, FromWrite, Reading, Sink, SinkFault, ToldSink, read_line};
 /// A sink in memory holds a text that it has room for, and no call has failed.
 pub fn holds_text(text: &[u8]) -> ToldSink<64>
     requires { length text.now ≤ 64 }
-    ensures bytes { bytes_of result ≡ text.now }
-    ensures failures { (⟦<ToldSink<64> as Sink>⟧.state result).output.failures ≡ 0 }
+    ensures bytes { result.state.output.written ≡ text.now }
+    ensures failures { result.state.output.failures ≡ 0 }
 {
     let mut sink = ToldSink::new(64);
     let _ = sink.write(text);
@@ -20,8 +19,8 @@ pub fn holds_text(text: &[u8]) -> ToldSink<64>
 
 /// A sink in memory that is full fails again and again, also after a flush.
 pub fn stays_full() -> ToldSink<8>
-    ensures bytes { bytes_of result ≡ codes "ab" }
-    ensures failures { (⟦<ToldSink<8> as Sink>⟧.state result).output.failures ≡ 2 }
+    ensures bytes { result.state.output.written ≡ codes "ab" }
+    ensures failures { result.state.output.failures ≡ 2 }
 {
     let mut sink = ToldSink::new(2);
     let _ = sink.write(b"abc");
@@ -34,7 +33,8 @@ pub fn stays_full() -> ToldSink<8>
 /// A writer that is known to hold some bytes got the first ones of the piece after them, as many as were accepted.
 pub fn first_bytes<W: Write>(writer: W, piece: &[u8]) -> (Result<usize, SinkFault>, W)
     requires { W.contents writer ≡ Some (codes "before ") }
-    ensures { IfOk result.0 (λ n. W.contents result.1 ≡ Some (codes "before " ++ take n piece.now)) }
+    ensures { IfOk result.0 (λ n. W.contents result.1
+        ≡ Some (codes "before " ++ take n piece.now)) }
 {
     let mut sink = FromWrite::new(writer);
     let written = sink.write(piece);

@@ -1,7 +1,7 @@
 -- Bytes cut at their newlines.
-use Rattle.std.proofs.Common.{◌≡◌, ℕ, List, [], ◌∷◌, ◌++◌, refl, ap, ◌∙◌, append_assoc, inl, inr, ◌==◌, false, All, arith, rules}
+use Rattle.std.proofs.Common.{◌≡◌, ℕ, List, [], ◌∷◌, ◌++◌, refl, ap, ◌∙◌, append_assoc, inl, inr, false, All, arith, rules}
 use Rattle.std.specs.Prelude.{flat_map}
-use Rattle.std.{proofs.lemmas.Bool.Decides.eqb_tells, proofs.lemmas.List.Elements.All-nil, proofs.lemmas.List.Elements.All-cons, proofs.lemmas.List.Elements.All-head, proofs.lemmas.List.Elements.All-tail}
+use Rattle.std.{specs.Char.is_newline, proofs.lemmas.Bool.Decides.eqb_tells, proofs.lemmas.List.Elements.All-nil, proofs.lemmas.List.Elements.All-cons, proofs.lemmas.List.Elements.All-head, proofs.lemmas.List.Elements.All-tail}
 use Rattle.sum_sources.specs.{declared.fault.Ending.Ending, ManifestLines.HasNoNewline, ManifestLines.last_line, ManifestLines.raw_lines}
 use Rattle.sum_sources.proofs.LineLemmas.{pieces-newline, pieces-last}
 
@@ -16,7 +16,7 @@ IsCut bytes = (ended : List (List ℕ)) × (tail : List ℕ)
 
 -- the byte is no newline
 abbrev IsPlain : ℕ → Type 0
-IsPlain b = (b == 10) ≡ false
+IsPlain b = is_newline b ≡ false
 
 -- a byte that is no newline goes to the first piece
 cut_plain : (b : ℕ) (bs : List ℕ) → IsPlain b → IsCut bs → IsCut (b ∷ bs)

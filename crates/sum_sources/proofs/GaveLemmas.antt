@@ -1,7 +1,7 @@
 -- What the openings of a name gave, after one more opening and after a closing.
-use Rattle.std.proofs.Common.{◌≡◌, ℕ, zero, suc, Bool, true, false, List, [], ◌∷◌, ◌++◌, length, slice_set, Option, None, Some, Result, Ok, IfSome, refl, ap, sym, append-nil, bytes_eq, arith}
-use Rattle.std.{proofs.lemmas.Slice.Eq.bytes_eq-Decides, proofs.lemmas.List.Elements.filter_map-append, specs.Prelude.slice_get, specs.Prelude.if◌then◌else◌, specs.Option.option_and_then}
-use Rattle.sum_sources.specs.{Contents.Content, Contents.Reads, Contents.InputState, Contents.HasContent, Contents.IsSameInput, Contents.Fault, Sources.Answer, Sources.Opening, Sources.SourceState, Sources.ToldAnswers, Sources.IsOpen, Sources.IsOfAnswer, Sources.GivesTold, Sources.names_of, Sources.times, Sources.gave_of, Sources.closed_at, Sources.opened_file, Sources.and_opening, Sources.after_closing, Sources.HashesOpened, Contents.HashesInput}
+use Rattle.std.proofs.Common.{◌≡◌, ℕ, zero, suc, ◌+◌, subst, Bool, true, false, List, [], ◌∷◌, ◌++◌, length, slice_set, Option, None, Some, Result, Ok, IfSome, refl, ap, sym, ◌∙◌, append-nil, bytes_eq, arith}
+use Rattle.std.{proofs.lemmas.Slice.Eq.bytes_eq-Decides, proofs.lemmas.List.Elements.filter_map-append, proofs.lemmas.List.Sums.sum_by-cons, specs.Prelude.slice_get, specs.Prelude.if◌then◌else◌, specs.Option.option_flatten}
+use Rattle.sum_sources.specs.{Contents.Content, Contents.Reads, Contents.InputState, Contents.HasContent, Contents.IsSameInput, Contents.Fault, Contents.HashesInput, Sources.Answer, Sources.Opening, Sources.SourceState, Sources.ToldAnswers, Sources.IsOpen, Sources.FitsAnswer, Sources.GivesTold, Sources.names_of, Sources.times, Sources.gave_of, Sources.openings_after, Sources.opened_file, Sources.and_opening, Sources.after_closing, Sources.HashesOpened}
 use Rattle.digest_kinds.specs.Kinds.{KindValue}
 
 -- names that the test finds equal are equal
@@ -15,24 +15,38 @@ same_test : (o name other : List ℕ) {b : Bool} → bytes_eq name other ≡ tru
 same_test o name other same is = rw (← same_name name other same) is
 
 -- what follows from either answer to a test holds
-pub either : {P : Type 0} (b : Bool) → (b ≡ true → P) → (b ≡ false → P) → P
-either true f g = f refl
-either false f g = g refl
+pub true_or_false : {P : Type 0} (b : Bool) → (b ≡ true → P) → (b ≡ false → P) → P
+true_or_false true f g = f refl
+true_or_false false f g = g refl
 
 -- nothing has to hold of an opening that is open, or that wasn't made
-pub nothing : (told : Option Answer) → IfSome told (λ told. IfSome None (IsOfAnswer told))
-nothing None = tt
-nothing (Some told) = tt
+pub none_agrees : (told : Option Answer) → IfSome told (λ told. IfSome None (FitsAnswer told))
+none_agrees None = tt
+none_agrees (Some told) = tt
 
 -- what was read of a file in memory fits its content
 pub of_content : (file : InputState) (c : Content) → HasContent file → file.told ≡ Some c
-    → IsOfAnswer (Ok c) (Ok file.reads)
+    → FitsAnswer (Ok c) (Ok file.reads)
 of_content file c has told = let fits = rw told at has.1 in (c, refl, rw (sym fits) has.2)
+
+-- one more name counts if it is that name
+times-more : (name other : List ℕ) (names : List (List ℕ))
+    → times name (other ∷ names) ≡ (if bytes_eq other name then suc (times name names) else times name names)
+times-more name other names = sum_by-cons _ other names ∙ by (bytes_eq other name)
+  where
+    by : (b : Bool)
+        → (if b then 1 else 0) + times name names ≡ (if b then suc (times name names) else times name names)
+    by true = grind arith
+    by false = grind arith
 
 -- what the openings of a name gave is as long as the list of these openings
 pub gave-times : (os : List Opening) (name : List ℕ) → length (gave_of os name) ≡ times name (names_of os)
 gave-times [] name = refl
-gave-times (o ∷ os) name = grind (arith, gave-times os name)
+gave-times (o ∷ os) name =
+    let next : length (gave_of (o ∷ os) name)
+    ≡ (if bytes_eq o.name name then suc (times name (names_of os)) else times name (names_of os)) =
+    grind (arith, gave-times os name) in
+    next ∙ sym (times-more name o.name (names_of os))
 
 -- what the openings of a name gave, of some openings followed by others
 pub gave-append : (xs ys : List Opening) (name : List ℕ)
@@ -72,30 +86,30 @@ is_open_last tells a m name s t is opens same = record {
 
 -- a closing keeps the names
 pub names-closed : (os : List Opening) (name : List ℕ) (k : ℕ) (r : Reads)
-    → names_of (closed_at os name k r) ≡ names_of os
+    → names_of (openings_after os name k r) ≡ names_of os
 names-closed [] name k r = refl
 names-closed (o ∷ os) name zero r = grind (arith, names-closed os name zero r)
 names-closed (o ∷ os) name (suc k) r = ap (λ ns. o.name ∷ ns) (names-closed os name _ r)
 
 -- a closing sets what its opening gave, and keeps what the openings of another name gave
 pub gave-closing : (os : List Opening) (name : List ℕ) (k : ℕ) (r : Reads) (other : List ℕ)
-    → gave_of (closed_at os name k r) other
+    → gave_of (openings_after os name k r) other
     ≡ (if bytes_eq name other then slice_set (gave_of os other) k (Some (Ok r)) else gave_of os other)
 gave-closing [] name k r other = grind arith
-gave-closing (o ∷ os) name zero r other = either (bytes_eq o.name name)
+gave-closing (o ∷ os) name zero r other = true_or_false (bytes_eq o.name name)
     (λ a. rw (a, same_name o.name name a) (grind arith))
     (λ a. rw (a, gave-closing os name zero r other)
-    (either (bytes_eq name other) (λ c. rw (c, same_test o.name name other c a) refl) (λ c. rw c refl)))
-gave-closing (o ∷ os) name (suc k) r other = either (bytes_eq o.name name)
+    (true_or_false (bytes_eq name other) (λ c. rw (c, same_test o.name name other c a) refl) (λ c. rw c refl)))
+gave-closing (o ∷ os) name (suc k) r other = true_or_false (bytes_eq o.name name)
     (λ a. rw (a, gave-closing os name k r other)
-    (either (bytes_eq name other) (λ c. rw (c, same_test o.name name other c a) refl) (λ c. rw c refl)))
+    (true_or_false (bytes_eq name other) (λ c. rw (c, same_test o.name name other c a) refl) (λ c. rw c refl)))
     (λ a. rw (a, gave-closing os name (suc k) r other)
-    (either (bytes_eq name other) (λ c. rw (c, same_test o.name name other c a) refl) (λ c. rw c refl)))
+    (true_or_false (bytes_eq name other) (λ c. rw (c, same_test o.name name other c a) refl) (λ c. rw c refl)))
 
 -- ---- what holds of each opening, one by one
 
 abbrev given : List (Option (Result Reads Fault)) → ℕ → Option (Result Reads Fault)
-given gs k = option_and_then (λ gave. gave) (slice_get gs k)
+given gs k = option_flatten (slice_get gs k)
 
 -- a statement on what each opening gave stays true after one more opening, if it is true of that one
 pub gives-more : (P : ℕ → Option (Result Reads Fault) → Type 0) (gs : List (Option (Result Reads Fault)))
@@ -118,36 +132,38 @@ gives-closed P (g ∷ gs) (suc i) (suc k) r one h = gives-closed (λ j. P (suc j
 
 -- a source gives what it tells after one more opening, if that opening gives what is told
 pub opening_gives : (tells : ToldAnswers) (s : SourceState) (name : List ℕ) (gave : Option (Result Reads Fault))
-    → IfSome (tells s.told name (times name (names_of s.openings))) (λ told. IfSome gave (IsOfAnswer told))
+    → IfSome (tells s.told name (times name (names_of s.openings))) (λ told. IfSome gave (FitsAnswer told))
     → GivesTold tells s → GivesTold tells (and_opening s name gave)
 opening_gives tells s name gave one was other k =
-    rw (gave-opening s.openings (record { name = name; gave = gave }) other) (either (bytes_eq name other)
-    (λ is. rw is (gives-more (λ j g. IfSome (tells s.told other j) (λ told. IfSome g (IsOfAnswer told))) _ gave k
+    rw (gave-opening s.openings (record { name = name; gave = gave }) other) (true_or_false (bytes_eq name other)
+    (λ is. rw is (gives-more (λ j g. IfSome (tells s.told other j) (λ told. IfSome g (FitsAnswer told))) _ gave k
     (rw (gave-times s.openings other, ← same_name name other is) one) (was other k)))
     (λ is. rw is (was other k)))
 
 pub open_gives : (tells : ToldAnswers) (s : SourceState) (name : List ℕ)
     → GivesTold tells s → GivesTold tells (and_opening s name None)
 open_gives tells s name =
-    opening_gives tells s name None (nothing (tells s.told name (times name (names_of s.openings))))
+    opening_gives tells s name None (none_agrees (tells s.told name (times name (names_of s.openings))))
 
 -- a source gives what it tells after a closing, if the file is in memory
 pub closing_gives : (tells : ToldAnswers) (s : SourceState) (file : InputState) (c : Content) → HasContent file
     → file.told ≡ Some c → tells s.told file.name file.opening ≡ Some (Ok c) → GivesTold tells s
     → GivesTold tells (after_closing s file)
 closing_gives tells s file c has told is was other j =
-    rw (gave-closing s.openings file.name file.opening file.reads other) (either (bytes_eq file.name other)
+    rw (gave-closing s.openings file.name file.opening file.reads other) (true_or_false (bytes_eq file.name other)
     (λ one. rw (one, ← same_name file.name other one)
-    (gives-closed (λ k g. IfSome (tells s.told file.name k) (λ told. IfSome g (IsOfAnswer told))) _ file.opening j
+    (gives-closed (λ k g. IfSome (tells s.told file.name k) (λ told. IfSome g (FitsAnswer told))) _ file.opening j
     file.reads (rw is (of_content file c has told)) (was file.name j)))
     (λ two. rw two (was other j)))
 
 -- the opening that was closed stands between others
 pub closed-seam : (before later : List Opening) (o : Opening) (r : Reads)
-    → closed_at (before ++ o ∷ later) o.name (times o.name (names_of before)) r
+    → openings_after (before ++ o ∷ later) o.name (times o.name (names_of before)) r
     ≡ before ++ record o { gave = Some (Ok r) } ∷ later
 closed-seam [] later o r = rw (is_same o.name) refl
-closed-seam (x ∷ xs) later o r = grind (arith, closed-seam xs later o r)
+closed-seam (x ∷ xs) later o r =
+    subst (λ k. openings_after (x ∷ (xs ++ o ∷ later)) o.name k r ≡ x ∷ (xs ++ record o { gave = Some (Ok r) } ∷ later))
+    (sym (times-more o.name x.name (names_of xs))) (grind (arith, closed-seam xs later o r))
 
 -- ---- a file that was opened, hashed and closed, and nothing in between
 

@@ -1,6 +1,6 @@
 -- Pieces and lines at the steps of the line reader.
-use Rattle.std.{proofs.lemmas.Grind.common_steps, proofs.lemmas.List.append-nil, proofs.lemmas.List.Splits.slice_split_at, proofs.lemmas.List.Splits.slice_split_none, proofs.lemmas.List.Splits.length-slice_split, specs.List.after_first, specs.Str.Lines.strip_carriage_return, proofs.lemmas.List.Elements.All-head, proofs.lemmas.List.Elements.All-tail}
-use Rattle.std.proofs.Common.{◌≡◌, ℕ, ◌<◌, false, List, [], ◌∷◌, ◌++◌, length, map, Ok, Err, refl, ap, append_assoc, arith, ◌==◌, rules}
+use Rattle.std.{specs.Char.is_newline, proofs.lemmas.Grind.common_steps, proofs.lemmas.List.append-nil, proofs.lemmas.List.Splits.slice_split_at, proofs.lemmas.List.Splits.slice_split_none, proofs.lemmas.List.Splits.length-slice_split, specs.List.after_first, specs.Str.Lines.strip_carriage_return, proofs.lemmas.List.Elements.All-head, proofs.lemmas.List.Elements.All-tail}
+use Rattle.std.proofs.Common.{◌≡◌, ℕ, ◌<◌, false, List, [], ◌∷◌, ◌++◌, length, map, Ok, Err, refl, ap, append_assoc, arith, rules}
 use Rattle.sum_sources.specs.{Faults.Fault, Contents.Ending, Contents.Broken, Contents.Content, Contents.empty_content, ManifestLines.Line, ManifestLines.last_line, ManifestLines.raw_lines, ManifestLines.lines, ManifestLines.past_line, ManifestLines.HasNoNewline, ManifestLines.IsNextLine}
 use Rattle.sum_sources.proofs.ContentLemmas.{with_prefix}
 use Rattle.sum_sources.specs.declared.line_reader.LineStop.TheVariants as stops
@@ -16,14 +16,14 @@ pieces-newline e piece rest none = grind (arith, length-slice_split, slice_split
 pub pieces-last : (e : Ending) (piece : List ℕ) → HasNoNewline piece
     → raw_lines (record { bytes = piece; ending = e }) ≡ last_line e piece
 unfolding raw_lines
-pieces-last e piece none = rw (slice_split_none (λ b. b == 10) piece none) refl
+pieces-last e piece none = rw (slice_split_none is_newline piece none) refl
 
 -- the first newline is past a piece that has none
 after_piece : (piece rest : List ℕ) → HasNoNewline piece
-    → after_first (λ b. b == 10) (piece ++ rest) ≡ after_first (λ b. b == 10) rest
+    → after_first is_newline (piece ++ rest) ≡ after_first is_newline rest
 after_piece [] rest none = refl
 after_piece (b ∷ bs) rest none =
-    grind (arith, after_piece bs rest (All-tail (λ b. (b == 10) ≡ false) b bs none), All-head)
+    grind (arith, after_piece bs rest (All-tail (λ b. is_newline b ≡ false) b bs none), All-head)
 
 -- so the same is past the first line with it and without it
 pub past_line-piece : (piece : List ℕ) (d : Content) → HasNoNewline piece

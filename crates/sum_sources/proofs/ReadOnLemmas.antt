@@ -1,8 +1,12 @@
 -- What was read so far of a line, and what reading on adds to it.
-use Rattle.std.proofs.Common.{◌≡◌, ℕ, zero, suc, ◌+◌, ◌-◌, ◌^◌, ◌<◌, ◌≤◌, true, false, List, [], ◌∷◌, ◌++◌, length, take, drop, None, Some, Result, subst, length-drop, Ok, Err, refl, ap, sym, ◌∙◌, append_assoc, ◌==◌, arith, length-append}
+use Rattle.std.proofs.Common.{◌≡◌, ℕ, zero, suc, ◌+◌, ◌-◌, ◌^◌, ◌<◌, ◌≤◌, true, false, List, [], ◌∷◌, ◌++◌, length, take, drop, None, Some, Result, subst, length-drop, Ok, Err, refl, ap, sym, ◌∙◌, append_assoc, arith, length-append}
 use Rattle.std.specs.Prelude.{nat_lt, if◌then◌else◌}
-use Rattle.std.{proofs.Math.Seq.take-append-add, proofs.Math.Seq.drop-append_seam, proofs.lemmas.List.drop_all, proofs.lemmas.List.Elements.All-append, specs.Str.Lines.strip_carriage_return}
-use Rattle.sum_sources.specs.{ManifestLines.Next, ManifestLines.Line, ManifestLines.NoMore, ManifestLines.LineStop, ManifestLines.HasNoNewline, ManifestLines.IsNextLine, ManifestLines.past_line, Contents.Ending, Contents.Whole, Contents.Broken, Contents.Content, Contents.InputState, Contents.Reads, Contents.Fault, Contents.IsOf, Contents.Other, Contents.clip, Contents.limit, Contents.reads_past, LineReaders.LineReaderValue, LineReaders.consumed_count, LineReaders.past, LineReaders.reads_of, LineReaders.remaining, LineReaders.IsUnderWay, LineReaders.IsReading, LineReaders.ReadsOn, Contents.Ended, Contents.Past, refinement.LimitedReads.FindsEnding, refinement.LimitedReads.AddsLimited, refinement.LimitedReads.AddsPast, refinement.LimitedReads.CountsBytes, refinement.LineStates.FillsReader, refinement.LineStates.TakesPiece}
+use Rattle.std.{specs.Char.is_newline, proofs.Math.Seq.take-append-add, proofs.Math.Seq.drop-append_seam, proofs.lemmas.List.drop_all, proofs.lemmas.List.Elements.All-append, specs.Str.Lines.strip_carriage_return}
+use Rattle.sum_sources.specs.ManifestLines.{Next, Line, NoMore, LineStop, HasNoNewline, IsNextLine, past_line}
+use Rattle.sum_sources.specs.Contents.{Ending, Whole, Broken, Content, InputState, Reads, Fault, Fits, Other, clip, limit, reads_past, Ended, Past}
+use Rattle.sum_sources.specs.LineReaders.{LineReaderValue, consumed_count, content_past, reads_of, remaining_content, IsUnderWay, IsReading, ReadsOn}
+use Rattle.sum_sources.specs.refinement.LimitedReads.{FindsEnding, AddsLimited, AddsPast, CountsBytes}
+use Rattle.sum_sources.specs.{refinement.LineStates.FillsReader, refinement.LineStates.TakesPiece}
 use Rattle.sum_sources.specs.declared.line_reader.LineStop.TheVariants as stops
 use Rattle.sum_sources.proofs.{ContentLemmas.with_prefix, ContentLemmas.limit-value, LimitLemmas.before_more, LineLemmas.lines-nil, LineLemmas.past_line-piece, LineLemmas.IsNextLine-ended}
 
@@ -24,7 +28,7 @@ clip-prefix front rest few =
 
 -- past all its bytes, a content is its ending alone
 over : {k : Content} (n : ℕ) (bytes : List ℕ) (e : Ending) → k ≡ record { bytes = bytes; ending = e } → length bytes ≤ n
-    → past n k ≡ just e
+    → content_past n k ≡ just e
 over n bytes e is low = rw (is, drop_all n bytes low) refl
 
 -- bytes that are consumed no longer remain, so both counts add up to the same
@@ -40,7 +44,7 @@ module _ {I : Type 0} {state : I → InputState} {r : LineReaderValue I} (u : Is
 
   -- what remains begins with what is ahead
   begins_at : (k d : Content) → k ≡ with_prefix (reads_of state r).bytes d
-      → past (consumed_count r) k ≡ with_prefix r.ahead (past r.taken k)
+      → content_past (consumed_count r) k ≡ with_prefix r.ahead (content_past r.taken k)
   begins_at k d is =
       let (consumed, read) = u.ahead in
       let at : consumed_count r ≡ length consumed =
@@ -52,8 +56,8 @@ module _ {I : Type 0} {state : I → InputState} {r : LineReaderValue I} (u : Is
       ∙ drop-append_seam (reads_of state r).bytes d.bytes in
       rw (is, keeps, over) refl
 
-  begins : r.taken < 2 ^ 61 → (c : Content) → IsOf (reads_of state r) c
-      → remaining r c ≡ with_prefix r.ahead (past r.taken (clip c))
+  begins : r.taken < 2 ^ 61 → (c : Content) → Fits (reads_of state r) c
+      → remaining_content r c ≡ with_prefix r.ahead (content_past r.taken (clip c))
   begins few c of =
       let (rest, is) = rw u.phase at of in
       let (d, keeps) = clip-prefix _ (record { bytes = rest; ending = c.ending }) (rw u.taken few) in
@@ -76,8 +80,9 @@ adds_of {state = state} s s' {result} u counts adds =
 pub record HasRead {I : Type 0} (state : I → InputState) (old s : LineReaderValue I) (bytes : List ℕ) : Type 0 where
   pub under_way : IsUnderWay state s
   pub count : consumed_count s ≡ consumed_count old + length bytes
-  pub remains : (c : Content) → IsOf (reads_of state s) c → remaining old c ≡ with_prefix bytes (remaining s c)
-  pub before : (c : Content) → IsOf (reads_of state s) c → IsOf (reads_of state old) c
+  pub remains : (c : Content) → Fits (reads_of state s) c
+      → remaining_content old c ≡ with_prefix bytes (remaining_content s c)
+  pub before : (c : Content) → Fits (reads_of state s) c → Fits (reads_of state old) c
 
 -- a piece goes from one part of a content's bytes to another
 regroup : (a b c : List ℕ) (d : Content) → with_prefix a (with_prefix (b ++ c) d)
@@ -127,7 +132,7 @@ module _ {I : Type 0} {state : I → InputState} {old s s' : LineReaderValue I} 
             ahead = ((reads_of state s).bytes, ap (λ (r : Reads). r.bytes) fills);
           };
           count = omega (arith, same, h.count);
-          remains = λ c of. h.remains c (earlier c of) ∙ ap (λ n. with_prefix bytes (past n (clip c))) same;
+          remains = λ c of. h.remains c (earlier c of) ∙ ap (λ n. with_prefix bytes (content_past n (clip c))) same;
           before = λ c of. h.before c (earlier c of);
         }
 
@@ -149,7 +154,7 @@ ends_line {state = state} {old = old} {s' = s'} {line = line} {line' = line'} h 
     rw (is, append_assoc) (HasRead-more h (piece ++ 10 ∷ []) s'.ahead few same (rw append_assoc cut)) in
     record {
       line = λ c of. next_of (Ok Line) _ (read.remains c of) refl
-          (IsNextLine-ended _ line' (rw is (All-append (λ b. (b == 10) ≡ false) line piece none plain)));
+          (IsNextLine-ended _ line' (rw is (All-append (λ b. is_newline b ≡ false) line piece none plain)));
       sum = λ next is c of. adds_up _ _ _ _ (read.remains c of) read.count;
       reading = record {
         under_way = λ going. read.under_way;
@@ -165,8 +170,8 @@ ends_line {state = state} {old = old} {s' = s'} {line = line} {line' = line'} h 
 -- a reader whose final answer is right
 settled : {I : Type 0} {state : I → InputState} {n : LineReaderValue I} (answer : Result Next LineStop)
     → n.final_answer ≡ Some answer
-    → ((line : List ℕ) (c : Content) → IsOf (reads_of state n) c
-    → IsNextLine (remaining n c) (remaining n c) answer line)
+    → ((line : List ℕ) (c : Content) → Fits (reads_of state n) c
+    → IsNextLine (remaining_content n c) (remaining_content n c) answer line)
     → (answer ≡ Ok NoMore → (reads_of state n).phase ≡ Ended Whole) → ¬ ((reads_of state n).phase ≡ Past)
     → IsReading state n
 settled answer final right end past = record {
@@ -182,12 +187,12 @@ pub ends_memory : {I : Type 0} {state : I → InputState} {old s n : LineReaderV
     → n ≡ record s { final_answer = Some (Err stops.Memory) } → (bytes : List ℕ)
     → ReadsOn state old n (Err stops.Memory) bytes
 ends_memory {state = state} {s = s} {line = begun} h none few some is bytes =
-    let left : (c : Content) → IsOf (reads_of state s) c → 0 < length (remaining s c).bytes = λ c of.
+    let left : (c : Content) → Fits (reads_of state s) c → 0 < length (remaining_content s c).bytes = λ c of.
     omega (arith, some, ap (λ (c : Content). length c.bytes) (begins h.under_way few c of), length-append {A = ℕ}) in
     rw is (record {
       line = λ c of. (
         omega (arith, left c of, h.count, adds_up _ _ _ _ (h.remains c of) h.count),
-        past_line-piece begun (remaining s c) none ∙ sym (ap past_line (h.remains c of)),
+        past_line-piece begun (remaining_content s c) none ∙ sym (ap past_line (h.remains c of)),
       );
       sum = λ next is. cc;
       reading = settled (Err stops.Memory) refl (λ bytes c of. (left c of, refl)) (λ is. cc)
@@ -210,17 +215,17 @@ whole_by Whole is = refl
 whole_by (Broken f) is = cc
 
 -- the input ended with this ending, after these bytes
-pub ends : {I : Type 0} {state : I → InputState} {old s : LineReaderValue I} (m : LineReaderValue I)
+pub ReadsOn-ending : {I : Type 0} {state : I → InputState} {old s : LineReaderValue I} (m : LineReaderValue I)
     {n : LineReaderValue I} {line bytes : List ℕ} (e : Ending) (answer : Result Next LineStop)
     → HasRead state old s line → s.ahead ≡ []
     → FindsEnding s.taken (reads_of state s) (reads_of state m) e → length m.ahead ≡ 0 → s.taken ≤ m.taken
     → n ≡ record m { final_answer = Some (answer_by e) } → IsNextLine (with_prefix line (just e)) (just e) answer bytes
     → ((next : Next) → answer ≡ Ok next → m.taken ≡ s.taken) → ReadsOn state old n answer bytes
-ends {state = state} {old = old} {s = s} m {line = line} e answer h none finds none' more is next same =
+ReadsOn-ending {state = state} {old = old} {s = s} m {line = line} e answer h none finds none' more is next same =
     let taken = h.under_way.taken in
-    let now : (c : Content) → IsOf (reads_of state m) c → remaining m c ≡ just e =
+    let now : (c : Content) → Fits (reads_of state m) c → remaining_content m c ≡ just e =
     λ c of. over _ _ e (finds.content taken c of) (omega (arith, taken, none', more)) in
-    let was : (c : Content) → IsOf (reads_of state m) c → remaining old c ≡ with_prefix line (just e) =
+    let was : (c : Content) → Fits (reads_of state m) c → remaining_content old c ≡ with_prefix line (just e) =
     λ c of. h.remains c (finds.before c of) ∙ ap (with_prefix line)
     (over _ _ e (finds.content taken c of) (omega (arith, taken, ap length none))) in
     rw is (record {

@@ -2,8 +2,8 @@
 use Rattle.std.proofs.Common.{◌≡◌, ◌≤◌, ℕ, true, false, List, [], ◌∷◌, ◌++◌, length, refl, arith, bytes_eq, nat_le}
 use Rattle.std.specs.Prelude.{◌&&◌}
 use Rattle.std.{proofs.lemmas.Bool.Decides.nat_tests, proofs.lemmas.Option.slice_get_past}
-use Rattle.sum_sources.specs.Sources.{Pair, SourceState, GivesTold, gave_of, names_of, times, first_answer, tells_first}
-use Rattle.sum_sources.proofs.GaveLemmas.{either, same_name, gave-times}
+use Rattle.sum_sources.specs.Sources.{Pair, SourceState, GivesTold, gave_of, names_of, times, first_answer, answer_of_first}
+use Rattle.sum_sources.proofs.GaveLemmas.{true_or_false, same_name, gave-times}
 
 -- a pair that doesn't fit changes no answer
 first_append : (ps : List Pair) (p : Pair) (name : List ℕ) (k : ℕ) → (bytes_eq p.name name && nat_le p.from k) ≡ false
@@ -12,13 +12,13 @@ first_append [] p name k other = rw other refl
 first_append (q ∷ ps) p name k other = rw (first_append ps p name k other) refl
 
 pub adding_gives : (s : SourceState) (p : Pair) → p.from ≡ times p.name (names_of s.openings)
-    → GivesTold tells_first s → GivesTold tells_first (record s { told = s.told ++ p ∷ [] })
-adding_gives s p from was name k = either (bytes_eq p.name name && nat_le p.from k)
+    → GivesTold answer_of_first s → GivesTold answer_of_first (record s { told = s.told ++ p ∷ [] })
+adding_gives s p from was name k = true_or_false (bytes_eq p.name name && nat_le p.from k)
     (λ fits. rw (slice_get_past (gave_of s.openings name) k (late fits)) tt)
     (λ other. rw (first_append s.told p name k other) (was name k))
   where
     late : (bytes_eq p.name name && nat_le p.from k) ≡ true → length (gave_of s.openings name) ≤ k
-    late fits = either (bytes_eq p.name name)
+    late fits = true_or_false (bytes_eq p.name name)
         (λ is. let low = rw is at fits in
         rw (gave-times, ← same_name p.name name is, ← from) (grind (arith, nat_tests)))
         (λ is. let no = rw is at fits in cc)

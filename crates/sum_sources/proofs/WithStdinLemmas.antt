@@ -2,12 +2,16 @@
 use Rattle.std.proofs.Common.{◌≡◌, ℕ, zero, suc, true, false, List, [], ◌∷◌, ◌++◌, length, slice_set, append-nil, Option, None, Some, Result, Ok, IfSome, refl, ap, sym, ◌∙◌, codes, bytes_eq, arith}
 use Rattle.std.specs.Prelude.{◌==◌, not, if◌then◌else◌, slice_get}
 use Rattle.std.{specs.Option.option_and_then, specs.Option.option_map, specs.Result.result_ok, proofs.lemmas.Slice.Eq.bytes_eq-Decides, proofs.lemmas.List.Elements.filter-append}
-use Rattle.sum_sources.specs.{Contents.Content, Contents.InputState, Contents.Reads, Contents.Fault, Contents.HasContent, Contents.unread, Contents.empty_content, StandardInput.unless_closed, StandardInput.GivesUnread, StandardInput.given_by, StandardInput.is_untaken, StandardInput.put_back, StandardInput.taken, Sources.Answer, Sources.Opening, Sources.SourceState, Sources.ToldAnswers, Sources.names_of, Sources.times, Sources.gave_of, Sources.closed_at, Sources.opened_file, Sources.IsOpen, Sources.IsOfAnswer, WithStdin.is_dash, WithStdin.given_once, WithStdin.tells_both, WithStdin.with_stdin_state, WithStdin.without_dash, WithStdin.others, WithStdinLaws.gave-both, refinement.WithStdinStates.IsPlaceOf, refinement.WithStdinStates.GivesStdin, refinement.WithStdinStates.WithStdinInvariant, StandardInput.StdinPlace, declared.inputs.closable.Closable.Closable, declared.inputs.closable.Closable.TheVariants.Closed, Contents.Whole, Contents.Unfinished}
-use Rattle.sum_sources.proofs.GaveLemmas.{either, is_same, same_name, nothing, of_content, gives-more, gives-closed, gave-times, gave-append, gave-opening, gave-closing}
+use Rattle.sum_sources.specs.Contents.{Content, InputState, Reads, Fault, HasContent, empty_reads, empty_content, Whole, Unfinished}
+use Rattle.sum_sources.specs.StandardInput.{closable_state, GivesUnread, given_input, is_untaken, put_back, after_taking, StdinPlace}
+use Rattle.sum_sources.specs.Sources.{Answer, Opening, SourceState, ToldAnswers, names_of, times, gave_of, openings_after, opened_file, IsOpen, FitsAnswer}
+use Rattle.sum_sources.specs.WithStdin.{is_dash, first_or_later, answer_of_both, with_stdin_state, state_without_dash, other_openings}
+use Rattle.sum_sources.specs.{WithStdinLaws.gave-both, refinement.WithStdinStates.IsPlaceOf, refinement.WithStdinStates.GivesStdin, refinement.WithStdinStates.IsSoundWithStdin, declared.inputs.closable.Closable.Closable, declared.inputs.closable.Closable.TheVariants.Closed}
+use Rattle.sum_sources.proofs.GaveLemmas.{true_or_false, is_same, same_name, none_agrees, of_content, gives-more, gives-closed, gave-times, gave-append, gave-opening, gave-closing}
 
 -- names that differ also differ the other way round
 turned : (a b : List ℕ) → bytes_eq a b ≡ false → bytes_eq b a ≡ false
-turned a b apart = either (bytes_eq b a)
+turned a b apart = true_or_false (bytes_eq b a)
     (λ is. let no = sym apart ∙ (bytes_eq-Decides a b).1 (sym (same_name b a is)) in cc) (λ is. is)
 
 -- ---- what is in memory
@@ -19,47 +23,49 @@ ok_again (Some c) = refl
 -- ---- the invariant
 
 -- the openings without those of `-`: none of `-` is left, and what is left stays
-others-dash : (os : List Opening) → gave_of (others os) (codes "-") ≡ []
-others-dash [] = refl
-others-dash (o ∷ os) = grind (arith, others-dash os, turned (codes "-") o.name)
+other_openings-dash : (os : List Opening) → gave_of (other_openings os) (codes "-") ≡ []
+other_openings-dash [] = refl
+other_openings-dash (o ∷ os) = grind (arith, other_openings-dash os, turned (codes "-") o.name)
 
-others-again : (os : List Opening) → others (others os) ≡ others os
-others-again [] = refl
-others-again (o ∷ os) = grind (arith, others-again os)
+other_openings-again : (os : List Opening) → other_openings (other_openings os) ≡ other_openings os
+other_openings-again [] = refl
+other_openings-again (o ∷ os) = grind (arith, other_openings-again os)
 
 -- after one more opening
-others-opening : (os : List Opening) (o : Opening)
-    → others (os ++ o ∷ []) ≡ (if is_dash o.name then others os else others os ++ o ∷ [])
-others-opening os o = grind (arith, filter-append (λ (x : Opening). not (is_dash x.name)) os (o ∷ []), append-nil)
+other_openings-opening : (os : List Opening) (o : Opening)
+    → other_openings (os ++ o ∷ []) ≡ (if is_dash o.name then other_openings os else other_openings os ++ o ∷ [])
+other_openings-opening os o =
+    grind (arith, filter-append (λ (x : Opening). not (is_dash x.name)) os (o ∷ []), append-nil)
 
 -- after a closing
-others-closing : (os : List Opening) (name : List ℕ) (k : ℕ) (r : Reads) → others (closed_at os name k r)
-    ≡ (if is_dash name then others os else closed_at (others os) name k r)
-others-closing [] name k r = grind arith
-others-closing (o ∷ os) name zero r = either (bytes_eq o.name name)
+other_openings-closing : (os : List Opening) (name : List ℕ) (k : ℕ) (r : Reads)
+    → other_openings (openings_after os name k r)
+    ≡ (if is_dash name then other_openings os else openings_after (other_openings os) name k r)
+other_openings-closing [] name k r = grind arith
+other_openings-closing (o ∷ os) name zero r = true_or_false (bytes_eq o.name name)
     (λ a. rw (a, ← same_name o.name name a) (grind (arith, is_same o.name)))
-    (λ a. rw a (grind (arith, others-closing os name zero r)))
-others-closing (o ∷ os) name (suc k) r =
-    either (bytes_eq o.name name)
-    (λ a. rw (a, ← same_name o.name name a) (grind (arith, is_same o.name, others-closing os o.name k r)))
-    (λ a. rw a (grind (arith, others-closing os name (suc k) r)))
+    (λ a. rw a (grind (arith, other_openings-closing os name zero r)))
+other_openings-closing (o ∷ os) name (suc k) r =
+    true_or_false (bytes_eq o.name name)
+    (λ a. rw (a, ← same_name o.name name a) (grind (arith, is_same o.name, other_openings-closing os o.name k r)))
+    (λ a. rw a (grind (arith, other_openings-closing os name (suc k) r)))
 
 -- the invariant holds at first: nothing was read of standard input
 pub kept_new : {I : Type 0} (state : I → InputState) (stdin : StdinPlace I) (source : SourceState)
-    → is_untaken stdin ≡ true → WithStdinInvariant state stdin stdin (without_dash source).openings source.openings
+    → is_untaken stdin ≡ true → IsSoundWithStdin state stdin stdin (state_without_dash source).openings source.openings
 kept_new state stdin source untaken = record {
   untaken = untaken;
-  place = rw (others-dash source.openings) refl;
-  given = λ k. rw (others-dash source.openings) (nothing _);
-  files = others-again source.openings;
+  place = rw (other_openings-dash source.openings) refl;
+  given = λ k. rw (other_openings-dash source.openings) (none_agrees _);
+  files = other_openings-again source.openings;
 }
 
 module _ {I : Type 0} {state : I → InputState} {first stdin : StdinPlace I} {os fs : List Opening}
-    (kept : WithStdinInvariant state first stdin os fs)
+    (kept : IsSoundWithStdin state first stdin os fs)
   where
     -- the invariant is kept if another name than `-` was opened in the source
     pub kept_opening : (name : List ℕ) (gave : Option (Result Reads Fault)) → is_dash name ≡ false
-        → WithStdinInvariant state first stdin (os ++ record { name = name; gave = gave } ∷ [])
+        → IsSoundWithStdin state first stdin (os ++ record { name = name; gave = gave } ∷ [])
         (fs ++ record { name = name; gave = gave } ∷ [])
     kept_opening name gave apart =
         let o : Opening = record { name = name; gave = gave } in
@@ -69,12 +75,12 @@ module _ {I : Type 0} {state : I → InputState} {first stdin : StdinPlace I} {o
           untaken = kept.untaken;
           place = rw same kept.place;
           given = rw same kept.given;
-          files = rw (others-opening os o, others-opening fs o, apart, kept.files) refl;
+          files = rw (other_openings-opening os o, other_openings-opening fs o, apart, kept.files) refl;
         }
 
     -- the invariant is kept if `-` was opened
-    pub kept_stdin : (name : List ℕ) (new : StdinPlace I) → is_dash name ≡ true → new ≡ taken stdin
-        → WithStdinInvariant state first new (os ++ record { name = name; gave = None } ∷ []) fs
+    pub kept_stdin : (name : List ℕ) (new : StdinPlace I) → is_dash name ≡ true → new ≡ after_taking stdin
+        → IsSoundWithStdin state first new (os ++ record { name = name; gave = None } ∷ []) fs
     kept_stdin name new is takes =
         let o : Opening = record { name = name; gave = None } in
         let same : codes "-" ≡ name = same_name (codes "-") name is in
@@ -83,46 +89,48 @@ module _ {I : Type 0} {state : I → InputState} {first stdin : StdinPlace I} {o
         record {
           untaken = kept.untaken;
           place = rw (more, takes) (later _ stdin);
-          given = λ k. rw more (gives-more (GivesStdin (unless_closed state (given_by first))) _ None k
-              (nothing (given_once (option_map Ok (unless_closed state (given_by first)).told) (Some (Ok empty_content)) _)) (kept.given k));
-          files = rw (others-opening os o, is) kept.files;
+          given = λ k. rw more (gives-more (GivesStdin (closable_state state (given_input first))) _ None k
+              (none_agrees (first_or_later (option_map Ok (closable_state state (given_input first)).told)
+              (Some (Ok empty_content)) _)) (kept.given k));
+          files = rw (other_openings-opening os o, is) kept.files;
         }
       where
-        empty : (old : StdinPlace I) → is_untaken (taken old) ≡ false
+        empty : (old : StdinPlace I) → is_untaken (after_taking old) ≡ false
         empty (false, given) = refl
         empty (true, given) = refl
 
         later : (gs : List (Option (Result Reads Fault))) (old : StdinPlace I)
-            → IsPlaceOf first (taken old) (gs ++ None ∷ [])
+            → IsPlaceOf first (after_taking old) (gs ++ None ∷ [])
         later [] old = empty old
         later (g ∷ gs) old = empty old
 
     -- the invariant is kept if a file of another name than `-` was closed in the source
     pub kept_closing : (name : List ℕ) (k : ℕ) (r : Reads) → is_dash name ≡ false
-        → WithStdinInvariant state first stdin (closed_at os name k r) (closed_at fs name k r)
+        → IsSoundWithStdin state first stdin (openings_after os name k r) (openings_after fs name k r)
     kept_closing name k r apart =
-        let same : gave_of (closed_at os name k r) (codes "-") ≡ gave_of os (codes "-") =
+        let same : gave_of (openings_after os name k r) (codes "-") ≡ gave_of os (codes "-") =
         rw (gave-closing os name k r (codes "-"), turned (codes "-") name apart) refl in
         record {
           untaken = kept.untaken;
           place = rw same kept.place;
           given = rw same kept.given;
-          files = rw (others-closing os name k r, others-closing fs name k r, apart, kept.files) refl;
+          files = rw (other_openings-closing os name k r, other_openings-closing fs name k r, apart, kept.files) refl;
         }
 
     -- the invariant is kept if standard input was put back
     pub kept_back : (name : List ℕ) (k : ℕ) (r : Reads) (given : Closable I) → is_dash name ≡ true
         → slice_get (gave_of os name) k ≡ Some None
-        → GivesStdin (unless_closed state (given_by first)) k (Some (Ok r))
-        → WithStdinInvariant state first (put_back stdin given) (closed_at os name k r) fs
+        → GivesStdin (closable_state state (given_input first)) k (Some (Ok r))
+        → IsSoundWithStdin state first (put_back stdin given) (openings_after os name k r) fs
     kept_back name k r given is was one =
         let same : codes "-" ≡ name = same_name (codes "-") name is in
         let now = gave-closing os (codes "-") k r (codes "-") in
         rw (← same) (record {
           untaken = kept.untaken;
           place = rw now (back _ k stdin (rw (← same) at was) kept.place);
-          given = λ j. rw now (gives-closed (GivesStdin (unless_closed state (given_by first))) _ k j r one (kept.given j));
-          files = rw (others-closing os (codes "-") k r) kept.files;
+          given = λ j.
+              rw now (gives-closed (GivesStdin (closable_state state (given_input first))) _ k j r one (kept.given j));
+          files = rw (other_openings-closing os (codes "-") k r) kept.files;
         })
       where
         same : (old : StdinPlace I) → is_untaken (put_back old given) ≡ is_untaken old
@@ -138,7 +146,7 @@ module _ {I : Type 0} {state : I → InputState} {first stdin : StdinPlace I} {o
 
 -- it was taken if `-` was opened
 pub taken_if : {I : Type 0} (state : I → InputState) (first stdin : StdinPlace I) (os fs : List Opening)
-    → WithStdinInvariant state first stdin os fs → is_untaken stdin ≡ (times (codes "-") (names_of os) == 0)
+    → IsSoundWithStdin state first stdin os fs → is_untaken stdin ≡ (times (codes "-") (names_of os) == 0)
 taken_if state first stdin os fs kept = rw (← gave-times os (codes "-")) (by _ kept.place)
   where
     by : (gs : List (Option (Result Reads Fault))) → IsPlaceOf first stdin gs → is_untaken stdin ≡ (length gs == 0)
@@ -148,7 +156,7 @@ taken_if state first stdin os fs kept = rw (← gave-times os (codes "-")) (by _
 -- ---- what was opened, and what is closed
 
 module _ {I : Type 0} {state : I → InputState} {first stdin : StdinPlace I} (tells : ToldAnswers)
-    (log source : SourceState) (kept : WithStdinInvariant state first stdin log.openings source.openings)
+    (log source : SourceState) (kept : IsSoundWithStdin state first stdin log.openings source.openings)
   where
     -- a name other than `-` was opened as often in the source as in both
     times_there : (name : List ℕ) → is_dash name ≡ false
@@ -159,37 +167,39 @@ module _ {I : Type 0} {state : I → InputState} {first stdin : StdinPlace I} (t
 
     -- what opening `-` gives is standard input, as it was given
     pub stdin_opened : (name : List ℕ) (given : Closable I)
-        → is_dash name ≡ true → given ≡ given_by stdin → GivesUnread state stdin
-        → record (unless_closed state given) { name = name; opening = times name (names_of log.openings) }
-        ≡ opened_file (tells_both tells) (with_stdin_state state first log source) name
+        → is_dash name ≡ true → given ≡ given_input stdin → GivesUnread state stdin
+        → record (closable_state state given) { name = name; opening = times name (names_of log.openings) }
+        ≡ opened_file (answer_of_both tells) (with_stdin_state state first log source) name
     stdin_opened name given is gives fresh =
         let same : codes "-" ≡ name = same_name (codes "-") name is in
         rw (← same, ← gave-times log.openings (codes "-")) (rw gives (by _ fresh kept.place))
       where
-        empty : (place : StdinPlace I) → is_untaken place ≡ false → given_by place ≡ Closed Whole Unfinished
+        empty : (place : StdinPlace I) → is_untaken place ≡ false → given_input place ≡ Closed Whole Unfinished
         empty (false, i) is = cc
         empty (true, i) is = refl
 
         by : (gs : List (Option (Result Reads Fault))) → GivesUnread state stdin → IsPlaceOf first stdin gs
-            → record (unless_closed state (given_by stdin)) { name = codes "-"; opening = length gs } ≡ record {
+            → record (closable_state state (given_input stdin)) { name = codes "-"; opening = length gs } ≡ record {
               name = codes "-";
               opening = length gs;
-              told = option_and_then (result_ok {E = Fault}) (given_once (option_map Ok (unless_closed state (given_by first)).told)
+              told = option_and_then (result_ok {E = Fault})
+                  (first_or_later (option_map Ok (closable_state state (given_input first)).told)
                   (Some (Ok empty_content)) (length gs));
-              reads = unread;
+              reads = empty_reads;
             }
-        by [] new was = rw (new, was) (rw (ok_again (unless_closed state (given_by first)).told) refl)
+        by [] new was = rw (new, was) (rw (ok_again (closable_state state (given_input first)).told) refl)
         by (g ∷ gs) new was = rw (empty stdin was) refl
 
     -- what opening another name gives is a file of the source
     pub file_opened : (name : List ℕ) → is_dash name ≡ false
-        → opened_file tells source name ≡ opened_file (tells_both tells) (with_stdin_state state first log source) name
+        → opened_file tells source name
+        ≡ opened_file (answer_of_both tells) (with_stdin_state state first log source) name
     file_opened name apart =
         rw (apart, times_there name apart) refl
 
     -- a file of another name that is open is open in the source
     pub open_there : (file : InputState) → is_dash file.name ≡ false
-        → IsOpen (tells_both tells) (with_stdin_state state first log source) file → IsOpen tells source file
+        → IsOpen (answer_of_both tells) (with_stdin_state state first log source) file → IsOpen tells source file
     open_there file apart here = record {
       opening = rw (← gave-both log.openings source.openings kept.files file.name apart) here.opening;
       told = rw apart at here.told;
@@ -197,17 +207,17 @@ module _ {I : Type 0} {state : I → InputState} {first stdin : StdinPlace I} (t
 
     -- what was read of standard input fits its answer, if one is told
     pub stdin_gives : (file : InputState) → HasContent file → is_dash file.name ≡ true
-        → IsOpen (tells_both tells) (with_stdin_state state first log source) file
-        → GivesStdin (unless_closed state (given_by first)) file.opening (Some (Ok file.reads))
+        → IsOpen (answer_of_both tells) (with_stdin_state state first log source) file
+        → GivesStdin (closable_state state (given_input first)) file.opening (Some (Ok file.reads))
     stdin_gives file has is here =
         let same : codes "-" ≡ file.name = same_name (codes "-") file.name is in
-        by (unless_closed state (given_by first)).told file.opening (rw (← same) at here.told)
+        by (closable_state state (given_input first)).told file.opening (rw (← same) at here.told)
       where
         by : (stdin : Option Content) (k : ℕ)
             → file.told ≡ option_and_then (result_ok {E = Fault})
-            (given_once (option_map Ok stdin) (Some (Ok empty_content)) k)
-            → IfSome (given_once (option_map Ok stdin) (Some (Ok empty_content)) k)
-            (λ told. IsOfAnswer told (Ok file.reads))
+            (first_or_later (option_map Ok stdin) (Some (Ok empty_content)) k)
+            → IfSome (first_or_later (option_map Ok stdin) (Some (Ok empty_content)) k)
+            (λ told. FitsAnswer told (Ok file.reads))
         by None zero told = tt
         by (Some c) zero told = of_content file c has told
         by stdin (suc k) told = of_content file empty_content has told

@@ -25,8 +25,8 @@ pub record Reads : Type 0 where
   pub phase : Phase
 
 -- nothing was read yet
-abbrev pub unread : Reads
-unread = record { bytes = []; phase = Unfinished }
+abbrev pub empty_reads : Reads
+empty_reads = record { bytes = []; phase = Unfinished }
 
 -- the state of an input: which file it is, and what its reads gave
 pub record InputState : Type 0 where
@@ -59,8 +59,8 @@ IsReadTo (Ended e) bytes c = c ≡ record { bytes = bytes; ending = e }
 IsReadTo Past bytes c = ⊤
 
 -- these reads fit this content
-abbrev pub IsOf : Reads → Content → Type 0
-IsOf r c = IsReadTo r.phase r.bytes c
+abbrev pub Fits : Reads → Content → Type 0
+Fits r c = IsReadTo r.phase r.bytes c
 
 -- what was read past the first n bytes
 abbrev pub reads_past : ℕ → Reads → Reads
@@ -68,7 +68,7 @@ reads_past n r = record r { bytes = drop n r.bytes }
 
 -- the reads of an input fit a content: the one in memory, if there is one
 abbrev pub HasContent : InputState → Type 0
-HasContent s = (c : Content) × IfSome s.told (λ d. c ≡ d) × IsOf s.reads c
+HasContent s = (c : Content) × IfSome s.told (λ d. c ≡ d) × Fits s.reads c
 
 -- the same input, of which more was read
 abbrev pub IsSameInput : InputState → InputState → Type 0
@@ -78,16 +78,16 @@ IsSameInput a b = b ≡ record a { reads = b.reads }
 pub record HashesInput (kind : KindValue) (old new : InputState) (result : Result ByteString Fault) : Type 0 where
   pub same : IsSameInput old new
   -- if it hadn't ended: the digest of each content that the reads of the call fit, or the fault with which it ends
-  pub digest : old.reads.phase ≡ Unfinished → (c : Content) → IsOf (reads_past (length old.reads.bytes) new.reads) c
+  pub digest : old.reads.phase ≡ Unfinished → (c : Content) → Fits (reads_past (length old.reads.bytes) new.reads) c
       → MatchResult result (λ d. ((clip c).ending ≡ Whole) × (d ≡ digest kind (clip c).bytes))
       (λ f. (clip c).ending ≡ Broken f)
   -- a content that all reads fit also fits those before the call
-  pub before : old.reads.phase ≡ Unfinished → (c : Content) → IsOf new.reads c → IsOf old.reads c
+  pub before : old.reads.phase ≡ Unfinished → (c : Content) → Fits new.reads c → Fits old.reads c
   -- a digest is returned only at its end, and it is never read past its end or its fault
   pub end : old.reads.phase ≡ Unfinished → IfOk result (λ _. new.reads.phase ≡ Ended Whole)
   pub past : old.reads.phase ≡ Unfinished → ¬ (new.reads.phase ≡ Past)
 
 -- an input over a reader, and what its reads gave
-pub record OverReader (R : Type 0) : Type 0 where
+pub record FromReadValue (R : Type 0) : Type 0 where
   pub reader : R
   pub log : InputState

@@ -1,6 +1,6 @@
 -- The lines of a manifest.
-use Rattle.std.specs.Prelude.{ℕ, zero, suc, ◌≡◌, ◌+◌, ◌==◌, false, List, [], ◌∷◌, ◌++◌, map, All, ◌<◌, ◌-◌, take, length, slice_index_or, Result, Ok, Err}
-use Rattle.std.{specs.List.slice_split, specs.List.after_first, specs.Str.Lines.strip_carriage_return}
+use Rattle.std.specs.Prelude.{ℕ, zero, suc, ◌≡◌, ◌+◌, false, List, [], ◌∷◌, ◌++◌, map, All, ◌<◌, ◌-◌, take, length, slice_index_or, Result, Ok, Err}
+use Rattle.std.specs.{Char.is_newline, List.slice_split, List.after_first, Str.Lines.strip_carriage_return}
 use Rattle.digest_kinds.specs.Bytes.{ByteString}
 use Rattle.sum_sources.specs.Contents.{Ending, Whole, Broken, Content}
 pub use Rattle.sum_sources.specs.declared.line_reader.Next.{Next}
@@ -15,7 +15,7 @@ last_line _ _ = []
 
 -- the lines of a content with their carriage returns: each piece that a newline ended, and the last one by its own rule
 unfoldable pub raw_lines : Content → List ByteString
-raw_lines c = let all = slice_split (λ b. b == 10) c.bytes in
+raw_lines c = let all = slice_split is_newline c.bytes in
     take (length all - 1) all ++ last_line c.ending (slice_index_or all (length all - 1) [])
 
 -- the lines of a content: each without one carriage return at its end, if it has one
@@ -24,11 +24,11 @@ lines c = map strip_carriage_return (raw_lines c)
 
 -- the content past the first line
 abbrev pub past_line : Content → Content
-past_line c = record { bytes = after_first (λ b. b == 10) c.bytes; ending = c.ending }
+past_line c = record { bytes = after_first is_newline c.bytes; ending = c.ending }
 
 -- no byte is a newline
 abbrev pub HasNoNewline : ByteString → Type 0
-HasNoNewline piece = All (λ b. (b == 10) ≡ false) piece
+HasNoNewline piece = All (λ b. is_newline b ≡ false) piece
 
 -- what next_line returns: the first line, and then the content past it remains; or, if there is no line, the ending,
 -- which remains; or that memory was refused, only if something remains, and no newline was consumed

@@ -1,12 +1,11 @@
--- The law of sources, with its proofs, which types name where they implement `Source`: what an opening gave fits the
--- answer, if one is told.
+-- The law of sources, with its proofs: what an opening gave fits the answer, if one is told.
 use Rattle.std.proofs.Common.{◌≡◌, Option, None, Some, Result, Ok, Err, IfSome, sym, ap, ◌∙◌}
 use Rattle.std.{specs.Coded.×_prop, proofs.Props.props, proofs.lemmas.List.append_cancel_left}
 use std.HLevel.{Π_prop, Σ_prop_path}
-use Rattle.sum_sources.specs.{Contents.Content, Contents.Reads, Contents.Fault, Contents.IsReadTo, Contents.IsOf, Faults.ByteString, Logs.untold, Contents.Phase, Contents.Unfinished, Contents.Ended, Contents.Past, Sources.Answer, Sources.ToldAnswers, Sources.SourceState, Sources.IsOfAnswer, Sources.GivesTold, Sources.gave_at, Sources.tells_none}
+use Rattle.sum_sources.specs.{Contents.Content, Contents.Reads, Contents.Fault, Contents.IsReadTo, Contents.Fits, Faults.ByteString, Logs.untold_state, Contents.Phase, Contents.Unfinished, Contents.Ended, Contents.Past, Sources.Answer, Sources.ToldAnswers, Sources.SourceState, Sources.FitsAnswer, Sources.GivesTold, Sources.gave_at, Sources.no_answer}
 
 -- a source that isn't in memory has it
-pub untold_gives : (s : SourceState) → GivesTold tells_none (untold s)
+pub untold_gives : (s : SourceState) → GivesTold no_answer (untold_state s)
 untold_gives s name k = tt
 
 -- ---- it has one proof at most
@@ -17,18 +16,18 @@ IsReadTo-prop Unfinished bytes c =
 IsReadTo-prop (Ended e) bytes c = Prim.hlevel props
 IsReadTo-prop Past bytes c = Prim.hlevel props
 
-pub IsOfAnswer-prop : (answer : Answer) (gave : Result Reads Fault) → IsProp (IsOfAnswer answer gave)
-IsOfAnswer-prop answer (Ok r) p q =
-    let flat : (c : Content) × ((answer ≡ Ok c) × IsOf r c) → IsOfAnswer answer (Ok r) = λ x. (x.0, x.1.0, x.1.1) in
+pub FitsAnswer-prop : (answer : Answer) (gave : Result Reads Fault) → IsProp (FitsAnswer answer gave)
+FitsAnswer-prop answer (Ok r) p q =
+    let flat : (c : Content) × ((answer ≡ Ok c) × Fits r c) → FitsAnswer answer (Ok r) = λ x. (x.0, x.1.0, x.1.1) in
     let same : p.0 ≡ q.0 = let both = sym p.1 ∙ q.1 in cc in
     ap flat (Σ_prop_path (λ c. ×_prop (Prim.hlevel props) (IsReadTo-prop r.phase r.bytes c)) same)
-IsOfAnswer-prop answer (Err f) p q = Prim.hlevel props
+FitsAnswer-prop answer (Err f) p q = Prim.hlevel props
 
 pub gives-prop : (told : Option Answer) (gave : Option (Result Reads Fault))
-    → IsProp (IfSome told (λ told. IfSome gave (IsOfAnswer told)))
+    → IsProp (IfSome told (λ told. IfSome gave (FitsAnswer told)))
 gives-prop None gave = Prim.hlevel props
 gives-prop (Some told) None = Prim.hlevel props
-gives-prop (Some told) (Some gave) = IsOfAnswer-prop told gave
+gives-prop (Some told) (Some gave) = FitsAnswer-prop told gave
 
 pub GivesTold-prop : (tells : ToldAnswers) (s : SourceState) → IsProp (GivesTold tells s)
 GivesTold-prop tells s = Π_prop λ name. Π_prop λ k. gives-prop (tells s.told name k) (gave_at s.openings name k)

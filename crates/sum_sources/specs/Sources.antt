@@ -1,8 +1,8 @@
 -- Sources of files: which names one opened, and what it answered.
-use Rattle.std.specs.Prelude.{ℕ, zero, suc, slice_get, ◌≡◌, ◌+◌, List, [], ◌∷◌, ◌++◌, map, filter, filter_map, length, Option, None, Some, Result, Ok, Err, IfSome, MatchResult, if◌then◌else◌, ◌&&◌, bytes_eq, nat_le, unwrap_or}
-use Rattle.std.{specs.Option.option_and_then, specs.Result.result_ok}
+use Rattle.std.specs.Prelude.{ℕ, zero, suc, slice_get, ◌≡◌, ◌+◌, List, [], ◌∷◌, ◌++◌, map, count_by, filter_map, Option, None, Some, Result, Ok, Err, IfSome, MatchResult, if◌then◌else◌, ◌&&◌, bytes_eq, nat_le, unwrap_or}
+use Rattle.std.specs.{Option.option_and_then, Option.option_flatten, Result.result_ok}
 use Rattle.digest_kinds.specs.Kinds.{KindValue}
-use Rattle.sum_sources.specs.{Contents.Content, Contents.InputState, Contents.Reads, Contents.IsOf, Contents.unread, Contents.HashesInput, Faults.Fault, Faults.NotFound, Faults.ByteString, declared.sources.source.OpenFault.OpenFault}
+use Rattle.sum_sources.specs.{Contents.Content, Contents.InputState, Contents.Reads, Contents.Fits, Contents.empty_reads, Contents.HashesInput, Faults.Fault, Faults.NotFound, Faults.ByteString, declared.sources.source.OpenFault.OpenFault}
 use Rattle.sum_sources.specs.declared.sources.source.OpenFault.TheVariants as faults
 pub use Rattle.sum_sources.specs.declared.sources.hash_file.HashFault.{HashFault}
 use Rattle.sum_sources.specs.declared.sources.hash_file.HashFault.TheVariants as hashing
@@ -26,19 +26,19 @@ names_of os = map (λ o. o.name) os
 
 -- how often a name is among others
 abbrev pub times : ByteString → List ByteString → ℕ
-times name names = length (filter (λ other. bytes_eq other name) names)
+times name names = count_by (λ other. bytes_eq other name) names
 
--- what the openings of a name gave, in their order; and what the opening of it gave that has k others before it
+-- what the openings of a name gave, in their order
 abbrev pub gave_of : List Opening → ByteString → List (Option (Result Reads Fault))
 gave_of os name = filter_map (λ o. if bytes_eq o.name name then Some o.gave else None) os
 
+-- what the opening of a name gave that has k others before it
 abbrev pub gave_at : List Opening → ByteString → ℕ → Option (Result Reads Fault)
-gave_at os name k = option_and_then (λ gave. gave) (slice_get (gave_of os name) k)
+gave_at os name k = option_flatten (slice_get (gave_of os name) k)
 
 -- ---- what is in memory
 
--- what a source has in memory: a name, and the answer, if one is told, to the openings of it that have at least this
--- many before them
+-- in memory: a name, and the answer, if one is told, to the openings of it that have at least this many before them
 pub record Pair : Type 0 where
   pub name : ByteString
   pub from : ℕ
@@ -53,8 +53,8 @@ abbrev pub TellsAll : ToldAnswers → List Pair → Answers → Type 0
 TellsAll tells told answer = (name : ByteString) (k : ℕ) → tells told name k ≡ Some (answer name k)
 
 -- no answer is told
-abbrev pub tells_none : ToldAnswers
-tells_none told name k = None
+abbrev pub no_answer : ToldAnswers
+no_answer told name k = None
 
 -- what a list of pairs answers: the first pair that has the name and is early enough; a name without one isn't there
 abbrev pub first_answer : List Pair → Answers
@@ -62,8 +62,9 @@ first_answer [] name k = Err NotFound
 first_answer (p ∷ ps) name k = if bytes_eq p.name name && nat_le p.from k
     then unwrap_or p.answer (Err NotFound) else first_answer ps name k
 
-abbrev pub tells_first : ToldAnswers
-tells_first pairs name k = Some (first_answer pairs name k)
+-- the answers of a source that tells what its pairs answer
+abbrev pub answer_of_first : ToldAnswers
+answer_of_first pairs name k = Some (first_answer pairs name k)
 
 -- ---- the state
 
@@ -74,13 +75,13 @@ pub record SourceState : Type 0 where
   pub refusals : ℕ  -- how many openings were refused memory
 
 -- this fits an answer: what was read fits its content, or this is its fault
-abbrev pub IsOfAnswer : Answer → Result Reads Fault → Type 0
-IsOfAnswer answer gave = MatchResult gave (λ r. (c : Content) × (answer ≡ Ok c) × IsOf r c) (λ f. answer ≡ Err f)
+abbrev pub FitsAnswer : Answer → Result Reads Fault → Type 0
+FitsAnswer answer gave = MatchResult gave (λ r. (c : Content) × (answer ≡ Ok c) × Fits r c) (λ f. answer ≡ Err f)
 
 -- what an opening gave fits the answer, if one is told
 abbrev pub GivesTold : ToldAnswers → SourceState → Type 0
 GivesTold tells s = (name : ByteString) (k : ℕ)
-    → IfSome (tells s.told name k) (λ told. IfSome (gave_at s.openings name k) (IsOfAnswer told))
+    → IfSome (tells s.told name k) (λ told. IfSome (gave_at s.openings name k) (FitsAnswer told))
 
 -- the content of the file of an opening, if one is told
 abbrev pub content_at : ToldAnswers → SourceState → ByteString → ℕ → Option Content
@@ -89,7 +90,7 @@ content_at tells s name k = option_and_then result_ok (tells s.told name k)
 -- the file that opening a name gives, of which nothing was read yet
 abbrev pub opened_file : ToldAnswers → SourceState → ByteString → InputState
 opened_file tells s name = let k = times name (names_of s.openings) in
-    record { opening = k; name = name; told = content_at tells s name k; reads = unread }
+    record { opening = k; name = name; told = content_at tells s name k; reads = empty_reads }
 
 -- the source after one more opening
 abbrev pub and_opening : SourceState → ByteString → Option (Result Reads Fault) → SourceState
@@ -107,23 +108,23 @@ pub record IsOpen (tells : ToldAnswers) (s : SourceState) (file : InputState) : 
   pub told : file.told ≡ content_at tells s file.name file.opening
 
 -- the openings once a file was closed: that of the opening of this name which has k others before it
-abbrev pub closed_at : List Opening → ByteString → ℕ → Reads → List Opening
-closed_at [] name k r = []
-closed_at (o ∷ os) name zero r = if bytes_eq o.name name then record o { gave = Some (Ok r) } ∷ os
-    else o ∷ closed_at os name zero r
-closed_at (o ∷ os) name (suc k) r = o ∷ closed_at os name (if bytes_eq o.name name then k else suc k) r
+abbrev pub openings_after : List Opening → ByteString → ℕ → Reads → List Opening
+openings_after [] name k r = []
+openings_after (o ∷ os) name zero r = if bytes_eq o.name name then record o { gave = Some (Ok r) } ∷ os
+    else o ∷ openings_after os name zero r
+openings_after (o ∷ os) name (suc k) r = o ∷ openings_after os name (if bytes_eq o.name name then k else suc k) r
 
 -- the source after this file was closed
 abbrev pub after_closing : SourceState → InputState → SourceState
-after_closing s file = record s { openings = closed_at s.openings file.name file.opening file.reads }
+after_closing s file = record s { openings = openings_after s.openings file.name file.opening file.reads }
 
 -- the file of a name was opened, hashed from its beginning, and closed
 pub record HashesOpened (kind : KindValue) (name : ByteString) (a b : SourceState) (result : Result ByteString Fault)
     : Type 0 where
   pub reads : Reads
   pub closed : b ≡ and_opening a name (Some (Ok reads))
-  pub hashes : HashesInput kind (opened_file tells_none a name)
-      (record (opened_file tells_none a name) { reads = reads }) result
+  pub hashes : HashesInput kind (opened_file no_answer a name)
+      (record (opened_file no_answer a name) { reads = reads }) result
 
 -- the effect of a call that hashes the file of a name
 abbrev pub HashesFile : KindValue → ByteString → SourceState → SourceState → Result ByteString HashFault → Type 0

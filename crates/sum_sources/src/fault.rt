@@ -3,6 +3,7 @@ ghost use Rattle.std.specs.IoError.{error_kind, raw_os_error};
 ghost use Rattle.std.specs.Prelude.{◌≡◌, map, MatchResult};
 ghost use Rattle.sum_sources.specs.Faults.{fault_text, fault_of_error, fault_of_number, fault_of_kind, reason, reasons};
 
+use std::alloc::{AllocError, AllocFailed};
 use std::io::{self, ErrorKind};
 use std::{error, fmt};
 use thiserror::Error;
@@ -163,6 +164,18 @@ static REASONS: [&str; 134] = [
 #[derive(Clone, Copy, Debug, PartialEq, Eq, Error)]
 #[error("memory exhausted")]
 pub struct NoRoom;
+
+impl From<AllocError> for NoRoom {
+    fn from(_refused: AllocError) -> NoRoom {
+        NoRoom
+    }
+}
+
+impl<T: Drop> From<AllocFailed<T>> for NoRoom {
+    fn from(_refused: AllocFailed<T>) -> NoRoom {
+        NoRoom
+    }
+}
 
 /// How an input ends after its last byte.
 #[derive(Clone, Copy, Debug, PartialEq, Eq)]

@@ -1,9 +1,10 @@
 //! The law of standard input and a source that are in memory, as one source.
 ghost use Rattle.std.specs.Prelude.{◌≡◌, ◌==◌, Some, List, codes};
 ghost use Rattle.sum_sources.specs.Contents.{Content};
-ghost use Rattle.sum_sources.specs.WithStdin.{answers_with, tells_both, with_stdin};
+ghost use Rattle.sum_sources.specs.WithStdin.{answers_with, answer_of_both, pairs_with_stdin};
 ghost use Rattle.sum_sources.specs.Sources.{Answers, Pair, TellsAll, ToldAnswers, names_of, times};
 ghost use Rattle.sum_sources.specs.StandardInput.{is_untaken};
+ghost use Rattle.sum_sources.specs.refinement.SourceStates.{both_state, stdin_in};
 
 use crate::{Input, Source, WithStdin};
 
@@ -12,10 +13,12 @@ use crate::{Input, Source, WithStdin};
 pub fn with_stdin_tells()
     ensures { (stdin : Content) (tells : ToldAnswers) (told : List Pair) (answer : Answers)
         → TellsAll tells told answer
-        → TellsAll (tells_both tells) (with_stdin (Some stdin) told) (answers_with stdin answer) }
+        → TellsAll (answer_of_both tells) (pairs_with_stdin (Some stdin) told)
+        (answers_with stdin answer) }
 {}
 
 /// Standard input was taken if and only if `-` was opened.
 pub fn stdin_is_taken<I: Input, S: Source>(inputs: &WithStdin<I, S>)
-    ensures { is_untaken inputs.now.stdin ≡ (times (codes "-") (names_of inputs.now.log.openings) == 0) }
+    ensures { is_untaken (stdin_in inputs.now)
+        ≡ (times (codes "-") (names_of (both_state inputs.now).openings) == 0) }
 {}

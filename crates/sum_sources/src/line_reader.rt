@@ -1,7 +1,7 @@
 //! The lines of a manifest, one at a time.
-ghost use Rattle.std.specs.Prelude.{◌≡◌, ◌≤◌, ◌<◌, ◌+◌, ◌^◌, [], true, false, length, None, Some, Err, IfOk, IfSome, IsErr, MatchResult, if◌then◌else◌};
+ghost use Rattle.digest_kinds.specs.Bytes.{LIMIT};
+ghost use Rattle.std.specs.Prelude.{◌≡◌, ◌≤◌, ◌<◌, ◌+◌, [], true, false, length, None, Some, Err, IfOk, IfSome, OnErr, if◌then◌else◌};
 ghost use Rattle.std.specs.Str.Lines.{strip_carriage_return};
-ghost use Rattle.sum_sources.specs.Contents.{IsSameInput};
 
 use crate::inputs::size_limit::read_limited;
 use crate::{Fault, Input, NoRoom, PIECE, Phase};
@@ -51,7 +51,7 @@ enum ReaderState {
 #[derive(Debug, Drop)]
 pub struct LineReader<I> {
     input: I,
-    // how many bytes were read from the input
+    // How many bytes were read from the input.
     taken: u64,
     // What was read ahead is `buf[start..end]`.
     buf: [u8; PIECE],
@@ -66,11 +66,11 @@ impl<I> Model for LineReader<I> {
 
     ghost Value = { LineReaderValue I };
 
-    ghost use Rattle.sum_sources.specs.refinement.LineStates.{line_reader_view, LineReaderInvariant};
+    ghost use Rattle.sum_sources.specs.refinement.LineStates.{line_reader_view, IsSoundReader};
 
     ghost view = { λ s. line_reader_view s };
 
-    ghost invariant = { λ s. LineReaderInvariant s };
+    ghost invariant = { λ s. IsSoundReader s };
 }
 
 // Drops the one carriage return at the end of the line, if there is one.
@@ -111,7 +111,7 @@ impl<I: Input> LineReader<I> {
     /// Returns how many bytes were read from the input.
     pub fn taken(&self) -> u64
         ensures value { result ≡ self.now.taken }
-        ensures most { result ≤ 2 ^ 61 }
+        ensures most { result ≤ LIMIT }
     {
         self.taken
     }
@@ -134,10 +134,14 @@ impl<I: Input> LineReader<I> {
     fn fill(&mut self) -> Result<usize, Fault>
         requires empty { self.old.ahead ≡ [] }
         requires going { self.old.final_answer ≡ None }
+
+        // What the input gave.
         ensures reads { AddsPast self.old.taken (I.state self.old.input).reads
             (I.state self.new.input).reads self.new.ahead result }
         ensures counts { CountsBytes self.old.taken self.new.taken (I.state self.old.input)
             (I.state self.new.input) }
+
+        // What the reader has then.
         ensures reader { FillsReader self.old self.new result }
         ensures lines { self.new.lines ≡ self.old.lines }
     {
@@ -157,13 +161,21 @@ impl<I: Input> LineReader<I> {
     // newline, all its bytes are moved, and the result is false.
     fn take_piece<A: Allocator>(&mut self, line: &mut Vec<u8, A>) -> Result<bool, AllocError>
         requires going { self.old.final_answer ≡ None }
+
+        // What moves to the line.
         ensures piece { IfOk result (λ ended.
             TakesPiece ended self.old.ahead self.new.ahead line.old.items line.new.items) }
-        ensures memory { IsErr result → (self.new ≡ self.old) × (0 < length self.old.ahead) }
         ensures consumed { IfOk result (λ ended. consumed_count self.new + length line.old.items
             ≡ consumed_count self.old + length line.new.items + (if ended then 1 else 0)) }
+
+        // Without memory, nothing moves, and something is ahead.
+        ensures err { OnErr result (self.new ≡ self.old) }
+        ensures ahead { OnErr result (0 < length self.old.ahead) }
+
+        // What stays, and what bounds it.
         ensures same { self.new ≡ record self.old { ahead = self.new.ahead } }
-        ensures few { (self.new.taken < 2 ^ 61) × (length self.old.ahead ≤ self.new.taken) }
+        ensures taken { self.new.taken < LIMIT }
+        ensures few { length self.old.ahead ≤ self.new.taken }
     {
         if self.start == self.end {
             return Ok(false);
@@ -187,8 +199,11 @@ impl<I: Input> LineReader<I> {
     fn read_on<A: Allocator>(&mut self, line: &mut Vec<u8, A>) -> Result<Next, LineStop>
         requires empty { line.old.items ≡ [] }
         requires going { self.old.final_answer ≡ None }
+
+        // The next line of what remained.
         ensures line { IsReading I.state self.old
             → ReadsOn I.state self.old self.new result (strip_carriage_return line.new.items) }
+
         // The line is counted later.
         ensures reader { AdvancesLines I.state self.old
             (record self.new { lines = lines_after self.old.lines result }) result }
@@ -234,7 +249,7 @@ impl<I: Input> LineReader<I> {
             × (self.new ≡ self.old)) }
         // The lines counted, and which answers are final.
         ensures reader { AdvancesLines I.state self.old self.new result }
-        // At most 8192 bytes are read ahead of the lines, and no count passes its limit.
+        // At most 8,192 bytes are read ahead of the lines, and no count passes its limit.
         ensures bounds { IsBounded self.new }
     {
         match self.state {

@@ -3,16 +3,16 @@ use Rattle.std.proofs.Common.{◌≡◌, ◌∷◌, ◌-◌, ◌≤◌, ℕ, [],
 use Rattle.std.specs.Prelude.{IfOk}
 use Rattle.std.proofs.{lemmas.List.drop-append-le, Math.Seq.take-append_seam, Math.Seq.take-length}
 use Rattle.digest_kinds.specs.{Bytes.ByteString, Kinds.digest, Kinds.KindValue}
-use Rattle.sum_sources.specs.{Contents.Content, Contents.InputState, Contents.Reads, Contents.HashesInput, Contents.IsOf, Contents.and_read, Contents.clip, Contents.reads_past, Contents.unread, LineReaders.AdvancesLines, LineReaders.IsReading, LineReaders.LineReaderValue, LineReaders.ReadsOn, LineReaders.past, LineReaders.remaining, ManifestLines.lines, declared.fault.Fault.Fault, declared.fault.Ending.TheVariants.Whole, declared.inputs.phase.Phase.Phase, declared.line_reader.Next.TheVariants.Line, declared.inputs.phase.Phase.TheVariants.Unfinished, declared.inputs.phase.Phase.TheVariants.Ended, declared.inputs.phase.Phase.TheVariants.Past}
+use Rattle.sum_sources.specs.{Contents.Content, Contents.InputState, Contents.Reads, Contents.HashesInput, Contents.Fits, Contents.and_read, Contents.clip, Contents.reads_past, Contents.empty_reads, LineReaders.AdvancesLines, LineReaders.IsReading, LineReaders.LineReaderValue, LineReaders.ReadsOn, LineReaders.content_past, LineReaders.remaining_content, ManifestLines.lines, declared.fault.Fault.Fault, declared.fault.Ending.TheVariants.Whole, declared.inputs.phase.Phase.Phase, declared.line_reader.Next.TheVariants.Line, declared.inputs.phase.Phase.TheVariants.Unfinished, declared.inputs.phase.Phase.TheVariants.Ended, declared.inputs.phase.Phase.TheVariants.Past}
 
 -- if reads fit a content, those past the first bytes fit its rest
-rest_is_of : (m : ℕ) (r : Reads) (c : Content) → m ≤ length r.bytes → IsOf r c → IsOf (reads_past m r) (past m c)
-rest_is_of m r c low of = by r.phase refl
+rest_fits : (m : ℕ) (r : Reads) (c : Content) → m ≤ length r.bytes → Fits r c → Fits (reads_past m r) (content_past m c)
+rest_fits m r c low of = by r.phase refl
   where
-    by : (phase : Phase) → r.phase ≡ phase → IsOf (reads_past m r) (past m c)
+    by : (phase : Phase) → r.phase ≡ phase → Fits (reads_past m r) (content_past m c)
     by Unfinished is =
         let (rest, begins) = rw is at of in rw is (rest, ap (drop m) begins ∙ drop-append-le m r.bytes rest low)
-    by (Ended e) is = let all = rw is at of in rw is (ap (past m) all)
+    by (Ended e) is = let all = rw is at of in rw is (ap (content_past m) all)
     by Past is = rw is tt
 
 -- what ends whole isn't cut
@@ -20,14 +20,14 @@ clip_whole : (c : Content) → (clip c).ending ≡ Whole → clip c ≡ c
 clip_whole c whole = grind arith
 
 -- after the header
-pub header_read : (a m : InputState) (buf : List ℕ) (n : ℕ) → a.reads ≡ unread → m ≡ and_read a buf (Ok n)
+pub header_read : (a m : InputState) (buf : List ℕ) (n : ℕ) → a.reads ≡ empty_reads → m ≡ and_read a buf (Ok n)
     → length buf ≡ 3 → n ≡ 3 → m.reads ≡ record { bytes = buf; phase = Unfinished }
 header_read a m buf n new is size all = rw (is, new, all, size, ← size, take-length) refl
 
 -- the header, and the digest of the rest
 pub digest_past_header : {kind : KindValue} {m e : InputState} (result : Result ByteString Fault) (header : List ℕ)
     → length header ≡ 3 → m.reads ≡ record { bytes = header; phase = Unfinished } → HashesInput kind m e result
-    → (c : Content) → IsOf e.reads c
+    → (c : Content) → Fits e.reads c
     → IfOk result (λ d. (take 3 c.bytes ≡ header) × (d ≡ digest kind (drop 3 c.bytes)))
 digest_past_header (Err f) header size at hashes c of = tt
 digest_past_header {kind = kind} {e = e} (Ok d) header size at hashes c of =
@@ -35,7 +35,7 @@ digest_past_header {kind = kind} {e = e} (Ok d) header size at hashes c of =
     let (rest, begins) = rw at at (hashes.before going c of) in
     let end = hashes.end going in
     let all = rw end at of in
-    let (whole, is) = hashes.digest going (past 3 c) (rw (at, size, end) (ap (past 3) all)) in (
+    let (whole, is) = hashes.digest going (content_past 3 c) (rw (at, size, end) (ap (content_past 3) all)) in (
       rw (begins, ← size) (take-append_seam header rest),
       is ∙ ap (λ (c : Content). digest kind c.bytes) (clip_whole _ whole),
     )
@@ -46,11 +46,12 @@ pub line_past_header : {I : Type 0} {state : I → InputState} {m : I} (old new 
     → old ≡ record { input = m; ahead = []; taken = 0; lines = 0; final_answer = None }
     → ((state m).reads.phase ≡ Unfinished → IsReading state old)
     → (IsReading state old → ReadsOn state old new (Ok Line) bytes) → AdvancesLines state old new (Ok Line)
-    → (c : Content) → IsOf (state new.input).reads c
-    → lines (clip (past 3 c)) ≡ bytes ∷ lines (remaining new (past 3 c))
+    → (c : Content) → Fits (state new.input).reads c
+    → lines (clip (content_past 3 c)) ≡ bytes ∷ lines (remaining_content new (content_past 3 c))
 line_past_header {state = state} old new at is reading reads advances c of =
     let sum = rw (is, at.1) at advances.taken in
     let low : 3 ≤ length (state new.input).reads.bytes = omega (arith, sum) in
     let past_three : length (state new.input).reads.bytes - new.taken ≡ 3 = omega (arith, sum) in
-    let next = (reads (reading at.0)).line (past 3 c) (rw past_three (rest_is_of 3 (state new.input).reads c low of)) in
+    let rest = rest_fits 3 (state new.input).reads c low of in
+    let next = (reads (reading at.0)).line (content_past 3 c) (rw past_three rest) in
     rw is at next.0

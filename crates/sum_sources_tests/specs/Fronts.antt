@@ -17,6 +17,7 @@ abbrev pub front_answer : Answer → ByteString → Answer
 front_answer (Ok text) name = Ok (whole (take (length name) text.bytes))
 front_answer (Err f) name = Err f
 
+-- the answers that the fronts tell
 abbrev pub tells_fronts : ToldAnswers
 tells_fronts [] name k = None
 tells_fronts (text ∷ others) name k = option_map (λ text. front_answer text name) text.answer

@@ -2,7 +2,8 @@
 ghost use Rattle.std.specs.Option.{option_map};
 ghost use Rattle.std.specs.Prelude.{ℕ, ◌≡◌, ◌<◌, ◌+◌, ◌^◌, Ok, Err, IfOk, IfSome, slice_get};
 ghost use Rattle.sum_sources.specs.Sources.{first_answer, names_of};
-ghost use Rattle.sum_sources.specs.WithStdin.{others};
+ghost use Rattle.sum_sources.specs.WithStdin.{other_openings};
+ghost use Rattle.sum_sources.specs.refinement.SourceStates.{both_state, source_in, told_source_state};
 
 use digest_kinds::LIMIT;
 use std::alloc::Allocator;
@@ -22,7 +23,8 @@ pub fn ask_twice<I: Input, A: Allocator>(
     reader: &mut LineReader<I>,
     line: &mut Vec<u8, A>,
 ) -> Result<Next, LineStop>
-    ensures { IfSome reader.old.final_answer (λ answer. (result ≡ answer) × (reader.new ≡ reader.old)) }
+    ensures { IfSome reader.old.final_answer (λ answer.
+        (result ≡ answer) × (reader.new ≡ reader.old)) }
 {
     let _ = reader.next_line(line);
     reader.next_line(line)
@@ -48,7 +50,7 @@ pub fn one_file<'a, A: Allocator + Copy>(
     other: Answer<'a>,
 ) -> Result<ToldSource<'a, A>, NoRoom>
     ensures { IfOk result (λ files. (k : ℕ) →
-        first_answer (⟦<ToldSource<'a, A> as Source>⟧.state files).told name.now k
+        first_answer (told_source_state files).told name.now k
         ≡ Ok (record { bytes = content.entry.now; ending = Ending.Whole })) }
 {
     let mut files = ToldSource::new(alloc, PIECE);
@@ -62,8 +64,10 @@ pub fn asked_file<'a, 'b, I: Input, A: Allocator + Copy>(
     inputs: &'a WithStdin<I, ToldSource<'b, A>>,
     i: usize,
 ) -> Option<&'a [u8]>
-    requires { others inputs.now.source.log.openings ≡ inputs.now.source.log.openings }
-    ensures { option_map (λ n. n.now) result ≡ slice_get (names_of (others inputs.now.log.openings)) i }
+    requires { let below = (told_source_state (source_in inputs.now)).openings in
+        other_openings below ≡ below }
+    ensures { option_map (λ n. n.now) result
+        ≡ slice_get (names_of (other_openings (both_state inputs.now).openings)) i }
 {
     inputs.source().asked_name(i)
 }

@@ -22,7 +22,10 @@ pub struct Front<'a> {
 impl<'a> Input for Front<'a> {
     ghost use Rattle.sum_sources.specs.InputLaws.{told_file_has_content};
 
-    ghost state = { λ s. record (told_file (told_value s.told)) { name = s.log.name; opening = s.log.opening } };
+    ghost state = { λ s. record (told_file (told_value s.told)) {
+      name = s.log.name;
+      opening = s.log.opening;
+    } };
 
     fn read(&mut self, buf: &mut [u8]) -> Result<usize, Fault> {
         let result = self.told.read(buf);

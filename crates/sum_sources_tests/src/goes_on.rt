@@ -1,7 +1,7 @@
 //! An input and a source that do what real ones may: bytes follow an end or a fault, and a name that is opened again is
 //! another file.
 ghost use Rattle.std.specs.Prelude.{◌≡◌};
-ghost use Rattle.sum_sources.specs.Contents.{unread};
+ghost use Rattle.sum_sources.specs.Contents.{empty_reads};
 ghost use Rattle.sum_sources.specs.Logs.{no_reads};
 
 use std::alloc::Allocator;
@@ -24,7 +24,7 @@ impl<'a> TwoParts<'a> {
     /// The input of `content` that has this ending after `place` bytes, and goes on with the others. A read gives at
     /// most `piece` (0 counts as 1).
     pub fn new(content: &'a [u8], place: usize, ending: Ending, piece: usize) -> TwoParts<'a>
-        ensures { (⟦<TwoParts<'a> as Input>⟧.state result).reads ≡ unread }
+        ensures { (⟦<TwoParts<'a> as Input>⟧.state result).reads ≡ empty_reads }
     {
         TwoParts::opened(content, place, ending, piece, ReadLog::of(&Reads))
     }
@@ -118,13 +118,13 @@ impl<'a, A: Allocator> InTurn<'a, A> {
 impl<'a, A: Allocator> Source for InTurn<'a, A> {
     type File = TwoParts<'a>;
 
-    ghost use Rattle.sum_sources.specs.Logs.{untold};
+    ghost use Rattle.sum_sources.specs.Logs.{untold_state};
     ghost use Rattle.sum_sources.specs.SourceLaws.{untold_gives};
-    ghost use Rattle.sum_sources.specs.Sources.{tells_none};
+    ghost use Rattle.sum_sources.specs.Sources.{no_answer};
 
-    ghost state = { λ s. untold s.log };
+    ghost state = { λ s. untold_state s.log };
 
-    ghost tells = { tells_none };
+    ghost tells = { no_answer };
 
     fn open_file(&mut self, name: &[u8]) -> Result<TwoParts<'a>, OpenFault> {
         let Some((content, place, ending)) = self.files.pop_front() else {

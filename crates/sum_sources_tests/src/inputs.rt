@@ -1,6 +1,6 @@
 //! Inputs: over readers that fail, in memory, and ones that go on after an end or a fault.
 ghost use Rattle.std.specs.Prelude.{◌≡◌};
-ghost use Rattle.sum_sources.specs.Contents.{unread};
+ghost use Rattle.sum_sources.specs.Contents.{empty_reads};
 
 use crate::goes_on::TwoParts;
 use crate::rest::hash_past_header;
@@ -37,7 +37,7 @@ impl<'a> Read for Reader<'a> {
 
 // "abc", one byte per read, with this ending after this many.
 fn abc(place: usize, ending: Ending) -> TwoParts<'static>
-    ensures { (⟦<TwoParts<'static> as Input>⟧.state result).reads ≡ unread }
+    ensures { (⟦<TwoParts<'static> as Input>⟧.state result).reads ≡ empty_reads }
 {
     TwoParts::new(b"abc", place, ending, 1)
 }
@@ -117,7 +117,7 @@ fn goes_on(rt: &impl Abort, input: &mut impl Input, place: usize, ending: Ending
 }
 
 // Standard input, taken once and a second time.
-fn given_once(rt: &impl Abort, place: usize, ending: Ending) {
+fn first_or_later(rt: &impl Abort, place: usize, ending: Ending) {
     let mut stdin = Stdin::new(abc(place, ending));
     let mut given = stdin.take();
     let mut second = stdin.take();
@@ -148,7 +148,7 @@ fn inputs_that_go_on(rt: HostRuntime) {
 
 fn all_go_on(rt: &impl Abort, place: usize, ending: Ending, digits: &[u8]) {
     let error = io::Error::from(ErrorKind::PermissionDenied);
-    given_once(rt, place, ending);
+    first_or_later(rt, place, ending);
     goes_on(rt, &mut abc_read(place, ending, error, 0), place, ending);
     assert_hashed(rt, abc(place, ending), ending, digits);
 }

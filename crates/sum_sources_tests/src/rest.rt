@@ -1,8 +1,8 @@
 //! Callers that read the header of an input themselves, and hand on the rest of it.
 ghost use Rattle.std.specs.Prelude.{◌≡◌, ◌∷◌, [], drop, take, IfOk, IfSome};
 ghost use Rattle.digest_kinds.specs.Kinds.{digest};
-ghost use Rattle.sum_sources.specs.Contents.{Content, IsOf, clip, unread};
-ghost use Rattle.sum_sources.specs.LineReaders.{past, remaining};
+ghost use Rattle.sum_sources.specs.Contents.{Content, Fits, clip, empty_reads};
+ghost use Rattle.sum_sources.specs.LineReaders.{content_past, remaining_content};
 ghost use Rattle.sum_sources.specs.ManifestLines.{lines};
 
 use digest_kinds::{Digest, Hasher};
@@ -16,10 +16,10 @@ pub fn hash_past_header<I: Input, H: Hasher + Drop>(
     header: &mut [u8; 3],
     hasher: H,
 ) -> Result<Digest, Fault>
-    requires new { (I.state input.old).reads ≡ unread }
+    requires new { (I.state input.old).reads ≡ empty_reads }
     requires hasher { H.holds hasher [] }
     // For each content that all reads of the input fit, the header's included.
-    ensures { (c : Content) → IsOf (I.state input.new).reads c
+    ensures { (c : Content) → Fits (I.state input.new).reads c
         → IfOk result (λ d. (take 3 c.bytes ≡ header.new)
         × (d ≡ digest (H.kind_of hasher) (drop 3 c.bytes))) }
 {
@@ -35,10 +35,11 @@ pub fn line_past_header<I: Input + Drop, A: Allocator>(
     mut input: I,
     line: &mut Vec<u8, A>,
 ) -> Option<LineReader<I>>
-    requires { (I.state input).reads ≡ unread }
+    requires { (I.state input).reads ≡ empty_reads }
     // For each content that all reads of the input fit, the header's included.
-    ensures { IfSome result (λ r. (c : Content) → IsOf (I.state r.input).reads c
-        → lines (clip (past 3 c)) ≡ line.new.items ∷ lines (remaining r (past 3 c))) }
+    ensures { IfSome result (λ r. (c : Content) → Fits (I.state r.input).reads c
+        → lines (clip (content_past 3 c))
+        ≡ line.new.items ∷ lines (remaining_content r (content_past 3 c))) }
 {
     let mut header = [0; 3];
     let Ok(3) = input.read(&mut header) else {

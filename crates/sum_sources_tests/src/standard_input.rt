@@ -2,7 +2,8 @@
 ghost use Rattle.std.specs.Prelude.{◌≡◌, ◌++◌, ◌∷◌, [], false, MatchBool, OnOk};
 ghost use Rattle.sum_sources.specs.WithStdin.{is_dash};
 ghost use Rattle.sum_sources.specs.Sources.{names_of};
-ghost use Rattle.sum_sources.specs.StandardInput.{given_by, is_untaken, put_back, taken};
+ghost use Rattle.sum_sources.specs.StandardInput.{given_input, is_untaken, put_back, after_taking};
+ghost use Rattle.sum_sources.specs.refinement.SourceStates.{source_in, stdin_in};
 
 use digest_kinds::{Digest, Hasher};
 use sum_sources::laws::stdin_is_taken;
@@ -15,11 +16,12 @@ pub fn visit<I: Input + Drop, S: Source>(
     name: &[u8],
 ) -> Result<(), OpenFault>
     ensures { MatchBool (is_dash name.now)
-        ((inputs.new.stdin ≡ put_back (taken inputs.old.stdin) (given_by inputs.old.stdin))
-        × (S.state inputs.new.source ≡ S.state inputs.old.source))
-        ((inputs.new.stdin ≡ inputs.old.stdin)
-        × OnOk result (names_of (S.state inputs.new.source).openings
-        ≡ names_of (S.state inputs.old.source).openings ++ name.now ∷ [])) }
+        (let old = stdin_in inputs.old in
+        (stdin_in inputs.new ≡ put_back (after_taking old) (given_input old))
+        × (S.state (source_in inputs.new) ≡ S.state (source_in inputs.old)))
+        ((stdin_in inputs.new ≡ stdin_in inputs.old)
+        × OnOk result (names_of (S.state (source_in inputs.new)).openings
+        ≡ names_of (S.state (source_in inputs.old)).openings ++ name.now ∷ [])) }
 {
     let file = inputs.open_file(name)?;
     inputs.close_file(file);
@@ -33,7 +35,8 @@ pub fn hash_name<I: Input + Drop, S: Source, H: Hasher + Drop>(
     hasher: H,
 ) -> Result<Digest, HashFault>
     requires { H.holds hasher [] }
-    ensures { is_dash name.now ≡ false → is_untaken inputs.new.stdin ≡ is_untaken inputs.old.stdin }
+    ensures { is_dash name.now ≡ false
+        → is_untaken (stdin_in inputs.new) ≡ is_untaken (stdin_in inputs.old) }
 {
     stdin_is_taken(inputs);
     let result = hash_file(inputs, name, hasher);

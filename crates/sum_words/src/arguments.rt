@@ -34,9 +34,11 @@ pub struct SystemArguments<R> {
 }
 
 impl<R: Env> SystemArguments<R> {
+    ghost use Rattle.sum_words.specs.refinement.ArgumentsStates.{given_arguments};
+
     /// Creates the list of this runtime's arguments.
     pub fn new(rt: R) -> Self
-        ensures { (⟦<SystemArguments<R> as Arguments>⟧.state result).given ≡ [] }
+        ensures { (given_arguments result).given ≡ [] }
     {
         SystemArguments {
             rt,
@@ -46,7 +48,9 @@ impl<R: Env> SystemArguments<R> {
 }
 
 impl<R: Env> Arguments for SystemArguments<R> {
-    ghost state = { λ s. record s.log { told = None } };
+    ghost use Rattle.sum_words.specs.refinement.ArgumentsStates.{given_arguments};
+
+    ghost state = { λ s. record (given_arguments s) { told = None } };
 
     fn fill(&mut self, place: usize, buffer: &mut [u8]) -> Result<usize, FillError> {
         let filled = self.rt.arg(place, buffer);
@@ -56,7 +60,7 @@ impl<R: Env> Arguments for SystemArguments<R> {
 
     ghost use Rattle.sum_words.specs.ArgumentsLaws.{untold_has_list};
 
-    ghost has_list = { λ s. untold_has_list s.log };
+    ghost has_list = { λ s. untold_has_list (given_arguments s) };
 }
 
 /// A list of arguments in memory.
@@ -64,13 +68,16 @@ impl<R: Env> Arguments for SystemArguments<R> {
 pub struct ToldArguments<'a> {
     arguments: &'a [&'a [u8]],
     log: Log<Fillings>,
+    // It has no Model: `has_list` is proved from this fact, and no law is given a Model's invariant.
     ghost agrees: { AreOf log (map (λ a. a.now) arguments.now) } by { AreOf-prop log (map (λ a. a.now) arguments.now) },
 }
 
 impl<'a> ToldArguments<'a> {
+    ghost use Rattle.sum_words.specs.refinement.ArgumentsStates.{told_arguments};
+
     /// Creates a list of these arguments, which begin with the name by which the program was called.
     pub fn new(arguments: &'a [&'a [u8]]) -> Self
-        ensures { ⟦<ToldArguments<'a> as Arguments>⟧.state result ≡ record {
+        ensures { told_arguments result ≡ record {
           told = Some (map (λ a. a.now) arguments.entry.now);
           given = [];
           fault = None;
@@ -85,8 +92,9 @@ impl<'a> ToldArguments<'a> {
 
 impl<'a> Arguments for ToldArguments<'a> {
     ghost use Rattle.std.specs.Prelude.{refl};
+    ghost use Rattle.sum_words.specs.refinement.ArgumentsStates.{told_arguments};
 
-    ghost state = { λ s. record s.log { told = Some (map (λ a. a.now) s.arguments.now) } };
+    ghost state = { told_arguments };
 
     fn fill(&mut self, place: usize, buffer: &mut [u8]) -> Result<usize, FillError> {
         let filled = fill_from(self.arguments, place, buffer);

@@ -23,5 +23,5 @@ pub(crate) struct Filled<'a>(pub(crate) &'a [u8], pub(crate) &'a Result<usize, F
 impl<'a> Notes<Filled<'a>> for Fillings {
     ghost use Rattle.sum_words.specs.Arguments.{and_fill};
 
-    ghost noted = { λ s x. and_fill s x.0.now x.1.now };
+    ghost after_note = { λ s x. and_fill s x.0.now x.1.now };
 }

@@ -5,16 +5,16 @@ use Rattle.blake2b_core.specs.{Bytes.ByteString, Digest.hash_after}
 use Rattle.blake2b_core.specs.declared.incremental.Blake2b.{Blake2b}
 
 -- bs are consecutive blocks of the message m, from block k on
-abbrev pub AreBlocksFrom : ByteString → ℕ → List ByteString → Type 0
-AreBlocksFrom m k bs = (i : ℕ) → i < length bs → slice_index_or bs i [] ≡ take 128 (drop (128 * (k + i)) m)
+abbrev pub HasBlocksFrom : ByteString → ℕ → List ByteString → Type 0
+HasBlocksFrom m k bs = (i : ℕ) → i < length bs → slice_index_or bs i [] ≡ take 128 (drop (128 * (k + i)) m)
 
 -- the length of the digest that the state is made for
 abbrev pub digest_len : Blake2b → ℕ
 digest_len s = s.len
 
 -- the number of bytes that the state has taken
-abbrev pub taken : Blake2b → ℕ
-taken s = s.taken
+abbrev pub taken_count : Blake2b → ℕ
+taken_count s = s.taken
 
 -- some blocks of the message m, counted by `done`, were compressed, and the bytes after them are buffered
 pub record HoldsSoFar (s : Blake2b) (m : ByteString) : Type 0 where
@@ -24,8 +24,7 @@ pub record HoldsSoFar (s : Blake2b) (m : ByteString) : Type 0 where
   pub hash : s.h ≡ hash_after s.len m done
   pub rest : take s.buffer_len s.buffer ≡ drop (128 * done) m
 
--- the state s holds the message m: so far it does, and the last block is buffered, so only the empty message leaves
--- nothing buffered
+-- the state s holds the message m: so far it does, and unless m is empty, its last block is buffered
 pub record Holds (s : Blake2b) (m : ByteString) : Type 0 where
   pub so_far : HoldsSoFar s m
   pub empty_buffer : s.buffer_len ≡ 0 → m ≡ []

@@ -3,7 +3,7 @@ use Rattle.std.specs.Prelude.{◌≡◌, ℕ, length}
 use Rattle.md5.specs.Md5.{Holds as HoldsMd5}
 use Rattle.sha1.specs.Sha1.{Holds as HoldsSha1}
 use Rattle.sha2.specs.Hashers.{Holds224, Holds256, Holds384, Holds512}
-use Rattle.blake2b_core.specs.refinement.Holding.{Holds as HoldsBlake2b, digest_len, taken as taken_blake2b}
+use Rattle.blake2b_core.specs.refinement.Holding.{Holds as HoldsBlake2b, digest_len, taken_count}
 use Rattle.digest_kinds.specs.Bytes.{ByteString}
 use Rattle.digest_kinds.specs.Kinds.{Algo, KindValue, blake2b_kind, full_kind}
 use Rattle.digest_kinds.specs.declared.hashers.any_hasher.AnyHasher.{AnyHasher}
@@ -17,18 +17,18 @@ pub record HasherValue : Type 1 where
   pub taken : ℕ
 
 -- a hasher over a digest of the kit, which counts the bytes
-abbrev over_kit : Algo → (ByteString → Type 0) → ℕ → HasherValue
-over_kit a holds n = record { holds = λ m. holds m × (n ≡ length m); kind = full_kind a; taken = n }
+abbrev kit_hasher_value : Algo → (ByteString → Type 0) → ℕ → HasherValue
+kit_hasher_value a holds n = record { holds = λ m. holds m × (n ≡ length m); kind = full_kind a; taken = n }
 
 -- the hasher in it
 abbrev pub hasher_in : AnyHasher → HasherValue
-hasher_in (Md5 h) = over_kit algos.Md5 (HoldsMd5 h.inner) h.taken
-hasher_in (Sha1 h) = over_kit algos.Sha1 (HoldsSha1 h.inner) h.taken
-hasher_in (Sha224 h) = over_kit algos.Sha224 (Holds224 h.inner) h.taken
-hasher_in (Sha256 h) = over_kit algos.Sha256 (Holds256 h.inner) h.taken
-hasher_in (Sha384 h) = over_kit algos.Sha384 (Holds384 h.inner) h.taken
-hasher_in (Sha512 h) = over_kit algos.Sha512 (Holds512 h.inner) h.taken
-hasher_in (Blake2b h) = record { holds = HoldsBlake2b h; kind = blake2b_kind (digest_len h); taken = taken_blake2b h }
+hasher_in (Md5 h) = kit_hasher_value algos.Md5 (HoldsMd5 h.0) h.1
+hasher_in (Sha1 h) = kit_hasher_value algos.Sha1 (HoldsSha1 h.0) h.1
+hasher_in (Sha224 h) = kit_hasher_value algos.Sha224 (Holds224 h.0) h.1
+hasher_in (Sha256 h) = kit_hasher_value algos.Sha256 (Holds256 h.0) h.1
+hasher_in (Sha384 h) = kit_hasher_value algos.Sha384 (Holds384 h.0) h.1
+hasher_in (Sha512 h) = kit_hasher_value algos.Sha512 (Holds512 h.0) h.1
+hasher_in (Blake2b h) = record { holds = HoldsBlake2b h; kind = blake2b_kind (digest_len h); taken = taken_count h }
 
 -- the number of bytes that a hasher has taken is the length of its message
 pub taken-length : (h : AnyHasher) (m : ByteString) → (hasher_in h).holds m → (hasher_in h).taken ≡ length m

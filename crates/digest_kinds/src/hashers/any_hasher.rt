@@ -12,7 +12,7 @@ use crate::kind::Kind;
 use blake2b_core::Blake2b;
 
 /// Computes the digest of one kind, which is chosen when it is made.
-#[derive(Debug, Drop)]
+#[derive(Clone, Debug, Drop)]
 pub enum AnyHasher {
     /// MD5.
     Md5(Md5Hasher),

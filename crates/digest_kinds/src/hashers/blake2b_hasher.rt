@@ -1,6 +1,6 @@
 //! BLAKE2b as a hasher.
 
-ghost use Rattle.blake2b_core.specs.refinement.Holding.{Holds, digest_len, taken};
+ghost use Rattle.blake2b_core.specs.refinement.Holding.{Holds, digest_len, taken_count};
 ghost use Rattle.digest_kinds.specs.Kinds.{blake2b_kind};
 
 use crate::digest::Digest;
@@ -13,7 +13,7 @@ impl Hasher for Blake2b {
 
     ghost kind_of = { λ h. blake2b_kind (digest_len h) };
 
-    ghost taken_of = { taken };
+    ghost taken_of = { taken_count };
 
     ghost counts = { λ h m held. held.so_far.taken };
 
@@ -30,6 +30,6 @@ impl Hasher for Blake2b {
     }
 
     fn finish(self) -> Digest {
-        Digest::of_bytes(Blake2b::finish(self).as_slice())
+        Digest::from_bytes(Blake2b::finish(self).as_slice())
     }
 }

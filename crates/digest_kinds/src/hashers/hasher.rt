@@ -1,8 +1,8 @@
 //! The trait of a hasher.
 
-ghost use Rattle.digest_kinds.specs.Bytes.{ByteString};
+ghost use Rattle.digest_kinds.specs.Bytes.{ByteString, LIMIT};
 ghost use Rattle.digest_kinds.specs.Kinds.{KindValue, digest};
-ghost use Rattle.std.specs.Prelude.{◌≡◌, ◌↔◌, ℕ, ◌+◌, ◌^◌, ◌<◌, ◌++◌, length, IsOk, OnOk, OnErr};
+ghost use Rattle.std.specs.Prelude.{◌≡◌, ◌↔◌, ℕ, ◌+◌, ◌<◌, ◌++◌, length, IsOk, OnOk, OnErr};
 
 use crate::digest::Digest;
 use crate::kind::Kind;
@@ -29,7 +29,7 @@ pub trait Hasher {
 
     /// Takes the message's next piece. The whole message must stay below [`LIMIT`](crate::LIMIT) bytes.
     fn update(&mut self, piece: &[u8])
-        requires { taken_of self.old + length piece.now < 2 ^ 61 }
+        requires { taken_of self.old + length piece.now < LIMIT }
         // If it may have taken a message, it may then have taken that message and the piece.
         ensures holds { (m : ByteString) → holds self.old m → holds self.new (m ++ piece.now) }
         ensures taken { taken_of self.new ≡ taken_of self.old + length piece.now }
@@ -38,7 +38,7 @@ pub trait Hasher {
     /// Takes the message's next piece. Returns `MessageTooLong` if and only if the message would have
     /// [`LIMIT`](crate::LIMIT) bytes or more; the hasher is then unchanged.
     fn try_update(&mut self, piece: &[u8]) -> Result<(), MessageTooLong>
-        ensures fits { IsOk result ↔ (taken_of self.old + length piece.now < 2 ^ 61) }
+        ensures fits { IsOk result ↔ (taken_of self.old + length piece.now < LIMIT) }
         ensures holds { OnOk result ((m : ByteString) → holds self.old m
             → holds self.new (m ++ piece.now)) }
         ensures taken { OnOk result (taken_of self.new ≡ taken_of self.old + length piece.now) }

@@ -51,7 +51,7 @@ fn call<A: Allocator + Copy, O: Sink + Drop, E: Sink + Drop>(
 
 // An output in memory.
 fn output() -> ToldSink<256>
-    ensures { (⟦<ToldSink<256> as Sink>⟧.state result).flushed ≡ true }
+    ensures { result.state.flushed ≡ true }
 {
     ToldSink::new(256)
 }

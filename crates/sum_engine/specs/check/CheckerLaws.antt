@@ -3,7 +3,7 @@ use Rattle.std.specs.Prelude.{ℕ, ◌≡◌, ◌+◌, ◌≤◌, ◌↔◌, Boo
 use Rattle.sum_lines.specs.grammar.Shapes.{IsPlain, KindValue}
 use Rattle.sum_engine.specs.Execution.{Stop, StreamsState, Agrees, world_at, StopHasCause, IsAtEndIf, ReadsToEndIf, AsksNames, Happened, PerformsSteps, Performs}
 use Rattle.sum_sources.specs.{Contents.IsSameInput, Contents.reads_past, declared.inputs.phase.Phase.TheVariants.Unfinished}
-use Rattle.sum_engine.specs.Behavior.{ByteString, IsOf, InputState, Behavior, trace, out_text, err_text, asks, World, Content, clip}
+use Rattle.sum_engine.specs.Behavior.{ByteString, Fits, InputState, Behavior, trace, out_text, err_text, asks, World, Content, clip}
 use Rattle.sum_engine.specs.{check.Rules.Rules, check.Rules.LabelsValue, check.Checking.content_behavior}
 use Rattle.sum_engine.specs.check.Judge.{lines_under, all_verdicts, verdicts, past_lines, escape, EntryValue, IsEntry, form}
 use Rattle.sum_engine.specs.check.CheckStates.{CheckState, initial_state}
@@ -14,11 +14,11 @@ use Rattle.sum_engine.specs.check.ReadAhead.{StopsAtStep}
 pub record RunsManifest (r : Rules) (labels : LabelsValue) (s t : InputState) (a b : StreamsState)
     (x : Result Bool Stop) : Type 0 where
   -- of an input that hadn't ended: it performed the behavior of each content that agrees with what the call read
-  pub behavior : s.reads.phase ≡ Unfinished → (c : Content) → IsOf (reads_past (length s.reads.bytes) t.reads) c
+  pub behavior : s.reads.phase ≡ Unfinished → (c : Content) → Fits (reads_past (length s.reads.bytes) t.reads) c
       → Performs (λ w. content_behavior r labels (clip c) (all_verdicts r w (clip c))) (λ good. good) a b x
   -- if it stopped: at which step of that behavior, and that it read at most 8192 bytes past its line
   pub stopped : s.reads.phase ≡ Unfinished → let read = reads_past (length s.reads.bytes) t.reads in
-      (c : Content) → IsOf read c → (w : World) → Agrees w b.inputs → IfErr x (λ stop.
+      (c : Content) → Fits read c → (w : World) → Agrees w b.inputs → IfErr x (λ stop.
       StopsAtStep stop (content_behavior r labels (clip c) (all_verdicts r (world_at w a.inputs) (clip c))).steps
       (clip c) (length read.bytes) a b)
   pub manifest : s.reads.phase ≡ Unfinished → IsAtEndIf (x ≡ Ok true) t.reads

@@ -1,11 +1,11 @@
 -- The verdicts of a manifest, one call after another; no text is written.
 use Rattle.std.specs.Prelude.{◌≡◌, ◌+◌, ◌≤◌, ◌<◌, ◌⊎◌, [], ◌∷◌, length, slice_range, Bool, true, false, Option, None, Some, IfSome, Result, Ok, Err, ⊤}
 use Rattle.sum_lines.specs.declared.reading.read_line.Form.TheVariants.{Undecided}
-use Rattle.sum_sources.specs.LineReaders.{AdvancesLines, IsBounded, IsReading, consumed_count, reads_of, remaining}
+use Rattle.sum_sources.specs.LineReaders.{AdvancesLines, IsBounded, IsReading, consumed_count, reads_of, remaining_content}
 use Rattle.sum_sources.specs.declared.{inputs.phase.Phase.TheVariants.Unfinished, line_reader.LineReader.LineReader, line_reader.LineStop.TheVariants.Fault, line_reader.LineStop.TheVariants.Memory}
 pub use Rattle.sum_sources.specs.declared.line_reader.LineStop.{LineStop}
 use Rattle.sum_sources.specs.declared.{line_reader.Next.TheVariants.NoMore, line_reader.Next.Next}
-use Rattle.sum_engine.specs.Behavior.{ByteString, Ending, Whole, Broken, World, after, Content, InputState, SourceState, IsOf}
+use Rattle.sum_engine.specs.Behavior.{ByteString, Ending, Whole, Broken, World, after, Content, InputState, SourceState, Fits}
 use Rattle.sum_engine.specs.Execution.{Agrees, world_at, ReadsToEndIf, AsksNames}
 use Rattle.sum_engine.specs.{refinement.Names.MemoryWasRefused, check.Rules.Rules, check.Judge.Form, check.Judge.LineVerdictValue, check.Judge.asks_of}
 pub use Rattle.sum_engine.specs.declared.check.judge.LineVerdict.{LineVerdict}
@@ -45,8 +45,9 @@ state_at p c w = record {
 -- of the manifest that what was read of it fits, and in each world that agrees with what was read
 pub record InEachCheck {I : Type 0} (state : I → InputState) (p q : VerdictsValue I) (a b : SourceState)
     (P : CheckState → CheckState → Type 0) : Type 0 where
-  pub holds : IsReading state p.reader → (c : Content) → IsOf (reads_of state q.reader) c → (w : World) → Agrees w b
-      → P (state_at p (remaining p.reader c) (world_at w a)) (state_at q (remaining q.reader c) (world_at w b))
+  pub holds : IsReading state p.reader → (c : Content) → Fits (reads_of state q.reader) c → (w : World) → Agrees w b
+      → P (state_at p (remaining_content p.reader c) (world_at w a))
+      (state_at q (remaining_content q.reader c) (world_at w b))
 
 -- ---- what a call returns
 
@@ -138,7 +139,7 @@ pub record AdvancesVerdicts {I : Type 0} (state : I → InputState) (vector : By
   pub bounds : IsBounded q.reader
   -- if the input hadn't ended at the start: a content that fits what was read by now also fits what was read before
   pub reading : IsReading state p.reader → IsReading state q.reader
-  pub before : IsReading state p.reader → (c : Content) → IsOf (reads_of state q.reader) c
-      → IsOf (reads_of state p.reader) c
+  pub before : IsReading state p.reader → (c : Content) → Fits (reads_of state q.reader) c
+      → Fits (reads_of state p.reader) c
   pub asked : AsksFor vector q.reader.ahead a b x
   pub reads : ReadsToEndIf (IsNotUnread x) a b

@@ -1,19 +1,19 @@
 -- What the lines of a manifest say: the first plain line decides the form of them all, and a line spells an entry.
 use Rattle.std.specs.Prelude.{ℕ, ◌≡◌, ◌<◌, ◌⊎◌, ◌==◌, ◌||◌, Bool, false, List, [], ◌∷◌, IsTrue, if◌then◌else◌, All}
-use Rattle.std.specs.Option.{option_map_or}
+use Rattle.std.specs.{Option.option_map_or, Str.byte}
 use Rattle.sum_lines.specs.grammar.Shapes.{ByteString, Algos, IsPlain, IsTagged, KindValue}
 use Rattle.sum_lines.specs.{Escape.Profile, grammar.LineParts.plain_parts}
 pub use Rattle.sum_lines.specs.declared.reading.read_line.Form.{Form}
 pub use Rattle.sum_lines.specs.declared.reading.read_line.Form.TheVariants.{Undecided, Standard, Reversed}
 
--- whether a line is ignored: it begins with `#` (35), or it is empty and the profile ignores empty lines
+-- whether a line is ignored: it begins with `#`, or it is empty and the profile ignores empty lines
 abbrev pub is_ignored : Profile → ByteString → Bool
 is_ignored p [] = p.ignores_empty
-is_ignored p (b ∷ bs) = b == 35
+is_ignored p (b ∷ bs) = b == byte "#"
 
--- whether a plain line's tail is that of a Standard list: it begins with a space (32) or a star (42), and more follows
+-- whether a plain line's tail is that of a Standard list: it begins with a space or a star, and more follows
 abbrev pub begins_standard : ByteString → Bool
-begins_standard (b ∷ c ∷ bs) = b == 32 || b == 42
+begins_standard (b ∷ c ∷ bs) = b == byte " " || b == byte "*"
 begins_standard tail = false
 
 -- the form of a list of lines: the tail of its first plain line decides it; without a plain line it is Undecided
@@ -24,8 +24,7 @@ IsForm algos (line ∷ later) form = ((e : Bool) × (kind : KindValue) × (diges
     ⊎ (((e : Bool) (kind : KindValue) (digest tail : ByteString) → ¬ IsPlain algos line e kind digest tail)
     × IsForm algos later form)
 
--- the raw name in a plain line's tail: in a Reversed list it is the tail; in a Standard list the tail begins with a
--- space or a star, more follows, and the raw name is what follows that byte
+-- the raw name in a plain line's tail: if the list is Reversed, the tail; if Standard, the tail past its first byte
 abbrev pub IsRawName : Form → ByteString → ByteString → Type 0
 IsRawName Undecided tail raw = ⊥
 IsRawName Reversed tail raw = raw ≡ tail
@@ -37,8 +36,7 @@ pub record EntryValue : Type 0 where
   pub digest : ByteString
   pub name : ByteString
 
--- the entry that a line spells in a list of that form: the raw name in the line spells the entry's name, which has no
--- NUL. The raw name is the name's escape if the line has the backslash for that, and the name itself if not
+-- the entry that a line spells in a list of that form: its raw name spells the entry's name, which has no NUL
 pub record IsEntry (escape : ByteString → ByteString) (algos : Algos) (form : Form) (line : ByteString)
     (s : EntryValue) : Type 0 where
   pub escaped : Bool

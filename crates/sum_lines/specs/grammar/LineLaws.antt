@@ -1,5 +1,6 @@
 -- What the laws of the line grammar say, and what `read_line` promises by it.
 use Rattle.std.specs.Prelude.{◌≡◌, ◌≢◌, ◌<◌, ◌↔◌, ◌⊎◌, Bool, true, false, List, [], ◌∷◌, ◌++◌, length, codes, IsTrue, All}
+use Rattle.std.specs.Str.{byte}
 use Rattle.hex.specs.Hex.{IsBytes}
 use Rattle.sum_lines.specs.grammar.Shapes.{ByteString, Algo, Algos, One, Any, IsPlain, IsTagged, KindValue, has_len}
 use Rattle.sum_lines.specs.grammar.Entries.{Form, Undecided, Standard, EntryValue, IsEntry, IsForm, is_ignored, form}
@@ -13,16 +14,15 @@ HasOneEntry = (algos : Algos) (f : Form) (line : ByteString) (s t : EntryValue) 
     → IsEntry escape algos f line t → s ≡ t
 
 -- no line has both shapes, whichever algorithms they name
-abbrev pub AreApart : Type 0
-AreApart = (algos others : Algos) (line : ByteString) (e f : Bool) (kind other : KindValue) (d c tail raw : ByteString)
-    → IsPlain algos line e kind d tail → ¬ IsTagged others line f other c raw
+abbrev pub HasOneShape : Type 0
+HasOneShape = (algos others : Algos) (line : ByteString) (e f : Bool) (kind other : KindValue)
+    (d c tail raw : ByteString) → IsPlain algos line e kind d tail → ¬ IsTagged others line f other c raw
 
 -- a list of lines has one form, which is the computed one
 abbrev pub HasOneForm : Type 0
 HasOneForm = (algos : Algos) (lines : List ByteString) (f : Form) → IsForm algos lines f ↔ (f ≡ form algos lines)
 
--- what is said of a line fits the grammar: it is ignored, or an entry, each if and only if the grammar says so; so it
--- is bad if and only if the grammar says neither
+-- what is said of a line fits the grammar: it is ignored, or an entry, each if and only if the grammar says so
 pub record FitsGrammar (p : Profile) (algos : Algos) (f : Form) (line : ByteString) (said : ParsedLine) : Type 0 where
   pub when_ignored : (said ≡ ignored) ↔ (is_ignored p line ≡ true)
   pub when_entry : (s : EntryValue) → (said ≡ entry s) ↔ IsEntry (escape_by p) algos f line s
@@ -50,7 +50,7 @@ pub record SpellsBack (algos : Algos) (before later : List ByteString) (text : B
     (name digest : ByteString) : Type 0 where
   pub prefix : ByteString
   pub whole : text ≡ prefix ++ codes "\n"
-  pub one_line : All (λ b. (b ≢ 10) × (b ≢ 13)) prefix
+  pub one_line : All (λ b. (b ≢ byte "\n") × (b ≢ byte "\r")) prefix
   pub spells : (s : EntryValue) → IsEntry escape algos (form algos (before ++ (prefix ∷ later))) prefix s
       ↔ (s ≡ record { kind = kind; digest = digest; name = name })
   pub keeps : (form algos (before ++ (prefix ∷ [])) ≡ Undecided) ⊎ (form algos (before ++ (prefix ∷ [])) ≡ Standard)

@@ -1,7 +1,7 @@
 -- The parts of a line of either shape, computed. They need not be believed: by the law `parse_is_grammar` the entry
 -- that is made of them is the line grammar's.
 use Rattle.std.specs.Prelude.{◌==◌, ◌&&◌, nat_lt, Bool, true, false, length, drop, codes, Option, None, Some, if◌then◌else◌, find}
-use Rattle.std.specs.{Option.option_or, Result.result_ok, List.starts_with, List.before_first, List.after_first, Path.rsplit_once}
+use Rattle.std.specs.{Option.option_or, Result.result_ok, List.starts_with, List.before_first, List.after_first, Path.rsplit_once, Str.byte}
 pub use Rattle.digest_kinds.specs.Bytes.{ByteString, ◌>>=◌, after_while}
 use Rattle.digest_kinds.specs.Kinds.{KindValue, all_algos, has_len, tag}
 use Rattle.digest_kinds.specs.KindTexts.{kind_and_rest}
@@ -42,7 +42,7 @@ tagged_parts algos line = let text = mark_and_rest (after_while is_blank line) i
   a ← tag_in algos text.1
   w ← kind_and_rest a (drop (length (tag a)) text.1)
   inner ← option_or (strip_prefix (codes " (") w.1) (strip_prefix (codes "(") w.1)
-  name ← rsplit_once 41 inner
+  name ← rsplit_once (byte ")") inner
   digits ← strip_prefix (codes "=") (after_while is_blank name.1)
   d ← result_ok (decode_of (after_while is_blank digits))
   if length d == w.0.len && nat_lt 0 (length name.0)

@@ -1,7 +1,7 @@
 -- How a line parses, computed. It need not be believed: by the law `parse_is_grammar` it is what the line grammar says.
 -- After that, what a `Reading` says of a line.
 use Rattle.std.specs.Prelude.{◌≡◌, ◌≤◌, ◌==◌, ◌∷◌, length, drop, slice_range, nat_lt, bytes_eq, ⊤, Option, None, Some, if◌then◌else◌}
-use Rattle.std.specs.{Option.option_or, Option.option_map_or, List.list_all}
+use Rattle.std.specs.{Option.option_or, Option.option_map_or, List.list_all, Str.byte}
 use Rattle.digest_kinds.specs.declared.algo.Algos.{Algos}
 use Rattle.sum_lines.specs.grammar.Entries.{Form, Undecided, Standard, Reversed, EntryValue, begins_standard, is_ignored}
 use Rattle.sum_lines.specs.declared.reading.read_line.Reading.{Reading}
@@ -9,10 +9,11 @@ use Rattle.sum_lines.specs.Escape.{Profile, escape_by, ByteString}
 use Rattle.sum_lines.specs.grammar.LineParts.{LinePartsValue, tagged_parts, plain_parts, ◌>>=◌}
 use Rattle.sum_lines.specs.declared.reading.read_line.Reading.TheVariants as readings
 
--- the bytes, with one byte for a backslash (92) and the byte after it: newline for `\n`, carriage return for `\r`
+-- the bytes, with one byte for a backslash and the byte after it: newline for `\n`, carriage return for `\r`
 abbrev pub unescaped_bytes : ByteString → ByteString
 unescaped_bytes (b ∷ c ∷ cs) =
-    if b == 92 then (if c == 110 then 10 else if c == 114 then 13 else c) ∷ unescaped_bytes cs
+    if b == byte "\\" then
+    (if c == byte "n" then byte "\n" else if c == byte "r" then byte "\r" else c) ∷ unescaped_bytes cs
     else b ∷ unescaped_bytes (c ∷ cs)
 unescaped_bytes bytes = bytes
 
@@ -21,10 +22,10 @@ abbrev pub unescape : Profile → ByteString → Option ByteString
 unescape p bytes = if bytes_eq (escape_by p (unescaped_bytes bytes)) bytes then Some (unescaped_bytes bytes) else None
 
 -- a plain line's parts with the raw name in place of the tail, if its tail has one in a list of that form
-abbrev pub with_raw : Form → LinePartsValue → Option LinePartsValue
-with_raw Reversed q = Some q
-with_raw Standard q = if begins_standard q.text then Some (record q { text = drop 1 q.text }) else None
-with_raw Undecided q = None
+abbrev pub parts_with_raw_name : Form → LinePartsValue → Option LinePartsValue
+parts_with_raw_name Reversed q = Some q
+parts_with_raw_name Standard q = if begins_standard q.text then Some (record q { text = drop 1 q.text }) else None
+parts_with_raw_name Undecided q = None
 
 -- the entry that a line's parts spell, if their text is a raw name that spells a name without NUL
 abbrev pub entry_of_parts : Profile → LinePartsValue → Option EntryValue
@@ -35,7 +36,7 @@ entry_of_parts p t = do
 -- the entry that a line spells in a list of that form
 unfoldable pub entry_of : Profile → Algos → Form → ByteString → Option EntryValue
 entry_of p algos f line =
-    option_or (tagged_parts algos line) (plain_parts algos line >>= with_raw f) >>= entry_of_parts p
+    option_or (tagged_parts algos line) (plain_parts algos line >>= parts_with_raw_name f) >>= entry_of_parts p
 
 -- what a line says: it is ignored, bad, or an entry
 pub data ParsedLine : Type 0 where

@@ -1,7 +1,7 @@
 -- The two shapes of a manifest's line, plain and tagged. A line has a shape if some parts, put together, are the line.
 -- Either shape may begin with blanks and then one backslash. The backslash says that the name is escaped.
 use Rattle.std.specs.Prelude.{ℕ, ◌≡◌, ◌<◌, ◌==◌, ◌||◌, ⊤, Bool, true, [], ◌∷◌, ◌++◌, length, codes, IsTrue, Ok, if◌then◌else◌}
-use Rattle.std.specs.List.{AllPass}
+use Rattle.std.specs.{List.AllPass, Str.byte}
 pub use Rattle.hex.specs.Hex.{decode_of}
 pub use Rattle.digest_kinds.specs.Bytes.{ByteString}
 pub use Rattle.digest_kinds.specs.Kinds.{KindValue, has_len, tag}
@@ -10,9 +10,9 @@ pub use Rattle.digest_kinds.specs.declared.algo.Algo.{Algo}
 pub use Rattle.digest_kinds.specs.declared.algo.Algos.{Algos}
 pub use Rattle.digest_kinds.specs.declared.algo.Algos.TheVariants.{One, Any}
 
--- whether a byte is a blank: a space (32) or a tab (9)
+-- whether a byte is a blank: a space or a tab
 abbrev pub is_blank : ℕ → Bool
-is_blank b = b == 32 || b == 9
+is_blank b = b == byte " " || b == byte "\t"
 
 -- the backslash that begins a line whose name is escaped
 abbrev pub mark : Bool → ByteString

@@ -6,7 +6,7 @@ ghost use Rattle.std.specs.Prelude.{◌≡◌, ◌≤◌, None, Some, drop, if�
 ghost use Rattle.sum_lines.specs.Escape.{own_profile};
 ghost use Rattle.sum_lines.specs.grammar.Entries.{begins_standard, form_then, is_ignored, line_form};
 ghost use Rattle.sum_lines.specs.grammar.LineLaws.{FitsGrammar};
-ghost use Rattle.sum_lines.specs.grammar.ParsedLines.{bad, entry, entry_of, entry_of_parts, parse_line, unescape, with_raw, IsWithin, parsed_line_of};
+ghost use Rattle.sum_lines.specs.grammar.ParsedLines.{bad, entry, entry_of, entry_of_parts, parse_line, unescape, parts_with_raw_name, IsWithin, parsed_line_of};
 ghost use Rattle.sum_lines.specs.refinement.Beginnings.{IsReadAs, IsFront, line_parts};
 
 use crate::escape::unescape_in;
@@ -102,9 +102,13 @@ fn read_begun<A: Allocator>(
 ) -> (Reading, Form)
     requires front { IsFront line.old.items front }
     requires read_as { IsReadAs algos line.old.items beginning }
+
+    // What the line says, and the form with this line.
     ensures form { result.1 ≡ form_then form (line_form algos line.old.items) }
     ensures parsed { parsed_line_of line.new.items result.0
         ≡ option_map_or entry (entry_of own_profile algos result.1 line.old.items) bad }
+
+    // What the vector has then.
     ensures within { IsWithin line.new.items result.0 }
     ensures len { vec_len line.new ≤ vec_len line.old }
 {
@@ -136,12 +140,16 @@ fn read_tail<A: Allocator>(form: Form, line: &mut Vec<u8, A>, found: LineParts) 
     requires size { length found.digest ≡ found.kind.len }
     requires ordered { found.start ≤ found.stop }
     requires within { found.stop ≤ length line.old.items }
+
+    // What the line says, and the form with this line.
     ensures form { result.1 ≡ form_then form
         (if begins_standard (line_parts line.old.items found).text then Form.Standard
         else Form.Reversed) }
     ensures parsed { parsed_line_of line.new.items result.0 ≡ option_map_or entry
         (option_and_then (entry_of_parts own_profile)
-        (with_raw result.1 (line_parts line.old.items found))) bad }
+        (parts_with_raw_name result.1 (line_parts line.old.items found))) bad }
+
+    // What the vector has then.
     ensures within { IsWithin line.new.items result.0 }
     ensures len { vec_len line.new ≤ vec_len line.old }
 {
@@ -182,8 +190,12 @@ fn read_name<A: Allocator>(line: &mut Vec<u8, A>, found: LineParts) -> Reading
     requires size { length found.digest ≡ found.kind.len }
     requires ordered { found.start ≤ found.stop }
     requires within { found.stop ≤ length line.old.items }
+
+    // What the line says.
     ensures parsed { parsed_line_of line.new.items result
         ≡ option_map_or entry (entry_of_parts own_profile (line_parts line.old.items found)) bad }
+
+    // What the vector has then.
     ensures within { IsWithin line.new.items result }
     ensures len { vec_len line.new ≤ vec_len line.old }
 {

@@ -63,7 +63,8 @@ impl<S: Sink> Buffered<S> {
 
     /// Offers the sink all that is buffered, in one piece, and flushes the sink. Returns `SinkFault` if that fails.
     pub fn flush(&mut self) -> Result<(), SinkFault>
-        ensures gives { GivesAll self.old.sink.output self.new.sink.output self.old.buffered result }
+        ensures gives { GivesAll self.old.sink.output self.new.sink.output self.old.buffered
+            result }
         ensures flushed { IsFlushed self.new }
     {
         self.give_buffered()?;
@@ -72,7 +73,8 @@ impl<S: Sink> Buffered<S> {
 
     // Gives the sink what is buffered.
     fn give_buffered(&mut self) -> Result<(), SinkFault>
-        ensures gives { GivesAll self.old.sink.output self.new.sink.output self.old.buffered result }
+        ensures gives { GivesAll self.old.sink.output self.new.sink.output self.old.buffered
+            result }
         ensures buffered { self.new.buffered ≡ [] }
         ensures flushed { OnErr result (self.new.sink.flushed ≡ true) }
     {

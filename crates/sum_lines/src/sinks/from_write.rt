@@ -5,6 +5,7 @@ ghost use Rattle.std.specs.Prelude.{true, ◌≡◌, ◌+◌, ◌++◌, Some, un
 use crate::sinks::sink::{Sink, SinkFault};
 use crate::sinks::writes::{Flushed, Offer, Writes};
 use ghost_log::{INTERRUPTIONS, Log};
+use std::fmt::{self, Debug, Formatter};
 use std::io::{ErrorKind, Write};
 use std::snapshot::Snapshot;
 
@@ -12,20 +13,26 @@ use std::snapshot::Snapshot;
 #[derive(Drop)]
 pub struct FromWrite<W: Write> {
     writer: W,
-    // the writer as it was at first, and what it took since: only proofs see them
+    // The writer as it was at first, and what it took since: only proofs see them.
     first: Snapshot<W>,
     log: Log<Writes>,
     ghost known: { ForSome (W.contents first.value) (λ bytes. W.contents writer
         ≡ Some (bytes ++ log.output.written)) },
 }
 
+impl<W: Write> Debug for FromWrite<W> {
+    fn fmt<F: fmt::Write>(&self, f: &mut Formatter<F>) -> fmt::Result {
+        f.write_str("FromWrite")
+    }
+}
+
 impl<W: Write> FromWrite<W> {
-    ghost use Rattle.sum_lines.specs.refinement.SinkStates.{over_writer};
+    ghost use Rattle.sum_lines.specs.refinement.SinkStates.{from_write_state, held_at_first};
 
     /// Creates a sink over the writer. What the writer is known to hold counts as written.
     pub fn new(writer: W) -> Self
-        ensures first { result.first.value ≡ writer }
-        ensures state { ⟦<FromWrite<W> as Sink>⟧.state result
+        ensures held { held_at_first result ≡ W.contents writer }
+        ensures state { from_write_state result
             ≡ record {
               output = record {
                 offered = [];
@@ -44,9 +51,8 @@ impl<W: Write> FromWrite<W> {
 
     /// Returns the writer. If it was known what it held at first, it holds that and what was written.
     pub fn into_inner(self) -> W
-        ensures { ForSome (W.contents self.first.value) (λ bytes.
-            W.contents result
-            ≡ Some (over_writer (W.contents self.first.value) self.log).output.written) }
+        ensures { ForSome (held_at_first self) (λ _.
+            W.contents result ≡ Some (from_write_state self).output.written) }
     {
         self.writer
     }
@@ -67,18 +73,17 @@ impl<W: Write> FromWrite<W> {
 impl<W: Write> Sink for FromWrite<W> {
     ghost use Rattle.std.specs.Prelude.{Ok};
     ghost use Rattle.sum_lines.specs.Sinks.{WritesSome, Flushes};
-    ghost use Rattle.sum_lines.specs.refinement.SinkStates.{over_writer};
+    ghost use Rattle.sum_lines.specs.refinement.SinkStates.{from_write_state, held_at_first};
 
-    ghost state = { λ s. over_writer (W.contents s.first.value) s.log };
+    ghost state = { from_write_state };
 
     /// Writes a nonempty piece to the writer, and retries after each interruption. Returns `SinkFault` if the writer
     /// fails, accepts nothing of it, or is interrupted for the 1,000th time in a row ([`INTERRUPTIONS`]).
     fn write(&mut self, piece: &[u8]) -> Result<usize, SinkFault>
-        ensures bytes { WritesSome (over_writer (W.contents self.old.first.value) self.old.log)
-            (over_writer (W.contents self.new.first.value) self.new.log)
+        ensures bytes { WritesSome (from_write_state self.old) (from_write_state self.new)
             piece.now result }
         ensures empty { piece.now ≡ [] → result ≡ Ok 0 }
-        ensures first { self.new.first ≡ self.old.first }
+        ensures held { held_at_first self.new ≡ held_at_first self.old }
     {
         if piece.is_empty() {
             self.log = self.log.and(&Offer(piece, &[]));
@@ -104,10 +109,8 @@ impl<W: Write> Sink for FromWrite<W> {
 
     /// Flushes the writer, once. Returns `SinkFault` if that fails.
     fn flush(&mut self) -> Result<(), SinkFault>
-        ensures bytes { Flushes (over_writer (W.contents self.old.first.value) self.old.log)
-            (over_writer (W.contents self.new.first.value) self.new.log)
-            result }
-        ensures first { self.new.first ≡ self.old.first }
+        ensures bytes { Flushes (from_write_state self.old) (from_write_state self.new) result }
+        ensures held { held_at_first self.new ≡ held_at_first self.old }
     {
         match self.writer.flush() {
             Ok(()) => {

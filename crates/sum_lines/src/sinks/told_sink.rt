@@ -4,6 +4,7 @@ ghost use Rattle.std.specs.Prelude.{true, ◌≡◌, ◌≤◌, ◌+◌, ◌<◌
 use crate::sinks::sink::{Sink, SinkFault};
 use crate::sinks::writes::{Flushed, Offer, Writes};
 use ghost_log::Log;
+use std::marker::Model;
 
 /// A sink that keeps up to N bytes, and fails when it is full.
 #[derive(Debug, Drop)]
@@ -12,18 +13,29 @@ pub struct ToldSink<const N: usize> {
     len: usize,
     limit: usize,
     log: Log<Writes>,
-    ghost in_range: { (len ≤ limit) × (limit ≤ N) },
+}
+
+impl<const N: usize> Model for ToldSink<N> {
+    ghost use Rattle.std.specs.Prelude.{◌≤◌, ◌-◌, take};
+    ghost use Rattle.sum_lines.specs.Sinks.{ToldSinkValue};
+
+    ghost Value = { ToldSinkValue };
+
+    ghost view = { λ s. record {
+      state = record s.log { output = record s.log.output { written = take s.len s.bytes } };
+      room = s.limit - s.len;
+    } };
+
+    ghost invariant = { λ s. (s.len ≤ s.limit) × (s.limit ≤ N) };
 }
 
 impl<const N: usize> ToldSink<N> {
-    ghost use Rattle.sum_lines.specs.refinement.SinkStates.{bytes_of, remaining_capacity};
-
     /// Creates an empty sink that accepts `stop` bytes, or N if that is less, and then fails.
     pub fn new(stop: usize) -> Self
-        ensures empty { bytes_of result ≡ [] }
-        ensures room { remaining_capacity result ≡ min stop N }
-        ensures failures { (⟦<ToldSink<N> as Sink>⟧.state result).output.failures ≡ 0 }
-        ensures flushed { (⟦<ToldSink<N> as Sink>⟧.state result).flushed ≡ true }
+        ensures empty { result.state.output.written ≡ [] }
+        ensures room { result.room ≡ min stop N }
+        ensures failures { result.state.output.failures ≡ 0 }
+        ensures flushed { result.state.flushed ≡ true }
     {
         ToldSink {
             bytes: [0; N],
@@ -35,7 +47,7 @@ impl<const N: usize> ToldSink<N> {
 
     /// Returns the bytes that were written.
     pub fn bytes(&self) -> &[u8]
-        ensures { result.now ≡ bytes_of self.now }
+        ensures { result.now ≡ self.now.state.output.written }
     {
         &self.bytes[..self.len]
     }
@@ -44,24 +56,22 @@ impl<const N: usize> ToldSink<N> {
 impl<const N: usize> Sink for ToldSink<N> {
     ghost use Rattle.std.specs.Prelude.{Ok};
     ghost use Rattle.sum_lines.specs.Sinks.{WritesSome, Flushes};
-    ghost use Rattle.sum_lines.specs.refinement.SinkStates.{remaining_capacity, told_sink_state};
 
-    ghost state = { told_sink_state };
+    ghost state = { λ s. s.state };
 
     /// Accepts what there is room for. Returns `SinkFault` if and only if there is no room and the piece isn't empty.
     /// From then on there is no room.
     fn write(&mut self, piece: &[u8]) -> Result<usize, SinkFault>
-        ensures bytes { WritesSome (told_sink_state self.old) (told_sink_state self.new)
-            piece.now result }
+        ensures bytes { WritesSome self.old.state self.new.state piece.now result }
         ensures empty { piece.now ≡ [] → result ≡ Ok 0 }
-        ensures count { IfOk result (λ n. n
-            ≡ min (remaining_capacity self.old) (length piece.now)) }
-        // It fails if and only if there is no room for a byte.
-        ensures full { IsErr result ↔ ((remaining_capacity self.old ≡ 0) × (0 < length piece.now)) }
-        ensures room { IfOk result (λ n. remaining_capacity self.new + n
-            ≡ remaining_capacity self.old) }
-        ensures room_on_err { OnErr result (remaining_capacity self.new
-            ≡ remaining_capacity self.old) }
+
+        // It accepts what there is room for, and fails if and only if there is no room for a byte.
+        ensures count { IfOk result (λ n. n ≡ min self.old.room (length piece.now)) }
+        ensures full { IsErr result ↔ ((self.old.room ≡ 0) × (0 < length piece.now)) }
+
+        // The room shrinks by what it accepted.
+        ensures room { IfOk result (λ n. self.new.room + n ≡ self.old.room) }
+        ensures room_on_err { OnErr result (self.new.room ≡ self.old.room) }
     {
         if piece.is_empty() {
             self.log = self.log.and(&Offer(piece, &[]));
@@ -82,9 +92,8 @@ impl<const N: usize> Sink for ToldSink<N> {
     /// Succeeds, and changes neither the bytes nor the room.
     fn flush(&mut self) -> Result<(), SinkFault>
         ensures ok { result ≡ Ok tt }
-        // Everything but the log is unchanged.
-        ensures same { self.new ≡ record self.old { log = self.new.log } }
-        ensures bytes { Flushes (told_sink_state self.old) (told_sink_state self.new) result }
+        ensures room { self.new.room ≡ self.old.room }
+        ensures bytes { Flushes self.old.state self.new.state result }
     {
         self.log = self.log.and(&Flushed);
         Ok(())

@@ -5,7 +5,7 @@ use std::marker::Model;
 
 /// A sink before its first call. A log of it, which only proofs see, keeps what it is offered, what is written of that,
 /// how often a call fails, and whether it is flushed.
-#[derive(Drop)]
+#[derive(Debug, Drop)]
 pub struct Writes;
 
 impl Model for Writes {
@@ -21,13 +21,13 @@ impl Model for Writes {
 }
 
 /// A piece was offered, and these bytes of it were written.
-#[derive(Clone, Copy)]
+#[derive(Clone, Copy, Debug)]
 pub struct Offer<'a>(pub &'a [u8], pub &'a [u8]);
 
 impl<'a> Notes<Offer<'a>> for Writes {
     ghost use Rattle.std.specs.Prelude.{false, ◌++◌, ◌∷◌, []};
 
-    ghost noted = { λ s x. let o = s.output in
+    ghost after_note = { λ s x. let o = s.output in
         record {
           output = record o { offered = o.offered ++ x.0.now ∷ []; written = o.written ++ x.1.now };
           flushed = false;
@@ -35,19 +35,19 @@ impl<'a> Notes<Offer<'a>> for Writes {
 }
 
 /// A flush succeeded.
-#[derive(Clone, Copy)]
+#[derive(Clone, Copy, Debug)]
 pub struct Flushed;
 
 impl Notes<Flushed> for Writes {
     ghost use Rattle.std.specs.Prelude.{true};
 
-    ghost noted = { λ s _. record s { flushed = true } };
+    ghost after_note = { λ s _. record s { flushed = true } };
 }
 
 // A call failed, so nothing is held back.
 impl Notes<SinkFault> for Writes {
     ghost use Rattle.std.specs.Prelude.{true, ◌+◌};
 
-    ghost noted = { λ s _. let o = s.output in
+    ghost after_note = { λ s _. let o = s.output in
         record { output = record o { failures = o.failures + 1 }; flushed = true } };
 }

@@ -21,7 +21,7 @@ pub enum Part<'a> {
 }
 
 /// The text of these parts, one after another.
-#[derive(Clone, Copy)]
+#[derive(Clone, Copy, Debug)]
 pub struct Parts<'a>(pub &'a [Part<'a>]);
 
 impl<'a> Text for Parts<'a> {

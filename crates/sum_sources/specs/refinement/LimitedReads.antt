@@ -1,11 +1,12 @@
 -- Relates a read up to the limit to what was read before it and after it.
-use Rattle.std.specs.Prelude.{ℕ, zero, suc, ◌≡◌, ◌≢◌, ◌+◌, ◌^◌, ◌<◌, ◌≤◌, ◌++◌, length, Result, Ok, Err, IfOk}
-use Rattle.sum_sources.specs.{Contents.Content, Contents.Ending, Contents.Whole, Contents.Broken, Contents.Reads, Contents.InputState, Contents.IsOf, Contents.IsSameInput, Contents.clip, Contents.reads_past, Contents.Fault, Faults.ByteString, Contents.Unfinished, Contents.Ended, Contents.Past}
+use Rattle.std.specs.Prelude.{ℕ, zero, suc, ◌≡◌, ◌≢◌, ◌+◌, ◌<◌, ◌≤◌, ◌++◌, length, Result, Ok, Err, IfOk}
+use Rattle.sum_sources.specs.{Contents.Content, Contents.Ending, Contents.Whole, Contents.Broken, Contents.Reads, Contents.InputState, Contents.Fits, Contents.IsSameInput, Contents.clip, Contents.reads_past, Contents.Fault, Faults.ByteString, Contents.Unfinished, Contents.Ended, Contents.Past, declared.inputs.input.TheConstants.PIECE}
+use Rattle.digest_kinds.specs.Bytes.{LIMIT}
 
 -- an input that had given this many bytes was found to have this ending, as far as the limit allows
 pub record FindsEnding (taken : ℕ) (a b : Reads) (e : Ending) : Type 0 where
-  pub content : length a.bytes ≡ taken → (c : Content) → IsOf b c → clip c ≡ record { bytes = a.bytes; ending = e }
-  pub before : (c : Content) → IsOf b c → IsOf a c
+  pub content : length a.bytes ≡ taken → (c : Content) → Fits b c → clip c ≡ record { bytes = a.bytes; ending = e }
+  pub before : (c : Content) → Fits b c → Fits a c
   pub end : e ≡ Whole → b.phase ≡ Ended Whole
   pub past : b.phase ≢ Past
 
@@ -22,8 +23,8 @@ pub record AddsPast (taken : ℕ) (a b : Reads) (bytes : ByteString) (result : R
 
 -- the counts of bytes before and after a read up to the limit
 pub record CountsLimited (old new : ℕ) (result : Result ℕ Fault) : Type 0 where
-  pub ok : IfOk result (λ n. (n ≤ 8192) × (new ≡ old + n) × (new < 2 ^ 61))
-  pub most : new ≤ 2 ^ 61
+  pub ok : IfOk result (λ n. (n ≤ PIECE) × (new ≡ old + n) × (new < LIMIT))
+  pub most : new ≤ LIMIT
   pub more : old ≤ new
 
 -- more was read of the same input, and each byte that it gave is counted

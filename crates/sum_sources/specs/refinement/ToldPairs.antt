@@ -1,7 +1,7 @@
 -- Relates inputs in memory, and the answers and pairs of a source in memory, to their values.
 use Rattle.std.specs.Prelude.{List, map, Some, Ok, Err}
 use Rattle.sum_sources.specs.declared.{inputs.told.Told.Told, sources.told_source.Answer.Answer as ToldAnswer, sources.told_source.StoredPair.StoredPair}
-use Rattle.sum_sources.specs.{Sources.Answer, Sources.Pair, Sources.SourceState, StandardInput.ToldContent}
+use Rattle.sum_sources.specs.{Contents.Content, Sources.Answer, Sources.Pair, Sources.SourceState, StandardInput.ToldContent}
 use Rattle.sum_sources.specs.declared.sources.told_source.Answer.TheVariants as answers
 
 -- the value of an answer
@@ -19,11 +19,5 @@ told_source pairs log = record log { told = map pair_of pairs }
 
 -- an input in memory, by its fields
 abbrev pub told_value : Told → ToldContent
-told_value t = record {
-  content = record { bytes = t.bytes.now; ending = t.ending };
-  given = t.given;
-  piece = t.piece;
-  phase = t.phase;
-  opening = t.log.opening;
-  name = t.log.name;
-}
+told_value t = let c : Content = record { bytes = t.bytes.now; ending = t.ending } in let log = t.log in
+    record { content = c; given = t.given; piece = t.piece; phase = t.phase; opening = log.opening; name = log.name }

@@ -10,7 +10,7 @@ pub record GivesFrom (c : Content) (m n size : ℕ) (r : Result ℕ Fault) (buf 
       (λ f. (length c.bytes ≤ m) × (c.ending ≡ Broken f))
 
 -- the invariant of the fields of an input in memory
-pub record ToldInvariant (c : Content) (given size : ℕ) (phase : Phase) (reads : Reads) : Type 0 where
+pub record IsSoundTold (c : Content) (given size : ℕ) (phase : Phase) (reads : Reads) : Type 0 where
   pub piece : 1 ≤ size
   pub few : given ≤ length c.bytes
   pub ended : (e : Ending) → phase ≡ Ended e → length c.bytes ≤ given

@@ -1,6 +1,6 @@
 //! What standard input reads from.
 ghost use Rattle.sum_sources.specs.InputLaws.{closable_has_content};
-ghost use Rattle.sum_sources.specs.StandardInput.{unless_closed};
+ghost use Rattle.sum_sources.specs.StandardInput.{closable_state};
 
 use crate::{Ending, Fault, Input, Phase};
 
@@ -14,7 +14,7 @@ pub(crate) enum Closable<I> {
 }
 
 impl<I: Input> Input for Closable<I> {
-    ghost state = { λ s. unless_closed I.state s };
+    ghost state = { λ s. closable_state I.state s };
 
     fn read(&mut self, buf: &mut [u8]) -> Result<usize, Fault> {
         match self {

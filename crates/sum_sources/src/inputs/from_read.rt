@@ -1,7 +1,7 @@
 //! Inputs over the readers of `std`.
-ghost use Rattle.std.specs.Io.KnownBytes.{Keeps, ReadConsumes};
+ghost use Rattle.std.specs.Io.KnownBytes.{Consumes, Keeps, ReadConsumes};
 ghost use Rattle.std.specs.Prelude.{◌≡◌, ◌≤◌, length, IfOk, IfSome, MatchOption};
-ghost use Rattle.sum_sources.specs.Contents.{and_read, unread};
+ghost use Rattle.sum_sources.specs.Contents.{Ended, FromReadValue, Whole, and_read, empty_reads};
 ghost use Rattle.sum_sources.specs.Logs.{no_reads};
 
 use crate::Fault;
@@ -17,17 +17,13 @@ use std::snapshot::Snapshot;
 #[derive(Drop)]
 pub struct FromRead<R: Read> {
     reader: R,
-    // the reader as it was at first: only proofs see it
+    // The reader as it was at first: only proofs see it.
     first: Snapshot<R>,
     log: ReadLog,
 }
 
 impl<R: Read> Model for FromRead<R> {
-    ghost use Rattle.std.specs.Io.KnownBytes.{Consumes};
-    ghost use Rattle.std.specs.Prelude.{◌≡◌, IfSome};
-    ghost use Rattle.sum_sources.specs.Contents.{Ended, OverReader, Whole};
-
-    ghost Value = { OverReader R };
+    ghost Value = { FromReadValue R };
 
     ghost view = { λ s. record { reader = s.reader; log = s.log } };
 
@@ -56,7 +52,7 @@ impl<R: Read> FromRead<R> {
 
     // The input for a file that a source opened, with this log.
     pub(crate) fn with_log(reader: R, log: ReadLog) -> Self
-        requires { log.reads ≡ unread }
+        requires { log.reads ≡ empty_reads }
         ensures { result ≡ record { reader = reader; log = log } }
     {
         FromRead {

@@ -1,6 +1,8 @@
 //! Reading up to the limit of 2^61 bytes.
-ghost use Rattle.std.specs.Prelude.{◌<◌, ◌^◌, ◌≡◌, length, take};
+ghost use Rattle.digest_kinds.specs.Bytes.{LIMIT};
+ghost use Rattle.std.specs.Prelude.{◌<◌, ◌≡◌, length, take};
 ghost use Rattle.std.specs.Result.{result_unwrap_or};
+ghost use Rattle.sum_sources.specs.declared.inputs.input.TheConstants.{PIECE};
 ghost use Rattle.sum_sources.specs.refinement.LimitedReads.{CountsLimited, CountsBytes, AddsPast};
 
 use crate::{Fault, Input, PIECE};
@@ -13,9 +15,9 @@ pub(crate) fn read_limited<I: Input>(
     taken: &mut u64,
     buffer: &mut [u8; PIECE],
 ) -> Result<usize, Fault>
-    requires { taken.old < 2 ^ 61 }
+    requires { taken.old < LIMIT }
     ensures count { CountsLimited taken.old taken.new result }
-    ensures size { length buffer.new ≡ 8192 }
+    ensures size { length buffer.new ≡ PIECE }
     ensures input { CountsBytes taken.old taken.new (I.state input.old) (I.state input.new) }
     ensures reads { AddsPast taken.old (I.state input.old).reads (I.state input.new).reads
         (take (result_unwrap_or result 0) buffer.new) result }

@@ -1,6 +1,6 @@
 //! Standard input, which a run gets once.
-ghost use Rattle.std.specs.Prelude.{◌≡◌};
-ghost use Rattle.sum_sources.specs.StandardInput.{GivesUnread, given_by, put_back, taken};
+ghost use Rattle.std.specs.Prelude.{◌≡◌, None, true};
+ghost use Rattle.sum_sources.specs.StandardInput.{GivesUnread, StdinPlace, given_input, put_back, after_taking};
 
 use crate::fault::EBADF;
 use crate::inputs::closable::Closable;
@@ -11,19 +11,17 @@ use std::marker::Model;
 #[derive(Debug, Drop)]
 pub struct Stdin<I: Input> {
     taken: bool,
-    // unless it is taken and wasn't put back
+    // Unless it is taken and wasn't put back.
     input: Option<Closable<I>>,
 }
 
 impl<I: Input> Model for Stdin<I> {
-    ghost use Rattle.std.specs.Prelude.{◌≡◌, true, None};
-    ghost use Rattle.sum_sources.specs.StandardInput.{GivesUnread, StdinPlace};
-
     ghost Value = { StdinPlace I };
 
     ghost view = { λ s. (s.taken, s.input) };
 
-    ghost invariant = { λ s. GivesUnread I.state (s.taken, s.input) × (s.input ≡ None → s.taken ≡ true) };
+    ghost invariant = { λ s. GivesUnread I.state (s.taken, s.input)
+        × (s.input ≡ None → s.taken ≡ true) };
 }
 
 /// What [`Stdin::take`] gives: the input of standard input the first time, and an empty one afterwards. It can't be
@@ -44,12 +42,12 @@ impl<I> Model for Given<I> {
 impl<I: Input> Stdin<I> {
     ghost use Rattle.std.specs.Prelude.{false, Some};
     ghost use Rattle.sum_sources.specs.Faults.{bad_descriptor};
-    ghost use Rattle.sum_sources.specs.Contents.{unread};
+    ghost use Rattle.sum_sources.specs.Contents.{empty_reads};
     ghost use Rattle.sum_sources.specs.declared.inputs.closable.Closable.TheVariants.{Open, Closed};
 
     /// Creates a standard input that gives `input`, which hasn't been read, when it is taken.
     pub fn new(input: I) -> Self
-        requires { (I.state input).reads ≡ unread }
+        requires { (I.state input).reads ≡ empty_reads }
         ensures { result ≡ (false, Some (Open input)) }
     {
         Stdin {
@@ -73,8 +71,9 @@ impl<I: Input> Stdin<I> {
 impl<I: Input + Drop> Stdin<I> {
     /// Returns its input the first time, and an empty input afterwards.
     pub fn take(&mut self) -> Given<I>
-        ensures given { (result ≡ given_by self.old) × GivesUnread I.state self.old }
-        ensures taken { self.new ≡ taken self.old }
+        ensures given { result ≡ given_input self.old }
+        ensures unread { GivesUnread I.state self.old }
+        ensures taken { self.new ≡ after_taking self.old }
     {
         let input = if self.taken { None } else { self.input.take() };
         self.taken = true;
@@ -96,9 +95,9 @@ impl<I: Input + Drop> Stdin<I> {
 
 impl<I: Input> Input for Given<I> {
     ghost use Rattle.sum_sources.specs.InputLaws.{closable_has_content};
-    ghost use Rattle.sum_sources.specs.StandardInput.{unless_closed};
+    ghost use Rattle.sum_sources.specs.StandardInput.{closable_state};
 
-    ghost state = { λ s. unless_closed I.state s };
+    ghost state = { λ s. closable_state I.state s };
 
     fn read(&mut self, buf: &mut [u8]) -> Result<usize, Fault> {
         self.input.read(buf)

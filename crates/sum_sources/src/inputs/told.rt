@@ -1,7 +1,7 @@
 //! An input in memory.
 ghost use Rattle.std.specs.Prelude.{◌≡◌, ◌≤◌, [], length, max, IfOk};
 ghost use Rattle.sum_sources.specs.StandardInput.{told_file};
-ghost use Rattle.sum_sources.specs.refinement.ToldSteps.{GivesFrom, ToldInvariant};
+ghost use Rattle.sum_sources.specs.refinement.ToldSteps.{GivesFrom, IsSoundTold};
 
 use crate::inputs::read_log::{ReadLog, ReadNote, Reads};
 use crate::{Ending, Fault, Input, Phase};
@@ -11,18 +11,18 @@ use crate::{Ending, Fault, Input, Phase};
 pub struct Told<'a> {
     bytes: &'a [u8],
     ending: Ending,
-    // how many of the bytes its reads gave
+    // How many of the bytes its reads gave.
     given: usize,
     piece: usize,
     phase: Phase,
     log: ReadLog,
     // It has no Model: the borrow checker doesn't cover a source whose files have one and a lifetime.
-    ghost is: { ToldInvariant (record { bytes = bytes.now; ending = ending }) given piece
+    ghost is: { IsSoundTold (record { bytes = bytes.now; ending = ending }) given piece
         phase log.reads },
 }
 
 impl<'a> Told<'a> {
-    ghost use Rattle.sum_sources.specs.Contents.{unread};
+    ghost use Rattle.sum_sources.specs.Contents.{empty_reads};
     ghost use Rattle.sum_sources.specs.refinement.ToldPairs.{told_value};
 
     /// Creates an input of the bytes `content`, at most `piece` per read (0 counts as 1), and then `ending`.
@@ -41,7 +41,7 @@ impl<'a> Told<'a> {
 
     // Creates such an input, opened by a source.
     pub(crate) fn opened(content: &'a [u8], ending: Ending, piece: usize, log: ReadLog) -> Told<'a>
-        requires { log.reads ≡ unread }
+        requires { log.reads ≡ empty_reads }
         ensures { told_value result ≡ record {
           content = record { bytes = content.entry.now; ending = ending };
           given = 0;
@@ -79,12 +79,15 @@ fn give(
 ) -> Result<usize, Fault>
     requires some { 1 ≤ piece }
     requires few { given.old ≤ length bytes.now }
+
+    // The bounds that the caller needs.
     ensures few { given.new ≤ length bytes.now }
     ensures count { IfOk result (λ n. n ≤ length buf.new) }
     ensures size { length buf.new ≡ length buf.old }
+
+    // What the read gave.
     ensures gives { GivesFrom (record { bytes = bytes.now; ending = ending }) given.old given.new
-        (length buf.old)
-        result buf.new }
+        (length buf.old) result buf.new }
 {
     let rest = &bytes[*given..];
     if rest.is_empty() {

@@ -1,7 +1,7 @@
 //! Real files.
-ghost use Rattle.std.specs.Prelude.{◌≡◌, IfOk};
-ghost use Rattle.std.specs.Str.{IsUtf8};
+ghost use Rattle.std.specs.Prelude.{◌≡◌};
 ghost use Rattle.sum_sources.specs.Logs.{no_openings};
+ghost use Rattle.sum_sources.specs.Sources.{SourceState};
 
 use crate::fault::{EILSEQ, fault_of};
 use crate::sources::source_log::{Note, Openings, SourceLog, next_file};
@@ -18,8 +18,6 @@ pub struct Files<R> {
 }
 
 impl<R> Model for Files<R> {
-    ghost use Rattle.sum_sources.specs.Sources.{SourceState};
-
     ghost Value = { SourceState };
 
     ghost view = { λ s. s.log };
@@ -49,13 +47,13 @@ where
 {
     type File = FromRead<R::File>;
 
-    ghost use Rattle.sum_sources.specs.Logs.{untold};
+    ghost use Rattle.sum_sources.specs.Logs.{untold_state};
     ghost use Rattle.sum_sources.specs.SourceLaws.{untold_gives};
-    ghost use Rattle.sum_sources.specs.Sources.{tells_none};
+    ghost use Rattle.sum_sources.specs.Sources.{no_answer};
 
-    ghost state = { λ s. untold s };
+    ghost state = { λ s. untold_state s };
 
-    ghost tells = { tells_none };
+    ghost tells = { no_answer };
 
     /// Opens the file. A name that isn't UTF-8 gives `Fault::Os(EILSEQ)`, *Invalid or incomplete multibyte or wide
     /// character*, since the runtime's paths are strings. Any other fault is the system's. Returns `OpenFault::Memory`

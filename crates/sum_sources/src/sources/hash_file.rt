@@ -15,6 +15,26 @@ pub enum HashFault {
     Read(Fault),
 }
 
+impl From<OpenFault> for HashFault {
+    ghost use Rattle.sum_sources.specs.declared.sources.hash_file.HashFault.TheVariants.{Open};
+
+    ghost from_gives = { λ cause fault. fault ≡ Open cause };
+
+    fn from(cause: OpenFault) -> HashFault {
+        HashFault::Open(cause)
+    }
+}
+
+impl From<Fault> for HashFault {
+    ghost use Rattle.sum_sources.specs.declared.sources.hash_file.HashFault.TheVariants.{Read};
+
+    ghost from_gives = { λ cause fault. fault ≡ Read cause };
+
+    fn from(cause: Fault) -> HashFault {
+        HashFault::Read(cause)
+    }
+}
+
 /// Opens the file of this name, reads it once, to its end or its first fault, and closes it. Returns the digest that
 /// `hasher`, a new one, computes of its bytes. Returns `HashFault::Open` if the file can't be opened, and
 /// `HashFault::Read` if a read fails or the file has `LIMIT` bytes or more.
@@ -24,7 +44,8 @@ pub fn hash_file<S: Source, H: Hasher + Drop>(
     hasher: H,
 ) -> Result<Digest, HashFault>
     requires { H.holds hasher [] }
-    ensures { HashesFile (H.kind_of hasher) name.now (S.state source.old) (S.state source.new) result }
+    ensures { HashesFile (H.kind_of hasher) name.now (S.state source.old) (S.state source.new)
+        result }
 {
     let mut buffer: [u8; PIECE] = [0; PIECE];
     hash_file_over(source, name, hasher, &mut buffer)
@@ -39,17 +60,12 @@ pub fn hash_file_over<S: Source, H: Hasher + Drop>(
     buffer: &mut [u8; PIECE],
 ) -> Result<Digest, HashFault>
     requires { H.holds hasher [] }
-    ensures hashed { HashesFile (H.kind_of hasher) name.now (S.state source.old) (S.state source.new) result }
+    ensures hashed { HashesFile (H.kind_of hasher) name.now (S.state source.old)
+        (S.state source.new) result }
     ensures len { IfOk result (λ d. length d ≡ (H.kind_of hasher).len) }
 {
-    let mut file = match source.open_file(name) {
-        Ok(file) => file,
-        Err(fault) => return Err(HashFault::Open(fault)),
-    };
+    let mut file = source.open_file(name)?;
     let found = hash_input_over(&mut file, hasher, buffer);
     source.close_file(file);
-    match found {
-        Ok(digest) => Ok(digest),
-        Err(fault) => Err(HashFault::Read(fault)),
-    }
+    Ok(found?)
 }

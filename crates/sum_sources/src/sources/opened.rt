@@ -1,6 +1,6 @@
 //! What opening a name gives.
 ghost use Rattle.std.specs.Prelude.{◌≡◌};
-ghost use Rattle.sum_sources.specs.WithStdin.{is_dash, is_stdin, opened_state};
+ghost use Rattle.sum_sources.specs.WithStdin.{is_dash, is_stdin, place_state};
 
 use crate::inputs::read_log::ReadLog;
 use crate::{Fault, Given, Input};
@@ -17,14 +17,15 @@ pub(crate) enum Place<I, F> {
 #[derive(Debug)]
 pub struct Opened<I: Input, F: Input> {
     pub(crate) place: Place<I, F>,
-    ghost named: { is_dash (opened_state I.state F.state place).name ≡ is_stdin place },
+    // It has no Model: the borrow checker doesn't cover a source whose files have one and a lifetime.
+    ghost named: { is_dash (place_state I.state F.state place).name ≡ is_stdin place },
 }
 
 impl<I: Input, F: Input> Opened<I, F> {
     ghost use Rattle.std.specs.Prelude.{true, false};
 
     // Standard input, by the opening that the log has.
-    pub(crate) fn of_stdin(given: Given<I>, log: ReadLog) -> Self
+    pub(crate) fn from_stdin(given: Given<I>, log: ReadLog) -> Self
         requires { is_dash log.name ≡ true }
         ensures { result.place ≡ Place.Stdin given log }
     {
@@ -34,9 +35,9 @@ impl<I: Input, F: Input> Opened<I, F> {
     }
 
     // A file.
-    pub(crate) fn of_file(file: F) -> Self
+    pub(crate) fn from_file(file: F) -> Self
         requires { is_dash (F.state file).name ≡ false }
-        ensures { opened_state I.state F.state result.place ≡ F.state file }
+        ensures { place_state I.state F.state result.place ≡ F.state file }
     {
         Opened {
             place: Place::File(file),
@@ -46,8 +47,9 @@ impl<I: Input, F: Input> Opened<I, F> {
 
 impl<I: Input, F: Input> Input for Opened<I, F> {
     ghost use Rattle.sum_sources.specs.WithStdin.{opened_has_content};
+    ghost use Rattle.sum_sources.specs.refinement.SourceStates.{opened_state};
 
-    ghost state = { λ o. opened_state I.state F.state o.place };
+    ghost state = { opened_state };
 
     fn read(&mut self, buf: &mut [u8]) -> Result<usize, Fault> {
         match &mut self.place {
@@ -56,5 +58,6 @@ impl<I: Input, F: Input> Input for Opened<I, F> {
         }
     }
 
-    ghost has_content = { λ o. opened_has_content I.state F.state I.has_content F.has_content o.place };
+    ghost has_content = { λ o. opened_has_content I.state F.state I.has_content F.has_content
+        o.place };
 }

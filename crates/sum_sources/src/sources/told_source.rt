@@ -1,9 +1,8 @@
 //! A source of files in memory.
 ghost use Rattle.std.specs.Option.{option_map};
 ghost use Rattle.std.specs.Prelude.{◌≡◌, ◌≤◌, ◌++◌, ◌∷◌, [], OnOk, OnErr, MatchBool, length, map, slice_get};
-ghost use Rattle.sum_sources.specs.Logs.{no_openings};
 ghost use Rattle.sum_sources.specs.SourceLaws.{GivesTold-prop};
-ghost use Rattle.sum_sources.specs.Sources.{GivesTold, first_answer, names_of, tells_first, times};
+ghost use Rattle.sum_sources.specs.Sources.{GivesTold, first_answer, names_of, answer_of_first, times};
 ghost use Rattle.sum_sources.specs.refinement.ToldPairs.{pair_of, answer_value, told_source};
 
 use crate::sources::source_log::{Note, Openings, SourceLog, next_file};
@@ -23,7 +22,7 @@ pub enum Answer<'a> {
 struct StoredPair<'a, A: Allocator> {
     name: Vec<u8, A>,
     answer: Answer<'a>,
-    // how often its name was opened before it was added
+    // How often its name was opened before it was added.
     from: usize,
 }
 
@@ -35,8 +34,9 @@ pub struct ToldSource<'a, A: Allocator + Copy> {
     alloc: A,
     piece: usize,
     log: SourceLog,
+    // It has no Model: `gives_told` is the fact `gives`, and no law is given a Model's invariant.
     ghost names: { map (λ v. v.items) asked.items ≡ names_of log.openings },
-    ghost gives: { GivesTold tells_first (told_source pairs.items log) } by { GivesTold-prop tells_first (told_source pairs.items log) },
+    ghost gives: { GivesTold answer_of_first (told_source pairs.items log) } by { GivesTold-prop answer_of_first (told_source pairs.items log) },
 }
 
 // How often a name is among these.
@@ -44,21 +44,22 @@ fn times<A: Allocator>(names: &[Vec<u8, A>], name: &[u8]) -> usize
     ensures value { result ≡ times name.now (map (λ v. v.items) names.now) }
     ensures at_most { result ≤ length names.now }
 {
-    let mut count = 0;
-    for other in names {
-        if other.as_slice() == name {
-            count += 1;
-        }
-    }
-    count
+    names
+        .iter()
+        .filter(|other| other.as_slice() == name)
+        .count()
 }
 
 // The answer of the first pair with the name that was added by the time the name had been opened this many times.
-fn answer_to<'a, A: Allocator>(pairs: &[StoredPair<'a, A>], name: &[u8], times: usize) -> Answer<'a>
-    ensures { answer_value result ≡ first_answer (map pair_of pairs.now) name.now times }
+fn answer_to<'a, A: Allocator>(
+    pairs: &[StoredPair<'a, A>],
+    name: &[u8],
+    before: usize,
+) -> Answer<'a>
+    ensures { answer_value result ≡ first_answer (map pair_of pairs.now) name.now before }
 {
     for pair in pairs {
-        if pair.name.as_slice() == name && pair.from <= times {
+        if pair.name.as_slice() == name && pair.from <= before {
             return pair.answer;
         }
     }
@@ -66,9 +67,12 @@ fn answer_to<'a, A: Allocator>(pairs: &[StoredPair<'a, A>], name: &[u8], times: 
 }
 
 impl<'a, A: Allocator + Copy> ToldSource<'a, A> {
+    ghost use Rattle.sum_sources.specs.Logs.{no_openings};
+    ghost use Rattle.sum_sources.specs.refinement.SourceStates.{told_source_state};
+
     /// Creates a source without names, whose files give at most `piece` bytes per read (0 counts as 1).
     pub fn new(alloc: A, piece: usize) -> ToldSource<'a, A>
-        ensures { told_source result.pairs.items result.log ≡ no_openings }
+        ensures { told_source_state result ≡ no_openings }
     {
         ToldSource {
             pairs: Vec::new(alloc),
@@ -82,36 +86,28 @@ impl<'a, A: Allocator + Copy> ToldSource<'a, A> {
     /// Adds a pair of a name and its answer. An earlier pair with that name still answers for it. Returns `NoRoom` if
     /// memory is refused; the pairs are then unchanged.
     pub fn add(&mut self, name: &[u8], answer: Answer<'a>) -> Result<(), NoRoom>
-        ensures ok { OnOk result (told_source self.new.pairs.items self.new.log ≡
-            record (told_source self.old.pairs.items self.old.log) {
-              told = map pair_of self.old.pairs.items ++ record {
+        ensures ok { OnOk result (let s = told_source_state self.old in
+            told_source_state self.new ≡ record s {
+              told = s.told ++ record {
                 name = name.now;
-                from = times name.now (names_of self.old.log.openings);
+                from = times name.now (names_of s.openings);
                 answer = Some (answer_value answer.entry);
               } ∷ [];
             }) }
-        ensures err { OnErr result (told_source self.new.pairs.items self.new.log
-            ≡ told_source self.old.pairs.items self.old.log) }
+        ensures err { OnErr result (told_source_state self.new ≡ told_source_state self.old) }
     {
         let from = times(&self.asked, name);
-        let Ok(name) = Vec::from_slice(self.alloc, name) else {
-            return Err(NoRoom);
-        };
-        match self.pairs.push(StoredPair { name, answer, from }) {
-            Ok(()) => Ok(()),
-            Err(_) => Err(NoRoom),
-        }
+        let name = Vec::from_slice(self.alloc, name)?;
+        self.pairs.push(StoredPair { name, answer, from })?;
+        Ok(())
     }
 
     /// Returns the name at place `i`, counted from 0, of the names opened so far.
     pub fn asked_name(&self, i: usize) -> Option<&[u8]>
         ensures { option_map (λ n. n.now) result
-            ≡ slice_get (names_of self.now.log.openings) i }
+            ≡ slice_get (names_of (told_source_state self.now).openings) i }
     {
-        match self.asked.get(i) {
-            Some(name) => Some(name.as_slice()),
-            None => None,
-        }
+        Some(self.asked.get(i)?.as_slice())
     }
 }
 
@@ -130,9 +126,11 @@ fn add_name<A: Allocator + Copy>(alloc: A, asked: &mut Vec<Vec<u8, A>, A>, name:
 impl<'a, A: Allocator + Copy> Source for ToldSource<'a, A> {
     type File = Told<'a>;
 
-    ghost state = { λ s. told_source s.pairs.items s.log };
+    ghost use Rattle.sum_sources.specs.refinement.SourceStates.{told_source_state};
 
-    ghost tells = { tells_first };
+    ghost state = { told_source_state };
+
+    ghost tells = { answer_of_first };
 
     fn open_file(&mut self, name: &[u8]) -> Result<Told<'a>, OpenFault> {
         let before = times(&self.asked, name);

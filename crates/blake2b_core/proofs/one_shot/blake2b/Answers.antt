@@ -1,6 +1,6 @@
 use Rattle.std.proofs.Common.{◌≡◌, ◌+◌, ◌*◌, length, ap, ◌∙◌, arith, refl}
 use Rattle.std.proofs.lemmas.List.{take_rest}
-use Rattle.blake2b_core.specs.Digest.{before_last, hash_after}
+use Rattle.blake2b_core.specs.Digest.{count_before_last, hash_after}
 use Rattle.blake2b_core.proofs.BlockLemmas.{are_blocks, blake2b-from}
 use Rattle.blake2b_core.proofs.one_shot.blake2b.Goals as goal
 
@@ -10,9 +10,9 @@ returns-clause-digest c =
     let m = c.args.message.now in
     let n = c.args.len in
     let front = c.followed_blocks-front.result.now in
-    let are = are_blocks m 0 (before_last m) c.followed_blocks-front.ensures.value in
+    let are = are_blocks m 0 (count_before_last m) c.followed_blocks-front.ensures.value in
     let from : 0 + length front ≡ length front = omega arith in
     let hash = c.state_after-h.ensures n m 0 refl are (c.initial.ensures m) ∙ ap (hash_after n m) from in
-    rw (c.of_state.ensures.value, c.compress-h.ensures)
+    rw (c.from_state.ensures.value, c.compress-h.ensures)
     (blake2b-from n m c.followed_blocks-front.ensures.count hash c.padded_block-last.ensures
     (take_rest m (128 * length front)) refl)

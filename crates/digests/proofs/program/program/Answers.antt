@@ -1,7 +1,7 @@
 use Rattle.std.proofs.Common.{rules, arith, ◌≡◌, ◌⊎◌, ℕ, suc, List, [], ◌∷◌, Option, None, Some, Ok, IfSome, codes, inl, inr, true}
 use Rattle.sum_engine.specs.{Behavior.ByteString, Behavior.World, Execution.StreamsState}
 use Rattle.sum_lines.specs.Sinks.{SinkState}
-use Rattle.sum_sources.specs.{Contents.Content, Contents.empty_content, Faults.bad_descriptor, WithStdin.tells_both, WithStdin.with_stdin, Sources.Pair, Sources.ToldAnswers, declared.fault.Ending.TheVariants.Broken}
+use Rattle.sum_sources.specs.{Contents.Content, Contents.empty_content, Faults.bad_descriptor, WithStdin.answer_of_both, WithStdin.pairs_with_stdin, Sources.Pair, Sources.ToldAnswers, declared.fault.Ending.TheVariants.Broken}
 use Rattle.digests.specs.Program.{fresh_output, fresh_streams}
 use Rattle.digests.proofs.program.program.Goals as goal
 
@@ -25,7 +25,7 @@ returns-clause-behavior g c =
 
 -- standard input and files tell that a later `-` is empty
 later_empty : {first : Pair} {told more : List Pair} (tells : ToldAnswers) (w : World) → told ≡ first ∷ more
-    → ((name : ByteString) (k : ℕ) → IfSome (tells_both tells told name k) (λ told. w.answer name k ≡ told))
+    → ((name : ByteString) (k : ℕ) → IfSome (answer_of_both tells told name k) (λ told. w.answer name k ≡ told))
     → (k : ℕ) → w.answer (codes "-") (suc k) ≡ Ok empty_content
 later_empty tells w is are k = rw is at (are (codes "-") (suc k))
 
@@ -34,7 +34,7 @@ returns-clause-once g c =
     let (w, agrees, are) = c.told_agree.ensures in
     let told = c.command-status.new.streams.inputs.told in
     let closed : Content = record { bytes = []; ending = Broken bad_descriptor } in
-    let alone : (told ≡ with_stdin None []) ⊎ (told ≡ with_stdin (Some closed) []) = search rules in
+    let alone : (told ≡ pairs_with_stdin None []) ⊎ (told ≡ pairs_with_stdin (Some closed) []) = search rules in
     (w, agrees, elim alone [ inl is ↦ later_empty _ w is are | inr is ↦ later_empty _ w is are ])
 
 -- since the streams were fresh, all that was opened was opened by this call

@@ -1,8 +1,8 @@
 use Rattle.std.proofs.Common.{arith, ◌≡◌, ◌∙◌, ap, refl, ◌∷◌, ◌++◌, [], Ok, Some, codes}
 use Rattle.sum_engine.specs.Execution.{OutputsState, StreamsState}
 use Rattle.sum_lines.specs.Sinks.{SinkState}
-use Rattle.sum_sources.specs.{Contents.empty_content, StandardInput.ToldContent, WithStdin.answers_with, WithStdin.with_stdin}
-use Rattle.sum_sources.specs.Sources.{Pair, SourceState, first_answer, names_of, tells_first, times}
+use Rattle.sum_sources.specs.{Contents.empty_content, StandardInput.ToldContent, WithStdin.answers_with, WithStdin.pairs_with_stdin}
+use Rattle.sum_sources.specs.Sources.{Pair, SourceState, first_answer, names_of, answer_of_first, times}
 use Rattle.digests_tests.proofs.laws.e_in_memory.Goals as goal
 
 -- the file `e`, as the source has it
@@ -16,9 +16,10 @@ returns c = λ zero.
       told = s.told ++ record e { from = times (codes "e") (names_of s.openings) } ∷ [];
     } in
     let added = c.in_ok-add.ensures.ok ∙ ap with_e c.new-source.ensures in
-    let told : c.new-streams.result.inputs.told ≡ with_stdin (Some empty_content) (e ∷ []) =
+    let told : c.new-streams.result.inputs.told ≡ pairs_with_stdin (Some empty_content) (e ∷ []) =
     grind (arith, c.new-inputs.ensures.state, c.new-stdin.ensures, added, c.new.ensures) in
-    let all = c.with_stdin_tells.ensures empty_content tells_first (e ∷ []) (first_answer (e ∷ [])) (λ name k. refl) in
+    let all =
+    c.with_stdin_tells.ensures empty_content answer_of_first (e ∷ []) (first_answer (e ∷ [])) (λ name k. refl) in
     let wrote = c.command_on_e-status.ensures (answers_with empty_content (first_answer (e ∷ [])))
     (rw told all) refl zero in
     let none : c.new-streams.result.outputs.out.written ≡ [] =

@@ -1,7 +1,7 @@
 use Rattle.std.proofs.Common.{rules}
-use Rattle.sum_lines.proofs.{PlainLemmas.apart, ParsedLineLemmas.one_entry}
+use Rattle.sum_lines.proofs.{PlainLemmas.one_shape, ParsedLineLemmas.one_entry}
 use Rattle.sum_lines.proofs.laws.one_entry.Goals as goal
 
 -- a line spells one entry at most, and has one shape at most
 pub returns : goal.returns
-returns c = record { entry = one_entry; apart = search (rules, apart) }
+returns c = record { entry = one_entry; shape = search (rules, one_shape) }

@@ -1,6 +1,6 @@
 use Rattle.std.proofs.Common.{rules, arith, refl, ap, ◌≡◌, ◌≤◌, ◌++◌, List, ℕ, length, length-append, drop, ◌∙◌}
 use Rattle.std.{proofs.Math.Seq.drop-append_seam}
-use Rattle.sum_sources.specs.{Contents.Content, Contents.Ending, Contents.Reads, Contents.IsOf, Contents.clip, Contents.reads_past, Contents.Unfinished, refinement.LimitedReads.FindsEnding}
+use Rattle.sum_sources.specs.{Contents.Content, Contents.Ending, Contents.Reads, Contents.Fits, Contents.clip, Contents.reads_past, Contents.Unfinished, refinement.LimitedReads.FindsEnding}
 use Rattle.sum_sources.proofs.LimitLemmas.{before_more}
 use Rattle.sum_sources.proofs.inputs.hash_input.hash_input_over.Goals as goal
 
@@ -8,7 +8,7 @@ use Rattle.sum_sources.proofs.inputs.hash_input.hash_input_over.Goals as goal
 ended : {t : ℕ} {a b : Reads} {e : Ending} (front m : List ℕ) → a ≡ record { bytes = front ++ m; phase = Unfinished }
     → length m ≡ t
     → ((k : ℕ) → k ≤ length a.bytes → a.phase ≡ Unfinished → FindsEnding t (reads_past k a) (reads_past k b) e)
-    → (c : Content) → IsOf (reads_past (length front) b) c → clip c ≡ record { bytes = m; ending = e }
+    → (c : Content) → Fits (reads_past (length front) b) c → clip c ≡ record { bytes = m; ending = e }
 ended {a = a} front m was size ends c of =
     let low : length front ≤ length a.bytes = rw was (rw length-append (omega arith)) in
     let rest : drop (length front) a.bytes ≡ m = rw was (drop-append_seam front m) in
@@ -17,7 +17,7 @@ ended {a = a} front m was size ends c of =
 -- a content that all reads fit also fits those before the call
 before : {t : ℕ} (old a b : Reads) {e : Ending} (m : List ℕ) → old.phase ≡ Unfinished
     → a ≡ record { bytes = old.bytes ++ m; phase = Unfinished } → FindsEnding t (reads_past 0 a) (reads_past 0 b) e
-    → (c : Content) → IsOf b c → IsOf old c
+    → (c : Content) → Fits b c → Fits old c
 before old a b m going was ends c of = before_more old a m going (rw (was, going) refl) c (ends.before c of)
 
 -- a read failed, or the limit was reached

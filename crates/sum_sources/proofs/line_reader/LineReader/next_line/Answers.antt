@@ -1,6 +1,6 @@
 use Rattle.std.proofs.lemmas.Grind.{common_steps}
 use Rattle.std.proofs.Common.{ap, arith, ◌≡◌, length, Some, Err}
-use Rattle.sum_sources.specs.{LineReaders.IsBounded, declared.line_reader.LineReader.TheInside.Inside, declared.line_reader.LineStop.TheVariants.Memory, declared.line_reader.ReaderState.ReaderState, declared.line_reader.ReaderState.TheVariants.Active, declared.line_reader.ReaderState.TheVariants.Done, declared.line_reader.ReaderState.TheVariants.Stopped, refinement.LineStates.line_reader_view, refinement.LineStates.final_answer_in, refinement.LineStates.LineReaderInvariant}
+use Rattle.sum_sources.specs.{LineReaders.IsBounded, declared.line_reader.LineReader.TheInside.Inside, declared.line_reader.LineStop.TheVariants.Memory, declared.line_reader.ReaderState.ReaderState, declared.line_reader.ReaderState.TheVariants.Active, declared.line_reader.ReaderState.TheVariants.Done, declared.line_reader.ReaderState.TheVariants.Stopped, refinement.LineStates.line_reader_view, refinement.LineStates.final_answer_in, refinement.LineStates.IsSoundReader}
 use Rattle.sum_sources.proofs.ReadOnLemmas.{counted, settled_again}
 use Rattle.sum_sources.proofs.line_reader.LineReader.next_line.Goals as goal
 
@@ -25,7 +25,7 @@ is_stopped Done is = cc
 is_stopped (Stopped e) is = cc
 
 -- what the fields keep
-bounded : {I : Type 0} (s : Inside I) → length s.buf ≡ 8192 → LineReaderInvariant s → IsBounded (line_reader_view s)
+bounded : {I : Type 0} (s : Inside I) → length s.buf ≡ 8192 → IsSoundReader s → IsBounded (line_reader_view s)
 bounded s size i = record {
   lines = grind (arith, common_steps, i.each);
   ahead = grind (arith, common_steps, i.each);

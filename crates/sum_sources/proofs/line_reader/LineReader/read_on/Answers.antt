@@ -1,7 +1,7 @@
 use Rattle.std.proofs.Common.{rules, arith, refl, ap, sym, append-nil, ◌≡◌, ◌∙◌, [], Ok, Err, length}
 use Rattle.std.{proofs.lemmas.Grind.common_steps, proofs.lemmas.List.nil_from_length}
 use Rattle.sum_sources.specs.{ManifestLines.HasNoNewline, ManifestLines.Line, ManifestLines.NoMore, Contents.Whole, Contents.Broken, LineReaders.IsReading, LineReaders.LineReaderValue}
-use Rattle.sum_sources.proofs.ReadOnLemmas.{adds_of, HasRead, HasRead-more, HasRead-filled, ends_line, ends_memory, no_line, ends}
+use Rattle.sum_sources.proofs.ReadOnLemmas.{adds_of, HasRead, HasRead-more, HasRead-filled, ends_line, ends_memory, no_line, ReadsOn-ending}
 use Rattle.sum_sources.proofs.{LineLemmas.IsNextLine-last, LineLemmas.IsNextLine-fault, line_reader.LineReader.read_on.Goals.In-Ok-false}
 use Rattle.sum_sources.specs.declared.line_reader.LineStop.TheVariants as stops
 use Rattle.sum_sources.proofs.line_reader.LineReader.read_on.Given as given
@@ -13,15 +13,15 @@ returns-in-Ok-true-clause-line g c =
     let piece = rw c.in-Ok-true.field-0-test at c.in-Ok-true.ensures.piece in
     let i = c.loop-self.invariant in
     let same = c.in-Ok-true.ensures.same in
-    λ reading. ends_line (i.read reading) i.plain same c.take_piece.ensures.few.0
+    λ reading. ends_line (i.read reading) i.plain same c.take_piece.ensures.taken
     (ap (λ (r : LineReaderValue _). r.final_answer) same ∙ i.going) piece
 
 -- memory was refused
 pub returns-in-Err-clause-line : goal.returns-in-Err-clause-line
 returns-in-Err-clause-line g c =
-    let refused = c.in-Err.ensures.memory refl in
+    let refused = c.in-Err.ensures in
     let i = c.loop-self.invariant in
-    λ reading. ends_memory (i.read reading) i.plain (rw refused.0 at c.take_piece.ensures.few.0) refused.1
+    λ reading. ends_memory (i.read reading) i.plain (rw refused.err at c.take_piece.ensures.taken) refused.ahead
     (search rules) _
 
 -- the whole buffer moved to the line
@@ -33,7 +33,7 @@ moved g c =
     let piece = rw c.in-Ok-false.field-0-test at c.in-Ok-false.ensures.piece in
     let same = c.in-Ok-false.ensures.same in (
       λ reading. rw piece.2 (HasRead-more (c.loop-self.invariant.read reading) _ c.take_piece.new.self.ahead
-          c.take_piece.ensures.few.0 same
+          c.take_piece.ensures.taken same
           (rw piece.1 (sym (append-nil c.loop-self.self.ahead)))),
       grind (arith, common_steps, c.loop-self.invariant.plain, piece.0),
       piece.1,
@@ -66,7 +66,7 @@ returns-then-is_empty-clause-line g c =
     let counts = rw c.in-Ok-eq0.field-0-test at c.in-Ok-eq0.ensures.reader in
     λ reading.
     let h = read reading in
-    ends c.fill.new.self Whole (Ok NoMore) h none
+    ReadsOn-ending c.fill.new.self Whole (Ok NoMore) h none
     (adds_of _ c.fill.new.self h.under_way c.in-Ok-eq0.ensures.counts fills) counts.0 (omega (arith, counts.1))
     (rw (← c.self-in-loop-self.view_is) refl)
     (rw (nil_from_length c.take_piece.new.line.items (search rules)) (no_line Whole []))
@@ -80,7 +80,7 @@ returns-in-Ok-eq0-clause-line g c =
     let counts = rw c.in-Ok-eq0.field-0-test at c.in-Ok-eq0.ensures.reader in
     λ reading.
     let h = read reading in
-    ends c.fill.new.self Whole (Ok Line) h none
+    ReadsOn-ending c.fill.new.self Whole (Ok Line) h none
     (adds_of _ c.fill.new.self h.under_way c.in-Ok-eq0.ensures.counts fills) counts.0 (omega (arith, counts.1))
     (rw (← c.self-in-loop-self.view_is) refl) (IsNextLine-last _ plain (search rules))
     (λ next is. omega (arith, counts.1))
@@ -92,7 +92,7 @@ returns-in-Err-fill-clause-line g c =
     let e = c.in-Err-fill.ensures in
     λ reading.
     let h = read reading in
-    ends c.fill.new.self (Broken _) (Err (stops.Fault _)) h none
+    ReadsOn-ending c.fill.new.self (Broken _) (Err (stops.Fault _)) h none
     (adds_of _ c.fill.new.self h.under_way e.counts e.reads) (ap length e.reader.0)
     e.reader.1
     (ap (λ a. record c.fill.new.self { final_answer = a }) e.reader.2)

@@ -1,19 +1,31 @@
+use Rattle.std.proofs.Common.{◌≡◌, List, ℕ, Result, Ok, Err}
+use Rattle.std.specs.Result.{IsErrAnd}
+use Rattle.digest_kinds.specs.Kinds.{KindValue}
+use Rattle.sum_sources.specs.Contents.{Fault}
+use Rattle.sum_sources.specs.Sources.{SourceState, HashFault, HashesFile, HashesOpened}
+use Rattle.sum_sources.specs.declared.sources.hash_file.HashFault.TheVariants as hashing
 use Rattle.sum_sources.proofs.GaveLemmas.{is_open_last, hashed_last}
 use Rattle.sum_sources.proofs.sources.hash_file.hash_file_over.Goals as goal
 
 -- the file is open when it is closed
 pub close_file-requires : goal.close_file-requires
 close_file-requires g c =
-    is_open_last _ _ _ _ _ _ c.in-Ok.ensures.file c.in-Ok.ensures.state c.hash_input_over-found.ensures.hashed.same
+    is_open_last _ _ _ _ _ _ c.in_ok-file.ensures.file c.in_ok-file.ensures.state
+    c.hash_input_over-found.ensures.hashed.same
 
 -- the file was hashed
-pub returns-in-Ok-found-clause-hashed : goal.returns-in-Ok-found-clause-hashed
-returns-in-Ok-found-clause-hashed g c =
-    hashed_last g.S.Source.tells c.in-Ok.ensures.file c.in-Ok.ensures.state c.in-Ok-found.ensures.hashed
+pub returns-clause-hashed : goal.returns-clause-hashed
+returns-clause-hashed g c =
+    hashed_last g.S.Source.tells c.in_ok-file.ensures.file c.in_ok-file.ensures.state c.in_ok-found.ensures.hashed
     c.close_file.ensures
 
--- reading the file failed
-pub returns-in-Err-found-clause-hashed : goal.returns-in-Err-found-clause-hashed
-returns-in-Err-found-clause-hashed g c =
-    hashed_last g.S.Source.tells c.in-Ok.ensures.file c.in-Ok.ensures.state c.in-Err-found.ensures.hashed
-    c.close_file.ensures
+-- reading the file failed, so that is the fault
+failed : {kind : KindValue} {name : List ℕ} {a b : SourceState} {f : Fault} (r : Result (List ℕ) HashFault)
+    → IsErrAnd r (λ e. e ≡ hashing.Read f) → HashesOpened kind name a b (Err f) → HashesFile kind name a b r
+failed (Ok d) never hashes = absurd never
+failed (Err e) is hashes = rw is hashes
+
+pub returns-in_err-found-clause-hashed : goal.returns-in_err-found-clause-hashed
+returns-in_err-found-clause-hashed g c = failed _ c.from_residual-in_err-found.ensures.1
+    (hashed_last g.S.Source.tells c.in_ok-file.ensures.file c.in_ok-file.ensures.state c.in_err-found.ensures.hashed
+    c.close_file.ensures)

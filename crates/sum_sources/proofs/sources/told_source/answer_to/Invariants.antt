@@ -4,5 +4,5 @@ use Rattle.sum_sources.proofs.sources.told_source.answer_to.Given as goal
 
 -- none of the pairs so far has the name
 abbrev pub invariant-loop-pair : goal.invariant-loop-pair
-invariant-loop-pair g l = first_answer (map pair_of (drop l.pair-index l.pairs)) l.name l.times
-    ≡ first_answer (map pair_of l.pairs) l.name l.times
+invariant-loop-pair g l = first_answer (map pair_of (drop l.pair-index l.pairs)) l.name l.before
+    ≡ first_answer (map pair_of l.pairs) l.name l.before

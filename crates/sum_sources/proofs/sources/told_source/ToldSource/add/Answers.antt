@@ -1,7 +1,7 @@
 use Rattle.std.proofs.Common.{rules, ◌≡◌, ◌∷◌, ◌++◌, [], Some, map}
 use Rattle.std.{specs.Result.is_ok, proofs.lemmas.List.map-append}
 use Rattle.sum_sources.specs.{Sources.Pair, refinement.ToldPairs.told_source, refinement.ToldPairs.pair_of, refinement.ToldPairs.answer_value}
-use Rattle.sum_sources.proofs.{GaveLemmas.either, ToldSourceLemmas.adding_gives}
+use Rattle.sum_sources.proofs.{GaveLemmas.true_or_false, ToldSourceLemmas.adding_gives}
 use Rattle.sum_sources.proofs.sources.told_source.ToldSource.add.Goals as goal
 
 -- the pair answers from the next opening of its name on
@@ -9,13 +9,13 @@ pub invariant_of-self-clause-gives : goal.invariant_of-self-clause-gives
 invariant_of-self-clause-gives g c =
     let s = c.args.self.now in
     let p : Pair = record {
-      name = c.in-Ok.name.items;
+      name = c.in_ok-name.name.items;
       from = c.times-from.result;
       answer = Some (answer_value c.args.answer);
     } in
-    either (is_ok c.push.result)
+    true_or_false (is_ok c.push.result)
     (λ ok. let is : map pair_of c.push.new.self.items ≡ map pair_of s.pairs.items ++ p ∷ [] =
     rw (c.push.ensures.items, ok, map-append) (search rules) in
     rw is (adding_gives (told_source s.pairs.items s.log) p
-    (rw (← s.names, c.in-Ok.ensures.items) (search rules)) s.gives))
+    (rw (← s.names, c.in_ok-name.ensures.items) (search rules)) s.gives))
     (λ no. rw (rw no at c.push.ensures.items) s.gives)

@@ -1,6 +1,6 @@
 use Rattle.std.proofs.Common.{◌≡◌, Some, Ok, Err, refl, ap}
 use Rattle.std.specs.Result.{result_ok}
-use Rattle.sum_sources.specs.{Contents.Content, InputLaws.told_file_has_content, Sources.tells_first, Sources.Answer, StandardInput.told_file, refinement.ToldPairs.told_source, refinement.ToldPairs.told_value}
+use Rattle.sum_sources.specs.{Contents.Content, InputLaws.told_file_has_content, Sources.answer_of_first, Sources.Answer, StandardInput.told_file, refinement.ToldPairs.told_source, refinement.ToldPairs.told_value}
 use Rattle.sum_sources.proofs.GaveLemmas.{names-closed, closing_gives}
 use Rattle.sum_sources.proofs.sources.told_source.ToldSourceSource.close_file.Goals as goal
 
@@ -18,6 +18,6 @@ pub invariant_of-self-clause-gives : goal.invariant_of-self-clause-gives
 invariant_of-self-clause-gives g c =
     let s = c.args.self.now in
     let file = told_value c.args.file in
-    rw (c.and-self.ensures, c.log.ensures) (closing_gives tells_first (told_source s.pairs.items s.log)
+    rw (c.and-self.ensures, c.log.ensures) (closing_gives answer_of_first (told_source s.pairs.items s.log)
     (told_file file) file.content (told_file_has_content file) refl
     (ap Some (has_content _ file.content c.requires.told)) s.gives)

@@ -1,5 +1,5 @@
 use Rattle.std.proofs.Common.{rules, Some, Err}
-use Rattle.sum_sources.specs.{Sources.tells_first, refinement.ToldPairs.told_source}
+use Rattle.sum_sources.specs.{Sources.answer_of_first, refinement.ToldPairs.told_source}
 use Rattle.sum_sources.proofs.GaveLemmas.{open_gives, opening_gives}
 use Rattle.sum_sources.proofs.sources.told_source.ToldSourceSource.open_file.Goals as goal
 
@@ -7,11 +7,12 @@ use Rattle.sum_sources.proofs.sources.told_source.ToldSourceSource.open_file.Goa
 pub invariant_of-self-in-Fault-clause-gives : goal.invariant_of-self-in-Fault-clause-gives
 invariant_of-self-in-Fault-clause-gives g c =
     let s = c.args.self.now in
-    rw c.and-self-in-Fault.ensures (opening_gives tells_first (told_source s.pairs.items s.log) c.args.name.now
+    rw c.and-self-in-Fault.ensures (opening_gives answer_of_first (told_source s.pairs.items s.log) c.args.name.now
     (Some (Err c.in-Fault.fault)) (rw (← s.names) (search rules)) s.gives)
 
 -- the file is open
 pub invariant_of-self-in-Content-clause-gives : goal.invariant_of-self-in-Content-clause-gives
 invariant_of-self-in-Content-clause-gives g c =
     let s = c.args.self.now in
-    rw c.and-self-in-Content.ensures (open_gives tells_first (told_source s.pairs.items s.log) c.args.name.now s.gives)
+    rw c.and-self-in-Content.ensures
+    (open_gives answer_of_first (told_source s.pairs.items s.log) c.args.name.now s.gives)

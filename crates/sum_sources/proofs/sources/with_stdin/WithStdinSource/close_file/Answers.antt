@@ -1,13 +1,13 @@
 use Rattle.std.proofs.Common.{◌≡◌, ◌∙◌, ap, true, false}
 use Rattle.std.{proofs.Math.Logic.∥∥₁_elim, proofs.Math.Logic.∥∥₁_map, proofs.Props.props}
-use Rattle.sum_sources.specs.WithStdin.{is_dash, is_stdin, opened_state, opened_has_content}
+use Rattle.sum_sources.specs.WithStdin.{is_dash, is_stdin, place_state, opened_has_content}
 use Rattle.sum_sources.proofs.WithStdinLemmas.{kept_closing, kept_back, open_there, stdin_gives}
 use Rattle.sum_sources.proofs.sources.with_stdin.WithStdinSource.close_file.Goals as goal
 
 -- standard input was put back
 pub invariant_of-self : goal.invariant_of-self
 invariant_of-self g c =
-    let file = opened_state g.I.Input.state g.S.File.Input.state c.args.file.place in
+    let file = place_state g.I.Input.state g.S.File.Input.state c.args.file.place in
     let dash : is_dash file.name ≡ true = c.args.file.named ∙ ap is_stdin c.in-Stdin.is in
     let has = opened_has_content g.I.Input.state g.S.File.Input.state g.met.I.Input.has_content
     g.met.S.File.Input.has_content c.args.file.place in
@@ -21,7 +21,7 @@ invariant_of-self g c =
 -- a file of the source is open in the source
 pub close_file-requires : goal.close_file-requires
 close_file-requires g c =
-    let file = opened_state g.I.Input.state g.S.File.Input.state in
+    let file = place_state g.I.Input.state g.S.File.Input.state in
     let other : is_dash (file c.args.file.place).name ≡ false = c.args.file.named ∙ ap is_stdin c.in-File.is in
     rw c.in-File.is at (∥∥₁_elim c.args.self.now.is (hlevel props) (λ kept.
     open_there g.S.Source.tells c.args.self.now.log
@@ -30,7 +30,7 @@ close_file-requires g c =
 -- a file of the source is closed in the source
 pub invariant_of-self-in-File : goal.invariant_of-self-in-File
 invariant_of-self-in-File g c =
-    let file = opened_state g.I.Input.state g.S.File.Input.state in
+    let file = place_state g.I.Input.state g.S.File.Input.state in
     let other : is_dash (file c.args.file.place).name ≡ false = c.args.file.named ∙ ap is_stdin c.in-File.is in
     record {
       is = rw (c.and-self.ensures, c.close_file.ensures, c.in-File.is) (∥∥₁_map c.args.self.now.is (λ kept.

@@ -1,6 +1,6 @@
 use Rattle.std.proofs.Common.{◌∙◌, refl, sym, ap}
 use Rattle.std.{proofs.Math.Logic.∥∥₁_elim, proofs.Math.Logic.∥∥₁_map, proofs.Props.props}
-use Rattle.sum_sources.specs.WithStdin.{opened_state}
+use Rattle.sum_sources.specs.WithStdin.{place_state}
 use Rattle.sum_sources.proofs.WithStdinLemmas.{kept_opening, kept_stdin, stdin_opened, file_opened}
 use Rattle.sum_sources.proofs.sources.with_stdin.WithStdinSource.open_file.Goals as goal
 
@@ -8,8 +8,8 @@ use Rattle.sum_sources.proofs.sources.with_stdin.WithStdinSource.open_file.Goals
 
 pub returns-then-is_dash-clause-parts : goal.returns-then-is_dash-clause-parts
 returns-then-is_dash-clause-parts g c =
-    rw (sym c.is_dash.ensures ∙ c.if-is_dash.true, c.of_stdin-opened.ensures)
-    ((c.take.ensures.given.0, c.take.ensures.taken), refl)
+    rw (sym c.is_dash.ensures ∙ c.if-is_dash.true, c.from_stdin-opened.ensures)
+    ((c.take.ensures.given, c.take.ensures.taken), refl)
 
 pub invariant_of-self : goal.invariant_of-self
 invariant_of-self g c = record {
@@ -19,10 +19,10 @@ invariant_of-self g c = record {
 
 pub returns-then-is_dash-clause-file : goal.returns-then-is_dash-clause-file
 returns-then-is_dash-clause-file g c = ∥∥₁_elim c.args.self.now.is (hlevel props) (λ kept.
-    ap (opened_state g.I.Input.state g.S.File.Input.state) c.of_stdin-opened.ensures ∙ rw c.next_file.ensures
+    ap (place_state g.I.Input.state g.S.File.Input.state) c.from_stdin-opened.ensures ∙ rw c.next_file.ensures
     (stdin_opened g.S.Source.tells c.args.self.now.log
     (g.S.Source.state c.args.self.now.source) kept c.args.name.now c.take.result
-    (sym c.is_dash.ensures ∙ c.if-is_dash.true) c.take.ensures.given.0 c.take.ensures.given.1))
+    (sym c.is_dash.ensures ∙ c.if-is_dash.true) c.take.ensures.given c.take.ensures.unread))
 
 -- ---- another name
 
@@ -41,6 +41,6 @@ invariant_of-self-in-Err-Fault g c = record {
 
 pub returns-in-Ok-clause-file : goal.returns-in-Ok-clause-file
 returns-in-Ok-clause-file g c = ∥∥₁_elim c.args.self.now.is (hlevel props) (λ kept.
-    c.of_file.ensures ∙ c.in-Ok.ensures.file
+    c.from_file.ensures ∙ c.in-Ok.ensures.file
     ∙ file_opened g.S.Source.tells c.args.self.now.log
     (g.S.Source.state c.args.self.now.source) kept c.args.name.now (sym c.is_dash.ensures ∙ c.if-is_dash.false))
