@@ -39,8 +39,7 @@ pub(crate) struct Front {
     pub(crate) start: usize,
 }
 
-/// What precedes the line's text. This is a separate call, so that an ignored line needs no stack space for it.
-#[inline(never)]
+/// What precedes the line's text.
 pub(crate) fn front_of(line: &[u8]) -> Front
     ensures { IsFront line.now result }
 {

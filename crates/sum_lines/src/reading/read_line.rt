@@ -63,7 +63,6 @@ pub enum Reading {
 ///
 /// The digits are hexadecimal, in either case. Their number is the one that the tag implies, or one that the algorithm
 /// allows. A name has no NUL and isn't empty. Any other line is bad.
-#[inline(always)] // most of what an ignored line costs is the call
 #[tactic(auto, using(crate::proofs::EntryLemmas::ignored_undecided))]
 pub fn read_line<A: Allocator>(algos: Algos, form: Form, line: &mut Vec<u8, A>) -> (Reading, Form)
     // A form that is decided stays; otherwise a plain line decides it, even if its name makes it bad.
