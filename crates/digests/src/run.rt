@@ -98,10 +98,7 @@ fn run_operand<A: Allocator + Copy, S: Source, O: Sink, E: Sink>(
 fn first_name<'a>(operands: &mut Operands<'a>) -> &'a [u8]
     ensures { or_dash operands.old ≡ result.now ∷ operands.new }
 {
-    match operands.next() {
-        Some(name) => name,
-        None => b"-",
-    }
+    operands.next().unwrap_or(b"-")
 }
 
 // Does a job with all operands, one after another.

@@ -1,13 +1,13 @@
 -- What a command line asks for. It is a list of arguments, and the first of them is the program's name.
 use Rattle.std.specs.Prelude.{◌<◌, ◌⊎◌, ◌==◌, List, Any, length, drop, slice_get, Option, is_some, IsSomeAnd, if◌then◌else◌, option_and_then, option_map}
-use Rattle.std.specs.List.{after_last}
+use Rattle.std.specs.{List.after_last, Str.byte}
 use Rattle.sum_words.specs.Tools.{ByteString, Tool, tool_called}
 
 -- what the arguments ask for: a tool on its words, or `None` if they name no tool. The program's name after its last
--- slash (47) names the tool, or otherwise the next argument does
+-- slash names the tool, or otherwise the next argument does
 abbrev pub command_line : List ByteString → Option (Tool × List ByteString)
 command_line all =
-    let called = option_and_then (λ path. tool_called (after_last (λ b. b == 47) path)) (slice_get all 0) in
+    let called = option_and_then (λ path. tool_called (after_last (λ b. b == byte "/") path)) (slice_get all 0) in
     if is_some called then option_map (λ tool. (tool, drop 1 all)) called
     else option_map (λ tool. (tool, drop 2 all)) (option_and_then tool_called (slice_get all 1))
 

@@ -2,17 +2,19 @@
 ghost use Rattle.std.specs.List.{after_last};
 ghost use Rattle.std.specs.Option.{option_map};
 ghost use Rattle.std.specs.Prelude.{◌≡◌, ◌==◌, ◌≤◌, ◌<◌, ◌*◌, ◌∷◌, ◌++◌, [], vec_len, take, length, List, Any, IfOk, IfSome, OnOk, OnErr, MatchResult};
+ghost use Rattle.std.specs.Str.{byte};
 ghost use Rattle.std.specs.declared.env.FillError.TheVariants.{TooLong};
 ghost use Rattle.sum_words.specs.Arguments.{AreOf};
 ghost use Rattle.sum_words.specs.CommandLines.{command_line, NeedsMemory};
 ghost use Rattle.sum_words.specs.Tools.{ByteString};
+ghost use Rattle.sum_words.specs.declared.command_line.TheConstants.{PAGE};
 ghost use Rattle.sum_words.specs.refinement.CommandLine.{Fails, Gives, FindsTool, command_line_value};
 
 use crate::arguments::Arguments;
 use crate::tool::Tool;
-use crate::words::Words;
+use crate::words::{NoRoom, Words};
 use memchr::memrchr;
-use std::alloc::Allocator;
+use std::alloc::{AllocError, Allocator};
 use std::env::FillError;
 use thiserror::Error;
 
@@ -23,6 +25,18 @@ const PAGE: usize = 4096;
 #[derive(Clone, Copy, Debug, PartialEq, Eq, Error)]
 #[error("words not read")]
 pub struct NotRead;
+
+impl From<AllocError> for NotRead {
+    fn from(_refused: AllocError) -> NotRead {
+        NotRead
+    }
+}
+
+impl From<NoRoom> for NotRead {
+    fn from(_no_room: NoRoom) -> NotRead {
+        NotRead
+    }
+}
 
 /// What a command line asks for.
 #[derive(Debug, Drop)]
@@ -78,7 +92,7 @@ impl<A: Allocator> Room<A> {
         ensures gives { IfOk result (λ o. Gives (G.state arguments.old) (G.state arguments.new)
             (option_map (λ s. s.now) o)) }
         ensures not_read { OnErr result
-            (Fails TooLong 4096 (G.state arguments.old) (G.state arguments.new)) }
+            (Fails TooLong PAGE (G.state arguments.old) (G.state arguments.new)) }
     {
         match arguments.fill(place, &mut self.page) {
             Ok(len) => Ok(Some(&self.page[..len])),
@@ -101,12 +115,12 @@ fn fill_growing<A: Allocator, G: Arguments>(
     more: &mut Vec<u8, A>,
 ) -> Result<Option<usize>, NotRead>
     requires place { place ≡ length (G.state arguments.old).given }
-    requires long { Fails TooLong 4096 (G.state arguments.old) (G.state arguments.old) }
+    requires long { Fails TooLong PAGE (G.state arguments.old) (G.state arguments.old) }
     ensures within { IfOk result (λ o. IfSome o (λ n. n ≤ vec_len more.new)) }
     ensures gives { IfOk result (λ o. Gives (G.state arguments.old) (G.state arguments.new)
         (option_map (λ n. take n more.new.items) o)) }
     ensures not_read { OnErr result
-        (Fails TooLong 4096 (G.state arguments.old) (G.state arguments.new)) }
+        (Fails TooLong PAGE (G.state arguments.old) (G.state arguments.new)) }
 {
     if more.len() < PAGE {
         grow(more)?;
@@ -125,16 +139,11 @@ fn fill_growing<A: Allocator, G: Arguments>(
 fn grow<A: Allocator>(more: &mut Vec<u8, A>) -> Result<(), NotRead>
     ensures longer { OnOk result (vec_len more.old < vec_len more.new) }
     ensures twice { OnOk result (2 * vec_len more.old ≤ vec_len more.new) }
-    ensures page { OnOk result (4096 < vec_len more.new) }
+    ensures page { OnOk result (PAGE < vec_len more.new) }
 {
-    let len = more.len();
-    let Some(twice) = len.checked_mul(2) else {
-        return Err(NotRead);
-    };
-    match more.resize(twice.max(2 * PAGE), 0) {
-        Ok(()) => Ok(()),
-        Err(_) => Err(NotRead),
-    }
+    let twice = more.len().checked_mul(2).ok_or(NotRead)?;
+    more.resize(twice.max(2 * PAGE), 0)?;
+    Ok(())
 }
 
 // The tool, and the place of the first word. The last part of the program's name names it, or otherwise the next
@@ -147,19 +156,19 @@ fn find_tool<A: Allocator, G: Arguments>(
     ensures tool { IfOk result (FindsTool (G.state arguments.new)) }
     ensures first { IfOk result (λ o. IfSome o (λ found. found.1 ≤ 2)) }
     ensures not_read { OnErr result ((all : List ByteString) → AreOf (G.state arguments.new) all
-        → Any (λ argument. 4096 < length argument) all) }
+        → Any (λ argument. PAGE < length argument) all) }
     ensures told { (G.state arguments.new).told ≡ (G.state arguments.old).told }
 {
     let Some(path) = room.argument(arguments, 0)? else {
         return Ok(None);
     };
-    if let Some(tool) = Tool::of_name(last_part(path)) {
+    if let Some(tool) = Tool::from_name(last_part(path)) {
         return Ok(Some((tool, 1)));
     }
     let Some(word) = room.argument(arguments, 1)? else {
         return Ok(None);
     };
-    match Tool::of_name(word) {
+    match Tool::from_name(word) {
         Some(tool) => Ok(Some((tool, 2))),
         None => Ok(None),
     }
@@ -167,7 +176,7 @@ fn find_tool<A: Allocator, G: Arguments>(
 
 // What follows the last slash of a path, or all of the path if there is no slash.
 fn last_part(path: &[u8]) -> &[u8]
-    ensures { result.now ≡ after_last (λ b. b == 47) path.now }
+    ensures { result.now ≡ after_last (λ b. b == byte "/") path.now }
 {
     match memrchr(b'/', path) {
         Some(slash) => &path[slash..][1..],
@@ -197,9 +206,7 @@ fn words_from<A: Allocator + Copy, G: Arguments>(
         let Some(word) = room.argument(arguments, place)? else {
             return Ok(words);
         };
-        let Ok(()) = words.add_bytes(word) else {
-            return Err(NotRead);
-        };
+        words.add_bytes(word)?;
     }
     Err(NotRead)
 }

@@ -9,7 +9,7 @@ use std::str::FromStr;
 use thiserror::Error;
 
 /// A tool: a GNU digest tool of the coreutils manual, or `anysum`, which checks manifests of mixed tagged lines.
-#[derive(Clone, Copy, Debug, PartialEq, Eq)]
+#[derive(Clone, Copy, Debug, PartialEq, Eq, Hash)]
 pub enum Tool {
     Md5sum,
     Sha1sum,
@@ -39,12 +39,12 @@ impl Tool {
     pub fn from_word(word: &str) -> Option<Tool>
         ensures { (tool : Tool) → (result ≡ Some tool) ↔ (name_of tool ≡ word.now) }
     {
-        Tool::of_name(word.as_bytes())
+        Tool::from_name(word.as_bytes())
     }
 
     /// Returns the tool whose name these bytes are, if there is one.
     #[tactic(auto, unfolding(crate::specs::Tools::tool_called))]
-    pub fn of_name(name: &[u8]) -> Option<Tool>
+    pub fn from_name(name: &[u8]) -> Option<Tool>
         ensures tool { result ≡ tool_called name.now }
         // So the tool's name is this one.
         ensures name { IfSome result (λ tool. name_of tool ≡ name.now) }

@@ -57,13 +57,11 @@ impl<A: Allocator> Words<A> {
         ensures err { OnErr result (self.new ≡ self.old) }
     {
         let before = self.bytes.len();
-        let Ok(()) = self.bytes.extend_from_slice(word) else {
-            return Err(NoRoom);
-        };
-        let Ok(()) = self.ends.push(self.bytes.len()) else {
+        self.bytes.extend_from_slice(word)?;
+        if self.ends.push(self.bytes.len()).is_err() {
             self.bytes.truncate(before);
             return Err(NoRoom);
-        };
+        }
         Ok(())
     }
 

@@ -182,7 +182,7 @@ fn long_step<'a>(tool: Tool, text: &'a str) -> ParserStep<'a>
         (items_from tool ws) }
 {
     let (name, value) = name_and_value(text);
-    let flag = match Flag::of_name(tool, name) {
+    let flag = match Flag::from_name(tool, name) {
         Ok(flag) => flag,
         Err(fault) => return ParserStep::Item(Item::Fault(fault), ParserState::Done),
     };
@@ -202,7 +202,7 @@ fn letter_step<'a>(tool: Tool, letter: char, rest: &'a str) -> ParserStep<'a>
     ensures { (ws : List ByteString) → step_items tool result ws
         ≡ cluster tool (letter ∷ chars rest.now) (items_from tool ws) }
 {
-    match Flag::of_letter(tool, letter) {
+    match Flag::from_letter(tool, letter) {
         None => ParserStep::Item(
             Item::Fault(WordFault::UnknownShort(letter)),
             ParserState::Done,

@@ -96,7 +96,7 @@ impl Flag {
     /// Returns the tool's option that a long name means: the one with this full name, or otherwise the only one whose
     /// full name begins with it. Fails with `UnknownLong` if no full name does, and with `AmbiguousLong` if several do.
     #[tactic(auto, unfolding(crate::specs::Items::name_or_fault))]
-    pub(crate) fn of_name(tool: Tool, name: &str) -> Result<Flag, WordFault<'_>>
+    pub(crate) fn from_name(tool: Tool, name: &str) -> Result<Flag, WordFault<'_>>
         ensures { result_value result ≡ name_or_fault tool name.now }
     {
         match first_named(tool, name) {
@@ -107,7 +107,7 @@ impl Flag {
 
     /// Returns the tool's option of this letter.
     #[tactic(auto, unfolding(crate::specs::Items::option_of_letter))]
-    pub(crate) fn of_letter(tool: Tool, letter: char) -> Option<Flag>
+    pub(crate) fn from_letter(tool: Tool, letter: char) -> Option<Flag>
         ensures { result ≡ option_of_letter tool letter }
     {
         FLAGS

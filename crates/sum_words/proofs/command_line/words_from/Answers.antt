@@ -9,12 +9,12 @@ returns-in_err-word-clause-not_read g c = on_err c.from_residual.result (λ all 
     first_word _ c.places.words (word ∷ more) all c.places.invariant.given are (omega arith))
 
 -- a word was read, but there was no room for it
-pub returns-in_default-add_bytes-clause-not_read : goal.returns-in_default-add_bytes-clause-not_read
-returns-in_default-add_bytes-clause-not_read g c = λ all agrees.
+pub returns-in_err-add_bytes-clause-not_read : goal.returns-in_err-add_bytes-clause-not_read
+returns-in_err-add_bytes-clause-not_read g c = on_err c.from_residual-in_err-add_bytes.result (λ all agrees.
     let word = c.in-Some.word.now in
     let here = rw (rw c.in-Some.is at c.in_ok-word.ensures.gives) at agrees in
     first_word _ c.places.words (word ∷ _) all c.places.invariant.given
-    (here.given ∙ append_assoc _ (word ∷ []) _) (omega arith)
+    (here.given ∙ append_assoc _ (word ∷ []) _) (omega arith))
 
 -- words were read, and there are too many
 pub returns-clause-not_read : goal.returns-clause-not_read
