@@ -1,7 +1,7 @@
 -- What a tool's words mean: a behavior, its status, and how often its source may be refused memory.
 use Rattle.std.specs.Prelude.{ℕ, Bool, true, false, List, [], ◌∷◌, Result, Ok, Err, codes, if◌then◌else◌}
 use Rattle.sum_engine.specs.Behavior.{World, after, Behavior, behavior_then, single_step, asks, ByteString}
-use Rattle.sum_engine.specs.{Generation.generate_behavior, check.Checking.check_behavior}
+use Rattle.sum_engine.specs.{Execution.none_or_one, Generation.generate_behavior, check.Checking.check_behavior}
 use Rattle.sum_words.specs.declared.{tool.Tool.Tool, parsing.request.Request.Request}
 use Rattle.sum_words.specs.declared.parsing.request.Request.TheVariants.{Generate, Check, Help, Version}
 use Rattle.sum_words.specs.{Tools.name_of, Request.request, Request.WordFaultValue, Texts.fault_lines, Texts.help, Texts.version}
@@ -35,5 +35,5 @@ status_of good = if good then 0 else 1
 -- how often the source may have been refused memory, if a request ends out of memory
 abbrev pub allowed_refusals : Result Request WordFaultValue → List ℕ
 allowed_refusals (Ok (Generate settings names)) = 1 ∷ []
-allowed_refusals (Ok (Check settings names)) = 0 ∷ 1 ∷ []
+allowed_refusals (Ok (Check settings names)) = none_or_one
 allowed_refusals asked = []

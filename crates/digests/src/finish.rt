@@ -18,8 +18,8 @@ pub(crate) fn finish_run<O: Sink, E: Sink>(
     outputs: &mut Outputs<O, E>,
 ) -> u8
     ensures finish { FinishesRun tool outcome outputs.old outputs.new result }
-    ensures no_failures { result ≡ 0 → (outcome ≡ Ok 0)
-        × (failures outputs.new ≡ failures outputs.old) }
+    ensures good_run { result ≡ 0 → outcome ≡ Ok 0 }
+    ensures no_failures { result ≡ 0 → failures outputs.new ≡ failures outputs.old }
 {
     match flush_both(outcome, outputs) {
         Ok(status) => status,

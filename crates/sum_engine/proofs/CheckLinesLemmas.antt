@@ -11,7 +11,7 @@ use Rattle.sum_engine.specs.check.Checker.{ReportsFound, Progress, Going, Ended,
 use Rattle.sum_sources.specs.declared.{inputs.phase.Phase.TheVariants.Unfinished, line_reader.LineStop.TheVariants.Fault, line_reader.LineStop.TheVariants.Memory}
 use Rattle.sum_engine.specs.{check.CheckerLaws.RunsManifest, check.ReadAhead.StopsAtStep}
 use Rattle.sum_engine.specs.declared.stop.Stop.TheVariants as stops
-use Rattle.sum_engine.specs.Execution.{Stop, Write, OutputsState, StreamsState, Agrees, ReadsToEndIf, world_at, PerformsSteps, StopHasCause}
+use Rattle.sum_engine.specs.Execution.{Stop, Write, OutputsState, StreamsState, Agrees, ReadsToEndIf, world_at, PerformsSteps, StopHasCause, none_or_one}
 use Rattle.sum_engine.specs.refinement.Writes.{WritesAndReturns}
 use Rattle.sum_engine.proofs.ReadAheadLemmas.{read_fits_clip, stops_at_step}
 use Rattle.sum_engine.proofs.ExecutionLemmas.{one_at_most, Happened-none}
@@ -78,7 +78,7 @@ wrote_cause (Err stops.Memory) same h = absurd h.writes
 -- a step stops only if memory was refused, at most once, or bytes remained, or one output failed
 cause_found : {I : Type 0} (q : VerdictsValue I) (labels : LabelsValue) (vector : List ℕ) (found : VerdictResult)
     (a b : StreamsState) {x : Result Progress Stop} → AsksFor vector q.reader.ahead a.inputs b.inputs found
-    → ReportsFound q labels vector found a.outputs b.outputs x → StopHasCause (0 ∷ 1 ∷ []) a b x
+    → ReportsFound q labels vector found a.outputs b.outputs x → StopHasCause none_or_one a b x
 cause_found q labels vector (Err Memory) a b asked h = rw h.0
     (record { refusals = one_at_most a.inputs b.inputs asked; failures = rw h.1 refl })
 cause_found q labels vector (Err (Fault f)) a b asked h = wrote_cause _ asked.refusals h
@@ -86,15 +86,15 @@ cause_found q labels vector (Ok (Some v)) a b asked h = wrote_cause _ asked.refu
 cause_found q labels vector (Ok None) a b asked h = wrote_cause _ asked.refusals h
 
 -- the cause of a stop of a step that ends or stops, after steps that went on
-cause_ends : {a b c : StreamsState} (x : Result Bool Stop) → StopHasCause {A = Bool} (0 ∷ 1 ∷ []) a b (Ok true)
-    → StopHasCause (0 ∷ 1 ∷ []) b c (ends x) → StopHasCause (0 ∷ 1 ∷ []) a c x
+cause_ends : {a b c : StreamsState} (x : Result Bool Stop) → StopHasCause {A = Bool} none_or_one a b (Ok true)
+    → StopHasCause none_or_one b c (ends x) → StopHasCause none_or_one a c x
 cause_ends (Ok good) h k = search rules
 cause_ends (Err Write) h k = search rules
 cause_ends (Err stops.Memory) h k = search rules
 
 module _ {I : Type 0} {state : I → InputState} {vector : List ℕ} {p q : CheckerValue I} {a b : StreamsState} where
   step_cause : {x : Result Progress Stop} → AdvancesChecker state vector p q a b x
-      → StopHasCause (0 ∷ 1 ∷ []) a b x
+      → StopHasCause none_or_one a b x
   step_cause h = cause_found q.verdicts p.labels vector h.found a b h.verdict.asked h.reports
 
   -- each line is counted, and there are fewer than the limit
@@ -139,7 +139,7 @@ module _ {I : Type 0} (state : I → InputState) (first : CheckerValue I) (m : S
     pub going : q.outcome ≡ None
     pub reading : IsReading state first.verdicts.reader → IsReading state q.verdicts.reader
     pub happened : HoldsUpTo q.verdicts n (λ a b. ComesTo a b n)
-    pub so_far : StopHasCause {A = Bool} (0 ∷ 1 ∷ []) m n (Ok true)
+    pub so_far : StopHasCause {A = Bool} none_or_one m n (Ok true)
     pub reads : ReadsToEndIf (q.verdicts.counts.unread ≡ 0) m.inputs n.inputs
     pub same : IsSameInput (state first.verdicts.reader.input) (state q.verdicts.reader.input)
     pub taken : q.verdicts.reader.taken + length (state first.verdicts.reader.input).reads.bytes

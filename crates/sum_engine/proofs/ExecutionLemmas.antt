@@ -7,7 +7,7 @@ use Rattle.sum_lines.proofs.EventLemmas.{Gets-none, Gets-then}
 use Rattle.sum_engine.specs.Behavior.{Event, Step, SourceState, OutputEvent, output_events, open_name, to_err, to_out}
 use Rattle.sum_engine.specs.refinement.Writes.{WritesBoth, WritesAndReturns}
 use Rattle.sum_engine.specs.refinement.Names.{MemoryWasRefused}
-use Rattle.sum_engine.specs.Execution.{StreamsState, asked, AsksNames, Stop, Memory, Write, Happened, RunsOutOfMemory, with_refusals, PerformsSteps}
+use Rattle.sum_engine.specs.Execution.{StreamsState, asked, AsksNames, Stop, Memory, Write, Happened, RunsOutOfMemory, with_refusals, PerformsSteps, none_or_one}
 use Rattle.sum_engine.proofs.WorldLemmas.{asks_none, asks_then}
 
 -- ---- what of a step's events is of each kind
@@ -91,7 +91,7 @@ refused_first {a} {b} next later are outputs refused =
 
 -- memory was refused once, or not at all
 pub one_at_most : {X : Type 0} (a b : SourceState) → MemoryWasRefused a b ⊎ ((b ≡ a) × X)
-    → Any (λ n. b.refusals ≡ a.refusals + n) (0 ∷ 1 ∷ [])
+    → Any (λ n. b.refusals ≡ a.refusals + n) none_or_one
 one_at_most a b (inl refused) = (1, 1, search arith, refl, rw refused refl)
 one_at_most a b (inr same) = (0, 0, search arith, refl, rw same.0 (omega arith))
 

@@ -1,5 +1,5 @@
 -- The state of a call's streams, and what a call performs of a behavior: the form of the headline.
-use Rattle.std.specs.Prelude.{ℕ, ◌≡◌, ◌≢◌, ◌+◌, ◌⊎◌, Bool, Some, IfSome, IfOk, Result, Ok, Err, ◌<◌, List, ◌∷◌, ◌++◌, filter_map, All, Any}
+use Rattle.std.specs.Prelude.{ℕ, ◌≡◌, ◌≢◌, ◌+◌, ◌⊎◌, Bool, Some, IfSome, IfOk, Result, Ok, Err, ◌<◌, List, [], ◌∷◌, ◌++◌, filter_map, All, Any}
 use Rattle.sum_sources.specs.declared.fault.Ending.TheVariants as ending
 use Rattle.sum_sources.specs.declared.{inputs.phase.Phase.TheVariants.Ended, inputs.phase.Phase.TheVariants.Past}
 pub use Rattle.sum_sources.specs.Sources.{Opening, FitsAnswer, names_of, gave_at}
@@ -26,6 +26,10 @@ abbrev pub FailuresMatch : {A : Type 0} → OutputsState → OutputsState → Re
 FailuresMatch a b (Err Write) =
     (failures b ≡ ((failures a).0 + 1, (failures a).1)) ⊎ (failures b ≡ ((failures a).0, (failures a).1 + 1))
 FailuresMatch a b r = failures b ≡ failures a
+
+-- at most one
+abbrev pub none_or_one : List ℕ
+none_or_one = 0 ∷ 1 ∷ []
 
 -- out of memory comes with as many refusals of the source as one of these numbers says, and any other result with none
 abbrev pub RefusalsMatch : {A : Type 0} → List ℕ → SourceState → SourceState → Result A Stop → Type 0
@@ -59,8 +63,7 @@ IsAtEndIf Wanted r = (r.phase ≢ Past) × (Wanted → r.phase ≡ Ended ending.
 abbrev pub ReadsFile : Type 0 → Opening → Type 0
 ReadsFile Wanted o = (gave : Result Reads Fault) × (o.gave ≡ Some gave) × IfOk gave (IsAtEndIf Wanted)
 
--- READ TO THE END, if Wanted holds, and never past it: this is how a call read each file that it opened. What was
--- opened before is unchanged
+-- READ TO THE END, if Wanted holds, and never past it: this is how a call read each file that it opened
 pub record ReadsToEndIf (Wanted : Type 0) (a b : SourceState) : Type 0 where
   pub told : b.told ≡ a.told
   pub openings : (more : List Opening) × (b.openings ≡ a.openings ++ more) × All (ReadsFile Wanted) more
@@ -82,8 +85,7 @@ pub record Happened (a b : StreamsState) (es : List Event) : Type 0 where
 abbrev pub with_refusals : ℕ → StreamsState → StreamsState
 with_refusals n b = record b { inputs = record b.inputs { refusals = n } }
 
--- out of memory: the steps before the next one happened, and nothing of the next one; either the source was refused
--- memory once, or bytes of the manifest remained
+-- out of memory: exactly the steps before the next one happened, and the source was refused memory, or bytes remained
 pub record RunsOutOfMemory (steps : List Step) (a b : StreamsState) : Type 0 where
   pub done : List Step
   pub next : Step
@@ -100,8 +102,7 @@ PerformsSteps steps x a b (Ok outcome) = (outcome ≡ x) × Happened a b (trace 
 PerformsSteps steps x a b (Err Write) = (front rest : List Event) × (trace steps ≡ front ++ rest) × Happened a b front
 PerformsSteps steps x a b (Err Memory) = RunsOutOfMemory steps a b
 
--- a call performs a behavior: its steps, in each world that agrees with what was read by the end of the call; what it
--- returns depends on `good`
+-- a call performs a behavior in each world that agrees with what was read by its end; what it returns depends on `good`
 abbrev pub Performs : {A : Type 0} → (World → Behavior) → (Bool → A) → StreamsState → StreamsState → Result A Stop
     → Type 0
 Performs behavior outcome a b r = (w : World) → Agrees w b.inputs

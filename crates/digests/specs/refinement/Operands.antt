@@ -1,6 +1,6 @@
 -- Relates a job to what it does with an operand.
 use Rattle.std.specs.Prelude.{ℕ, List, [], ◌∷◌}
-use Rattle.sum_engine.specs.{Behavior.World, Behavior.Behavior, Behavior.ByteString, Generation.generate_behavior, check.Checking.check_behavior}
+use Rattle.sum_engine.specs.{Behavior.World, Behavior.Behavior, Behavior.ByteString, Execution.none_or_one, Generation.generate_behavior, check.Checking.check_behavior}
 use Rattle.digests.specs.declared.{run.Job.Job, run.Job.TheVariants.Generate, run.Job.TheVariants.Check}
 
 -- the behavior of one operand of a job
@@ -11,4 +11,4 @@ operand_behavior (Check settings) tool w name = check_behavior settings tool w n
 -- how often the source may have been refused memory, if a job ends out of memory
 abbrev pub job_refusals : Job → List ℕ
 job_refusals (Generate settings) = 1 ∷ []
-job_refusals (Check settings) = 0 ∷ 1 ∷ []
+job_refusals (Check settings) = none_or_one

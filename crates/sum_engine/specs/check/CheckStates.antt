@@ -1,6 +1,7 @@
 -- The states of a manifest's check: what remains of it, and what was found so far.
 use Rattle.std.specs.Prelude.{ℕ, ◌≡◌, ◌+◌, ◌≤◌, List, ◌∷◌, length}
 use Rattle.sum_lines.specs.declared.reading.read_line.Form.TheVariants.{Undecided}
+use Rattle.sum_sources.specs.declared.inputs.input.TheConstants.{PIECE}
 use Rattle.sum_engine.specs.Behavior.{ByteString, World, Behavior, Content}
 use Rattle.sum_engine.specs.{check.Rules.Rules, check.Rules.LabelsValue, check.Checking.line_steps}
 use Rattle.sum_engine.specs.check.Judge.{Form, Verdict, Ignored, Bad, Right, Wrong, Missing, Unread, lines_under, LineVerdictValue, line_verdict, verdicts, past_line, parse_line, form_then, line_form, form}
@@ -74,12 +75,12 @@ pub record HandlesLine (r : Rules) (a b : CheckState) (vector : ByteString) : Ty
   pub lines : lines_under r.profile a.remaining ≡ line ∷ lines_under r.profile b.remaining
   pub remaining : b.remaining ≡ past_line a.remaining
   pub consumed : b.consumed + length b.remaining.bytes ≡ a.consumed + length a.remaining.bytes
-  pub taken : b.taken ≤ b.consumed + 8192  -- at most this many bytes are read ahead
+  pub taken : b.taken ≤ b.consumed + PIECE
   pub number : b.number ≡ a.number + 1
   pub form : b.form ≡ form_then a.form (line_form r.algo line)
   pub counts : b.counts ≡ counts_with a.counts (next_judged r a line).verdict
   pub vector_len : length vector ≤ length line
 
--- from a to b at most 8192 bytes were read past the next line
+-- from a to b at most one piece was read past the next line
 abbrev pub ReadsOneLine : CheckState → CheckState → Type 0
-ReadsOneLine a b = b.taken + length (past_line a.remaining).bytes ≤ a.consumed + length a.remaining.bytes + 8192
+ReadsOneLine a b = b.taken + length (past_line a.remaining).bytes ≤ a.consumed + length a.remaining.bytes + PIECE

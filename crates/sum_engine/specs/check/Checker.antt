@@ -2,7 +2,7 @@
 use Rattle.std.specs.Prelude.{Bool, false, ◌≡◌, ◌⊎◌, ◌+◌, ◌≤◌, List, [], ◌∷◌, length, Option, None, Some, Result, Ok, Err}
 pub use Rattle.sum_engine.specs.declared.check.progress.Progress.{Progress}
 pub use Rattle.sum_engine.specs.declared.check.progress.Progress.TheVariants.{Going, Ended}
-use Rattle.sum_sources.specs.declared.line_reader.LineStop.TheVariants.{Fault, Memory}
+use Rattle.sum_sources.specs.declared.{line_reader.LineStop.TheVariants.Fault, line_reader.LineStop.TheVariants.Memory, inputs.input.TheConstants.PIECE}
 use Rattle.sum_engine.specs.Behavior.{ByteString, Whole, Broken, Step, Behavior, InputState}
 use Rattle.sum_engine.specs.Execution.{Stop, OutputsState, StreamsState, PerformsSteps}
 use Rattle.sum_engine.specs.{refinement.Writes.WritesAndReturns, check.Rules.Rules, check.Rules.LabelsValue}
@@ -40,9 +40,9 @@ pub record IsStep (r : Rules) (labels : LabelsValue) (vector : ByteString) (a b 
   pub going : x ≡ Ok Going → (later ≡ remaining_behavior r labels b) × HandlesLine r a b vector
   pub failed : x ≡ Err stops.Write
       → (later.steps ≡ []) ⊎ ((later ≡ remaining_behavior r labels b) × HandlesLine r a b vector)
-  -- if memory ran out: at most 8192 bytes were read past the step's line
+  -- if memory ran out: how far beyond the step's line was read
   pub refused : x ≡ Err stops.Memory
-      → b.taken + remaining_before later.steps ≤ a.consumed + length a.remaining.bytes + 8192
+      → b.taken + remaining_before later.steps ≤ a.consumed + length a.remaining.bytes + PIECE
 
 -- the call takes a step of the check
 abbrev pub TakesStep : {I : Type 0} → (I → InputState) → ByteString → LabelsValue → VerdictsValue I → VerdictsValue I

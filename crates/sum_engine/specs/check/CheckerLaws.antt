@@ -1,7 +1,7 @@
 -- The laws of a checker's steps over a whole manifest, and of the lines that precede a line.
 use Rattle.std.specs.Prelude.{ℕ, ◌≡◌, ◌+◌, ◌≤◌, ◌↔◌, Bool, true, List, [], ◌∷◌, take, length, Result, ◌++◌, Ok, IfErr, slice_index_or}
 use Rattle.sum_lines.specs.grammar.Shapes.{IsPlain, KindValue}
-use Rattle.sum_engine.specs.Execution.{Stop, StreamsState, Agrees, world_at, StopHasCause, IsAtEndIf, ReadsToEndIf, AsksNames, Happened, PerformsSteps, Performs}
+use Rattle.sum_engine.specs.Execution.{Stop, StreamsState, Agrees, world_at, StopHasCause, IsAtEndIf, ReadsToEndIf, AsksNames, Happened, PerformsSteps, Performs, none_or_one}
 use Rattle.sum_sources.specs.{Contents.IsSameInput, Contents.reads_past, declared.inputs.phase.Phase.TheVariants.Unfinished}
 use Rattle.sum_engine.specs.Behavior.{ByteString, Fits, InputState, Behavior, trace, out_text, err_text, asks, World, Content, clip}
 use Rattle.sum_engine.specs.{check.Rules.Rules, check.Rules.LabelsValue, check.Checking.content_behavior}
@@ -23,7 +23,7 @@ pub record RunsManifest (r : Rules) (labels : LabelsValue) (s t : InputState) (a
       (clip c) (length read.bytes) a b)
   pub manifest : s.reads.phase ≡ Unfinished → IsAtEndIf (x ≡ Ok true) t.reads
   pub same : IsSameInput s t
-  pub cause : StopHasCause (0 ∷ 1 ∷ []) a b x
+  pub cause : StopHasCause none_or_one a b x
   pub reads : ReadsToEndIf (x ≡ Ok true) a.inputs b.inputs
 
 -- ---- the laws

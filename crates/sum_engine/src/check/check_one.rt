@@ -1,7 +1,7 @@
 //! Checking one manifest.
 ghost use Rattle.std.specs.Prelude.{◌≡◌, true, [], ◌∷◌, None, Ok, IfErr, codes, if◌then◌else◌};
 ghost use Rattle.sum_sources.specs.WithStdin.{is_dash};
-ghost use Rattle.sum_engine.specs.Execution.{FailuresMatch, RefusalsMatch, Performs, ReadsToEndIf};
+ghost use Rattle.sum_engine.specs.Execution.{FailuresMatch, RefusalsMatch, Performs, ReadsToEndIf, none_or_one};
 ghost use Rattle.sum_engine.specs.check.CheckerLaws.{RunsManifest};
 ghost use Rattle.sum_engine.specs.check.Checking.{check_behavior};
 ghost use Rattle.sum_engine.specs.check.ReadAhead.{StopsAtLine};
@@ -41,7 +41,7 @@ pub fn check_one<A: Allocator + Copy, S: Source, O: Sink, E: Sink>(
     ensures ahead { IfErr result (λ stop.
         StopsAtLine stop (λ w. check_behavior settings tool.now w name.now) name.now streams.old streams.new) }
     // A stop has its cause: at most one more refusal of the source, or one more failure of one output.
-    ensures refusals { RefusalsMatch (0 ∷ 1 ∷ []) streams.old.inputs streams.new.inputs result }
+    ensures refusals { RefusalsMatch none_or_one streams.old.inputs streams.new.inputs result }
     ensures failures { FailuresMatch streams.old.outputs streams.new.outputs result }
 {
     let shown = shown_name(name);

@@ -1,5 +1,6 @@
 //! Checking a manifest, a line at a time.
-ghost use Rattle.std.specs.Prelude.{◌≡◌, ◌≤◌, ◌^◌, None, true, Ok, IfOk, IfSome};
+ghost use Rattle.digest_kinds.specs.Bytes.{LIMIT};
+ghost use Rattle.std.specs.Prelude.{◌≡◌, ◌≤◌, None, true, Ok, IfOk, IfSome};
 ghost use Rattle.sum_engine.specs.check.Checker.{ReportsFound};
 ghost use Rattle.sum_engine.specs.check.Rules.{rules_of};
 ghost use Rattle.sum_engine.specs.check.Verdicts.{HasNameRange, is_whole};
@@ -79,7 +80,7 @@ impl<'a, I: Input> Checker<'a, I> {
     /// Returns how many bytes the manifest's input has given.
     pub fn taken(&self) -> u64
         ensures value { result ≡ self.now.verdicts.reader.taken }
-        ensures at_most { result ≤ 2 ^ 61 }
+        ensures at_most { result ≤ LIMIT }
     {
         self.verdicts.taken()
     }

@@ -1,4 +1,5 @@
 //! The verdicts of a manifest, without any text.
+ghost use Rattle.digest_kinds.specs.Bytes.{LIMIT};
 ghost use Rattle.std.specs.Prelude.{◌≡◌, ◌≤◌, ◌<◌, ◌^◌, ◌&&◌, None, true, IfOk, IfSome, MatchResult};
 ghost use Rattle.sum_engine.specs.check.CheckStates.{counts_with, total};
 ghost use Rattle.sum_engine.specs.check.Rules.{rules_of};
@@ -25,7 +26,8 @@ pub struct Verdicts<I> {
 }
 
 impl<I> Model for Verdicts<I> {
-    ghost use Rattle.std.specs.Prelude.{◌≡◌, ◌≤◌, ◌^◌};
+    ghost use Rattle.digest_kinds.specs.Bytes.{LIMIT};
+    ghost use Rattle.std.specs.Prelude.{◌≡◌, ◌≤◌};
     ghost use Rattle.sum_engine.specs.check.CheckStates.{total};
     ghost use Rattle.sum_engine.specs.check.Verdicts.{VerdictsValue};
     ghost use Rattle.sum_lines.specs.Escape.{own_profile};
@@ -40,7 +42,7 @@ impl<I> Model for Verdicts<I> {
       outcome = v.outcome;
     } };
 
-    ghost invariant = { λ v. (total v.counts ≤ v.reader.lines) × (v.reader.lines ≤ 2 ^ 61)
+    ghost invariant = { λ v. (total v.counts ≤ v.reader.lines) × (v.reader.lines ≤ LIMIT)
         × (v.rules.profile ≡ own_profile) };
 }
 
@@ -73,7 +75,7 @@ impl<I: Input> Verdicts<I> {
     /// Returns how many bytes the manifest's input has given.
     pub fn taken(&self) -> u64
         ensures value { result ≡ self.now.reader.taken }
-        ensures at_most { result ≤ 2 ^ 61 }
+        ensures at_most { result ≤ LIMIT }
     {
         self.reader.taken()
     }

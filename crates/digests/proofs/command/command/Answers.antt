@@ -16,7 +16,7 @@ returns-in-Ok-Invoke-clause-behavior g c = λ all agrees.
 
 pub returns-in-Ok-Invoke-clause-reads : goal.returns-in-Ok-Invoke-clause-reads
 returns-in-Ok-Invoke-clause-reads g c =
-    reads_weaker (λ zero. (c.finish_run.ensures.no_failures zero).0) c.run-outcome.ensures.reads
+    reads_weaker (λ zero. c.finish_run.ensures.good_run zero) c.run-outcome.ensures.reads
 
 -- no tool is named, and the line for that is written
 pub returns-in-Ok-UnknownTool-clause-behavior : goal.returns-in-Ok-UnknownTool-clause-behavior
