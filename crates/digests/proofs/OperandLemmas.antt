@@ -1,9 +1,9 @@
 -- Operands, one after another: after those before, the rest completes the whole.
 use Rattle.std.proofs.Common.{◌≡◌, ℕ, Bool, true, List, [], ◌∷◌, ◌++◌, Option, None, Some, Result, Ok, Err, ◌&&◌, Bor}
 use Rattle.std.proofs.{Math.Bool.and_assoc, lemmas.Bool.and_parts}
-use Rattle.sum_engine.proofs.WorldLemmas.{reads_then, agrees_before, world_after}
+use Rattle.sum_engine.proofs.WorldLemmas.{reads_then, agrees_before, world_at_after}
 use Rattle.sum_engine.specs.declared.stop.Stop.{Stop}
-use Rattle.sum_engine.specs.Behavior.{World, after, Step, Behavior, trace, asks, ByteString}
+use Rattle.sum_engine.specs.Behavior.{World, world_after, Step, Behavior, trace, asks, ByteString}
 use Rattle.sum_engine.specs.Execution.{StreamsState, ReadsToEndIf, Agrees, world_at, Happened, Performs, PerformsSteps}
 use Rattle.sum_engine.proofs.BehaviorLemmas.{behavior_then-happened, behavior_then-first, behavior_then-second, events_extend}
 use Rattle.sum_words.specs.refinement.ItemIterator.{TakesFirst}
@@ -51,7 +51,7 @@ module _ {one : World → ByteString → Behavior} {names : List ByteString} whe
     completes = λ w agrees end r did.
         let q = k w agrees in
         let run = one (world_at w y.inputs) name in
-        let world = world_after w y.inputs z.inputs (asks run) (events_extend run y z q.1).0 in
+        let world = world_at_after w y.inputs z.inputs (asks run) (events_extend run y z q.1).0 in
         h.completes w (agrees_before agrees reads) end r
         (steps_then end _ run.steps _ r q.1 (rw (world, q.0, and_assoc) at did));
   }
@@ -65,7 +65,7 @@ module _ {one : World → ByteString → Behavior} {names : List ByteString} whe
   operands_done_stop {good = good} {name = name} {rest = rest} {y = y} stop z h reads k = λ w agrees.
       let v = world_at w y.inputs in
       let run = one v name in
-      let later = operands_behavior one (after v (asks run)) rest in
+      let later = operands_behavior one (world_after v (asks run)) rest in
       h.completes w (agrees_before agrees reads) z (Err stop)
       (behavior_then-first y z (status_of (good && (run.good && later.good))) run.good run.steps later.steps stop
       (k w agrees))

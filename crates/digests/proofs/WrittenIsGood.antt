@@ -5,13 +5,13 @@ use Rattle.std.proofs.lemmas.List.Elements.{All-nil, All-head, All-tail, All-app
 use Rattle.digest_kinds.specs.Kinds.{digest}
 use Rattle.sum_engine.specs.{declared.check.judge.Verdict.TheVariants.Right, declared.settings.Settings.Settings, check.Reports.out_by, Generation.generate_behavior}
 use Rattle.sum_lines.specs.Escape.{own_profile}
-use Rattle.sum_engine.specs.Behavior.{World, answer_to, after, digest_or_fault, out_text, asks, times, ByteString}
+use Rattle.sum_engine.specs.Behavior.{World, answer_to, world_after, digest_or_fault, out_text, asks, times, ByteString}
 use Rattle.sum_sources.specs.Sources.{Answer}
 use Rattle.sum_engine.proofs.{ListedEntryLemmas.Item, ListedEntryLemmas.written_text, ListedEntryLemmas.Listed, GoodLemmas.manifest_good}
 use Rattle.sum_words.specs.Tools.{name_of, Algos}
 use Rattle.digests.specs.Meaning.{operands_behavior}
 use Rattle.digests.proofs.CheckWords.{request-check_words}
-use Rattle.digests.specs.GenerationRuns.{IsListable, GenerationRun, generation_output, IsCheckable, HasFiles, AreGood}
+use Rattle.digests.specs.GenerationRuns.{IsListable, GenerationRun, generation_output, IsCheckable, HasFiles, IsAccepted}
 
 -- ---- the lines of a run
 
@@ -45,7 +45,7 @@ module _ (algos : Algos) (files later : ByteString → Answer) where
   lines-are s tool [] w has newlines all = refl
   lines-are s tool (name ∷ names) w has newlines all =
       let first = line-is s tool w name has newlines (All-head (IsListable files) name names all) in
-      let others = lines-are s tool names (after w (asks (generate_behavior s tool w name))) has newlines
+      let others = lines-are s tool names (world_after w (asks (generate_behavior s tool w name))) has newlines
       (All-tail (IsListable files) name names all) in
       rw (flat_map-append, first, others) refl
 
@@ -66,7 +66,7 @@ module _ (algos : Algos) (files later : ByteString → Answer) where
       )
 
 -- what several runs wrote is a manifest of such lines
-pub written_is_good : (gs : List GenerationRun) → AreGood gs
+pub written_is_good : (gs : List GenerationRun) → IsAccepted gs
 written_is_good gs t check manifest files later w v has same by all some fits given =
     let xs = flat_map (items files) gs in
     let are = runs-are check.algo files later w gs has all in

@@ -61,8 +61,8 @@ pub record ReportsAllOk (report : Report) (run : Behavior) (names : List ByteStr
   pub err : err_text run ≡ []
 
 -- what these runs wrote, one after another, for at least one name, is good as a manifest if it isn't too long
-abbrev pub AreGood : List GenerationRun → Type 0
-AreGood gs = let names = flat_map (λ g. g.names) gs in
+abbrev pub IsAccepted : List GenerationRun → Type 0
+IsAccepted gs = let names = flat_map (λ g. g.names) gs in
     (t : Tool) (check : CheckSettings) (manifest : ByteString) (files later : ByteString → Answer) (w v : World)
     → HasFiles w files → HasFiles v later → check.algo ≡ algos_of t → All (IsCheckable check.algo files later) gs
     → 0 < length names → length (flat_map (generation_output w) gs) < limit

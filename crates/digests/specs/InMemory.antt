@@ -3,7 +3,7 @@ use Rattle.std.specs.Prelude.{ℕ, ◌≡◌, ◌⊎◌, List, Option, None, Som
 use Rattle.sum_sources.specs.Sources.{Answers, ToldAnswers, TellsAll}
 use Rattle.sum_engine.specs.Behavior.{ByteString, World}
 use Rattle.sum_engine.specs.declared.stop.Stop.{Stop}
-use Rattle.sum_engine.specs.Execution.{StreamsState, asked, ReadsToEndIf, PerformsSteps, Performs}
+use Rattle.sum_engine.specs.Execution.{StreamsState, opened_names, ReadsToEndIf, PerformsSteps, Performs}
 use Rattle.sum_words.specs.{Arguments.ArgumentsState, CommandLines.command_line, CommandLines.NeedsMemory, Texts.unknown_tool_line, Texts.not_read_line}
 use Rattle.sum_words.specs.declared.tool.Tool.{Tool}
 use Rattle.digests.specs.Meaning.{meaning, status_of}
@@ -15,7 +15,7 @@ abbrev pub MeansInMemory : ToldAnswers → StreamsState → Type 0
 MeansInMemory tells b = (tool : Tool) (words : List ByteString) (answer : Answers) (a : StreamsState) (r : Result ℕ Stop)
     → TellsAll tells a.inputs.told answer
     → Performs (meaning tool words) status_of a b r → ReadsToEndIf (r ≡ Ok 0) a.inputs b.inputs
-    → let all = meaning tool words (record { answer = answer; opened = asked a.inputs }) in
+    → let all = meaning tool words (record { answer = answer; opened = opened_names a.inputs }) in
     PerformsSteps all.steps (status_of all.good) a b r
 
 -- a call of a tool on its words, or of no known tool, in one world
@@ -27,9 +27,9 @@ CommandPerformsIn w (Some (tool, words)) = let all = meaning tool words w in
 -- if the program was called, as its contract says, with arguments in memory and over a source that tells all
 -- answers, and left the streams b, then it did exactly what these arguments ask for by these answers; or they need
 -- memory, and weren't read
-abbrev pub ProgramInMemory : ToldAnswers → ArgumentsState → StreamsState → Type 0
-ProgramInMemory tells given b = (arguments : List ByteString) (answer : Answers) (a : StreamsState) (status : ℕ)
+abbrev pub MeansProgramInMemory : ToldAnswers → ArgumentsState → StreamsState → Type 0
+MeansProgramInMemory tells given b = (arguments : List ByteString) (answer : Answers) (a : StreamsState) (status : ℕ)
     → given.told ≡ Some arguments → TellsAll tells a.inputs.told answer
     → ProgramPerforms given a b status → ReadsToEndIf (status ≡ 0) a.inputs b.inputs
-    → CommandPerformsIn (record { answer = answer; opened = asked a.inputs }) (command_line arguments) a b status
+    → CommandPerformsIn (record { answer = answer; opened = opened_names a.inputs }) (command_line arguments) a b status
     ⊎ (NeedsMemory arguments × CallRefuses not_read_line a b status)

@@ -1,6 +1,6 @@
 -- What a tool's words mean: a behavior, its status, and how often its source may be refused memory.
 use Rattle.std.specs.Prelude.{ℕ, Bool, true, false, List, [], ◌∷◌, Result, Ok, Err, codes, if◌then◌else◌}
-use Rattle.sum_engine.specs.Behavior.{World, after, Behavior, behavior_then, single_step, asks, ByteString}
+use Rattle.sum_engine.specs.Behavior.{World, world_after, Behavior, behavior_then, single_step, asks, ByteString}
 use Rattle.sum_engine.specs.{Execution.none_or_one, Generation.generate_behavior, check.Checking.check_behavior}
 use Rattle.sum_words.specs.declared.{tool.Tool.Tool, parsing.request.Request.Request}
 use Rattle.sum_words.specs.declared.parsing.request.Request.TheVariants.{Generate, Check, Help, Version}
@@ -9,20 +9,20 @@ use Rattle.sum_words.specs.{Tools.name_of, Request.request, Request.WordFaultVal
 -- the behavior of all operands, each in the world that the earlier ones leave
 abbrev pub operands_behavior : (World → ByteString → Behavior) → World → List ByteString → Behavior
 operands_behavior one w [] = record { steps = []; good = true }
-operands_behavior one w (n ∷ ns) = behavior_then (one w n) (operands_behavior one (after w (asks (one w n))) ns)
+operands_behavior one w (n ∷ ns) = behavior_then (one w n) (operands_behavior one (world_after w (asks (one w n))) ns)
 
 -- the operands, or `-` if there is none
-abbrev pub or_dash : List ByteString → List ByteString
-or_dash [] = codes "-" ∷ []
-or_dash names = names
+abbrev pub names_or_dash : List ByteString → List ByteString
+names_or_dash [] = codes "-" ∷ []
+names_or_dash names = names
 
 -- the behavior that a request, or a fault in the words, asks for
 abbrev pub request_behavior : Tool → Result Request WordFaultValue → World → Behavior
 request_behavior t (Err fault) w = single_step [] (fault_lines t fault) [] false
 request_behavior t (Ok Help) w = single_step [] [] (help t) true
 request_behavior t (Ok Version) w = single_step [] [] (version t) true
-request_behavior t (Ok (Generate s names)) w = operands_behavior (generate_behavior s (name_of t)) w (or_dash names)
-request_behavior t (Ok (Check s names)) w = operands_behavior (check_behavior s (name_of t)) w (or_dash names)
+request_behavior t (Ok (Generate s ns)) w = operands_behavior (generate_behavior s (name_of t)) w (names_or_dash ns)
+request_behavior t (Ok (Check s ns)) w = operands_behavior (check_behavior s (name_of t)) w (names_or_dash ns)
 
 -- the behavior that a tool's words mean
 abbrev pub meaning : Tool → List ByteString → World → Behavior

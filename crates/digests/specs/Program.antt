@@ -4,7 +4,7 @@ use Rattle.sum_sources.specs.{Sources.Pair}
 use Rattle.sum_lines.specs.Sinks.{OutputState, GivesAll}
 use Rattle.sum_engine.specs.Behavior.{single_step, ByteString}
 use Rattle.sum_engine.specs.Execution.{OutputsState, StreamsState, FailuresMatch, Performs}
-use Rattle.sum_words.specs.Arguments.{ArgumentsState, AreOf}
+use Rattle.sum_words.specs.Arguments.{ArgumentsState, FitsArguments}
 use Rattle.sum_words.specs.CommandLines.{command_line, NeedsMemory}
 use Rattle.sum_words.specs.declared.tool.Tool.{Tool}
 use Rattle.sum_words.specs.Texts.{Stop, stop_line, unknown_tool_line, not_read_line}
@@ -40,7 +40,7 @@ CommandPerforms (Some (tool, words)) = CallPerforms (Some tool) (Performs (meani
 
 -- for each list that agrees: its call is performed or, if it needs memory, that of words not read
 abbrev pub ProgramPerforms : ArgumentsState → StreamsState → StreamsState → ℕ → Type 0
-ProgramPerforms given a b status = (arguments : List ByteString) → AreOf given arguments
+ProgramPerforms given a b status = (arguments : List ByteString) → FitsArguments given arguments
     → CommandPerforms (command_line arguments) a b status
     ⊎ (NeedsMemory arguments × CallRefuses not_read_line a b status)
 

@@ -1,5 +1,5 @@
 //! The run of a tool on its words.
-ghost use Rattle.digests.specs.Meaning.{operands_behavior, request_behavior, or_dash, meaning, status_of, allowed_refusals};
+ghost use Rattle.digests.specs.Meaning.{operands_behavior, request_behavior, names_or_dash, meaning, status_of, allowed_refusals};
 ghost use Rattle.digests.specs.refinement.Operands.{operand_behavior, job_refusals};
 ghost use Rattle.std.specs.Prelude.{◌≡◌, ◌∷◌, true, Ok};
 ghost use Rattle.sum_engine.specs.Execution.{FailuresMatch, ReadsToEndIf, RefusalsMatch, StopHasCause, Performs};
@@ -96,7 +96,7 @@ fn run_operand<A: Allocator + Copy, S: Source, O: Sink, E: Sink>(
 
 // The first operand, or `-` if there is none.
 fn first_name<'a>(operands: &mut Operands<'a>) -> &'a [u8]
-    ensures { or_dash operands.old ≡ result.now ∷ operands.new }
+    ensures { names_or_dash operands.old ≡ result.now ∷ operands.new }
 {
     operands.next().unwrap_or(b"-")
 }
@@ -110,7 +110,7 @@ fn run_operands<A: Allocator + Copy, S: Source, O: Sink, E: Sink>(
     streams: &mut Streams<Inputs<S>, Outputs<O, E>>,
 ) -> Result<u8, Stop>
     ensures behavior { Performs (λ w. operands_behavior (operand_behavior job.now (name_of tool)) w
-        (or_dash operands.entry)) status_of
+        (names_or_dash operands.entry)) status_of
         streams.old streams.new result }
     ensures cause { StopHasCause (job_refusals job.now) streams.old streams.new result }
     ensures reads { ReadsToEndIf (result ≡ Ok 0) streams.old.inputs streams.new.inputs }

@@ -5,7 +5,7 @@ ghost use Rattle.std.specs.Prelude.{ℕ, ◌≡◌, ◌<◌, ◌∷◌, ◌++◌
 ghost use Rattle.sum_engine.specs.Behavior.{Whole, World, answer_to, out_text, err_text};
 ghost use Rattle.sum_sources.specs.Contents.{empty_content, limit};
 ghost use Rattle.sum_sources.specs.Sources.{Answer as AnswerValue, Answers, TellsAll};
-ghost use Rattle.sum_words.specs.Arguments.{AreOf};
+ghost use Rattle.sum_words.specs.Arguments.{FitsArguments};
 ghost use Rattle.sum_words.specs.Items.{ByteString};
 ghost use Rattle.sum_words.specs.declared.tool.Tool.TheVariants.{Md5sum, Sha256sum, Anysum};
 
@@ -98,7 +98,7 @@ where
     I: Read + AsFd + Drop,
     O: Write,
     E: Write,
-    ensures { AreOf (⟦<SystemArguments<R> as Arguments>⟧.state result.arguments)
+    ensures { FitsArguments (⟦<SystemArguments<R> as Arguments>⟧.state result.arguments)
         (codes "md5sum" ∷ codes "-" ∷ codes "-" ∷ []) → result.status ≡ 0 → (text : ByteString)
         × (result.streams.outputs.out.written ≡ text
         ++ codes "d41d8cd98f00b204e9800998ecf8427e  -\n") }

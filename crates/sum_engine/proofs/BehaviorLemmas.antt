@@ -6,7 +6,7 @@ use Rattle.sum_lines.proofs.EventLemmas.{output_events-bytes}
 use Rattle.sum_engine.specs.Execution.{Stop, Memory, Write, StreamsState, AsksNames, Agrees, world_at, Happened, with_refusals, PerformsSteps, Performs}
 use Rattle.sum_engine.specs.Behavior.{World, Step, Behavior, trace, events_of, opened_name, err_event, out_event, single_step}
 use Rattle.sum_engine.specs.{check.Checker.step_then, check.CheckerLaws.EventsExtend, refinement.Writes.WritesAndReturns}
-use Rattle.sum_engine.specs.refinement.Names.{MemoryWasRefused}
+use Rattle.sum_engine.specs.refinement.Names.{RefusesMemory}
 use Rattle.sum_engine.proofs.ExecutionLemmas.{step_performed, kind-all, kind-none, Happened-then, refused_first}
 
 -- ---- a behavior after a step, and one behavior after another
@@ -80,7 +80,7 @@ Performs-step run outcome good a b {x = x} asked is said = λ w agrees.
 -- the source had no memory to open the first step's name
 pub Performs-refused : {A : Type 0} (run : World → Behavior) (outcome : Bool → A) (a b : StreamsState)
     → ((w : World) → (s : Step) × (rest : List Step) × ((run w).steps ≡ s ∷ rest))
-    → MemoryWasRefused a.inputs b.inputs → b.outputs ≡ a.outputs → Performs run outcome a b (Err Memory)
+    → RefusesMemory a.inputs b.inputs → b.outputs ≡ a.outputs → Performs run outcome a b (Err Memory)
 Performs-refused run outcome a b first refused outputs = λ w agrees.
     let next = first (world_at w a.inputs) in
     refused_first next.0 next.1 next.2 outputs (inl refused)

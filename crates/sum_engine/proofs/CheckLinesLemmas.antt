@@ -6,8 +6,8 @@ use Rattle.sum_sources.specs.{Contents.IsSameInput, Contents.Fits, Contents.read
 use Rattle.sum_engine.specs.Behavior.{World, Reads, Step, Behavior, Content, InputState, clip}
 use Rattle.sum_engine.specs.{check.Rules.Rules, check.Rules.LabelsValue, check.Judge.all_verdicts, check.Checking.content_behavior}
 use Rattle.sum_engine.specs.check.CheckStates.{CheckState, initial_state, remaining_behavior}
-use Rattle.sum_engine.specs.check.Verdicts.{IsAtStart, VerdictsValue, state_at, InEachCheck, VerdictResult, LineVerdict, counts_after, IsNotUnread, AsksFor}
-use Rattle.sum_engine.specs.check.Checker.{ReportsFound, Progress, Going, Ended, IsStep, TakesStep, step_then, progress_before, CheckerValue, AdvancesChecker, ends}
+use Rattle.sum_engine.specs.check.Verdicts.{IsAtStart, VerdictsValue, state_at, HoldsInEachCheck, VerdictResult, LineVerdict, counts_after, IsNotUnread, AsksFor}
+use Rattle.sum_engine.specs.check.Checker.{ReportsFound, Progress, Going, Ended, IsStep, TakesStep, step_then, progress_before, CheckerValue, AdvancesChecker, end_result}
 use Rattle.sum_sources.specs.declared.{inputs.phase.Phase.TheVariants.Unfinished, line_reader.LineStop.TheVariants.Fault, line_reader.LineStop.TheVariants.Memory}
 use Rattle.sum_engine.specs.{check.CheckerLaws.RunsManifest, check.ReadAhead.StopsAtStep}
 use Rattle.sum_engine.specs.declared.stop.Stop.TheVariants as stops
@@ -41,7 +41,7 @@ none_left (s ∷ steps) all good h = cc
 -- if the last step was performed after all steps before it, the whole behavior was
 pub done_last : {whole left : Behavior} {a b : StreamsState} (c : StreamsState) (step : Step) (later : Behavior)
     (x : Result Bool Stop) → HasDoneUpTo whole left a b → left ≡ step_then step later
-    → PerformsSteps (step ∷ []) (progress_before later.steps later.good) b c (ends x)
+    → PerformsSteps (step ∷ []) (progress_before later.steps later.good) b c (end_result x)
     → PerformsSteps whole.steps whole.good a c x
 done_last c step later (Ok good) h is k =
     let last = none_left later.steps later.good good k.0 in
@@ -87,7 +87,7 @@ cause_found q labels vector (Ok None) a b asked h = wrote_cause _ asked.refusals
 
 -- the cause of a stop of a step that ends or stops, after steps that went on
 cause_ends : {a b c : StreamsState} (x : Result Bool Stop) → StopHasCause {A = Bool} none_or_one a b (Ok true)
-    → StopHasCause none_or_one b c (ends x) → StopHasCause none_or_one a c x
+    → StopHasCause none_or_one b c (end_result x) → StopHasCause none_or_one a c x
 cause_ends (Ok good) h k = search rules
 cause_ends (Err Write) h k = search rules
 cause_ends (Err stops.Memory) h k = search rules
@@ -124,7 +124,7 @@ module _ {I : Type 0} (state : I → InputState) (first : CheckerValue I) (m : S
 
   -- P holds between the state there and the state at another place and streams
   abbrev HoldsUpTo : VerdictsValue I → StreamsState → (CheckState → CheckState → Type 0) → Type 0
-  HoldsUpTo q n P = InEachCheck state first.verdicts q m.inputs n.inputs P
+  HoldsUpTo q n P = HoldsInEachCheck state first.verdicts q m.inputs n.inputs P
 
   -- the check came from the state a to b: what is done and what is left is all, and so is what is consumed and what
   -- remains of the content
@@ -192,8 +192,8 @@ module _ {I : Type 0} (state : I → InputState) (first : CheckerValue I) (m : S
   -- a step that ends or stops
   module _ (q last : CheckerValue I) (n o : StreamsState) (vector : List ℕ) (x : Result Bool Stop)
       (start : IsAtStart state first.verdicts first.verdicts.reader.input) (h : HasComeTo q n)
-      (advances : AdvancesChecker state vector q last n o (ends x))
-      (step : TakesStep state vector q.labels q.verdicts last.verdicts n o (ends x))
+      (advances : AdvancesChecker state vector q last n o (end_result x))
+      (step : TakesStep state vector q.labels q.verdicts last.verdicts n o (end_result x))
     where
       abbrev was : Reads
       was = (state first.verdicts.reader.input).reads
@@ -220,7 +220,7 @@ module _ {I : Type 0} (state : I → InputState) (first : CheckerValue I) (m : S
           let before : length was.bytes ≡ length now.bytes - taken =
           omega (arith, none, h.taken, advances.verdict.reader.taken) in
           let ended : HoldsUpTo last.verdicts o (λ a d. a.consumed ≡ 0 → EndsAs x d.taken o (left a) a.remaining) =
-          one_more_step last o vector (ends x) h advances step (λ a b d along step none. record {
+          one_more_step last o vector (end_result x) h advances step (λ a b d along step none. record {
             performs = done_last o step.step step.later x along.done step.is step.performs;
             stopped = stops_at_step o a b d x along.done (omega (arith, along.consumed, none)) step;
           }) in

@@ -5,13 +5,13 @@ use Rattle.std.proofs.lemmas.Option.{slice_get_past}
 use Rattle.sum_sources.specs.{Contents.empty_reads, Sources.and_opening, Sources.gave_of, Sources.gave_at, Sources.times}
 use Rattle.sum_sources.proofs.GaveLemmas.{gave-times}
 use Rattle.sum_lines.proofs.EventLemmas.{Gets-none}
-use Rattle.sum_engine.specs.Behavior.{Fault, World, is_dash, answer_to, after, Behavior, Step, events_of, trace, Answer, Content, InputState, SourceState, Fits, clip}
+use Rattle.sum_engine.specs.Behavior.{Fault, World, is_dash, answer_to, world_after, Behavior, Step, events_of, trace, Answer, Content, InputState, SourceState, Fits, clip}
 use Rattle.sum_engine.specs.{check.CheckerLaws.RunsManifest, check.Rules.rules_of, check.Rules.labels_of, check.Judge.own_profile}
 use Rattle.sum_engine.specs.{check.Checking.CheckSettings, check.Checking.check_behavior_by, check.Checking.check_behavior, Generation.name_fault_line}
 use Rattle.sum_engine.specs.check.ReadAhead.{StopsAtStep, StopsAtLine}
-use Rattle.sum_engine.specs.Execution.{Stop, Memory, asked, OutputsState, StreamsState, world_at, Happened, Performs}
-use Rattle.sum_engine.specs.{refinement.Writes.WritesAndReturns, refinement.Names.MemoryWasRefused}
-use Rattle.sum_engine.proofs.{ExecutionLemmas.Happened-by, ExecutionLemmas.Happened-then, ExecutionLemmas.kept_performs, WorldLemmas.asks_one, WorldLemmas.world_after}
+use Rattle.sum_engine.specs.Execution.{Stop, Memory, opened_names, OutputsState, StreamsState, world_at, Happened, Performs}
+use Rattle.sum_engine.specs.{refinement.Writes.WritesAndReturns, refinement.Names.RefusesMemory}
+use Rattle.sum_engine.proofs.{ExecutionLemmas.Happened-by, ExecutionLemmas.Happened-then, ExecutionLemmas.kept_performs, WorldLemmas.asks_one, WorldLemmas.world_at_after}
 use Rattle.sum_engine.proofs.{BehaviorLemmas.behind_step, BehaviorLemmas.Performs-step, BehaviorLemmas.Performs-refused, CheckLinesLemmas.manifest_behavior}
 use Rattle.sum_engine.proofs.OpenedNameLemmas.{WasOpened, fault_answer}
 
@@ -25,7 +25,7 @@ shown name = if is_dash name then codes "standard input" else name
 
 -- a stop among these steps, after one that happened and before a file was closed
 stops_behind : {a m : StreamsState} {steps : List Step} {k : ℕ} (stop : Stop) (s : Step) (c : Content)
-    (b : StreamsState) (n : SourceState) → Happened a m (events_of s) → asked n ≡ asked b.inputs
+    (b : StreamsState) (n : SourceState) → Happened a m (events_of s) → opened_names n ≡ opened_names b.inputs
     → n.refusals ≡ b.inputs.refusals → StopsAtStep stop steps c k m b
     → StopsAtStep stop (s ∷ steps) c k a (record b { inputs = n })
 stops_behind stop s c b n did asked refusals ran = record {
@@ -73,7 +73,7 @@ module _ (settings : CheckSettings) (tool name : List ℕ) (a : StreamsState) wh
           let ran = (rw fresh at run.behavior) refl c of w (o.agrees w agrees) in
           let whole = check_behavior settings tool (world_at w a.inputs) name in
           kept_performs whole.steps whole.good a b n x o.asked o.refusals
-          (rw (answer, ← world_after w a.inputs m (name ∷ []) o.asks)
+          (rw (answer, ← world_at_after w a.inputs m (name ∷ []) o.asks)
           (behind_step b (all c w).good (opening name) (all c w).steps x did ran))
 
       pub check_stops : (x : Result Bool Stop) → Ran x → StoppedAt (record b { inputs = n }) x
@@ -84,7 +84,7 @@ module _ (settings : CheckSettings) (tool name : List ℕ) (a : StreamsState) wh
           let read : t.reads ≡ r = search (rules, o.gave, gave) in
           let ran = (rw fresh at run.stopped) refl c (subst (λ c. Fits t.reads c) same of) w
           (o.agrees w agrees) in
-          rw (answer, ← world_after w a.inputs m (name ∷ []) o.asks, ← read)
+          rw (answer, ← world_at_after w a.inputs m (name ∷ []) o.asks, ← read)
           (stops_behind stop (opening name) (clip c) b n did o.asked o.refusals ran)
 
   -- the manifest could not be opened, and the line of its fault was written, or a prefix of it
@@ -105,10 +105,10 @@ module _ (settings : CheckSettings) (tool name : List ℕ) (a : StreamsState) wh
       let fault = fault_answer a.inputs m name f opens w agrees in cc
 
   -- there was no memory to open the manifest
-  pub no_room : (m : SourceState) → MemoryWasRefused a.inputs m → Performed (from_inputs m) (Err Memory)
+  pub no_room : (m : SourceState) → RefusesMemory a.inputs m → Performed (from_inputs m) (Err Memory)
   no_room m refused =
       Performs-refused (λ w. check_behavior settings tool w name) (λ g. g) a (from_inputs m)
-      (λ w. begins (after w (name ∷ [])) (answer_to w name)) refused refl
+      (λ w. begins (world_after w (name ∷ [])) (answer_to w name)) refused refl
     where
       -- checking begins with a step
       begins : (w : World) (answer : Answer) → (next : Step) × (rest : List Step) × ((check_behavior_by
@@ -117,10 +117,10 @@ module _ (settings : CheckSettings) (tool name : List ℕ) (a : StreamsState) wh
       begins w (Ok c) = (opening name, _, refl)
 
   -- so it gave nothing
-  pub not_asked : (m : SourceState) → MemoryWasRefused a.inputs m → StoppedAt (from_inputs m) (Err Memory)
+  pub not_asked : (m : SourceState) → RefusesMemory a.inputs m → StoppedAt (from_inputs m) (Err Memory)
   not_asked m refused = λ w agrees c answer r gave.
-      let past = slice_get_past (gave_of a.inputs.openings name) (times name (asked a.inputs))
+      let past = slice_get_past (gave_of a.inputs.openings name) (times name (opened_names a.inputs))
       (rw gave-times (omega arith)) in
-      let none : gave_at a.inputs.openings name (times name (asked a.inputs)) ≡ None = rw past refl in
+      let none : gave_at a.inputs.openings name (times name (opened_names a.inputs)) ≡ None = rw past refl in
       let some = rw refused at gave in
       cc

@@ -6,8 +6,8 @@ use Rattle.sum_lines.specs.Sinks.{Gets}
 use Rattle.sum_lines.proofs.EventLemmas.{Gets-none, Gets-then}
 use Rattle.sum_engine.specs.Behavior.{Event, Step, SourceState, OutputEvent, output_events, open_name, to_err, to_out}
 use Rattle.sum_engine.specs.refinement.Writes.{WritesBoth, WritesAndReturns}
-use Rattle.sum_engine.specs.refinement.Names.{MemoryWasRefused}
-use Rattle.sum_engine.specs.Execution.{StreamsState, asked, AsksNames, Stop, Memory, Write, Happened, RunsOutOfMemory, with_refusals, PerformsSteps, none_or_one}
+use Rattle.sum_engine.specs.refinement.Names.{RefusesMemory}
+use Rattle.sum_engine.specs.Execution.{StreamsState, opened_names, AsksNames, Stop, Memory, Write, Happened, RunsOutOfMemory, with_refusals, PerformsSteps, none_or_one}
 use Rattle.sum_engine.proofs.WorldLemmas.{asks_none, asks_then}
 
 -- ---- what of a step's events is of each kind
@@ -71,7 +71,7 @@ step_performed {A} {a} {b} {names} {err} {out} {x} remaining r asked said = by r
 
 -- memory was refused for the first step, or bytes of the manifest remained, and nothing happened
 pub refused_first : {a b : StreamsState} {steps : List Step} (next : Step) (later : List Step) → steps ≡ next ∷ later
-    → b.outputs ≡ a.outputs → MemoryWasRefused a.inputs b.inputs ⊎ ((b.inputs ≡ a.inputs) × (0 < next.remaining))
+    → b.outputs ≡ a.outputs → RefusesMemory a.inputs b.inputs ⊎ ((b.inputs ≡ a.inputs) × (0 < next.remaining))
     → RunsOutOfMemory steps a b
 refused_first {a} {b} next later are outputs refused =
     let same : with_refusals a.inputs.refusals b ≡ a = elim refused [
@@ -90,7 +90,7 @@ refused_first {a} {b} next later are outputs refused =
 -- ---- the cause of a stop
 
 -- memory was refused once, or not at all
-pub one_at_most : {X : Type 0} (a b : SourceState) → MemoryWasRefused a b ⊎ ((b ≡ a) × X)
+pub one_at_most : {X : Type 0} (a b : SourceState) → RefusesMemory a b ⊎ ((b ≡ a) × X)
     → Any (λ n. b.refusals ≡ a.refusals + n) none_or_one
 one_at_most a b (inl refused) = (1, 1, search arith, refl, rw refused refl)
 one_at_most a b (inr same) = (0, 0, search arith, refl, rw same.0 (omega arith))
@@ -99,7 +99,7 @@ one_at_most a b (inr same) = (0, 0, search arith, refl, rw same.0 (omega arith))
 
 -- what was performed still is after a closing, which opens nothing and is refused no memory
 pub kept_performs : {A : Type 0} (steps : List Step) (x : A) (a b : StreamsState) (n : SourceState) (r : Result A Stop)
-    → asked n ≡ asked b.inputs → n.refusals ≡ b.inputs.refusals → PerformsSteps steps x a b r
+    → opened_names n ≡ opened_names b.inputs → n.refusals ≡ b.inputs.refusals → PerformsSteps steps x a b r
     → PerformsSteps steps x a (record b { inputs = n }) r
 kept_performs steps x a b n (Ok outcome) asked refusals did = search rules
 kept_performs steps x a b n (Err Write) asked refusals did = let h = did.3 in (did.0, did.1, did.2, search rules)

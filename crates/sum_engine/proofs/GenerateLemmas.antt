@@ -2,7 +2,7 @@
 use Rattle.std.proofs.Common.{rules, ◌≡◌, ℕ, List, [], ◌∷◌, Result, Ok, Err, refl}
 use Rattle.digest_kinds.specs.Kinds.{KindValue}
 use Rattle.sum_engine.specs.Behavior.{Fault, digest_or_fault, SourceState, Step, World, answer_to}
-use Rattle.sum_engine.specs.refinement.Names.{HashFault, MemoryWasRefused, NoRoom, fault_in}
+use Rattle.sum_engine.specs.refinement.Names.{HashFault, RefusesMemory, NoRoom, fault_in}
 use Rattle.sum_engine.proofs.HashLemmas.{HashesName}
 use Rattle.sum_sources.specs.declared.sources.hash_file.HashFault.TheVariants.{Open, Read}
 use Rattle.sum_sources.specs.declared.sources.source.OpenFault.TheVariants as faults
@@ -19,7 +19,7 @@ fault_found (Open faults.Memory) f is h = cc
 
 -- if there is no fault of the name, memory was refused
 pub refused_memory : {kind : KindValue} {name : List ℕ} {a b : SourceState} (e : HashFault) (f : NoRoom)
-    → Err f ≡ fault_in e → HashesName kind name a b (Err e) → MemoryWasRefused a b
+    → Err f ≡ fault_in e → HashesName kind name a b (Err e) → RefusesMemory a b
 refused_memory (Open faults.Memory) f is h = h.asked
 refused_memory (Open (faults.Fault e)) f is h = cc
 refused_memory (Read e) f is h = cc

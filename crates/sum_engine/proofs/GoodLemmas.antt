@@ -7,7 +7,7 @@ use Rattle.sum_engine.specs.check.Judge.{Algos, Form, Right, LineVerdictValue, j
 use Rattle.sum_engine.specs.check.Reports.{Report, Counts, out_by, out_of, err_of, counts_of, end_text, good}
 use Rattle.sum_engine.specs.check.Checking.{CheckSettings, line_steps, content_behavior, check_behavior_by, check_behavior}
 use Rattle.sum_engine.specs.check.Checker.{step_then}
-use Rattle.sum_engine.specs.Behavior.{Whole, World, answer_to, after, Behavior, out_text, err_text, is_dash, Answer, times}
+use Rattle.sum_engine.specs.Behavior.{Whole, World, answer_to, world_after, Behavior, out_text, err_text, is_dash, Answer, times}
 use Rattle.sum_sources.specs.Contents.{Content, limit}
 use Rattle.sum_sources.proofs.ContentLemmas.{limit-value, clip-short}
 use Rattle.sum_lines.proofs.ParsedLineLemmas.{parse_is_grammar}
@@ -54,7 +54,7 @@ right-verdicts r files before (i ∷ is) w n steady u all =
     let algos : Algos = r.algo in
     let h : Listed algos files i = All-head (Listed algos files) i is all in
     let b = back algos files before (map prefix is) i h u in
-    let rest = right-verdicts r files (before ++ (prefix i ∷ [])) is (after w (i.name ∷ [])) (n + 1)
+    let rest = right-verdicts r files (before ++ (prefix i ∷ [])) is (world_after w (i.name ∷ [])) (n + 1)
     steady b.2 (All-tail (Listed algos files) i is all) in
     let here = judged r files w (n + 1) _ i steady h b.1 in search (rules, append_assoc, here, rest)
 
@@ -105,7 +105,7 @@ manifest_good check tool manifest files w [] steady all some fits given = absurd
 manifest_good check tool manifest files w (i ∷ is) steady all some fits given =
     let r : Rules = rules_of check (is_dash manifest) in
     let labels : LabelsValue = labels_of check tool manifest in
-    let next : World = after w (manifest ∷ []) in
+    let next : World = world_after w (manifest ∷ []) in
     let c : Content = whole (i ∷ is) in
     let js = rights 0 (i ∷ is) in
     let verdicts : all_verdicts (now r) next c ≡ js = rw (lines-are check.algo files (i ∷ is) all)

@@ -4,7 +4,7 @@ use Rattle.digest_kinds.specs.Kinds.{KindValue}
 use Rattle.sum_sources.specs.Sources.{HashesFile}
 use Rattle.sum_engine.specs.Behavior.{World, Answer, Fault, SourceState, answer_to, digest_or_fault}
 use Rattle.sum_engine.specs.Execution.{Agrees, world_at, AsksNames, ReadsToEndIf}
-use Rattle.sum_engine.specs.refinement.Names.{HashFault, MemoryWasRefused}
+use Rattle.sum_engine.specs.refinement.Names.{HashFault, RefusesMemory}
 use Rattle.sum_engine.proofs.WorldLemmas.{opening_agrees, asks_one, reads_one}
 use Rattle.sum_sources.specs.declared.sources.hash_file.HashFault.TheVariants as hashing
 use Rattle.sum_sources.specs.declared.sources.source.OpenFault.TheVariants as faults
@@ -18,7 +18,7 @@ IsHashOf kind x (Err (hashing.Open faults.Memory)) = Unit {0}
 
 -- the name is opened, unless memory was refused
 abbrev pub AsksUnlessRefused : List ℕ → SourceState → SourceState → Result (List ℕ) HashFault → Type 0
-AsksUnlessRefused name a b (Err (hashing.Open faults.Memory)) = MemoryWasRefused a b
+AsksUnlessRefused name a b (Err (hashing.Open faults.Memory)) = RefusesMemory a b
 AsksUnlessRefused name a b r = AsksNames a b (name ∷ [])
 
 -- reading it didn't fail

@@ -7,7 +7,7 @@ use Rattle.sum_engine.specs.check.Checking.{line_steps, content_behavior}
 use Rattle.sum_engine.specs.check.CheckStates.{CheckState, remaining_behavior, initial_state}
 use Rattle.sum_engine.specs.{check.Checker.Going, check.Checker.IsStep, check.Checker.step_then, Execution.StreamsState, Execution.Happened}
 use Rattle.sum_engine.specs.Behavior.{World, Behavior, trace, Content}
-use Rattle.sum_engine.specs.check.CheckerLaws.{StepsGoing, StepsJoin}
+use Rattle.sum_engine.specs.check.CheckerLaws.{TakesSteps, StepsJoin}
 use Rattle.sum_engine.proofs.{RemainingLemmas.past_next, ExecutionLemmas.Happened-none, BehaviorLemmas.HasDoneUpTo, BehaviorLemmas.behavior_then-happened}
 use Rattle.sum_engine.proofs.CheckLinesLemmas.{remaining-initial, none_left, done_last}
 
@@ -64,7 +64,7 @@ module _ (r : Rules) (labels : LabelsValue) (c : Content) (w : World) (s : Strea
 
   -- all steps were taken, one after another
   after_all : (a b : CheckState) (m t : StreamsState) (i : ℕ) (vectors : List (List ℕ)) → After a m i
-      → StepsGoing r labels a b m t vectors → After b t (i + length vectors)
+      → TakesSteps r labels a b m t vectors → After b t (i + length vectors)
   after_all a b m t i [] h is = let none : i + 0 ≡ i = omega arith in rw (is.0, is.1, none) h
   after_all a b m t i (v ∷ vectors) h more =
       let next : i + suc (length vectors) ≡ suc i + length vectors = omega arith in
@@ -72,7 +72,7 @@ module _ (r : Rules) (labels : LabelsValue) (c : Content) (w : World) (s : Strea
 
 -- no vector is longer than its line
 vectors_fit : (r : Rules) (labels : LabelsValue) (a b : CheckState) (s t : StreamsState) (vectors : List (List ℕ))
-    → StepsGoing r labels a b s t vectors → (i : ℕ)
+    → TakesSteps r labels a b s t vectors → (i : ℕ)
     → length (slice_index_or vectors i []) ≤ length (slice_index_or (lines_under r.profile a.remaining) i [])
 vectors_fit r labels a b s t [] is i = omega arith
 vectors_fit r labels a b s t (v ∷ vectors) more zero =

@@ -1,5 +1,5 @@
 -- A manifest of lines that were written for whole files: each line is read back.
-use Rattle.std.proofs.Common.{rules, ◌≡◌, ◌≢◌, ◌==◌, ℕ, ◌<◌, false, List, [], ◌∷◌, ◌++◌, length, map, refl, ap, sym, ◌∙◌, subst, ◌⊎◌, inl, IsTrue, flat_map, All, Ok}
+use Rattle.std.proofs.Common.{rules, ◌≡◌, ◌≢◌, ℕ, ◌<◌, false, List, [], ◌∷◌, ◌++◌, length, map, refl, ap, sym, ◌∙◌, subst, ◌⊎◌, inl, IsTrue, flat_map, All, Ok}
 use Rattle.std.specs.{Char.is_newline, Str.Lines.strip_carriage_return}
 use Rattle.std.proofs.lemmas.{Bool.ne_eqb, List.append-nil, List.append_cancel_right, List.Elements.All-nil, List.Elements.All-map, List.Elements.All-weaker}
 use Rattle.digest_kinds.specs.{Kinds.KindValue, Kinds.has_len, Kinds.digest, declared.algo.Algos.Algos}

@@ -7,11 +7,11 @@ use Rattle.sum_sources.specs.declared.line_reader.LineStop.TheVariants.{Fault, M
 use Rattle.sum_sources.proofs.LineLemmas.{line-some}
 use Rattle.sum_engine.specs.{check.Rules.Rules, check.CheckStates.CheckState, check.CheckStates.HandlesLine, check.CheckStates.next_judged}
 use Rattle.sum_engine.specs.check.Judge.{lines_under, line_verdict, asks_of, form_then, line_form, own_profile}
-use Rattle.sum_engine.specs.check.Verdicts.{LineVerdict, line_verdict_value, InEachCheck, IsNextVerdict, AsksFor, VerdictsValue, counts_after, state_at}
-use Rattle.sum_engine.specs.Behavior.{World, Content, InputState, SourceState, after}
+use Rattle.sum_engine.specs.check.Verdicts.{LineVerdict, line_verdict_value, HoldsInEachCheck, IsNextVerdict, AsksFor, VerdictsValue, counts_after, state_at}
+use Rattle.sum_engine.specs.Behavior.{World, Content, InputState, SourceState, world_after}
 use Rattle.sum_engine.specs.{Execution.Agrees, Execution.world_at, refinement.Names.NoRoom}
 use Rattle.sum_engine.specs.refinement.Judging.{TakesLine, parsed_at, found_verdict}
-use Rattle.sum_engine.proofs.{WorldLemmas.world_after, RemainingLemmas.remaining_next}
+use Rattle.sum_engine.proofs.{WorldLemmas.world_at_after, RemainingLemmas.remaining_next}
 
 -- the lines of a content under the present profile
 lines_now : (r : Rules) (c : Content) → r.profile ≡ own_profile → lines_under r.profile c ≡ lines c
@@ -53,7 +53,7 @@ module _ {I : Type 0} {state : I → InputState} {p q : VerdictsValue I} {a b : 
 
     -- the line is the first of those that remained; or memory to open its file was refused, and it remained
     pub next_verdict-line : (x : Result LineVerdict NoRoom) → JudgesLine state p q a b vector x reader line judged
-        → InEachCheck state p q a b (λ c d. IsNextVerdict p.rules vector c d (found_verdict x))
+        → HoldsInEachCheck state p q a b (λ c d. IsNextVerdict p.rules vector c d (found_verdict x))
     next_verdict-line (Ok found) h = rw (is_after h) (record {
       holds = λ reading c of w agrees.
           let reads = h.reads reading in
@@ -69,8 +69,8 @@ module _ {I : Type 0} {state : I → InputState} {p q : VerdictsValue I} {a b : 
           ∙ ap (λ l. line ∷ l) (sym (lines_now p.rules (remaining_content reader c) h.profile)) in
           let sum = reads.sum Line refl c of in
           let handled : HandlesLine p.rules first last vector = search (rules, arith, lines, next, sum, f) in
-          let world : world_at w b ≡ after (world_at w a) (asks_of (line_verdict_value vector found)) =
-          world_after w a b _ h.asked in
+          let world : world_at w b ≡ world_after (world_at w a) (asks_of (line_verdict_value vector found)) =
+          world_at_after w a b _ h.asked in
           (search (rules, remaining_next p.rules first last vector handled, f, world), handled);
     })
     next_verdict-line (Err e) h = rw (is_after h) (record {
@@ -102,7 +102,7 @@ pub next_verdict-stop : {I : Type 0} {state : I → InputState} {p q : VerdictsV
     → (IsReading state p.reader → ReadsOn state p.reader reader (Err stop) bytes)
     → reader.final_answer ≡ Some (Err stop) → IsBounded reader → p.rules.profile ≡ own_profile
     → q ≡ record p { reader = reader; outcome = Some (Err stop) }
-    → InEachCheck state p q a a (λ c d. IsNextVerdict r vector c d (Err stop))
+    → HoldsInEachCheck state p q a a (λ c d. IsNextVerdict r vector c d (Err stop))
 next_verdict-stop {p = p} vector r rules reader (Fault f) bytes reads final bounds profile is = rw (is, rules) (record {
   holds = λ reading c of w agrees.
       let next = (reads reading).line c of in

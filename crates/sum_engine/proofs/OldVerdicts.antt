@@ -4,7 +4,7 @@ use Rattle.std.proofs.lemmas.List.Elements.{All-nil, All-cons, All-head, All-tai
 use Rattle.sum_engine.specs.{check.Rules.LabelsValue, check.Rules.Rules, check.Checking.line_steps}
 use Rattle.sum_engine.specs.check.Judge.{Algos, Form, LineVerdictValue, line_verdict, asks_of, verdicts, all_verdicts, form, own_profile, parse_line}
 use Rattle.sum_engine.specs.check.Reports.{Counts, end_text}
-use Rattle.sum_engine.specs.Behavior.{Ending, Whole, Broken, World, after, Content}
+use Rattle.sum_engine.specs.Behavior.{Ending, Whole, Broken, World, world_after, Content}
 use Rattle.sum_sources.specs.ManifestLines.{raw_lines, last_line, past_line}
 use Rattle.sum_sources.proofs.CutLemmas.{bytes_of_lines, cut, raw_lines-joined}
 use Rattle.sum_engine.specs.check.OldVerdicts.{older_profile, rules_under, HasNoCarriageReturn, NamesNoCarriageReturn, IsOldManifest, OldVerdicts, OlderDiffers}
@@ -62,7 +62,7 @@ module _ (r : Rules) (labels : LabelsValue) where
       let s = parse_line_same r.algo f l here.no_byte here.no_escape here.some in
       let j = line_verdict new w (n + 1) (parse_line own_profile r.algo f l) in
       let one : line_verdict old w (n + 1) (parse_line older_profile r.algo f l) ≡ j = search (rules, s.0) in
-      let more = verdicts_same f (after w (asks_of j)) (n + 1) ls (All-tail (Alike r.algo f) l ls all) in
+      let more = verdicts_same f (world_after w (asks_of j)) (n + 1) ls (All-tail (Alike r.algo f) l ls all) in
       let clean : CleanName j = search (rules, s.1) in
       (rw (one, more.0) refl, All-cons CleanName j _ clean more.1)
 

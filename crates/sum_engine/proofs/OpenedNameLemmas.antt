@@ -5,7 +5,7 @@ use Rattle.sum_sources.specs.Contents.{Fits, IsSameInput}
 use Rattle.sum_sources.specs.Sources.{Opening, ToldAnswers, opened_file, and_opening, after_closing, IsOpen}
 use Rattle.sum_sources.proofs.GaveLemmas.{closed-seam, gave-seam}
 use Rattle.sum_engine.specs.Behavior.{World, Content, Fault, InputState, SourceState, answer_to, times}
-use Rattle.sum_engine.specs.Execution.{Agrees, world_at, asked, gave_at, AsksNames, IsAtEndIf, ReadsFile, ReadsToEndIf}
+use Rattle.sum_engine.specs.Execution.{Agrees, world_at, opened_names, gave_at, AsksNames, IsAtEndIf, ReadsFile, ReadsToEndIf}
 use Rattle.sum_engine.proofs.WorldLemmas.{agrees_open, opening_agrees, asks_one}
 
 -- the name was opened; over the opening, some calls and the closing all was read as `ReadsToEndIf` says; and what was
@@ -13,9 +13,9 @@ use Rattle.sum_engine.proofs.WorldLemmas.{agrees_open, opening_agrees, asks_one}
 pub record WasOpened (Whole : Type 0) (a m b n : SourceState) (name : List ℕ) (t : InputState) : Type 0 where
   pub asks : AsksNames a m (name ∷ [])
   pub reads : ReadsToEndIf Whole a n
-  pub gave : gave_at n.openings name (times name (asked a)) ≡ Some (Ok t.reads)
+  pub gave : gave_at n.openings name (times name (opened_names a)) ≡ Some (Ok t.reads)
   -- what the closing leaves as it is
-  pub asked : asked n ≡ asked b
+  pub asked : opened_names n ≡ opened_names b
   pub refusals : n.refusals ≡ b.refusals
   pub agrees : (w : World) → Agrees w n → Agrees w b
   pub answer : (w : World) → Agrees w n

@@ -7,7 +7,7 @@ use Rattle.sum_sources.specs.declared.inputs.phase.Phase.TheVariants.{Unfinished
 use Rattle.sum_sources.proofs.ContentLemmas.{limit-value}
 use Rattle.sum_engine.specs.Behavior.{Behavior, Content}
 use Rattle.sum_engine.specs.{check.Rules.Rules, check.Rules.LabelsValue, check.CheckStates.CheckState, check.CheckStates.remaining_behavior}
-use Rattle.sum_engine.specs.{check.Checker.IsStep, check.Checker.ends, check.Checker.progress_before, check.ReadAhead.remaining_before, check.ReadAhead.StopsAtStep}
+use Rattle.sum_engine.specs.{check.Checker.IsStep, check.Checker.end_result, check.Checker.progress_before, check.ReadAhead.remaining_before, check.ReadAhead.StopsAtStep}
 use Rattle.sum_engine.specs.Execution.{Stop, StreamsState, Write, Memory}
 use Rattle.sum_engine.proofs.{BehaviorLemmas.HasDoneUpTo, BehaviorLemmas.behavior_then-first, RemainingLemmas.remaining_before-left}
 
@@ -22,7 +22,7 @@ read_fits_clip Past bytes c past of few = absurd (past refl)
 pub stops_at_step : {r : Rules} {labels : LabelsValue} {vector : List ℕ} {m n : StreamsState} (o : StreamsState)
     (a b d : CheckState) (x : Result Bool Stop)
     → HasDoneUpTo (remaining_behavior r labels a) (remaining_behavior r labels b) m n
-    → b.consumed + length b.remaining.bytes ≡ length a.remaining.bytes → IsStep r labels vector b d n o (ends x)
+    → b.consumed + length b.remaining.bytes ≡ length a.remaining.bytes → IsStep r labels vector b d n o (end_result x)
     → d.taken ≤ length a.remaining.bytes + 8192
     → IfErr x (λ stop. StopsAtStep stop (remaining_behavior r labels a).steps a.remaining d.taken m o)
 stops_at_step o a b d (Ok good) along sum step fits = tt {0}

@@ -1,7 +1,7 @@
 -- The verdicts and the behavior that remain, after one line and the next.
 use Rattle.std.proofs.Common.{rules, arith, ◌≡◌, ◌≤◌, ℕ, zero, suc, List, [], ◌∷◌, length, refl, ap, ◌∙◌}
 use Rattle.sum_lines.proofs.EntryLemmas.{form_next, parse_stays}
-use Rattle.sum_engine.specs.Behavior.{after, Ending, Step, Behavior, Content}
+use Rattle.sum_engine.specs.Behavior.{world_after, Ending, Step, Behavior, Content}
 use Rattle.sum_engine.specs.{check.Rules.Rules, check.Rules.LabelsValue, check.Checking.line_steps}
 use Rattle.sum_engine.specs.check.Judge.{LineVerdictValue, asks_of, past_line, past_lines}
 use Rattle.sum_engine.specs.check.Reports.{Counts, counts_of, out_of, err_of, end_text, good}
@@ -10,7 +10,7 @@ use Rattle.sum_engine.specs.{check.Checker.Going, check.Checker.step_then, check
 
 -- one line's verdict, and those that remain after it
 pub remaining_next : (r : Rules) (a b : CheckState) (v : List ℕ) (h : HandlesLine r a b v)
-    → b.world ≡ after a.world (asks_of (next_judged r a h.line))
+    → b.world ≡ world_after a.world (asks_of (next_judged r a h.line))
     → remaining_verdicts r a ≡ next_judged r a h.line ∷ remaining_verdicts r b
 remaining_next r a b v h world = rw h.lines (search (rules, form_next, parse_stays))
 

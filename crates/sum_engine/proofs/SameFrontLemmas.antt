@@ -1,6 +1,6 @@
 -- `same_front`: later lines have no part in what a line says, by induction on the lines before it.
 use Rattle.std.proofs.Common.{rules, ◌≡◌, ℕ, ◌+◌, List, [], ◌∷◌, ◌++◌, length, take, refl, sym, ◌∙◌, append_assoc, length-append}
-use Rattle.sum_engine.specs.{check.Rules.Rules, Behavior.World, Behavior.after, check.CheckerLaws.SameFront}
+use Rattle.sum_engine.specs.{check.Rules.Rules, Behavior.World, Behavior.world_after, check.CheckerLaws.SameFront}
 use Rattle.sum_engine.specs.check.Judge.{Algos, Form, LineVerdictValue, line_verdict, asks_of, verdicts, parse_line, own_profile, escape, EntryValue, IsEntry, form, form_then, line_form}
 use Rattle.sum_lines.specs.declared.reading.read_line.Form.TheVariants.{Undecided}
 use Rattle.sum_lines.proofs.ParsedLineLemmas.{parse_is_grammar}
@@ -12,7 +12,7 @@ running r w n f [] = []
 running r w n f (l ∷ ls) =
     let here = form_then f (line_form r.algo l) in
     let j = line_verdict r w (n + 1) (parse_line r.profile r.algo here l) in
-    j ∷ running r (after w (asks_of j)) (n + 1) here ls
+    j ∷ running r (world_after w (asks_of j)) (n + 1) here ls
 
 -- the verdicts of the first lines are the same, whatever follows
 prefix_verdicts : (r : Rules) (w : World) (n : ℕ) (f : Form) (prefix later : List (List ℕ)) →
@@ -23,7 +23,7 @@ prefix_verdicts r w n f (l ∷ ls) later =
     let here = form_then f (line_form r.algo l) in
     let rest = form r.algo (ls ++ later) in
     let j = line_verdict r w (n + 1) (parse_line r.profile r.algo here l) in
-    let later_on = prefix_verdicts r (after w (asks_of j)) (n + 1) here ls later in
+    let later_on = prefix_verdicts r (world_after w (asks_of j)) (n + 1) here ls later in
     search (rules, form_next, parse_stays r.profile r.algo f rest l, later_on)
 
 -- an entry by one form is one by another, if the line says the same

@@ -4,7 +4,7 @@ use Rattle.sum_engine.specs.Behavior.{Ending, Whole, Broken, World, Content, Inp
 use Rattle.sum_sources.specs.LineReaders.{remaining_content}
 use Rattle.sum_engine.specs.{check.Rules.LabelsValue, check.CheckStates.CheckState, check.CheckStates.remaining_verdicts, check.CheckStates.remaining_behavior}
 use Rattle.sum_engine.specs.check.Reports.{err_of, out_of, end_text, good}
-use Rattle.sum_engine.specs.check.Verdicts.{VerdictsValue, state_at, InEachCheck, AdvancesVerdicts, VerdictResult, line_verdict_value, IsNextVerdict, HasNoVerdictLeft}
+use Rattle.sum_engine.specs.check.Verdicts.{VerdictsValue, state_at, HoldsInEachCheck, AdvancesVerdicts, VerdictResult, line_verdict_value, IsNextVerdict, HasNoVerdictLeft}
 use Rattle.sum_engine.specs.check.Checker.{ReportsFound, Progress, Going, Ended, TakesStep}
 use Rattle.sum_engine.specs.Execution.{Stop, Memory, OutputsState, StreamsState, AsksNames, world_at}
 use Rattle.sum_engine.specs.refinement.Writes.{WritesAndReturns}
@@ -14,11 +14,11 @@ use Rattle.sum_sources.specs.declared.line_reader.LineStop.TheVariants as line_s
 
 -- what follows from what holds of the states of a check holds of them, too
 InEachCheck-map : {I : Type 0} {state : I → InputState} {p q : VerdictsValue I} {a b : SourceState}
-    {P R : CheckState → CheckState → Type 0} → InEachCheck state p q a b P
+    {P R : CheckState → CheckState → Type 0} → HoldsInEachCheck state p q a b P
     → ((c : Content) (v w : World)
     → P (state_at p (remaining_content p.reader c) v) (state_at q (remaining_content q.reader c) w)
     → R (state_at p (remaining_content p.reader c) v) (state_at q (remaining_content q.reader c) w))
-    → InEachCheck state p q a b R
+    → HoldsInEachCheck state p q a b R
 InEachCheck-map {a = a} {b = b} h f =
     record { holds = λ reading c of w agrees. f c (world_at w a) (world_at w b) (h.holds reading c of w agrees) }
 
@@ -35,7 +35,7 @@ module _ {I : Type 0} {state : I → InputState} {p q : VerdictsValue I} (a b : 
   where
     -- the end was found, and its text was written, or a prefix of it
     step_end : (e : Ending) (outcome : Bool) {y : Result Progress Stop}
-        → InEachCheck state p q a.inputs b.inputs (HasNoVerdictLeft p.rules e)
+        → HoldsInEachCheck state p q a.inputs b.inputs (HasNoVerdictLeft p.rules e)
         → AsksNames a.inputs b.inputs [] → q.rules ≡ p.rules → outcome ≡ good q.rules e q.counts
         → WritesAndReturns a.outputs b.outputs (end_text q.rules labels e q.counts) [] (Ended outcome) y
         → TakesStep state vector labels p q a b y
@@ -59,7 +59,7 @@ module _ {I : Type 0} {state : I → InputState} {p q : VerdictsValue I} (a b : 
 
     -- the next verdict was found, and then it was reported
     pub step_taken : (x : VerdictResult) {y : Result Progress Stop}
-        → InEachCheck state p q a.inputs b.inputs (λ c d. IsNextVerdict p.rules vector c d x)
+        → HoldsInEachCheck state p q a.inputs b.inputs (λ c d. IsNextVerdict p.rules vector c d x)
         → AdvancesVerdicts state vector p q a.inputs b.inputs x
         → ReportsFound q labels vector x a.outputs b.outputs y → TakesStep state vector labels p q a b y
     -- a line had a verdict; its report is written, and the lines after it remain

@@ -5,7 +5,7 @@ use Rattle.std.proofs.lemmas.{List.map-append, Result.IfOk-weaker}
 use Rattle.std.proofs.lemmas.List.Elements.{All-nil, All-cons, All-append, All-weaker}
 use Rattle.sum_sources.specs.{Contents.Reads, Sources.Opening, Sources.FitsAnswer, Sources.and_opening, Sources.gave_of, Sources.names_of, Sources.times}
 use Rattle.sum_sources.proofs.GaveLemmas.{true_or_false, gave-append, gave-seam}
-use Rattle.sum_engine.specs.Behavior.{World, Fault, SourceState, after}
+use Rattle.sum_engine.specs.Behavior.{World, Fault, SourceState, world_after}
 use Rattle.sum_engine.specs.Execution.{AsksNames, Agrees, world_at, IsAtEndIf, ReadsFile, ReadsToEndIf}
 
 -- ---- names asked
@@ -56,9 +56,9 @@ reads_one {Whole} a b name gave is read =
 -- ---- worlds
 
 -- the world after a call is the one after the names that the call opened
-pub world_after : (w : World) (a b : SourceState) (names : List (List ℕ)) → AsksNames a b names
-    → world_at w b ≡ after (world_at w a) names
-world_after w a b names asks = ap (λ opened. record w { opened = opened }) asks.asked
+pub world_at_after : (w : World) (a b : SourceState) (names : List (List ℕ)) → AsksNames a b names
+    → world_at w b ≡ world_after (world_at w a) names
+world_at_after w a b names asks = ap (λ opened. record w { opened = opened }) asks.asked
 
 -- what the openings of a name gave
 abbrev Gave : Type 0

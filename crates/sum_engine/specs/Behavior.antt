@@ -21,8 +21,8 @@ abbrev pub answer_to : World → ByteString → Answer
 answer_to w name = w.answer name (times name w.opened)
 
 -- the world after these names were opened, one after another
-abbrev pub after : World → List ByteString → World
-after w names = record w { opened = w.opened ++ names }
+abbrev pub world_after : World → List ByteString → World
+world_after w names = record w { opened = w.opened ++ names }
 
 -- what reading an answer gives: the digest of all its bytes, or the fault of opening or reading it
 abbrev pub digest_or_fault : KindValue → Answer → Result (ByteString) Fault

@@ -48,12 +48,12 @@ pub record Agrees (w : World) (a : SourceState) : Type 0 where
   pub gave : (name : ByteString) (k : ℕ) → IfSome (gave_at a.openings name k) (FitsAnswer (w.answer name k))
 
 -- the names that were opened so far
-abbrev pub asked : SourceState → List ByteString
-asked a = names_of a.openings
+abbrev pub opened_names : SourceState → List ByteString
+opened_names a = names_of a.openings
 
 -- the world as it is from here on
 abbrev pub world_at : World → SourceState → World
-world_at w a = record w { opened = asked a }
+world_at w a = record w { opened = opened_names a }
 
 -- no read came after an end or a fault, or went into an empty buffer; and if Wanted holds, the end was found
 abbrev pub IsAtEndIf : Type 0 → Reads → Type 0
@@ -72,7 +72,7 @@ pub record ReadsToEndIf (Wanted : Type 0) (a b : SourceState) : Type 0 where
 
 -- these names were opened, and the source wasn't refused memory
 pub record AsksNames (a b : SourceState) (names : List ByteString) : Type 0 where
-  pub asked : asked b ≡ asked a ++ names
+  pub asked : opened_names b ≡ opened_names a ++ names
   pub refusals : b.refusals ≡ a.refusals
 
 -- these events happened: the names were opened, and each output was offered its pieces and wrote its bytes

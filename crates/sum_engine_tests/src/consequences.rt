@@ -4,7 +4,7 @@ ghost use Rattle.sum_engine.specs.Behavior.{ByteString, Content, Whole, World};
 ghost use Rattle.sum_engine.specs.Execution.{Agrees, PerformsSteps, StreamsState, world_at};
 ghost use Rattle.sum_engine.specs.Generation.{generate_behavior};
 ghost use Rattle.sum_engine.specs.check.CheckStates.{CheckState, initial_state};
-ghost use Rattle.sum_engine.specs.check.CheckerLaws.{StepsGoing};
+ghost use Rattle.sum_engine.specs.check.CheckerLaws.{TakesSteps};
 ghost use Rattle.sum_engine.specs.check.Checking.{content_behavior};
 ghost use Rattle.sum_engine.specs.check.Judge.{all_verdicts, verdicts, form, lines_under, own_profile};
 ghost use Rattle.sum_engine.specs.check.OldVerdicts.{IsOldManifest, older_profile, rules_under};
@@ -72,7 +72,7 @@ pub fn strict_check(algos: Algos) -> CheckSettings
 /// After k steps of a checker that each handled a line, each output has grown by the texts of the first k steps.
 pub fn reports_so_far()
     ensures { (r : Rules) (labels : LabelsValue) (c : Content) (w : World) (b : CheckState) (s t : StreamsState)
-        (vectors : List ByteString) → StepsGoing r labels (initial_state c w) b s t vectors
+        (vectors : List ByteString) → TakesSteps r labels (initial_state c w) b s t vectors
         → t.outputs.out.written ≡ s.outputs.out.written ++ flat_map (λ step. step.out)
         (take (length vectors) (content_behavior r labels c (all_verdicts r w c)).steps) }
 {

@@ -4,7 +4,7 @@ use Rattle.std.specs.List.{after_last}
 use Rattle.std.proofs.lemmas.{Grind.common_steps, List.Sums.suffix_len_is, Bool.not_from_false, Bool.not_from_true, Bool.false_from_ne_true}
 use Rattle.std.specs.declared.{env.FillError.FillError, env.FillError.TheVariants.NotPresent, env.FillError.TheVariants.TooLong}
 use Rattle.memchr.specs.Find.{Passes, Nowhere, is_byte}
-use Rattle.sum_words.specs.{Items.ByteString, Arguments.ArgumentsState, Arguments.Explains, Arguments.AreOf, Arguments.and_fill, ArgumentsLaws.agrees_from, refinement.CommandLine.Fails, refinement.CommandLine.Fills}
+use Rattle.sum_words.specs.{Items.ByteString, Arguments.ArgumentsState, Arguments.Explains, Arguments.FitsArguments, Arguments.and_fill, ArgumentsLaws.agrees_from, refinement.CommandLine.Fails, refinement.CommandLine.Fills}
 use Rattle.sum_words.proofs.WordBytesLemmas.{drop_at_none, drop_at_some}
 
 -- the part after a slash that no other follows, or all of a path without one
@@ -25,7 +25,7 @@ first_there P all n (Some x) is h = rw (drop_at_some all n is) h
 
 -- a list in memory still agrees after a call that does as it says
 pub agrees_after : (s : ArgumentsState) (all : List ByteString) (buffer : ByteString) (r : Result ℕ FillError)
-    → AreOf s all → Fills all (length s.given) buffer r → AreOf (and_fill s buffer r) all
+    → FitsArguments s all → Fills all (length s.given) buffer r → FitsArguments (and_fill s buffer r) all
 agrees_after s all buffer (Ok n) agrees fills =
     let word = take n buffer in
     let rest = drop (length s.given + 1) all in
@@ -46,15 +46,15 @@ follows : (given : List ByteString) (size : ℕ) (all rest : List ByteString) �
 follows given size all [] are explains = absurd explains
 follows given size all (word ∷ more) are explains = (word, more, are, explains)
 
-pub next_longer : {least : ℕ} {a b : ArgumentsState} (all : List ByteString) → Fails TooLong least a b → AreOf b all
+pub next_longer : {least : ℕ} {a b : ArgumentsState} (all : List ByteString) → Fails TooLong least a b → FitsArguments b all
     → (word : ByteString) × (more : List ByteString) × (all ≡ a.given ++ word ∷ more) × (least < length word)
 next_longer {least} {a} all fails agrees =
-    let here : AreOf (record a { fault = Some (TooLong, fails.size) }) all = rw fails.state at agrees in
+    let here : FitsArguments (record a { fault = Some (TooLong, fails.size) }) all = rw fails.state at agrees in
     let (word, more, are, longer) = follows a.given fails.size all _ here.given here.fault in
     (word, more, are, omega (arith, fails.at_least, longer))
 
 -- an argument of which something holds is among all
-pub any_longer : {a b : ArgumentsState} (all : List ByteString) → Fails TooLong 4096 a b → AreOf b all
+pub any_longer : {a b : ArgumentsState} (all : List ByteString) → Fails TooLong 4096 a b → FitsArguments b all
     → Any (λ argument. 4096 < length argument) all
 any_longer {a} all fails agrees =
     let (word, more, are, longer) = next_longer all fails agrees in

@@ -20,7 +20,7 @@ Explains rest (TooLong, size) = IsSomeAnd (slice_get rest 0) (λ argument. size 
 Explains rest (NotPresent, size) = rest ≡ []
 
 -- a list of arguments agrees: those that were given begin it, and the others explain the last call's fault
-pub record AreOf (s : ArgumentsState) (all : List ByteString) : Type 0 where
+pub record FitsArguments (s : ArgumentsState) (all : List ByteString) : Type 0 where
   pub told : IfSome s.told (λ told. all ≡ told)
   pub given : all ≡ s.given ++ drop (length s.given) all
   pub fault : IfSome s.fault (Explains (drop (length s.given) all))

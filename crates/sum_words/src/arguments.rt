@@ -1,7 +1,7 @@
 //! The arguments of the process.
 ghost use Rattle.std.specs.Prelude.{◌≡◌, ◌≤◌, [], IfOk, None, Some, List, length, map};
-ghost use Rattle.sum_words.specs.Arguments.{ArgumentsState, AreOf, ByteString, and_fill};
-ghost use Rattle.sum_words.specs.ArgumentsLaws.{AreOf-prop};
+ghost use Rattle.sum_words.specs.Arguments.{ArgumentsState, FitsArguments, ByteString, and_fill};
+ghost use Rattle.sum_words.specs.ArgumentsLaws.{FitsArguments-prop};
 ghost use Rattle.sum_words.specs.refinement.CommandLine.{Fills};
 
 use crate::arguments_log::{Filled, Fillings};
@@ -23,7 +23,7 @@ pub trait Arguments {
         ensures given { state self.new ≡ and_fill (state self.old) buffer.new result };
 
     /// Law: some list agrees with what its calls gave.
-    ghost has_list: { (s : Self) → (all : List ByteString) × AreOf (state s) all };
+    ghost has_list: { (s : Self) → (all : List ByteString) × FitsArguments (state s) all };
 }
 
 /// The arguments that the system gives.
@@ -69,7 +69,7 @@ pub struct ToldArguments<'a> {
     arguments: &'a [&'a [u8]],
     log: Log<Fillings>,
     // It has no Model: `has_list` is proved from this fact, and no law is given a Model's invariant.
-    ghost agrees: { AreOf log (map (λ a. a.now) arguments.now) } by { AreOf-prop log (map (λ a. a.now) arguments.now) },
+    ghost agrees: { FitsArguments log (map (λ a. a.now) arguments.now) } by { FitsArguments-prop log (map (λ a. a.now) arguments.now) },
 }
 
 impl<'a> ToldArguments<'a> {

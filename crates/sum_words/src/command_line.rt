@@ -4,7 +4,7 @@ ghost use Rattle.std.specs.Option.{option_map};
 ghost use Rattle.std.specs.Prelude.{◌≡◌, ◌==◌, ◌≤◌, ◌<◌, ◌*◌, ◌∷◌, ◌++◌, [], vec_len, take, length, List, Any, IfOk, IfSome, OnOk, OnErr, MatchResult};
 ghost use Rattle.std.specs.Str.{byte};
 ghost use Rattle.std.specs.declared.env.FillError.TheVariants.{TooLong};
-ghost use Rattle.sum_words.specs.Arguments.{AreOf};
+ghost use Rattle.sum_words.specs.Arguments.{FitsArguments};
 ghost use Rattle.sum_words.specs.CommandLines.{command_line, NeedsMemory};
 ghost use Rattle.sum_words.specs.Tools.{ByteString};
 ghost use Rattle.sum_words.specs.declared.command_line.TheConstants.{PAGE};
@@ -59,7 +59,7 @@ pub fn read_command_line<A: Allocator + Copy, G: Arguments>(
 ) -> Result<CommandLine<A>, NotRead>
     requires { (G.state arguments.old).given ≡ [] }
     // Of every list of arguments that agrees with what the calls gave: what it asks for, or that it needs memory.
-    ensures line { (all : List ByteString) → AreOf (G.state arguments.new) all → MatchResult result
+    ensures line { (all : List ByteString) → FitsArguments (G.state arguments.new) all → MatchResult result
         (λ line. command_line all ≡ command_line_value line) (λ _. NeedsMemory all) }
     ensures told { (G.state arguments.new).told ≡ (G.state arguments.old).told }
 {
@@ -155,7 +155,7 @@ fn find_tool<A: Allocator, G: Arguments>(
     requires { (G.state arguments.old).given ≡ [] }
     ensures tool { IfOk result (FindsTool (G.state arguments.new)) }
     ensures first { IfOk result (λ o. IfSome o (λ found. found.1 ≤ 2)) }
-    ensures not_read { OnErr result ((all : List ByteString) → AreOf (G.state arguments.new) all
+    ensures not_read { OnErr result ((all : List ByteString) → FitsArguments (G.state arguments.new) all
         → Any (λ argument. PAGE < length argument) all) }
     ensures told { (G.state arguments.new).told ≡ (G.state arguments.old).told }
 {
@@ -193,9 +193,9 @@ fn words_from<A: Allocator + Copy, G: Arguments>(
 ) -> Result<Words<A>, NotRead>
     requires place { first ≡ length (G.state arguments.old).given }
     requires few { first < usize.MAX }
-    ensures words { IfOk result (λ words. (all : List ByteString) → AreOf (G.state arguments.new) all
+    ensures words { IfOk result (λ words. (all : List ByteString) → FitsArguments (G.state arguments.new) all
         → all ≡ (G.state arguments.old).given ++ words) }
-    ensures not_read { OnErr result ((all : List ByteString) → AreOf (G.state arguments.new) all
+    ensures not_read { OnErr result ((all : List ByteString) → FitsArguments (G.state arguments.new) all
         → (word : ByteString) × (rest : List ByteString)
         × (all ≡ (G.state arguments.old).given ++ word ∷ rest)) }
     ensures told { (G.state arguments.new).told ≡ (G.state arguments.old).told }

@@ -1,7 +1,7 @@
 //! The laws of plain words and of arguments. Each is the contract of a function that does nothing.
 ghost use Rattle.std.specs.List.{AllPass};
 ghost use Rattle.std.specs.Prelude.{◌≡◌, not, List, ◌∷◌, ◌++◌, map, codes};
-ghost use Rattle.sum_words.specs.Arguments.{AreOf};
+ghost use Rattle.sum_words.specs.Arguments.{FitsArguments};
 ghost use Rattle.sum_words.specs.Items.{ByteString, operand, a_word, is_option_word, items_from};
 ghost use Rattle.sum_words.specs.declared.tool.Tool.{Tool};
 
@@ -9,7 +9,7 @@ use crate::arguments::Arguments;
 
 /// Some list of arguments agrees with what the calls for them gave. If they are in memory, only that list does.
 pub fn some_list_agrees<G: Arguments>(arguments: &G)
-    ensures { (all : List ByteString) × AreOf (G.state arguments.now) all }
+    ensures { (all : List ByteString) × FitsArguments (G.state arguments.now) all }
 {}
 
 /// A word is plain if it is `-` or doesn't begin with a dash. The plain words at the front are operands, in order,

@@ -9,7 +9,7 @@ use Rattle.sum_engine.specs.{refinement.Writes.WritesAndReturns, check.Rules.Rul
 use Rattle.sum_engine.specs.check.Reports.{out_of, err_of, end_text, good}
 use Rattle.sum_engine.specs.check.CheckStates.{CheckState, HandlesLine, remaining_behavior}
 use Rattle.sum_engine.specs.check.ReadAhead.{remaining_before}
-use Rattle.sum_engine.specs.check.Verdicts.{VerdictsValue, InEachCheck, VerdictResult, line_verdict_value, AdvancesVerdicts}
+use Rattle.sum_engine.specs.check.Verdicts.{VerdictsValue, HoldsInEachCheck, VerdictResult, line_verdict_value, AdvancesVerdicts}
 use Rattle.sum_engine.specs.declared.stop.Stop.TheVariants as stops
 
 -- a checker: the verdicts, what its reports show, and the outcome: whether the manifest is good, or why the check
@@ -48,12 +48,12 @@ pub record IsStep (r : Rules) (labels : LabelsValue) (vector : ByteString) (a b 
 abbrev pub TakesStep : {I : Type 0} → (I → InputState) → ByteString → LabelsValue → VerdictsValue I → VerdictsValue I
     → StreamsState → StreamsState → Result Progress Stop → Type 0
 TakesStep state vector labels p q a b x =
-    InEachCheck state p q a.inputs b.inputs (λ c d. IsStep p.rules labels vector c d a b x)
+    HoldsInEachCheck state p q a.inputs b.inputs (λ c d. IsStep p.rules labels vector c d a b x)
 
 -- the result of a step that ends or stops a check with this outcome
-abbrev pub ends : Result Bool Stop → Result Progress Stop
-ends (Ok good) = Ok (Ended good)
-ends (Err stop) = Err stop
+abbrev pub end_result : Result Bool Stop → Result Progress Stop
+end_result (Ok good) = Ok (Ended good)
+end_result (Err stop) = Err stop
 
 -- the outcome in a step's result: none for a line, and one for everything else
 abbrev pub outcome_in_step : Result Progress Stop → Option (Result Bool Stop)

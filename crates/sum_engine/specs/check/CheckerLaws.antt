@@ -7,7 +7,7 @@ use Rattle.sum_engine.specs.Behavior.{ByteString, Fits, InputState, Behavior, tr
 use Rattle.sum_engine.specs.{check.Rules.Rules, check.Rules.LabelsValue, check.Checking.content_behavior}
 use Rattle.sum_engine.specs.check.Judge.{lines_under, all_verdicts, verdicts, past_lines, escape, EntryValue, IsEntry, form}
 use Rattle.sum_engine.specs.check.CheckStates.{CheckState, initial_state}
-use Rattle.sum_engine.specs.check.Checker.{Going, Ended, IsStep, ends}
+use Rattle.sum_engine.specs.check.Checker.{Going, Ended, IsStep, end_result}
 use Rattle.sum_engine.specs.check.ReadAhead.{StopsAtStep}
 
 -- a new checker of an input s ran to its end, returned x, and left the input as t
@@ -36,15 +36,15 @@ EventsExtend = (r : Behavior) (a b : StreamsState) → Happened a b (trace r.ste
     × (b.outputs.out.written ≡ a.outputs.out.written ++ (out_text r))
 
 -- steps that each returned Going, one after another; after them the line's vector held these, one by one
-abbrev pub StepsGoing : Rules → LabelsValue → CheckState → CheckState → StreamsState → StreamsState → List ByteString
+abbrev pub TakesSteps : Rules → LabelsValue → CheckState → CheckState → StreamsState → StreamsState → List ByteString
     → Type 0
-StepsGoing r labels a b s t [] = (b ≡ a) × (t ≡ s)
-StepsGoing r labels a b s t (vector ∷ vectors) = (m : CheckState) × (between : StreamsState)
-    × IsStep r labels vector a m s between (Ok Going) × StepsGoing r labels m b between t vectors
+TakesSteps r labels a b s t [] = (b ≡ a) × (t ≡ s)
+TakesSteps r labels a b s t (vector ∷ vectors) = (m : CheckState) × (between : StreamsState)
+    × IsStep r labels vector a m s between (Ok Going) × TakesSteps r labels m b between t vectors
 
 -- STEP BY STEP, for a manifest c of this behavior, once a new checker took a step for each of these vectors, each of
 -- which returned Going
-pub record AfterSteps (r : Rules) (labels : LabelsValue) (c : Content) (all : Behavior) (vectors : List ByteString)
+pub record HasTakenSteps (r : Rules) (labels : LabelsValue) (c : Content) (all : Behavior) (vectors : List ByteString)
     (b : CheckState) (s t : StreamsState) : Type 0 where
   -- exactly this many steps of the behavior happened, each of one line
   pub happened : Happened s t (trace (take (length vectors) all.steps))
@@ -55,18 +55,18 @@ pub record AfterSteps (r : Rules) (labels : LabelsValue) (c : Content) (all : Be
       → length (slice_index_or vectors i []) ≤ length (slice_index_or (lines_under r.profile c) i [])
   -- if the next step ends or stops, the whole behavior was performed; and it ends only after all lines
   pub last : (x : Result Bool Stop) (vector : ByteString) (d : CheckState) (z : StreamsState)
-      → IsStep r labels vector b d t z (ends x) → PerformsSteps all.steps all.good s z x
+      → IsStep r labels vector b d t z (end_result x) → PerformsSteps all.steps all.good s z x
   pub lines : (good : Bool) (vector : ByteString) (d : CheckState) (z : StreamsState)
       → IsStep r labels vector b d t z (Ok (Ended good)) → length vectors ≡ length (lines_under r.profile c)
 
 abbrev pub StepsJoin : Type 0
 StepsJoin = (r : Rules) (labels : LabelsValue) (c : Content) (w : World) (b : CheckState) (s t : StreamsState)
-    (vectors : List ByteString) → StepsGoing r labels (initial_state c w) b s t vectors
-    → AfterSteps r labels c (content_behavior r labels c (all_verdicts r w c)) vectors b s t
+    (vectors : List ByteString) → TakesSteps r labels (initial_state c w) b s t vectors
+    → HasTakenSteps r labels c (content_behavior r labels c (all_verdicts r w c)) vectors b s t
 
 -- the first n lines of two manifests are the same, and this is the last of them: it spells the same entry in both; the
 -- verdicts are the same after the same openings; and if it is plain, the form is the same
-pub record FrontIsSame (r : Rules) (w : World) (n : ℕ) (line : ByteString) (ls ks : List ByteString) : Type 0 where
+pub record HasSameFront (r : Rules) (w : World) (n : ℕ) (line : ByteString) (ls ks : List ByteString) : Type 0 where
   pub entry : (s : EntryValue)
       → IsEntry escape r.algo (form r.algo ls) line s ↔ IsEntry escape r.algo (form r.algo ks) line s
   pub verdict : take n (verdicts r (form r.algo ls) w 0 ls) ≡ take n (verdicts r (form r.algo ks) w 0 ks)
@@ -76,4 +76,4 @@ pub record FrontIsSame (r : Rules) (w : World) (n : ℕ) (line : ByteString) (ls
 -- none of this depends on later lines, nor on a manifest's name, which isn't part of the rules
 abbrev pub SameFront : Type 0
 SameFront = (r : Rules) (w : World) (before : List ByteString) (line : ByteString) (later others : List ByteString)
-    → FrontIsSame r w (length before + 1) line (before ++ (line ∷ later)) (before ++ (line ∷ others))
+    → HasSameFront r w (length before + 1) line (before ++ (line ∷ later)) (before ++ (line ∷ others))

@@ -2,7 +2,7 @@
 use Rattle.std.specs.Prelude.{true, false, List, [], ◌∷◌, length, Ok, Err}
 use Rattle.sum_engine.specs.check.Rules.{Rules, LabelsValue, rules_of, labels_of}
 use Rattle.sum_engine.specs.check.Judge.{LineVerdictValue, asks_of, all_verdicts, past_line}
-use Rattle.sum_engine.specs.Behavior.{ByteString, World, is_dash, answer_to, after, behavior_then, Step, Behavior, single_step, Content, clip, Answer}
+use Rattle.sum_engine.specs.Behavior.{ByteString, World, is_dash, answer_to, world_after, behavior_then, Step, Behavior, single_step, Content, clip, Answer}
 use Rattle.sum_engine.specs.Generation.{name_fault_line}
 pub use Rattle.sum_engine.specs.declared.settings.CheckSettings.{CheckSettings}
 use Rattle.sum_engine.specs.check.Reports.{out_of, err_of, counts_of, end_text, good}
@@ -31,4 +31,4 @@ check_behavior_by r labels name w (Ok content) = behavior_then (single_step (nam
 -- the behavior of checking the manifest of that name in a world
 abbrev pub check_behavior : CheckSettings → ByteString → World → ByteString → Behavior
 check_behavior settings tool w name = check_behavior_by (rules_of settings (is_dash name))
-    (labels_of settings tool name) name (after w (name ∷ [])) (answer_to w name)
+    (labels_of settings tool name) name (world_after w (name ∷ [])) (answer_to w name)

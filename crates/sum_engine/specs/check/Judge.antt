@@ -2,7 +2,7 @@
 use Rattle.std.specs.Prelude.{ℕ, ◌+◌, ◌&&◌, Bool, true, false, List, [], ◌∷◌, Ok, Err, if◌then◌else◌, bytes_eq}
 pub use Rattle.digest_kinds.specs.declared.algo.Algos.{Algos}
 use Rattle.sum_engine.specs.check.Rules.{Rules}
-use Rattle.sum_engine.specs.Behavior.{ByteString, World, is_dash, answer_to, after, digest_or_fault, Content, Answer}
+use Rattle.sum_engine.specs.Behavior.{ByteString, World, is_dash, answer_to, world_after, digest_or_fault, Content, Answer}
 use Rattle.sum_sources.specs.declared.fault.Fault.TheVariants.{NotFound}
 pub use Rattle.sum_sources.specs.ManifestLines.{lines, raw_lines, past_line, past_lines}
 pub use Rattle.sum_lines.specs.declared.reading.read_line.Form.{Form}
@@ -19,15 +19,15 @@ pub record LineVerdictValue : Type 0 where
   pub name : ByteString
 
 -- whether there is no such file
-abbrev pub not_found : Answer → Bool
-not_found (Err NotFound) = true
-not_found r = false
+abbrev pub is_not_found : Answer → Bool
+is_not_found (Err NotFound) = true
+is_not_found r = false
 
 -- the verdict of an entry
 abbrev pub judge : Rules → World → EntryValue → Verdict
 judge r w s = let c = answer_to w s.name in
     if r.from_stdin && is_dash s.name then Bad
-    else if r.ignore_missing && not_found c then Missing
+    else if r.ignore_missing && is_not_found c then Missing
     else elim (digest_or_fault s.kind c) [ Ok d ↦ if bytes_eq d s.digest then Right else Wrong | Err f ↦ Unread f ]
 
 -- the verdict of line n, which says this
@@ -49,7 +49,7 @@ abbrev pub verdicts : Rules → Form → World → ℕ → List ByteString → L
 verdicts r f w n [] = []
 verdicts r f w n (l ∷ ls) =
     let first = line_verdict r w (n + 1) (parse_line r.profile r.algo f l) in
-    let asked = after w (asks_of first) in  -- the world that the later lines find
+    let asked = world_after w (asks_of first) in  -- the world that the later lines find
     first ∷ verdicts r f asked (n + 1) ls
 
 -- the verdicts of a whole manifest, whose form is that of all its lines

@@ -1,7 +1,7 @@
 -- How far a manifest was read when its check stopped.
 use Rattle.std.specs.Prelude.{ℕ, ◌≡◌, ◌+◌, ◌≤◌, List, [], ◌∷◌, ◌++◌, length, Some, Ok, Err, ⊤}
 use Rattle.sum_engine.specs.Behavior.{ByteString, World, Step, Behavior, Content, Reads, clip, answer_to, times, trace}
-use Rattle.sum_engine.specs.Execution.{Stop, StreamsState, Agrees, Happened, PerformsSteps, asked, gave_at, world_at}
+use Rattle.sum_engine.specs.Execution.{Stop, StreamsState, Agrees, Happened, PerformsSteps, opened_names, gave_at, world_at}
 
 -- how many bytes of a manifest remain before these steps
 abbrev pub remaining_before : List Step → ℕ
@@ -25,5 +25,5 @@ pub record StopsAtStep (stop : Stop) (steps : List Step) (c : Content) (n : ℕ)
 abbrev pub StopsAtLine : Stop → (World → Behavior) → ByteString → StreamsState → StreamsState → Type 0
 StopsAtLine stop behavior name a b = (w : World) → Agrees w b.inputs
     → let at = world_at w a.inputs in (c : Content) → answer_to at name ≡ Ok c
-    → (r : Reads) → gave_at b.inputs.openings name (times name (asked a.inputs)) ≡ Some (Ok r)
+    → (r : Reads) → gave_at b.inputs.openings name (times name (opened_names a.inputs)) ≡ Some (Ok r)
     → StopsAtStep stop (behavior at).steps (clip c) (length r.bytes) a b

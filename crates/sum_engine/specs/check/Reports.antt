@@ -82,15 +82,15 @@ warnings r labels c = let tool = labels.tool in
     ++ unverified_line r labels c))
 
 -- a text, or nothing under `Status`
-abbrev pub unless_status : Report → ByteString → ByteString
-unless_status Status text = []
-unless_status report text = text
+abbrev pub text_unless_status : Report → ByteString → ByteString
+text_unless_status Status text = []
+text_unless_status report text = text
 
 -- the end of a manifest on standard error: its summary, or the line of the fault that broke it
 abbrev pub end_text : Rules → LabelsValue → Ending → Counts → ByteString
 end_text r labels Whole c = if entries c == 0
     then tool_line r.profile labels.tool labels.manifest (codes "no properly formatted checksum lines found")
-    else unless_status labels.report (warnings r labels c)
+    else text_unless_status labels.report (warnings r labels c)
 end_text r labels (Broken f) c = name_fault_line r.profile labels.tool labels.manifest f
 
 -- whether a manifest is good: it was read whole, a line is Right, none is Wrong or Unread and, if strict, none is Bad

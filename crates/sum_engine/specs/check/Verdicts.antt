@@ -5,9 +5,9 @@ use Rattle.sum_sources.specs.LineReaders.{AdvancesLines, IsBounded, IsReading, c
 use Rattle.sum_sources.specs.declared.{inputs.phase.Phase.TheVariants.Unfinished, line_reader.LineReader.LineReader, line_reader.LineStop.TheVariants.Fault, line_reader.LineStop.TheVariants.Memory}
 pub use Rattle.sum_sources.specs.declared.line_reader.LineStop.{LineStop}
 use Rattle.sum_sources.specs.declared.{line_reader.Next.TheVariants.NoMore, line_reader.Next.Next}
-use Rattle.sum_engine.specs.Behavior.{ByteString, Ending, Whole, Broken, World, after, Content, InputState, SourceState, Fits}
+use Rattle.sum_engine.specs.Behavior.{ByteString, Ending, Whole, Broken, World, world_after, Content, InputState, SourceState, Fits}
 use Rattle.sum_engine.specs.Execution.{Agrees, world_at, ReadsToEndIf, AsksNames}
-use Rattle.sum_engine.specs.{refinement.Names.MemoryWasRefused, check.Rules.Rules, check.Judge.Form, check.Judge.LineVerdictValue, check.Judge.asks_of}
+use Rattle.sum_engine.specs.{refinement.Names.RefusesMemory, check.Rules.Rules, check.Judge.Form, check.Judge.LineVerdictValue, check.Judge.asks_of}
 pub use Rattle.sum_engine.specs.declared.check.judge.LineVerdict.{LineVerdict}
 use Rattle.sum_engine.specs.check.Reports.{Counts, is_unread}
 use Rattle.sum_engine.specs.check.CheckStates.{CheckState, no_counts, counts_with, HandlesLine, ReadsOneLine, remaining_verdicts}
@@ -43,7 +43,7 @@ state_at p c w = record {
 
 -- P holds between the check's states at two values and inputs, if the input hadn't ended at the start: for each content
 -- of the manifest that what was read of it fits, and in each world that agrees with what was read
-pub record InEachCheck {I : Type 0} (state : I → InputState) (p q : VerdictsValue I) (a b : SourceState)
+pub record HoldsInEachCheck {I : Type 0} (state : I → InputState) (p q : VerdictsValue I) (a b : SourceState)
     (P : CheckState → CheckState → Type 0) : Type 0 where
   pub holds : IsReading state p.reader → (c : Content) → Fits (reads_of state q.reader) c → (w : World) → Agrees w b
       → P (state_at p (remaining_content p.reader c) (world_at w a))
@@ -68,7 +68,7 @@ pub record HasNameRange (vector : ByteString) (v : LineVerdict) : Type 0 where
 -- a line was judged, the first of those that remained; its name was opened, if its verdict needs it
 pub record FindsFirstVerdict (r : Rules) (a b : CheckState) (j : LineVerdictValue) : Type 0 where
   pub first : remaining_verdicts r a ≡ j ∷ remaining_verdicts r b
-  pub world : b.world ≡ after a.world (asks_of j)
+  pub world : b.world ≡ world_after a.world (asks_of j)
   pub counts : b.counts ≡ counts_with a.counts j.verdict
 
 -- no line remained, and the manifest has this ending; nothing was opened, and only the ending remains
@@ -123,7 +123,7 @@ IsNotUnread x = ⊤
 -- refused memory, or there was none for a line, of which bytes were read ahead
 abbrev pub AsksFor : ByteString → ByteString → SourceState → SourceState → VerdictResult → Type 0
 AsksFor vector ahead a b (Ok (Some v)) = AsksNames a b (asks_of (line_verdict_value vector v))
-AsksFor vector ahead a b (Err Memory) = MemoryWasRefused a b ⊎ ((b ≡ a) × (0 < length ahead))
+AsksFor vector ahead a b (Err Memory) = RefusesMemory a b ⊎ ((b ≡ a) × (0 < length ahead))
 AsksFor vector ahead a b x = AsksNames a b []
 
 -- what a call for the next verdict does

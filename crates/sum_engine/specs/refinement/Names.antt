@@ -7,8 +7,8 @@ use Rattle.sum_sources.specs.declared.sources.hash_file.HashFault.TheVariants as
 use Rattle.sum_sources.specs.declared.sources.source.OpenFault.TheVariants as faults
 
 -- the source was refused memory, and nothing else happened
-abbrev pub MemoryWasRefused : SourceState → SourceState → Type 0
-MemoryWasRefused a b = b ≡ record a { refusals = a.refusals + 1 }
+abbrev pub RefusesMemory : SourceState → SourceState → Type 0
+RefusesMemory a b = b ≡ record a { refusals = a.refusals + 1 }
 
 -- the fault of opening or reading
 abbrev pub fault_in : HashFault → Result Fault NoRoom

@@ -6,7 +6,7 @@ ghost use Rattle.sum_engine.specs.check.Judge.{asks_of, judge};
 ghost use Rattle.sum_engine.specs.check.Reports.{is_unread};
 ghost use Rattle.sum_engine.specs.check.Verdicts.{HasNameRange};
 ghost use Rattle.sum_engine.specs.refinement.Judging.{listed_entry, verdict_of_hash};
-ghost use Rattle.sum_engine.specs.refinement.Names.{MemoryWasRefused};
+ghost use Rattle.sum_engine.specs.refinement.Names.{RefusesMemory};
 
 use crate::check::rules::CheckRules;
 use crate::inputs::Inputs;
@@ -68,7 +68,7 @@ pub(crate) fn judge<S: Source>(
         → IfOk result (λ v. v ≡ judge rules (world_at w inputs.old) (listed_entry listed.now)) }
     ensures asked { MatchResult result (λ v. AsksNames inputs.old inputs.new
         (asks_of (record { number = 0; verdict = v; name = listed.now.name.now })))
-        (λ _. MemoryWasRefused inputs.old inputs.new) }
+        (λ _. RefusesMemory inputs.old inputs.new) }
     ensures reads { ReadsToEndIf (IfOk result (λ v. is_unread v ≡ false)) inputs.old inputs.new }
 {
     if rules.from_stdin && is_dash(listed.name) {

@@ -51,9 +51,9 @@ impl<I: Input> Verdicts<I> {
     ghost use Rattle.sum_engine.specs.Execution.{Agrees, world_at, AsksNames, ReadsToEndIf};
     ghost use Rattle.sum_engine.specs.check.Judge.{asks_of, line_verdict, own_profile};
     ghost use Rattle.sum_engine.specs.check.Reports.{good};
-    ghost use Rattle.sum_engine.specs.check.Verdicts.{AdvancesVerdicts, HasNameRange, InEachCheck, IsAtStart, IsNextVerdict, IsNotUnread, KeepsOutcome, is_whole, line_verdict_value, outcome_in_next};
+    ghost use Rattle.sum_engine.specs.check.Verdicts.{AdvancesVerdicts, HasNameRange, HoldsInEachCheck, IsAtStart, IsNextVerdict, IsNotUnread, KeepsOutcome, is_whole, line_verdict_value, outcome_in_next};
     ghost use Rattle.sum_engine.specs.refinement.Judging.{TakesLine, found_verdict, parsed_at};
-    ghost use Rattle.sum_engine.specs.refinement.Names.{MemoryWasRefused};
+    ghost use Rattle.sum_engine.specs.refinement.Names.{RefusesMemory};
     ghost use Rattle.sum_sources.specs.declared.fault.Ending.TheVariants.{Whole};
 
     /// Creates the verdicts of the manifest that `input` gives, before its first line. `from_stdin` says whether the
@@ -132,7 +132,7 @@ impl<I: Input> Verdicts<I> {
             ((self.new ≡ self.old) × (inputs.new ≡ inputs.old)) result }
         // For every content and in every world that agree with what was read: the first of the verdicts that remained.
         ensures verdict { self.old.outcome ≡ None
-            → InEachCheck I.state self.old self.new inputs.old inputs.new
+            → HoldsInEachCheck I.state self.old self.new inputs.old inputs.new
             (λ a b. IsNextVerdict self.old.rules line.new.items a b result) }
         ensures name_range { IfOk result
             (λ found. IfSome found (λ v. HasNameRange line.new.items v)) }
@@ -183,7 +183,7 @@ impl<I: Input> Verdicts<I> {
             (parsed_at self.old line.old.items)) }
         ensures asked { MatchResult result
             (λ v. AsksNames inputs.old inputs.new (asks_of (line_verdict_value line.new.items v)))
-            (λ _. MemoryWasRefused inputs.old inputs.new) }
+            (λ _. RefusesMemory inputs.old inputs.new) }
         ensures takes { TakesLine self.old self.new line.old.items line.new.items result }
         ensures reads { ReadsToEndIf (IsNotUnread (found_verdict result)) inputs.old inputs.new }
     {

@@ -2,7 +2,7 @@
 use Rattle.std.specs.Prelude.{ℕ, ◌≡◌, ◌<◌, ◌≤◌, List, [], ◌∷◌, ◌++◌, length, take, slice_get, Option, None, Some, IsSomeAnd, Result, Ok, Err}
 use Rattle.std.specs.declared.{env.FillError.FillError, env.FillError.TheVariants.NotPresent, env.FillError.TheVariants.TooLong}
 use Rattle.sum_words.specs.declared.command_line.CommandLine.{CommandLine}
-use Rattle.sum_words.specs.{Arguments.ArgumentsState, Arguments.AreOf, CommandLines.command_line, Items.ByteString, Tools.Tool}
+use Rattle.sum_words.specs.{Arguments.ArgumentsState, Arguments.FitsArguments, CommandLines.command_line, Items.ByteString, Tools.Tool}
 use Rattle.sum_words.specs.declared.command_line.CommandLine.TheVariants.{UnknownTool, Invoke}
 
 -- what a `fill` returns: the buffer starts with the argument at the place, or that is longer, or there is none
@@ -26,7 +26,7 @@ Gives a b None = Fails NotPresent 0 a b
 abbrev pub FindsTool : ArgumentsState → Option (Tool × ℕ) → Type 0
 FindsTool s (Some (tool, first)) =
     (first ≡ length s.given) × ((rest : List ByteString) → command_line (s.given ++ rest) ≡ Some (tool, rest))
-FindsTool s None = (all : List ByteString) → AreOf s all → command_line all ≡ None
+FindsTool s None = (all : List ByteString) → FitsArguments s all → command_line all ≡ None
 
 -- the value of a `CommandLine`
 abbrev pub command_line_value : {A : Type 0} → CommandLine A → Option (Tool × List ByteString)

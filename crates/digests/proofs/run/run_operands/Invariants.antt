@@ -1,7 +1,7 @@
 use Rattle.std.proofs.Common.{length, Ok}
 use Rattle.sum_engine.specs.Execution.{StopHasCause}
 use Rattle.sum_words.specs.Tools.{name_of}
-use Rattle.digests.specs.{Meaning.or_dash, refinement.Operands.job_refusals, refinement.Operands.operand_behavior}
+use Rattle.digests.specs.{Meaning.names_or_dash, refinement.Operands.job_refusals, refinement.Operands.operand_behavior}
 use Rattle.digests.proofs.OperandLemmas.{HasReached, left}
 use Rattle.digests.proofs.run.run_operands.Given as goal
 
@@ -9,7 +9,7 @@ use Rattle.digests.proofs.run.run_operands.Given as goal
 -- write failed
 abbrev pub invariant-operands : goal.invariant-operands
 invariant-operands g l = record {
-  reached : HasReached (operand_behavior l.job (name_of l.tool)) (or_dash l.fn.operands)
+  reached : HasReached (operand_behavior l.job (name_of l.tool)) (names_or_dash l.fn.operands)
       (left l.next l.operands) l.fn.streams l.streams l.good;
   so_far : StopHasCause (job_refusals l.job) l.fn.streams l.streams (Ok l.good);
 }

@@ -1,7 +1,7 @@
 use Rattle.std.proofs.Common.{◌≡◌, ◌==◌, refl, ◌∙◌}
 use Rattle.sum_sources.specs.declared.fault.Ending.TheVariants.{Whole}
 use Rattle.sum_engine.specs.check.Rules.{LabelsValue, Rules}
-use Rattle.sum_engine.specs.check.Reports.{Counts, Report, entries, warnings, unless_status, end_text}
+use Rattle.sum_engine.specs.check.Reports.{Counts, Report, entries, warnings, text_unless_status, end_text}
 use Rattle.std.proofs.lemmas.Bool.{cond-false, ne_eqb}
 use Rattle.sum_engine.specs.declared.settings.Report.TheVariants.{Status}
 use Rattle.sum_engine.proofs.check.summary.put_summary.Goals as goal
@@ -12,7 +12,7 @@ end_text-shown : (r : Rules) (labels : LabelsValue) (c : Counts) → (entries c 
 end_text-shown r labels c some shown = cond-false (entries c == 0) _ _ (ne_eqb (entries c) 0 some)
     ∙ by labels.report shown
   where
-    by : (report : Report) → (report ≡ Status → ⊥) → unless_status report (warnings r labels c) ≡ warnings r labels c
+    by : (report : Report) → (report ≡ Status → ⊥) → text_unless_status report (warnings r labels c) ≡ warnings r labels c
     by Status h = absurd (h refl)
     by report h = refl
 
