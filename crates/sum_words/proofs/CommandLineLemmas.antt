@@ -46,8 +46,8 @@ follows : (given : List ByteString) (size : ℕ) (all rest : List ByteString) �
 follows given size all [] are explains = absurd explains
 follows given size all (word ∷ more) are explains = (word, more, are, explains)
 
-pub next_longer : {least : ℕ} {a b : ArgumentsState} (all : List ByteString) → Fails TooLong least a b → FitsArguments b all
-    → (word : ByteString) × (more : List ByteString) × (all ≡ a.given ++ word ∷ more) × (least < length word)
+pub next_longer : {least : ℕ} {a b : ArgumentsState} (all : List ByteString) → Fails TooLong least a b
+    → FitsArguments b all → (word : ByteString) × (more : List ByteString) × (all ≡ a.given ++ word ∷ more) × (least < length word)
 next_longer {least} {a} all fails agrees =
     let here : FitsArguments (record a { fault = Some (TooLong, fails.size) }) all = rw fails.state at agrees in
     let (word, more, are, longer) = follows a.given fails.size all _ here.given here.fault in

@@ -19,8 +19,8 @@ operands-init g c = record {
 pub returns-in_err-good-clause-behavior : goal.returns-in_err-good-clause-behavior
 returns-in_err-good-clause-behavior g c =
     let stop = err_from_is_err_and c.from_residual.result c.from_residual.ensures.1 in
-    rw (stop.1, stop.2) (operands_done_stop _ c.run_operand.new.streams (rw c.in-Some.is at c.operands.invariant.reached)
-    c.in_err-good.ensures.reads c.in_err-good.ensures.behavior)
+    rw (stop.1, stop.2) (operands_done_stop _ c.run_operand.new.streams
+    (rw c.in-Some.is at c.operands.invariant.reached) c.in_err-good.ensures.reads c.in_err-good.ensures.behavior)
 
 pub returns-in_err-good-clause-reads : goal.returns-in_err-good-clause-reads
 returns-in_err-good-clause-reads g c =

@@ -12,7 +12,8 @@ end_text-shown : (r : Rules) (labels : LabelsValue) (c : Counts) → (entries c 
 end_text-shown r labels c some shown = cond-false (entries c == 0) _ _ (ne_eqb (entries c) 0 some)
     ∙ by labels.report shown
   where
-    by : (report : Report) → (report ≡ Status → ⊥) → text_unless_status report (warnings r labels c) ≡ warnings r labels c
+    by : (report : Report) → (report ≡ Status → ⊥)
+        → text_unless_status report (warnings r labels c) ≡ warnings r labels c
     by Status h = absurd (h refl)
     by report h = refl
 
