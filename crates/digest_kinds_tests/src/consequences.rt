@@ -1,9 +1,9 @@
 //! What the contracts of hashers, of kinds and of algorithms give a caller.
-ghost use Rattle.blake2b_core.specs.Digest.{blake2b};
+ghost use Rattle.blake2b_core.specs.Digest.{IsDigestLen, blake2b};
 ghost use Rattle.blake2b_core.specs.refinement.Holding.{Holds, digest_len, taken_count};
 ghost use Rattle.digest_kinds.specs.Bytes.{ByteString};
 ghost use Rattle.digest_kinds.specs.Kinds.{digest};
-ghost use Rattle.std.specs.Prelude.{◌≡◌, ◌↔◌, ◌⊎◌, ◌+◌, ◌^◌, ◌<◌, ◌++◌, length, take, slice_get, nat_lt, if◌then◌else◌, Some, Ok, IsNone, IfSome};
+ghost use Rattle.std.specs.Prelude.{◌≡◌, ◌↔◌, ◌+◌, ◌^◌, ◌<◌, ◌++◌, length, take, slice_get, nat_lt, if◌then◌else◌, Some, Ok, IsSome, IfSome};
 
 use blake2b_core::{Blake2b, Output};
 use digest_kinds::{Algo, Digest, Hasher, Kind, UnknownTag};
@@ -26,7 +26,7 @@ pub fn digest_with<H: Hasher>(mut hasher: H, piece: &[u8]) -> (Digest, Kind, u64
 pub fn blake2b_with(mut state: Blake2b, piece: &[u8]) -> (Output, u64)
     ensures digest { (m : ByteString) → Holds state m →
         result.0 ≡ blake2b (digest_len state) (take result.1 (m ++ piece.now)) }
-    ensures taken { let all = taken state + length piece.now in
+    ensures taken { let all = taken_count state + length piece.now in
         result.1 ≡ (if nat_lt all (2 ^ 61) then all else taken_count state) }
 {
     let _ = state.try_update(piece);
@@ -37,7 +37,7 @@ pub fn blake2b_with(mut state: Blake2b, piece: &[u8]) -> (Output, u64)
 /// Returns the BLAKE2b digest of `len` bytes of a message, or `None` if and only if there is none of that length.
 pub fn blake2b_digest(len: usize, message: &[u8]) -> Option<Digest>
     requires { length message.now < 2 ^ 61 }
-    ensures none { IsNone result ↔ ((len ≡ 0) ⊎ (64 < len)) }
+    ensures some { IsSome result ↔ IsDigestLen len }
     ensures value { IfSome result (λ d. d ≡ blake2b len message.now) }
 {
     Some(Kind::blake2b_bytes(len)?.digest(message))
