@@ -1,4 +1,4 @@
-"""README: its commands do what it shows, and a stranger who follows it gets to the end."""
+"""README: its commands do what it shows, and a stranger who follows it gets to the end; and commands of PACKAGING."""
 
 import hashlib
 import os
@@ -52,7 +52,7 @@ class Stranger(Repository):
         for block in re.findall(r"(?m)(?:^    .*\n)+", text_of("README.md")):
             self.type_session(re.findall(r"(?m)^    \$ (.*)\n((?:    (?!\$ ).*\n)*)", block))
         self.run_command(["git", "-C", self.top, "clean", "-fdq"])  # what the examples made
-        put, away = commands("Installing")[:2]
+        put, away, again = commands("Installing")
         ran = self.shell(put)
         self.assertEqual((ran.status, ran.err, ran.out.count(b"\n")), (0, b"", 2))
         for name in NAMES:
@@ -62,6 +62,11 @@ class Stranger(Repository):
             self.assertEqual(page, os.path.realpath(os.path.join(self.prefix, f"share/man/man1/{name}.1")))
             ran = self.shell(f"MANWIDTH=80 LC_ALL=C.UTF-8 man --warnings -l '{page}'")
             self.assertEqual((ran.status, ran.err, ran.out.split(b"(")[0]), (0, b"", name.upper().encode()))
+        completions = re.search(r"(?m)^    (\. .*)", text_of("docs", "PACKAGING.md"))[1]
+        self.assertEqual(self.shell(f"{again}; bash -c '{completions.replace('PREFIX', '$0')}' PREFIX"), Ran(0, b"", b""))
+        for command in re.findall(r"`([^`]*\./install [^`]*)`", text_of("README.md") + text_of("docs", "PACKAGING.md")):
+            self.assertEqual((self.shell(command).status, self.shell("digests md5sum --help").status), (0, 0), command)
+        self.assertEqual(self.shell("rm -r stage/usr"), Ran(0, b"", b""))
         self.assertEqual(self.shell(away), Ran(0, b"", b""))
         self.assertEqual([names for _, _, names in os.walk(self.prefix) if names], [])
         self.assertEqual(self.shell("git status --short"), Ran(0, b"", b""))
