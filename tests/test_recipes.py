@@ -269,8 +269,8 @@ class Recipes(Typed):
         for name in ("a", "SHA1  (a)", "(a) = SHA2-"):
             for tool, (tag, _, _) in TOOLS.items():
                 digest = hasher(tag, name.encode()).hexdigest()
-                for front, back in ((re.sub("SHA(?!1)", "SHA2-", tag).replace("b", "B-512") + "(", ")= "), ("\ufeff", ""),
-                                    (f"{tag:5} (".replace("2b", "2"), ") = "), (f"\ufeff{tag}(", ")= ")):
+                for front, back in (("\ufeff", ""), (f"\ufeff{tag}(", ")= "), (f"{tag:5} (".replace("2b", "2"), ") = "),
+                                    (re.sub("SHA(?!1)", "SHA2-", tag).replace("b", "B-512") + "(", ")= ")):
                     line = f"{front}{name}{back}{digest}\n" if back else f"{front}{digest}  {name}\n"
                     recipe = self.recipe("check list of others").replace("sha256sum", tool)
                     self.put("SUMS", line)
