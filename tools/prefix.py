@@ -149,7 +149,7 @@ def install(name, things):
 
 def remove():
     """Removes what is ours, names what may be, and returns the status. Directories that others may use stay."""
-    inside = (path for folder in FOLDERS for path in pathlib.Path(HOME).glob(f"*/{folder}/*"))
+    inside = (path for folder in FOLDERS for path in pathlib.Path().glob(f"{HOME}/*/{folder}/*"))
     links, others = look({"/".join(path.parts[3:]) for path in inside})
     if others:
         say("\n".join(["install: these stay, as they may be of others; remove what is yours:",
