@@ -106,7 +106,8 @@ class Install(Repository):
                 self.expect_removed()
 
     def test_each_over_another(self):
-        """Names and level stay if nothing is said of them. With own names, nothing is called by GNU's."""
+        """Names and level stay if nothing is said of them. With own names, nothing is called by GNU's. Removing builds
+        nothing."""
         theirs = ["bin/theirs", f"{MAN}/theirs.1", "lib/theirs"]
         self.theirs(*theirs)
         for words, level, own, kept in (
@@ -124,7 +125,9 @@ class Install(Repository):
         self.put(f"out/{FAST}/digests", "#!/bin/sh\nexit 127\n")  # as on a machine that lacks a feature of this level
         for words, level in ((["--cpu", "native", ALL], DEFAULT), (["--cpu", FAST], FAST)):
             self.assertIn(f"installed for the level {level} in ", self.installs(*words))
+        os.remove(self.in_top("out/built"))
         self.expect_removed(theirs)
+        self.assertEqual(self.calls, [])
         self.assertIn("nothing is installed", self.installs("--remove", status=1))
 
     def test_what_is_in_the_place(self):

@@ -57,7 +57,7 @@ def look(paths):
     others = {path for path in above if os.path.lexists(path) and not can_read(path)} | there & paths - links
     names = os.listdir(HOME) if can_read(HOME) else []
     if names and not current() and ("current" in names or not any(map(NAMES.fullmatch, names))):
-        others.add(HOME)
+        others.add(HOME)  # where a run that was ended leaves what is ours, or nothing
     return (set(), others | links) if HOME in others else (links, others)
 
 
@@ -134,7 +134,7 @@ def install(name, things):
         os.makedirs(folder, exist_ok=True)
     drop(current())  # what a run has left that was ended
     name = write(name, things)
-    for path in sorted(links - paths):  # while they still lead to something
+    for path in filter(is_ours, sorted(links - paths)):  # while they still lead to something
         os.remove(path)
     if name != current():
         sync()
