@@ -1,8 +1,8 @@
 """The script `install`, in a copy of the repository: what it puts below a prefix, leaves there and removes."""
 
 import fcntl
+import itertools
 import os
-import re
 import shutil
 import subprocess
 import tempfile
@@ -14,8 +14,7 @@ from tracing import each_end, needs_strace, strace
 
 CURRENT, MAN, ALL, OWN = "lib/digests/current", "share/man/man1", "--all-names", "--only-own-names"
 BASH, FISH, ZSH = "share/bash-completion/completions", "share/fish/vendor_completions.d", "share/zsh/site-functions"
-EARLIER, WAITS = "share/digests/installed", b"install: waiting for another one to end\n"
-CALLS = "mkdir,symlink,rename,unlink,unlinkat,rmdir,chmod,chown,write,flock"  # those that fail in turn
+LIST, WAITS = "share/digests/installed", b"install: waiting for another one to end\n"
 
 
 def paths_of(own_names):
@@ -61,6 +60,12 @@ class Install(Repository):
             os.makedirs(os.path.dirname(self.at(path)), exist_ok=True)
             self.write(self.at(path), "theirs")
 
+    def expect_named(self, paths, *words, **how):
+        """A run fails and names these paths, a line each, below a sentence, which is returned."""
+        said, *named = self.installs(*words, status=1, **how).splitlines()
+        self.assertEqual(named, sorted(map(self.at, paths)))
+        return said
+
     def expect_installed(self, level=DEFAULT, own_names=False, theirs=()):
         """One directory has all, for everyone to read, and a link leads to each thing; of others, there are these."""
         tree, home = self.tree(), f"lib/digests/{os.readlink(self.at(CURRENT))}"
@@ -101,7 +106,8 @@ class Install(Repository):
                 self.expect_removed()
 
     def test_each_over_another(self):
-        """Names and level stay if nothing is said of them. With own names, nothing is called by GNU's."""
+        """Names and level stay if nothing is said of them. With own names, nothing is called by GNU's. Removing builds
+        nothing."""
         theirs = ["bin/theirs", f"{MAN}/theirs.1", "lib/theirs"]
         self.theirs(*theirs)
         for words, level, own, kept in (
@@ -119,44 +125,80 @@ class Install(Repository):
         self.put(f"out/{FAST}/digests", "#!/bin/sh\nexit 127\n")  # as on a machine that lacks a feature of this level
         for words, level in ((["--cpu", "native", ALL], DEFAULT), (["--cpu", FAST], FAST)):
             self.assertIn(f"installed for the level {level} in ", self.installs(*words))
+        os.remove(self.in_top("out/built"))
         self.expect_removed(theirs)
+        self.assertEqual(self.calls, [])
         self.assertIn("nothing is installed", self.installs("--remove", status=1))
 
     def test_what_is_in_the_place(self):
-        """What others have is named, and nothing changes. One sentence says how an earlier form is removed."""
-        self.theirs(CURRENT, *paths_of(False) - {"bin/b2sum", "bin/sha1sum"})
-        self.shell("mkdir bin/sha1sum; ln -s ../lib/digests/current/bin/digests bin/b2sum")
+        """What others have there, or in the way of a directory, is named, and nothing changes."""
+        paths = {path for path in paths_of(False) if path.startswith(("bin/", FISH, ZSH))}
+        self.theirs(*paths - {"bin/b2sum", "bin/sha1sum"}, "lib/digests/theirs", "share/bash-completion")
+        self.shell("mkdir bin/sha1sum; ln -s ../lib/digests/current/bin/digests bin/b2sum; ln -s no share/man")
         before = self.tree()
-        self.assertEqual(set(self.installs(status=1).splitlines()[1:]), set(map(self.at, [CURRENT, *paths_of(False)])))
+        said = self.expect_named([*paths, "lib/digests", "share/bash-completion", "share/man"])
+        self.assertIn("move them, choose another PREFIX, or say --only-own-names:", said)
         self.assertEqual(self.tree(), before)
-        for path, *words in (["bin"], ["lib"], ["lib/digests"], ["share"], [EARLIER], [EARLIER, "--remove"]):
+
+    def test_a_directory_of_others(self):
+        """A `lib/digests` that this user didn't make there isn't changed, nor are links to it, or copies of ours."""
+        self.installs()
+        other, self.prefix = self.prefix, f"{self.folder}/another"
+        there, user = f"is really {other}/lib/digests, so PREFIX has to be {other}", "another user's: run install as"
+        for change, why, *paths in (
+                ("mkdir -m 700 lib/digests; chown nobody lib/digests", user), ('ln -s "$0/lib/digests" lib', there),
+                ('cp -a "$0"/* .; chown nobody lib/digests', user), ('rmdir lib; ln -s "$0/lib" .', there),
+                ("mkdir lib/digests; >lib/digests/theirs", "these ", "lib/digests"),
+                ('cp -rL "$0"/* .', "these ", "lib/digests", *paths_of(False))):
+            os.makedirs(self.at("lib"))
+            self.shell(change, other)
+            before = self.shell("find . -printf '%p %U %m %T@\\n'")
+            for words in ([], ["--remove"]):
+                self.assertIn(why, self.expect_named(paths, *words))
+                self.assertEqual(self.shell("find . -printf '%p %U %m %T@\\n'"), before)
             shutil.rmtree(self.prefix)
-            self.theirs(path)
-            said = f"{self.prefix} has .*--remove of the clone" if path == EARLIER else f"{self.prefix}/{path}"
-            self.assertRegex(self.installs(*words, status=1), said)
-            self.assertEqual(self.tree(), {path: b"theirs"})
+        self.prefix = other
+        self.expect_installed()
+
+    def test_an_earlier_form(self):
+        """Its list is named, with two commands that remove what that lists. Another file of that name is left alone."""
+        for lines in (["program 1 2", "link md5sum"], ["/", "bin/", "bin/digests", "bin/md5sum", LIST],
+                      [f"{'0' * 64}  bin/digests", "# folder  bin", "# -> digests  bin/md5sum"]):
+            self.theirs("bin/digests", "bin/md5sum", "bin/theirs", LIST)
+            self.write(self.at(LIST), lines)
+            said, *commands = self.installs(status=1).splitlines()
+            self.assertIn(self.at(LIST), said)
+            self.assertEqual(self.installs("--remove", status=1).splitlines(), [said, *commands])
+            self.shell(" && ".join(commands))
+            self.assertEqual((len(commands), self.tree()), (2, {"bin/theirs": b"theirs"}))
+        self.theirs(LIST)
+        self.installs()
+        self.expect_installed(theirs=["bin/theirs", LIST])
+
+    @needs_strace
+    def test_a_link_that_works(self):
+        """A link that leads to ours stays, whatever it says. Nothing is given another owner."""
+        self.installs()
+        self.shell('ln -sfn "$PWD/lib/digests/current/bin/md5sum" bin/md5sum')
+        before = self.tree()
+        faults = "-e", f"inject=symlink:error=ENOSPC:when={len(NAMES) + 1}+", "-e", "inject=chown:error=EPERM"
+        traced = [strace(), "-qq", "-o", "/dev/null", *faults]
+        ran = self.run_command([*traced, self.in_top("install"), self.prefix], env=self.env)
+        self.assertEqual((ran.status, self.tree()), (0, before))
 
     def test_what_appears_meanwhile(self):
         """A file of others that appears meanwhile is named, and not overwritten."""
         self.write_command("sync", f"#!/bin/sh\nprintf theirs >'{self.prefix}/bin/md5sum'")
         self.assertIn(f"install: {self.prefix}/bin/md5sum: File exists", self.installs(status=1))
         os.remove(self.path("commands/sync"))
-        self.expect_removed(["bin/md5sum"])
-
-    @needs_strace
-    def test_what_cannot_be_seen(self):
-        """Only ENOENT means that nothing is there."""
-        self.theirs("bin/md5sum")
-        traced = [strace(), "-qq", "-o", "/dev/null", "-P", "bin/md5sum", "-e", "inject=readlink,readlinkat:error=EIO"]
-        ran = self.run_command([*traced, self.in_top("install"), self.prefix], env=self.env)
-        self.assertEqual((ran.status, self.tree()), (1, {"bin/md5sum": b"theirs"}))
-        self.assertIn(f"install: {self.prefix}/bin/md5sum: Input/output error", ran.err.decode())
+        self.expect_named(["bin/md5sum"], "--remove")
+        self.assertEqual(self.tree(), {"bin/md5sum": b"theirs"})
 
     def test_what_somebody_changed(self):
         """What was changed in lib/digests is replaced: contents, modes and owners."""
         self.installs()
-        for change in ("true >bin/digests; chmod 777 ..", "touch more; chown nobody ..", "chmod 4755 bin/digests",
-                       "cd share/man/man1; rm md5sum.1; mkfifo md5sum.1", "chmod 700 .", "chown nobody bin/digests"):
+        for change in ("true >bin/digests; touch more", "chmod 4755 bin/digests", "chmod 700 .",
+                       "cd share/man/man1; rm md5sum.1; mkfifo md5sum.1", "chown nobody bin/digests"):
             self.shell(f"cd -P {CURRENT}; {change}")
             self.installs()
             self.expect_installed()
@@ -165,47 +207,38 @@ class Install(Repository):
         """Removing names it, and removes all else. A prefix that can't be written to stays as it is."""
         os.mkdir(self.prefix, 0o555)
         self.assertIn(f"{self.prefix}/lib: Permission denied", self.installs(status=1, **self.nobody()))
-        self.assertEqual(os.listdir(self.prefix), [])
-        for name, change in (("bin", "rm -r bin; echo >bin"), ("bin", "rm -r bin; ln -s no bin"),
-                             ("share", "rm -r share; ln -s no share"), ("bin", "chmod 0 bin")):
+        os.rmdir(self.prefix)
+        self.installs()
+        whole = shutil.move(self.prefix, f"{self.folder}/whole")
+        changes = "rm -r {0}; echo >{0}", "rm -r {0}; ln -s {0} {0}", "chmod 0 {0}"
+        for name, change in itertools.product(("share", "lib"), changes):
+            shutil.copytree(whole, self.prefix, symlinks=True)
+            self.shell(f"{change.format(name)}; chown -Rh nobody .")
+            self.expect_named([name], "--remove", **self.nobody())
+            self.assertEqual({path for path in self.tree() if not path.startswith(name)}, set())
             shutil.rmtree(self.prefix)
-            self.installs()
-            self.shell(f"{change}; chown -Rh nobody .")
-            self.assertRegex(self.installs("--remove", status=1, **self.nobody()),
-                             rf"\A(install: {self.at(name)}.*: .*\n)+\Z")
-            self.assertEqual([path for path in self.tree() if not path.startswith(name)], [])
-            self.assertFalse(os.path.lexists(self.at("lib/digests")))
-        self.shell("chmod 755 bin")
-        self.expect_removed()
 
-    def test_what_was_moved(self):
-        """Directories of links may be moved, to another disk, too. Links that lead to another installation stay."""
+    def test_directories_elsewhere(self):
+        """Directories of links may lie elsewhere, on another disk, too. Links there that lead elsewhere stay."""
         with tempfile.TemporaryDirectory(dir="/dev/shm") as other:
             self.installs()
-            self.shell('mv bin share "$0" && ln -s "$0/bin" "$0/share" .', other)
-            os.makedirs(f"{other}/{CURRENT}/{FISH}")
-            self.write(f"{other}/{CURRENT}/{FISH}/digests.fish", "")
-            self.assertIn(f"others:\n{self.at(FISH)}/digests.fish\n", self.installs(status=1))
-            self.installs("--remove")
-            self.assertEqual(sum((names for _, _, names in os.walk(other)), []), ["digests.fish"] * 2)
-            shutil.rmtree(f"{other}/lib")
-            self.installs()
-            self.assertTrue(os.path.exists(self.at("bin/md5sum")) and os.path.exists(self.at(f"{MAN}/md5sum.1")))
-            self.shell('rm bin share && mv "$0/bin" "$0/share" .', other)
-            self.installs()
-            self.expect_installed()
+            self.shell('mv bin share "$0" && ln -s "$0"/* .', other)
+            for words in ([], ["--remove"]):
+                self.expect_named(paths_of(False), *words)
+            self.shell('find "$0" -type l -delete', other)
+            for words, count in (([], len(paths_of(False))), (["--remove"], 0)):
+                self.installs(*words)
+                links = [os.path.join(at, name) for at, _, names in os.walk(other) for name in names]
+                self.assertEqual((len(links), all(map(os.path.exists, links))), (count, True))
 
     def test_prefixes(self):
-        """With DESTDIR everything is below that directory. A prefix may have any bytes. The command of PACKAGING, for
-        those who have no clone, removes all."""
-        command = re.search(r"(?m)^    (cd PREFIX .*)", text_of("docs", "PACKAGING.md"))[1]
+        """With DESTDIR everything is below that directory. A prefix may have any bytes."""
         for name, stage in (("one/two/three", ""), (os.fsdecode(b"a \n\xff b"), ""), ("/usr", "a stage")):
             self.prefix = name
             self.assertEqual(f"/{name}/bin first on the PATH\n" in self.installs(DESTDIR=stage), not stage)
             self.prefix = os.path.join(self.folder, stage + name)
             self.expect_installed()
-            self.shell(command.replace("PREFIX", '"$PWD"'))
-            self.assertEqual((self.tree(), os.listdir(self.at("lib"))), ({}, []))
+            self.expect_removed()
 
     def test_two_clones_at_once(self):
         """Each run waits for the others, and the last one's installation is whole."""
@@ -236,10 +269,12 @@ class Install(Repository):
     @needs_strace
     def test_each_end(self):
         """A call fails, or the run is killed: a command is the old or the new program, and the next run ends it."""
-        for calls, *words in ((CALLS, OWN), ("rename,symlink,unlink", ALL, "--cpu", FAST), (CALLS, "--remove")):
+        for calls, names, *words in (("mkdir,write,symlink,rename,unlink", ALL, OWN),
+                                     ("symlink,rename", OWN, ALL, "--cpu", FAST),
+                                     ("unlink,unlinkat,rmdir", OWN, "--remove")):
             self.prefix = f"{self.folder}/for {words[0]}"
-            self.installs(OWN)
-            self.theirs("bin/theirs", f"{MAN}/theirs.1", "lib/digests/theirs")
+            self.installs(names)
+            self.theirs(f"{MAN}/theirs.1", "lib/digests/theirs")
             self.shell(f"echo >>{CURRENT}/bin/digests")
             programs = [self.at("bin/anysum"), *(self.in_top(f"out/{level}/digests") for level in (DEFAULT, FAST))]
             old, new, programs = self.tree(), None, list(map(self.read, programs))
@@ -250,15 +285,15 @@ class Install(Repository):
                 if ran.status == 1:
                     self.assertRegex(ran.err, rb"\Ainstall: /.*: (No space left on device|Input/output error)\n\Z")
                 self.assertTrue(there == old or "write:error" not in fault)
-                self.assertTrue(words == ["--remove"] or self.read(self.at("bin/anysum")) in programs and
-                                os.access(self.at("bin/anysum"), os.X_OK))
+                for path in (path for path in {*there, *{*old} & {*new}} if path.startswith("bin/")):
+                    self.assertTrue(self.read(self.at(path)) in programs and os.access(self.at(path), os.X_OK), path)
                 self.assertTrue(there in (old, new) or
                                 self.script("install", *words, self.prefix) and self.tree() == new)
 
     def test_syncing(self):
         """A run whose data may not be on the disk says so, and the next one syncs again."""
         count = f"'{self.folder}/syncs'"
-        for number, status in ((1, 1), (2, 1), (3, 1), (2, 1), (9, 0)):
+        for number, status in ((1, 1), (2, 1), (2, 1), (9, 0)):
             self.write("syncs", "")
             self.write_command("sync", f"#!/bin/sh\necho >>{count}; [ $(wc -l <{count}) -ne {number} ]\n")
             self.assertIn(" is on the disk" if status else "installed for", self.installs(status=status))

@@ -38,6 +38,12 @@ class OddNames(Case):
         for words in ([NAME, "l"], ["--", NAME, "l"], ["l", NAME]):
             self.expect(["md5sum", "-c", *words], out=["a: OK"], err=unread(NAME), status=1)
 
+    def test_other_ways(self):
+        """It is read through a link, as standard input, and by a descriptor."""
+        os.symlink(NAME, self.path("link"))
+        ran = self.run_command(["sh", "-c", '"$0" md5sum link - /dev/fd/3 <"$1" 3<"$1"', harness.PROGRAM, NAME])
+        self.assertEqual(ran, Ran(0, f"{M}  link\n{M}  -\n{M}  /dev/fd/3\n".encode(), b""))
+
     def test_long_names_and_many(self):
         """Names about as long as a page, and one as long as the system passes on."""
         for length in (4095, 4096, 4097, 8193, 131071):

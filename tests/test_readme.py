@@ -1,20 +1,40 @@
-"""README: its commands do what it shows, and a stranger who follows it gets to the end."""
+"""README: its commands do what it shows, and a stranger who follows it gets to the end; and commands of PACKAGING."""
 
 import hashlib
 import os
 import re
 import shutil
+import socket
 
-from harness import NAMES, TOP, Ran
+import harness
+from harness import NAMES, TOP, Case, Ran
 from manual import PAGES
 from rattle import text_of
 from repository import Repository
 
 
+def section(title):
+    return re.search(rf"(?ms)^## {re.escape(title)}\n(.*?)(?=^## |\Z)", text_of("README.md"))[1]
+
+
 def commands(title):
     """The commands of a section's blocks, without their comments."""
-    section = re.search(rf"(?ms)^## {re.escape(title)}\n(.*?)(?=^## |\Z)", text_of("README.md"))[1]
-    return [line.split(" # ")[0].strip() for line in re.findall(r"(?m)^    (\S.*)$", section)]
+    return [line.split(" # ")[0].strip() for line in re.findall(r"(?m)^    (\S.*)$", section(title))]
+
+
+class Limits(Case):
+    def test_commands(self):
+        """Those for a name that isn't UTF-8, and for long records."""
+        os.symlink(harness.PROGRAM, self.path("sha256sum"))
+        env, record = {**os.environ, "PATH": f"{self.folder}:{os.environ['PATH']}"}, b"a" * 20000
+        self.write(b"\xff", record)
+        full, empty = socket.socketpair(socket.AF_UNIX, socket.SOCK_SEQPACKET)
+        with empty:
+            with full:
+                full.send(record)
+            for command, stdin in zip(re.findall(r"`([^`]*sha256sum[^`]*)`", section("Limits")), (b"", empty)):
+                ran = self.run_command(["sh", "-c", command.replace("FILE", '"$0"'), b"\xff"], stdin, env=env)
+                self.assertEqual(ran.out.decode(), f"{hashlib.sha256(record).hexdigest()}  -\n", command)
 
 
 class Stranger(Repository):
@@ -52,7 +72,7 @@ class Stranger(Repository):
         for block in re.findall(r"(?m)(?:^    .*\n)+", text_of("README.md")):
             self.type_session(re.findall(r"(?m)^    \$ (.*)\n((?:    (?!\$ ).*\n)*)", block))
         self.run_command(["git", "-C", self.top, "clean", "-fdq"])  # what the examples made
-        put, away = commands("Installing")[:2]
+        put, away, again = commands("Installing")
         ran = self.shell(put)
         self.assertEqual((ran.status, ran.err, ran.out.count(b"\n")), (0, b"", 2))
         for name in NAMES:
@@ -62,6 +82,13 @@ class Stranger(Repository):
             self.assertEqual(page, os.path.realpath(os.path.join(self.prefix, f"share/man/man1/{name}.1")))
             ran = self.shell(f"MANWIDTH=80 LC_ALL=C.UTF-8 man --warnings -l '{page}'")
             self.assertEqual((ran.status, ran.err, ran.out.split(b"(")[0]), (0, b"", name.upper().encode()))
+        completions = re.search(r"(?m)^    (\. .*)", text_of("docs", "PACKAGING.md"))[1]
+        self.assertEqual(self.shell(f'{again}; bash -c "{completions}"'), Ran(0, b"", b""))
+        texts = text_of("README.md") + text_of("docs", "PACKAGING.md")
+        for command in {*re.findall(r"`((?:\w+=\w+ )?\./install [^`\n]*)`", texts)} - {put}:
+            self.assertEqual(self.shell(command).err, b"", command)
+        self.assertEqual([name for name in NAMES if os.path.exists(f"{self.prefix}/bin/{name}")], ["anysum"])
+        self.assertEqual(self.shell("stage/usr/bin/sha256sum README.md && rm -r stage").status, 0)
         self.assertEqual(self.shell(away), Ran(0, b"", b""))
         self.assertEqual([names for _, _, names in os.walk(self.prefix) if names], [])
         self.assertEqual(self.shell("git status --short"), Ran(0, b"", b""))

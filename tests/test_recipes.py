@@ -25,6 +25,7 @@ SORTS = {
     "check list": r"^digests \w+ -c --quiet --strict SUMS$",
     "check list on all": r"\bsplit ",
     "check list of others": r"\\xef",
+    "check list of odd names": r"printf -v name",
     "check gpg": r"gpg --decrypt",
     "check names": r"printf '%b",
     "check one": r"^grep ",
@@ -33,8 +34,8 @@ SORTS = {
 }
 
 # What the recipes, and the script that replaces `pv`, call besides a tool: without one of these no recipe is typed.
-COMMANDS = ("bash", "cat", "comm", "find", "grep", "mktemp", "mv", "nproc", "rm", "sed", "sh", "sort", "split", "tee",
-            "tr", "wc", "xargs")
+COMMANDS = ("bash", "cat", "comm", "find", "grep", "ln", "mktemp", "mv", "nproc", "rm", "sed", "sh", "sort", "split",
+            "tee", "tr", "wc", "xargs")
 
 # What bash has, and another shell may not have.
 OF_BASH = re.compile(r"pipefail|>\(")
@@ -60,9 +61,7 @@ def line_of(tool, name, content, tagged=False):
     escaped = name.replace(b"\\", b"\\\\").replace(b"\n", b"\\n").replace(b"\r", b"\\r")
     tag, digits = TOOLS[tool][0], hasher(TOOLS[tool][0], content).hexdigest().encode()
     mark = b"\\" if escaped != name else b""
-    if tagged:
-        return mark + tag.encode() + b" (" + escaped + b") = " + digits + b"\n"
-    return mark + digits + b"  " + escaped + b"\n"
+    return mark + (tag.encode() + b" (" + escaped + b") = " + digits if tagged else digits + b"  " + escaped) + b"\n"
 
 
 # The lines of the image by two tools.
@@ -98,8 +97,7 @@ class Typed(Case):
         """Makes a file in the tree, and the folders above it."""
         path = os.path.join(self.path("here"), harness.as_bytes(name))
         os.makedirs(os.path.dirname(path), exist_ok=True)
-        with open(path, "wb") as file:
-            file.write(harness.as_bytes(content))
+        self.write(path, content)
 
     def make(self, good=True, more=()):
         """A new tree, with the good names or none, and with more. Each file but the image holds its own name."""
@@ -113,11 +111,9 @@ class Typed(Case):
     def files_of_the_tree(self):
         """The names of all files of the tree except its list, as find gives them, and their contents."""
         top, found = self.path("here"), {}
-        for folder, _, names in os.walk(top):
-            for name in names:
-                path = os.path.join(folder, name)
-                if os.path.isfile(path) and not os.path.islink(path):
-                    found[b"." + path[len(top):]] = self.read(path)
+        for path in (os.path.join(folder, name) for folder, _, names in os.walk(top) for name in names):
+            if os.path.isfile(path) and not os.path.islink(path):
+                found[b"." + path[len(top):]] = self.read(path)
         found.pop(b"./SUMS", None)
         return found
 
@@ -153,8 +149,7 @@ class Typed(Case):
         self.assertEqual(sorted(self.read(f"here/{name}").splitlines(keepends=True)), sorted(wanted))
 
     def expect_only(self, *made):
-        """Expects the good files as they were, these beside them, and nothing else in the tree or in the test's
-        folder."""
+        """Expects the good files as they were, these beside them, and nothing else there or in the test's folder."""
         found = self.files_of_the_tree()
         wanted = {b"./" + name.encode(): IMAGE if name == "image.iso" else name.encode() for name in GOOD}
         self.assertEqual({name: found.pop(name) for name in wanted}, wanted)
@@ -269,20 +264,31 @@ class Recipes(Typed):
             self.assertEqual(self.fails(self.recipe("unlisted")), Ran(1, b"./image.iso\n", b""))
 
     def test_a_list_of_others(self):
-        """A byte-order mark, and each tag of `openssl dgst` and of `rhash --bsd`. Names stay as they are."""
+        """A byte-order mark, and each tag of `openssl dgst`, `rhash --bsd` and uutils. Names stay as they are."""
         self.make(good=False)
         for name in ("a", "SHA1  (a)", "(a) = SHA2-"):
             for tool, (tag, _, _) in TOOLS.items():
                 digest = hasher(tag, name.encode()).hexdigest()
-                for before, after in ((f"{re.sub('SHA(?!1)', 'SHA2-', tag).replace('b', 'B-512')}(", ")= "),
-                                      (f"{tag:5} (", ") = "), ("\ufeff", ""), (f"\ufeff{tag}(", ")= ")):
-                    line = f"{before}{name}{after}{digest}\n" if after else f"{before}{digest}  {name}\n"
+                for front, back in (("\ufeff", ""), (f"\ufeff{tag}(", ")= "), (f"{tag:5} (".replace("2b", "2"), ") = "),
+                                    (re.sub("SHA(?!1)", "SHA2-", tag).replace("b", "B-512") + "(", ")= ")):
+                    line = f"{front}{name}{back}{digest}\n" if back else f"{front}{digest}  {name}\n"
                     recipe = self.recipe("check list of others").replace("sha256sum", tool)
                     self.put("SUMS", line)
                     self.put(name, name)
                     self.passes(recipe)
                     self.put(name, "changed")
                     self.assertEqual(self.fails(recipe).out.decode(), f"{name}: FAILED\n")
+
+    def test_a_list_of_odd_names(self):
+        """Names that aren't UTF-8 are checked, in escaped lines, too. A report has the number of the line."""
+        self.make(more=BAD)
+        recipe, files = self.recipe("check list of odd names"), self.files_of_the_tree()
+        self.put("SUMS", b"".join(line_of("sha256sum", *file) for file in files.items()))
+        self.passes(recipe)
+        for name in BAD:
+            self.put(name, "changed")
+            self.assertRegex(self.fails(recipe).out, rb"\A/.*/%d: FAILED\n\Z" % (1 + list(files).index(name)))
+            self.put(name)
 
     def test_a_name_within_another(self):
         """One file's check doesn't pass by another whose name holds its own as a line would."""
@@ -304,13 +310,13 @@ class Recipes(Typed):
                 ("find", find, *lists, "unlisted", "not UTF-8"),
                 ("find", "printf './x\\0'", "list on all"),
                 ("xargs", "exit 123", "list on all"),
-                ("mktemp", "exit 1", *lists, *images, "unlisted"),
-                ("sed", "cat SUMS; exit 1", "check list of others"),
+                ("mktemp", "exit 1", *lists, *images, "unlisted", "check list of odd names"),
+                ("sed", "cat SUMS; exit 1", "check list of others", "check list of odd names"),
                 *((command, "exit 1", "unlisted") for command in ("sort", "comm")),
                 *((command, "exit 1", "unlisted", "not UTF-8") for command in ("sed", "tr"))):
             for recipe, sort, shell in self.each_recipe(*sorts):
                 self.make()
-                if sort in ("unlisted", "check gpg", "check list of others"):
+                if sort.startswith(("unlisted", "check")):
                     self.passes(self.recipe("list"))
                 listed = self.is_there("SUMS")
                 self.command(command, script)
@@ -326,8 +332,9 @@ class Recipes(Typed):
     def test_a_run_that_is_ended(self):
         """A run that is ended leaves nothing temporary behind."""
         here = self.path("here")
-        for recipe, sort, shell in self.each_recipe("list", "list on all", "unlisted", "write by pv", "write at once"):
-            command = {"write by pv": "pv", "write at once": "tee"}.get(sort, "find")
+        for recipe, sort, shell in self.each_recipe("list", "list on all", "unlisted", "write by pv", "write at once",
+                                                    "check list of odd names"):
+            command = {"write by pv": "pv", "write at once": "tee", "check list of odd names": "sed"}.get(sort, "find")
             begun = self.path(f"commands/{command}.begun")
             for number in (signal.SIGINT, signal.SIGTERM):
                 self.make()
@@ -345,8 +352,7 @@ class Recipes(Typed):
 
 class Examples(Typed):
     def each_tool(self):
-        """Each tool with a new tree, and what downloads come with: lines of the image, and of a file that isn't
-        there."""
+        """Each tool with a new tree, and the lines that come with downloads: of the image, and of another file."""
         for tool in NAMES:
             self.make()
             other = "b2sum" if tool == "anysum" else tool

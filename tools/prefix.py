@@ -1,10 +1,10 @@
 """What is ours below a prefix, which is the working directory: lib/digests/VERSION-SUM, to which lib/digests/current
-leads, and links through `current` at the places where others look. `is_ours` tells these links from others.
+leads, and links through `current` at the places where others look. All else is of others, even what we made elsewhere:
+if it is in the way, it is named, and stays.
 
 Whatever ends a run, `current` leads to a whole directory, the old one or the new one. The next run completes it."""
 
 import contextlib
-import errno
 import fcntl
 import os
 import pathlib
@@ -27,36 +27,38 @@ def say(text, to=1):
 
 
 def link_at(path):
-    """What a link says; an empty text if something else is there, and `None` if nothing is."""
-    try:
+    """What a link says; an empty text if there is none to read."""
+    with contextlib.suppress(OSError):
         return os.readlink(path)
-    except OSError as error:
-        if error.errno not in (errno.ENOENT, errno.EINVAL):
-            raise
-        return None if error.errno == errno.ENOENT else ""
+    return ""
 
 
 def current():
     """The name of our directory to which `current` leads, if it leads to one."""
-    return link_at(CURRENT) if NAMES.fullmatch(link_at(CURRENT) or "") else None
-
-
-def ours(path):
-    """What our link at this path says."""
-    return os.path.relpath(f"{CURRENT}/{path}", os.path.realpath(os.path.dirname(path)))
+    return link_at(CURRENT) if NAMES.fullmatch(link_at(CURRENT)) else None
 
 
 def is_ours(path):
-    """Whether our link is at this path: it ends as ours do, and leads here or, if a directory was moved, nowhere."""
-    return (link_at(path) or "").endswith(f"/{CURRENT}/{path}") and (
-        os.path.realpath(path) == os.path.realpath(f"{CURRENT}/{path}") or link_at(os.path.realpath(path)) is None)
+    """Whether a link at this path leads, by whatever way, to the same path in our `current`."""
+    text, end = link_at(path), f"/current/{path}"
+    way = os.path.join(os.path.dirname(path), text[:-len(end)])
+    return text.endswith(end) and os.path.realpath(way) == os.path.realpath(HOME)
 
 
-def links(folder):
-    """The paths of our links in a directory, which may be missing."""
-    there = next(at for at in pathlib.Path(folder, "any").parents if link_at(at) is not None)
-    names = [] if there.is_dir() and str(there) != folder else os.listdir(folder)
-    return {path for path in (f"{folder}/{name}" for name in names) if is_ours(path)}
+def can_read(folder):
+    return os.access(f"{folder}/.", os.R_OK | os.X_OK)
+
+
+def look(paths):
+    """Our links; and what isn't ours at these paths, above them or at lib/digests, in which case no link is ours."""
+    above = {str(at) for folder in (HOME, *FOLDERS) for at in pathlib.Path(folder, "any").parents}
+    there = {f"{folder}/{name}" for folder in filter(can_read, FOLDERS) for name in os.listdir(folder)}
+    links = set(filter(is_ours, there))
+    others = {path for path in above if os.path.lexists(path) and not can_read(path)} | there & paths - links
+    names = os.listdir(HOME) if can_read(HOME) else []
+    if names and not current() and ("current" in names or not any(map(NAMES.fullmatch, names))):
+        others.add(HOME)  # where a run that was ended leaves what is ours, or nothing
+    return (set(), others | links) if HOME in others else (links, others)
 
 
 def lock():
@@ -68,20 +70,20 @@ def lock():
     return fcntl.flock(handle, fcntl.LOCK_EX)
 
 
+def check_place():
+    """Ends the run if lib/digests is below another prefix, or another user's."""
+    here, real = os.path.abspath(HOME), os.path.realpath(HOME)
+    if here != real and os.path.isdir("lib"):
+        other = real[:-len(HOME) - 1] or "/" if real.endswith(f"/{HOME}") else "another one"
+        sys.exit(f"install: {here} is really {real}, so PREFIX has to be {other}")
+    if os.path.isdir(HOME) and os.stat(HOME).st_uid != os.geteuid():
+        sys.exit(f"install: {here} is another user's: run install as that user, or choose another PREFIX")
+
+
 def sync():
     """Returns once all is on the disks, of each file system that has a part."""
-    folders = [folder for folder in (".", HOME, *FOLDERS) if os.access(f"{folder}/.", os.R_OK)]
-    if subprocess.run(["sync", "-f", *folders]).returncode:
+    if subprocess.run(["sync", "-f", *filter(can_read, (".", HOME, *FOLDERS))]).returncode:
         sys.exit(f"install: {os.getcwd()}: not all is on the disk; run it again")
-
-
-def look(paths):
-    """Ends the run if something of others is where we are to have a link."""
-    taken = [path for path in paths if link_at(path) is not None and not is_ours(path)]
-    if link_at(CURRENT) is not None and not current():
-        taken.append(CURRENT)
-    if taken:
-        sys.exit("\n".join(["install: nothing was installed, as these are of others:", *map(os.path.abspath, taken)]))
 
 
 def tree(folder):
@@ -92,29 +94,23 @@ def tree(folder):
                 for path in [pathlib.Path(folder), *pathlib.Path(folder).rglob("*")]}
 
 
-def write(things):
-    for path, thing in things.items():
-        place = pathlib.Path(NEW, path)
-        os.makedirs(place.parent, exist_ok=True)
-        place.symlink_to(thing) if isinstance(thing, str) else place.write_bytes(thing)
-    os.chmod(f"{NEW}/bin/digests", 0o755)
-
-
-def turn(name, things):
-    """Has `current` lead to a directory with just these things. The old one isn't touched, as commands run from it."""
+def write(name, things):
+    """Makes a directory with these things, unless ours has just them; returns its name."""
     try:
-        write(things)
+        for path, thing in things.items():
+            place = pathlib.Path(NEW, path)
+            os.makedirs(place.parent, exist_ok=True)
+            place.symlink_to(thing) if isinstance(thing, str) else place.write_bytes(thing)
+        os.chmod(f"{NEW}/bin/digests", 0o755)
     except OSError:
         shutil.rmtree(NEW, ignore_errors=True)
         raise
     if current() and tree(f"{HOME}/{current()}") == tree(NEW):
-        return shutil.rmtree(NEW)
-    sync()
-    name = name if link_at(f"{HOME}/{name}") is None else f"{name}.2"
+        shutil.rmtree(NEW)
+        return current()
+    name += ".2" * os.path.lexists(f"{HOME}/{name}")  # commands run from the old one
     os.rename(NEW, f"{HOME}/{name}")
-    sync()
-    os.symlink(name, NEW)
-    return os.rename(NEW, CURRENT)
+    return name
 
 
 def drop(kept=None):
@@ -129,45 +125,45 @@ def drop(kept=None):
 
 def install(name, things):
     """Puts these things, bytes of files and what links say, where their paths say, and removes what else is ours."""
-    paths = [path for path in things if os.path.dirname(path) in FOLDERS]
-    look(paths)
-    for path in (CURRENT, *paths):
-        os.makedirs(os.path.dirname(path), exist_ok=True)
-    os.chown(HOME, os.geteuid(), -1)
-    os.chmod(HOME, 0o755)  # from now on nobody else writes there
+    paths = {path for path in things if os.path.dirname(path) in FOLDERS}
+    links, others = look(paths)
+    if others:
+        sys.exit("\n".join(["install: nothing was installed, as these are taken or can't be read; move them, choose "
+                            "another PREFIX, or say --only-own-names:", *map(os.path.abspath, sorted(others))]))
+    for folder in (HOME, *FOLDERS):
+        os.makedirs(folder, exist_ok=True)
     drop(current())  # what a run has left that was ended
-    turn(name, things)
-    for path in paths:
-        if link_at(path) != ours(path):
-            if is_ours(path):  # but its directory was moved
-                os.remove(path)
-            os.symlink(ours(path), path)  # fails if something has appeared there
-    sync()
-    for path in set().union(*map(links, FOLDERS)) - set(paths):
+    name = write(name, things)
+    for path in filter(is_ours, sorted(links - paths)):  # while they still lead to something
         os.remove(path)
+    if name != current():
+        sync()
+        os.symlink(name, NEW)
+        os.rename(NEW, CURRENT)
+    for path in sorted(paths - links):  # this fails if something has appeared there
+        os.symlink(os.path.relpath(f"{CURRENT}/{path}", os.path.realpath(os.path.dirname(path))), path)
+    sync()
     drop(current())
     sync()
 
 
 def remove():
-    """Removes all that is ours, and returns the status. Directories that others may use stay."""
-    found, status = link_at(HOME) is not None, 0
-    for folder in FOLDERS:
-        try:
-            for path in links(folder):
-                os.remove(path)
-                found = True
-        except OSError as error:
-            say(f"install: {os.path.abspath(error.filename)}: {error.strerror}", 2)
-            found, status = True, 1
-    if not found:
+    """Removes what is ours, names what may be, and returns the status. Directories that others may use stay."""
+    inside = (path for folder in FOLDERS for path in pathlib.Path().glob(f"{HOME}/*/{folder}/*"))
+    links, others = look({"/".join(path.parts[3:]) for path in inside})
+    if others:
+        say("\n".join(["install: these stay, as they may be of others; remove what is yours:",
+                       *map(os.path.abspath, sorted(others))]), 2)
+    elif not links and not os.path.isdir(HOME):
         sys.exit(f"install: nothing is installed in {os.getcwd()}")
+    for path in sorted(links):
+        os.remove(path)
     sync()
-    if current():
-        os.remove(CURRENT)
-    if link_at(HOME) is not None:
+    if can_read(HOME) and HOME not in others:
+        if current():
+            os.remove(CURRENT)
         drop()
-    if link_at(HOME) == "" and not os.listdir(HOME):
-        os.rmdir(HOME)
-    sync()
-    return status
+        if not os.listdir(HOME):
+            os.rmdir(HOME)
+        sync()
+    return int(bool(others))
