@@ -2,9 +2,13 @@
 
 import os
 import re
+import select
 import shutil
+import signal
+import subprocess
 
-from harness import TOP, Case, Ran
+from harness import TOP, Case, Ran, end
+from rattle import text_of
 from repository import ASKED, BOTH, DEFAULT, FAST, OF_A, Repository
 
 
@@ -21,8 +25,8 @@ class Build(Repository):
         first, *lines = self.expect_built("nothing is built").splitlines()
         self.assertEqual(first, "digests: proving and building the program; a first build takes some minutes")
         named = ["crate 1 of 2, low", "crate 2 of 2, digests_main", f"the program for {FAST}"]
-        self.assertEqual([re.sub(r": \d+ s$", "", line) for line in lines], named)
-        self.assertIn(b"rt says: lib\n", self.read(self.in_top("out/build.log")))
+        self.assertEqual(sorted(re.sub(r": \d+ s$", "", line) for line in lines), named)
+        self.assertIn(b"\n== crate 1 of 2, low\nrt says: lib\n", self.read(self.in_top("out/build.log")))
 
     def test_a_changed_source(self):
         self.build(RT_EDITS=self.sources[0])
@@ -86,6 +90,57 @@ class Build(Repository):
         for words in (["digests", "md5sum", "a"], ["install", "prefix"]):
             self.assertEqual(self.script(*words, PATH=os.pathsep.join(folders)), Ran(1, b"", said))
         self.assertFalse(os.path.exists(self.in_top("out")) or os.path.exists(self.path("prefix")))
+
+
+class HowFar(Repository):
+    """A build of two crates that don't stand on each other, at a terminal. What rt says of them comes through pipes."""
+
+    def begin(self, processors, **env):
+        """Starts a build, as if there were this many processors; returns it, and the pipe of the crate `low`."""
+        self.put("crates.txt", "low:\nbeside:\ndigests_main: low beside\n")
+        self.put("crates/beside/src/Some.antt", "")
+        self.run_command(["mkfifo", "low", "beside"])
+        self.write_command("nproc", f"#!/bin/sh\necho {processors}\n")
+        self.screen, writes = self.terminal()
+        env = {**self.env, "TERM": "xterm", "RT_PIPES": self.folder, **env}
+        started = subprocess.Popen([self.in_top("tools/build")], env=env, stdin=subprocess.DEVNULL, stderr=writes)
+        os.close(writes)
+        self.addCleanup(end, started)
+        return started, self.fed("low")
+
+    def expect_shown(self, *texts):
+        shown = ""
+        while not all(text in shown for text in texts):
+            shown += os.read(self.screen, 65536).decode()
+
+    def test_parallel(self):
+        """Two crates are proved at a time, and each one's line counts its functions. If one fails, the other goes on."""
+        if int(re.search(r"MemAvailable: *(\d+)", text_of("/proc/meminfo"))[1]) < 8000000:
+            self.skipTest("there is too little memory for two crates at a time")
+        for fails, status, how in (("lib low", 1, ": failed"), ("none", 0, "")):
+            started, low = self.begin(4, RT_FAILS=fails)
+            beside = self.fed("beside")
+            for far in ("1 of 3 functions", "2 of 3 functions"):
+                for pipe in (low, beside):
+                    pipe.write(f"so far: {far} checked\n".encode())
+                self.expect_shown(f"\033[K\033[A\033[Kcrate 1 of 3, low: {far}, ", f"\ncrate 2 of 3, beside: {far}, ")
+            low.close()
+            self.expect_shown(f"crate 1 of 3, low: {how[2:]}", f"\033[A\033[Kcrate 2 of 3, beside: {far}, ")
+            beside.close()
+            self.assertEqual(started.wait(), status)
+            self.assertIn(f"== crate 1 of 3, low{how}\nrt says", self.read(self.in_top("out/build.log")).decode())
+            self.assertTrue(os.path.exists(self.in_top("crates/beside/out/made")))
+
+    def test_ended(self):
+        """With fewer processors, one crate is proved after another. After a build was ended, the next one completes."""
+        for number in (signal.SIGTERM, signal.SIGKILL):
+            started, low = self.begin(2)
+            self.assertRaises(OSError, os.open, self.path("beside"), os.O_WRONLY | os.O_NONBLOCK)
+            started.send_signal(number)
+            started.wait()
+            low.close()
+            self.build()
+            self.assertFalse(os.path.exists(self.in_top("out/steps")))
 
 
 class SameBytes(Case):

@@ -9,9 +9,9 @@ from rattle import text_of
 
 DEFAULT, FAST = "default", "x86-64-v3"
 
-# How rt is called by a build of both programs.
-ASKED = ["low lib", "digests_main run -- sha256sum"]
-BOTH = [*ASKED, f"digests_main run --cpu {FAST} -- sha256sum"]
+# How rt is called by a build of both programs, sorted.
+ASKED = ["digests_main run -- sha256sum", "low lib"]
+BOTH = sorted([*ASKED, f"digests_main run --cpu {FAST} -- sha256sum"])
 
 # What `digests md5sum a` comes to.
 OF_A = Ran(0, f"{M}  a\n".encode(), b"")
@@ -47,11 +47,11 @@ class Repository(Case):
 
     def script(self, name, *words, stdin=b"", **how):
         """Runs a script of the repository; `RT_..` are for the script in the place of rt, and `calls` says how it was
-        called: the crates and the words."""
+        called: the crates and the words, sorted."""
         self.write("notes", "")
         env = {**self.env, **{key: how.pop(key) for key in list(how) if key.isupper()}}
         ran = self.run_command([self.in_top(name), *words], stdin, env=env, **how)
-        self.calls = self.read("notes").decode().splitlines()
+        self.calls = sorted(self.read("notes").decode().splitlines())
         return ran
 
     def build(self, **how):

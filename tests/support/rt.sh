@@ -1,15 +1,15 @@
 #!/bin/sh
-# In the place of the command rt: notes its calls, and makes the program of a level, which ends in the level's name and
-# a sum of the sources, if it isn't there.
+# In the place of the command rt: notes its calls, says what comes through a pipe of the crate's name, if there is one,
+# and makes the program of a level, which ends in the level's name and a sum of the sources, if it isn't there.
 [ "$1" != version ] || exec echo 'a kit'
 echo "${PWD##*/} $*" >>"$RT_NOTES"
 echo "rt says: $*"
-[ -z "${RT_HANGS-}" ] || { : >"$RT_HANGS"; exec sleep 60; }
+[ ! -p "${RT_PIPES-}/${PWD##*/}" ] || cat "$RT_PIPES/${PWD##*/}"
 case ${RT_FAILS-none} in "$1 ${PWD##*/}" | "$2") echo 'rt: this is why'; exit 1 ;; esac
 [ -z "${RT_EDITS-}" ] || { sleep 0.05; echo edited >>"$RT_EDITS"; }
-[ "$1" = run ] || exit 0
-sum=$(find ../.. -name '*.antt' -exec cat ../../crates.txt {} + | cksum)
 mkdir -p out
+[ "$1" = run ] || { : >out/made && exit; }
+sum=$({ sort ../../crates.txt | grep -v example && find ../../crates -name '*.antt' | sort | xargs cat; } | cksum)
 if [ "$2" = --cpu ]; then
     rm -f out/digests_main.stamp
     { cat "$RT_FAST"; echo "$3 of $sum"; } >out/digests_main

@@ -3,5 +3,4 @@ mod WordBytesLemmas
 mod WordLemmas
 mod RequestLemmas
 mod TextLemmas
-pub mod WorkedExamples
 pub mod PlainWordLemmas
