@@ -52,7 +52,7 @@ class Documents(Case):
         command = re.search(r"(?m)^    git diff OLD .*\$\((.*)\)$", text_of("docs", "AUDITING.md"))[1]
         ran = self.run_command(["sh", "-c", command], cwd=TOP)
         wanted = {f"crates/digests/src/{name}.rt".encode() for name in ("run", "command", "standard_input")}
-        self.assertLessEqual({*wanted, b"crates/sum_sources/src/inputs/closable.rt"}, set(ran.out.split()))
+        self.assertLessEqual({*wanted, b"crates/sum_sources/src/sources/opened.rt"}, set(ran.out.split()))
 
     def test_the_library(self):
         """docs/LIBRARY.md has each public call as the kit has read it."""

@@ -91,7 +91,7 @@ class Item:
         self.public = bool(it["public"] or above and above.kind == "trait")
         code = it[0][it.end("attributes"):]
         code = re.sub(r" \{ \}$", "", code) if self.kind in ("fn", "const", "static") else code.split(" {")[0]
-        self.head = as_in_a_source(code).removesuffix(";").removeprefix("pub ")
+        self.head = as_in_a_source(code).rstrip(";,").removeprefix("pub ")
         if self.kind == "impl":
             said = IMPL.fullmatch(self.head.replace("<>", ""))
             generics, self.trait, self.name, block, where = said.groups()
