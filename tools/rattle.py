@@ -129,6 +129,7 @@ class Item:
         found = []
         for at, row in ((at, self.there.rows[at - 1]) for at in self.lines):
             inner = "    " * (self.kind in ("impl", "trait") and at not in (self.lines[0], self.lines[-1]))
+            row = row[4:] if self.above and row.startswith("    ") else row
             if at == self.lines[0] or not row.startswith(" "):
                 row = inner + as_in_a_source(row[len(ITEM.match(row)["attributes"]) if ITEM.match(row) else 0:])
             found += textwrap.wrap(re.sub(r" (?:;|\{ \})$", "", row), 120, subsequent_indent=inner + "    ",
