@@ -57,8 +57,6 @@ class Border(Case):
     def test_destructors(self):
         """Each is derived. No contract speaks of what a written one does when `main` ends."""
         self.assertEqual([it.name for it in ours().values() if it.block.endswith("++Drop")], [])
-        called = {name for it in ours().values() if it.name.endswith("::drop") for name in it.named}
-        self.assertEqual(called, {"core::marker::Destruct#0", "core::snapshot::Snapshot::drop"})
 
     def test_the_stack(self):
         """What the kit's own compiler computes of the program, which it compiles in a copy: a number, and after it a `+`
