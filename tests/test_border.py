@@ -69,7 +69,7 @@ class Border(Case):
         self.run_command(["sh", "-c", script, there, self.folder], cwd=TOP)
         ran = self.run_command(["rt", "run", "--backend", "rattle", "--", "sha256sum"], cwd=self.path(there))
         found = re.search(rb" stack-bytes=(\d+) ", ran.err)
-        self.assertTrue(found and int(found[1]) <= STACK, (found, ran.err[-2000:]))
+        self.assertTrue(found and int(found[1]) <= STACK, (found, ran.err[-900:]))
 
     def test_code_that_is_not_seen(self):
         """What the compiled code doesn't tell apart: files that are read as it is made, and raw pointers."""
