@@ -7,6 +7,7 @@ import re
 import believed
 import harness
 import library
+from compiled import clauses
 from harness import TOP, Case, Ran
 from rattle import Code, text_of
 
@@ -21,11 +22,19 @@ class Documents(Case):
             self.assertNotEqual(says, "?", f"docs/PROMISES.md doesn't say what {file} of {crate} is")
         self.assertEqual(believed.misplaced(), [])
 
+    def test_what_is_read(self):
+        """The clauses, and the names that are brought in for them, are those that the kit proves."""
+        files = {it.there for it in Code().items}
+        found = {(there.crate, clause.text) for there in files for clause in there.clauses}
+        found |= {(there.crate, use[:-1]) for there in files for row in there.rows
+                  for use in row.partition("ghost use ")[2:] if use}
+        self.assertEqual(found, {(crate, text) for crate, _, text in clauses()})
+
     def test_contracts_that_are_quoted(self):
         """docs/PROMISES.md shows the clauses of `run` and of `command` as they are."""
         shown = re.sub(r"(?m)^ +//.*\n|^ +", "", text_of("docs", "PROMISES.md"))
         for name in ("run", "command"):
-            text = Code().function("digests", name).text.strip()
+            text = Code().function("digests", name).text
             contract = re.sub(r"(?m)^ +", "", text[text.index("ensures"):])
             self.assertTrue(contract in shown, f"docs/PROMISES.md doesn't show the contract of {name} as it is")
 
@@ -43,17 +52,12 @@ class Documents(Case):
         command = re.search(r"(?m)^    git diff OLD .*\$\((.*)\)$", text_of("docs", "AUDITING.md"))[1]
         ran = self.run_command(["sh", "-c", command], cwd=TOP)
         wanted = {f"crates/digests/src/{name}.rt".encode() for name in ("run", "command", "standard_input")}
-        self.assertLessEqual({*wanted, b"crates/sum_sources/src/inputs/closable.rt"}, set(ran.out.split()))
+        self.assertLessEqual({*wanted, b"crates/sum_sources/src/sources/opened.rt"}, set(ran.out.split()))
 
     def test_the_library(self):
-        """docs/LIBRARY.md has each public call as the sources have it, and each name that a crate's root exports."""
+        """docs/LIBRARY.md has each public call as the kit has read it."""
         page, wanted = library.page()
         self.assertEqual(page, wanted, "tools/library.py makes the list anew")
-        hidden = {it.name for it in Code().items if "doc(hidden)" in it.attributes}
-        for crate in re.findall(r"(?m)^### `(\w+)`$", page):
-            for use in re.findall(r"pub use [\w:]+::(\{[^}]*\}|\w+);", text_of("crates", crate, "src", "lib.rt")):
-                for name in set(re.findall(r"\w+", use)) - hidden:
-                    self.assertRegex(page, rf"(?m)^- `(fn|struct|enum|trait|const|type|use \w+::) ?{name}\b")
         sample = re.sub(r"(?m)^(?=.)", "    ", text_of("crates", "example_check", "src", "bytes.rt"))
         self.assertIn(sample, page, "docs/LIBRARY.md doesn't show the input of example_check as it is")
 

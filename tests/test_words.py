@@ -5,7 +5,6 @@ import os
 import harness
 import options
 from harness import B, M, NAMES, TOOLS, Case, as_bytes, gnu
-from library import parts_of
 from rattle import Code
 from reference_words import help_text, meaning
 
@@ -41,7 +40,7 @@ class ToolNames(Case):
 class Texts(Case):
     def test_the_list_of_tools(self):
         """tools/tools.txt has the tools of the code, in its order; GNU has those that it is to have, and no other."""
-        variants = next(parts_of(it) for it in Code().items if (it.kind, it.name) == ("enum", "Tool"))
+        variants = next(it.parts for it in Code().items if (it.kind, it.name) == ("enum", "Tool"))
         self.assertEqual(*([it.replace("_", "").lower() for it in names] for names in (NAMES, variants)))
         for tool, it in options.TOOLS.items():
             self.assertEqual(4 * len(self.run_words([tool]).out.partition(b" ")[0]), it.bits or 0)

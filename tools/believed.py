@@ -28,7 +28,7 @@ import sys
 
 sys.dont_write_bytecode = True
 
-from rattle import TOP, Code, Specs, crates, text_of  # noqa: E402  (nothing is to be left beside these files)
+from rattle import TOP, Code, Specs, compiled, crates, text_of  # noqa: E402  (nothing is to be left beside these files)
 
 PROMISES = os.path.join(TOP, "docs", "PROMISES.md")
 # What is believed besides the laws, in the order of the page: a function's crate and name, and what the page calls it.
@@ -55,13 +55,11 @@ def declared(citing):
 
 
 def cited(items):
-    """The definitions that the clauses of items name."""
-    specs = every_definition()
-
-    def find(uses, name):
-        return specs.find(*uses.get(name, (None, None)))
+    """The definitions that the clauses of items name; an `impl` proves the laws of its trait, and those proofs need not
+    be believed."""
     return {found for item in items for clause in item.clauses
-            for found in specs.named(clause.tokens, functools.partial(find, item.uses), item.uses)}
+            if item.kind != "impl" or clause.member not in compiled.laws()
+            for found in every_definition().named(clause.tokens, item.uses)}
 
 
 def computed():
@@ -91,15 +89,10 @@ def in_files(definitions):
 
 
 def made():
-    """The functions of ours that `main` and `program` call, and those that functions of their crate call too, without
-    the claims."""
+    """What runs before and after `command`, and how the types there implement the traits, without the claims."""
+    names = [name for it in compiled.around().values() for name in (it.name, *it.named)]
     claimed = [code().function(*claim[:2]) for claim in CLAIMS]
-    left, found = [*code().by_name["main"], claimed[-1]], []
-    while left:
-        new = [it for it in code().calls(left.pop(0)) if it not in found and it not in claimed]
-        left += [it for it in new if it.crate == "digests"]
-        found += new
-    return found
+    return [it for it in dict.fromkeys(map(code().of_symbol, names)) if it and it not in claimed]
 
 
 @functools.lru_cache(maxsize=None)
@@ -123,14 +116,9 @@ def every_claim():
         earlier += items
 
 
-def shown(item):
-    """The lines of an item of the code."""
-    return re.sub(r"\n\s*\n", "\n\n", item.text.replace("{\n\n", "{\n")).strip()
-
-
 def size(believed):
     """The number of lines of definitions, or of items of the code."""
-    return sum(it.size if hasattr(it, "size") else len(re.findall(r"(?m)^.*\S", shown(it))) for it in believed)
+    return sum(it.size if hasattr(it, "size") else len(it.text.splitlines()) for it in believed)
 
 
 def counted(claim):
@@ -152,7 +140,7 @@ def text():
         yield f"\n-- ======== {claim.title}"
         for crate in reversed(crates()):
             for item in (it for it in claim.new if it.crate == crate):
-                yield "\n".join(["", f"-- {crate} src/{item.file}", *renamed([item], several), shown(item)])
+                yield "\n".join(["", f"-- {crate} src/{item.file}", *renamed([item], several), item.text])
             for file, definitions in ((file, found) for (owner, file), found in claim.files.items() if owner == crate):
                 head = [f"-- ---- {crate} {file}", *definitions[0].module.head, *renamed(definitions, several)]
                 yield "\n".join(["", *head, *("\n".join(["", *it.lines]) for it in definitions)])
@@ -223,6 +211,9 @@ def misplaced():
     used = [origin for names in [*(it.imports for it in modules), *(it.uses for it in code().items)]
             for origin in names.values()]
     owners = {name: module for module, name in used if name and module.split(".")[1] not in crates()}
+    prelude = text_of(compiled.library("std"), "lang", "antt", "specs", "Prelude.antt")
+    for name in (it for names in re.findall(r"(?m)^pub use .*\{(.*)\}$", prelude) for it in names.split(", ")):
+        owners.setdefault(name, "the kit's Prelude")
     for name, module in ((name, it.name) for it in modules if "refinement/" not in it.file for name in it.definitions):
         if owners.setdefault(name, module) != module:
             found.append(f"{owners[name]} and {module} both define {name}")

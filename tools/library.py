@@ -1,6 +1,6 @@
 #!/usr/bin/env python3
-"""Writes the list of public calls in docs/LIBRARY.md from the comments and signatures in the sources: `library.py`.
-Items marked `#[doc(hidden)]` are public only for the crates here, and are left out."""
+"""Writes the list of public calls in docs/LIBRARY.md, as the kit has read them, with the comments of the sources:
+`library.py`. Items marked `#[doc(hidden)]` are public only for the crates here, and are left out."""
 
 import os
 import re
@@ -8,31 +8,10 @@ import sys
 
 sys.dont_write_bytecode = True
 
-from rattle import TOP, Code, code_of, crates, text_of  # noqa: E402  (nothing is to be left beside these files)
+from rattle import TOP, Code, as_in_a_source, compiled, text_of  # noqa: E402  (nothing is to be left here)
 
 PAGE = os.path.join(TOP, "docs", "LIBRARY.md")
 BEGIN = "<!-- From here on tools/library.py writes. -->\n"
-
-
-def libraries():
-    """The crates that are libraries, the lowest first; those of tests export nothing."""
-    return [it for it in crates() if os.path.exists(source(it, "lib")) and not it.endswith("_tests")]
-
-
-def source(crate, module):
-    return os.path.join(TOP, "crates", crate, "src", f"{module}.rt")
-
-
-def exported(crate):
-    """What the root of a crate exports: each module's file with the names from there, or None for all of them."""
-    root = code_of(source(crate, "lib"))
-    passed_on = re.findall(r"\bpub\s+use ([\w:]+)::(?:\{([\w\s,]*)\}|(\w+));", root)
-    if len(passed_on) != len(re.findall(r"\bpub\b[^;{]*\buse\b", root)):
-        raise ValueError(f"the root of {crate} exports what can't be read")
-    for module, names, name in passed_on:
-        yield module.replace("::", "/"), [name] if name else re.findall(r"\w+", names)
-    for module in [*re.findall(r"(?m)^pub mod (\w+);", root), "lib"]:
-        yield module, None
 
 
 def first_sentence(comment):
@@ -43,20 +22,8 @@ def first_sentence(comment):
 
 def bounds(block, known=""):
     """The bounds of an `impl` besides those that are known, as a clause."""
-    generics = re.match(r"impl<(.*?)> ", block.head)
-    clause = re.search(r" where (.*?),?$", block.head)
-    found = [it for it in generics[1].split(", ") if re.match(r"\w+: ", it)] if generics else []
-    found = [it for it in found if it not in known] + ([clause[1]] if clause else [])
+    found = [it for it in block.bounds[0] if re.match(r"\w+: ", it) and it not in known] + block.bounds[1]
     return f" where {', '.join(found)}" if found else ""
-
-
-def parts_of(item):
-    """The public fields of a struct, or the variants of an enum, as the source has them."""
-    body = re.sub(r"(?m)^ *#\[.*\n", "", item.around.partition("{")[2])
-    if item.kind == "struct":
-        return re.findall(r"(?m)^    pub (\w+: .*), *$", body)
-    found = re.findall(r"(?m)^    (\w+(?:\([^()]*\)| \{[^{}]*\})?), *$", body)
-    return [re.sub(r",? \}", " }", re.sub(r"\s+", " ", part)) for part in found]
 
 
 class Library:
@@ -64,7 +31,17 @@ class Library:
 
     def __init__(self):
         self.code = Code()
-        self.items = [it for it in self.code.items if it.crate in libraries() and "doc(hidden)" not in it.attributes]
+        self.items = [it for it in self.code.items if "doc ( hidden )" not in it.attributes]
+
+        self.lines = {(crate, file[:-len(".rt")]): [as_in_a_source(it) for it in text_of(path).splitlines()]
+                      for crate, file, path in compiled.read_files()}
+
+    def exported(self, crate):
+        """What the root of a crate exports: each module's file with the names from there, or None for all of them."""
+        root = "\n".join(self.lines[crate, "lib"])
+        for module, names in re.findall(r"(?m)^pub use (.*)::(\{.*\}|\w+);$", root):
+            yield module.replace("::", "/"), re.findall(r"\w+", names)
+        yield from ((module, None) for module in [*re.findall(r"(?m)^pub mod (\w+);$", root), "lib"])
 
     def types(self, item, name):
         """The types that an item means by a name."""
@@ -80,11 +57,11 @@ class Library:
     def traits(self, item):
         """The traits of a type, by a derive or by an `impl`; `Model` is for contracts."""
         types, blocks = self.blocks(item)
-        derived = " ".join(line for it in types for line in re.findall(r"derive\(([^)]*)\)", it.attributes))
+        derived = " ".join(line for it in types for line in re.findall(r"derive \(([^)]*)\)", it.attributes))
         found = re.findall(r"\w+", derived)
         for block in blocks:
             if block.trait not in (None, "Model"):
-                types = [re.sub(r"^type |;$", "", it.text) for it in block.members if it.kind == "type"]
+                types = [it.head.removeprefix("type ") for it in block.members if it.kind == "type"]
                 where = "" if item.kind == "type" else bounds(block, item.head)
                 found.append(block.trait + (f"<{', '.join(types)}>" if types else "") + where)
         return list(dict.fromkeys(found))
@@ -95,9 +72,9 @@ class Library:
             types = [it for it in self.items if it.kind in ("struct", "enum", "type") and it.public]
             found = {"Implemented by": [it.name for it in types if self.implements(it, item.name)]}
         else:
-            mark = {"struct": "Fields", "enum": "Variants"}.get(item.kind)
-            found = {mark: parts_of(item)} if mark else {}
-            found |= {"Traits": self.traits(item)} if mark or item.kind == "type" else {}
+            found = {"Fields": [it[len("pub "):] for it in item.parts if it.startswith("pub ")],
+                     "Variants": item.parts if item.kind == "enum" else [],
+                     "Traits": self.traits(item) if item.kind in ("struct", "enum", "type") else []}
         return [f"*{mark}:* " + ", ".join(f"`{it}`" for it in parts) for mark, parts in found.items() if parts]
 
     def implements(self, item, trait):
@@ -116,7 +93,7 @@ class Library:
     def described(self, crate):
         """A crate's part of the page."""
         yield f"### `{crate}`\n"
-        for file, names in exported(crate):
+        for file, names in self.exported(crate):
             path = f"{file}::" if names is None and file != "lib" else ""
             for item in self.items:
                 if (item.crate, item.file) == (crate, f"{file}.rt") and item.public and item.comment and (
@@ -125,16 +102,18 @@ class Library:
                     yield f"- `{item.head.replace(item.name, path + item.name, 1)}`  \n  {said}"
                     for it, where in self.members(item):
                         yield f"    - `{it.head}{where}`  \n      {first_sentence(it.comment)}"
-            for other, name in re.findall(r"(?m)^pub use (\w+)::(\w+);", code_of(source(crate, file))):
-                if name in (names or []):
-                    yield f"- `use {other}::{name}`  \n  The one of `{other}`."
+            for line in self.lines[crate, file]:
+                other = re.match(r"pub use (\w+)::(?!.*::)", line)
+                for name in re.findall(r"\w+", line[other.end():]) if other and other[1] in compiled.LIBRARIES else ():
+                    if name in (names or []):
+                        yield f"- `use {other[1]}::{name}`  \n  The one of `{other[1]}`."
         yield ""
 
 
 def page():
     """The text of the page, and the text that it should have."""
     library, written = Library(), text_of(PAGE)
-    parts = "\n".join(line for crate in libraries() for line in library.described(crate))
+    parts = "\n".join(line for crate in compiled.LIBRARIES for line in library.described(crate))
     return written, written.split(BEGIN)[0] + BEGIN + "\n" + parts
 
 

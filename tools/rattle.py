@@ -1,60 +1,59 @@
-"""Reads the crates for the scripts that make pages: what the code (`.rt`) declares, with its comments and contracts,
-and what the definitions of `specs/` (`.antt`) say and name. What can't be read raises a ValueError, so that nothing is
-left out unnoticed. A name counts even where its text binds it, so what is reached may be too much, but never too
-little."""
+"""Reads the crates for the scripts that make pages: the items of the code (`.rt`), as the kit has read them, with the
+comments of the sources; and what the definitions of `specs/` (`.antt`) say and name. What isn't known raises a
+ValueError, so that nothing is left out unnoticed. A name counts even where its text binds it, so what is reached may be
+too much, but never too little."""
 
 import collections
 import itertools
 import re
+import textwrap
 
-from sources import TOP, blank, code_of, crates, files, needs, sources, text_of, tokens_of  # noqa: F401  (passed on)
+import compiled
+from sources import TOP, code_of, crates, files, needs, text_of, tokens_of  # noqa: F401  (passed on)
 
-# Code.
+# Code. The kit writes an item on a line, its tokens apart by spaces; clauses and ghost members stand as in the source.
 
-ITEM = re.compile(r"""(?mx)^(?P<inner>[ ]{4})?(?P<public>pub[ ])?(?:pub\([^)]*\)[ ])?(?:
-    (?:const[ ](?=fn))?(?P<kind>fn|trait|struct|enum|type|const)[ ](?P<name>\w+)
-    | impl(?:<.*?>)?[ ](?:(?:\w+::)*(?P<trait>\w+(?:<\w+>)?)[ ]for[ ](?:&mut[ ])?)?(?:\w+::)*(?P<of>\w+)\b)""")
-# Where an item begins, at whatever place in its line.
-BEGIN = re.compile(r"\b(?:fn|trait|struct|enum|union)\s+[\w$]|(?:\A|(?<=[{};\]]))\s*impl\b")
+ITEM = re.compile(r"(?P<attributes>(?:# \[ .*? \] )*?)(?P<public>pub (?!\())?(?:pub \( [^)]* \) )?(?:const (?=fn ))?"
+                  r"(?:unsafe (?=impl ))?(?P<kind>fn|trait|struct|enum|type|const|static|impl) (?P<name>\w*).*")
+BRACKETS = "<(?:->|[^<>]|<(?:->|[^<>]|<[^<>]*>)*>)*>"
+IMPL = re.compile(rf"(?:unsafe )?impl({BRACKETS})? (?:(?:\w+::)*(.*) for )?(?:&mut )?(?:\w+::)*(\w+).*?(?: as (\w+))?"
+                  r"(?: where(.*))?")
+NO_ITEM = re.compile(r"(?:pub (?:\( \w+ \) )?)?(?:mod|use|ghost use|macro_rules !) ")
+IN_A_SOURCE = re.compile(r"(?m)^(?:    )?(?:pub(?:\([^)]*\))? )?(?:const (?=fn ))?"
+                         r"(fn|trait|struct|enum|type|const|static) (\w+)")
 ATTRIBUTES = re.compile(r"(?m)(?:^ *#\[(?:[^\[\]]|\[[^\[\]]*\])*\]\s*)*\Z")
-# A function that is called, or named after its type: its type, the dot before a method, and its name.
-CALL = re.compile(r"""(?x)(?:(\w+)(?:(?:::)?<[^()]*?>)?::|(\.\s*))?
-    \b([a-z_]\w*)\b(?!\s*::\s*\w|\s*!)(?:(?:::<[^()]*>)?(\())?""")
+# How tokens stand in a source: what is found, and what it becomes.
+SPACES = [(re.compile(found), instead) for found, instead in (
+    (r" ?:: ?", "::"), (r"& ", "&"), (r" ?(?<!<)<(?!<) ", "<"), (r" (>+)(?!\S)", r"\1"), (r"([(\[]) ", r"\1"),
+    (r" ([)\],;:?])", r"\1"), (r"(\w|>) ([(\[])", r"\1\2"), (r",([)>\]])", r"\1"), (r"->([(\[])", r"-> \1"),
+    (r"('\w+|\b(?:for|as|mut|where|in|dyn))([(\[])", r"\1 \2"), (r"# \[", "#["), (r", \}", " }"),
+    (r"\((\d+)_\w+\)", r"\1"))]
 # The module of definitions of a type of the code, of its variants, or of the constants of a file.
 DECLARED = re.compile(r"Rattle\.(\w+)\.specs\.declared\.([\w.]+?)\.(\w+?)(?:\.The(?:Variants|Inside))?")
 
-# A type or trait of ours is found by its name, so no `use` may give it another one.
-OTHER_USE = re.compile(r"\S[ \t]*\bghost\s+use\b|\bghost(?! use )\s+use\b|"
-                       r"(?<!\bghost )\buse\s+(?!std\b)[^;]*\bas\s+(?!_\s*[;,}])")
+
+def as_in_a_source(line):
+    """A line of tokens that are apart by spaces, as a source has it."""
+    for found, instead in SPACES:
+        line = found.sub(instead, line)
+    return line.strip()
 
 
-def after(code, place):
-    """The place after what begins there: all up to the brace that closes the one there, or the end of a declaration."""
-    depth = 0
-    for it in re.compile(r"[{};]").finditer(code, place):
-        depth += (it[0] == "{") - (it[0] == "}")
-        if not depth:
-            return it.end()
-    raise ValueError(f"no brace closes this: {code[place:]}")
+def at_commas(code):
+    """What stands between the commas in code that aren't in brackets."""
+    found, depth = [""], 0
+    for it in re.findall(r"->|.", code):
+        depth += (it in "([{<") - (it in ")]}>")
+        found += [""] if it == "," and not depth else [found.pop() + it]
+    return [it.strip() for it in found if it.strip()]
 
 
-def head_end(code, start, kind):
-    """Where the head of an item ends that begins there: at its first brace or semicolon outside of brackets; that of a
-    constant is all of it."""
-    depth = 0
-    for it in re.compile(r";(?=\n)" if kind == "const" else r"[()\[\]{;]").finditer(code, start):
-        if it[0] in "{;" and not depth:
-            return it.start()
-        depth += (it[0] in "([") - (it[0] in ")]")
-    raise ValueError(f"this item has no end: {code[start:]}")
+# A clause or a ghost member: its label (`result` without one), if it is one that a function ensures; its name, if it is
+# a member; its first line, its text, and the tokens in it.
+Clause = collections.namedtuple("Clause", "label member line text tokens")
 
 
-# A clause or a ghost member: its label (`result` without one), if it is one that a function ensures; its place, and the
-# tokens in it.
-Clause = collections.namedtuple("Clause", "label start end tokens")
-
-
-def clauses_in(tokens):
+def clauses_in(tokens, text):
     """The clauses and ghost members among the tokens of a file."""
     head, said = [], None
     for it in tokens:
@@ -62,7 +61,8 @@ def clauses_in(tokens):
             head, said = [*head, it], [] if it.text == "{" else None
         elif it.kind == "End":
             label = (head[1].text.strip("{") or "result") if head[0].text == "ensures" else None
-            yield Clause(label, head[0].start, it.end, said)
+            member = head[1].text if head[0].text == "ghost" else None
+            yield Clause(label, member, head[0].line, text[head[-1].start:it.end], said)
             head, said = [], None
         elif said is None:
             head = []  # it was the `use` of a `ghost use`
@@ -70,56 +70,71 @@ def clauses_in(tokens):
             said.append(it)
 
 
-def uses_of(before, text):
-    """The names that `ghost use` lines bring in, where this pattern precedes the lines."""
-    lines = re.findall(before + r"ghost (use [^;]*;)", text, re.MULTILINE)
-    return {name: there for line in lines for name, there in imports_of(" ".join(line.split()))}
+def uses_of(rows):
+    """The names that `ghost use` lines bring in."""
+    return {name: there for row in rows for name, there in imports_of(row.strip()[len("ghost "):])}
 
 
 class Item:
-    """A function with its contract, a trait, a type, an `impl` (which has the name of its type) or a constant: its text
-    without comments; its code outside the clauses, and these; a function's body; the `///` comment and the attributes
-    above it; the items in it, and the name of that in which it is; and its lines in its file, from its attributes
-    on."""
+    """A function with its contract, a trait, a type, an `impl` or a constant, which has some lines of what the kit has
+    read: its attributes; its head, which precedes the contract or the body; and the items in it. `above` is the `impl`
+    or the trait in which it is. An `impl` has the name of its type, and, as `block`, the one that the kit gives to it.
+    From the source come the `///` comment above it, and its lines there, from its attributes on."""
 
-    def __init__(self, there, it, owner=None):
-        self.there, self.crate, self.file, self.members = there, there.crate, there.file, []
-        self.kind, self.name, self.owner = it["kind"] or "impl", it["name"] or it["of"], owner.name if owner else ""
-        self.trait = owner.trait if owner else it["trait"]
-        self.public = bool(it["public"] or owner and owner.kind == "trait")
-        start, around, rows = it.end("inner") if owner else it.start(), there.around, there.text.split("\n")
-        body = head_end(around, start, self.kind)
-        self.end = after(around, body)
-        end = len(there.code[:body].rstrip()) if self.kind == "fn" else self.end
-        self.clauses = [it for it in there.clauses if start <= it.start < end]
-        self.around, self.body = around[start:end], around[body:self.end]
-        attributes = ATTRIBUTES.search(around[:it.start()])
-        first, number = (there.text.count("\n", 0, place) + 1 for place in (attributes.start(), start))
-        self.attributes, self.lines = attributes[0], range(first, number + around.count("\n", start, self.end) + 1)
-        self.text = "\n".join(line for at, line in enumerate(there.text[start:end].split("\n"), number)
-                              if at in there.lines or not line.strip())
-        above = range(first - 1, 0, -1)
-        above = [*itertools.takewhile(lambda at: at not in there.lines and rows[at - 1].strip(), above)]
-        comment = [rows[at - 1].strip() for at in reversed(above)]
-        self.comment = [line[4:] for line in comment if line.startswith("///")]
-        self.uses = {**(owner.uses if owner else there.uses), **uses_of(r"^\s+", self.around)}
+    def __init__(self, there, lines, above):
+        self.there, self.crate, self.file, self.lines, self.above = there, there.crate, there.file, lines, above
+        it = ITEM.fullmatch(there.rows[lines[0] - 1])
+        if not it:
+            raise ValueError(f"{there.crate} {there.file} has what isn't known here: {there.rows[lines[0] - 1]}")
+        self.attributes, self.kind, self.name, self.block = it["attributes"], it["kind"], it["name"], it["name"]
+        self.owner, self.trait = (above.name, above.trait) if above else ("", None)
+        self.public = bool(it["public"] or above and above.kind == "trait")
+        code = it[0][it.end("attributes"):]
+        code = re.sub(r" \{ \}$", "", code) if self.kind in ("fn", "const", "static") else code.split(" {")[0]
+        self.head = as_in_a_source(code).rstrip(";,").removeprefix("pub ")
+        if self.kind == "impl":
+            said = IMPL.fullmatch(self.head.replace("<>", ""))
+            generics, self.trait, self.name, block, where = said.groups()
+            self.block, self.bounds = block or self.name, [at_commas((generics or "")[1:-1]), at_commas(where or "")]
+        self.members, self.comment, self.in_source = [], [], ()
 
     @property
     def path(self):
         """Its name, after that of the type or trait of which it is."""
-        return f"{self.owner}::{self.name}" if self.owner else self.name
+        return f"{self.owner}::{self.name}" if self.above else self.name
 
     @property
-    def head(self):
-        """What precedes the contract or the body, on one line."""
-        head = re.sub(r"\s+", " ", self.around.partition("{")[0]).strip(" ;")
-        return re.sub(r",? \)", ")", head).replace("( ", "(").replace("[ ", "[").removeprefix("pub ")
+    def clauses(self):
+        return [it for it in self.there.clauses if it.line in self.lines]
 
     @property
-    def said(self):
-        """What its code says outside the clauses, and in their brackets."""
-        return " ".join([re.sub(r"\bghost use [^;]*;", "", self.around),
-                         *(it.text for clause in self.clauses for it in clause.tokens if it.kind == "Code")])
+    def uses(self):
+        """Where the names of clauses come from that are brought in for it."""
+        rows = [self.there.rows[at - 1] for at in (self.above or self).lines]
+        return {**self.there.uses, **uses_of(row for row in rows if row.startswith("    ghost use "))}
+
+    def code(self, of_clauses=True):
+        """Its code, also that in the brackets of clauses, or without."""
+        found = self.there.code if of_clauses else self.there.code - {it for of in self.clauses for it in of.tokens}
+        return " ".join(it.text for it in sorted(found, key=lambda it: it.start) if it.line in self.lines)
+
+    @property
+    def parts(self):
+        """The fields of a struct, or the variants of an enum, as a source has them."""
+        return at_commas(as_in_a_source(self.code(False).partition(" {")[2].removesuffix("}")))
+
+    @property
+    def text(self):
+        """Its text, as a source would have it."""
+        found = []
+        for at, row in ((at, self.there.rows[at - 1]) for at in self.lines):
+            inner = "    " * (self.kind in ("impl", "trait") and at not in (self.lines[0], self.lines[-1]))
+            row = row[4:] if self.above and row.startswith("    ") else row
+            if at == self.lines[0] or not row.startswith(" "):
+                row = inner + as_in_a_source(row[len(ITEM.match(row)["attributes"]) if ITEM.match(row) else 0:])
+            found += textwrap.wrap(re.sub(r" (?:;|\{ \})$", "", row), 120, subsequent_indent=inner + "    ",
+                                   break_long_words=False, break_on_hyphens=False)
+        return "\n".join(found)
 
     def origins(self):
         """Where the names in its clauses come from that a `ghost use` brings in."""
@@ -127,60 +142,86 @@ class Item:
 
 
 class File:
-    """A file of code: its text, and the lines that aren't comments; its code, and that outside of clauses; and what it
+    """A file as the kit has read it: its lines, its clauses, and the tokens that are code; its items; and what it
     brings in: the names of clauses, and those of code, each with its crates."""
 
-    def __init__(self, path, crate, file):
-        self.crate, self.file, self.text, self.code, self.items = crate, file, text_of(path), code_of(path), []
-        self.clauses, self.around, self.brought = list(clauses_in(tokens_of(path))), self.code, {}
-        self.lines = {it.line + more for it in tokens_of(path) for more in range(it.text.count("\n") + 1)}
-        for it in self.clauses:
-            self.around = self.around[:it.start] + blank(self.code[it.start:it.end]) + self.around[it.end:]
-        self.uses = uses_of("^", self.around)
-        for of, names in re.findall(r"(?<!\bghost )\buse\s+(\w+)([^;]*);", self.around):
-            for name in re.findall(r"\w+", names):
-                self.brought.setdefault(name, set()).add(crate if of in ("crate", "self", "super") else of)
-        for it in ITEM.finditer(self.around):
-            if not it["inner"]:
-                self.items.append(Item(self, it))
-            elif it.start() < self.items[-1].end and self.items[-1].kind in ("trait", "impl"):
-                self.items[-1].members.append(Item(self, it, self.items[-1]))
-        found = [it for of in self.items for it in [of, *of.members] if it.kind not in ("type", "const")]
-        if OTHER_USE.search(self.around) or len(found) != len(BEGIN.findall(self.around)):
-            raise ValueError(f"{path} gives a second name, or has an item or a `ghost use` that doesn't begin its line")
+    def __init__(self, crate, file, path):
+        self.crate, self.file, self.rows = crate, file, text_of(path).split("\n")
+        self.clauses = [*clauses_in(tokens_of(path), text_of(path))]
+        self.code = {it for it in tokens_of(path) if it.kind == "Code"}
+        if re.search(r"\n\S", "".join(it.text for it in [*tokens_of(path), *self.clauses])):
+            raise ValueError(f"{path} has a text or a clause that goes on at the margin")
+        self.uses = uses_of(row for row in self.rows if row.startswith("ghost use "))
+        self.items, self.brought, block = [], {}, None
+        starts = [at for at, row in enumerate(self.rows, 1) if row[:1].strip()]
+        for first, end in zip(starts, [*starts[1:], len(self.rows)]):
+            row = self.rows[first - 1]
+            if row == "}":
+                block.lines, block = range(block.lines[0], end), None
+            elif not NO_ITEM.match(row):
+                new = Item(self, range(first, end), block)
+                (block.members if block else self.items).append(new)
+                block = new if new.kind in ("impl", "trait") else block
+            elif use := re.match(r"(?:pub (?:\( \w+ \) )?)?use (\w+)(.*)", row):
+                self.bring(*use.groups())
+        self.find_in_source()
+
+    def bring(self, of, names):
+        """Takes up what a `use` line brings in. An item of ours is found by its name, so none may have another one."""
+        if of != "std" and re.search(r" as (?!_ )", names):
+            raise ValueError(f"{self.crate} gives a second name in {self.file}: use {of}{names}")
+        for name in re.findall(r"\w+", names):
+            self.brought.setdefault(name, set()).add(self.crate if of in ("crate", "self", "super") else of)
+
+    def find_in_source(self):
+        """Finds each item in the source, which has the same, in the same order."""
+        path = f"{TOP}/crates/{self.crate}/src/{self.file}"
+        code, rows = code_of(path), text_of(path).split("\n")
+        there = [*IN_A_SOURCE.finditer(code)]
+        items = [it for of in self.items if "automatically_derived" not in of.attributes for it in [of, *of.members]]
+        items = [it for it in items if it.kind != "impl"]
+        if [it.groups() for it in there] != [(it.kind, it.name) for it in items]:
+            raise ValueError(f"{path} has other items than those that the kit has read")
+        starts = [ATTRIBUTES.search(code[:it.start()]).start() for it in there]
+        starts = [code.count("\n", 0, it) + 1 for it in starts]
+        for it, start, end in zip(items, starts, [*starts[1:], len(rows)]):
+            it.in_source = range(start, end)
+            above = itertools.takewhile(lambda row: row.startswith("//"), map(str.strip, reversed(rows[:start - 1])))
+            it.comment = [row[4:] for row in reversed([*above]) if row.startswith("///")]
 
 
 class Code:
-    """The items of the program's crates, without those of tests."""
+    """The items of the program's libraries."""
 
     def __init__(self):
-        self.items = [it for crate, file, path in sources() for it in File(path, crate, f"{file}.rt").items]
-        self.called = [it for it in self.items if it.kind not in ("fn", "const", "impl") or it.trait == "Model"]
-        self.functions = [it for of in self.items for it in [of, *of.members] if it.kind == "fn"]
-        self.by_name = {it.name: [other for other in self.functions if other.name == it.name] for it in self.functions}
+        self.items = [it for found in compiled.read_files() for it in File(*found).items]
+        self.called = [it for it in self.items if it.kind in ("trait", "struct", "enum", "type") or it.trait == "Model"]
+        every = [it for of in self.items for it in [of, *of.members]]
+        self.functions = [it for it in every if it.kind == "fn"]
         self.types = {it.name: it.name for it in self.items if it.kind in ("struct", "enum")}
         self.types |= {it.name: re.search(r"= (\w+)", it.head)[1] for it in self.items if it.kind == "type"}
+        modules = {it: re.sub("::lib$", "", f"{it.crate}/{it.file[:-3]}".replace("/", "::")) for it in self.items}
+        homes = {(it.crate, it.name): modules[it] for it in self.items if it.kind in ("struct", "enum")}
+        self.symbols = {}  # the kit's name for a function, a trait or an `impl`; a function of a type is where that is
+        for it in self.items:
+            home = homes[it.crate, it.name] if it.kind == "impl" and not it.trait else modules[it]
+            for name, item in [(it.block, it), *((f"{it.block}::{its.name}", its) for its in it.members)]:
+                self.symbols[f"{home}::{name}"] = item
 
     def laws(self):
         """Each law: a function of a module `laws`."""
         return [it for it in self.items if (it.kind, it.file) == ("fn", "laws.rt") and it.public]
 
     def function(self, crate, name):
-        found = [it for it in self.items if (it.kind, it.crate, it.name) == ("fn", crate, name) and it.public]
-        if len(found) != 1:
-            raise ValueError(f"{crate} has {len(found)} functions {name}")
-        return found[0]
+        """The function that has a file of its name."""
+        return self.symbols[f"{crate}::{name}::{name}"]
 
-    def calls(self, item):
-        """The functions of ours that a function's body can mean: by names, and by types where it says these."""
-        for owner, dot, name, call in CALL.findall(item.body):
-            found = self.by_name.get("next" if name == "for" else name, [])
-            if owner in self.types or owner == "Self":
-                yield from (it for it in found if it.owner == self.types.get(owner, item.owner))
-            elif dot and call or name == "for" or owner and (len(owner) == 1 or owner in {it.owner for it in found}):
-                yield from (it for it in found if it.owner)  # of any type: a trait, or a parameter, may be each
-            elif call:
-                yield from self.meant(item, [it for it in found if not it.owner])
+    def of_symbol(self, name):
+        """The function or the `impl` that the kit calls so, if it is one of ours that a source spells out; `TRAIT#N` is
+        the Nth function of a trait."""
+        name, _, number = name.partition("#")
+        found = self.symbols.get(re.sub(r"\+[\w+]*(?=::\w+$)", "", name))
+        return [it for it in found.members if it.kind != "type"][int(number)] if found and number else found
 
     @staticmethod
     def meant(item, found):
@@ -189,14 +230,14 @@ class Code:
         if len({it.crate for it in found}) < 2:
             return found
         name = found[0].name
-        said = {*item.there.brought.get(name, ()), *re.findall(rf"\b(\w+)::(?:\w+::)*{name}\b", item.said + item.body)}
+        said = {*item.there.brought.get(name, ()), *re.findall(rf"\b(\w+) : : (?:\w+ : : )*{name}\b", item.code())}
         chosen = [[it for it in found if it.crate in of] for of in (said, [item.crate], needs()[item.crate])]
         return next(filter(None, chosen), found)
 
     def named(self, item):
         """The traits, types and models that an item names, but for the names of an enum's variants."""
-        said = re.sub(r"(?m)^    [A-Z]\w*", "", item.said) if item.kind == "enum" else item.said
-        for name in re.findall(r"\b[A-Z]\w*", said):
+        parts = [re.sub(r"^\w+", "", it) for it in item.parts] if item.kind == "enum" else [item.code()]
+        for name in re.findall(r"\b[A-Z]\w*", " ".join([item.head, *parts])):
             found = self.meant(item, [it for it in self.called if it.name == name])
             if len({it.crate for it in found}) > 1:
                 raise ValueError(f"{name}, which {item.name} of {item.crate} names, is of several crates")
@@ -204,18 +245,11 @@ class Code:
 
     def declared(self, module, name):
         """What a module of definitions that the kit makes of the code declares, and what that names."""
-        owner_crate = re.match(r"Rattle\.(\w+)\.specs\.declared\b", module)
-        if not owner_crate or not any(it.crate == owner_crate[1] for it in self.items):
+        if not re.match(rf"Rattle\.(?:{'|'.join(compiled.LIBRARIES)})\.specs\.declared\b", module):
             return []
-        found = DECLARED.fullmatch(module)
-        if not found:
-            raise ValueError(f"what {module} declares can't be read")
-        crate, file, owner = found.groups()
+        crate, file, owner = DECLARED.fullmatch(module).groups()
         wanted = crate, file.replace(".", "/") + ".rt", name if owner == "TheConstants" else owner
-        item = next(it for it in self.items if (it.crate, it.file, it.name) == wanted)
-        if item.kind == "const" and re.search(r"\b[A-Z][A-Z_]+\b", item.around.partition("=")[2]):
-            raise ValueError(f"a constant that names another can't be read: {item.text}")
-        return self.reached(item)
+        return self.reached(next(it for it in self.items if (it.crate, it.file, it.name) == wanted))
 
     def reached(self, function):
         """A function, and what its contract's words mean: the traits that bound its parameters with those that these
@@ -231,7 +265,15 @@ class Code:
 
 # Definitions.
 
-START = re.compile(r"(?:abbrev|unfoldable|irreducible|infixl|infixr|infix|pub|record|data)(?= (?!use |mod ))")
+# What a block of a file begins with: a signature, a type, or how an operator binds.
+START = re.compile(r"(?:(?:abbrev |unfoldable )?pub|abbrev) (?P<name>[^\s:]+) :(?: |$)|infixl \d+ (?P<operator>\S+)$|"
+                   r"pub (?P<type>record|data) (?P<of_type>\w+) (?=[:({]|$)")
+# A part of a type, and what no block has: other declarations, local ones, and other ways to a name.
+PART = re.compile(r"  (?:pub )?\w+(?: \w+)* :(?: |$)")
+UNKNOWN = set("""
+    as axiom coe com deriving fcoe hcom infix infixr mod module mutual open package ruleset tcoe unfold unfolding use
+    𝕀 𝔽
+""".split())
 
 
 def imports_of(line):
@@ -249,35 +291,29 @@ def imports_of(line):
             yield (other or name).strip(), (f"{module}.{below}" if below else module, name)
 
 
-def spellings(name):
-    """How a name may be spelled in a `use` line or a declaration: as it is, or as an operator; `do` means one."""
-    return ("◌>>=◌",) if name == "do" else (name, f"◌{name}◌", f"{name}◌", f"◌{name}")
-
-
-def names_in(tokens):
-    """The names among tokens, each with the one after its dot."""
-    return {(*it.text.split("."), None)[:2] for it in tokens if it.kind == "Antt"}
+def paths_in(tokens, known):
+    """The names among tokens, each with those after its dots; and the operators among known names of which each part is
+    there, which may be too many. A `do` has the one that is named below."""
+    words = {"◌>>=◌" if it.text == "do" else it.text for it in tokens if it.kind == "Antt"}
+    return {tuple(it.split(".")) if re.match(r"\w", it) else (it,) for it in words} | {
+        (name,) for name in known if "◌" in name and words >= {*filter(None, name.split("◌"))}}
 
 
 def origins_in(tokens, imports):
     """The names among tokens that are brought in, each with where it comes from."""
-    named = {spelled for name, _ in names_in(tokens) for spelled in spellings(name)}
-    return {spelled: imports[spelled] for spelled in sorted(named & imports.keys())}
+    return {name: imports[name] for name in sorted({path[0] for path in paths_in(tokens, imports)} & imports.keys())}
 
 
 class Definition:
     """A definition: its name, its place in its file, its lines (the comment above it, what fixes it as an operator, and
     itself), and its tokens; a type's constructors, too."""
 
-    def __init__(self, module, comment, fixity, lines, tokens):
+    def __init__(self, module, start, comment, fixity, lines, tokens):
         self.module, self.place, self.tokens = module, len(module.definitions), tokens
-        self.size = len(comment) + len(lines)
+        self.name, self.size = start["name"] or start["of_type"], len(comment) + len(lines)
         self.lines = [*comment, *fixity, *lines]
-        words = [it.text for it in tokens if it.text not in ("abbrev", "unfoldable", "irreducible", "pub")]
-        self.name = words[words[0] in ("record", "data")]
-        rows = [list(row) for _, row in itertools.groupby(tokens, lambda it: it.line)] if words[0] == "data" else []
-        of_row = (itertools.takewhile(lambda it: it.text != ":", row) for row in rows[1:])
-        self.constructors = [it.text for row in of_row for it in row if it.text != "pub"]
+        rows = [it.partition(" :")[0].split() for it in lines if start["type"] == "data" and PART.match(it)]
+        self.constructors = [name for row in rows for name in row]
 
     @property
     def file(self):
@@ -289,34 +325,65 @@ class Definition:
 
 
 class Module:
-    """A file of `specs/`."""
+    """A file of `specs/`: it defines names and passes names on, or names the files below it."""
 
     def __init__(self, crate, file, path):
         self.crate, self.file = crate, file
         self.name = f"Rattle.{crate}.specs.{file.replace('/', '.')}"
-        self.imports, self.definitions, self.head = {}, {}, []
-        self.read(text_of(path).split("\n"), code_of(path).split("\n"), tokens_of(path))
+        self.imports, self.definitions, self.head, self.taken = {}, {}, [], set()
+        lines, code = text_of(path).split("\n"), code_of(path).split("\n")
+        is_list = all(re.fullmatch(r"(?:pub mod \w+)? *", it) for it in code)
+        if file.endswith("/Lib") or file == "Lib" and not is_list:
+            self.fail("a list of files is specs/Lib.antt, or beside the folder, and has no definitions")
+        if not is_list:
+            self.read(lines, code, tokens_of(path))
 
-    def read(self, lines, bare, tokens):
-        comment, fixity, block = [], [], []
-        for number, (line, said) in enumerate(zip([*lines, ""], [*bare, ""]), 1):
-            starts, above = bool(START.match(said)), line.startswith("--")
-            if block and (not line.strip() or starts or above):
+    def fail(self, why):
+        raise ValueError(f"{self.name}: {why}")
+
+    def read(self, lines, code, tokens):
+        comment, fixity, block, start = [], [], [], None
+        for number, (line, said) in enumerate(zip([*lines, ""], [*code, ""]), 1):
+            begins = START.match(said)
+            if block and (begins or not line.strip() or line.startswith("--")):
                 of_block = [it for it in tokens if number - len(block) <= it.line < number]
-                new = Definition(self, comment, fixity, block, of_block)
-                self.definitions[new.name], comment, fixity, block = new, [], [], []
-            if not line.strip() or re.match(r"(pub )?use ", said):
-                self.imports.update(imports_of(said) if line.strip() else [])
+                self.define(Definition(self, start, comment, fixity, block, of_block))
+                comment, fixity, block = [], [], []
+            if not line.strip() or not block and re.match(r"(pub )?use ", said):
+                for name, there in imports_of(said) if line.strip() else ():
+                    if self.imports.setdefault(name, there) != there:
+                        self.fail(f"{name} is brought in twice")
                 self.head = self.head or ([] if self.definitions else comment)
                 comment = []
-            elif above:
+            elif line.startswith("--"):
                 comment.append(line)
-            elif said.startswith("infix"):
+            elif begins and begins["operator"]:
                 fixity.append(line)
-            elif starts or block:
+            elif begins or block and self.continues(start, said):
+                start = begins or start
                 block.append(line)
-            elif not said.startswith("pub mod "):
-                raise ValueError(f"in {self.name} this belongs to no definition: {line}")
+            else:
+                self.fail(f"this belongs to no definition: {line}")
+
+    @staticmethod
+    def continues(start, said):
+        """Whether a line belongs to a definition: it is a part of a type, or an equation or a part of one."""
+        if start["type"]:
+            return said.startswith("    ") or PART.match(said) or said.strip() in ("", "}")
+        name = " ".join(r"\S+" if it == "◌" else re.escape(it) for it in re.split("(◌)", start["name"]) if it)
+        return said[0] in " }" or re.match(rf"{name} (?:.* )?=(?: |$)", said)
+
+    def define(self, new):
+        """Takes up a definition."""
+        words = [it.text for it in new.tokens]
+        for name in (new.name, *new.constructors):
+            if name in self.taken or name in self.imports or name in UNKNOWN:
+                self.fail(f"{name} is defined again")
+            self.taken.add(name)
+        is_proof = self.file.endswith("Laws")
+        if UNKNOWN & {*words} or not is_proof and words.count("where") != (words[1] in ("record", "data")):
+            self.fail(f"{new.name} has {UNKNOWN & {*words} or 'where'}, which isn't known here")
+        self.definitions[new.name] = new
 
 
 class Specs:
@@ -324,39 +391,44 @@ class Specs:
 
     def __init__(self):
         self.modules = {it.name: it for it in (Module(*found) for found in files("specs", ".antt"))}
-        definitions = [it for module in self.modules.values() for it in module.definitions.values()]
-        self.owners = {(it.module.name, name): it for it in definitions for name in it.constructors}
+        self.owners = {(module.name, name): it for module in self.modules.values()
+                       for it in module.definitions.values() for name in (it.name, *it.constructors)}
+        for module, name in (it for module in self.modules.values() for it in module.imports.values()):
+            self.check(module, name)
 
-    def find(self, module, name):
-        """The definition of that name in a module, or that of the type whose constructor it is."""
-        searched = self.modules.get(module)
-        for spelled in spellings(name) if searched else ():
-            found = searched.definitions.get(spelled) or self.owners.get((module, spelled))
-            if found:
-                return found
-            if searched.imports.get(spelled, (None, None))[1]:
-                return self.find(*searched.imports[spelled])
-        return None
+    def check(self, module, name):
+        """Fails if a name or a module that is brought in from our crates is neither defined nor made of the code."""
+        module, name = self.origin(module, name)
+        is_known = module in self.modules if name is None else (module, name) in self.owners
+        is_made = ".specs.declared." in module or ".specs.contracts." in module and name == "the_type"
+        if module.split(".")[1] in needs() and not is_known and not is_made:
+            raise ValueError(f"{module} has no {name or 'definitions'} that can be read")
 
     def origin(self, module, name):
         """Where a name of a module comes from, through files that only pass it on."""
-        searched = self.modules.get(module)
-        while searched and name not in searched.definitions and name in searched.imports:
-            module, name = searched.imports[name]
-            searched = self.modules.get(module)
+        while name and (module, name) not in self.owners and name in getattr(self.modules.get(module), "imports", ()):
+            module, name = self.modules[module].imports[name]
         return module, name
 
-    def named(self, tokens, find, imports):
-        """The definitions that tokens name, where `find` finds those of its names, and where these are imported."""
-        for name, field in names_in(tokens):
-            found = find(name) or field and name in imports and self.find(imports[name][0], field)
-            if found:
-                yield found
+    def meant(self, path, imports, module=""):
+        """The definition, if there is one, that a path means where these names are brought in, or in a module: that of
+        the name, or of the type whose constructor it is. What follows the name of a module is a module's, too."""
+        name, *below = path
+        into, there = imports.get(name, (module, name))
+        while there is None and below:
+            name, *below = below
+            into, there = (f"{into}.{name}", None) if f"{into}.{name}" in self.modules else (into, name)
+        return self.owners.get(self.origin(into, there))
+
+    def named(self, tokens, imports, module=""):
+        """The definitions that tokens name."""
+        known = [*imports, *(self.modules[module].definitions if module else ())]
+        return {self.meant(path, imports, module) for path in paths_in(tokens, known)} - {None}
 
     def references(self, definition):
         """The definitions that this one refers to; in its own file the kit lets it use only what stands above."""
         module = definition.module
-        named = self.named(definition.tokens, lambda name: self.find(module.name, name), module.imports)
+        named = self.named(definition.tokens, module.imports, module.name)
         return {it for it in named if it.module is not module or it.place < definition.place}
 
     def reached(self, first, instead={}):

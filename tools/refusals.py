@@ -27,7 +27,7 @@ def function_of(code, crate, path):
     """The function whose proof is in a file, or the file, if it is a lemma's."""
     *folders, file = path.split("/")
     for it in (it for it in code.functions if (it.crate, [it.name]) == (crate, folders[-1:])):
-        of = [it.owner + re.sub(r"\W", "", it.trait or "")] if it.owner else it.file[:-len(".rt")].split("/")
+        of = [it.above.block] if it.above else it.file[:-len(".rt")].split("/")
         if of in (folders[-2:-1], folders[:-1]):
             return it.path
     return file
@@ -70,7 +70,7 @@ def rows(said):
             sys.exit(f"{crate}/{name}.edit isn't refused by a goal that can be read: {how}")
         function = function_of(items, crate, in_proof[1]) if in_proof else "".join(
             it.path for it in items.functions
-            if (it.crate, it.file) == (crate, in_code[1]) and int(in_code[2]) in it.lines)
+            if (it.crate, it.file) == (crate, in_code[1]) and int(in_code[2]) in it.in_source)
         labels = labels_of(items, crate, function)
         goal = goal_of(in_code[3] if in_code else in_proof[2], in_proof or in_code[4], labels)
         if not goal:

@@ -51,8 +51,10 @@ GAP = re.compile(r"(?:\s|(?://|--)[^\n]*)*")
 
 @functools.lru_cache(maxsize=None)
 def printed_tokens():
-    """What the kit prints of the tokens of each file in `src` and `specs`, a line for each."""
+    """What the kit prints of the tokens of each file in `src` and `specs`, and of the code that it has read, a line for
+    each."""
     paths = [path for of in (("src", ".rt"), ("specs", ".antt")) for _, _, path in files(*of)]
+    paths += glob.glob(os.path.join(TOP, "crates/*/out/rlib/*/lang/src/**/*.rt"), recursive=True)
     kit = os.path.dirname(subprocess.run(["rt", "doc"], stdout=subprocess.PIPE, check=True).stdout)
     command = [os.path.join(kit, b"bin", b"rattle"), "fmt", "--tokens", *paths]
     printed = subprocess.run(command, stdout=subprocess.PIPE, check=True).stdout
@@ -76,28 +78,11 @@ def tokens_of(path):
     return found
 
 
-def blank(text):
-    """A text with a space for each character."""
-    return re.sub(r"[^\n]", " ", text)
-
-
 @functools.lru_cache(maxsize=None)
-def code_of(path):
-    """The code in a file, or what its definitions say, with spaces for comments, texts and characters."""
+def code_of(path, kinds=("Code", "Head", "Antt", "End")):
+    """The code in a file, or what its definitions say, with spaces for comments, texts, characters and other kinds."""
     text, code, place = text_of(path), "", 0
     for it in tokens_of(path):
-        if it.kind not in ("Literal", "Text"):
-            code, place = code + blank(text[place:it.start]) + it.text, it.end
-    return code + blank(text[place:])
-
-
-def sources():
-    """The files of the program's crates, without the modules that a crate's root declares for tests alone."""
-    crates, roots = crates_of_program(), {}
-    ours = [it for it in files("src", ".rt") if it[0] in crates]
-    for crate, file, path in ours:
-        roots[crate] = roots.get(crate, "") + (code_of(path) if file in ("lib", "main") else "")
-
-    def is_of_tests(module, root):
-        return f"\n#[cfg(test)]\nmod {module};\n" in root and len(re.findall(rf"\bmod\s+{module}\b", root)) == 1
-    return [it for it in ours if not is_of_tests(it[1].split("/")[0], roots[it[0]])]
+        if it.kind in kinds:
+            code, place = code + re.sub(r"[^\n]", " ", text[place:it.start]) + it.text, it.end
+    return code + re.sub(r"[^\n]", " ", text[place:])
