@@ -59,8 +59,8 @@ class Border(Case):
         self.assertEqual([it.name for it in ours().values() if it.block.endswith("++Drop")], [])
 
     def test_the_stack(self):
-        """What the kit's own compiler computes of the program, which it compiles in a copy: a number, and after it a `+`
-        if a function may call itself. No such number is known of what LLVM compiles."""
+        """What the kit's own compiler computes of the program, which it compiles in a copy: a number, with a `+` if a
+        function may call itself. No such number is known of what LLVM compiles."""
         check_libraries()
         there = f"crates/{crates_of_program()[-1]}"
         script = """cp -R --parents "$0" crates.txt "$1"
