@@ -18,6 +18,7 @@ class Build(Repository):
         ran = self.script("digests", "md5sum", "a")
         self.assertEqual((ran.status, ran.out, self.calls), (0, OF_A.out, calls), why)
         self.assertEqual((self.script("digests", "md5sum", "a"), self.calls), (OF_A, []), why)
+        self.assertEqual(len({it.split(b" of ")[1] for it in self.programs().values()}), 1, "they have the same sources")
         return ran.err.decode()
 
     def test_a_first_build(self):
@@ -31,7 +32,7 @@ class Build(Repository):
     def test_a_changed_source(self):
         self.build(RT_EDITS=self.sources[0])
         self.expect_built("a source changed while it was built")
-        for path in [*self.sources, self.in_top("crates/low/src/inner/New.antt")]:
+        for path in [*self.sources, self.in_top("crates/low/proofs/incremental/New.antt")]:
             before = self.programs()
             self.put(path, f"another {path}\n")
             self.expect_built(path)
