@@ -18,6 +18,7 @@ class Build(Repository):
         ran = self.script("digests", "md5sum", "a")
         self.assertEqual((ran.status, ran.out, self.calls), (0, OF_A.out, calls), why)
         self.assertEqual((self.script("digests", "md5sum", "a"), self.calls), (OF_A, []), why)
+        self.assertEqual(len({it.split(b" of ")[1] for it in self.programs().values()}), 1, "they have the same sources")
         return ran.err.decode()
 
     def test_a_first_build(self):
@@ -26,12 +27,12 @@ class Build(Repository):
         self.assertEqual(first, "digests: proving and building the program; a first build takes some minutes")
         named = ["crate 1 of 2, low", "crate 2 of 2, digests_main", f"the program for {FAST}"]
         self.assertEqual(sorted(re.sub(r": \d+ s$", "", line) for line in lines), named)
-        self.assertIn(b"\n== crate 1 of 2, low\nrt says: lib\n", self.read(self.in_top("out/build.log")))
+        self.assertIn(b"\n== low\nrt says: lib\n", self.read(self.in_top("out/build.log")))
 
     def test_a_changed_source(self):
         self.build(RT_EDITS=self.sources[0])
         self.expect_built("a source changed while it was built")
-        for path in [*self.sources, self.in_top("crates/low/src/inner/New.antt")]:
+        for path in [*self.sources, self.in_top("crates/low/proofs/incremental/New.antt")]:
             before = self.programs()
             self.put(path, f"another {path}\n")
             self.expect_built(path)
@@ -128,7 +129,7 @@ class HowFar(Repository):
             self.expect_shown(f"crate 1 of 3, low: {how[2:]}", f"\033[A\033[Kcrate 2 of 3, beside: {far}, ")
             beside.close()
             self.assertEqual(started.wait(), status)
-            self.assertIn(f"== crate 1 of 3, low{how}\nrt says", self.read(self.in_top("out/build.log")).decode())
+            self.assertIn(f"== low{how}\nrt says", self.read(self.in_top("out/build.log")).decode())
             self.assertTrue(os.path.exists(self.in_top("crates/beside/out/made")))
 
     def test_ended(self):

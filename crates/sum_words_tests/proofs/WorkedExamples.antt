@@ -6,10 +6,13 @@ use Prim.Native.String.{String}
 use lib.Utf8.{encode}
 use Rattle.sum_lines.specs.grammar.Shapes.{Algo, One, Any}
 use Rattle.digest_kinds.specs.declared.algo.Algo.TheVariants.{Md5, Sha256, Blake2b}
-use Rattle.sum_words.specs.Request.{Mode, Request, Generate, Check, Help, Version, request}
+use Rattle.sum_words.specs.Request.{Mode, request}
+use Rattle.sum_words.specs.declared.parsing.request.Request.{Request}
+use Rattle.sum_words.specs.declared.parsing.request.Request.TheVariants.{Generate, Check, Help, Version}
+use Rattle.sum_words.specs.declared.parsing.options.Spelling.TheVariants.{Long, Short}
 use Rattle.sum_words.specs.{CommandLines.command_line, CommandLines.NeedsMemory, Items.ByteString, Items.name_or_fault, Items.option_of_letter, Tools.tool_called}
 use Rattle.sum_words.specs.declared.tool.Tool.TheVariants.{Md5sum, Sha256sum, B2sum, Anysum}
-use Rattle.sum_words.specs.WordFaults.{WordFaultValue, unknown_long, ambiguous_long, value_not_allowed, value_missing, unknown_short, length_invalid, length_not_bytes, tag_with_text, zero_with_check, tag_with_check, mode_with_check, without_check, check_needed, not_text, Long, Short}
+use Rattle.sum_words.specs.WordFaults.{WordFaultValue, unknown_long, ambiguous_long, value_not_allowed, value_missing, unknown_short, length_invalid, length_not_bytes, tag_with_text, zero_with_check, tag_with_check, mode_with_check, without_check, check_needed, not_text}
 use Rattle.sum_lines.specs.declared.writing.put_line.Mode.TheVariants as modes
 use Rattle.sum_engine.specs.declared.settings.Report.TheVariants as reports
 
