@@ -269,9 +269,8 @@ class Install(Repository):
     @needs_strace
     def test_each_end(self):
         """A call fails, or the run is killed: a command is the old or the new program, and the next run ends it."""
-        for calls, names, *words in (("mkdir,write,symlink,rename,unlink", ALL, OWN),
-                                     ("symlink,rename", OWN, ALL, "--cpu", FAST),
-                                     ("unlink,unlinkat,rmdir", OWN, "--remove")):
+        for calls, names, *words in (("write,symlink,rename,unlink", ALL, OWN), ("unlink,unlinkat", OWN, "--remove"),
+                                     ("mkdir,symlink,rename", OWN, ALL, "--cpu", FAST)):
             self.prefix = f"{self.folder}/for {words[0]}"
             self.installs(names)
             self.theirs(f"{MAN}/theirs.1", "lib/digests/theirs")
