@@ -2,7 +2,6 @@
 
 import os
 import re
-import select
 import shutil
 import signal
 import subprocess
@@ -118,19 +117,17 @@ class HowFar(Repository):
         """Two crates are proved at a time, and each one's line counts its functions. If one fails, the other goes on."""
         if int(re.search(r"MemAvailable: *(\d+)", text_of("/proc/meminfo"))[1]) < 8000000:
             self.skipTest("there is too little memory for two crates at a time")
-        for fails, status, how in (("lib low", 1, ": failed"), ("none", 0, "")):
-            started, low = self.begin(4, RT_FAILS=fails)
-            beside = self.fed("beside")
-            for far in ("1 of 3 functions", "2 of 3 functions"):
-                for pipe in (low, beside):
-                    pipe.write(f"so far: {far} checked\n".encode())
-                self.expect_shown(f"\033[K\033[A\033[Kcrate 1 of 3, low: {far}, ", f"\ncrate 2 of 3, beside: {far}, ")
-            low.close()
-            self.expect_shown(f"crate 1 of 3, low: {how[2:]}", f"\033[A\033[Kcrate 2 of 3, beside: {far}, ")
-            beside.close()
-            self.assertEqual(started.wait(), status)
-            self.assertIn(f"== low{how}\nrt says", self.read(self.in_top("out/build.log")).decode())
-            self.assertTrue(os.path.exists(self.in_top("crates/beside/out/made")))
+        started, low = self.begin(4, RT_FAILS="lib low")
+        beside = self.fed("beside")
+        for far in ("1 of 3 functions", "2 of 3 functions"):
+            for pipe in (low, beside):
+                pipe.write(f"so far: {far} checked\n".encode())
+            self.expect_shown(f"\033[K\033[A\033[Kcrate 1 of 3, low: {far}, ", f"\ncrate 2 of 3, beside: {far}, ")
+        low.close()
+        self.expect_shown("crate 1 of 3, low: failed\n", f"\033[A\033[Kcrate 2 of 3, beside: {far}, ")
+        beside.close()
+        self.assertEqual((started.wait(), os.path.exists(self.in_top("crates/beside/out/made"))), (1, True))
+        self.assertIn(b"== low: failed\nrt says", self.read(self.in_top("out/build.log")))
 
     def test_ended(self):
         """With fewer processors, one crate is proved after another. After a build was ended, the next one completes."""
@@ -138,7 +135,7 @@ class HowFar(Repository):
             started, low = self.begin(2)
             self.assertRaises(OSError, os.open, self.path("beside"), os.O_WRONLY | os.O_NONBLOCK)
             started.send_signal(number)
-            started.wait()
+            self.assertNotEqual(started.wait(), 0)
             low.close()
             self.build()
             self.assertFalse(os.path.exists(self.in_top("out/steps")))
