@@ -2,8 +2,7 @@
 use Rattle.std.proofs.Common.{arith, ℕ, List, [], ◌∷◌, ◌++◌, Option, None, Result, Ok, Err, false, refl, ◌∙◌, append_assoc, append-nil}
 use Rattle.sum_engine.specs.Behavior.{World, Step, Behavior, trace, single_step, ByteString}
 use Rattle.sum_engine.specs.Execution.{OutputsState, StreamsState, world_at, FailuresMatch, Performs, PerformsSteps}
-use Rattle.sum_engine.specs.declared.stop.Stop.TheVariants.{Memory, Write}
-use Rattle.sum_engine.specs.refinement.Writes.{WritesBoth, WritesAndReturns}
+use Rattle.sum_engine.specs.{declared.stop.Stop.TheVariants.Memory, declared.stop.Stop.TheVariants.Write, refinement.Writes.WritesBoth, refinement.Writes.WritesAndReturns}
 use Rattle.sum_engine.proofs.{WorldLemmas.asks_none, ExecutionLemmas.Happened-then, ExecutionLemmas.step_performed}
 use Rattle.sum_words.specs.{Texts.Stop, declared.tool.Tool.Tool}
 use Rattle.digests.specs.{Meaning.status_of, Program.CallPerforms, Program.CallRefuses}

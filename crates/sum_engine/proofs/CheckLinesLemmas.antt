@@ -13,10 +13,8 @@ use Rattle.sum_engine.specs.{check.CheckerLaws.RunsManifest, check.ReadAhead.Sto
 use Rattle.sum_engine.specs.declared.stop.Stop.TheVariants as stops
 use Rattle.sum_engine.specs.Execution.{Stop, Write, OutputsState, StreamsState, Agrees, ReadsToEndIf, world_at, PerformsSteps, StopHasCause, none_or_one}
 use Rattle.sum_engine.specs.refinement.Writes.{WritesAndReturns}
-use Rattle.sum_engine.proofs.ReadAheadLemmas.{read_fits_clip, stops_at_step}
-use Rattle.sum_engine.proofs.ExecutionLemmas.{one_at_most, Happened-none}
-use Rattle.sum_engine.proofs.WorldLemmas.{agrees_before, reads_none, reads_then}
-use Rattle.sum_engine.proofs.BehaviorLemmas.{HasDoneUpTo, done_more, done_stops}
+use Rattle.sum_engine.proofs.{ReadAheadLemmas.read_fits_clip, ReadAheadLemmas.stops_at_step, ExecutionLemmas.one_at_most, ExecutionLemmas.Happened-none}
+use Rattle.sum_engine.proofs.{WorldLemmas.agrees_before, WorldLemmas.reads_none, WorldLemmas.reads_then, BehaviorLemmas.HasDoneUpTo, BehaviorLemmas.done_more, BehaviorLemmas.done_stops}
 
 -- ---- before the first step
 

@@ -6,8 +6,7 @@ use Rattle.sum_engine.specs.refinement.Names.{HashFault, RefusesMemory, NoRoom, 
 use Rattle.sum_engine.proofs.HashLemmas.{HashesName}
 use Rattle.sum_sources.specs.declared.sources.hash_file.HashFault.TheVariants.{Open, Read}
 use Rattle.sum_sources.specs.declared.sources.source.OpenFault.TheVariants as faults
-use Rattle.sum_engine.specs.Generation.{Settings, generate_behavior_by}
-use Rattle.sum_engine.specs.Execution.{AsksNames, Agrees, world_at}
+use Rattle.sum_engine.specs.{Generation.Settings, Generation.generate_behavior_by, Execution.AsksNames, Execution.Agrees, Execution.world_at}
 
 -- the fault that was found is what the definitions say of the answer, and the name was opened
 pub fault_found : {kind : KindValue} {name : List ℕ} {a b : SourceState} (e : HashFault) (f : Fault) → Ok f ≡ fault_in e

@@ -1,7 +1,6 @@
 -- A manifest of lines that were written for whole files is good: by induction on its lines.
 use Rattle.std.proofs.Common.{rules, ◌≡◌, ℕ, suc, ◌+◌, ◌<◌, true, false, List, [], ◌∷◌, ◌++◌, length, map, refl, ap, ◌∙◌, append_assoc, arith, inl, append-nil, flat_map, All, Ok}
-use Rattle.std.proofs.lemmas.{Bool.ne_eqb, List.Elements.All-head, List.Elements.All-tail, Slice.Eq.bytes_eq-Decides}
-use Rattle.std.proofs.Math.Bool.{and-false, or-true}
+use Rattle.std.proofs.{lemmas.Bool.ne_eqb, lemmas.List.Elements.All-head, lemmas.List.Elements.All-tail, lemmas.Slice.Eq.bytes_eq-Decides, Math.Bool.and-false, Math.Bool.or-true}
 use Rattle.sum_engine.specs.check.Rules.{LabelsValue, Rules, rules_of, labels_of}
 use Rattle.sum_engine.specs.check.Judge.{Algos, Form, Right, LineVerdictValue, judge, line_verdict, verdicts, all_verdicts, parse_line, past_line, own_profile, escape, IsEntry, form}
 use Rattle.sum_engine.specs.check.Reports.{Report, Counts, out_by, out_of, err_of, counts_of, end_text, good}

@@ -3,11 +3,9 @@ use Rattle.std.proofs.Common.{rules, ◌≡◌, ℕ, zero, suc, ◌+◌, ◌-◌
 use Rattle.std.proofs.lemmas.List.{take-append-drop}
 use Rattle.sum_engine.specs.{check.Rules.Rules, check.Rules.LabelsValue, check.Reports.counts_of, check.Reports.end_text}
 use Rattle.sum_engine.specs.check.Judge.{Form, form, lines_under, LineVerdictValue, verdicts, all_verdicts, past_line, past_lines}
-use Rattle.sum_engine.specs.check.Checking.{line_steps, content_behavior}
-use Rattle.sum_engine.specs.check.CheckStates.{CheckState, remaining_behavior, initial_state}
+use Rattle.sum_engine.specs.{check.Checking.line_steps, check.Checking.content_behavior, check.CheckStates.CheckState, check.CheckStates.remaining_behavior, check.CheckStates.initial_state}
 use Rattle.sum_engine.specs.{check.Checker.Going, check.Checker.IsStep, check.Checker.step_then, Execution.StreamsState, Execution.Happened}
-use Rattle.sum_engine.specs.Behavior.{World, Behavior, trace, Content}
-use Rattle.sum_engine.specs.check.CheckerLaws.{TakesSteps, StepsJoin}
+use Rattle.sum_engine.specs.{Behavior.World, Behavior.Behavior, Behavior.trace, Behavior.Content, check.CheckerLaws.TakesSteps, check.CheckerLaws.StepsJoin}
 use Rattle.sum_engine.proofs.{RemainingLemmas.past_next, ExecutionLemmas.Happened-none, BehaviorLemmas.HasDoneUpTo, BehaviorLemmas.behavior_then-happened}
 use Rattle.sum_engine.proofs.CheckLinesLemmas.{remaining-initial, none_left, done_last}
 

@@ -3,8 +3,7 @@ use Rattle.std.proofs.Common.{rules, ◌≡◌, ◌≢◌, ℕ, ◌<◌, Bool, t
 use Rattle.std.proofs.lemmas.{Bool.Decides.nat_tests, List.take_at, List.drop_at}
 use Rattle.std.proofs.lemmas.List.Elements.{All-nil, All-cons, All-head, All-tail, All-take, All-drop}
 use Rattle.digest_kinds.specs.Kinds.{tag}
-use Rattle.sum_lines.specs.grammar.Shapes.{Algos, KindValue, IsPlain, IsTagged, mark}
-use Rattle.sum_lines.specs.declared.reading.read_line.Form.{Form}
+use Rattle.sum_lines.specs.{grammar.Shapes.Algos, grammar.Shapes.KindValue, grammar.Shapes.IsPlain, grammar.Shapes.IsTagged, grammar.Shapes.mark, declared.reading.read_line.Form.Form}
 use Rattle.sum_lines.specs.declared.reading.read_line.Form.TheVariants.{Undecided, Standard, Reversed}
 use Rattle.sum_lines.specs.Escape.{own_profile, escape, escape_of, escape_by}
 use Rattle.sum_lines.specs.grammar.Entries.{EntryValue, is_ignored, IsRawName, IsEntry}

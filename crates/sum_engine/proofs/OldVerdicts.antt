@@ -3,14 +3,12 @@ use Rattle.std.proofs.Common.{rules, ◌≡◌, ℕ, ◌+◌, ◌<◌, List, [],
 use Rattle.std.proofs.lemmas.List.Elements.{All-nil, All-cons, All-head, All-tail}
 use Rattle.sum_engine.specs.{check.Rules.LabelsValue, check.Rules.Rules, check.Checking.line_steps}
 use Rattle.sum_engine.specs.check.Judge.{Algos, Form, LineVerdictValue, line_verdict, asks_of, verdicts, all_verdicts, form, own_profile, parse_line}
-use Rattle.sum_engine.specs.check.Reports.{Counts, end_text}
-use Rattle.sum_engine.specs.Behavior.{Ending, Whole, Broken, World, world_after, Content}
+use Rattle.sum_engine.specs.{check.Reports.Counts, check.Reports.end_text, Behavior.Ending, Behavior.Whole, Behavior.Broken, Behavior.World, Behavior.world_after, Behavior.Content}
 use Rattle.sum_sources.specs.ManifestLines.{raw_lines, last_line, past_line}
 use Rattle.sum_sources.proofs.CutLemmas.{bytes_of_lines, cut, raw_lines-joined}
 use Rattle.sum_engine.specs.check.OldVerdicts.{older_profile, rules_under, HasNoCarriageReturn, NamesNoCarriageReturn, IsOldManifest, OldVerdicts, OlderDiffers}
 use Rattle.sum_lines.proofs.{EntryLemmas.entry-not_ignored, ParsedLineLemmas.bad_exactly}
-use Rattle.sum_engine.proofs.OldNames.{parts_clean, same_escape, parse_line_same}
-use Rattle.sum_engine.proofs.CarriageReturnLemmas.{strips-kept}
+use Rattle.sum_engine.proofs.{OldNames.parts_clean, OldNames.same_escape, OldNames.parse_line_same, CarriageReturnLemmas.strips-kept}
 
 -- ---- the lines
 

@@ -1,8 +1,7 @@
 -- `check_one`: a name is opened, read and closed, and in between other calls may open names.
 use Rattle.std.proofs.Common.{rules, refl, ◌≡◌, ◌∙◌, [], ◌∷◌, ◌++◌, ℕ, List, Ok, Err, None, Some, append_assoc}
 use Rattle.std.proofs.lemmas.{List.map-append, List.Elements.All-cons}
-use Rattle.sum_sources.specs.Contents.{Fits, IsSameInput}
-use Rattle.sum_sources.specs.Sources.{Opening, ToldAnswers, opened_file, and_opening, after_closing, IsOpen}
+use Rattle.sum_sources.specs.{Contents.Fits, Contents.IsSameInput, Sources.Opening, Sources.ToldAnswers, Sources.opened_file, Sources.and_opening, Sources.after_closing, Sources.IsOpen}
 use Rattle.sum_sources.proofs.GaveLemmas.{closed-seam, gave-seam}
 use Rattle.sum_engine.specs.Behavior.{World, Content, Fault, InputState, SourceState, answer_to, times}
 use Rattle.sum_engine.specs.Execution.{Agrees, world_at, opened_names, gave_at, AsksNames, IsAtEndIf, ReadsFile, ReadsToEndIf}

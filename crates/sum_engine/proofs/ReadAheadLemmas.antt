@@ -1,8 +1,7 @@
 -- How far a manifest was read when its check stopped.
 use Rattle.std.proofs.Common.{rules, arith, ◌≡◌, ◌≤◌, ◌+◌, ◌^◌, ℕ, List, [], ◌∷◌, ◌++◌, length, Bool, Result, Ok, Err, inl, inr, refl, ap, ◌∙◌, length-append, length-take}
 use Rattle.std.specs.Prelude.{IfErr}
-use Rattle.sum_sources.specs.Contents.{IsReadTo, clip}
-use Rattle.sum_sources.specs.declared.inputs.phase.Phase.{Phase}
+use Rattle.sum_sources.specs.{Contents.IsReadTo, Contents.clip, declared.inputs.phase.Phase.Phase}
 use Rattle.sum_sources.specs.declared.inputs.phase.Phase.TheVariants.{Unfinished, Ended, Past}
 use Rattle.sum_sources.proofs.ContentLemmas.{limit-value}
 use Rattle.sum_engine.specs.Behavior.{Behavior, Content}

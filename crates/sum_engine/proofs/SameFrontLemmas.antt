@@ -3,8 +3,7 @@ use Rattle.std.proofs.Common.{rules, ◌≡◌, ℕ, ◌+◌, List, [], ◌∷�
 use Rattle.sum_engine.specs.{check.Rules.Rules, Behavior.World, Behavior.world_after, check.CheckerLaws.SameFront}
 use Rattle.sum_engine.specs.check.Judge.{Algos, Form, LineVerdictValue, line_verdict, asks_of, verdicts, parse_line, own_profile, escape, EntryValue, IsEntry, form, form_then, line_form}
 use Rattle.sum_lines.specs.declared.reading.read_line.Form.TheVariants.{Undecided}
-use Rattle.sum_lines.proofs.ParsedLineLemmas.{parse_is_grammar}
-use Rattle.sum_lines.proofs.EntryLemmas.{form_next, parse_stays, same_parse, same_form}
+use Rattle.sum_lines.proofs.{ParsedLineLemmas.parse_is_grammar, EntryLemmas.form_next, EntryLemmas.parse_stays, EntryLemmas.same_parse, EntryLemmas.same_form}
 
 -- the verdicts of the first lines, by the form so far
 abbrev running : Rules → World → ℕ → Form → List (List ℕ) → List LineVerdictValue

@@ -6,8 +6,7 @@ use Rattle.sum_engine.specs.{check.Rules.LabelsValue, check.CheckStates.CheckSta
 use Rattle.sum_engine.specs.check.Reports.{err_of, out_of, end_text, good}
 use Rattle.sum_engine.specs.check.Verdicts.{VerdictsValue, state_at, HoldsInEachCheck, AdvancesVerdicts, VerdictResult, line_verdict_value, IsNextVerdict, HasNoVerdictLeft}
 use Rattle.sum_engine.specs.check.Checker.{ReportsFound, Progress, Going, Ended, TakesStep}
-use Rattle.sum_engine.specs.Execution.{Stop, Memory, OutputsState, StreamsState, AsksNames, world_at}
-use Rattle.sum_engine.specs.refinement.Writes.{WritesAndReturns}
+use Rattle.sum_engine.specs.{Execution.Stop, Execution.Memory, Execution.OutputsState, Execution.StreamsState, Execution.AsksNames, Execution.world_at, refinement.Writes.WritesAndReturns}
 use Rattle.sum_engine.proofs.{ExecutionLemmas.step_performed, ExecutionLemmas.refused_first, CountLemmas.counts_then-nil}
 use Rattle.sum_engine.proofs.RemainingLemmas.{line_step, behavior_by, first_step, found_first, going-before}
 use Rattle.sum_sources.specs.declared.line_reader.LineStop.TheVariants as line_stops

@@ -2,8 +2,7 @@
 use Rattle.std.proofs.Common.{◌≡◌, [], Option, None, Some, Result, Ok, Err, IfSome, refl}
 use Rattle.sum_sources.specs.{Contents.Reads, InputLaws.some_content, declared.fault.Fault.TheVariants.NotFound}
 use Rattle.sum_sources.specs.Sources.{Answers, ToldAnswers, TellsAll, gave_at, FitsAnswer, GivesTold}
-use Rattle.sum_engine.specs.Execution.{Agrees}
-use Rattle.sum_engine.specs.Behavior.{Answer, Fault, SourceState}
+use Rattle.sum_engine.specs.{Execution.Agrees, Behavior.Answer, Behavior.Fault, Behavior.SourceState}
 use Rattle.sum_engine.specs.WorldLaws.{ToldAgree}
 
 -- an answer that gave this

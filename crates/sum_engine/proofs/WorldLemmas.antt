@@ -1,8 +1,7 @@
 -- Names opened one after another, and the worlds that agree with one call after another.
 use Rattle.std.proofs.Common.{rules, ◌≡◌, ap, refl, ℕ, zero, suc, List, [], ◌∷◌, ◌++◌, Option, None, Some, Result, IfSome, IfOk, append_assoc, append-nil, bytes_eq}
 use Rattle.std.specs.{Prelude.slice_get, Option.option_flatten}
-use Rattle.std.proofs.lemmas.{List.map-append, Result.IfOk-weaker}
-use Rattle.std.proofs.lemmas.List.Elements.{All-nil, All-cons, All-append, All-weaker}
+use Rattle.std.proofs.{lemmas.List.map-append, lemmas.Result.IfOk-weaker, lemmas.List.Elements.All-nil, lemmas.List.Elements.All-cons, lemmas.List.Elements.All-append, lemmas.List.Elements.All-weaker}
 use Rattle.sum_sources.specs.{Contents.Reads, Sources.Opening, Sources.FitsAnswer, Sources.and_opening, Sources.gave_of, Sources.names_of, Sources.times}
 use Rattle.sum_sources.proofs.GaveLemmas.{true_or_false, gave-append, gave-seam}
 use Rattle.sum_engine.specs.Behavior.{World, Fault, SourceState, world_after}

@@ -1,5 +1,4 @@
-use Rattle.std.proofs.Common.{refl, true, false, Ok, Err}
-use Rattle.std.proofs.lemmas.Result.{err_from_is_err_and}
+use Rattle.std.proofs.{Common.refl, Common.true, Common.false, Common.Ok, Common.Err, lemmas.Result.err_from_is_err_and}
 use Rattle.sum_engine.specs.{Behavior.World, Generation.generate_behavior}
 use Rattle.sum_engine.proofs.{BehaviorLemmas.Performs-step, BehaviorLemmas.Performs-refused}
 use Rattle.sum_engine.proofs.{HashLemmas.hashes_name, GenerateLemmas.fault_found, GenerateLemmas.one_step, GenerateLemmas.refused_memory, WorldLemmas.reads_weaker}
