@@ -1,7 +1,6 @@
 """The script `install`, in a copy of the repository: what it puts below a prefix, leaves there and removes."""
 
 import fcntl
-import itertools
 import os
 import shutil
 import subprocess
@@ -31,8 +30,7 @@ class Install(Repository):
     def setUp(self):
         """Pages are made by fewer runs of the program, and nothing is synced but looked at, so that a test is short."""
         super().setUp()
-        text = text_of("tools", "options.py")
-        self.put("tools/options.py", text.replace("    ran = ", "    return '--=' not in words\n    ran = "))
+        self.put("tools/options.py", text_of("tools", "options.py").replace("ran =", "return '--=' not in words;ran ="))
         self.write_command("sync", '#!/bin/sh\nshift; for at; do [ -r "$at/." ] || exit; done\n')
         self.build()
         self.prefix = os.path.join(self.folder, "a prefix")
@@ -82,8 +80,8 @@ class Install(Repository):
         self.assertEqual(self.run_command([self.at("bin/digests"), "md5sum", "a"]), OF_A)
 
     def expect_removed(self, theirs=()):
-        """Removes all; of others, there are these."""
-        self.assertEqual(self.installs("--remove"), "")
+        """Removes all, and builds nothing; of others, there are these."""
+        self.assertEqual((self.installs("--remove"), self.calls), ("", []))
         self.assertEqual(self.tree(), {path: b"theirs" for path in theirs})
         self.assertNotIn("digests", os.listdir(self.at("lib")))
 
@@ -102,12 +100,10 @@ class Install(Repository):
         with self.full() as full:
             for how in ({"stdout": full}, {"preexec_fn": lambda: os.close(1)}):
                 self.installs(**how)
-                self.expect_installed()
                 self.expect_removed()
 
     def test_each_over_another(self):
-        """Names and level stay if nothing is said of them. With own names, nothing is called by GNU's. Removing builds
-        nothing."""
+        """Names and level stay if nothing is said of them. With own names, nothing is called by GNU's."""
         theirs = ["bin/theirs", f"{MAN}/theirs.1", "lib/theirs"]
         self.theirs(*theirs)
         for words, level, own, kept in (
@@ -127,7 +123,6 @@ class Install(Repository):
             self.assertIn(f"installed for the level {level} in ", self.installs(*words))
         os.remove(self.in_top("out/built"))
         self.expect_removed(theirs)
-        self.assertEqual(self.calls, [])
         self.assertIn("nothing is installed", self.installs("--remove", status=1))
 
     def test_what_is_in_the_place(self):
@@ -147,52 +142,35 @@ class Install(Repository):
         there, user = f"is really {other}/lib/digests, so PREFIX has to be {other}", "another user's: run install as"
         for change, why, *paths in (
                 ("mkdir -m 700 lib/digests; chown nobody lib/digests", user), ('ln -s "$0/lib/digests" lib', there),
-                ('cp -a "$0"/* .; chown nobody lib/digests', user), ('rmdir lib; ln -s "$0/lib" .', there),
-                ("mkdir lib/digests; >lib/digests/theirs", "these ", "lib/digests"),
+                ('rmdir lib; ln -s "$0/lib" .', there), ("mkdir lib/digests; >lib/digests/x", "these ", "lib/digests"),
                 ('cp -rL "$0"/* .', "these ", "lib/digests", *paths_of(False))):
             os.makedirs(self.at("lib"))
             self.shell(change, other)
-            before = self.shell("find . -printf '%p %U %m %T@\\n'")
+            before = self.shell("find -L . -printf '%p %U %m %T@\\n'")  # that of a link's target
             for words in ([], ["--remove"]):
                 self.assertIn(why, self.expect_named(paths, *words))
-                self.assertEqual(self.shell("find . -printf '%p %U %m %T@\\n'"), before)
+                self.assertEqual(self.shell("find -L . -printf '%p %U %m %T@\\n'"), before)
             shutil.rmtree(self.prefix)
-        self.prefix = other
-        self.expect_installed()
 
     def test_an_earlier_form(self):
         """Its list is named, with two commands that remove what that lists. Another file of that name is left alone."""
-        for lines in (["program 1 2", "link md5sum"], ["/", "bin/", "bin/digests", "bin/md5sum", LIST],
-                      [f"{'0' * 64}  bin/digests", "# folder  bin", "# -> digests  bin/md5sum"]):
+        for words, *lines in (([], "program 1 2", "link md5sum"),
+                              (["--remove"], "/", "bin/", "bin/digests", "bin/md5sum", LIST),
+                              ([], f"{'0' * 64}  bin/digests", "# folder  bin", "# -> digests  bin/md5sum")):
             self.theirs("bin/digests", "bin/md5sum", "bin/theirs", LIST)
             self.write(self.at(LIST), lines)
-            said, *commands = self.installs(status=1).splitlines()
-            self.assertIn(self.at(LIST), said)
-            self.assertEqual(self.installs("--remove", status=1).splitlines(), [said, *commands])
-            self.shell(" && ".join(commands))
-            self.assertEqual((len(commands), self.tree()), (2, {"bin/theirs": b"theirs"}))
+            said, *two = self.installs(*words, status=1).splitlines()
+            self.shell(" && ".join(two))
+            self.assertEqual((self.at(LIST) in said, len(two), self.tree()), (True, 2, {"bin/theirs": b"theirs"}))
         self.theirs(LIST)
         self.installs()
         self.expect_installed(theirs=["bin/theirs", LIST])
-
-    @needs_strace
-    def test_a_link_that_works(self):
-        """A link that leads to ours stays, whatever it says. Nothing is given another owner."""
-        self.installs()
-        self.shell('ln -sfn "$PWD/lib/digests/current/bin/md5sum" bin/md5sum')
-        before = self.tree()
-        faults = "-e", f"inject=symlink:error=ENOSPC:when={len(NAMES) + 1}+", "-e", "inject=chown:error=EPERM"
-        traced = [strace(), "-qq", "-o", "/dev/null", *faults]
-        ran = self.run_command([*traced, self.in_top("install"), self.prefix], env=self.env)
-        self.assertEqual((ran.status, self.tree()), (0, before))
 
     def test_what_appears_meanwhile(self):
         """A file of others that appears meanwhile is named, and not overwritten."""
         self.write_command("sync", f"#!/bin/sh\nprintf theirs >'{self.prefix}/bin/md5sum'")
         self.assertIn(f"install: {self.prefix}/bin/md5sum: File exists", self.installs(status=1))
-        os.remove(self.path("commands/sync"))
-        self.expect_named(["bin/md5sum"], "--remove")
-        self.assertEqual(self.tree(), {"bin/md5sum": b"theirs"})
+        self.assertEqual(self.tree()["bin/md5sum"], b"theirs")
 
     def test_what_somebody_changed(self):
         """What was changed in lib/digests is replaced: contents, modes and owners."""
@@ -207,24 +185,20 @@ class Install(Repository):
         """Removing names it, and removes all else. A prefix that can't be written to stays as it is."""
         os.mkdir(self.prefix, 0o555)
         self.assertIn(f"{self.prefix}/lib: Permission denied", self.installs(status=1, **self.nobody()))
-        os.rmdir(self.prefix)
-        self.installs()
-        whole = shutil.move(self.prefix, f"{self.folder}/whole")
         changes = "rm -r {0}; echo >{0}", "rm -r {0}; ln -s {0} {0}", "chmod 0 {0}"
-        for name, change in itertools.product(("share", "lib"), changes):
-            shutil.copytree(whole, self.prefix, symlinks=True)
+        for name, change in [(name, change) for name in ("share", "lib") for change in changes]:
+            shutil.rmtree(self.prefix)
+            self.installs()
             self.shell(f"{change.format(name)}; chown -Rh nobody .")
             self.expect_named([name], "--remove", **self.nobody())
             self.assertEqual({path for path in self.tree() if not path.startswith(name)}, set())
-            shutil.rmtree(self.prefix)
 
     def test_directories_elsewhere(self):
         """Directories of links may lie elsewhere, on another disk, too. Links there that lead elsewhere stay."""
         with tempfile.TemporaryDirectory(dir="/dev/shm") as other:
             self.installs()
             self.shell('mv bin share "$0" && ln -s "$0"/* .', other)
-            for words in ([], ["--remove"]):
-                self.expect_named(paths_of(False), *words)
+            self.expect_named(paths_of(False), "--remove")
             self.shell('find "$0" -type l -delete', other)
             for words, count in (([], len(paths_of(False))), (["--remove"], 0)):
                 self.installs(*words)
@@ -262,19 +236,19 @@ class Install(Repository):
             ran = self.script("install", *words)
             self.assertEqual((ran.status, ran.out, ran.err.count(b"\n")), (2, b"", 1), words)
             self.assertRegex(ran.err.decode(), rf"\Ainstall: .*{it}")
-        self.assertFalse(os.path.exists(self.path("x")))
         os.symlink(shutil.which("python3"), self.path("python3"))
         self.assertIn("install: sync, of GNU coreutils, isn't on the PATH", self.installs(status=1, PATH=self.folder))
 
     @needs_strace
     def test_each_end(self):
-        """A call fails, or the run is killed: a command is the old or the new program, and the next run ends it."""
+        """A call fails, or the run is killed: a command is the old or the new program, and the next run ends it. A link
+        that leads to ours stays, whatever it says. Nothing is given another owner."""
         for calls, names, *words in (("write,symlink,rename,unlink", ALL, OWN), ("unlink,unlinkat", OWN, "--remove"),
-                                     ("mkdir,symlink,rename", OWN, ALL, "--cpu", FAST)):
+                                     ("symlink,rename,chown", OWN, ALL, "--cpu", FAST)):
             self.prefix = f"{self.folder}/for {words[0]}"
             self.installs(names)
             self.theirs(f"{MAN}/theirs.1", "lib/digests/theirs")
-            self.shell(f"echo >>{CURRENT}/bin/digests")
+            self.shell(f'echo >>{CURRENT}/bin/digests; ln -sfn "$PWD/{CURRENT}/bin/anysum" bin/anysum')
             programs = [self.at("bin/anysum"), *(self.in_top(f"out/{level}/digests") for level in (DEFAULT, FAST))]
             old, new, programs = self.tree(), None, list(map(self.read, programs))
             for fault, ran in each_end(self, calls, [self.in_top("install"), *words], self.prefix, env=self.env):
@@ -284,6 +258,8 @@ class Install(Repository):
                 if ran.status == 1:
                     self.assertRegex(ran.err, rb"\Ainstall: /.*: (No space left on device|Input/output error)\n\Z")
                 self.assertTrue(there == old or "write:error" not in fault)
+                self.assertIn(there.get("bin/anysum"), (old["bin/anysum"], None))
+                self.assertNotRegex(self.read("trace"), rb"(?m)^\w*chown")
                 for path in (path for path in {*there, *{*old} & {*new}} if path.startswith("bin/")):
                     self.assertTrue(self.read(self.at(path)) in programs and os.access(self.at(path), os.X_OK), path)
                 self.assertTrue(there in (old, new) or
