@@ -28,7 +28,10 @@ import sys
 
 sys.dont_write_bytecode = True
 
-from rattle import TOP, Code, Specs, compiled, crates, text_of  # noqa: E402  (nothing is to be left beside these files)
+import compiled  # noqa: E402  (nothing is to be left beside these files)
+from definitions import Specs  # noqa: E402
+from rattle import Code  # noqa: E402
+from sources import TOP, crates, text_of  # noqa: E402
 
 PROMISES = os.path.join(TOP, "docs", "PROMISES.md")
 # What is believed besides the laws, in the order of the page: a function's crate and name, and what the page calls it.

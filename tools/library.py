@@ -8,7 +8,9 @@ import sys
 
 sys.dont_write_bytecode = True
 
-from rattle import TOP, Code, as_in_a_source, compiled, text_of  # noqa: E402  (nothing is to be left here)
+import compiled  # noqa: E402  (nothing is to be left beside these files)
+from rattle import Code, as_in_a_source  # noqa: E402
+from sources import TOP, text_of  # noqa: E402
 
 PAGE = os.path.join(TOP, "docs", "LIBRARY.md")
 BEGIN = "<!-- From here on tools/library.py writes. -->\n"

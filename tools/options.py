@@ -6,7 +6,7 @@ import re
 import subprocess
 import sys
 
-from rattle import text_of
+from sources import text_of
 
 LINE = re.compile(r"  (?:-(?P<short>\w), |    )--(?P<long>[a-z-]+)(?:=(?P<value>[A-Z]+))? +(?P<help>.*)")
 

@@ -4,8 +4,8 @@ import re
 import sys
 
 from options import ALWAYS, DIGESTS, NEVER, TOOLS, WITH_CHECK, WITHOUT_CHECK, options_of
-from rattle import text_of
 from roff import WIDTH, bullet, escaped, inline, item, page, section, shown
+from sources import text_of
 
 DATE = "2026-11-29"  # of the last change of the texts
 FEWER = ", or fewer with `--length`"

@@ -11,7 +11,8 @@ import sys
 
 sys.dont_write_bytecode = True
 
-from rattle import TOP, Code, crates, text_of  # noqa: E402  (nothing is to be left beside these files)
+from rattle import Code  # noqa: E402  (nothing is to be left beside these files)
+from sources import TOP, crates, text_of  # noqa: E402
 
 PAGE = os.path.join(TOP, "docs", "TESTING.md")
 MARKS = "<!-- made by tools/refusals.py: what stands below -->\n", "\n<!-- and above this line -->"

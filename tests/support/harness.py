@@ -22,7 +22,7 @@ import tty
 import unittest
 
 import options
-from rattle import TOP, text_of
+from sources import TOP, text_of
 
 # Set by run.py: the program's absolute path, the seed of the first case at random, and how many cases a test tries.
 # Without `--seed` each day has cases of its own.

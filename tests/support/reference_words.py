@@ -6,8 +6,8 @@ import os
 import re
 
 from harness import Ran
-from rattle import text_of
 from reference import ALGORITHMS, World, checked, escape, generated
+from sources import text_of
 
 NAMES = ["binary", "check", "tag", "text", "zero", "ignore-missing", "quiet", "status", "strict", "warn", "help",
          "version"]
