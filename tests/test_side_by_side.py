@@ -54,9 +54,7 @@ class SideBySide(Case):
             ran = self.run_script(script, "sums")
             self.assertEqual((ran.status, ran.err), (0, b""))
             self.expect_lines(self.read("sums"), self.lines)
-            with open(self.path("sums"), "rb") as sums:
-                checked = self.run_words("sha256sum -c --quiet --strict", stdin=sums, cwd=self.tree)
-            self.assertEqual(checked, (0, b"", b""))
+            self.expect("sha256sum -c --quiet --strict", stdin=self.opened("sums"), cwd=self.tree)
 
     def test_into_a_file_and_a_pipe(self):
         """`xargs -P 8 digests sha256sum < names > SUMS` gives every line whole, and so does a pipe in its place."""
@@ -102,7 +100,7 @@ class SideBySide(Case):
         can't be opened, so the line says that."""
         rest = b"md5sum: : File name too long\n"
         names = [b"%d" % run + b"x" * (8192 - len(rest) - 1) for run in range(8)]
-        with open(self.path("said"), "ab") as said:
-            started = [self.start(["md5sum", *[name] * 10], stderr=said) for name in names]
+        said = self.opened("said", "ab")
+        started = [self.start(["md5sum", *[name] * 10], stderr=said) for name in names]
         self.assertEqual([one.wait(timeout=harness.RUN_SECONDS) for one in started], [1] * 8)
         self.expect_lines(self.read("said"), 10 * [b"md5sum: " + name + b": File name too long" for name in names])

@@ -32,22 +32,15 @@ def needs_strace(test):
 class Traced(Case):
     """A test that runs the program under `strace`. Its files `out` and `err` take the outputs."""
 
-    def traced(self, options, words, stdin=None, **how):
+    def traced(self, options, words, stdin=subprocess.DEVNULL, **how):
         """Runs `digests` with these words under `strace` with these options: what it left, its outputs being files,
         and the calls that the options select, a line each."""
         trace = self.path("trace")
         command = [strace(), "-qq", "-o", trace, *as_words(options), harness.PROGRAM, *as_words(words)]
-        how.setdefault("timeout", harness.RUN_SECONDS)
         with open(self.path("out"), "wb") as out, open(self.path("err"), "wb") as err:
-            how.setdefault("stdout", out)
-            how.setdefault("stderr", err)
-            source = subprocess.DEVNULL if stdin is None else stdin
-            try:
-                ran = subprocess.run(command, cwd=self.folder, stdin=source, **how)
-            except subprocess.TimeoutExpired:
-                self.fail(f"the run does not end within {how['timeout']} seconds")
+            ran = self.run_command(command, stdin, **{"stdout": out, "stderr": err, **how})
         calls = self.read("trace").decode(errors="replace").splitlines()
-        return Ran(ran.returncode, self.read("out"), self.read("err")), calls
+        return Ran(ran.status, self.read("out"), self.read("err")), calls
 
     def failing(self, call, error, words, only=None, when="", **how):
         """Runs `digests` under `strace`, which lets this call fail with this error: each time or only the times in
@@ -60,8 +53,7 @@ class Traced(Case):
 
 def sizes(calls, descriptor):
     """The bytes that each call to write to this descriptor took."""
-    found = (re.match(rf"writev?\({descriptor},.*= (\d+)$", call) for call in calls)
-    return [int(match[1]) for match in found if match]
+    return [int(it) for it in re.findall(rf"(?m)^writev?\({descriptor},.*= (\d+)$", "\n".join(calls))]
 
 
 def faults(trace):
