@@ -101,11 +101,7 @@ def made():
 @functools.lru_cache(maxsize=None)
 def claims():
     """The headline, the program and what `main` calls; the laws; and what `main` makes."""
-    return list(every_claim())
-
-
-def every_claim():
-    before, earlier, specs = set(), [], every_definition()
+    found, before, earlier, specs = [], set(), [], every_definition()
     functions = [(title, f" (`{name}` of `{crate}`)", [code().function(crate, name)]) for crate, name, title in CLAIMS]
     for title, of, functions in [*functions, ("The laws", "", code().laws()), ("What `main` makes", "", made())]:
         contracts = [item for function in functions for item in code().reached(function)]
@@ -114,9 +110,10 @@ def every_claim():
         items = list({id(it): it for it in [*contracts, *declared(contracts), *declared(ordered)]}.values())
         apart = specs.reached(cited(contracts)) - reached - before
         new = [it for it in items if it not in earlier]
-        yield Claim(title, of, items, reached, apart, new, in_files(reached - before))
+        found.append(Claim(title, of, items, reached, apart, new, in_files(reached - before)))
         before |= reached | apart
         earlier += items
+    return found
 
 
 def size(believed):

@@ -7,10 +7,9 @@ import gc
 import glob
 import json
 import os
-import subprocess
 import sys
 
-from sources import TOP, crates_of_program
+from sources import TOP, crates_of_program, kit
 
 LIBRARIES = crates_of_program()[:-1]  # without the program's crate, which has `main` alone, and isn't kept so
 
@@ -60,12 +59,6 @@ class Function:
                 chosen.add(of[0])
         self.named = sorted([*calls, *chosen])
         self.runs = {*calls}.union(*(blocks[it] for it in chosen))
-
-
-@functools.lru_cache(maxsize=None)
-def kit():
-    """The kit's folder."""
-    return os.path.dirname(subprocess.run(["rt", "doc"], stdout=subprocess.PIPE, check=True, text=True).stdout)
 
 
 def library(crate):

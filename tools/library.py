@@ -34,7 +34,6 @@ class Library:
     def __init__(self):
         self.code = Code()
         self.items = [it for it in self.code.items if "doc ( hidden )" not in it.attributes]
-
         self.lines = {(crate, file[:-len(".rt")]): [as_in_a_source(it) for it in text_of(path).splitlines()]
                       for crate, file, path in compiled.read_files()}
 

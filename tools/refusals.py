@@ -50,14 +50,12 @@ def goal_of(name, whole, labels):
     cut."""
     if name.startswith("returns"):
         _, marked, label = name.rpartition("-clause-")
-        if not marked:
-            return " or ".join(sorted(labels)) or None
-        return min((it for it in labels if it == label or not whole and it.startswith(label)), default=None)
-    for pattern, says in ((r"(\w+)[\w-]*-requires", "what `{}` requires"),
-                          (r"(?:loop-)?(\w+)-(?:init|preserved)", "loop's `{}`"),
-                          (r"invariant_of-(\w+)", "the invariant of `{}`"), (r"(invariant)", "the {} of its type")):
-        found = re.match(pattern, name)
-        if found:
+        fitting = {it for it in labels if it == label or not whole and it.startswith(label)}
+        return min(fitting, default=None) if marked else " or ".join(sorted(labels)) or None
+    for pattern, says in (
+            (r"(\w+)[\w-]*-requires", "what `{}` requires"), (r"(?:loop-)?(\w+)-(?:init|preserved)", "loop's `{}`"),
+            (r"invariant_of-(\w+)", "the invariant of `{}`"), (r"(invariant)", "the {} of its type")):
+        if found := re.match(pattern, name):
             return says.format(found[1])
     return "its proof"
 

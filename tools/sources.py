@@ -43,6 +43,12 @@ def files(folder, ending):
         yield crate, file, path
 
 
+@functools.lru_cache(maxsize=None)
+def kit():
+    """The kit's folder."""
+    return os.path.dirname(subprocess.run(["rt", "doc"], stdout=subprocess.PIPE, check=True, text=True).stdout)
+
+
 # A token: its kind (`rattle fmt --help` says which there are), its line, its place in the text, and itself.
 Token = collections.namedtuple("Token", "kind line start end text")
 # What stands between tokens: comments, up to the end of a line.
@@ -55,8 +61,7 @@ def printed_tokens():
     each."""
     paths = [path for of in (("src", ".rt"), ("specs", ".antt")) for _, _, path in files(*of)]
     paths += glob.glob(os.path.join(TOP, "crates/*/out/rlib/*/lang/src/**/*.rt"), recursive=True)
-    kit = os.path.dirname(subprocess.run(["rt", "doc"], stdout=subprocess.PIPE, check=True).stdout)
-    command = [os.path.join(kit, b"bin", b"rattle"), "fmt", "--tokens", *paths]
+    command = [f"{kit()}/bin/rattle", "fmt", "--tokens", *paths]
     printed = subprocess.run(command, stdout=subprocess.PIPE, check=True).stdout
     return dict(zip(paths, re.split(rb"(?m)^file \d+\n", printed)[1:]))
 
