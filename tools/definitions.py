@@ -1,10 +1,10 @@
-"""The definitions of `specs/` (`.antt`): what each says and names. What isn't known raises a ValueError, so that nothing
-is left out unnoticed. A name counts even where its text binds it, so what is reached may be too much, but never too
-little."""
+"""The definitions of `specs/` (`.antt`): what each says and names. What isn't known raises a ValueError, so that
+nothing is left out unnoticed. A name counts even where its text binds it, so what is reached may be too much, but never
+too little."""
 
 import re
 
-from sources import code_of, files, needs, text_of, tokens_of
+from sources import closure, code_of, files, needs, text_of, tokens_of
 
 # What a block of a file begins with: a signature, a type, or how an operator binds.
 START = re.compile(r"(?:(?:abbrev |unfoldable )?pub|abbrev) (?P<name>[^\s:]+) :(?: |$)|infixl \d+ (?P<operator>\S+)$|"
@@ -52,13 +52,9 @@ class Definition:
     def __init__(self, module, start, comment, fixity, lines, tokens):
         self.module, self.place, self.tokens = module, len(module.definitions), tokens
         self.name, self.size = start["name"] or start["of_type"], len(comment) + len(lines)
-        self.lines = [*comment, *fixity, *lines]
+        self.file, self.lines = (module.crate, module.file), [*comment, *fixity, *lines]
         rows = [it.partition(" :")[0].split() for it in lines if start["type"] == "data" and PART.match(it)]
         self.constructors = [name for row in rows for name in row]
-
-    @property
-    def file(self):
-        return self.module.crate, self.module.file
 
     def origins(self):
         """Where the names in it come from that a `use` line brings in."""
@@ -115,7 +111,6 @@ class Module:
         return said[0] in " }" or re.match(rf"{name} (?:.* )?=(?: |$)", said)
 
     def define(self, new):
-        """Takes up a definition."""
         words = [it.text for it in new.tokens]
         for name in (new.name, *new.constructors):
             if name in self.taken or name in self.imports or name in UNKNOWN:
@@ -162,7 +157,6 @@ class Specs:
         return self.owners.get(self.origin(into, there))
 
     def named(self, tokens, imports, module=""):
-        """The definitions that tokens name."""
         known = [*imports, *(self.modules[module].definitions if module else ())]
         return {self.meant(path, imports, module) for path in paths_in(tokens, known)} - {None}
 
@@ -174,10 +168,4 @@ class Specs:
 
     def reached(self, first, instead={}):
         """All definitions that these reach; some reach others instead of those that they refer to."""
-        seen, left = set(), list(first)
-        while left:
-            definition = left.pop()
-            if definition not in seen:
-                seen.add(definition)
-                left.extend(instead.get(definition) or self.references(definition))
-        return seen
+        return {*closure(first, lambda it: instead.get(it) or self.references(it))}

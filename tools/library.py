@@ -17,7 +17,6 @@ BEGIN = "<!-- From here on tools/library.py writes. -->\n"
 
 
 def first_sentence(comment):
-    """The first sentence of a comment's lines."""
     text = re.sub(r"\[(`[^`]*`)\](?:\([^)]*\))?", r"\1", " ".join(filter(None, comment)))
     return re.match(r".*?\.(?= [A-Z`]|$)", text)[0]
 

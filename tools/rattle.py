@@ -8,7 +8,7 @@ import textwrap
 
 import compiled
 from definitions import imports_of, origins_in
-from sources import TOP, code_of, needs, text_of, tokens_of
+from sources import TOP, closure, code_of, needs, text_of, tokens_of
 
 # The kit writes an item on a line, its tokens apart by spaces; clauses and ghost members stand as in the source.
 
@@ -77,8 +77,9 @@ def uses_of(rows):
 class Item:
     """A function with its contract, a trait, a type, an `impl` or a constant, which has some lines of what the kit has
     read: its attributes; its head, which precedes the contract or the body; and the items in it. `above` is the `impl`
-    or the trait in which it is. An `impl` has the name of its type, and, as `block`, the one that the kit gives to it.
-    From the source come the `///` comment above it, and its lines there, from its attributes on."""
+    or the trait in which it is, and `path` its name after that one's. An `impl` has the name of its type, and, as
+    `block`, the one that the kit gives to it. From the source come the `///` comment above it, and its lines there,
+    from its attributes on."""
 
     def __init__(self, there, lines, above):
         self.there, self.crate, self.file, self.lines, self.above = there, there.crate, there.file, lines, above
@@ -95,12 +96,8 @@ class Item:
             said = IMPL.fullmatch(self.head.replace("<>", ""))
             generics, self.trait, self.name, block, where = said.groups()
             self.block, self.bounds = block or self.name, [at_commas((generics or "")[1:-1]), at_commas(where or "")]
+        self.path = f"{self.owner}::{self.name}" if above else self.name
         self.members, self.comment, self.in_source = [], [], ()
-
-    @property
-    def path(self):
-        """Its name, after that of the type or trait of which it is."""
-        return f"{self.owner}::{self.name}" if self.above else self.name
 
     @property
     def clauses(self):
@@ -253,10 +250,4 @@ class Code:
     def reached(self, function):
         """A function, and what its contract's words mean: the traits that bound its parameters with those that these
         name, and the models of the types of its parameters and of their members."""
-        found, left = [], [function]
-        while left:
-            item = left.pop(0)
-            if item not in found:
-                found.append(item)
-                left.extend(self.named(item))
-        return found
+        return closure([function], self.named)

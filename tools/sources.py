@@ -17,6 +17,17 @@ def text_of(*names):
         return it.read()
 
 
+def closure(first, below):
+    """These and all that they reach, in the order in which it is found; `below` answers what each reaches at once."""
+    found, left = {}, collections.deque(first)
+    while left:
+        it = left.popleft()
+        if it not in found:
+            found[it] = None
+            left.extend(below(it))
+    return list(found)
+
+
 def needs():
     """What each crate of crates.txt stands on, in its order."""
     lines = re.findall(r"(?m)^(\w+):([^#\n]*)", text_of("crates.txt"))
@@ -30,9 +41,8 @@ def crates():
 
 def crates_of_program():
     """The crates of the program `digests`, in that order: it, and what it stands on."""
-    found, lines = {"digests_main"}, needs()
-    while more := {it for name in found for it in lines[name] if it in lines} - found:
-        found |= more
+    lines = needs()
+    found = closure(["digests_main"], lambda name: (it for it in lines[name] if it in lines))
     return [name for name in lines if name in found]
 
 
