@@ -145,7 +145,6 @@ def speed(times, name):
 
 
 def print_speeds(bench):
-    """The table of speeds."""
     first, *_ = bench.ours
     names = [name for name in (*bench.ours, BARE, OPENSSL) if any(name in times for _, times in bench.rows)]
     rows = [[work, *(speed(times, name) for name in names), f"{times[first].kernel:.0%}"] for work, times in bench.rows]

@@ -107,8 +107,7 @@ def main():
     take_usual_settings()
     started, counts = time.monotonic(), []
     for program in programs:
-        why = why_not(program)
-        if why:
+        if why := why_not(program):
             print(f"{program}: skipped: {why}", flush=True)
             continue
         counted = run_over(program, asked, again=bool(counts))
@@ -118,8 +117,7 @@ def main():
     sums = [sum(column) for column in zip(*counts)] or [0, 0, 0]
     if len(programs) > 1:
         print_counts("in all", sums, time.monotonic() - started)
-    if sums[1] or not sums[0]:
-        sys.exit(1)
+    sys.exit(1 if sums[1] or not sums[0] else 0)
 
 
 if __name__ == "__main__":

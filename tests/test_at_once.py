@@ -32,8 +32,6 @@ class FirstLines(Case):
 
 
 class Ended(Case):
-    """Runs that are ended from outside."""
-
     def ended_at_the_pipe(self, words, number):
         """Runs `digests` with standard output into the file `out`, and ends it with this signal once it waits for the
         named pipe: what the file then holds."""

@@ -54,8 +54,6 @@ class WhileItComes(Case):
 
 
 class Outputs(Case):
-    """Reports into outputs that fail."""
-
     def test_full(self):
         self.write("l", VERDICTS)
         self.write("good", [f"{M}  a"])

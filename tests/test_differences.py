@@ -5,7 +5,7 @@ import os
 import subprocess
 
 import harness
-from harness import E, GNU_TOOLS, M, WRITE_ERROR, Case, Ran, as_bytes, bad, gnu, unread
+from harness import E, GNU_TOOLS, M, WRITE_ERROR, X_MISSING, Case, Ran, as_bytes, bad, gnu, unread
 from reference import NO_TEXT
 from tracing import needs_strace, strace
 
@@ -13,8 +13,6 @@ VERSION = "(GNU coreutils) 9.1"  # what these tests pin
 
 
 class Described(Case):
-    """A folder of files, and both tools."""
-
     def setUp(self):
         super().setUp()
         for tool in ("md5sum", "b2sum", "cksum"):
@@ -262,9 +260,8 @@ class Writing(Described):
     def test_an_output_that_fails(self):
         """An output that fails ends the run here, standard error at its first line, too; GNU's tools still read the
         other files, and name the reason of some faults."""
-        missing = "md5sum: x: No such file or directory"
         full, ours = self.full(), (1, b"", WRITE_ERROR)
-        self.expect_both("md5sum a x", ours, (1, b"", [missing, "md5sum: write error"]), stdout=full)
+        self.expect_both("md5sum a x", ours, (1, b"", [X_MISSING, "md5sum: write error"]), stdout=full)
         theirs = (1, b"", ["md5sum: write error: No space left on device"])
         self.expect_both("md5sum -z a", ours, theirs, stdout=full)
         self.write("list", [f"{M}  x", f"{M}  a"])

@@ -16,12 +16,9 @@ BACKSLASH_NAMES = ["back\\slash", "\\n", "\\", "d/\\"]
 
 
 class Beside(Case):
-    """A folder of files, and both tools."""
-
     def setUp(self):
         super().setUp()
-        missing = [tool for tool in GNU_TOOLS if gnu(tool) is None]
-        if missing:
+        if missing := [tool for tool in GNU_TOOLS if gnu(tool) is None]:
             self.skipTest(f"GNU coreutils has no {missing[0]} here")
         os.mkdir(self.path("d"))
         self.names = NAMES

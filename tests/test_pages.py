@@ -61,6 +61,5 @@ class Said(Case):
                 self.assertNotEqual(fitting, [], line)
                 found.update(fitting)
             missing = [mark for mark in self.marks() if mark not in found]
-            self.assertEqual([re.sub(r"\W", "", mark) for mark in missing],
-                             ["Inputoutputerror", "memoryexhausted", "digestswordsnotread",
-                              "thismachinelacksafeatureofx8664v3"])
+            self.assertEqual([re.sub(r"\W", "", mark) for mark in missing], [
+                "Inputoutputerror", "memoryexhausted", "digestswordsnotread", "thismachinelacksafeatureofx8664v3"])

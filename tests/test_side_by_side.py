@@ -25,15 +25,12 @@ class SideBySide(Case):
         cls.tree = tempfile.mkdtemp(prefix="digests-tree-")
         cls.addClassCleanup(shutil.rmtree, cls.tree, ignore_errors=True)
         os.mkdir(os.path.join(cls.tree, "d"))
-        names, lines = [], []
-        for number in range(FILES):
-            name, content = name_of(number), str(number).encode()
+        contents = {name_of(number): str(number).encode() for number in range(FILES)}
+        for name, content in contents.items():
             with open(os.path.join(cls.tree, name), "wb") as file:
                 file.write(content)
-            names.append(name)
-            lines.append(f"{hashlib.sha256(content).hexdigest()}  {name}")
-        cls.names = b"\0".join(map(str.encode, names))
-        cls.lines = sorted(map(str.encode, lines))
+        cls.names = "\0".join(contents).encode()
+        cls.lines = sorted(f"{hashlib.sha256(it).hexdigest()}  {name}".encode() for name, it in contents.items())
 
     def setUp(self):
         super().setUp()

@@ -51,10 +51,7 @@ class SmallMemory(Case):
         for limit in self.limits():
             ran = self.limited(limit, words)
             self.assertTrue(not self.has_started(ran) or ran in (right, *wrongs), (as_words(words)[:9], limit, ran))
-            if ran == right:
-                first = first or limit
-            else:
-                first = None
+            first = (first or limit) if ran == right else None
         self.assertIsNotNone(first, "it works at no limit")
         return first
 

@@ -39,16 +39,13 @@ class StandardInput(Case):
 
 
 class BrokenInput(Case):
-    """Standard input that gives bytes and then a fault."""
-
     def test_a_fault_after_bytes(self):
+        fault = "md5sum: -: Input/output error"
         for content in ("", "abc", "y" * 300, "y" * 9000):
-            broken = self.broken_input(content)
-            err = ["md5sum: -: Input/output error"]
-            self.expect("md5sum - a", stdin=broken, out=[f"{M}  a"], err=err, status=1)
+            self.expect("md5sum - a", stdin=self.broken_input(content), out=[f"{M}  a"], err=[fault], status=1)
         self.write("l", [f"{M}  -", f"{M}  a"])
         self.expect("md5sum -c l", stdin=self.broken_input("abc"), out=["-: FAILED open or read", "a: OK"], status=1,
-                    err=["md5sum: -: Input/output error", unread(1)])
+                    err=[fault, unread(1)])
 
 
 class Outputs(Case):
@@ -68,11 +65,9 @@ class Outputs(Case):
 
     def test_a_reader_that_goes_away(self):
         """A closed pipe is a write error, whether or not the caller ignores the signal for it."""
-        words = [harness.PROGRAM, "md5sum", *["a"] * 20000]
+        words, pipes = ["md5sum", *["a"] * 20000], {"stdout": subprocess.PIPE, "stderr": subprocess.PIPE}
         for ignored in (False, True):
-            started = subprocess.Popen(words, cwd=self.folder, stdout=subprocess.PIPE, stderr=subprocess.PIPE,
-                                       restore_signals=not ignored)
-            self.addCleanup(harness.end, started)
+            started = self.start(words, restore_signals=not ignored, **pipes)
             self.assertEqual(started.stdout.read(10), M[:10].encode())
             started.stdout.close()
             self.assertEqual(started.stderr.read(), WRITE_ERROR)

@@ -184,7 +184,8 @@ class Case(unittest.TestCase):
     def expect_fault(self, words, text):
         """Expects that the words are refused with this text."""
         tool = as_words(words)[0]
-        self.expect(words, err=[f"{tool}: {text}", f"Try '{tool} --help' for more information."], status=1)
+        err = [f"{tool}: ".encode() + as_bytes(text), f"Try '{tool} --help' for more information."]
+        self.expect(words, err=err, status=1)
 
     def start(self, words, folder=None, **how):
         """Starts `digests` with these words in the test's folder or another one; it is ended with the test."""
@@ -246,12 +247,10 @@ class Case(unittest.TestCase):
         stop = time.monotonic() + seconds
         while len(got) < len(wanted):
             ready, _, _ = select.select([descriptor], [], [], max(0, stop - time.monotonic()))
-            if not ready:
-                break
             try:
-                piece = os.read(descriptor, len(wanted) - len(got))
+                piece = os.read(descriptor, len(wanted) - len(got)) if ready else b""
             except OSError:  # a terminal whose other side is closed
-                break
+                piece = b""
             if not piece:
                 break
             got += piece
@@ -294,6 +293,5 @@ def end(started):
     if started.poll() is None:
         started.kill()
     started.wait()
-    for stream in (started.stdin, started.stdout, started.stderr):
-        if stream is not None:
-            stream.close()
+    for stream in filter(None, (started.stdin, started.stdout, started.stderr)):
+        stream.close()

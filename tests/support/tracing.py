@@ -17,11 +17,9 @@ from harness import Case, Ran, as_words
 def strace():
     """The path of `strace`, if it is installed and may trace."""
     path = shutil.which("strace")
-    if path is None:
-        return None
     trial = [path, "-qq", "-o", os.devnull, "-e", "trace=close", "-e", "inject=close:error=EIO:when=900..999", "true"]
-    tried = subprocess.run(trial, stderr=subprocess.DEVNULL, timeout=harness.RUN_SECONDS)
-    return path if tried.returncode == 0 else None
+    how = {"stderr": subprocess.DEVNULL, "timeout": harness.RUN_SECONDS}
+    return path if path and not subprocess.run(trial, **how).returncode else None
 
 
 def needs_strace(test):
@@ -46,9 +44,7 @@ class Traced(Case):
         """Runs `digests` under `strace`, which lets this call fail with this error: each time or only the times in
         `when`, for any file or for that of the path `only`."""
         options = ["-e", f"trace={call}", "-e", f"inject={call}:error={error}" + (when and f":when={when}")]
-        if only is not None:
-            options += ["-P", os.fsdecode(only)]
-        return self.traced(options, words, **how)
+        return self.traced(options + (["-P", os.fsdecode(only)] if only else []), words, **how)
 
 
 def sizes(calls, descriptor):
