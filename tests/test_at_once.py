@@ -11,14 +11,10 @@ from harness import E, M, WRITE_ERROR, X_MISSING, Case, as_bytes, bad, unread, w
 
 
 class FirstLines(Case):
-    """A named pipe, which nobody feeds yet, holds the program at the next name."""
-
-    def setUp(self):
-        super().setUp()
-        os.mkfifo(self.path("p"))
-
     def test_a_line_before_the_next_file_is_there(self):
-        """`md5sum a fifo | while read line` shows the first line at once, and so does a terminal."""
+        """`md5sum a fifo | while read line` shows the first line at once, and so does a terminal. The named pipe, which
+        nobody feeds yet, holds the program at the next name."""
+        os.mkfifo(self.path("p"))
         for words, end in (("md5sum a p e", "\n"), ("md5sum -z a p e", "\0")):
             for shows, writes in (os.pipe(), self.terminal()):
                 started = self.start(words, stdout=writes)

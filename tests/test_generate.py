@@ -5,10 +5,6 @@ import os
 import harness
 from harness import E, M, S, TOOLS, X_MISSING, Case, hasher
 
-# A file's name that has each of the three special bytes' kinds, and how a line holds it.
-SPECIAL = "q\\\nz"
-SPECIAL_SHOWN = "q\\\\\\nz"
-
 
 class Digests(Case):
     def test_published_digests_and_a_large_file(self):
@@ -67,9 +63,9 @@ class Operands(Case):
             self.write(name, "abc")
             self.expect(["sha256sum", "--", name], out=[f"{S}  {name}"])
         self.expect(["sha256sum", "--", "a", "--"], out=[f"{S}  a", f"{S}  --"])
-        err = [f"md5sum: {SPECIAL_SHOWN}: No such file or directory", "md5sum: a\\rb: No such file or directory"]
-        self.expect(["md5sum", SPECIAL, "a\rb"], err=err, status=1)
-        self.expect(["md5sum", "-z", SPECIAL, "a\rb"], err=err, status=1)
+        err = [f"md5sum: {shown}: No such file or directory" for shown in ("q\\\\\\nz", "a\\rb")]
+        self.expect(["md5sum", "q\\\nz", "a\rb"], err=err, status=1)
+        self.expect(["md5sum", "-z", "q\\\nz", "a\rb"], err=err, status=1)
 
     def test_links(self):
         os.symlink("a", self.path("good"))

@@ -12,7 +12,7 @@ import sys
 sys.dont_write_bytecode = True
 
 from rattle import Code  # noqa: E402  (nothing is to be left beside these files)
-from sources import TOP, crates, text_of  # noqa: E402
+from sources import TOP, needs, text_of  # noqa: E402
 
 PAGE = os.path.join(TOP, "docs", "TESTING.md")
 MARKS = "<!-- made by tools/refusals.py: what stands below -->\n", "\n<!-- and above this line -->"
@@ -83,7 +83,7 @@ def main():
         ["rt", "must-fail"], cwd=TOP, stdout=subprocess.PIPE, encoding="utf-8").stdout
     found = rows(it.groups() for it in LINE.finditer(said))
     lines = ["|crate|function|clause: wrong versions|", "|---|---|---|"]
-    for crate, function in sorted(found, key=lambda it: (crates().index(it[0]), it[1])):
+    for crate, function in sorted(found, key=lambda it: (list(needs()).index(it[0]), it[1])):
         goals = sorted(found[crate, function].items())
         lines.append(f"|{crate}|`{function}`|{'; '.join(f'{goal}: ' + ', '.join(names) for goal, names in goals)}|")
     page = text_of(PAGE)

@@ -29,14 +29,9 @@ def closure(first, below):
 
 
 def needs():
-    """What each crate of crates.txt stands on, in its order."""
+    """The crates of crates.txt, in its order, each with what it stands on."""
     lines = re.findall(r"(?m)^(\w+):([^#\n]*)", text_of("crates.txt"))
     return {name: re.findall(r"[^\s,]+", below) for name, below in lines}
-
-
-def crates():
-    """The crates of crates.txt, in its order."""
-    return list(needs())
 
 
 def crates_of_program():
