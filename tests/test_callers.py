@@ -9,7 +9,7 @@ import os
 import re
 
 from believed import COMPUTED
-from compiled import LIBRARIES, ours, reached
+from compiled import ours, reached
 from harness import TOP, Case
 from rattle import Code
 from sources import code_of, files, text_of

@@ -106,6 +106,7 @@ def ours():
 
 def reached(names, among=None):
     """The functions of these names, and all that may run by them, ours and the kit's, or those among some."""
+
     def chosen(some):
         return (name for name in some if (among is None or name in among) and function(name))
 

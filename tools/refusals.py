@@ -50,8 +50,9 @@ def goal_of(name, whole, labels):
     cut."""
     if name.startswith("returns"):
         _, marked, label = name.rpartition("-clause-")
-        fitting = {it for it in labels if it == label or not whole and it.startswith(label)}
-        return min(fitting, default=None) if marked else " or ".join(sorted(labels)) or None
+        if not marked:
+            return " or ".join(sorted(labels)) or None
+        return min((it for it in labels if it == label or not whole and it.startswith(label)), default=None)
     for pattern, says in (
             (r"(\w+)[\w-]*-requires", "what `{}` requires"), (r"(?:loop-)?(\w+)-(?:init|preserved)", "loop's `{}`"),
             (r"invariant_of-(\w+)", "the invariant of `{}`"), (r"(invariant)", "the {} of its type")):
@@ -81,9 +82,9 @@ def rows(said):
 def main():
     said = text_of(os.path.abspath(sys.argv[1])) if sys.argv[1:] else subprocess.run(
         ["rt", "must-fail"], cwd=TOP, stdout=subprocess.PIPE, encoding="utf-8").stdout
-    found = rows(it.groups() for it in LINE.finditer(said))
+    found, order = rows(it.groups() for it in LINE.finditer(said)), list(needs())
     lines = ["|crate|function|clause: wrong versions|", "|---|---|---|"]
-    for crate, function in sorted(found, key=lambda it: (list(needs()).index(it[0]), it[1])):
+    for crate, function in sorted(found, key=lambda it: (order.index(it[0]), it[1])):
         goals = sorted(found[crate, function].items())
         lines.append(f"|{crate}|`{function}`|{'; '.join(f'{goal}: ' + ', '.join(names) for goal, names in goals)}|")
     page = text_of(PAGE)
