@@ -8,6 +8,7 @@ processor time on one processor, in rounds in which the programs take turns. A s
 program's own: 1.00 is as fast as GNU, 2.00 twice as fast. `docs/PERFORMANCE.md` has the tables."""
 
 import argparse
+import glob
 import os
 import platform
 import random
@@ -36,9 +37,8 @@ def built_programs():
     """The programs of this repository that run on this machine, by level, built where they are stale."""
     if subprocess.run([os.path.join(TOP, "tools", "build")]).returncode:
         sys.exit(1)
-    out = os.path.join(TOP, "out")
-    found = {level: os.path.join(out, level, "digests") for level in sorted(os.listdir(out))}
-    return {level: path for level, path in found.items() if os.path.isfile(path) and works([path, "sha256sum"])}
+    found = sorted(glob.glob(os.path.join(TOP, "out", "*", "digests")))
+    return {path.split(os.sep)[-2]: path for path in found if works([path, "sha256sum"])}
 
 
 def built_bare():
@@ -69,8 +69,8 @@ def built_bare():
 
 def works(words):
     """Whether there is such a command and it hashes nothing well."""
-    quiet = {"stdin": subprocess.DEVNULL, "stdout": subprocess.DEVNULL, "stderr": subprocess.DEVNULL}
-    return shutil.which(words[0]) is not None and subprocess.run(words, **quiet).returncode == 0
+    quiet = {"stdin": subprocess.DEVNULL, "capture_output": True}
+    return bool(shutil.which(words[0])) and not subprocess.run(words, **quiet).returncode
 
 
 class Bench:
@@ -103,10 +103,8 @@ class Bench:
         """A file of the size that was asked for."""
         path = os.path.join(self.folder, "large")
         if not os.path.exists(path):
-            block = random.Random(1).randbytes(MIB)
             with open(path, "wb") as file:
-                for _ in range(self.size):
-                    file.write(block)
+                file.writelines([random.Random(1).randbytes(MIB)] * self.size)
         return path
 
     def small(self, count):
@@ -147,7 +145,6 @@ def speed(times, name):
 
 
 def print_speeds(bench):
-    """The table of speeds."""
     first, *_ = bench.ours
     names = [name for name in (*bench.ours, BARE, OPENSSL) if any(name in times for _, times in bench.rows)]
     rows = [[work, *(speed(times, name) for name in names), f"{times[first].kernel:.0%}"] for work, times in bench.rows]
@@ -169,8 +166,7 @@ def start(bench):
 def files(bench):
     """Many small files as operands, and manifests of many lines, with output into a file."""
     for tool in CHECKED:
-        rounds = 2 * bench.rounds
-        names = bench.small(20000)
+        rounds, names = 2 * bench.rounds, bench.small(20000)
         bench.add(f"`{tool}`, 20,000 operands", bench.contenders(tool, *names), 2 * rounds, stdout=bench.out)
         for words in (("-c",), ("-c", "--status")):
             found = bench.contenders(tool, *words, bench.manifest(tool))
@@ -189,8 +185,7 @@ def reading(bench):
         ("2,000,000 comments of 32 bytes", [], 2, "# no file's line, thirty-one....\n" * 2000000),
         ("200,000 lines of absent files", ["--ignore-missing"], 2, absent),
         ("one escaped name of 32 MiB", [], 1, escaped),
-        ("200,000 bad lines", [], 4, "".join(it + "..........\n" for it in digits)),
-    ):
+        ("200,000 bad lines", [], 4, "".join(it + "..........\n" for it in digits))):
         with open(manifest, "w") as file:
             file.write(text)
         words = ["-c", *words, "--status"]
@@ -202,14 +197,12 @@ def memory(bench):
     """The peak of resident memory."""
     with open(os.path.join(bench.folder, "a"), "wb") as file:
         file.write(b"abc")
-    works_on = [
-        (f"`sha256sum`, {bench.size} MiB", "sha256sum", [bench.large()]),
-        (f"`b2sum`, {bench.size} MiB", "b2sum", [bench.large()]),
-        ("`md5sum`, 100,000 operands", "md5sum", ["a"] * 100000),
-        ("`md5sum -c`, 200,000 lines", "md5sum", ["-c", bench.manifest("md5sum")]),
-    ]
     rows = []
-    for work, tool, words in works_on:
+    for work, tool, words in (
+            (f"`sha256sum`, {bench.size} MiB", "sha256sum", [bench.large()]),
+            (f"`b2sum`, {bench.size} MiB", "b2sum", [bench.large()]),
+            ("`md5sum`, 100,000 operands", "md5sum", ["a"] * 100000),
+            ("`md5sum -c`, 200,000 lines", "md5sum", ["-c", bench.manifest("md5sum")])):
         found = bench.contenders(tool, *words)
         peaks = [peak_memory(it, stdout=bench.out, folder=bench.folder) for it in found]
         rows.append([work, *(f"{peak / 1e6:.1f}" for peak in peaks)])

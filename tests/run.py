@@ -7,6 +7,7 @@ line counts them; the status is 1 if one failed, or none passed."""
 
 import argparse
 import collections
+import glob
 import os
 import signal
 import subprocess
@@ -23,19 +24,16 @@ import harness  # noqa: E402  (it is in support/)
 
 def built_programs():
     """The programs of this repository, the default level's first. Only `./digests` checks whether they are stale."""
-    out = os.path.join(harness.TOP, "out")
-    levels = sorted(os.listdir(out)) if os.path.isdir(out) else []
-    found = [os.path.join(out, level, "digests") for level in levels]
-    return [path for path in found if os.path.isfile(path)]
+    return sorted(glob.glob(os.path.join(harness.TOP, "out", "*", "digests")))
 
 
 def why_not(program):
     """What keeps a program from running on this machine, or nothing."""
-    if not os.path.isfile(program) or not os.access(program, os.X_OK):
+    if not (os.path.isfile(program) and os.access(program, os.X_OK)):
         sys.exit(f"run.py: {program} is no program")
-    quiet = {"stdin": subprocess.DEVNULL, "stdout": subprocess.PIPE, "stderr": subprocess.PIPE}
+    how = {"stdin": subprocess.DEVNULL, "capture_output": True, "timeout": harness.RUN_SECONDS}
     try:
-        ran = subprocess.run([program, "md5sum", "--version"], timeout=harness.RUN_SECONDS, **quiet)
+        ran = subprocess.run([program, "md5sum", "--version"], **how)
     except subprocess.TimeoutExpired:
         sys.exit(f"run.py: {program} doesn't end")
     if ran.returncode != harness.NOT_FOR_THIS_MACHINE:
@@ -74,9 +72,8 @@ def run_over(program, asked, again):
 
 
 def print_counts(title, counts, seconds):
-    passed, failed, skipped = counts
-    said = f"{passed} end-to-end tests passed, {failed} failed, {skipped} skipped, in {seconds:.0f} s"
-    print(f"{title}: {said}", flush=True)
+    said = "{} end-to-end tests passed, {} failed, {} skipped".format(*counts)
+    print(f"{title}: {said}, in {seconds:.0f} s", flush=True)
 
 
 def take_usual_settings():
@@ -110,8 +107,7 @@ def main():
     take_usual_settings()
     started, counts = time.monotonic(), []
     for program in programs:
-        why = why_not(program)
-        if why:
+        if why := why_not(program):
             print(f"{program}: skipped: {why}", flush=True)
             continue
         counted = run_over(program, asked, again=bool(counts))
@@ -121,8 +117,7 @@ def main():
     sums = [sum(column) for column in zip(*counts)] or [0, 0, 0]
     if len(programs) > 1:
         print_counts("in all", sums, time.monotonic() - started)
-    if sums[1] or not sums[0]:
-        sys.exit(1)
+    sys.exit(1 if sums[1] or not sums[0] else 0)
 
 
 if __name__ == "__main__":

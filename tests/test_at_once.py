@@ -7,18 +7,14 @@ import signal
 import subprocess
 
 import harness
-from harness import E, M, X_MISSING, Case, as_bytes, bad, unread, wrong
+from harness import E, M, WRITE_ERROR, X_MISSING, Case, as_bytes, bad, unread, wrong
 
 
 class FirstLines(Case):
-    """A named pipe, which nobody feeds yet, holds the program at the next name."""
-
-    def setUp(self):
-        super().setUp()
-        os.mkfifo(self.path("p"))
-
     def test_a_line_before_the_next_file_is_there(self):
-        """`md5sum a fifo | while read line` shows the first line at once, and so does a terminal."""
+        """`md5sum a fifo | while read line` shows the first line at once, and so does a terminal. The named pipe, which
+        nobody feeds yet, holds the program at the next name."""
+        os.mkfifo(self.path("p"))
         for words, end in (("md5sum a p e", "\n"), ("md5sum -z a p e", "\0")):
             for shows, writes in (os.pipe(), self.terminal()):
                 started = self.start(words, stdout=writes)
@@ -32,13 +28,10 @@ class FirstLines(Case):
 
 
 class Ended(Case):
-    """Runs that are ended from outside."""
-
     def ended_at_the_pipe(self, words, number):
         """Runs `digests` with standard output into the file `out`, and ends it with this signal once it waits for the
         named pipe: what the file then holds."""
-        with open(self.path("out"), "wb") as out:
-            started = self.start(words, stdout=out)
+        started = self.start(words, stdout=self.opened("out", "wb"))
         with self.fed("p"):
             started.send_signal(number)
             self.assertEqual(started.wait(timeout=harness.RUN_SECONDS), -number)
@@ -56,8 +49,7 @@ class Ended(Case):
         """A run that is ended while it writes leaves whole lines, and at most one that is cut at the end of a page."""
         line = as_bytes([f"{M}  a"])
         for number in (signal.SIGTERM, signal.SIGKILL):
-            with open(self.path("out"), "wb") as out:
-                started = self.start(["md5sum", *["a"] * 50000], stdout=out)
+            started = self.start(["md5sum", *["a"] * 50000], stdout=self.opened("out", "wb"))
             self.until(lambda: os.path.getsize(self.path("out")) >= 100 * len(line), "100 lines are in the file")
             started.send_signal(number)
             started.wait(timeout=harness.RUN_SECONDS)
@@ -72,13 +64,11 @@ class OneFile(Case):
 
     def expect_together(self, words, lines, status):
         """Expects these lines from both outputs together, in a file and through a pipe."""
-        with open(self.path("both"), "wb") as both:
-            ran = self.run_words(words, stdout=both, stderr=subprocess.STDOUT)
-        self.same(self.read("both"), lines)
-        self.assertEqual(ran.status, status)
-        ran = self.run_words(words, stderr=subprocess.STDOUT)
-        self.same(ran.out, lines)
-        self.assertEqual(ran.status, status)
+        in_file = self.run_words(words, stdout=self.opened("both", "wb"), stderr=subprocess.STDOUT)
+        through_pipe = self.run_words(words, stderr=subprocess.STDOUT)
+        for ran, got in ((in_file, self.read("both")), (through_pipe, through_pipe.out)):
+            self.same(got, lines)
+            self.assertEqual(ran.status, status)
 
     def test_good_and_bad_operands(self):
         """`md5sum a x e d x a 2>&1` reports each file in its place."""
@@ -101,13 +91,11 @@ class AfterAFailedWrite(Case):
     """A list is read no further than what was read ahead."""
 
     def test_a_list_without_end(self):
-        with self.full() as full:
-            ran = self.run_command(["sh", "-c", f"yes '{M}  a' | '{harness.PROGRAM}' md5sum -c -"], stdout=full)
-        self.assertEqual((ran.status, ran.err), (1, b"md5sum: write error\n"))
+        ran = self.run_command(["sh", "-c", f"yes '{M}  a' | '{harness.PROGRAM}' md5sum -c -"], stdout=self.full())
+        self.assertEqual((ran.status, ran.err), (1, WRITE_ERROR))
 
     def test_what_the_next_program_finds(self):
         self.write("list", f"{M}  a\n" * 10000)
-        with self.full() as full, open(self.path("list"), "rb") as list_:
-            ran = self.run_words("md5sum -c -", list_, stdout=full)
-            self.assertEqual((ran.status, ran.err), (1, b"md5sum: write error\n"))
-            self.assertLessEqual(os.lseek(list_.fileno(), 0, os.SEEK_CUR), len(f"{M}  a\n") + 8192)
+        manifest = self.opened("list")
+        self.expect("md5sum -c -", err=WRITE_ERROR, status=1, stdin=manifest, stdout=self.full())
+        self.assertLessEqual(os.lseek(manifest.fileno(), 0, os.SEEK_CUR), len(f"{M}  a\n") + 8192)

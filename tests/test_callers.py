@@ -9,9 +9,10 @@ import os
 import re
 
 from believed import COMPUTED
-from compiled import LIBRARIES, ours, reached
+from compiled import ours, reached
 from harness import TOP, Case
-from rattle import Code, code_of, files, text_of
+from rattle import Code
+from sources import code_of, files, text_of
 
 # A function that is called, or named after its type: its type, the dot before a method, and its name.
 CALL = re.compile(r"""(?x)(?:(\w+)(?:(?:::)?<[^()]*?>)?::|(\.\s*))?

@@ -5,7 +5,7 @@ import os
 import subprocess
 
 import harness
-from harness import E, M, VERDICTS, VERDICTS_ERR, WRITE_ERROR, X_MISSING, Case, as_bytes, bad, limits, unread, wrong
+from harness import E, M, VERDICTS, VERDICTS_ERR, WRITE_ERROR, X_MISSING, Case, as_bytes, bad, limit, unread, wrong
 
 MEGA = 1000 * 1000
 
@@ -54,20 +54,18 @@ class WhileItComes(Case):
 
 
 class Outputs(Case):
-    """Reports into outputs that fail."""
-
     def test_full(self):
         self.write("l", VERDICTS)
-        with self.full() as full:
-            ran = self.run_words("md5sum -c l", stdout=full)
-            self.assertEqual(ran.status, 1)
-            self.assertTrue(ran.err.endswith(WRITE_ERROR), ran.err)
-            self.expect("md5sum -c --status e", status=1, stderr=full)
-            self.expect("md5sum -c l", status=1, stdout=full, stderr=full)
-            self.write("good", [f"{M}  a"])
-            self.expect("md5sum -c --status good", stdout=full, stderr=full)
-            self.expect("md5sum -c --quiet good", stdout=full, stderr=full)
-            self.expect("md5sum -c good", err=["md5sum: write error"], status=1, stdout=full)
+        self.write("good", [f"{M}  a"])
+        full = self.full()
+        ran = self.run_words("md5sum -c l", stdout=full)
+        self.assertEqual(ran.status, 1)
+        self.assertTrue(ran.err.endswith(WRITE_ERROR), ran.err)
+        self.expect("md5sum -c --status e", status=1, stderr=full)
+        self.expect("md5sum -c l", status=1, stdout=full, stderr=full)
+        self.expect("md5sum -c --status good", stdout=full, stderr=full)
+        self.expect("md5sum -c --quiet good", stdout=full, stderr=full)
+        self.expect("md5sum -c good", err=WRITE_ERROR, status=1, stdout=full)
 
 
 class Sizes(Case):
@@ -82,7 +80,7 @@ class Sizes(Case):
         reports = ["a: OK", "e: OK"] * 100000
         reports[177777], reports[199999] = "a: FAILED", "x: FAILED open or read"
         del reports[77777]
-        ran = self.run_words("md5sum -cw l", preexec_fn=limits(memory=10 * MEGA))
+        ran = self.run_words("md5sum -cw l", preexec_fn=limit("AS", 10 * MEGA))
         self.assertEqual((ran.status, ran.err), (1, named + VERDICTS_ERR))
         self.same(ran.out, reports)
         self.expect("md5sum -c --quiet --strict", stdin=[f"{M}  a"] * 200000)
@@ -90,7 +88,7 @@ class Sizes(Case):
     def test_one_name_of_100_megabytes(self):
         name = b"y" * (100 * MEGA)
         self.write("l", f"{M}  a\n{M}  ".encode() + name)
-        ran = self.run_words("md5sum -c l", preexec_fn=limits(memory=620 * MEGA))
+        ran = self.run_words("md5sum -c l", preexec_fn=limit("AS", 620 * MEGA))
         self.assertEqual(ran.status, 1)
         self.same(ran.out, b"a: OK\n" + name + b": FAILED open or read\n")
         self.same(ran.err, b"md5sum: " + name + b": File name too long\n" + as_bytes([unread(1)]))
@@ -101,7 +99,7 @@ class Sizes(Case):
             for _ in range(20):
                 file.seek(5 * MEGA, os.SEEK_CUR)
                 file.write(as_bytes(["", f"{M}  a"]))
-        self.expect("md5sum -c --quiet l", err=[bad(20)], preexec_fn=limits(memory=50 * MEGA))
+        self.expect("md5sum -c --quiet l", err=[bad(20)], preexec_fn=limit("AS", 50 * MEGA))
 
     def test_want_of_memory(self):
         """At a line longer than the memory that is available the run ends: what came before it is reported. If the
@@ -109,12 +107,11 @@ class Sizes(Case):
         short before the first report."""
         exhausted = b"md5sum: memory exhausted\n"
         for before, out, said in (("", b"", exhausted), (f"{M}  a\n", b"a: OK\n", WRITE_ERROR)):
-            with self.full() as full, open(self.path("l"), "wb") as file:
+            with open(self.path("l"), "wb") as file:
                 file.write(as_bytes(before))
                 file.seek(2000 * MEGA, os.SEEK_CUR)
                 file.write(as_bytes(["", f"{M}  a"]))
-                file.flush()
-                limited = {"status": 1, "preexec_fn": limits(memory=400 * MEGA)}
-                self.expect("md5sum -c l x", out=out, err=exhausted, **limited)
-                self.expect("md5sum -c l", err=said, stdout=full, **limited)
-                self.expect("md5sum -c l", stdout=full, stderr=full, **limited)
+            full, limited = self.full(), {"status": 1, "preexec_fn": limit("AS", 400 * MEGA)}
+            self.expect("md5sum -c l x", out=out, err=exhausted, **limited)
+            self.expect("md5sum -c l", err=said, stdout=full, **limited)
+            self.expect("md5sum -c l", stdout=full, stderr=full, **limited)

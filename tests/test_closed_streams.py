@@ -22,15 +22,13 @@ def hostile_manifests():
 
 
 class Closing(Case):
-    def closed(self, words, *streams, **how):
-        """Runs `digests` with these streams closed: 0 is standard input, 1 standard output, 2 standard error."""
-        shut = "".join(f" {number}>&-" if number else " 0<&-" for number in streams)
-        return self.run_command(["sh", "-c", f'exec "$0" "$@"{shut}', harness.PROGRAM, *as_words(words)], **how)
-
     def expect_closed(self, *rows):
-        """Expects of words, with these streams closed, a status and what they write to both outputs."""
+        """Expects of words, with these streams closed (0 is standard input, 1 standard output, 2 standard error), a
+        status and what they write to both outputs."""
         for words, streams, status, out, err in rows:
-            self.assertEqual(self.closed(words, *streams), Ran(status, as_bytes(out), as_bytes(err)))
+            shut = "".join(f" {number}>&-" if number else " 0<&-" for number in streams)
+            ran = self.run_command(["sh", "-c", f'exec "$0" "$@"{shut}', harness.PROGRAM, *as_words(words)])
+            self.assertEqual(ran, Ran(status, as_bytes(out), as_bytes(err)), words)
 
 
 class ClosedInput(Closing):

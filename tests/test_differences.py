@@ -5,7 +5,7 @@ import os
 import subprocess
 
 import harness
-from harness import E, GNU_TOOLS, M, WRITE_ERROR, Case, Ran, as_bytes, bad, gnu, unread
+from harness import E, GNU_TOOLS, M, WRITE_ERROR, X_MISSING, Case, Ran, as_bytes, bad, gnu, unread
 from reference import NO_TEXT
 from tracing import needs_strace, strace
 
@@ -13,8 +13,6 @@ VERSION = "(GNU coreutils) 9.1"  # what these tests pin
 
 
 class Described(Case):
-    """A folder of files, and both tools."""
-
     def setUp(self):
         super().setUp()
         for tool in ("md5sum", "b2sum", "cksum"):
@@ -188,7 +186,7 @@ class Checks(Described):
             self.write("list", lines)
             os.truncate(self.path("list"), 1 << 30)
             self.expect_both("md5sum -c --strict list", (1, out, ["md5sum: memory exhausted"]), theirs,
-                             preexec_fn=harness.limits(memory=200 << 20))
+                             preexec_fn=harness.limit("AS", 200 << 20))
 
     def test_what_other_programs_write(self):
         """Lines as those of `gpg --print-md`, `openssl dgst` and `rhash --bsd` can't be checked; as those of
@@ -262,17 +260,15 @@ class Writing(Described):
     def test_an_output_that_fails(self):
         """An output that fails ends the run here, standard error at its first line, too; GNU's tools still read the
         other files, and name the reason of some faults."""
-        missing = "md5sum: x: No such file or directory"
-        with self.full() as full:
-            theirs = (1, b"", [missing, "md5sum: write error"])
-            self.expect_both("md5sum a x", (1, b"", WRITE_ERROR), theirs, stdout=full)
-            theirs = (1, b"", ["md5sum: write error: No space left on device"])
-            self.expect_both("md5sum -z a", (1, b"", WRITE_ERROR), theirs, stdout=full)
-            self.write("list", [f"{M}  x", f"{M}  a"])
-            for how in ({"stderr": full}, {"preexec_fn": lambda: os.close(2)}):
-                self.expect_both("md5sum a x e", (1, [f"{M}  a"], b""), (1, [f"{M}  a", f"{E}  e"], b""), **how)
-                theirs = (1, ["x: FAILED open or read", "a: OK"], b"")
-                self.expect_both("md5sum -c list", (1, b"", b""), theirs, **how)
+        full, ours = self.full(), (1, b"", WRITE_ERROR)
+        self.expect_both("md5sum a x", ours, (1, b"", [X_MISSING, "md5sum: write error"]), stdout=full)
+        theirs = (1, b"", ["md5sum: write error: No space left on device"])
+        self.expect_both("md5sum -z a", ours, theirs, stdout=full)
+        self.write("list", [f"{M}  x", f"{M}  a"])
+        for how in ({"stderr": full}, {"preexec_fn": lambda: os.close(2)}):
+            self.expect_both("md5sum a x e", (1, [f"{M}  a"], b""), (1, [f"{M}  a", f"{E}  e"], b""), **how)
+            theirs = (1, ["x: FAILED open or read", "a: OK"], b"")
+            self.expect_both("md5sum -c list", (1, b"", b""), theirs, **how)
 
     def test_a_reader_that_goes_away(self):
         """A write error with status 1; GNU's tools are ended by a signal."""
@@ -286,8 +282,8 @@ class Writing(Described):
     def test_a_loss_that_a_close_tells(self):
         """A loss that only a close tells isn't seen here; GNU's tools see it."""
         for command, status in (([harness.PROGRAM, "md5sum", "a"], 0), ([gnu("md5sum"), "a"], 1)):
-            with open(self.path("out"), "wb") as out:
-                options = ["-P", self.path("out"), "-e", "trace=close", "-e", "inject=close:error=EIO"]
-                ran = self.run_command([strace(), "-qq", "-o", os.devnull, *options, *command], stdout=out)
+            options = ["-P", self.path("out"), "-e", "trace=close", "-e", "inject=close:error=EIO"]
+            traced = [strace(), "-qq", "-o", os.devnull, *options, *command]
+            ran = self.run_command(traced, stdout=self.opened("out", "wb"))
             found = ran.status, self.read("out"), bool(ran.err)
             self.assertEqual(found, (status, as_bytes([f"{M}  a"]), status == 1))

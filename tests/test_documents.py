@@ -9,7 +9,8 @@ import harness
 import library
 from compiled import clauses
 from harness import TOP, Case, Ran
-from rattle import Code, text_of
+from rattle import Code
+from sources import text_of
 
 
 class Documents(Case):

@@ -57,8 +57,7 @@ class FailedRead(Traced):
     def expect_failure(self, words, stdin):
         """A run whose status is 0 has another one if one of its reads fails, whichever that is: of an operand, a list,
         a listed file or standard input. The first reads are the loader's."""
-        with open(self.path(stdin), "rb") as file:
-            ran, calls = self.traced("-e trace=read", words, stdin=file)
+        ran, calls = self.traced("-e trace=read", words, stdin=self.opened(stdin))
         self.assertEqual(ran.status, 0, ran)
         for read in range(1, len(calls) + 1):
             with open(self.path(stdin), "rb") as file:

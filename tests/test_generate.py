@@ -3,11 +3,7 @@
 import os
 
 import harness
-from harness import E, M, S, TOOLS, Case, hasher
-
-# A file's name that has each of the three special bytes' kinds, and how a line holds it.
-SPECIAL = "q\\\nz"
-SPECIAL_SHOWN = "q\\\\\\nz"
+from harness import E, M, S, TOOLS, X_MISSING, Case, hasher
 
 
 class Digests(Case):
@@ -31,12 +27,11 @@ class Digests(Case):
         """Python's own digests over the sizes at which a block, a padding or the reading buffer ends."""
         near = [base + step for base in (56, 64, 112, 128, 256, 8192, 16384, 65536) for step in (-1, 0, 1)]
         content = bytes(i % 251 for i in range(max(near)))
-        names = [f"n{size}" for size in near]
-        for name, size in zip(names, near):
-            self.write(name, content[:size])
+        files = {f"n{size}": content[:size] for size in near}
+        for name, it in files.items():
+            self.write(name, it)
         for tool, (tag, *_) in TOOLS.items():
-            lines = [f"{hasher(tag, content[:size]).hexdigest()}  {name}" for size, name in zip(near, names)]
-            self.expect([tool, *names], out=lines)
+            self.expect([tool, *files], out=[f"{hasher(tag, it).hexdigest()}  {name}" for name, it in files.items()])
 
     def test_lengths_of_blake2b(self):
         full = TOOLS["b2sum"][1]
@@ -51,9 +46,8 @@ class Operands(Case):
     """Which names are read, in which order, and what a name that can't be read gives."""
 
     def test_missing_and_empty_names(self):
-        missing = "md5sum: x: No such file or directory"
-        self.expect("md5sum a x e", out=[f"{M}  a", f"{E}  e"], err=[missing], status=1)
-        self.expect("md5sum x x", err=[missing, missing], status=1)
+        self.expect("md5sum a x e", out=[f"{M}  a", f"{E}  e"], err=[X_MISSING], status=1)
+        self.expect("md5sum x x", err=[X_MISSING, X_MISSING], status=1)
         self.expect(["md5sum", ""], err=["md5sum: : No such file or directory"], status=1)
         self.expect(["md5sum", "", "a"], out=[f"{M}  a"], err=["md5sum: : No such file or directory"], status=1)
 
@@ -69,15 +63,14 @@ class Operands(Case):
             self.write(name, "abc")
             self.expect(["sha256sum", "--", name], out=[f"{S}  {name}"])
         self.expect(["sha256sum", "--", "a", "--"], out=[f"{S}  a", f"{S}  --"])
-        err = [f"md5sum: {SPECIAL_SHOWN}: No such file or directory", "md5sum: a\\rb: No such file or directory"]
-        self.expect(["md5sum", SPECIAL, "a\rb"], err=err, status=1)
-        self.expect(["md5sum", "-z", SPECIAL, "a\rb"], err=err, status=1)
+        err = [f"md5sum: {shown}: No such file or directory" for shown in ("q\\\\\\nz", "a\\rb")]
+        self.expect(["md5sum", "q\\\nz", "a\rb"], err=err, status=1)
+        self.expect(["md5sum", "-z", "q\\\nz", "a\rb"], err=err, status=1)
 
     def test_links(self):
         os.symlink("a", self.path("good"))
         os.symlink("x", self.path("bad"))
-        err = ["md5sum: bad: No such file or directory"]
-        self.expect("md5sum good bad", out=[f"{M}  good"], err=err, status=1)
+        self.expect("md5sum good bad", out=[f"{M}  good"], err=["md5sum: bad: No such file or directory"], status=1)
 
     def test_devices_and_pipes(self):
         os.mkdir(self.path("d"))

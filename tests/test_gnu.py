@@ -16,12 +16,9 @@ BACKSLASH_NAMES = ["back\\slash", "\\n", "\\", "d/\\"]
 
 
 class Beside(Case):
-    """A folder of files, and both tools."""
-
     def setUp(self):
         super().setUp()
-        missing = [tool for tool in GNU_TOOLS if gnu(tool) is None]
-        if missing:
+        if missing := [tool for tool in GNU_TOOLS if gnu(tool) is None]:
             self.skipTest(f"GNU coreutils has no {missing[0]} here")
         os.mkdir(self.path("d"))
         self.names = NAMES
@@ -44,20 +41,17 @@ class SameLines(Beside):
         under anysum, all digests once more."""
         with open(self.path("large"), "wb") as file:
             file.truncate((1 << 29) + 5)
-        runs = {}
+        runs, lines = [], []
         for tool in GNU_TOOLS:
-            for program in (harness.PROGRAM, gnu(tool)):
-                words, how = [tool, "--tag", "large"], {"executable": program}
-                if program == harness.PROGRAM:
-                    words, how = [program, *words], {}
-                runs[tool, program] = subprocess.Popen(words, cwd=self.folder, stdout=subprocess.PIPE, **how)
-                self.addCleanup(harness.end, runs[tool, program])
-        lines = {key: run.communicate(timeout=harness.RUN_SECONDS)[0] for key, run in runs.items()}
-        for tool, (tag, _, _) in GNU_TOOLS.items():
-            self.assertEqual(lines[tool, harness.PROGRAM], lines[tool, gnu(tool)])
-            self.assertTrue(lines[tool, gnu(tool)].startswith(f"{tag} (large) = ".encode()))
-        manifest = b"".join(lines[tool, gnu(tool)] for tool in GNU_TOOLS)
-        self.expect("anysum -c --strict", stdin=manifest, out=["large: OK"] * len(GNU_TOOLS))
+            theirs = subprocess.Popen([gnu(tool), "--tag", "large"], cwd=self.folder, stdout=subprocess.PIPE)
+            self.addCleanup(harness.end, theirs)
+            runs.append((self.start([tool, "--tag", "large"], stdout=subprocess.PIPE), theirs))
+        for (tag, _, _), both in zip(GNU_TOOLS.values(), runs):
+            ours, theirs = (run.communicate(timeout=harness.RUN_SECONDS)[0] for run in both)
+            self.assertEqual(ours, theirs)
+            self.assertTrue(theirs.startswith(f"{tag} (large) = ".encode()))
+            lines.append(theirs)
+        self.expect("anysum -c --strict", stdin=b"".join(lines), out=["large: OK"] * len(GNU_TOOLS))
 
 
 class Verified(Beside):

@@ -54,8 +54,7 @@ class Interrupted(Traced):
         ran, calls = self.failing("read", "EINTR", ["md5sum", a, e], only=a, timeout=ENDLESS)
         self.assertEqual(ran, Ran(1, as_bytes([f"{E}  {e}"]), fault % a.encode()))
         self.assertLessEqual(len(calls), 1000)
-        with open(a, "rb") as file:
-            ran, _ = self.failing("read", "EINTR", "md5sum", only=a, stdin=file, timeout=ENDLESS)
+        ran, _ = self.failing("read", "EINTR", "md5sum", only=a, stdin=self.opened("a"), timeout=ENDLESS)
         self.assertEqual(ran, Ran(1, b"", fault % b"-"))
 
     def test_some_reads_and_opens(self):
@@ -103,10 +102,9 @@ class Calls(Traced):
     def test_outputs_that_take_nothing(self):
         """`md5sum x 2>/dev/full` tries to report the file and then the write error, and no more. `md5sum a a a
         >/dev/full` tries one line, and reports the write error in one write."""
-        with self.full() as full:
-            for words in ("md5sum x", "md5sum x x x", "md5sum --foo", "shasum"):
-                ran, calls = self.traced("-e trace=write,writev", words, stderr=full)
-                self.assertEqual(ran.status, 1)
-                self.assertLessEqual(len(calls), 2)
-            ran, calls = self.traced("-e trace=write,writev", "md5sum a a a", stdout=full)
-            self.assertEqual((ran, len(calls)), (Ran(1, b"", WRITE_ERROR), 2))
+        for words in ("md5sum x", "md5sum x x x", "md5sum --foo", "shasum"):
+            ran, calls = self.traced("-e trace=write,writev", words, stderr=self.full())
+            self.assertEqual(ran.status, 1)
+            self.assertLessEqual(len(calls), 2)
+        ran, calls = self.traced("-e trace=write,writev", "md5sum a a a", stdout=self.full())
+        self.assertEqual((ran, len(calls)), (Ran(1, b"", WRITE_ERROR), 2))

@@ -49,8 +49,7 @@ class Said(Case):
         runs = [["x"], [b"\xff"], ["-c", "-w", "list"], ["-c", "e"], ["-c", "--ignore-missing", "missing"], ["--other"]]
         said = b"".join(self.run_words([tool, *words]).err for words in runs)
         said += self.run_words(["other"]).err
-        with self.full() as full:
-            said += self.run_words([tool, "a"], stdout=full).err
+        said += self.run_words([tool, "a"], stdout=self.full()).err
         return [line for line in said.decode(errors="replace").splitlines()
                 if not line.startswith("Try '") and "WARNING: 1 line is" not in line]
 
@@ -62,6 +61,5 @@ class Said(Case):
                 self.assertNotEqual(fitting, [], line)
                 found.update(fitting)
             missing = [mark for mark in self.marks() if mark not in found]
-            self.assertEqual([re.sub(r"\W", "", mark) for mark in missing],
-                             ["Inputoutputerror", "memoryexhausted", "digestswordsnotread",
-                              "thismachinelacksafeatureofx8664v3"])
+            self.assertEqual([re.sub(r"\W", "", mark) for mark in missing], [
+                "Inputoutputerror", "memoryexhausted", "digestswordsnotread", "thismachinelacksafeatureofx8664v3"])

@@ -9,8 +9,8 @@ import socket
 import harness
 from harness import NAMES, TOP, Case, Ran
 from manual import PAGES
-from rattle import text_of
 from repository import Repository
+from sources import text_of
 
 
 def section(title):

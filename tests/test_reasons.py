@@ -78,10 +78,9 @@ class Reasons(Case):
         for opened in (pipe, feed, shows, terminal, folder, written):
             os.set_blocking(opened, False)
             self.addCleanup(os.close, opened)
-        for stdin, reason in ((folder, REASONS[errno.EISDIR]), (written, REASONS[errno.EBADF]),
-                              (pipe, REASONS[errno.EAGAIN]), (terminal, REASONS[errno.EAGAIN]),
-                              (self.broken_input(""), OTHER)):
-            self.expect_each("-", reason, opened=True, stdin=stdin)
+        for stdin, number in ((folder, errno.EISDIR), (written, errno.EBADF), (pipe, errno.EAGAIN),
+                              (terminal, errno.EAGAIN), (self.broken_input(""), errno.EIO)):
+            self.expect_each("-", REASONS.get(number, OTHER), opened=True, stdin=stdin)
         reason = REASONS[errno.EBADF]
         self.expect_each("-", reason, opened=True, last=b"md5sum: standard input: %s\n" % reason,
                          stdin=subprocess.DEVNULL, preexec_fn=lambda: os.close(0))

@@ -305,11 +305,9 @@ class Recipes(Typed):
         lists, images = ("list", "list on all"), ("write by pv", "write at once")
         for command, script, *sorts in (
                 ("pv", "head -c 1000 image.iso; exit 1", "write by pv"), ("gpg", "cat SUMS; exit 1", "check gpg"),
-                ("tee", "head -c 1000; exit 1", "write at once"),
-                ("sed", "cat; exit 1", "write at once"),
+                ("tee", "head -c 1000; exit 1", "write at once"), ("sed", "cat; exit 1", "write at once"),
                 ("find", find, *lists, "unlisted", "not UTF-8"),
-                ("find", "printf './x\\0'", "list on all"),
-                ("xargs", "exit 123", "list on all"),
+                ("find", "printf './x\\0'", "list on all"), ("xargs", "exit 123", "list on all"),
                 ("mktemp", "exit 1", *lists, *images, "unlisted", "check list of odd names"),
                 ("sed", "cat SUMS; exit 1", "check list of others", "check list of odd names"),
                 *((command, "exit 1", "unlisted") for command in ("sort", "comm")),

@@ -4,7 +4,7 @@ import os
 import re
 
 from harness import Case
-from rattle import text_of
+from sources import text_of
 
 # How a test begins, by the end of its file's name.
 BEGINNINGS = {".rt": r"^#\[test\]\nfn {}\(", ".antt": r"^{} :",

@@ -25,15 +25,12 @@ class SideBySide(Case):
         cls.tree = tempfile.mkdtemp(prefix="digests-tree-")
         cls.addClassCleanup(shutil.rmtree, cls.tree, ignore_errors=True)
         os.mkdir(os.path.join(cls.tree, "d"))
-        names, lines = [], []
-        for number in range(FILES):
-            name, content = name_of(number), str(number).encode()
+        contents = {name_of(number): str(number).encode() for number in range(FILES)}
+        for name, content in contents.items():
             with open(os.path.join(cls.tree, name), "wb") as file:
                 file.write(content)
-            names.append(name)
-            lines.append(f"{hashlib.sha256(content).hexdigest()}  {name}")
-        cls.names = b"\0".join(map(str.encode, names))
-        cls.lines = sorted(map(str.encode, lines))
+        cls.names = "\0".join(contents).encode()
+        cls.lines = sorted(f"{hashlib.sha256(it).hexdigest()}  {name}".encode() for name, it in contents.items())
 
     def setUp(self):
         super().setUp()
@@ -54,9 +51,7 @@ class SideBySide(Case):
             ran = self.run_script(script, "sums")
             self.assertEqual((ran.status, ran.err), (0, b""))
             self.expect_lines(self.read("sums"), self.lines)
-            with open(self.path("sums"), "rb") as sums:
-                checked = self.run_words("sha256sum -c --quiet --strict", stdin=sums, cwd=self.tree)
-            self.assertEqual(checked, (0, b"", b""))
+            self.expect("sha256sum -c --quiet --strict", stdin=self.opened("sums"), cwd=self.tree)
 
     def test_into_a_file_and_a_pipe(self):
         """`xargs -P 8 digests sha256sum < names > SUMS` gives every line whole, and so does a pipe in its place."""
@@ -102,7 +97,7 @@ class SideBySide(Case):
         can't be opened, so the line says that."""
         rest = b"md5sum: : File name too long\n"
         names = [b"%d" % run + b"x" * (8192 - len(rest) - 1) for run in range(8)]
-        with open(self.path("said"), "ab") as said:
-            started = [self.start(["md5sum", *[name] * 10], stderr=said) for name in names]
+        said = self.opened("said", "ab")
+        started = [self.start(["md5sum", *[name] * 10], stderr=said) for name in names]
         self.assertEqual([one.wait(timeout=harness.RUN_SECONDS) for one in started], [1] * 8)
         self.expect_lines(self.read("said"), 10 * [b"md5sum: " + name + b": File name too long" for name in names])

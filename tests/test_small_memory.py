@@ -18,11 +18,10 @@ class SmallMemory(Case):
 
     def limited(self, kibibytes, words):
         """A run under this limit, with "abc" as standard input."""
-        script = f'ulimit -v {kibibytes} || exit 125; exec "$0" "$@"'
-        environment = {**os.environ, "GLIBC_TUNABLES": "glibc.malloc.top_pad=0"}
+        command = ["sh", "-c", f'ulimit -v {kibibytes} || exit 125; exec "$0" "$@"', harness.PROGRAM, *as_words(words)]
+        env = {**os.environ, "GLIBC_TUNABLES": "glibc.malloc.top_pad=0"}
         with open(self.path("a"), "rb") as file:
-            command = ["sh", "-c", script, harness.PROGRAM, *as_words(words)]
-            return self.run_command(command, stdin=file, env=environment)
+            return self.run_command(command, stdin=file, env=env)
 
     def first(self, holds, low=256, high=1 << 20):
         """The first limit at which this holds, given that it holds from there on."""
@@ -52,10 +51,7 @@ class SmallMemory(Case):
         for limit in self.limits():
             ran = self.limited(limit, words)
             self.assertTrue(not self.has_started(ran) or ran in (right, *wrongs), (as_words(words)[:9], limit, ran))
-            if ran == right:
-                first = first or limit
-            else:
-                first = None
+            first = (first or limit) if ran == right else None
         self.assertIsNotNone(first, "it works at no limit")
         return first
 

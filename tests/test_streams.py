@@ -8,7 +8,7 @@ import subprocess
 
 import harness
 from harness import E, M, TOOLS, VERDICTS, VERDICTS_ERR, VERDICTS_OUT, X_MISSING
-from harness import WRITE_ERROR, Case, Ran, as_bytes, limits, unread
+from harness import WRITE_ERROR, Case, Ran, as_bytes, limit, unread
 
 
 class StandardInput(Case):
@@ -23,9 +23,9 @@ class StandardInput(Case):
         self.assertEqual(out, f"{harness.S}  -\n".encode())
         self.write("f", "xxabc")
         for name, position in (("a", 0), ("f", 2)):
-            with open(self.path(name), "rb", buffering=0) as file:
-                file.seek(position)
-                self.expect("md5sum", stdin=file, out=[f"{M}  -"])
+            file = self.opened(name)
+            os.lseek(file.fileno(), position, os.SEEK_SET)
+            self.expect("md5sum", stdin=file, out=[f"{M}  -"])
 
     def test_a_terminal(self):
         """The end that is typed at a terminal is the end: nothing is read after it."""
@@ -39,42 +39,35 @@ class StandardInput(Case):
 
 
 class BrokenInput(Case):
-    """Standard input that gives bytes and then a fault."""
-
     def test_a_fault_after_bytes(self):
+        fault = "md5sum: -: Input/output error"
         for content in ("", "abc", "y" * 300, "y" * 9000):
-            broken = self.broken_input(content)
-            err = ["md5sum: -: Input/output error"]
-            self.expect("md5sum - a", stdin=broken, out=[f"{M}  a"], err=err, status=1)
+            self.expect("md5sum - a", stdin=self.broken_input(content), out=[f"{M}  a"], err=[fault], status=1)
         self.write("l", [f"{M}  -", f"{M}  a"])
         self.expect("md5sum -c l", stdin=self.broken_input("abc"), out=["-: FAILED open or read", "a: OK"], status=1,
-                    err=["md5sum: -: Input/output error", unread(1)])
+                    err=[fault, unread(1)])
 
 
 class Outputs(Case):
     def test_standard_output_full(self):
-        with self.full() as full:
-            for words in ("md5sum a", "md5sum --help", "md5sum --version", "md5sum -z a e"):
-                self.expect(words, err=WRITE_ERROR, status=1, stdout=full)
-            for tool in TOOLS:
-                self.expect([tool, "a"], err=[f"{tool}: write error"], status=1, stdout=full)
-            self.expect("md5sum x", err=[X_MISSING], status=1, stdout=full)
+        full = self.full()
+        for words in ("md5sum a", "md5sum --help", "md5sum --version", "md5sum -z a e", *(f"{it} a" for it in TOOLS)):
+            self.expect(words, err=[f"{words.split()[0]}: write error"], status=1, stdout=full)
+        self.expect("md5sum x", err=[X_MISSING], status=1, stdout=full)
 
     def test_standard_error_full(self):
-        with self.full() as full:
-            self.expect("md5sum a x e", out=[f"{M}  a"], status=1, stderr=full)
-            for words in ("md5sum --foo", "shasum", ["md5sum", b"-\xff"]):
-                self.expect(words, status=1, stderr=full)
-            self.expect("md5sum a", out=[f"{M}  a"], stderr=full)
-            self.expect("md5sum a x", status=1, stdout=full, stderr=full)
+        full = self.full()
+        self.expect("md5sum a x e", out=[f"{M}  a"], status=1, stderr=full)
+        for words in ("md5sum --foo", "shasum", ["md5sum", b"-\xff"]):
+            self.expect(words, status=1, stderr=full)
+        self.expect("md5sum a", out=[f"{M}  a"], stderr=full)
+        self.expect("md5sum a x", status=1, stdout=full, stderr=full)
 
     def test_a_reader_that_goes_away(self):
         """A closed pipe is a write error, whether or not the caller ignores the signal for it."""
-        words = [harness.PROGRAM, "md5sum", *["a"] * 20000]
+        words, pipes = ["md5sum", *["a"] * 20000], {"stdout": subprocess.PIPE, "stderr": subprocess.PIPE}
         for ignored in (False, True):
-            started = subprocess.Popen(words, cwd=self.folder, stdout=subprocess.PIPE, stderr=subprocess.PIPE,
-                                       restore_signals=not ignored)
-            self.addCleanup(harness.end, started)
+            started = self.start(words, restore_signals=not ignored, **pipes)
             self.assertEqual(started.stdout.read(10), M[:10].encode())
             started.stdout.close()
             self.assertEqual(started.stderr.read(), WRITE_ERROR)
@@ -86,8 +79,7 @@ class Outputs(Case):
             started = self.start("md5sum x p", stdout=subprocess.DEVNULL, stderr=writes)
             os.close(writes)
             self.shown(shows, [X_MISSING])
-            with open(self.path("p"), "wb"):
-                pass
+            self.opened("p", "wb").close()
             self.assertEqual(started.wait(timeout=harness.RUN_SECONDS), 1)
 
 
@@ -97,9 +89,8 @@ class EachByteTheLast(Case):
     def run_limited(self, words, size, limited, stdin=b""):
         """Runs with one output (`stdout` or `stderr`) in a file that takes `size` bytes; its signal is ignored."""
         with open(self.path("limited"), "wb") as file:
-            how = {limited: file, "preexec_fn": limits(file_size=size), "restore_signals": False}
-            ran = self.run_words(words, stdin, **how)
-        return ran, self.read("limited")
+            how = {limited: file, "preexec_fn": limit("FSIZE", size), "restore_signals": False}
+            return self.run_words(words, stdin, **how), self.read("limited")
 
     def test_generating(self):
         ran, out = self.run_limited("sha256sum", 10, "stdout")
@@ -111,8 +102,7 @@ class EachByteTheLast(Case):
 
     def test_a_signal_that_is_not_ignored(self):
         """The signal ends the program, without a message."""
-        with open(self.path("limited"), "wb") as file:
-            ran = self.run_words("md5sum a e", stdout=file, preexec_fn=limits(file_size=10))
+        ran = self.run_words("md5sum a e", stdout=self.opened("limited", "wb"), preexec_fn=limit("FSIZE", 10))
         self.assertEqual((ran, self.read("limited")), (Ran(-signal.SIGXFSZ, b"", b""), b"900150983c"))
 
     def test_checking(self):

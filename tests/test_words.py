@@ -64,9 +64,9 @@ class LongOptions(Case):
     """Faults 1 to 4, and names that are cut short."""
 
     def test_faults_and_values(self):
-        for word, name in (("--foo", "foo"), ("--foo=1", "foo"), ("--taga", "taga"), ("--Tag", "Tag"), ("---", "-"),
-                           ("--length", "length"), ("--length=8", "length"), ("--é", "é"),
-                           ("--a\\\n\r=x", "a\\\\\\n\\r")):
+        for word, name in (
+                ("--foo", "foo"), ("--foo=1", "foo"), ("--taga", "taga"), ("--Tag", "Tag"), ("---", "-"), ("--é", "é"),
+                ("--length", "length"), ("--length=8", "length"), ("--a\\\n\r=x", "a\\\\\\n\\r")):
             self.expect_fault(["md5sum", word, "a"], f"unrecognized option '--{name}'")
         self.expect_fault("md5sum --t=1 a", "option '--t' is ambiguous")
         self.expect_fault("md5sum --=x a", "option '--' is ambiguous")
@@ -112,8 +112,6 @@ class EachByte(Case):
 
 
 class LaterProcessors(Case):
-    """The program that was built for them."""
-
     of_the_repository = True
 
     def test_hidden(self):

@@ -28,7 +28,10 @@ import sys
 
 sys.dont_write_bytecode = True
 
-from rattle import TOP, Code, Specs, compiled, crates, text_of  # noqa: E402  (nothing is to be left beside these files)
+import compiled  # noqa: E402  (nothing is to be left beside these files)
+from definitions import Specs  # noqa: E402
+from rattle import Code  # noqa: E402
+from sources import TOP, needs, text_of  # noqa: E402
 
 PROMISES = os.path.join(TOP, "docs", "PROMISES.md")
 # What is believed besides the laws, in the order of the page: a function's crate and name, and what the page calls it.
@@ -76,7 +79,7 @@ def computed():
 def in_files(definitions):
     """The definitions by their files, the highest crate's first, each file before those that it uses. In a file, where
     a definition can use only what precedes it, they are in the opposite order."""
-    specs, files, listed = every_definition(), {}, crates()
+    specs, files, listed = every_definition(), {}, list(needs())
     for definition in (it for module in specs.modules.values() for it in module.definitions.values()):
         if definition in definitions:
             files.setdefault(definition.file, []).insert(0, definition)
@@ -98,11 +101,7 @@ def made():
 @functools.lru_cache(maxsize=None)
 def claims():
     """The headline, the program and what `main` calls; the laws; and what `main` makes."""
-    return list(every_claim())
-
-
-def every_claim():
-    before, earlier, specs = set(), [], every_definition()
+    found, before, earlier, specs = [], set(), [], every_definition()
     functions = [(title, f" (`{name}` of `{crate}`)", [code().function(crate, name)]) for crate, name, title in CLAIMS]
     for title, of, functions in [*functions, ("The laws", "", code().laws()), ("What `main` makes", "", made())]:
         contracts = [item for function in functions for item in code().reached(function)]
@@ -111,9 +110,10 @@ def every_claim():
         items = list({id(it): it for it in [*contracts, *declared(contracts), *declared(ordered)]}.values())
         apart = specs.reached(cited(contracts)) - reached - before
         new = [it for it in items if it not in earlier]
-        yield Claim(title, of, items, reached, apart, new, in_files(reached - before))
+        found.append(Claim(title, of, items, reached, apart, new, in_files(reached - before)))
         before |= reached | apart
         earlier += items
+    return found
 
 
 def size(believed):
@@ -138,7 +138,7 @@ def text():
                     for (crate, file), definitions in claim.files.items())
     for claim in all_claims:
         yield f"\n-- ======== {claim.title}"
-        for crate in reversed(crates()):
+        for crate in reversed(needs()):
             for item in (it for it in claim.new if it.crate == crate):
                 yield "\n".join(["", f"-- {crate} src/{item.file}", *renamed([item], several), item.text])
             for file, definitions in ((file, found) for (owner, file), found in claim.files.items() if owner == crate):
@@ -176,7 +176,7 @@ def rows_of(page):
 def tables(page):
     """The table of the page as it should be, one row per file, after a line for each claim: the lines that each claim
     adds to those before it. What files say is taken from the page, and is `?` if it isn't there."""
-    all_claims, says, listed, rows = claims()[:len(CLAIMS)], rows_of(page), crates(), {}
+    all_claims, says, listed, rows = claims()[:len(CLAIMS)], rows_of(page), list(needs()), {}
     for number, claim in enumerate(all_claims):
         for file, definitions in claim.files.items():
             rows.setdefault(file, [""] * len(CLAIMS))[number] = str(size(definitions))
@@ -210,7 +210,7 @@ def misplaced():
     modules = every_definition().modules.values()
     used = [origin for names in [*(it.imports for it in modules), *(it.uses for it in code().items)]
             for origin in names.values()]
-    owners = {name: module for module, name in used if name and module.split(".")[1] not in crates()}
+    owners = {name: module for module, name in used if name and module.split(".")[1] not in needs()}
     prelude = text_of(compiled.library("std"), "lang", "antt", "specs", "Prelude.antt")
     for name in (it for names in re.findall(r"(?m)^pub use .*\{(.*)\}$", prelude) for it in names.split(", ")):
         owners.setdefault(name, "the kit's Prelude")

@@ -7,10 +7,9 @@ import gc
 import glob
 import json
 import os
-import subprocess
 import sys
 
-from sources import TOP, crates_of_program
+from sources import TOP, closure, crates_of_program, kit
 
 LIBRARIES = crates_of_program()[:-1]  # without the program's crate, which has `main` alone, and isn't kept so
 
@@ -62,12 +61,6 @@ class Function:
         self.runs = {*calls}.union(*(blocks[it] for it in chosen))
 
 
-@functools.lru_cache(maxsize=None)
-def kit():
-    """The kit's folder."""
-    return os.path.dirname(subprocess.run(["rt", "doc"], stdout=subprocess.PIPE, check=True, text=True).stdout)
-
-
 def library(crate):
     """Where the kit keeps what it has made of a crate, or of one of its own."""
     return f"{TOP}/crates/{crate}/out/rlib/{crate}.rlib" if crate in LIBRARIES else f"{kit()}/rlibs/{crate}.rlib"
@@ -78,8 +71,7 @@ def check_libraries():
     """Fails if a library isn't of what its sources are now."""
     sys.path.append(f"{kit()}/bin")
     import rtlib  # the kit's own, which knows from what a library was made
-    stale = [it.name for it in rtlib.crates_below(TOP) if it.name in LIBRARIES and not it.is_built()]
-    if stale:
+    if stale := [it.name for it in rtlib.crates_below(TOP) if it.name in LIBRARIES and not it.is_built()]:
         raise ValueError(f"{', '.join(stale)} isn't proved and built from what the sources are now: ./digests does it")
 
 
@@ -114,13 +106,11 @@ def ours():
 
 def reached(names, among=None):
     """The functions of these names, and all that may run by them, ours and the kit's, or those among some."""
-    found, left = set(), list(names)
-    while left:
-        name = left.pop()
-        if name not in found and (among is None or name in among) and function(name):
-            found.add(name)
-            left += function(name).runs
-    return found
+
+    def chosen(some):
+        return (name for name in some if (among is None or name in among) and function(name))
+
+    return {*closure(chosen(names), lambda name: chosen(function(name).runs))}
 
 
 def around():

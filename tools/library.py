@@ -8,14 +8,15 @@ import sys
 
 sys.dont_write_bytecode = True
 
-from rattle import TOP, Code, as_in_a_source, compiled, text_of  # noqa: E402  (nothing is to be left here)
+import compiled  # noqa: E402  (nothing is to be left beside these files)
+from rattle import Code, as_in_a_source  # noqa: E402
+from sources import TOP, text_of  # noqa: E402
 
 PAGE = os.path.join(TOP, "docs", "LIBRARY.md")
 BEGIN = "<!-- From here on tools/library.py writes. -->\n"
 
 
 def first_sentence(comment):
-    """The first sentence of a comment's lines."""
     text = re.sub(r"\[(`[^`]*`)\](?:\([^)]*\))?", r"\1", " ".join(filter(None, comment)))
     return re.match(r".*?\.(?= [A-Z`]|$)", text)[0]
 
@@ -32,7 +33,6 @@ class Library:
     def __init__(self):
         self.code = Code()
         self.items = [it for it in self.code.items if "doc ( hidden )" not in it.attributes]
-
         self.lines = {(crate, file[:-len(".rt")]): [as_in_a_source(it) for it in text_of(path).splitlines()]
                       for crate, file, path in compiled.read_files()}
 

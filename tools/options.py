@@ -6,10 +6,9 @@ import re
 import subprocess
 import sys
 
-from rattle import text_of
+from sources import text_of
 
 LINE = re.compile(r"  (?:-(?P<short>\w), |    )--(?P<long>[a-z-]+)(?:=(?P<value>[A-Z]+))? +(?P<help>.*)")
-
 
 # A tool: whether GNU has it; and of its digest, if it has one, the tag, the bits and the standard.
 Tool = collections.namedtuple("Tool", "of_gnu tag bits standard", defaults=(None, None, None))
@@ -33,16 +32,14 @@ class Option(collections.namedtuple("Option", "short long value help where at_on
 
 def takes(program, tool, *words):
     """Whether the program accepts these words, with which it reads nothing but an empty standard input."""
-    ran = subprocess.run([program, tool, *words], stdin=subprocess.DEVNULL, stdout=subprocess.PIPE,
-                         stderr=subprocess.PIPE, universal_newlines=True)
+    ran = subprocess.run([program, tool, *words], stdin=subprocess.DEVNULL, capture_output=True, text=True)
     return "\nTry '" not in ran.stderr
 
 
 @functools.lru_cache(maxsize=None)
 def options_of(program, tool):
     """The options that the help of a tool lists, in its order."""
-    helped = subprocess.run([program, tool, "--help"], stdin=subprocess.DEVNULL, stdout=subprocess.PIPE,
-                            universal_newlines=True)
+    helped = subprocess.run([program, tool, "--help"], stdin=subprocess.DEVNULL, stdout=subprocess.PIPE, text=True)
     if helped.returncode:
         sys.exit(f"{tool} has no help: status {helped.returncode}")
     found = []

@@ -4,15 +4,14 @@ import re
 import sys
 
 from options import ALWAYS, DIGESTS, NEVER, TOOLS, WITH_CHECK, WITHOUT_CHECK, options_of
-from rattle import text_of
 from roff import WIDTH, bullet, escaped, inline, item, page, section, shown
+from sources import text_of
 
 DATE = "2026-11-29"  # of the last change of the texts
 FEWER = ", or fewer with `--length`"
 
 
 def version():
-    """The version of the program, which is first in CHANGELOG.md."""
     return re.search(r"(?m)^## ([\d.]+)", text_of("CHANGELOG.md"))[1]
 
 
@@ -128,8 +127,7 @@ def pages(program, own=False):
     known = {tool: options_of(program, tool) for tool in TOOLS}
     said = re.sub(r"\n +", " ", text_of("tools", "pages", "options.txt").partition("\n\n")[2])
     said = dict(line.split(": ", 1) for line in said.splitlines())
-    unknown = {name.lstrip("!") for name in said} - {option.long for options in known.values() for option in options}
-    if unknown:
+    if unknown := {it.lstrip("!") for it in said} - {option.long for options in known.values() for option in options}:
         sys.exit(f"pages.py: pages/options.txt has a word on no option: {', '.join(sorted(unknown))}")
     made = {"digests": page_of_program(own), **{it: page_of_tool(it, own, known[it], said) for it in TOOLS}}
     return {page_title(name, own): text for name, text in made.items()}

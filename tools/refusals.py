@@ -11,7 +11,8 @@ import sys
 
 sys.dont_write_bytecode = True
 
-from rattle import TOP, Code, crates, text_of  # noqa: E402  (nothing is to be left beside these files)
+from rattle import Code  # noqa: E402  (nothing is to be left beside these files)
+from sources import TOP, needs, text_of  # noqa: E402
 
 PAGE = os.path.join(TOP, "docs", "TESTING.md")
 MARKS = "<!-- made by tools/refusals.py: what stands below -->\n", "\n<!-- and above this line -->"
@@ -52,11 +53,10 @@ def goal_of(name, whole, labels):
         if not marked:
             return " or ".join(sorted(labels)) or None
         return min((it for it in labels if it == label or not whole and it.startswith(label)), default=None)
-    for pattern, says in ((r"(\w+)[\w-]*-requires", "what `{}` requires"),
-                          (r"(?:loop-)?(\w+)-(?:init|preserved)", "loop's `{}`"),
-                          (r"invariant_of-(\w+)", "the invariant of `{}`"), (r"(invariant)", "the {} of its type")):
-        found = re.match(pattern, name)
-        if found:
+    for pattern, says in (
+            (r"(\w+)[\w-]*-requires", "what `{}` requires"), (r"(?:loop-)?(\w+)-(?:init|preserved)", "loop's `{}`"),
+            (r"invariant_of-(\w+)", "the invariant of `{}`"), (r"(invariant)", "the {} of its type")):
+        if found := re.match(pattern, name):
             return says.format(found[1])
     return "its proof"
 
@@ -82,9 +82,9 @@ def rows(said):
 def main():
     said = text_of(os.path.abspath(sys.argv[1])) if sys.argv[1:] else subprocess.run(
         ["rt", "must-fail"], cwd=TOP, stdout=subprocess.PIPE, encoding="utf-8").stdout
-    found = rows(it.groups() for it in LINE.finditer(said))
+    found, order = rows(it.groups() for it in LINE.finditer(said)), list(needs())
     lines = ["|crate|function|clause: wrong versions|", "|---|---|---|"]
-    for crate, function in sorted(found, key=lambda it: (crates().index(it[0]), it[1])):
+    for crate, function in sorted(found, key=lambda it: (order.index(it[0]), it[1])):
         goals = sorted(found[crate, function].items())
         lines.append(f"|{crate}|`{function}`|{'; '.join(f'{goal}: ' + ', '.join(names) for goal, names in goals)}|")
     page = text_of(PAGE)

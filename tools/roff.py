@@ -27,10 +27,9 @@ def inline(text):
 
 def paragraph(text):
     """A text as lines, each sentence on lines of its own, as roff wants them."""
-    lines = []
-    for sentence in re.split(r"(?<=[.?!]) (?=[A-Z`{])", inline(text).replace("\\ ", "\0")):
-        lines += textwrap.wrap(sentence, WIDTH, break_long_words=False, break_on_hyphens=False)
-    return [guarded(line.replace("\0", "\\ ")) for line in lines]
+    sentences = re.split(r"(?<=[.?!]) (?=[A-Z`{])", inline(text).replace("\\ ", "\0"))
+    how = {"break_long_words": False, "break_on_hyphens": False}
+    return [guarded(it.replace("\0", "\\ ")) for sentence in sentences for it in textwrap.wrap(sentence, WIDTH, **how)]
 
 
 def guarded(line):
@@ -64,7 +63,6 @@ def section(title, *parts):
 
 
 def page(name, date, source, *sections):
-    """A whole page."""
     head = [".\\\" Made by tools/pages.py: edit what that reads."]
     head.append(f'.TH {name.upper()} 1 "{date}" "{source}" "User Commands"')
     return "\n".join(head + [line for part in sections for line in part]) + "\n"

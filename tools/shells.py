@@ -4,7 +4,7 @@ code is in completions/; the options and tools take the place of @NAME@ there.""
 import re
 
 from options import ALWAYS, TOOLS, WITH_CHECK, WITHOUT_CHECK, cuts, options_of
-from rattle import text_of
+from sources import text_of
 
 
 def words_of(options):

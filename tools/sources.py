@@ -17,22 +17,27 @@ def text_of(*names):
         return it.read()
 
 
+def closure(first, below):
+    """These and all that they reach, in the order in which it is found; `below` answers what each reaches at once."""
+    found, left = {}, collections.deque(first)
+    while left:
+        it = left.popleft()
+        if it not in found:
+            found[it] = None
+            left.extend(below(it))
+    return list(found)
+
+
 def needs():
-    """What each crate of crates.txt stands on, in its order."""
+    """The crates of crates.txt, in its order, each with what it stands on."""
     lines = re.findall(r"(?m)^(\w+):([^#\n]*)", text_of("crates.txt"))
     return {name: re.findall(r"[^\s,]+", below) for name, below in lines}
 
 
-def crates():
-    """The crates of crates.txt, in its order."""
-    return list(needs())
-
-
 def crates_of_program():
     """The crates of the program `digests`, in that order: it, and what it stands on."""
-    found, lines = {"digests_main"}, needs()
-    while more := {it for name in found for it in lines[name] if it in lines} - found:
-        found |= more
+    lines = needs()
+    found = closure(["digests_main"], lambda name: (it for it in lines[name] if it in lines))
     return [name for name in lines if name in found]
 
 
@@ -41,6 +46,12 @@ def files(folder, ending):
     for path in sorted(glob.glob(os.path.join(TOP, "crates", "*", folder, "**", "*" + ending), recursive=True)):
         crate, _, file = os.path.relpath(path[:-len(ending)], os.path.join(TOP, "crates")).split(os.sep, 2)
         yield crate, file, path
+
+
+@functools.lru_cache(maxsize=None)
+def kit():
+    """The kit's folder."""
+    return os.path.dirname(subprocess.run(["rt", "doc"], stdout=subprocess.PIPE, check=True, text=True).stdout)
 
 
 # A token: its kind (`rattle fmt --help` says which there are), its line, its place in the text, and itself.
@@ -55,8 +66,7 @@ def printed_tokens():
     each."""
     paths = [path for of in (("src", ".rt"), ("specs", ".antt")) for _, _, path in files(*of)]
     paths += glob.glob(os.path.join(TOP, "crates/*/out/rlib/*/lang/src/**/*.rt"), recursive=True)
-    kit = os.path.dirname(subprocess.run(["rt", "doc"], stdout=subprocess.PIPE, check=True).stdout)
-    command = [os.path.join(kit, b"bin", b"rattle"), "fmt", "--tokens", *paths]
+    command = [f"{kit()}/bin/rattle", "fmt", "--tokens", *paths]
     printed = subprocess.run(command, stdout=subprocess.PIPE, check=True).stdout
     return dict(zip(paths, re.split(rb"(?m)^file \d+\n", printed)[1:]))
 

@@ -22,7 +22,7 @@ import tty
 import unittest
 
 import options
-from rattle import TOP, text_of
+from sources import TOP, text_of
 
 # Set by run.py: the program's absolute path, the seed of the first case at random, and how many cases a test tries.
 # Without `--seed` each day has cases of its own.
@@ -76,9 +76,8 @@ def hasher(tag, content=b"", size=64):
 @functools.lru_cache
 def gnu(tool):
     """The path of GNU coreutils' tool of that name, the first on the PATH, or None if it isn't installed."""
-    quiet = {"stdin": subprocess.DEVNULL, "stdout": subprocess.PIPE, "stderr": subprocess.DEVNULL}
     for path in filter(None, (shutil.which(tool, path=folder) for folder in os.get_exec_path())):
-        said = subprocess.run([path, "--version"], **quiet, timeout=RUN_SECONDS)
+        said = subprocess.run([path, "--version"], stdin=subprocess.DEVNULL, capture_output=True, timeout=RUN_SECONDS)
         if b"GNU coreutils" in said.stdout:
             return path
     return None
@@ -107,16 +106,9 @@ VERDICTS_ERR = as_bytes([X_MISSING, bad(1), unread(1), wrong(1)])
 WRITE_ERROR = b"md5sum: write error\n"
 
 
-def limits(file_size=None, memory=None):
-    """What a child does before it becomes the program: takes limits on the files that it writes and on its memory."""
-
-    def take():
-        if file_size is not None:
-            resource.setrlimit(resource.RLIMIT_FSIZE, (file_size, file_size))
-        if memory is not None:
-            resource.setrlimit(resource.RLIMIT_AS, (memory, memory))
-
-    return take
+def limit(what, size):
+    """What a child does before it becomes the program: limits its memory (`AS`) or a file that it writes (`FSIZE`)."""
+    return lambda: resource.setrlimit(getattr(resource, f"RLIMIT_{what}"), (size, size))
 
 
 class TooLong(Exception):
@@ -170,14 +162,9 @@ class Case(unittest.TestCase):
 
     def run_command(self, command, stdin=b"", **how):
         """Runs a command in the test's folder. `stdin` is what standard input holds, or a file."""
-        how.setdefault("cwd", self.folder)
-        how.setdefault("stdout", subprocess.PIPE)
-        how.setdefault("stderr", subprocess.PIPE)
-        if isinstance(stdin, (bytes, str, list)):
-            how["input"] = as_bytes(stdin)
-        else:
-            how["stdin"] = stdin
-        ran = subprocess.run(command, timeout=RUN_SECONDS, **how)
+        given = {"input": as_bytes(stdin)} if isinstance(stdin, (bytes, str, list)) else {"stdin": stdin}
+        usual = {"cwd": self.folder, "stdout": subprocess.PIPE, "stderr": subprocess.PIPE, "timeout": RUN_SECONDS}
+        ran = subprocess.run(command, **{**usual, **given, **how})
         return Ran(ran.returncode, ran.stdout or b"", ran.stderr or b"")
 
     def run_words(self, words, stdin=b"", **how):
@@ -197,7 +184,8 @@ class Case(unittest.TestCase):
     def expect_fault(self, words, text):
         """Expects that the words are refused with this text."""
         tool = as_words(words)[0]
-        self.expect(words, err=[f"{tool}: {text}", f"Try '{tool} --help' for more information."], status=1)
+        err = [f"{tool}: ".encode() + as_bytes(text), f"Try '{tool} --help' for more information."]
+        self.expect(words, err=err, status=1)
 
     def start(self, words, folder=None, **how):
         """Starts `digests` with these words in the test's folder or another one; it is ended with the test."""
@@ -215,9 +203,15 @@ class Case(unittest.TestCase):
             self.skipTest("there is no user nobody")
         return {"user": nobody.pw_uid, "group": nobody.pw_gid, "extra_groups": []}
 
+    def opened(self, name, mode="rb"):
+        """A file in the test's folder, which is open until the test ends."""
+        file = open(self.path(name), mode)
+        self.addCleanup(file.close)
+        return file
+
     def full(self):
         """The device that has no room for a single byte, opened for writing."""
-        return open("/dev/full", "wb")
+        return self.opened("/dev/full", "wb")
 
     def disk(self, image, at):
         """Mounts the image of a disk until the test ends; makes it, if it isn't there."""
@@ -240,9 +234,7 @@ class Case(unittest.TestCase):
 
     def broken_input(self, content):
         """An input that gives this content and then a fault: the master of a terminal whose other side is closed."""
-        reads, writes = pty.openpty()
-        tty.setraw(writes)
-        self.addCleanup(os.close, reads)
+        reads, writes = self.terminal()
         content = as_bytes(content)
         while content:
             content = content[os.write(writes, content):]
@@ -255,12 +247,10 @@ class Case(unittest.TestCase):
         stop = time.monotonic() + seconds
         while len(got) < len(wanted):
             ready, _, _ = select.select([descriptor], [], [], max(0, stop - time.monotonic()))
-            if not ready:
-                break
             try:
-                piece = os.read(descriptor, len(wanted) - len(got))
+                piece = os.read(descriptor, len(wanted) - len(got)) if ready else b""
             except OSError:  # a terminal whose other side is closed
-                break
+                piece = b""
             if not piece:
                 break
             got += piece
@@ -303,6 +293,5 @@ def end(started):
     if started.poll() is None:
         started.kill()
     started.wait()
-    for stream in (started.stdin, started.stdout, started.stderr):
-        if stream is not None:
-            stream.close()
+    for stream in filter(None, (started.stdin, started.stdout, started.stderr)):
+        stream.close()

@@ -59,9 +59,7 @@ def line(mode, zero, tag, name, found):
 
 
 def lines(content):
-    pieces = content.split(b"\n")
-    if not pieces[-1]:
-        pieces.pop()
+    pieces = content.removesuffix(b"\n").split(b"\n") if content else []
     return [piece.removesuffix(b"\r") for piece in pieces]
 
 
@@ -209,12 +207,10 @@ class Manifest:
             self.err.append(self.shown + b"no properly formatted checksum lines found\n")
         elif self.options.report != "status":
             for verdict, one, many in (
-                ("bad", b"line is improperly formatted", b"lines are improperly formatted"),
-                ("unread", b"listed file could not be read", b"listed files could not be read"),
-                ("wrong", b"computed checksum did NOT match", b"computed checksums did NOT match"),
-            ):
-                count = self.verdicts.count(verdict)
-                if count:
+                    ("bad", b"line is improperly formatted", b"lines are improperly formatted"),
+                    ("unread", b"listed file could not be read", b"listed files could not be read"),
+                    ("wrong", b"computed checksum did NOT match", b"computed checksums did NOT match")):
+                if count := self.verdicts.count(verdict):
                     self.err.append(self.tool + b"WARNING: %d %s\n" % (count, one if count == 1 else many))
             if self.options.ignore_missing and "right" not in self.verdicts:
                 self.err.append(self.shown + b"no file was verified\n")

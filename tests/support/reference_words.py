@@ -6,8 +6,8 @@ import os
 import re
 
 from harness import Ran
-from rattle import text_of
 from reference import ALGORITHMS, World, checked, escape, generated
+from sources import text_of
 
 NAMES = ["binary", "check", "tag", "text", "zero", "ignore-missing", "quiet", "status", "strict", "warn", "help",
          "version"]
@@ -29,8 +29,7 @@ class Words:
 
     def __init__(self, tool, words):
         self.tool, self.rest = tool, list(words)
-        self.options, self.lengths, self.operands = [], [], []
-        self.decided = None
+        self.options, self.lengths, self.operands, self.decided = [], [], [], None
         try:
             while self.rest and self.decided is None:
                 self.take(self.rest.pop(0))
@@ -39,8 +38,7 @@ class Words:
 
     def take(self, word):
         if word == "--":
-            self.operands += self.rest
-            self.rest = []
+            self.operands, self.rest = self.operands + self.rest, []
         elif word == "-" or not word.startswith("-"):
             self.operands.append(word)
         elif re.search("[\udc80-\udcff]", word):
@@ -120,8 +118,7 @@ def options_of(words):
         (has("ignore-missing") and not check, f"the --ignore-missing {meaningful}"),
         (report is not None and not check, f"the --{report} {meaningful}"),
         (has("strict") and not check, f"the --strict {meaningful}"),
-        (words.tool == "anysum" and not check, "--check is required"),
-    ):
+        (words.tool == "anysum" and not check, "--check is required")):
         if holds:
             raise WordFault(text)
     return Options("tag" if has("tag") else mode, has("zero"), size, report, has("strict"), has("ignore-missing"))

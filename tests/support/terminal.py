@@ -7,7 +7,7 @@ import subprocess
 import time
 
 import harness
-from rattle import text_of
+from sources import text_of
 
 PROMPT = b"ready to type> "
 ALL = "\x18a"  # the keys that put all completions into the line

@@ -17,11 +17,9 @@ from harness import Case, Ran, as_words
 def strace():
     """The path of `strace`, if it is installed and may trace."""
     path = shutil.which("strace")
-    if path is None:
-        return None
     trial = [path, "-qq", "-o", os.devnull, "-e", "trace=close", "-e", "inject=close:error=EIO:when=900..999", "true"]
-    tried = subprocess.run(trial, stderr=subprocess.DEVNULL, timeout=harness.RUN_SECONDS)
-    return path if tried.returncode == 0 else None
+    how = {"stderr": subprocess.DEVNULL, "timeout": harness.RUN_SECONDS}
+    return path if path and not subprocess.run(trial, **how).returncode else None
 
 
 def needs_strace(test):
@@ -32,36 +30,26 @@ def needs_strace(test):
 class Traced(Case):
     """A test that runs the program under `strace`. Its files `out` and `err` take the outputs."""
 
-    def traced(self, options, words, stdin=None, **how):
+    def traced(self, options, words, stdin=subprocess.DEVNULL, **how):
         """Runs `digests` with these words under `strace` with these options: what it left, its outputs being files,
         and the calls that the options select, a line each."""
         trace = self.path("trace")
         command = [strace(), "-qq", "-o", trace, *as_words(options), harness.PROGRAM, *as_words(words)]
-        how.setdefault("timeout", harness.RUN_SECONDS)
         with open(self.path("out"), "wb") as out, open(self.path("err"), "wb") as err:
-            how.setdefault("stdout", out)
-            how.setdefault("stderr", err)
-            source = subprocess.DEVNULL if stdin is None else stdin
-            try:
-                ran = subprocess.run(command, cwd=self.folder, stdin=source, **how)
-            except subprocess.TimeoutExpired:
-                self.fail(f"the run does not end within {how['timeout']} seconds")
+            ran = self.run_command(command, stdin, **{"stdout": out, "stderr": err, **how})
         calls = self.read("trace").decode(errors="replace").splitlines()
-        return Ran(ran.returncode, self.read("out"), self.read("err")), calls
+        return Ran(ran.status, self.read("out"), self.read("err")), calls
 
     def failing(self, call, error, words, only=None, when="", **how):
         """Runs `digests` under `strace`, which lets this call fail with this error: each time or only the times in
         `when`, for any file or for that of the path `only`."""
         options = ["-e", f"trace={call}", "-e", f"inject={call}:error={error}" + (when and f":when={when}")]
-        if only is not None:
-            options += ["-P", os.fsdecode(only)]
-        return self.traced(options, words, **how)
+        return self.traced(options + (["-P", os.fsdecode(only)] if only else []), words, **how)
 
 
 def sizes(calls, descriptor):
     """The bytes that each call to write to this descriptor took."""
-    found = (re.match(rf"writev?\({descriptor},.*= (\d+)$", call) for call in calls)
-    return [int(match[1]) for match in found if match]
+    return [int(it) for it in re.findall(rf"(?m)^writev?\({descriptor},.*= (\d+)$", "\n".join(calls))]
 
 
 def faults(trace):
