@@ -7,7 +7,7 @@ import signal
 import subprocess
 
 from harness import TOP, Case, Ran, end
-from rattle import text_of
+from sources import text_of
 from repository import ASKED, BOTH, DEFAULT, FAST, OF_A, Repository
 
 

@@ -7,7 +7,7 @@ import subprocess
 import tempfile
 
 from harness import GNU_TOOLS, NAMES, TOOLS, Ran
-from rattle import text_of
+from sources import text_of
 from repository import DEFAULT, FAST, OF_A, Repository
 from tracing import each_end, needs_strace, strace
 

@@ -5,7 +5,7 @@ import os
 
 import harness
 from harness import M, TOP, Case, Ran
-from rattle import text_of
+from sources import text_of
 
 DEFAULT, FAST = "default", "x86-64-v3"
 
