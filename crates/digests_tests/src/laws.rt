@@ -128,10 +128,11 @@ pub fn e_in_memory(alloc: Global) -> Result<(u8, ToldSink<64>), NoRoom>
 
 /// `md5sum a` wrote `SUMS`, and `a` is the same later: then a check reports `a: OK` and nothing else, with status 0.
 pub fn one_name_is_good()
-    ensures { (files later : ByteString → AnswerValue) (w v : World) → HasFiles w files → HasFiles v later →
-        IsListable files (codes "a") → later (codes "a") ≡ files (codes "a") →
+    ensures { (files later : ByteString → AnswerValue) (w v : World) → HasFiles w files →
+        HasFiles v later → IsListable files (codes "a") → later (codes "a") ≡ files (codes "a") →
         let sums = out_text (meaning Md5sum (codes "a" ∷ []) w) in
-        length sums < limit → answer_to v (codes "SUMS") ≡ Ok (record { bytes = sums; ending = Whole }) →
+        length sums < limit →
+        answer_to v (codes "SUMS") ≡ Ok (record { bytes = sums; ending = Whole }) →
         let run = meaning Md5sum (codes "--check" ∷ codes "--" ∷ codes "SUMS" ∷ []) v in
         (status_of run.good ≡ 0) × (out_text run ≡ codes "a: OK\n") × (err_text run ≡ []) }
 {
@@ -140,12 +141,13 @@ pub fn one_name_is_good()
 
 /// `md5sum --tag a` and `sha256sum --tag b` wrote `SUMS`, one after the other: then `anysum` reports both in its check.
 pub fn two_tools_are_good()
-    ensures { (files later : ByteString → AnswerValue) (w v : World) → HasFiles w files → HasFiles v later →
-        IsListable files (codes "a") → later (codes "a") ≡ files (codes "a") →
+    ensures { (files later : ByteString → AnswerValue) (w v : World) → HasFiles w files →
+        HasFiles v later → IsListable files (codes "a") → later (codes "a") ≡ files (codes "a") →
         IsListable files (codes "b") → later (codes "b") ≡ files (codes "b") →
         let sums = out_text (meaning Md5sum (codes "--tag" ∷ codes "a" ∷ []) w)
         ++ out_text (meaning Sha256sum (codes "--tag" ∷ codes "b" ∷ []) w) in
-        length sums < limit → answer_to v (codes "SUMS") ≡ Ok (record { bytes = sums; ending = Whole }) →
+        length sums < limit →
+        answer_to v (codes "SUMS") ≡ Ok (record { bytes = sums; ending = Whole }) →
         let run = meaning Anysum (codes "--check" ∷ codes "--" ∷ codes "SUMS" ∷ []) v in
         (status_of run.good ≡ 0) × (out_text run ≡ codes "a: OK\nb: OK\n") × (err_text run ≡ []) }
 {

@@ -40,7 +40,8 @@ impl<S: Source> Inputs<S> {
     /// Opens the file of that name in the source.
     pub(crate) fn open(&mut self, name: &[u8]) -> Result<S::File, OpenFault>
         ensures state { self.new ≡ after_opening self.old name.now result }
-        ensures file { IfOk result (λ file. S.File.state file ≡ opened_file S.tells self.old name.now) }
+        ensures file { IfOk result
+            (λ file. S.File.state file ≡ opened_file S.tells self.old name.now) }
     {
         self.source.open_file(name)
     }

@@ -71,8 +71,8 @@ pub fn strict_check(algos: Algos) -> CheckSettings
 
 /// After k steps of a checker that each handled a line, each output has grown by the texts of the first k steps.
 pub fn reports_so_far()
-    ensures { (r : Rules) (labels : LabelsValue) (c : Content) (w : World) (b : CheckState) (s t : StreamsState)
-        (vectors : List ByteString) → TakesSteps r labels (initial_state c w) b s t vectors
+    ensures { (r : Rules) (labels : LabelsValue) (c : Content) (w : World) (b : CheckState)
+        (s t : StreamsState) (vectors : List ByteString) → TakesSteps r labels (initial_state c w) b s t vectors
         → t.outputs.out.written ≡ s.outputs.out.written ++ flat_map (λ step. step.out)
         (take (length vectors) (content_behavior r labels c (all_verdicts r w c)).steps) }
 {
@@ -82,17 +82,19 @@ pub fn reports_so_far()
 
 /// Lines that are added at a manifest's end change no verdict of the lines before them.
 pub fn added_lines_change_nothing()
-    ensures { (r : Rules) (w : World) (before : List ByteString) (line : ByteString) (later : List ByteString)
-        → take (length before + 1) (verdicts r (form r.algo (before ++ line ∷ later)) w 0 (before ++ line ∷ later))
-        ≡ take (length before + 1) (verdicts r (form r.algo (before ++ line ∷ [])) w 0 (before ++ line ∷ [])) }
+    ensures { (r : Rules) (w : World) (before : List ByteString) (line : ByteString)
+        (later : List ByteString) → take (length before + 1)
+        (verdicts r (form r.algo (before ++ line ∷ later)) w 0 (before ++ line ∷ later))
+        ≡ take (length before + 1)
+        (verdicts r (form r.algo (before ++ line ∷ [])) w 0 (before ++ line ∷ [])) }
 {
     same_front();
 }
 
 /// A manifest of the time of older versions that was good stays good.
 pub fn old_manifest_stays_good()
-    ensures good { (r : Rules) (labels : LabelsValue) (w : World) (c : Content) → IsOldManifest r labels c
-        → let old = rules_under older_profile r in let new = rules_under own_profile r in
+    ensures good { (r : Rules) (labels : LabelsValue) (w : World) (c : Content)
+        → IsOldManifest r labels c → let old = rules_under older_profile r in let new = rules_under own_profile r in
         (content_behavior old labels c (all_verdicts old w c)).good ≡ true
         → (content_behavior new labels c (all_verdicts new w c)).good ≡ true }
     // To older versions a line that ends with a carriage return was another one.

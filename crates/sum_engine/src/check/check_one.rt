@@ -39,7 +39,8 @@ pub fn check_one<A: Allocator + Copy, S: Source, O: Sink, E: Sink>(
     ensures reads { ReadsToEndIf (result ≡ Ok true) streams.old.inputs streams.new.inputs }
     // After a stop: at most 8,192 bytes of the manifest were read past the line of the step at which it came.
     ensures ahead { IfErr result (λ stop.
-        StopsAtLine stop (λ w. check_behavior settings tool.now w name.now) name.now streams.old streams.new) }
+        StopsAtLine stop (λ w. check_behavior settings tool.now w name.now) name.now streams.old
+        streams.new) }
     // A stop has its cause: at most one more refusal of the source, or one more failure of one output.
     ensures refusals { RefusalsMatch none_or_one streams.old.inputs streams.new.inputs result }
     ensures failures { FailuresMatch streams.old.outputs streams.new.outputs result }

@@ -37,7 +37,8 @@ impl<I: Input, S: Source> WithStdin<I, S> {
         ensures stdin { stdin_in result ≡ stdin }
         ensures source { source_in result ≡ source }
         ensures state { both_state result ≡ record (state_without_dash (S.state source)) {
-          told = pairs_with_stdin (closable_state I.state (given_input stdin)).told (S.state source).told;
+          told = pairs_with_stdin (closable_state I.state (given_input stdin)).told
+          (S.state source).told;
         } }
     {
         let first = Log::of(&stdin);
