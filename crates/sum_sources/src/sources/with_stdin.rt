@@ -38,7 +38,7 @@ impl<I: Input, S: Source> WithStdin<I, S> {
         ensures source { source_in result ≡ source }
         ensures state { both_state result ≡ record (state_without_dash (S.state source)) {
           told = pairs_with_stdin (closable_state I.state (given_input stdin)).told
-          (S.state source).told;
+              (S.state source).told;
         } }
     {
         let first = Log::of(&stdin);
