@@ -58,7 +58,7 @@ def goal_of(name, whole, labels):
             (r"invariant_of-(\w+)", "the invariant of `{}`"), (r"(invariant)", "the {} of its type")):
         if found := re.match(pattern, name):
             return says.format(found[1])
-    return "its proof"
+    return "the invariant of its type" if not whole and "invariant".startswith(name) else "its proof"
 
 
 def rows(said):
