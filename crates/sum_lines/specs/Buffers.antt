@@ -12,7 +12,7 @@ pub record BufferState : Type 0 where
 abbrev pub IsFlushed : BufferState → Type 0
 IsFlushed b = (b.buffered ≡ []) × (b.sink.flushed ≡ true)
 
--- a text was accepted: of the buffered bytes and it, all but the last piece, which is buffered, was given in full pieces
+-- a text was accepted: of the buffered bytes and it, all but a last piece, which is buffered, was given in full pieces
 pub record Accepts (a b : BufferState) (text : ByteString) : Type 0 where
   pub given : ByteString
   pub full : length given % CAPACITY ≡ 0
