@@ -1,5 +1,5 @@
 //! The streams of a call.
-ghost use Rattle.std.specs.Prelude.{◌≡◌, true, []};
+ghost use Rattle.std.specs.Prelude.{◌≡◌, IsTrue, []};
 ghost use Rattle.sum_engine.specs.refinement.Writes.{WritesAndReturns};
 
 use crate::inputs::Inputs;
@@ -59,8 +59,8 @@ impl<S: Source, O: Sink, E: Sink> Streams<Inputs<S>, Outputs<O, E>> {
     /// Creates the streams of these parts. The outputs are over sinks that are flushed, as each is before its first
     /// call.
     pub fn new(source: S, out: O, err: E) -> Self
-        requires out { (O.state out).flushed ≡ true }
-        requires err { (E.state err).flushed ≡ true }
+        requires out { IsTrue (O.state out).flushed }
+        requires err { IsTrue (E.state err).flushed }
         ensures inputs { result.inputs ≡ S.state source }
         ensures outputs { result.outputs ≡ record {
           out = (O.state out).output;

@@ -1,6 +1,7 @@
 //! Checking a manifest, a line at a time.
 ghost use Rattle.digest_kinds.specs.Bytes.{LIMIT};
-ghost use Rattle.std.specs.Prelude.{◌≡◌, ◌≤◌, None, true, Ok, IfOk, IfSome};
+ghost use Rattle.std.specs.{Option.ForSome, Result.ForOk};
+ghost use Rattle.std.specs.Prelude.{◌≡◌, ◌≤◌, None, Ok, IsTrue};
 ghost use Rattle.sum_engine.specs.check.Checker.{ReportsFound};
 ghost use Rattle.sum_engine.specs.check.Rules.{rules_of};
 ghost use Rattle.sum_engine.specs.check.Verdicts.{HasNameRange, is_whole};
@@ -148,8 +149,8 @@ fn report_found<I: Input, O: Sink, E: Sink>(
     found: Result<Option<LineVerdict>, LineStop>,
     outputs: &mut Outputs<O, E>,
 ) -> Result<Progress, Stop>
-    requires name_range { IfOk found (λ found. IfSome found (λ v. HasNameRange line.now v)) }
-    requires whole { found ≡ Ok None → is_whole verdicts.now.outcome ≡ true }
+    requires name_range { ForOk found (λ found. ForSome found (λ v. HasNameRange line.now v)) }
+    requires whole { found ≡ Ok None → IsTrue (is_whole verdicts.now.outcome) }
     ensures { ReportsFound verdicts.now labels.now line.now found outputs.old outputs.new result }
 {
     let rules = verdicts.rules();

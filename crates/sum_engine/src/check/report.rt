@@ -28,7 +28,6 @@ pub(crate) fn put_report<O: Sink, E: Sink>(
     verdict: Verdict,
     name: &[u8],
 ) -> Result<Progress, Stop>
-    requires { rules.profile ≡ own_profile }
     ensures { WritesAndReturns outputs.old outputs.new
         (err_by rules labels.now number verdict name.now)
         (out_by own_profile labels.now.report verdict name.now) Going result }
@@ -84,7 +83,6 @@ fn put_err<E: Sink>(
     verdict: Verdict,
     name: &[u8],
 ) -> Result<(), SinkFault>
-    requires { rules.profile ≡ own_profile }
     ensures { GivesAll err.old err.new
         (err_by rules labels.now number verdict name.now) result }
 {

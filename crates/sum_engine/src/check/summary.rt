@@ -4,7 +4,6 @@ ghost use Rattle.sum_engine.specs.check.CheckStates.{counts_with, total};
 ghost use Rattle.sum_engine.specs.check.Reports.{warning, warnings, unverified_line, end_text, good, entries};
 ghost use Rattle.sum_engine.specs.refinement.Writes.{WritesAndReturns};
 ghost use Rattle.sum_lines.specs.Buffers.{WritesAll};
-ghost use Rattle.sum_lines.specs.Escape.{own_profile};
 ghost use Rattle.sum_sources.specs.declared.fault.Ending.TheVariants.{Whole};
 
 use crate::check::judge::Verdict;
@@ -79,8 +78,7 @@ pub(crate) fn put_summary<O: Sink, E: Sink>(
     counts: Counts,
     ended: Progress,
 ) -> Result<Progress, Stop>
-    requires few { total counts < 2 ^ 63 }
-    requires profile { rules.profile ≡ own_profile }
+    requires { total counts < 2 ^ 63 }
     ensures { WritesAndReturns outputs.old outputs.new
         (end_text rules labels.now Whole counts) [] ended result }
 {

@@ -30,7 +30,6 @@ impl<I> Model for Verdicts<I> {
     ghost use Rattle.std.specs.Prelude.{◌≡◌, ◌≤◌};
     ghost use Rattle.sum_engine.specs.check.CheckStates.{total};
     ghost use Rattle.sum_engine.specs.check.Verdicts.{VerdictsValue};
-    ghost use Rattle.sum_lines.specs.Escape.{own_profile};
 
     ghost Value = { VerdictsValue I };
 
@@ -42,14 +41,13 @@ impl<I> Model for Verdicts<I> {
       outcome = v.outcome;
     } };
 
-    ghost invariant = { λ v. (total v.counts ≤ v.reader.lines) × (v.reader.lines ≤ LIMIT)
-        × (v.rules.profile ≡ own_profile) };
+    ghost invariant = { λ v. (total v.counts ≤ v.reader.lines) × (v.reader.lines ≤ LIMIT) };
 }
 
 impl<I: Input> Verdicts<I> {
     ghost use Rattle.sum_engine.specs.Behavior.{World};
     ghost use Rattle.sum_engine.specs.Execution.{Agrees, world_at, AsksNames, ReadsToEndIf};
-    ghost use Rattle.sum_engine.specs.check.Judge.{asks_of, line_verdict, own_profile};
+    ghost use Rattle.sum_engine.specs.check.Judge.{asks_of, line_verdict};
     ghost use Rattle.sum_engine.specs.check.Reports.{good};
     ghost use Rattle.sum_engine.specs.check.Verdicts.{AdvancesVerdicts, HasNameRange, HoldsInEachCheck, IsAtStart, IsNextVerdict, IsNotUnread, KeepsOutcome, is_whole, line_verdict_value, outcome_in_next};
     ghost use Rattle.sum_engine.specs.refinement.Judging.{TakesLine, found_verdict, parsed_at};
@@ -100,8 +98,7 @@ impl<I: Input> Verdicts<I> {
 
     /// The rules by which its lines are judged.
     pub(crate) fn rules(&self) -> CheckRules
-        ensures value { result ≡ self.now.rules }
-        ensures profile { result.profile ≡ own_profile }
+        ensures { result ≡ self.now.rules }
     {
         self.rules
     }
@@ -163,9 +160,10 @@ impl<I: Input> Verdicts<I> {
         }
         match self.judge_line(line, inputs) {
             Ok(found) => Ok(Some(found)),
-            Err(_) => {
-                self.outcome = Some(Err(LineStop::Memory));
-                Err(LineStop::Memory)
+            Err(no_room) => {
+                let stop = LineStop::from(no_room);
+                self.outcome = Some(Err(stop));
+                Err(stop)
             }
         }
     }

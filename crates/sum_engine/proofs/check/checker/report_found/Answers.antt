@@ -1,6 +1,6 @@
 use Rattle.std.proofs.Common.{rules, ◌≡◌, ℕ, List, [], None, Some, Ok, Err, refl}
 use Rattle.sum_lines.proofs.EventLemmas.{Gets-none}
-use Rattle.sum_lines.specs.Escape.{Profile}
+use Rattle.sum_lines.specs.Escape.{Profile, own_profile}
 use Rattle.sum_engine.specs.{check.Judge.Ignored, check.Reports.Report, check.Reports.out_by}
 use Rattle.sum_engine.specs.declared.settings.Report.TheVariants.{Quiet, Status}
 use Rattle.sum_sources.specs.declared.line_reader.LineStop.TheVariants.{Fault}
@@ -10,7 +10,8 @@ use Rattle.sum_engine.proofs.check.checker.report_found.Goals as goal
 pub returns-in-Err-Fault : goal.returns-in-Err-Fault
 returns-in-Err-Fault g c =
     let is : c.args.found ≡ Err (Fault c.in-Err-Fault.fault) = search rules in
-    rw (is, ← c.rules-rules.ensures.value, c.rules-rules.ensures.profile, ← c.labels.view_is)
+    let own : c.rules-rules.result.profile ≡ own_profile = search rules in
+    rw (is, ← c.rules-rules.ensures, own, ← c.labels.view_is)
     c.write_err.ensures
 
 -- no line was left
@@ -18,14 +19,15 @@ pub returns-in-Ok-None : goal.returns-in-Ok-None
 returns-in-Ok-None g c =
     let is : c.args.found ≡ Ok None = search rules in
     let whole = c.requires.whole is in
-    rw is (rw (c.rules-rules.ensures.value, c.counts.ensures.value, c.is_good.ensures, whole) at c.put_summary.ensures)
+    rw is (rw (c.rules-rules.ensures, c.counts.ensures.value, c.is_good.ensures, whole) at c.put_summary.ensures)
 
 -- a line was judged
 pub returns-in_default : goal.returns-in_default
 returns-in_default g c =
     let is : c.args.found ≡ Ok (Some c.in-Ok-Some.found) = search rules in
-    let profile = rw c.rules-rules.ensures.value at c.rules-rules.ensures.profile in
-    rw is (rw (c.rules-rules.ensures.value, c.name-name.ensures, ← profile) at c.put_report.ensures)
+    let own : c.rules-rules.result.profile ≡ own_profile = search rules in
+    let profile = rw c.rules-rules.ensures at own in
+    rw is (rw (c.rules-rules.ensures, c.name-name.ensures, ← profile) at c.put_report.ensures)
 
 -- an ignored line has no text on standard output
 none_out : (p : Profile) (report : Report) (name : List ℕ) → out_by p report Ignored name ≡ []

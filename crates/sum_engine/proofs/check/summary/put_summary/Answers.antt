@@ -1,4 +1,5 @@
-use Rattle.std.proofs.Common.{◌≡◌, ◌==◌, refl, ◌∙◌}
+use Rattle.std.proofs.Common.{rules, ◌≡◌, ◌==◌, refl, ◌∙◌}
+use Rattle.sum_lines.specs.Escape.{own_profile}
 use Rattle.sum_sources.specs.declared.fault.Ending.TheVariants.{Whole}
 use Rattle.sum_engine.specs.check.Rules.{LabelsValue, Rules}
 use Rattle.sum_engine.specs.check.Reports.{Counts, Report, entries, warnings, text_unless_status, end_text}
@@ -27,5 +28,6 @@ returns-in_default g c =
 -- there are no entries
 pub returns-then-entries-eq0 : goal.returns-then-entries-eq0
 returns-then-entries-eq0 g c =
-    rw (c.requires.profile, ← c.labels.view_is, ← c.entries.ensures, c.if-entries-eq0.true)
+    let own : c.args.rules.profile ≡ own_profile = search rules in
+    rw (own, ← c.labels.view_is, ← c.entries.ensures, c.if-entries-eq0.true)
     (rw c.tool_line-line.ensures at c.write_err.ensures)

@@ -15,9 +15,10 @@ returns-in-Ok-clause-verdict g c =
     let advances = rw c.in-Ok-Line.field-0-is at read.reader in
     let reads = rw c.in-Ok-Line.field-0-is at read.line in
     let done = c.in-Ok.ensures in
+    let own : c.self.inside.rules.profile ≡ own_profile = search rules in
     rw (← c.self.view_is) (λ going. next_verdict-line c.next_line.new.self c.next_line.new.line.items
     c.judge_line.new.self (Ok c.in-Ok.found)
-    (search (rules, advances, reads, read.bounds, c.self.invariant, done)))
+    (search (rules, advances, reads, read.bounds, own, done)))
 
 -- the line is ignored
 pub returns-then-is_ignored-clause-verdict : goal.returns-then-is_ignored-clause-verdict
@@ -31,12 +32,13 @@ returns-then-is_ignored-clause-verdict g c =
     elim c.self.inside.form as (λ f. form_then f Undecided ≡ f)
     [ Undecided ↦ refl | Standard ↦ refl | Reversed ↦ refl ] in
     let count = c.count_verdict.ensures in
+    let own : c.self.inside.rules.profile ≡ own_profile = search rules in
     rw (← c.self.view_is) (λ going. next_verdict-line c.next_line.new.self line c.count_verdict.new.self
     (Ok c.count_verdict.result) (record {
       advances = rw c.in-Ok-Line.field-0-is at read.reader;
       bounds = read.bounds;
       reads = rw c.in-Ok-Line.field-0-is at read.line;
-      profile = c.self.invariant.2;
+      profile = own;
       takes = record {
         now = rw (undecided, same, count.is) count.counts;
         name_range = rw count.is (search (rules, arith));
@@ -44,7 +46,7 @@ returns-then-is_ignored-clause-verdict g c =
       };
       kept = refl;
       asked = rw count.is (asks_none _);
-      verdict = λ w agrees. rw (count.is, c.self.invariant.2, ignored) refl;
+      verdict = λ w agrees. rw (count.is, own, ignored) refl;
     }))
 
 -- there was no memory to open the file of the line's entry
@@ -54,15 +56,17 @@ returns-in-Err-judge_line-clause-verdict g c =
     let advances = rw c.in-Ok-Line.field-0-is at read.reader in
     let reads = rw c.in-Ok-Line.field-0-is at read.line in
     let done = c.in-Err-judge_line.ensures in
-    rw (← c.self.view_is) (λ going. next_verdict-line {vector = c.judge_line.new.line.items}
+    let own : c.self.inside.rules.profile ≡ own_profile = search rules in
+    rw (← c.self.view_is, c.from-stop.ensures) (λ going. next_verdict-line {vector = c.judge_line.new.line.items}
     c.next_line.new.self c.next_line.new.line.items c.judge_line.new.self (Err _)
-    (search (rules, advances, reads, read.bounds, c.self.invariant, done, c.self-2.view_is)))
+    (search (rules, advances, reads, read.bounds, c.self.invariant, own, done, c.self-2.view_is)))
 
 -- the reader stopped
 pub returns-in-Err-clause-verdict : goal.returns-in-Err-clause-verdict
 returns-in-Err-clause-verdict g c =
     let read = c.in-Err.ensures in
     let line = c.next_line.new.line.items in
+    let own : c.self.inside.rules.profile ≡ own_profile = search rules in
     let rules = ap (λ (p : VerdictsValue _). p.rules) (sym c.self.view_is) in
     rw (← c.self.view_is) (λ going. next_verdict-stop line _ rules c.next_line.new.self c.in-Err.stop line
-    read.line read.reader.final_answer read.bounds c.self.invariant.2 refl)
+    read.line read.reader.final_answer read.bounds own refl)
