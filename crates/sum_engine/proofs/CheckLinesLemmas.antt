@@ -1,19 +1,18 @@
 -- `check_lines`: a new checker runs to its end. What happened so far and what remains is the whole behavior
 -- (`HasComeTo`). A step that goes on keeps this. The step that ends or stops proves the contract by it.
-use Rattle.std.proofs.Common.{rules, ◌^◌, ◌-◌, ◌+◌, ◌<◌, ◌≤◌, ◌≡◌, ℕ, length, drop, length-drop, Bool, List, [], ◌∷◌, ◌++◌, Result, Ok, Err, Some, None, true, refl, ap, ◌∙◌, subst, arith, append-nil}
+use Rattle.std.proofs.Common.{rules, ◌^◌, ◌-◌, ◌+◌, ◌<◌, ◌≤◌, ◌≡◌, ℕ, length, drop, length-drop, Bool, List, [], ◌∷◌, ◌++◌, Result, Ok, Err, None, true, refl, ap, ◌∙◌, subst, arith, append-nil}
 use Rattle.std.specs.Prelude.{IfErr}
-use Rattle.sum_sources.specs.{Contents.IsSameInput, Contents.Fits, Contents.reads_past, LineReaders.remaining_content, LineReaders.IsReading}
+use Rattle.sum_sources.specs.{Contents.IsSameInput, Contents.Fits, Contents.reads_past, LineReaders.remaining_content}
 use Rattle.sum_engine.specs.Behavior.{World, Reads, Step, Behavior, Content, InputState, clip}
 use Rattle.sum_engine.specs.{check.Rules.Rules, check.Rules.LabelsValue, check.Judge.all_verdicts, check.Checking.content_behavior}
 use Rattle.sum_engine.specs.check.CheckStates.{CheckState, initial_state, remaining_behavior}
-use Rattle.sum_engine.specs.check.Verdicts.{IsAtStart, VerdictsValue, state_at, HoldsInEachCheck, VerdictResult, LineVerdict, counts_after, IsNotUnread, AsksFor}
-use Rattle.sum_engine.specs.check.Checker.{ReportsFound, Progress, Going, Ended, IsStep, TakesStep, step_then, progress_before, CheckerValue, AdvancesChecker, end_result}
-use Rattle.sum_sources.specs.declared.{inputs.phase.Phase.TheVariants.Unfinished, line_reader.LineStop.TheVariants.Fault, line_reader.LineStop.TheVariants.Memory}
+use Rattle.sum_engine.specs.check.Verdicts.{IsAtStart, VerdictsValue, state_at, HoldsInEachCheck}
+use Rattle.sum_engine.specs.check.Checker.{Progress, Going, Ended, IsStep, TakesStep, step_then, progress_before, CheckerValue, end_result}
+use Rattle.sum_sources.specs.declared.inputs.phase.Phase.TheVariants.{Unfinished}
 use Rattle.sum_engine.specs.{check.CheckerLaws.RunsManifest, check.ReadAhead.StopsAtStep}
 use Rattle.sum_engine.specs.declared.stop.Stop.TheVariants as stops
-use Rattle.sum_engine.specs.Execution.{Stop, Write, OutputsState, StreamsState, Agrees, ReadsToEndIf, world_at, PerformsSteps, StopHasCause, none_or_one}
-use Rattle.sum_engine.specs.refinement.Writes.{WritesAndReturns}
-use Rattle.sum_engine.proofs.{ReadAheadLemmas.read_fits_clip, ReadAheadLemmas.stops_at_step, ExecutionLemmas.one_at_most, ExecutionLemmas.Happened-none}
+use Rattle.sum_engine.specs.Execution.{Stop, Write, StreamsState, Agrees, ReadsToEndIf, world_at, PerformsSteps, StopHasCause, none_or_one}
+use Rattle.sum_engine.proofs.{ReadAheadLemmas.read_fits_clip, ReadAheadLemmas.stops_at_step, ExecutionLemmas.Happened-none}
 use Rattle.sum_engine.proofs.{WorldLemmas.agrees_before, WorldLemmas.reads_none, WorldLemmas.reads_then, BehaviorLemmas.HasDoneUpTo, BehaviorLemmas.done_more, BehaviorLemmas.done_stops}
 
 -- ---- before the first step
@@ -49,40 +48,6 @@ done_last c step later (Ok good) h is k =
 done_last {whole} c step later (Err stop) h is k =
     done_stops c whole.good (progress_before later.steps later.good) step later stop h is k
 
--- a step returns that all is good only at the end, and only if each listed file could be read
-good_found : {I : Type 0} (q : VerdictsValue I) (labels : LabelsValue) (vector : List ℕ) (found : VerdictResult)
-    (a b : OutputsState) → ReportsFound q labels vector found a b (Ok (Ended true))
-    → (found ≡ Ok None) × (q.counts.unread ≡ 0)
-good_found q labels vector (Ok None) a b h = let p = h.writes.0 in search rules
-good_found q labels vector (Err Memory) a b h = let p = h.0 in cc
-good_found q labels vector found a b h = let p = h.writes.0 in cc
-
--- a step goes on only after a line
-going_found : {I : Type 0} (q : VerdictsValue I) (labels : LabelsValue) (vector : List ℕ) (found : VerdictResult)
-    (a b : OutputsState) → ReportsFound q labels vector found a b (Ok Going)
-    → (v : LineVerdict) × (found ≡ Ok (Some v))
-going_found q labels vector (Ok (Some v)) a b h = (v, refl)
-going_found q labels vector (Err Memory) a b h = let p = h.0 in cc
-going_found q labels vector found a b h = let p = h.writes.0 in cc
-
--- a text was written, or a prefix of it, and no memory was refused
-wrote_cause : {A : Type 0} {a b : StreamsState} {err out : List ℕ} {y : A} (x : Result A Stop) {allowed : List ℕ}
-    → b.inputs.refusals ≡ a.inputs.refusals → WritesAndReturns a.outputs b.outputs err out y x
-    → StopHasCause allowed a b x
-wrote_cause (Ok z) same h = record { refusals = same; failures = h.failures }
-wrote_cause (Err Write) same h = record { refusals = same; failures = h.failures }
-wrote_cause (Err stops.Memory) same h = absurd h.writes
-
--- a step stops only if memory was refused, at most once, or bytes remained, or one output failed
-cause_found : {I : Type 0} (q : VerdictsValue I) (labels : LabelsValue) (vector : List ℕ) (found : VerdictResult)
-    (a b : StreamsState) {x : Result Progress Stop} → AsksFor vector q.reader.ahead a.inputs b.inputs found
-    → ReportsFound q labels vector found a.outputs b.outputs x → StopHasCause none_or_one a b x
-cause_found q labels vector (Err Memory) a b asked h = rw h.0
-    (record { refusals = one_at_most a.inputs b.inputs asked; failures = rw h.1 refl })
-cause_found q labels vector (Err (Fault f)) a b asked h = wrote_cause _ asked.refusals h
-cause_found q labels vector (Ok (Some v)) a b asked h = wrote_cause _ asked.refusals h
-cause_found q labels vector (Ok None) a b asked h = wrote_cause _ asked.refusals h
-
 -- the cause of a stop of a step that ends or stops, after steps that went on
 cause_ends : {a b c : StreamsState} (x : Result Bool Stop) → StopHasCause {A = Bool} none_or_one a b (Ok true)
     → StopHasCause none_or_one b c (end_result x) → StopHasCause none_or_one a c x
@@ -90,23 +55,17 @@ cause_ends (Ok good) h k = search rules
 cause_ends (Err Write) h k = search rules
 cause_ends (Err stops.Memory) h k = search rules
 
-module _ {I : Type 0} {state : I → InputState} {vector : List ℕ} {p q : CheckerValue I} {a b : StreamsState} where
-  step_cause : {x : Result Progress Stop} → AdvancesChecker state vector p q a b x
-      → StopHasCause none_or_one a b x
-  step_cause h = cause_found q.verdicts p.labels vector h.found a b h.verdict.asked h.reports
+-- each line is counted, and there are fewer than the limit
+pub fewer_lines : {I : Type 0} {state : I → InputState} {vector : List ℕ} {p q : CheckerValue I}
+    {a b : StreamsState} → TakesStep state vector p q a b (Ok Going)
+    → 2 ^ 61 - q.verdicts.reader.lines < 2 ^ 61 - p.verdicts.reader.lines
+fewer_lines h = omega (arith, h.lines refl, h.bounds)
 
-  -- each line is counted, and there are fewer than the limit
-  pub fewer_lines : AdvancesChecker state vector p q a b (Ok Going)
-      → 2 ^ 61 - q.verdicts.reader.lines < 2 ^ 61 - p.verdicts.reader.lines
-  fewer_lines h =
-      let (v, found) = going_found q.verdicts p.labels vector h.found a.outputs b.outputs h.reports in
-      let one = h.verdict.number v found in
-      omega (arith, one, h.verdict.bounds)
-
--- if no file is counted as unread, none was before, and this line's file isn't unread
-pub none_unread : {I : Type 0} (p q : VerdictsValue I) (found : VerdictResult) → q.counts ≡ counts_after p.counts found
-    → q.counts.unread ≡ 0 → (p.counts.unread ≡ 0) × IsNotUnread found
-none_unread p q found counted none = search (rules, arith)
+-- if no file is counted as unread after a step, none was before
+none_unread : {I : Type 0} {state : I → InputState} {vector : List ℕ} {p q : CheckerValue I} {a b : StreamsState}
+    {x : Result Progress Stop} → TakesStep state vector p q a b x → q.verdicts.counts.unread ≡ 0
+    → (p.verdicts.counts.unread ≡ 0) × (q.verdicts.counts.unread ≡ p.verdicts.counts.unread)
+none_unread h none = search (arith, h.unread, none)
 
 -- ---- from the first step on
 
@@ -135,7 +94,6 @@ module _ {I : Type 0} (state : I → InputState) (first : CheckerValue I) (m : S
     pub rules : q.verdicts.rules ≡ first.verdicts.rules
     pub labels : q.labels ≡ first.labels
     pub going : q.outcome ≡ None
-    pub reading : IsReading state first.verdicts.reader → IsReading state q.verdicts.reader
     pub happened : HoldsUpTo q.verdicts n (λ a b. ComesTo a b n)
     pub so_far : StopHasCause {A = Bool} none_or_one m n (Ok true)
     pub reads : ReadsToEndIf (q.verdicts.counts.unread ≡ 0) m.inputs n.inputs
@@ -147,40 +105,43 @@ module _ {I : Type 0} (state : I → InputState) (first : CheckerValue I) (m : S
   pub HasComeTo-none : first.outcome ≡ None → HasComeTo first m
   HasComeTo-none none =
       let happened : HoldsUpTo first.verdicts m (λ a b. ComesTo a b m) =
-      record { holds = λ reading c of w agrees. search (rules, Happened-none) } in
+      record {
+        reading = λ reading. reading;
+        before = λ reading c of. of;
+        holds = λ reading c of w agrees. search (rules, Happened-none);
+      } in
       search (rules, reads_none, happened)
 
   -- after one more step, which returned x, P holds if it follows from what happened before and from the step
   one_more_step : {q : CheckerValue I} {n : StreamsState} (next : CheckerValue I) (o : StreamsState) (vector : List ℕ)
       (x : Result Progress Stop) {P : CheckState → CheckState → Type 0} → HasComeTo q n
-      → AdvancesChecker state vector q next n o x → TakesStep state vector q.labels q.verdicts next.verdicts n o x
+      → TakesStep state vector q next n o x
       → ((a b d : CheckState) → ComesTo a b n
       → IsStep first.verdicts.rules first.labels vector b d n o x → P a d)
       → HoldsUpTo next.verdicts o P
-  one_more_step {q = q} {n = n} next o vector x h advances step follows = record {
+  one_more_step {q = q} {n = n} next o vector x h step follows = record {
+    reading = λ reading. step.step.reading (h.happened.reading reading);
+    before = λ reading c of. h.happened.before reading c (step.step.before (h.happened.reading reading) c of);
     holds = λ reading c of w agrees.
-        let here = h.reading reading in
-        follows _ _ _ (h.happened.holds reading c (advances.verdict.before here c of) w
-        (agrees_before agrees advances.verdict.reads))
-        (rw (h.rules, h.labels) at (step.holds here c of w agrees));
+        let here = h.happened.reading reading in
+        follows _ _ _ (h.happened.holds reading c (step.step.before here c of) w
+        (agrees_before agrees step.reads))
+        (rw (h.rules, h.labels) at (step.step.holds here c of w agrees));
   }
 
   -- after a step that goes on, the checker has come one line further
   pub HasComeTo-more : (q next : CheckerValue I) (n o : StreamsState) (vector : List ℕ) → HasComeTo q n
-      → AdvancesChecker state vector q next n o (Ok Going) → next.outcome ≡ None
-      → TakesStep state vector q.labels q.verdicts next.verdicts n o (Ok Going) → HasComeTo next o
-  HasComeTo-more q next n o vector h advances going step =
-      let cause = step_cause advances in
+      → next.outcome ≡ None → TakesStep state vector q next n o (Ok Going) → HasComeTo next o
+  HasComeTo-more q next n o vector h going step =
       let happened : HoldsUpTo next.verdicts o (λ a d. ComesTo a d o) =
-      one_more_step next o vector (Ok Going) h advances step (λ a b d along step. record {
+      one_more_step next o vector (Ok Going) h step (λ a b d along step. record {
         done = subst (λ later. HasDoneUpTo (left a) later m o)
             (step.going refl).0 (done_more step.step step.later along.done step.is step.performs.1);
         consumed = (step.going refl).1.consumed ∙ along.consumed;
       }) in
       let reads : ReadsToEndIf (next.verdicts.counts.unread ≡ 0) m.inputs o.inputs =
-      reads_then (none_unread q.verdicts next.verdicts advances.found advances.verdict.counts) h.reads
-      advances.verdict.reads in
-      search (rules, arith, happened, reads, cause)
+      reads_then (none_unread step) h.reads step.reads in
+      search (rules, arith, happened, reads, step)
 
   -- the check of this content, whose behavior is `all`, ended or stopped with x once the input had given so many bytes
   pub record EndsAs (x : Result Bool Stop) (taken : ℕ) (o : StreamsState) (all : Behavior) (c : Content) : Type 0 where
@@ -190,8 +151,7 @@ module _ {I : Type 0} (state : I → InputState) (first : CheckerValue I) (m : S
   -- a step that ends or stops
   module _ (q last : CheckerValue I) (n o : StreamsState) (vector : List ℕ) (x : Result Bool Stop)
       (start : IsAtStart state first.verdicts first.verdicts.reader.input) (h : HasComeTo q n)
-      (advances : AdvancesChecker state vector q last n o (end_result x))
-      (step : TakesStep state vector q.labels q.verdicts last.verdicts n o (end_result x))
+      (step : TakesStep state vector q last n o (end_result x))
     where
       abbrev was : Reads
       was = (state first.verdicts.reader.input).reads
@@ -207,7 +167,7 @@ module _ {I : Type 0} (state : I → InputState) (first : CheckerValue I) (m : S
       none = rw start.reader refl
 
       size : length (drop (length was.bytes) now.bytes) ≡ taken
-      size = length-drop (length was.bytes) now.bytes ∙ omega (arith, none, h.taken, advances.verdict.reader.taken)
+      size = length-drop (length was.bytes) now.bytes ∙ omega (arith, none, h.taken, step.taken)
 
       -- the check ended or stopped as it does from the first line on
       from_start : was.phase ≡ Unfinished → (c : Content) → Fits (reads_past (length was.bytes) now) c
@@ -216,9 +176,9 @@ module _ {I : Type 0} (state : I → InputState) (first : CheckerValue I) (m : S
           (clip c)
       from_start going c of w agrees =
           let before : length was.bytes ≡ length now.bytes - taken =
-          omega (arith, none, h.taken, advances.verdict.reader.taken) in
+          omega (arith, none, h.taken, step.taken) in
           let ended : HoldsUpTo last.verdicts o (λ a d. a.consumed ≡ 0 → EndsAs x d.taken o (left a) a.remaining) =
-          one_more_step last o vector (end_result x) h advances step (λ a b d along step none. record {
+          one_more_step last o vector (end_result x) h step (λ a b d along step none. record {
             performs = done_last o step.step step.later x along.done step.is step.performs;
             stopped = stops_at_step o a b d x along.done (omega (arith, along.consumed, none)) step;
           }) in
@@ -236,20 +196,17 @@ module _ {I : Type 0} (state : I → InputState) (first : CheckerValue I) (m : S
           (state last.verdicts.reader.input) m o x
       HasComeTo-last =
           let reading = λ (going : was.phase ≡ Unfinished).
-          advances.verdict.reading (h.reading (start.reading going)) in
-          let good_at = λ (good : x ≡ Ok true).
-          good_found last.verdicts q.labels vector advances.found n.outputs o.outputs
-          (rw good at advances.reports) in
+          step.step.reading (h.happened.reading (start.reading going)) in
+          let good_at = λ (good : x ≡ Ok true). (rw good at step).good refl in
           record {
             behavior = λ going c of w agrees. (from_start going c of w agrees).performs;
             stopped = λ going c of w agrees.
                 let past = (reading going).past in
-                let fits = read_fits_clip now.phase _ c past of (rw size advances.verdict.bounds.taken) in
+                let fits = read_fits_clip now.phase _ c past of (rw size step.bounds.taken) in
                 rw size ((from_start going c of w agrees).stopped (rw size at fits));
             manifest = λ going.
-                ((reading going).past, λ good. (reading going).end (advances.verdict.end (good_at good).0));
+                ((reading going).past, λ good. (reading going).end (good_at good).0);
             same = search rules;
-            cause = cause_ends x h.so_far (step_cause advances);
-            reads = reads_then (λ good. none_unread q.verdicts last.verdicts advances.found advances.verdict.counts
-                (good_at good).1) h.reads advances.verdict.reads;
+            cause = cause_ends x h.so_far step.cause;
+            reads = reads_then (λ good. none_unread step (good_at good).1) h.reads step.reads;
           }

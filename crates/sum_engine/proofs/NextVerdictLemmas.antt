@@ -55,6 +55,8 @@ module _ {I : Type 0} {state : I → InputState} {p q : VerdictsValue I} {a b : 
     pub next_verdict-line : (x : Result LineVerdict NoRoom) → JudgesLine state p q a b vector x reader line judged
         → HoldsInEachCheck state p q a b (λ c d. IsNextVerdict p.rules vector c d (found_verdict x))
     next_verdict-line (Ok found) h = rw (is_after h) (record {
+      reading = λ reading. (h.reads reading).reading;
+      before = λ reading. (h.reads reading).before;
       holds = λ reading c of w agrees.
           let reads = h.reads reading in
           let next = reads.line c of in
@@ -74,6 +76,8 @@ module _ {I : Type 0} {state : I → InputState} {p q : VerdictsValue I} {a b : 
           (search (rules, remaining_next p.rules first last vector handled, f, world), handled);
     })
     next_verdict-line (Err e) h = rw (is_after h) (record {
+      reading = λ reading. (h.reads reading).reading;
+      before = λ reading. (h.reads reading).before;
       holds = λ reading c of w agrees.
           let reads = h.reads reading in
           let next = reads.line c of in
@@ -104,11 +108,15 @@ pub next_verdict-stop : {I : Type 0} {state : I → InputState} {p q : VerdictsV
     → q ≡ record p { reader = reader; outcome = Some (Err stop) }
     → HoldsInEachCheck state p q a a (λ c d. IsNextVerdict r vector c d (Err stop))
 next_verdict-stop {p = p} vector r rules reader (Fault f) bytes reads final bounds profile is = rw (is, rules) (record {
+  reading = λ reading. (reads reading).reading;
+  before = λ reading. (reads reading).before;
   holds = λ reading c of w agrees.
       let next = (reads reading).line c of in
       search (lines_now p.rules (remaining_content p.reader c) profile, next);
 })
 next_verdict-stop {p = p} vector r rules reader Memory bytes reads final bounds profile is = rw is (record {
+  reading = λ reading. (reads reading).reading;
+  before = λ reading. (reads reading).before;
   holds = λ reading c of w agrees.
       let read = reads reading in
       (refl, (read.line c of).0, reads_one_line p.reader reader bytes read final bounds c of);

@@ -1,13 +1,14 @@
 -- One step of a checker, `Checker::step`: the next verdict was found, and its text was written.
-use Rattle.std.proofs.Common.{◌≡◌, ℕ, Bool, false, List, [], length, None, Some, Result, Ok, Err, inl, inr, refl, ap, ◌∙◌, arith}
+use Rattle.std.proofs.Common.{rules, ◌≡◌, ◌≤◌, ℕ, Bool, true, false, List, [], length, None, Some, Result, Ok, Err, inl, inr, refl, ap, ◌∙◌, arith}
 use Rattle.sum_engine.specs.Behavior.{Ending, Whole, Broken, World, Content, InputState, SourceState}
 use Rattle.sum_sources.specs.LineReaders.{remaining_content}
 use Rattle.sum_engine.specs.{check.Rules.LabelsValue, check.CheckStates.CheckState, check.CheckStates.remaining_verdicts, check.CheckStates.remaining_behavior}
 use Rattle.sum_engine.specs.check.Reports.{err_of, out_of, end_text, good}
-use Rattle.sum_engine.specs.check.Verdicts.{VerdictsValue, state_at, HoldsInEachCheck, AdvancesVerdicts, VerdictResult, line_verdict_value, IsNextVerdict, HasNoVerdictLeft}
-use Rattle.sum_engine.specs.check.Checker.{ReportsFound, Progress, Going, Ended, TakesStep}
-use Rattle.sum_engine.specs.{Execution.Stop, Execution.Memory, Execution.OutputsState, Execution.StreamsState, Execution.AsksNames, Execution.world_at, refinement.Writes.WritesAndReturns}
-use Rattle.sum_engine.proofs.{ExecutionLemmas.step_performed, ExecutionLemmas.refused_first, CountLemmas.counts_then-nil}
+use Rattle.sum_engine.specs.check.Verdicts.{VerdictsValue, LineVerdict, state_at, HoldsInEachCheck, AdvancesVerdicts, AsksFor, VerdictResult, line_verdict_value, counts_after, IsNextVerdict, IsNotUnread, HasNoVerdictLeft}
+use Rattle.sum_engine.specs.check.Checker.{CheckerValue, Progress, Going, Ended, IsStep, TakesStep}
+use Rattle.sum_engine.specs.refinement.Judging.{ReportsFound}
+use Rattle.sum_engine.specs.{Execution.Stop, Execution.Memory, Execution.Write, Execution.StopHasCause, Execution.none_or_one, Execution.OutputsState, Execution.StreamsState, Execution.AsksNames, Execution.world_at, refinement.Writes.WritesAndReturns}
+use Rattle.sum_engine.proofs.{ExecutionLemmas.step_performed, ExecutionLemmas.refused_first, ExecutionLemmas.one_at_most, WorldLemmas.reads_weaker, CountLemmas.counts_then-nil}
 use Rattle.sum_engine.proofs.RemainingLemmas.{line_step, behavior_by, first_step, found_first, going-before}
 use Rattle.sum_sources.specs.declared.line_reader.LineStop.TheVariants as line_stops
 
@@ -18,8 +19,11 @@ InEachCheck-map : {I : Type 0} {state : I → InputState} {p q : VerdictsValue I
     → P (state_at p (remaining_content p.reader c) v) (state_at q (remaining_content q.reader c) w)
     → R (state_at p (remaining_content p.reader c) v) (state_at q (remaining_content q.reader c) w))
     → HoldsInEachCheck state p q a b R
-InEachCheck-map {a = a} {b = b} h f =
-    record { holds = λ reading c of w agrees. f c (world_at w a) (world_at w b) (h.holds reading c of w agrees) }
+InEachCheck-map {a = a} {b = b} h f = record {
+  reading = h.reading;
+  before = h.before;
+  holds = λ reading c of w agrees. f c (world_at w a) (world_at w b) (h.holds reading c of w agrees);
+}
 
 -- ---- a step, by the verdict that was found
 
@@ -37,7 +41,7 @@ module _ {I : Type 0} {state : I → InputState} {p q : VerdictsValue I} (a b : 
         → HoldsInEachCheck state p q a.inputs b.inputs (HasNoVerdictLeft p.rules e)
         → AsksNames a.inputs b.inputs [] → q.rules ≡ p.rules → outcome ≡ good q.rules e q.counts
         → WritesAndReturns a.outputs b.outputs (end_text q.rules labels e q.counts) [] (Ended outcome) y
-        → TakesStep state vector labels p q a b y
+        → HoldsInEachCheck state p q a.inputs b.inputs (λ c d. IsStep p.rules labels vector c d a b y)
     step_end e outcome {y} found asked same sum wrote =
         InEachCheck-map found (λ c v w f.
         let r = p.rules in
@@ -57,12 +61,13 @@ module _ {I : Type 0} {state : I → InputState} {p q : VerdictsValue I} (a b : 
         })
 
     -- the next verdict was found, and then it was reported
-    pub step_taken : (x : VerdictResult) {y : Result Progress Stop}
+    step_found : (x : VerdictResult) {y : Result Progress Stop}
         → HoldsInEachCheck state p q a.inputs b.inputs (λ c d. IsNextVerdict p.rules vector c d x)
         → AdvancesVerdicts state vector p q a.inputs b.inputs x
-        → ReportsFound q labels vector x a.outputs b.outputs y → TakesStep state vector labels p q a b y
+        → ReportsFound q labels vector x a.outputs b.outputs y
+        → HoldsInEachCheck state p q a.inputs b.inputs (λ c d. IsStep p.rules labels vector c d a b y)
     -- a line had a verdict; its report is written, and the lines after it remain
-    step_taken (Ok (Some v)) {y} found did reported =
+    step_found (Ok (Some v)) {y} found did reported =
         let j = line_verdict_value vector v in
         let said : WritesAndReturns a.outputs b.outputs (err_of p.rules labels j) (out_of p.rules labels j) Going _ =
         rw did.rules at reported in
@@ -80,11 +85,11 @@ module _ {I : Type 0} {state : I → InputState} {p q : VerdictsValue I} (a b : 
           refused = λ is. absurd (not_refused said is);
         })
     -- no line was left; the end is written, and nothing remains
-    step_taken (Ok None) found did reported = step_end Whole _ found did.asked did.rules refl reported
-    step_taken (Err (line_stops.Fault f)) found did reported =
+    step_found (Ok None) found did reported = step_end Whole _ found did.asked did.rules refl reported
+    step_found (Err (line_stops.Fault f)) found did reported =
         step_end (Broken f) false found did.asked did.rules refl reported
     -- memory ran out before the verdict; nothing is written, and all remains
-    step_taken (Err line_stops.Memory) found did reported =
+    step_found (Err line_stops.Memory) found did reported =
         rw reported.0 (InEachCheck-map found (λ c v w f.
         let k = remaining_content p.reader c in
         let first = first_step p.rules labels k.ending p.counts k (remaining_verdicts p.rules (state_at p k v)) in
@@ -100,3 +105,83 @@ module _ {I : Type 0} {state : I → InputState} {p q : VerdictsValue I} (a b : 
           failed = λ h. cc;
           refused = λ h. omega (arith, f.2, first.4);
         }))
+
+-- ---- whatever the content and the world are
+
+-- a step returns that all is good only at the end, and only if each listed file could be read
+good_found : {I : Type 0} (q : VerdictsValue I) (labels : LabelsValue) (vector : List ℕ) (found : VerdictResult)
+    (a b : OutputsState) → ReportsFound q labels vector found a b (Ok (Ended true))
+    → (found ≡ Ok None) × (q.counts.unread ≡ 0)
+good_found q labels vector (Ok None) a b h = let p = h.writes.0 in search rules
+good_found q labels vector (Err line_stops.Memory) a b h = let p = h.0 in cc
+good_found q labels vector found a b h = let p = h.writes.0 in cc
+
+-- a step goes on only after a line
+going_found : {I : Type 0} (q : VerdictsValue I) (labels : LabelsValue) (vector : List ℕ) (found : VerdictResult)
+    (a b : OutputsState) → ReportsFound q labels vector found a b (Ok Going)
+    → (v : LineVerdict) × (found ≡ Ok (Some v))
+going_found q labels vector (Ok (Some v)) a b h = (v, refl)
+going_found q labels vector (Err line_stops.Memory) a b h = let p = h.0 in cc
+going_found q labels vector found a b h = let p = h.writes.0 in cc
+
+-- if memory runs out, neither output has changed
+unchanged_found : {I : Type 0} (q : VerdictsValue I) (labels : LabelsValue) (vector : List ℕ) (found : VerdictResult)
+    (a b : OutputsState) → ReportsFound q labels vector found a b (Err Memory) → b ≡ a
+unchanged_found q labels vector (Err line_stops.Memory) a b h = h.1
+unchanged_found q labels vector (Err (line_stops.Fault f)) a b h = absurd h.writes
+unchanged_found q labels vector (Ok None) a b h = absurd h.writes
+unchanged_found q labels vector (Ok (Some v)) a b h = absurd h.writes
+
+-- a text was written, or a prefix of it, and no memory was refused
+wrote_cause : {A : Type 0} {a b : StreamsState} {err out : List ℕ} {y : A} (x : Result A Stop) {allowed : List ℕ}
+    → b.inputs.refusals ≡ a.inputs.refusals → WritesAndReturns a.outputs b.outputs err out y x
+    → StopHasCause allowed a b x
+wrote_cause (Ok z) same h = record { refusals = same; failures = h.failures }
+wrote_cause (Err Write) same h = record { refusals = same; failures = h.failures }
+wrote_cause (Err Memory) same h = absurd h.writes
+
+-- a step stops only if memory was refused, at most once, or bytes remained, or one output failed
+cause_found : {I : Type 0} (q : VerdictsValue I) (labels : LabelsValue) (vector : List ℕ) (found : VerdictResult)
+    (a b : StreamsState) {x : Result Progress Stop} → AsksFor vector q.reader.ahead a.inputs b.inputs found
+    → ReportsFound q labels vector found a.outputs b.outputs x → StopHasCause none_or_one a b x
+cause_found q labels vector (Err line_stops.Memory) a b asked h = rw h.0
+    (record { refusals = one_at_most a.inputs b.inputs asked; failures = rw h.1 refl })
+cause_found q labels vector (Err (line_stops.Fault f)) a b asked h = wrote_cause _ asked.refusals h
+cause_found q labels vector (Ok (Some v)) a b asked h = wrote_cause _ asked.refusals h
+cause_found q labels vector (Ok None) a b asked h = wrote_cause _ asked.refusals h
+
+-- a file is counted as unread, or it isn't
+unread_counted : {I : Type 0} (p q : VerdictsValue I) (found : VerdictResult) → q.counts ≡ counts_after p.counts found
+    → (p.counts.unread ≤ q.counts.unread) × (q.counts.unread ≡ p.counts.unread → IsNotUnread found)
+unread_counted p q found counted = search (rules, arith)
+
+-- ---- what a step promises
+
+module _ {I : Type 0} {state : I → InputState} {p q : CheckerValue I} {a b : StreamsState} {vector : List ℕ}
+    (found : VerdictResult) {x : Result Progress Stop} (labels : q.labels ≡ p.labels)
+    (verdict : HoldsInEachCheck state p.verdicts q.verdicts a.inputs b.inputs
+    (λ c d. IsNextVerdict p.verdicts.rules vector c d found))
+    (did : AdvancesVerdicts state vector p.verdicts q.verdicts a.inputs b.inputs found)
+    (wrote : ReportsFound q.verdicts p.labels vector found a.outputs b.outputs x)
+  where
+    pub step_taken : TakesStep state vector p q a b x
+    step_taken =
+        let counted = unread_counted p.verdicts q.verdicts found did.counts in
+        record {
+          rules = did.rules;
+          labels = labels;
+          step = step_found a b p.labels vector found verdict did wrote;
+          cause = cause_found q.verdicts p.labels vector found a b did.asked wrote;
+          no_memory = λ no. unchanged_found q.verdicts p.labels vector found a.outputs b.outputs (rw no at wrote);
+          lines = λ going.
+              let (v, is) = going_found q.verdicts p.labels vector found a.outputs b.outputs (rw going at wrote) in
+              did.number v is;
+          bounds = did.bounds;
+          same = did.reader.same;
+          taken = did.reader.taken;
+          unread = counted.0;
+          reads = reads_weaker counted.1 did.reads;
+          good = λ good.
+              let end = good_found q.verdicts p.labels vector found a.outputs b.outputs (rw good at wrote) in
+              (did.end end.0, end.1);
+        }

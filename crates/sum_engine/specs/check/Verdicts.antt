@@ -41,10 +41,14 @@ state_at p c w = record {
   world = w;
 }
 
--- P holds between the check's states at two values and inputs, if the input hadn't ended at the start: for each content
--- of the manifest that what was read of it fits, and in each world that agrees with what was read
+-- the check led from p to q, and P holds between its states there, if the input hadn't ended at the start: for each
+-- content of the manifest that what was read of it fits, and in each world that agrees with what was read
 pub record HoldsInEachCheck {I : Type 0} (state : I → InputState) (p q : VerdictsValue I) (a b : SourceState)
     (P : CheckState → CheckState → Type 0) : Type 0 where
+  pub reading : IsReading state p.reader → IsReading state q.reader
+  -- a content that fits what was read by now also fits what was read before
+  pub before : IsReading state p.reader → (c : Content) → Fits (reads_of state q.reader) c
+      → Fits (reads_of state p.reader) c
   pub holds : IsReading state p.reader → (c : Content) → Fits (reads_of state q.reader) c → (w : World) → Agrees w b
       → P (state_at p (remaining_content p.reader c) (world_at w a))
       (state_at q (remaining_content q.reader c) (world_at w b))
@@ -137,9 +141,5 @@ pub record AdvancesVerdicts {I : Type 0} (state : I → InputState) (vector : By
   pub found : Result Next LineStop
   pub reader : AdvancesLines state p.reader q.reader found
   pub bounds : IsBounded q.reader
-  -- if the input hadn't ended at the start: a content that fits what was read by now also fits what was read before
-  pub reading : IsReading state p.reader → IsReading state q.reader
-  pub before : IsReading state p.reader → (c : Content) → Fits (reads_of state q.reader) c
-      → Fits (reads_of state p.reader) c
   pub asked : AsksFor vector q.reader.ahead a b x
   pub reads : ReadsToEndIf (IsNotUnread x) a b

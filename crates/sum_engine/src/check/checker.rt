@@ -2,9 +2,9 @@
 ghost use Rattle.digest_kinds.specs.Bytes.{LIMIT};
 ghost use Rattle.std.specs.{Option.ForSome, Result.ForOk};
 ghost use Rattle.std.specs.Prelude.{◌≡◌, ◌≤◌, None, Ok, IsTrue};
-ghost use Rattle.sum_engine.specs.check.Checker.{ReportsFound};
 ghost use Rattle.sum_engine.specs.check.Rules.{rules_of};
 ghost use Rattle.sum_engine.specs.check.Verdicts.{HasNameRange, is_whole};
+ghost use Rattle.sum_engine.specs.refinement.Judging.{ReportsFound};
 
 use crate::check::judge::{LineVerdict, Verdict};
 use crate::check::progress::Progress;
@@ -44,7 +44,7 @@ impl<'a, I> Model for Checker<'a, I> {
 }
 
 impl<'a, I: Input> Checker<'a, I> {
-    ghost use Rattle.sum_engine.specs.check.Checker.{AdvancesChecker, TakesStep, outcome_in_step};
+    ghost use Rattle.sum_engine.specs.check.Checker.{TakesStep, outcome_in_step};
     ghost use Rattle.sum_engine.specs.check.Verdicts.{IsAtStart, KeepsOutcome};
 
     /// Creates a checker of the manifest that `input` gives. Its diagnostics begin with `tool`, for example `md5sum`,
@@ -110,12 +110,8 @@ impl<'a, I: Input> Checker<'a, I> {
         ensures outcome { KeepsOutcome outcome_in_step self.old.outcome self.new.outcome
             ((self.new ≡ self.old) × (streams.new ≡ streams.old)) result }
         // The next step of the behavior, for every content and in every world that agree with what was read.
-        ensures step { self.old.outcome ≡ None → TakesStep I.state line.new.items self.old.labels
-            self.old.verdicts self.new.verdicts streams.old streams.new result }
-        // What was found, and what was written about it.
-        ensures advances { self.old.outcome ≡ None
-            → AdvancesChecker I.state line.new.items self.old self.new streams.old
-            streams.new result }
+        ensures step { self.old.outcome ≡ None
+            → TakesStep I.state line.new.items self.old self.new streams.old streams.new result }
     {
         match self.outcome {
             None => {}

@@ -9,8 +9,7 @@ lines-init g c = HasComeTo-none _ _ _ c.requires.outcome
 pub returns-in-Err : goal.returns-in-Err
 returns-in-Err g c =
     let so_far = c.lines.invariant in
-    HasComeTo-last _ _ _ _ _ _ _ _ (Err _) c.requires.start so_far (c.in-Err.ensures.advances so_far.going)
-    (c.in-Err.ensures.step so_far.going)
+    HasComeTo-last _ _ _ _ _ _ _ _ (Err _) c.requires.start so_far (c.in-Err.ensures.step so_far.going)
 
 -- the end was handled
 pub returns-in-Ok-Ended : goal.returns-in-Ok-Ended
@@ -18,7 +17,6 @@ returns-in-Ok-Ended g c =
     let so_far = c.lines.invariant in
     let done = c.in-Ok-Ended.ensures in
     HasComeTo-last _ _ _ _ _ _ _ _ (Ok _) c.requires.start so_far
-    (rw c.in-Ok-Ended.field-0-is at (done.advances so_far.going))
     (rw c.in-Ok-Ended.field-0-is at (done.step so_far.going))
 
 -- one more line was handled
@@ -26,11 +24,10 @@ pub lines-preserved : goal.lines-preserved
 lines-preserved g c =
     let so_far = c.lines.invariant in
     let done = c.in-Ok-Going.ensures in
-    HasComeTo-more _ _ _ _ _ _ _ _ so_far (rw c.in-Ok-Going.field-0-is at (done.advances so_far.going))
-    (rw c.in-Ok-Going.field-0-is at done.outcome.kept)
+    HasComeTo-more _ _ _ _ _ _ _ _ so_far (rw c.in-Ok-Going.field-0-is at done.outcome.kept)
     (rw c.in-Ok-Going.field-0-is at (done.step so_far.going))
 
 -- each line is counted, below the limit
 pub lines-smaller : goal.lines-smaller
 lines-smaller g c =
-    fewer_lines (rw c.in-Ok-Going.field-0-is at (c.in-Ok-Going.ensures.advances c.lines.invariant.going))
+    fewer_lines (rw c.in-Ok-Going.field-0-is at (c.in-Ok-Going.ensures.step c.lines.invariant.going))
