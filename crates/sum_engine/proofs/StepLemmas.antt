@@ -7,7 +7,7 @@ use Rattle.sum_engine.specs.check.Reports.{err_of, out_of, end_text, good}
 use Rattle.sum_engine.specs.check.Verdicts.{VerdictsValue, LineVerdict, state_at, HoldsInEachCheck, AdvancesVerdicts, AsksFor, VerdictResult, line_verdict_value, counts_after, IsNextVerdict, IsNotUnread, HasNoVerdictLeft}
 use Rattle.sum_engine.specs.check.Checker.{CheckerValue, Progress, Going, Ended, IsStep, TakesStep}
 use Rattle.sum_engine.specs.refinement.Judging.{ReportsFound}
-use Rattle.sum_engine.specs.{Execution.Stop, Execution.Memory, Execution.Write, Execution.StopHasCause, Execution.none_or_one, Execution.OutputsState, Execution.StreamsState, Execution.AsksNames, Execution.world_at, refinement.Writes.WritesAndReturns}
+use Rattle.sum_engine.specs.{Execution.Stop, Execution.Memory, Execution.StopHasCause, Execution.none_or_one, Execution.OutputsState, Execution.StreamsState, Execution.AsksNames, Execution.world_at, refinement.Writes.WritesAndReturns}
 use Rattle.sum_engine.proofs.{ExecutionLemmas.step_performed, ExecutionLemmas.refused_first, ExecutionLemmas.one_at_most, WorldLemmas.reads_weaker, CountLemmas.counts_then-nil}
 use Rattle.sum_engine.proofs.RemainingLemmas.{line_step, behavior_by, first_step, found_first, going-before}
 use Rattle.sum_sources.specs.declared.line_reader.LineStop.TheVariants as line_stops
@@ -108,47 +108,44 @@ module _ {I : Type 0} {state : I → InputState} {p q : VerdictsValue I} (a b : 
 
 -- ---- whatever the content and the world are
 
--- a step returns that all is good only at the end, and only if each listed file could be read
-good_found : {I : Type 0} (q : VerdictsValue I) (labels : LabelsValue) (vector : List ℕ) (found : VerdictResult)
-    (a b : OutputsState) → ReportsFound q labels vector found a b (Ok (Ended true))
-    → (found ≡ Ok None) × (q.counts.unread ≡ 0)
-good_found q labels vector (Ok None) a b h = let p = h.writes.0 in search rules
-good_found q labels vector (Err line_stops.Memory) a b h = let p = h.0 in cc
-good_found q labels vector found a b h = let p = h.writes.0 in cc
-
--- a step goes on only after a line
-going_found : {I : Type 0} (q : VerdictsValue I) (labels : LabelsValue) (vector : List ℕ) (found : VerdictResult)
-    (a b : OutputsState) → ReportsFound q labels vector found a b (Ok Going)
-    → (v : LineVerdict) × (found ≡ Ok (Some v))
-going_found q labels vector (Ok (Some v)) a b h = (v, refl)
-going_found q labels vector (Err line_stops.Memory) a b h = let p = h.0 in cc
-going_found q labels vector found a b h = let p = h.writes.0 in cc
-
--- if memory runs out, neither output has changed
-unchanged_found : {I : Type 0} (q : VerdictsValue I) (labels : LabelsValue) (vector : List ℕ) (found : VerdictResult)
-    (a b : OutputsState) → ReportsFound q labels vector found a b (Err Memory) → b ≡ a
-unchanged_found q labels vector (Err line_stops.Memory) a b h = h.1
-unchanged_found q labels vector (Err (line_stops.Fault f)) a b h = absurd h.writes
-unchanged_found q labels vector (Ok None) a b h = absurd h.writes
-unchanged_found q labels vector (Ok (Some v)) a b h = absurd h.writes
-
 -- a text was written, or a prefix of it, and no memory was refused
 wrote_cause : {A : Type 0} {a b : StreamsState} {err out : List ℕ} {y : A} (x : Result A Stop) {allowed : List ℕ}
     → b.inputs.refusals ≡ a.inputs.refusals → WritesAndReturns a.outputs b.outputs err out y x
     → StopHasCause allowed a b x
-wrote_cause (Ok z) same h = record { refusals = same; failures = h.failures }
-wrote_cause (Err Write) same h = record { refusals = same; failures = h.failures }
 wrote_cause (Err Memory) same h = absurd h.writes
+wrote_cause x same h = record { refusals = same; failures = h.failures }
 
--- a step stops only if memory was refused, at most once, or bytes remained, or one output failed
-cause_found : {I : Type 0} (q : VerdictsValue I) (labels : LabelsValue) (vector : List ℕ) (found : VerdictResult)
-    (a b : StreamsState) {x : Result Progress Stop} → AsksFor vector q.reader.ahead a.inputs b.inputs found
-    → ReportsFound q labels vector found a.outputs b.outputs x → StopHasCause none_or_one a b x
-cause_found q labels vector (Err line_stops.Memory) a b asked h = rw h.0
-    (record { refusals = one_at_most a.inputs b.inputs asked; failures = rw h.1 refl })
-cause_found q labels vector (Err (line_stops.Fault f)) a b asked h = wrote_cause _ asked.refusals h
-cause_found q labels vector (Ok (Some v)) a b asked h = wrote_cause _ asked.refusals h
-cause_found q labels vector (Ok None) a b asked h = wrote_cause _ asked.refusals h
+-- what follows from what was found and written
+module _ {I : Type 0} (q : VerdictsValue I) (labels : LabelsValue) (vector : List ℕ) where
+  -- a step returns that all is good only at the end, and only if each listed file could be read
+  good_found : (found : VerdictResult) (a b : OutputsState) → ReportsFound q labels vector found a b (Ok (Ended true))
+      → (found ≡ Ok None) × (q.counts.unread ≡ 0)
+  good_found (Ok None) a b h = let p = h.writes.0 in search rules
+  good_found (Err line_stops.Memory) a b h = let p = h.0 in cc
+  good_found found a b h = let p = h.writes.0 in cc
+
+  -- a step goes on only after a line
+  going_found : (found : VerdictResult) (a b : OutputsState) → ReportsFound q labels vector found a b (Ok Going)
+      → (v : LineVerdict) × (found ≡ Ok (Some v))
+  going_found (Ok (Some v)) a b h = (v, refl)
+  going_found (Err line_stops.Memory) a b h = let p = h.0 in cc
+  going_found found a b h = let p = h.writes.0 in cc
+
+  -- if memory runs out, neither output has changed
+  unchanged_found : (found : VerdictResult) (a b : OutputsState) → ReportsFound q labels vector found a b (Err Memory)
+      → b ≡ a
+  unchanged_found (Err line_stops.Memory) a b h = h.1
+  unchanged_found (Ok None) a b h = absurd h.writes
+  unchanged_found found a b h = absurd h.writes
+
+  -- a step stops only if memory was refused, at most once, or bytes remained, or one output failed
+  cause_found : (found : VerdictResult) (a b : StreamsState) {x : Result Progress Stop}
+      → AsksFor vector q.reader.ahead a.inputs b.inputs found
+      → ReportsFound q labels vector found a.outputs b.outputs x → StopHasCause none_or_one a b x
+  cause_found (Err line_stops.Memory) a b asked h = rw h.0
+      (record { refusals = one_at_most a.inputs b.inputs asked; failures = rw h.1 refl })
+  cause_found (Ok None) a b asked h = wrote_cause _ asked.refusals h
+  cause_found found a b asked h = wrote_cause _ asked.refusals h
 
 -- a file is counted as unread, or it isn't
 unread_counted : {I : Type 0} (p q : VerdictsValue I) (found : VerdictResult) → q.counts ≡ counts_after p.counts found

@@ -15,10 +15,9 @@ returns-in-Ok-clause-verdict g c =
     let advances = rw c.in-Ok-Line.field-0-is at read.reader in
     let reads = rw c.in-Ok-Line.field-0-is at read.line in
     let done = c.in-Ok.ensures in
-    let own : c.self.inside.rules.profile ≡ own_profile = search rules in
     rw (← c.self.view_is) (λ going. next_verdict-line c.next_line.new.self c.next_line.new.line.items
     c.judge_line.new.self (Ok c.in-Ok.found)
-    (search (rules, advances, reads, read.bounds, own, done)))
+    (search (rules, advances, reads, read.bounds, done)))
 
 -- the line is ignored
 pub returns-then-is_ignored-clause-verdict : goal.returns-then-is_ignored-clause-verdict
@@ -56,10 +55,9 @@ returns-in-Err-judge_line-clause-verdict g c =
     let advances = rw c.in-Ok-Line.field-0-is at read.reader in
     let reads = rw c.in-Ok-Line.field-0-is at read.line in
     let done = c.in-Err-judge_line.ensures in
-    let own : c.self.inside.rules.profile ≡ own_profile = search rules in
     rw (← c.self.view_is, c.from-stop.ensures) (λ going. next_verdict-line {vector = c.judge_line.new.line.items}
     c.next_line.new.self c.next_line.new.line.items c.judge_line.new.self (Err _)
-    (search (rules, advances, reads, read.bounds, c.self.invariant, own, done, c.self-2.view_is)))
+    (search (rules, advances, reads, read.bounds, c.self.invariant, done, c.self-2.view_is)))
 
 -- the reader stopped
 pub returns-in-Err-clause-verdict : goal.returns-in-Err-clause-verdict
