@@ -1,5 +1,5 @@
 //! What follows from the laws of `sum_engine`.
-ghost use Rattle.std.specs.Prelude.{◌≡◌, ◌≢◌, ◌+◌, ◌*◌, false, List, [], ◌∷◌, ◌++◌, codes, length, take, flat_map, true, slice_range};
+ghost use Rattle.std.specs.Prelude.{◌≡◌, ◌≢◌, ◌+◌, ◌*◌, Err, false, List, [], ◌∷◌, ◌++◌, codes, length, take, flat_map, true, slice_range};
 ghost use Rattle.sum_engine.specs.Behavior.{ByteString, Content, Whole, World};
 ghost use Rattle.sum_engine.specs.Execution.{Agrees, PerformsSteps, StreamsState, world_at};
 ghost use Rattle.sum_engine.specs.Generation.{generate_behavior};
@@ -11,12 +11,14 @@ ghost use Rattle.sum_engine.specs.check.OldVerdicts.{IsOldManifest, older_profil
 ghost use Rattle.sum_engine.specs.check.Rules.{LabelsValue, Rules};
 ghost use Rattle.sum_engine.specs.check.Verdicts.{HasNameRange};
 ghost use Rattle.sum_engine.specs.declared.settings.Report.TheVariants.{All};
+ghost use Rattle.sum_engine.specs.declared.stop.Stop.TheVariants.{Memory};
 
 use digest_kinds::Algos;
+use std::alloc::Allocator;
 use sum_engine::laws::{events_extend, old_verdicts, same_front, steps_join, told_agree};
 use sum_engine::{
-    CheckSettings, Checker, Inputs, LineVerdict, Outputs, Settings, Stop, Streams, Verdicts,
-    generate_one,
+    CheckSettings, Checker, Inputs, LineVerdict, Outputs, Progress, Settings, Stop, Streams,
+    Verdicts, generate_one,
 };
 use sum_lines::Sink;
 use sum_sources::{Input, Source};
@@ -44,6 +46,18 @@ pub fn hash_in_some_world<S: Source, O: Sink, E: Sink>(
     let result = generate_one(settings, tool, name, streams);
     told_agree(&streams.inputs);
     result
+}
+
+/// Takes the first step of a check. If there was no memory for it, neither output has changed.
+pub fn first_step<A: Allocator, I: Input + Drop, S: Source, O: Sink, E: Sink>(
+    settings: CheckSettings,
+    input: I,
+    line: &mut Vec<u8, A>,
+    streams: &mut Streams<Inputs<S>, Outputs<O, E>>,
+) -> Result<Progress, Stop>
+    ensures { result ≡ Err Memory → streams.new.outputs ≡ streams.old.outputs }
+{
+    Checker::new(settings, "md5sum", b"list", false, input).step(line, streams)
 }
 
 /// A count of what a check has read, in parts of 7 bytes, can't overflow.
