@@ -1,24 +1,25 @@
 //! What follows from the laws of `sum_engine`.
-ghost use Rattle.std.specs.Prelude.{◌≡◌, ◌≢◌, ◌+◌, ◌*◌, Err, false, List, [], ◌∷◌, ◌++◌, codes, length, take, flat_map, true, slice_range};
-ghost use Rattle.sum_engine.specs.Behavior.{ByteString, Content, Whole, World};
-ghost use Rattle.sum_engine.specs.Execution.{Agrees, PerformsSteps, StreamsState, world_at};
+ghost use Rattle.std.specs.Prelude.{◌≡◌, ◌≢◌, ◌≤◌, ◌+◌, ◌*◌, Some, Ok, Err, false, List, [], ◌∷◌, ◌++◌, codes, length, take, flat_map, true, slice_range};
+ghost use Rattle.sum_engine.specs.Behavior.{ByteString, Content, Reads, Step, Whole, World, answer_to, clip, times};
+ghost use Rattle.sum_engine.specs.Execution.{Agrees, PerformsSteps, StreamsState, gave_at, opened_names, world_at};
 ghost use Rattle.sum_engine.specs.Generation.{generate_behavior};
 ghost use Rattle.sum_engine.specs.check.CheckStates.{CheckState, initial_state};
 ghost use Rattle.sum_engine.specs.check.CheckerLaws.{TakesSteps};
-ghost use Rattle.sum_engine.specs.check.Checking.{content_behavior};
+ghost use Rattle.sum_engine.specs.check.Checking.{check_behavior, content_behavior};
 ghost use Rattle.sum_engine.specs.check.Judge.{all_verdicts, verdicts, form, lines_under, own_profile};
 ghost use Rattle.sum_engine.specs.check.OldVerdicts.{IsOldManifest, older_profile, rules_under};
+ghost use Rattle.sum_engine.specs.check.ReadAhead.{remaining_before};
 ghost use Rattle.sum_engine.specs.check.Rules.{LabelsValue, Rules};
 ghost use Rattle.sum_engine.specs.check.Verdicts.{HasNameRange};
 ghost use Rattle.sum_engine.specs.declared.settings.Report.TheVariants.{All};
-ghost use Rattle.sum_engine.specs.declared.stop.Stop.TheVariants.{Memory};
+ghost use Rattle.sum_engine.specs.declared.stop.Stop.TheVariants.{Memory, Write};
 
 use digest_kinds::Algos;
 use std::alloc::Allocator;
 use sum_engine::laws::{events_extend, old_verdicts, same_front, steps_join, told_agree};
 use sum_engine::{
     CheckSettings, Checker, Inputs, LineVerdict, Outputs, Progress, Settings, Stop, Streams,
-    Verdicts, generate_one,
+    Verdicts, check_one, generate_one,
 };
 use sum_lines::Sink;
 use sum_sources::{Input, Source};
@@ -58,6 +59,23 @@ pub fn first_step<A: Allocator, I: Input + Drop, S: Source, O: Sink, E: Sink>(
     ensures { result ≡ Err Memory → streams.new.outputs ≡ streams.old.outputs }
 {
     Checker::new(settings, "md5sum", b"list", false, input).step(line, streams)
+}
+
+/// Checks a manifest. If an output fails, at most 8,192 bytes past the line of that step were read.
+pub fn check_while_written<A: Allocator + Copy, S: Source, O: Sink, E: Sink>(
+    alloc: A,
+    settings: CheckSettings,
+    name: &[u8],
+    streams: &mut Streams<Inputs<S>, Outputs<O, E>>,
+) -> Result<bool, Stop>
+    ensures { result ≡ Err Write → (w : World) → Agrees w streams.new.inputs
+        → let at = world_at w streams.old.inputs in (c : Content) → answer_to at name.now ≡ Ok c → (r : Reads)
+        → gave_at streams.new.inputs.openings name.now (times name.now (opened_names streams.old.inputs))
+        ≡ Some (Ok r) → (done : List Step) × (next : Step) × (later : List Step)
+        × ((check_behavior settings (codes "md5sum") at name.now).steps ≡ done ++ next ∷ later)
+        × (length r.bytes + remaining_before later ≤ length (clip c).bytes + 8192) }
+{
+    check_one(alloc, settings, "md5sum", name, streams)
 }
 
 /// A count of what a check has read, in parts of 7 bytes, can't overflow.
