@@ -1,14 +1,15 @@
 //! Callers of readers and of told sources that need what no program here does.
 ghost use Rattle.std.specs.Option.{option_map};
-ghost use Rattle.std.specs.Prelude.{ℕ, ◌≡◌, ◌<◌, ◌+◌, ◌^◌, Ok, Err, IfOk, IfSome, slice_get};
-ghost use Rattle.sum_sources.specs.Sources.{first_answer, names_of};
+ghost use Rattle.std.specs.Prelude.{ℕ, ◌≡◌, ◌<◌, ◌+◌, ◌^◌, [], Ok, Err, IfOk, IfSome, IsTrue, slice_get};
+ghost use Rattle.sum_sources.specs.Sources.{HashesFile, first_answer, names_of};
 ghost use Rattle.sum_sources.specs.WithStdin.{other_openings};
 ghost use Rattle.sum_sources.specs.refinement.SourceStates.{both_state, source_in, told_source_state};
 
-use digest_kinds::LIMIT;
+use digest_kinds::{Digest, Hasher, LIMIT};
 use std::alloc::Allocator;
 use sum_sources::{
-    Answer, Ending, Input, LineReader, LineStop, Next, NoRoom, PIECE, Source, ToldSource, WithStdin,
+    Answer, Ending, Input, LineReader, LineStop, Next, NoRoom, PIECE, Source, ToldSource,
+    WithStdin, hash_file,
 };
 
 /// Returns how many more bytes an input may give before it is too long.
@@ -40,6 +41,23 @@ pub fn ask<I: Input, A: Allocator>(
 {
     let next = reader.next_line(line);
     (next, reader.taken() - reader.lines())
+}
+
+/// Returns whether the file of this name has this digest, which it has only if it was read to its end.
+pub fn has_digest<S: Source, H: Hasher + Drop>(
+    source: &mut S,
+    name: &[u8],
+    hasher: H,
+    digest: &Digest,
+) -> bool
+    requires { H.holds hasher [] }
+    ensures { IsTrue result → HashesFile (H.kind_of hasher) name.now (S.state source.old)
+        (S.state source.new) (Ok digest.now) }
+{
+    match hash_file(source, name, hasher) {
+        Ok(found) => found.same(digest),
+        Err(_) => false,
+    }
 }
 
 /// Creates a source of one file, and offers another answer to its name, which never counts.
