@@ -56,8 +56,8 @@ pub record TakesStep {I : Type 0} (state : I → InputState) (vector : ByteStrin
   pub no_memory : x ≡ Err stops.Memory → b.outputs ≡ a.outputs
   pub lines : x ≡ Ok Going → q.verdicts.reader.lines ≡ p.verdicts.reader.lines + 1
   pub bounds : IsBounded q.verdicts.reader
-  -- each byte that the input gave is counted
   pub same : IsSameInput (state p.verdicts.reader.input) (state q.verdicts.reader.input)
+  -- each byte that the input gave is counted
   pub taken : q.verdicts.reader.taken + length (state p.verdicts.reader.input).reads.bytes
       ≡ p.verdicts.reader.taken + length (state q.verdicts.reader.input).reads.bytes
   -- a file that could not be opened or read is counted; any other was read to its end
