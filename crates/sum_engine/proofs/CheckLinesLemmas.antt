@@ -1,6 +1,6 @@
 -- `check_lines`: a new checker runs to its end. What happened so far and what remains is the whole behavior
 -- (`HasComeTo`). A step that goes on keeps this. The step that ends or stops proves the contract by it.
-use Rattle.std.proofs.Common.{rules, ◌^◌, ◌-◌, ◌+◌, ◌<◌, ◌≤◌, ◌≡◌, ℕ, length, drop, length-drop, Bool, List, [], ◌∷◌, ◌++◌, Result, Ok, Err, None, true, refl, ap, ◌∙◌, subst, arith, append-nil}
+use Rattle.std.proofs.Common.{rules, ◌-◌, ◌+◌, ◌≤◌, ◌≡◌, ℕ, length, drop, length-drop, Bool, List, [], ◌∷◌, ◌++◌, Result, Ok, Err, None, true, refl, ap, ◌∙◌, subst, arith, append-nil}
 use Rattle.std.specs.Prelude.{IfErr}
 use Rattle.sum_sources.specs.{Contents.IsSameInput, Contents.Fits, Contents.reads_past, LineReaders.remaining_content}
 use Rattle.sum_engine.specs.Behavior.{World, Reads, Step, Behavior, Content, InputState, clip}
@@ -54,18 +54,6 @@ cause_ends : {a b c : StreamsState} (x : Result Bool Stop) → StopHasCause {A =
 cause_ends (Ok good) h k = search rules
 cause_ends (Err Write) h k = search rules
 cause_ends (Err stops.Memory) h k = search rules
-
--- each line is counted, and there are fewer than the limit
-pub fewer_lines : {I : Type 0} {state : I → InputState} {vector : List ℕ} {p q : CheckerValue I}
-    {a b : StreamsState} → TakesStep state vector p q a b (Ok Going)
-    → 2 ^ 61 - q.verdicts.reader.lines < 2 ^ 61 - p.verdicts.reader.lines
-fewer_lines h = omega (arith, h.lines refl, h.bounds)
-
--- if no file is counted as unread after a step, none was before
-none_unread : {I : Type 0} {state : I → InputState} {vector : List ℕ} {p q : CheckerValue I} {a b : StreamsState}
-    {x : Result Progress Stop} → TakesStep state vector p q a b x → q.verdicts.counts.unread ≡ 0
-    → (p.verdicts.counts.unread ≡ 0) × (q.verdicts.counts.unread ≡ p.verdicts.counts.unread)
-none_unread h none = search (arith, h.unread, none)
 
 -- ---- from the first step on
 
@@ -140,7 +128,7 @@ module _ {I : Type 0} (state : I → InputState) (first : CheckerValue I) (m : S
         consumed = (step.going refl).1.consumed ∙ along.consumed;
       }) in
       let reads : ReadsToEndIf (next.verdicts.counts.unread ≡ 0) m.inputs o.inputs =
-      reads_then (none_unread step) h.reads step.reads in
+      reads_then (λ none. search (arith, step.unread, none)) h.reads step.reads in
       search (rules, arith, happened, reads, step)
 
   -- the check of this content, whose behavior is `all`, ended or stopped with x once the input had given so many bytes
@@ -208,5 +196,5 @@ module _ {I : Type 0} (state : I → InputState) (first : CheckerValue I) (m : S
                 ((reading going).past, λ good. (reading going).end (good_at good).0);
             same = search rules;
             cause = cause_ends x h.so_far step.cause;
-            reads = reads_then (λ good. none_unread step (good_at good).1) h.reads step.reads;
+            reads = reads_then (λ good. search (arith, step.unread, (good_at good).1)) h.reads step.reads;
           }

@@ -1,5 +1,5 @@
-use Rattle.std.proofs.Common.{Ok, Err}
-use Rattle.sum_engine.proofs.CheckLinesLemmas.{HasComeTo-none, HasComeTo-more, HasComeTo-last, fewer_lines}
+use Rattle.std.proofs.Common.{arith, refl, Ok, Err}
+use Rattle.sum_engine.proofs.CheckLinesLemmas.{HasComeTo-none, HasComeTo-more, HasComeTo-last}
 use Rattle.sum_engine.proofs.check.check_one.check_lines.Goals as goal
 
 pub lines-init : goal.lines-init
@@ -30,4 +30,5 @@ lines-preserved g c =
 -- each line is counted, below the limit
 pub lines-smaller : goal.lines-smaller
 lines-smaller g c =
-    fewer_lines (rw c.in-Ok-Going.field-0-is at (c.in-Ok-Going.ensures.step c.lines.invariant.going))
+    let done = rw c.in-Ok-Going.field-0-is at (c.in-Ok-Going.ensures.step c.lines.invariant.going) in
+    omega (arith, done.lines refl, done.bounds)
