@@ -91,14 +91,7 @@ module _ {I : Type 0} (state : I → InputState) (first : CheckerValue I) (m : S
 
   -- before its first step, a check has come as far as its new checker
   pub HasComeTo-none : first.outcome ≡ None → HasComeTo first m
-  HasComeTo-none none =
-      let happened : HoldsUpTo first.verdicts m (λ a b. ComesTo a b m) =
-      record {
-        reading = λ reading. reading;
-        before = λ reading c of. of;
-        holds = λ reading c of w agrees. search (rules, Happened-none);
-      } in
-      search (rules, reads_none, happened)
+  HasComeTo-none none = search (rules, reads_none, Happened-none)
 
   -- after one more step, which returned x, P holds if it follows from what happened before and from the step
   one_more_step : {q : CheckerValue I} {n : StreamsState} (next : CheckerValue I) (o : StreamsState) (vector : List ℕ)
