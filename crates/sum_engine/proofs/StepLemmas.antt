@@ -7,7 +7,7 @@ use Rattle.sum_engine.specs.check.Reports.{err_of, out_of, end_text, good}
 use Rattle.sum_engine.specs.check.Verdicts.{VerdictsValue, LineVerdict, state_at, HoldsInEachCheck, AdvancesVerdicts, AsksFor, VerdictResult, line_verdict_value, counts_after, IsNextVerdict, IsNotUnread, HasNoVerdictLeft}
 use Rattle.sum_engine.specs.check.Checker.{CheckerValue, Progress, Going, Ended, IsStep, TakesStep}
 use Rattle.sum_engine.specs.refinement.Judging.{ReportsFound}
-use Rattle.sum_engine.specs.{Execution.Stop, Execution.Memory, Execution.StopHasCause, Execution.none_or_one, Execution.OutputsState, Execution.StreamsState, Execution.AsksNames, Execution.world_at, refinement.Writes.WritesAndReturns}
+use Rattle.sum_engine.specs.{Execution.Stop, Execution.Memory, Execution.StopHasCause, Execution.none_or_one, Execution.OutputsState, Execution.StreamsState, Execution.AsksNames, refinement.Writes.WritesAndReturns}
 use Rattle.sum_engine.proofs.{ExecutionLemmas.step_performed, ExecutionLemmas.refused_first, ExecutionLemmas.one_at_most, WorldLemmas.reads_weaker, CountLemmas.counts_then-nil}
 use Rattle.sum_engine.proofs.RemainingLemmas.{line_step, behavior_by, first_step, found_first, going-before}
 use Rattle.sum_sources.specs.declared.line_reader.LineStop.TheVariants as line_stops
@@ -19,11 +19,7 @@ InEachCheck-map : {I : Type 0} {state : I → InputState} {p q : VerdictsValue I
     → P (state_at p (remaining_content p.reader c) v) (state_at q (remaining_content q.reader c) w)
     → R (state_at p (remaining_content p.reader c) v) (state_at q (remaining_content q.reader c) w))
     → HoldsInEachCheck state p q a b R
-InEachCheck-map {a = a} {b = b} h f = record {
-  reading = h.reading;
-  before = h.before;
-  holds = λ reading c of w agrees. f c (world_at w a) (world_at w b) (h.holds reading c of w agrees);
-}
+InEachCheck-map h f = search (f, h.holds)
 
 -- ---- a step, by the verdict that was found
 
