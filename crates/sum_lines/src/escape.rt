@@ -1,5 +1,6 @@
 //! The escape of names in lines and diagnostics.
-ghost use Rattle.std.specs.Prelude.{◌≡◌, ◌≢◌, ◌↔◌, ◌+◌, ◌<◌, ◌≤◌, ◌++◌, ℕ, length, vec_len, take, drop, slice_index, is_some, true, IfSome, IfNone, MatchOption};
+ghost use Rattle.std.specs.Prelude.{◌≡◌, ◌≢◌, ◌↔◌, ◌+◌, ◌<◌, ◌≤◌, ◌++◌, ℕ};
+ghost use Rattle.std.specs.Prelude.{length, vec_len, take, drop, slice_index, is_some, IsTrue, IfSome, IfNone, MatchOption};
 ghost use Rattle.sum_lines.specs.Buffers.{WritesAll};
 ghost use Rattle.sum_lines.specs.Escape.{ByteString, own_profile, escape, escape_of, escape_differs};
 
@@ -62,7 +63,7 @@ pub fn unescape_in<A: Allocator>(line: &mut Vec<u8, A>, from: usize) -> bool
     requires { from ≤ vec_len line.old }
     // For each name: the bytes were its escape if and only if the call returns true and leaves the name in their place.
     ensures name { (n : ByteString) → (drop from line.old.items ≡ escape n)
-        ↔ ((result ≡ true) × (line.new.items ≡ take from line.old.items ++ n)) }
+        ↔ (IsTrue result × (line.new.items ≡ take from line.old.items ++ n)) }
     ensures before { take from line.new.items ≡ take from line.old.items }
     ensures len { vec_len line.new ≤ vec_len line.old }
 {
