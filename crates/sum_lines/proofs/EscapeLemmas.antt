@@ -151,7 +151,8 @@ no_nul xs r h = search (rules, list_all-from_AllPass, list_all_at)
 -- ---- the raw name of a Standard list's tail
 
 -- the raw name begins one place further on
-pub raw_standard : (line : List ℕ) (p : LineParts) → begins_standard (line_parts line p).text ≡ true
-    → parts_with_raw_name Standard (line_parts line p) ≡ Some (line_parts line (record p { start = p.start + 1 }))
+pub raw_standard : (line : List ℕ) (p : LineParts) → let parts = line_parts line p in
+    begins_standard parts.text ≡ true
+    → parts_with_raw_name Standard parts ≡ Some (record parts { text = slice_range line (p.start + 1) p.stop })
 raw_standard line p h =
     let one = drop-take 1 (p.stop - (p.start + 1)) (drop p.start line) in grind (arith, drop-drop 1 p.start line)
