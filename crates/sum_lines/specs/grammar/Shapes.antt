@@ -6,8 +6,7 @@ pub use Rattle.hex.specs.Hex.{decode_of}
 pub use Rattle.digest_kinds.specs.Bytes.{ByteString}
 pub use Rattle.digest_kinds.specs.Kinds.{KindValue, has_len, tag}
 use Rattle.digest_kinds.specs.KindTexts.{IsWidth}
-pub use Rattle.digest_kinds.specs.declared.algo.Algo.{Algo}
-pub use Rattle.digest_kinds.specs.declared.algo.Algos.{Algos}
+pub use Rattle.digest_kinds.specs.declared.algo.{Algo.Algo, Algos.Algos}
 pub use Rattle.digest_kinds.specs.declared.algo.Algos.TheVariants.{One, Any}
 
 -- whether a byte is a blank: a space or a tab

@@ -6,7 +6,8 @@ ghost use Rattle.std.specs.Prelude.{◌≡◌, ◌≤◌, None, Some, drop, if�
 ghost use Rattle.sum_lines.specs.Escape.{own_profile};
 ghost use Rattle.sum_lines.specs.grammar.Entries.{begins_standard, form_then, is_ignored, line_form};
 ghost use Rattle.sum_lines.specs.grammar.LineLaws.{FitsGrammar};
-ghost use Rattle.sum_lines.specs.grammar.ParsedLines.{bad, entry, entry_of, entry_of_parts, parse_line, unescape, parts_with_raw_name, IsWithin, parsed_line_of};
+ghost use Rattle.sum_lines.specs.grammar.ParsedLines.{bad, entry, entry_of, entry_of_parts, parse_line, unescape};
+ghost use Rattle.sum_lines.specs.grammar.ParsedLines.{parts_with_raw_name, parsed_line_of, IsWithin};
 ghost use Rattle.sum_lines.specs.refinement.Beginnings.{IsReadAs, IsFront, line_parts};
 
 use crate::escape::unescape_in;
@@ -125,7 +126,7 @@ fn read_begun<A: Allocator>(
 
 /// Returns whether a line of a manifest is ignored: it is empty or begins with `#`.
 pub fn is_ignored(line: &[u8]) -> bool
-    ensures { result ≡ is_ignored own_profile line.now }
+    ensures { result ≡ is_ignored line.now }
 {
     match line {
         [] => true,
