@@ -1,7 +1,8 @@
 -- The compression function F of BLAKE2b (RFC 7693, 2.6, 2.7, 3.1 and 3.2). A word is a number below 2 ^ 64. A block is
 -- a list of 128 bytes.
 use Rattle.std.specs.Prelude.{ℕ, ◌+◌, ◌/◌, ◌%◌, ◌^◌, Bool, List, [], ◌∷◌, ◌++◌, map, fold, bit_xor, slice_index, slice_index_or, slice_set, if◌then◌else◌}
-use Rattle.std.specs.{List.range_with_len, Int.w64, Int.bit_not, Int.rotate_right, Simd.first_chunks}
+use Rattle.std.specs.{List.range_with_len, Simd.first_chunks}
+use Rattle.std.specs.Int.{w64, bit_not, rotate_right}
 use Rattle.byteorder.specs.Endian.{little_number}
 pub use Rattle.blake2b_core.specs.Bytes.{ByteString}
 

@@ -1,7 +1,9 @@
 //! The digest of a message that comes in pieces.
+ghost use Rattle.blake2b_core.specs.Digest.{IsDigestLen};
 ghost use Rattle.blake2b_core.specs.declared.incremental.TheConstants.{LIMIT};
 ghost use Rattle.blake2b_core.specs.declared.one_shot.TheConstants.{BLOCK};
-ghost use Rattle.std.specs.Prelude.{◌≡◌, ◌↔◌, ◌+◌, ◌-◌, ◌<◌, ◌≤◌, [], ◌++◌, length, take, IsSome, IfSome, IsOk, OnOk, OnErr};
+ghost use Rattle.std.specs.Prelude.{◌≡◌, ◌↔◌, ◌+◌, ◌-◌, ◌<◌, ◌≤◌, [], ◌++◌};
+ghost use Rattle.std.specs.Prelude.{length, take, IsSome, IfSome, IsOk, OnOk, OnErr};
 
 use crate::compression::compress;
 use crate::one_shot::{BLOCK, followed_blocks, initial, padded_block, state_after};
@@ -41,14 +43,13 @@ pub struct Blake2b {
     buffer_len: usize,
     taken: u64,
     len: usize,
-    ghost buffer_len_high: { buffer_len ≤ BLOCK },
-    ghost len_low: { 1 ≤ len },
-    ghost len_high: { len ≤ 64 },
+    ghost within: { buffer_len ≤ BLOCK },
+    ghost is_digest_len: { IsDigestLen len },
 }
 
 impl Blake2b {
     ghost use Rattle.blake2b_core.specs.Bytes.{ByteString};
-    ghost use Rattle.blake2b_core.specs.Digest.{IsDigestLen, blake2b};
+    ghost use Rattle.blake2b_core.specs.Digest.{blake2b};
     ghost use Rattle.blake2b_core.specs.refinement.Holding.{Holds, HoldsSoFar, digest_len, taken_count};
 
     /// Creates the state of the empty message, for a digest of `len` bytes. Returns `None` if and only if `len` is 0 or

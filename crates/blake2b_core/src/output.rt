@@ -1,7 +1,7 @@
 //! The bytes of a BLAKE2b digest.
+ghost use Rattle.blake2b_core.specs.Digest.{IsDigestLen};
 ghost use Rattle.byteorder.specs.Endian.{little_bytes};
-ghost use Rattle.std.specs.List.{flat_map};
-ghost use Rattle.std.specs.Prelude.{◌≡◌, ◌≤◌, length, take};
+ghost use Rattle.std.specs.Prelude.{◌≡◌, flat_map, length, take};
 
 use byteorder::{ByteOrder, LittleEndian};
 use std::marker::Model;
@@ -28,8 +28,7 @@ impl Model for Output {
 impl Output {
     // The first `len` bytes of the words of `h`, each written low byte first.
     pub(crate) fn from_state(h: &[u64; 8], len: usize) -> Output
-        requires low { 1 ≤ len }
-        requires high { len ≤ 64 }
+        requires { IsDigestLen len }
         ensures value { result ≡ take len (flat_map (little_bytes 8) h.now) }
         ensures len { length result ≡ len }
     {
@@ -41,8 +40,7 @@ impl Output {
     /// Returns the digest's bytes, 1 to 64 of them.
     pub fn as_slice(&self) -> &[u8]
         ensures value { result.now ≡ self.now }
-        ensures at_least { 1 ≤ length self.now }
-        ensures at_most { length self.now ≤ 64 }
+        ensures size { IsDigestLen (length self.now) }
     {
         &self.bytes[..self.len]
     }

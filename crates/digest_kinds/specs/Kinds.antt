@@ -3,15 +3,14 @@ use Rattle.std.specs.Prelude.{ℕ, ◌==◌, ◌&&◌, nat_le, Bool, List, [], �
 use Rattle.std.specs.List.{AllPass}
 use Rattle.md5.specs.Md5.{md5}
 use Rattle.sha1.specs.Sha1.{sha1}
-use Rattle.sha2.specs.{Sha256.sha224, Sha256.sha256, Sha512.sha384, Sha512.sha512}
+use Rattle.sha2.specs.Sha256.{sha224, sha256}
+use Rattle.sha2.specs.Sha512.{sha384, sha512}
 use Rattle.hex.specs.Hex.{is_hex_digit}
 use Rattle.blake2b_core.specs.Digest.{blake2b}
 use Rattle.digest_kinds.specs.Bytes.{ByteString}
-pub use Rattle.digest_kinds.specs.declared.algo.Algo.{Algo}
+pub use Rattle.digest_kinds.specs.declared.{algo.Algo.Algo, algo.Algos.Algos, kind.LengthFault.LengthFault}
 pub use Rattle.digest_kinds.specs.declared.algo.Algo.TheVariants.{Md5, Sha1, Sha224, Sha256, Sha384, Sha512, Blake2b}
-pub use Rattle.digest_kinds.specs.declared.kind.LengthFault.{LengthFault}
 pub use Rattle.digest_kinds.specs.declared.kind.LengthFault.TheVariants.{TooLong, NotBytes}
-pub use Rattle.digest_kinds.specs.declared.algo.Algos.{Algos}
 
 -- all algorithms
 abbrev pub all_algos : List Algo

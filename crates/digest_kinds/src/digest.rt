@@ -1,5 +1,6 @@
 //! A digest of any kind, and its digits.
 
+ghost use Rattle.blake2b_core.specs.Digest.{IsDigestLen};
 ghost use Rattle.digest_kinds.specs.Kinds.{IsDigits};
 ghost use Rattle.hex.specs.Hex.{decode_of, encode_lower};
 ghost use Rattle.std.specs.Prelude.{◌≡◌, ◌*◌, ◌++◌, ◌≤◌, ◌↔◌, IsTrue, drop, length, IsSome, IfSome, Ok, IsOk, IfOk};
@@ -34,8 +35,7 @@ impl Model for Digest {
 impl Digest {
     /// The digest of these bytes.
     pub(crate) fn from_bytes(digest: &[u8]) -> Digest
-        requires at_least { 1 ≤ length digest.now }
-        requires at_most { length digest.now ≤ 64 }
+        requires { IsDigestLen (length digest.now) }
         ensures { result ≡ digest.now }
     {
         let mut bytes = [0; 64];
@@ -64,8 +64,7 @@ impl Digest {
     /// Returns the digest's bytes, 1 to 64 of them.
     pub fn as_slice(&self) -> &[u8]
         ensures value { result.now ≡ self.now }
-        ensures at_least { 1 ≤ length self.now }
-        ensures at_most { length self.now ≤ 64 }
+        ensures size { IsDigestLen (length self.now) }
     {
         &self.bytes[..self.len]
     }

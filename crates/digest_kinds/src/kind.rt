@@ -3,7 +3,7 @@
 ghost use Rattle.blake2b_core.specs.Digest.{IsDigestLen};
 ghost use Rattle.digest_kinds.specs.Bytes.{LIMIT};
 ghost use Rattle.digest_kinds.specs.Kinds.{blake2b_kind, full_kind, tag, blake2b_of_bits, digest};
-ghost use Rattle.std.specs.Prelude.{◌≡◌, ◌↔◌, ◌*◌, ◌<◌, ◌≤◌, length, IsSome, IfSome};
+ghost use Rattle.std.specs.Prelude.{◌≡◌, ◌↔◌, ◌*◌, ◌<◌, length, IsSome, IfSome};
 
 use crate::algo::Algo;
 use crate::digest::Digest;
@@ -83,8 +83,7 @@ impl Kind {
 
     /// BLAKE2b with a digest of `len` bytes.
     pub(crate) fn blake2b(len: usize) -> Kind
-        requires at_least { 1 ≤ len }
-        requires at_most { len ≤ 64 }
+        requires { IsDigestLen len }
         ensures { result ≡ blake2b_kind len }
     {
         Kind {
@@ -127,8 +126,7 @@ impl Kind {
     /// Returns the number of bytes of the digest, from 1 to 64.
     pub fn len(self) -> usize
         ensures value { result ≡ self.len }
-        ensures at_least { 1 ≤ result }
-        ensures at_most { result ≤ 64 }
+        ensures range { IsDigestLen result }
     {
         self.len
     }

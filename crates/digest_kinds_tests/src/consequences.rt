@@ -3,7 +3,8 @@ ghost use Rattle.blake2b_core.specs.Digest.{IsDigestLen, blake2b};
 ghost use Rattle.blake2b_core.specs.refinement.Holding.{Holds, digest_len, taken_count};
 ghost use Rattle.digest_kinds.specs.Bytes.{ByteString};
 ghost use Rattle.digest_kinds.specs.Kinds.{digest};
-ghost use Rattle.std.specs.Prelude.{◌≡◌, ◌↔◌, ◌+◌, ◌^◌, ◌<◌, ◌++◌, length, take, slice_get, nat_lt, if◌then◌else◌, Some, Ok, IsSome, IfSome};
+ghost use Rattle.std.specs.Prelude.{◌≡◌, ◌↔◌, ◌+◌, ◌^◌, ◌<◌, ◌++◌, if◌then◌else◌};
+ghost use Rattle.std.specs.Prelude.{length, take, slice_get, nat_lt, Some, Ok, IsSome, IfSome};
 
 use blake2b_core::{Blake2b, Output};
 use digest_kinds::{Algo, Digest, Hasher, Kind, UnknownTag};

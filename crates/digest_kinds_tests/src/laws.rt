@@ -1,5 +1,4 @@
 //! What follows from the laws of digests, tags and kinds.
-ghost use Rattle.blake2b_core.specs.Digest.{blake2b};
 ghost use Rattle.byteorder.specs.Endian.{big_bytes};
 ghost use Rattle.digest_kinds.specs.Kinds.{tag};
 ghost use Rattle.digest_kinds.specs.declared.algo.Algo.{Algo};

@@ -6,7 +6,7 @@ use Rattle.digest_kinds.specs.Kinds.{tag}
 use Rattle.sum_lines.specs.{grammar.Shapes.Algos, grammar.Shapes.KindValue, grammar.Shapes.IsPlain, grammar.Shapes.IsTagged, grammar.Shapes.mark, declared.reading.read_line.Form.Form}
 use Rattle.sum_lines.specs.declared.reading.read_line.Form.TheVariants.{Undecided, Standard, Reversed}
 use Rattle.sum_lines.specs.Escape.{own_profile, escape, escape_of, escape_by}
-use Rattle.sum_lines.specs.grammar.Entries.{EntryValue, is_ignored, IsRawName, IsEntry}
+use Rattle.sum_lines.specs.grammar.Entries.{EntryValue, is_ignored, is_ignored_by, IsRawName, IsEntry}
 use Rattle.sum_lines.specs.grammar.ParsedLines.{ParsedLine, ignored, bad, entry, parse_line}
 use Rattle.sum_lines.proofs.ParsedLineLemmas.{parse_is_grammar, bad_exactly}
 use Rattle.sum_engine.specs.check.OldVerdicts.{older_profile, HasNoCarriageReturn, NamesNoCarriageReturn}
@@ -101,8 +101,8 @@ CleanParsedLine bad = Unit {0}
 CleanParsedLine (entry s) = HasNoCarriageReturn s.name
 
 -- a line that isn't empty is ignored under both profiles or under neither
-ignored_same : (line : List ℕ) (q : Bool) → 0 < length line → is_ignored own_profile line ≡ q
-    → is_ignored older_profile line ≡ q
+ignored_same : (line : List ℕ) (q : Bool) → 0 < length line → is_ignored line ≡ q
+    → is_ignored_by older_profile line ≡ q
 ignored_same line q some h = search rules
 
 -- a line without one, in which no name has one, says the same under both profiles

@@ -3,9 +3,9 @@
 use Rattle.std.proofs.lemmas.Grind.{common_steps}
 use Rattle.std.proofs.Common.{ℕ, ◌≡◌, Bool, true, false, List, [], ◌∷◌, ◌++◌, Option, None, Some, refl, sym, ◌∙◌, inl, inr, arith}
 use Rattle.std.specs.List.{AllPass}
-use Rattle.digest_kinds.specs.{Kinds.KindValue, declared.algo.Algos.Algos}
+use Rattle.digest_kinds.specs.Kinds.{KindValue}
 use Rattle.sum_lines.specs.grammar.Shapes.{Algos, is_blank, mark, IsPlain}
-use Rattle.sum_lines.specs.grammar.Entries.{Form, Undecided, EntryValue, is_ignored, IsForm, IsEntry, form_then, line_form, form}
+use Rattle.sum_lines.specs.grammar.Entries.{Form, Undecided, EntryValue, is_ignored, is_ignored_by, IsForm, IsEntry, form_then, line_form, form}
 use Rattle.sum_lines.specs.{Escape.Profile, Escape.own_profile, grammar.LineParts.LinePartsValue, grammar.LineParts.plain_parts}
 use Rattle.sum_lines.specs.grammar.LineLaws.{HasOneForm}
 use Rattle.digest_kinds.proofs.PrefixLemmas.{none_of}
@@ -14,25 +14,24 @@ use Rattle.sum_lines.specs.grammar.ParsedLines.{entry_of, parse_line}
 
 -- a line of either shape isn't ignored, whichever the profile
 not_ignored : (p : Profile) (blanks : List ℕ) (e : Bool) (xs rest : List ℕ) → AllPass is_blank blanks → BeginsText xs
-    → is_ignored p (blanks ++ (mark e ++ (xs ++ rest))) ≡ false
+    → is_ignored_by p (blanks ++ (mark e ++ (xs ++ rest))) ≡ false
 not_ignored p blanks e xs rest all b = grind (arith, common_steps)
 
 -- a plain line isn't ignored
 pub plain-not_ignored : {algos : Algos} {line : List ℕ} {e : Bool} {kind : KindValue} {d tail : List ℕ} (p : Profile)
-    → IsPlain algos line e kind d tail → is_ignored p line ≡ false
+    → IsPlain algos line e kind d tail → is_ignored_by p line ≡ false
 plain-not_ignored p plain = let digits = plain-digits plain in grind (arith, not_ignored)
 
 -- no line that spells an entry is ignored
 pub entry-not_ignored : {escape : List ℕ → List ℕ} {algos : Algos} {f : Form} {line : List ℕ} {s : EntryValue}
-    (p : Profile) → IsEntry escape algos f line s → is_ignored p line ≡ false
+    (p : Profile) → IsEntry escape algos f line s → is_ignored_by p line ≡ false
 entry-not_ignored p e = elim e.shape [
   | inl t ↦ grind (arith, not_ignored)
   | inr t ↦ plain-not_ignored p t.1
 ]
 
 -- an ignored line is not plain, and has no form
-pub ignored_undecided : (algos : Algos) (line : List ℕ) → is_ignored own_profile line ≡ true
-    → line_form algos line ≡ Undecided
+pub ignored_undecided : (algos : Algos) (line : List ℕ) → is_ignored line ≡ true → line_form algos line ≡ Undecided
 ignored_undecided algos line ignored =
     rw (← none_of (plain_parts algos line) (λ p h. cc (plain-not_ignored own_profile (read_is_plain h)))) refl
 

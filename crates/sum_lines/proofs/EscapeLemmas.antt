@@ -2,7 +2,7 @@
 -- escaped can be read back: both the definition and the code find the name. After that, the raw name in a line.
 use Rattle.std.proofs.Common.{◌≡◌, ℕ, zero, suc, ◌+◌, ◌-◌, ◌<◌, ◌≤◌, true, not, List, [], ◌∷◌, ◌++◌, length, take, drop, get_or, Option, None, Some, MatchOption, refl, ap, sym, ◌∙◌, arith, is_some, length-append, length-drop, ◌↔◌, ◌==◌, Bool, false, cond, ◌≢◌, append_assoc, All, nat_lt, rules, slice_range}
 use Rattle.std.proofs.lemmas.{Bool.false_from_ne_true, Grind.flat_map-append, Grind.common_steps, Slice.Eq.bytes_eq-Decides, Option.cond_some, List.Sums.list_all-from_AllPass, List.Folds.list_all_at}
-use Rattle.std.proofs.lemmas.List.{length-take-le, append-nil, append_cancel_left, drop-drop, drop-take}
+use Rattle.std.proofs.lemmas.List.{length-take-le, append-nil, append_cancel_left, drop-drop, drop-take, take-append-drop}
 use Rattle.std.proofs.Math.Seq.{take-length, take-append-add}
 use Rattle.std.specs.{List.list_all, Option.is_some}
 use Rattle.memchr.specs.Find.{Nowhere, Passes, IsFirstByte, is_byte3, is_byte}
@@ -22,22 +22,20 @@ escape-plain (x ∷ xs) (suc k) le none =
     let more = escape-plain xs k (omega arith) (λ j low high. none (suc j) (omega arith) (omega arith)) in
     let here = none 0 (omega arith) (omega arith) in grind arith
 
--- what a search for the first special byte says: then come that byte's escape and the escape of what follows it
+-- what a search for the first special byte says: what precedes it is its own escape
 pub escape_cut : (xs : List ℕ) (r : Option ℕ) → IsFirstByte (is_byte3 92 10 13) xs r
-    → MatchOption r (escape xs ≡ xs)
-    (λ k. escape xs ≡ take k xs ++ (escape_of own_profile (get_or xs k 0) ++ escape (drop (k + 1) xs)))
+    → MatchOption r (escape xs ≡ xs) (λ k. escape xs ≡ take k xs ++ escape (drop k xs))
 escape_cut xs None none = rw (take-length xs) at (escape-plain xs (length xs) (omega arith) none)
 escape_cut xs (Some k) first =
     let within = first.0.high in
-    let cut : xs ≡ take k xs ++ (get_or xs k 0 ∷ drop (k + 1) xs) = grind (arith, common_steps) in
-    let split = ap escape cut ∙ flat_map-append (escape_of own_profile) (take k xs) (get_or xs k 0 ∷ drop (k + 1) xs) in
+    let split = ap escape (sym (take-append-drop k xs)) ∙ flat_map-append (escape_of own_profile) (take k xs) _ in
     rw (escape-plain xs k (omega arith) first.0.before) at split
 
 -- an escape, cut at the first special byte, of the two parts of a slice that was split there
 pub escape-parts : {prefix back : List ℕ} (xs : List ℕ) (k : ℕ) → prefix ≡ take k xs → back ≡ drop k xs
-    → escape xs ≡ take k xs ++ (escape_of own_profile (get_or xs k 0) ++ escape (drop (k + 1) xs))
-    → escape xs ≡ prefix ++ (escape_of own_profile (get_or back 0 0) ++ escape (take (length back - 1) (drop 1 back)))
-escape-parts xs k prefix_is back_is cut = grind (arith, common_steps)
+    → k < length xs → escape xs ≡ take k xs ++ escape (drop k xs)
+    → escape xs ≡ prefix ++ (escape (get_or back 0 0 ∷ []) ++ escape (take (length back - 1) (drop 1 back)))
+escape-parts xs k prefix_is back_is within cut = grind (arith, common_steps)
 
 -- an escape is no shorter than its name
 pub length-escape : (xs : List ℕ) → length xs ≤ length (escape xs)
@@ -45,11 +43,11 @@ length-escape [] = omega arith
 length-escape (x ∷ xs) = grind (arith, length-append, length-escape xs)
 
 -- a name without a special byte is its own escape, and any other name is shorter than its escape
-pub differs_by : (xs : List ℕ) (r : Option ℕ) → IsFirstByte (is_byte3 92 10 13) xs r
-    → is_some r ≡ escape_differs own_profile xs
+pub differs_by : (xs : List ℕ) (r : Option ℕ) → IsFirstByte (is_byte3 92 10 13) xs r → is_some r ≡ escape_differs xs
 differs_by xs None none = ap not (sym ((bytes_eq-Decides (escape xs) xs).1 (escape_cut xs None none)))
 differs_by xs (Some k) first =
-    let split = ap length (escape_cut xs (Some k) first) in
+    let here : drop k xs ≡ get_or xs k 0 ∷ drop (k + 1) xs = grind (arith, common_steps, first.0.high) in
+    let split = ap length (rw here at (escape_cut xs (Some k) first)) in
     let rest = length-escape (drop (k + 1) xs) in
     ap not (sym (false_from_ne_true _ (λ same.
     let equal = ap length ((bytes_eq-Decides (escape xs) xs).0 same) in
@@ -111,13 +109,13 @@ pub record IsHalfUnescaped (start bytes : List ℕ) (read write : ℕ) : Type 0 
 
 -- if no escape begins what is left, the bytes are the escape of no name
 pub IsHalfUnescaped-refused : {start bytes : List ℕ} {read write : ℕ} → IsHalfUnescaped start bytes read write
-    → read < length bytes → ((b : ℕ) (rest : List ℕ) → drop read bytes ≢ escape_of own_profile b ++ rest)
+    → read < length bytes → ((b : ℕ) (rest : List ℕ) → drop read bytes ≢ escape (b ∷ []) ++ rest)
     → (n : List ℕ) → start ≢ escape n
 IsHalfUnescaped-refused {bytes = bytes} {read = read} {write = write} h some none n e =
     let rest = escape-rest (take write bytes) n (drop read bytes) (h.whole ∙ e) in
     elim rest.0 as (λ m. drop read bytes ≡ escape m → ⊥) [
       | [] ↦ λ is. omega (arith, length-drop read bytes, ap length is)
-      | b ∷ bs ↦ λ is. none b (escape bs) is
+      | b ∷ bs ↦ λ is. none b (escape bs) (is ∙ flat_map-append (escape_of own_profile) (b ∷ []) bs)
     ] rest.2
 
 -- the bytes from a place on, which were replaced by the name whose escape they were
@@ -140,8 +138,7 @@ part_of xs i j le = let whole = drop-take i (j - i) xs in grind arith
 pub unescaped : (from : ℕ) (old new : List ℕ) (r : Bool)
     → ((n : List ℕ) → (drop from old ≡ escape n) ↔ ((r ≡ true) × (new ≡ take from old ++ n)))
     → take from new ≡ take from old → cond r (Some (drop from new)) None ≡ unescape own_profile (drop from old)
-unescaped from old new true h before =
-    let is = h (drop from new) in grind (arith, common_steps, unescape-escape)
+unescaped from old new true h before = let is = h (drop from new) in grind (arith, common_steps, unescape-escape)
 unescaped from old new false h before = search rules
 
 -- a search for NUL shows whether all bytes are above zero
@@ -151,7 +148,8 @@ no_nul xs r h = search (rules, list_all-from_AllPass, list_all_at)
 -- ---- the raw name of a Standard list's tail
 
 -- the raw name begins one place further on
-pub raw_standard : (line : List ℕ) (p : LineParts) → begins_standard (line_parts line p).text ≡ true
-    → parts_with_raw_name Standard (line_parts line p) ≡ Some (line_parts line (record p { start = p.start + 1 }))
+pub raw_standard : (line : List ℕ) (p : LineParts) → let parts = line_parts line p in
+    begins_standard parts.text ≡ true
+    → parts_with_raw_name Standard parts ≡ Some (record parts { text = slice_range line (p.start + 1) p.stop })
 raw_standard line p h =
     let one = drop-take 1 (p.stop - (p.start + 1)) (drop p.start line) in grind (arith, drop-drop 1 p.start line)

@@ -4,7 +4,7 @@ use Rattle.std.specs.Option.{option_or}
 use Rattle.std.proofs.lemmas.Option.{same_Some}
 use Rattle.digest_kinds.specs.Bytes.{◌>>=◌}
 use Rattle.sum_lines.specs.{grammar.Shapes.Algos, grammar.Shapes.IsPlain, grammar.Shapes.IsTagged, Escape.Profile, Escape.own_profile, Escape.escape_by}
-use Rattle.sum_lines.specs.grammar.Entries.{Form, EntryValue, IsEntry, IsRawName, is_ignored}
+use Rattle.sum_lines.specs.grammar.Entries.{Form, EntryValue, IsEntry, IsRawName, is_ignored_by}
 use Rattle.sum_lines.specs.grammar.LineParts.{LinePartsValue, tagged_parts, plain_parts}
 use Rattle.sum_lines.specs.grammar.ParsedLines.{parts_with_raw_name, entry_of_parts, entry_of, ParsedLine, bad, parse_line}
 use Rattle.sum_lines.specs.grammar.LineLaws.{HasOneEntry, FitsGrammar, ParsesByGrammar}
@@ -79,10 +79,10 @@ matches {p} {algos} {f} {line} h = rw h (parse_is_grammar p algos f line)
 
 -- a line is bad if and only if it is neither ignored nor an entry
 pub bad_exactly : (p : Profile) (algos : Algos) (f : Form) (line : List ℕ) → (parse_line p algos f line ≡ bad)
-    ↔ ((is_ignored p line ≡ false) × ((s : EntryValue) → ¬ IsEntry (escape_by p) algos f line s))
+    ↔ ((is_ignored_by p line ≡ false) × ((s : EntryValue) → ¬ IsEntry (escape_by p) algos f line s))
 bad_exactly p algos f line =
     let found = entry_of p algos f line in (
-      λ h. let said : (is_ignored p line ≡ false) × (found ≡ None) = grind arith in
+      λ h. let said : (is_ignored_by p line ≡ false) × (found ≡ None) = grind arith in
           (said.0, λ s e. let wrong = sym said.1 ∙ entry_value p algos f line s e in cc),
       λ h. rw (h.0, ← none_of found (λ s e. h.1 s (value_entry p algos f line s e))) refl,
     )

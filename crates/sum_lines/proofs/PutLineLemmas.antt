@@ -8,7 +8,7 @@ use Rattle.hex.proofs.HexLemmas.{decode_of-encode_lower}
 use Rattle.digest_kinds.specs.{Kinds.KindValue, Kinds.tag, KindTexts.IsWidth, declared.algo.Algo.TheVariants.Blake2b}
 use Rattle.digest_kinds.proofs.{BitsLemmas.decimal-digits, KindLemmas.has_len-range, PrefixLemmas.none_of}
 use Rattle.sum_lines.specs.declared.writing.put_line.Mode.{Mode}
-use Rattle.sum_lines.specs.{Escape.own_profile, Escape.escape, Escape.escape_differs, grammar.LineParts.plain_parts}
+use Rattle.sum_lines.specs.{Escape.escape, Escape.escape_differs, grammar.LineParts.plain_parts}
 use Rattle.sum_lines.specs.grammar.Shapes.{Algos, One, mark, Allows, IsPlain, IsTagged}
 use Rattle.sum_lines.specs.grammar.Entries.{Form, Undecided, Standard, begins_standard, IsEntry, line_form, form}
 use Rattle.sum_lines.specs.grammar.LineLaws.{IsWritable, SpellsBack, IsReadBack}
@@ -19,7 +19,7 @@ use Rattle.sum_lines.specs.Lines as lines
 -- a line that ends with a newline, without it
 abbrev pub prefix_of : Mode → KindValue → List ℕ → List ℕ → List ℕ
 prefix_of mode kind name digest =
-    mark (escape_differs own_profile name) ++ lines.layout mode kind (escape name) (encode_lower digest)
+    mark (escape_differs name) ++ lines.layout mode kind (escape name) (encode_lower digest)
 
 -- ---- bytes within a line
 
@@ -69,7 +69,7 @@ module _ {kind : KindValue} {name digest : List ℕ} (before later : List (List 
     }
 
     -- what is written spells the name: its escape or, if that doesn't differ, the name
-    name-spelled : escape name ≡ cond (escape_differs own_profile name) (escape name) name
+    name-spelled : escape name ≡ cond (escape_differs name) (escape name) name
     name-spelled = grind (arith, bytes_eq-Decides)
 
     -- the digits of a written line may be within a line
@@ -82,12 +82,12 @@ module _ {kind : KindValue} {name digest : List ℕ} (before later : List (List 
     -- a plain line is read back: x is the byte before the name
     plain-back : (x : ℕ) → (x == 32 || x == 42) ≡ true → IsReadable (form (One kind.algo) before)
         → SpellsBack (One kind.algo) before later
-        ((mark (escape_differs own_profile name) ++ (encode_lower digest ++ (32 ∷ x ∷ escape name))) ++ (10 ∷ []))
+        ((mark (escape_differs name) ++ (encode_lower digest ++ (32 ∷ x ∷ escape name))) ++ (10 ∷ []))
         kind name digest
     plain-back x star readable =
-        let line = mark (escape_differs own_profile name) ++ (encode_lower digest ++ (32 ∷ x ∷ escape name)) in
+        let line = mark (escape_differs name) ++ (encode_lower digest ++ (32 ∷ x ∷ escape name)) in
         let one : list_all inline line ≡ true = grind (arith, list_all-append, inline-digits, inline-escape) in
-        let shape : IsPlain (One kind.algo) line (escape_differs own_profile name) kind digest
+        let shape : IsPlain (One kind.algo) line (escape_differs name) kind digest
         (x ∷ escape name) = record {
           blanks = [];
           digits = encode_lower digest;
@@ -106,7 +106,7 @@ module _ {kind : KindValue} {name digest : List ℕ} (before later : List (List 
         let after : (others : List (List ℕ)) → form (One kind.algo) (before ++ (line ∷ others)) ≡ Standard =
         λ others. grind (arith, form_at) in
         back (One kind.algo) line one (rw (after later) (record {
-          escaped = escape_differs own_profile name;
+          escaped = escape_differs name;
           raw = escape name;
           shape = inr (x ∷ escape name, shape, (standard, x, refl));
           no_nul = w.no_nul;
@@ -116,13 +116,13 @@ module _ {kind : KindValue} {name digest : List ℕ} (before later : List (List 
     -- a tagged line is read back
     tagged-back : (algos : Algos) (width : List ℕ) → Allows algos kind.algo → IsWidth kind width
         → IsReadable (form algos before)
-        → SpellsBack algos before later ((mark (escape_differs own_profile name)
+        → SpellsBack algos before later ((mark (escape_differs name)
         ++ (tag kind.algo ++ (width ++ (32 ∷ 40 ∷ (escape name ++ (41 ∷ 32 ∷ 61 ∷ 32 ∷ encode_lower digest))))))
         ++ (10 ∷ [])) kind name digest
     tagged-back algos width allowed is_width readable =
-        let line = mark (escape_differs own_profile name)
+        let line = mark (escape_differs name)
         ++ (tag kind.algo ++ (width ++ (32 ∷ 40 ∷ (escape name ++ (41 ∷ 32 ∷ 61 ∷ 32 ∷ encode_lower digest))))) in
-        let shape : IsTagged algos line (escape_differs own_profile name) kind digest (escape name) = record {
+        let shape : IsTagged algos line (escape_differs name) kind digest (escape name) = record {
           blanks = [];
           width = width;
           gap = true;
@@ -141,7 +141,7 @@ module _ {kind : KindValue} {name digest : List ℕ} (before later : List (List 
         } in
         let other = none_of (plain_parts algos line) (λ p h. one_shape (read_is_plain h) shape) in
         back algos line (grind (arith, list_all-append, inline-width, inline-escape, inline-digits)) (record {
-          escaped = escape_differs own_profile name;
+          escaped = escape_differs name;
           raw = escape name;
           shape = inl shape;
           no_nul = w.no_nul;

@@ -23,8 +23,7 @@ pub tag_in-some : (algos : Algos) (s : List ℕ) {a : Algo} → tag_in algos s �
 tag_in-some (One b) s {a} h =
     let found = cond_some (starts_with ◌==◌ s (tag b)) b a h in
     rw (← found.1) (refl, (starts_is Decides-eqb s (tag b) _ refl).0 found.0)
-tag_in-some Any s h =
-    let found = rw h at (IfSome-find-begins s all_algos) in grind (arith, front_rest)
+tag_in-some Any s h = let found = rw h at (IfSome-find-begins s all_algos) in grind (arith, front_rest)
 
 -- ---- the whole line
 

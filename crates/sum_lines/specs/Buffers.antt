@@ -1,5 +1,5 @@
 -- A buffer over a sink, and what a call that writes a text to it does.
-use Rattle.std.specs.Prelude.{true, ◌≡◌, ◌<◌, ◌≤◌, ◌%◌, [], ◌++◌, length, ⊤, Result, Ok, Err}
+use Rattle.std.specs.Prelude.{◌≡◌, ◌<◌, ◌≤◌, ◌%◌, [], ◌++◌, length, IsTrue, ⊤, Result, Ok, Err}
 use Rattle.sum_lines.specs.Sinks.{ByteString, SinkState, GivesAll}
 use Rattle.sum_lines.specs.declared.sinks.buffered.TheConstants.{CAPACITY}
 
@@ -10,7 +10,7 @@ pub record BufferState : Type 0 where
 
 -- nothing is buffered, and the sink below it is flushed
 abbrev pub IsFlushed : BufferState → Type 0
-IsFlushed b = (b.buffered ≡ []) × (b.sink.flushed ≡ true)
+IsFlushed b = (b.buffered ≡ []) × IsTrue b.sink.flushed
 
 -- a text was accepted: of the buffered bytes and it, all but a last piece, which is buffered, was given in full pieces
 pub record Accepts (a b : BufferState) (text : ByteString) : Type 0 where

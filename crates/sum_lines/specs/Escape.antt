@@ -27,5 +27,5 @@ abbrev pub escape : ByteString → ByteString
 escape name = escape_by own_profile name
 
 -- whether the escape of a name differs from the name
-abbrev pub escape_differs : Profile → ByteString → Bool
-escape_differs p name = not (bytes_eq (escape_by p name) name)
+abbrev pub escape_differs : ByteString → Bool
+escape_differs name = not (bytes_eq (escape name) name)

@@ -3,10 +3,10 @@ use Rattle.std.specs.Prelude.{[], ◌∷◌, ◌++◌, codes, if◌then◌else�
 use Rattle.std.specs.List.{concat}
 use Rattle.hex.specs.Hex.{encode_lower}
 use Rattle.digest_kinds.specs.KindTexts.{kind_text}
-pub use Rattle.sum_lines.specs.declared.writing.put_line.Style.{Style}
-pub use Rattle.sum_lines.specs.declared.writing.put_line.Mode.{Mode}
+pub use Rattle.sum_lines.specs.declared.writing.put_line.{Style.Style, Mode.Mode}
 use Rattle.sum_lines.specs.declared.writing.put_line.Mode.TheVariants.{Text, Binary, Tag}
-use Rattle.sum_lines.specs.{Escape.own_profile, Escape.escape, Escape.escape_differs, grammar.Shapes.ByteString, grammar.Shapes.mark, grammar.Shapes.KindValue}
+use Rattle.sum_lines.specs.Escape.{escape, escape_differs}
+use Rattle.sum_lines.specs.grammar.Shapes.{ByteString, mark, KindValue}
 
 -- a line without its end and without the backslash that may begin it
 abbrev pub layout : Mode → KindValue → ByteString → ByteString → ByteString
@@ -16,6 +16,5 @@ layout Tag kind name digits = concat (kind_text kind ∷ codes " (" ∷ name ∷
 
 -- the whole line: either it ends with a newline and its name is escaped, or it ends with NUL and its name isn't
 abbrev pub line : Style → KindValue → ByteString → ByteString → ByteString
-line style kind name digest = let digits = encode_lower digest in
-    if style.zero then layout style.mode kind name digits ++ codes "\0"
-    else mark (escape_differs own_profile name) ++ layout style.mode kind (escape name) digits ++ codes "\n"
+line style kind name digest = if style.zero then layout style.mode kind name (encode_lower digest) ++ codes "\0"
+    else mark (escape_differs name) ++ layout style.mode kind (escape name) (encode_lower digest) ++ codes "\n"

@@ -1,7 +1,8 @@
 //! The escape of names in lines and diagnostics.
-ghost use Rattle.std.specs.Prelude.{◌≡◌, ◌≢◌, ◌↔◌, ◌+◌, ◌<◌, ◌≤◌, ◌++◌, ℕ, length, vec_len, take, drop, slice_index, is_some, true, IfSome, IfNone, MatchOption};
+ghost use Rattle.std.specs.Prelude.{◌≡◌, ◌≢◌, ◌↔◌, ◌<◌, ◌≤◌, ◌∷◌, ◌++◌, [], ℕ};
+ghost use Rattle.std.specs.Prelude.{length, vec_len, take, drop, is_some, IsTrue, IfSome, IfNone, MatchOption};
 ghost use Rattle.sum_lines.specs.Buffers.{WritesAll};
-ghost use Rattle.sum_lines.specs.Escape.{ByteString, own_profile, escape, escape_of, escape_differs};
+ghost use Rattle.sum_lines.specs.Escape.{ByteString, escape, escape_differs};
 
 use crate::sinks::buffered::{Buffered, put_all};
 use crate::sinks::sink::{Sink, SinkFault};
@@ -10,7 +11,7 @@ use std::alloc::Allocator;
 
 /// Returns whether the escaped name differs from the name.
 pub fn needs_escape(name: &[u8]) -> bool
-    ensures { result ≡ escape_differs own_profile name.now }
+    ensures { result ≡ escape_differs name.now }
 {
     next_special(name).is_some()
 }
@@ -35,17 +36,16 @@ pub fn put_escaped<S: Sink>(sink: &mut Buffered<S>, name: &[u8]) -> Result<(), S
 #[tactic(auto, using(crate::proofs::EscapeLemmas::escape_cut, crate::proofs::EscapeLemmas::differs_by))]
 fn next_special(name: &[u8]) -> Option<usize>
     ensures within { IfSome result (λ at. at < length name.now) }
-    ensures special { is_some result ≡ escape_differs own_profile name.now }
-    ensures cut { MatchOption result (escape name.now ≡ name.now) (λ at. escape name.now
-        ≡ take at name.now ++
-        (escape_of own_profile (slice_index name.now at) ++ escape (drop (at + 1) name.now))) }
+    ensures special { is_some result ≡ escape_differs name.now }
+    ensures cut { MatchOption result (escape name.now ≡ name.now)
+        (λ at. escape name.now ≡ take at name.now ++ escape (drop at name.now)) }
 {
     memchr3(b'\\', b'\n', b'\r', name)
 }
 
 // Writes the escape of one byte.
 fn put_escape<S: Sink>(sink: &mut Buffered<S>, byte: u8) -> Result<(), SinkFault>
-    ensures { WritesAll sink.old sink.new (escape_of own_profile byte) result }
+    ensures { WritesAll sink.old sink.new (escape (byte ∷ [])) result }
 {
     match byte {
         b'\\' => put_all(sink, b"\\\\"),
@@ -62,7 +62,7 @@ pub fn unescape_in<A: Allocator>(line: &mut Vec<u8, A>, from: usize) -> bool
     requires { from ≤ vec_len line.old }
     // For each name: the bytes were its escape if and only if the call returns true and leaves the name in their place.
     ensures name { (n : ByteString) → (drop from line.old.items ≡ escape n)
-        ↔ ((result ≡ true) × (line.new.items ≡ take from line.old.items ++ n)) }
+        ↔ (IsTrue result × (line.new.items ≡ take from line.old.items ++ n)) }
     ensures before { take from line.new.items ≡ take from line.old.items }
     ensures len { vec_len line.new ≤ vec_len line.old }
 {
@@ -94,11 +94,10 @@ fn unescape(bytes: &mut [u8]) -> Option<usize>
 
 // The byte whose escape the bytes begin with, and the length of that escape, or `None` if they begin with no escape.
 fn first_escaped(bytes: &[u8]) -> Option<(u8, usize)>
-    ensures escape { IfSome result (λ r. bytes.now
-        ≡ escape_of own_profile r.0 ++ drop r.1 bytes.now) }
+    ensures escape { IfSome result (λ r. bytes.now ≡ escape (r.0 ∷ []) ++ drop r.1 bytes.now) }
     ensures width { IfSome result (λ r. (0 < r.1) × (r.1 ≤ length bytes.now)) }
     ensures no_escape { IfNone result ((b : ℕ) (rest : ByteString)
-        → bytes.now ≢ escape_of own_profile b ++ rest) }
+        → bytes.now ≢ escape (b ∷ []) ++ rest) }
 {
     match bytes {
         [b'\\', b'\\', ..] => Some((b'\\', 2)),

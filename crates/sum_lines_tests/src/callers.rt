@@ -1,5 +1,5 @@
 //! What callers know of sinks, and of a line that is ignored.
-ghost use Rattle.std.specs.Prelude.{◌≡◌, ◌≤◌, ◌++◌, true, Some, IfOk, codes, length, take};
+ghost use Rattle.std.specs.Prelude.{◌≡◌, ◌≤◌, ◌++◌, Some, IfOk, IsTrue, codes, length, take};
 
 use digest_kinds::Algos;
 use std::alloc::Allocator;
@@ -43,7 +43,7 @@ pub fn first_bytes<W: Write>(writer: W, piece: &[u8]) -> (Result<usize, SinkFaul
 
 /// A comment is still in the vector after it was read.
 pub fn keeps_comments<A: Allocator>(algos: Algos, line: &mut Vec<u8, A>) -> bool
-    ensures { result ≡ true → line.new.items ≡ line.old.items }
+    ensures { IsTrue result → line.new.items ≡ line.old.items }
 {
     matches!(read_line(algos, Form::Undecided, line).0, Reading::Ignored)
 }

@@ -1,12 +1,11 @@
 -- Relates `new`, `update` and `finish` of `Blake2b`: which message a state may have taken. The kit's term for this is
 -- that the state holds the message.
-use Rattle.std.specs.Prelude.{◌≡◌, ℕ, ◌+◌, ◌*◌, ◌<◌, List, [], length, take, drop, slice_index_or}
-use Rattle.blake2b_core.specs.{Bytes.ByteString, Digest.hash_after}
-use Rattle.blake2b_core.specs.declared.incremental.Blake2b.{Blake2b}
+use Rattle.std.specs.Prelude.{◌≡◌, ℕ, ◌+◌, ◌*◌, List, [], length, take, drop, slice_index_or, EachIndex}
+use Rattle.blake2b_core.specs.{Bytes.ByteString, Digest.hash_after, declared.incremental.Blake2b.Blake2b}
 
 -- bs are consecutive blocks of the message m, from block k on
 abbrev pub HasBlocksFrom : ByteString → ℕ → List ByteString → Type 0
-HasBlocksFrom m k bs = (i : ℕ) → i < length bs → slice_index_or bs i [] ≡ take 128 (drop (128 * (k + i)) m)
+HasBlocksFrom m k bs = EachIndex bs (λ i. slice_index_or bs i [] ≡ take 128 (drop (128 * (k + i)) m))
 
 -- the length of the digest that the state is made for
 abbrev pub digest_len : Blake2b → ℕ

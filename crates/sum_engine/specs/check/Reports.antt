@@ -1,6 +1,6 @@
 -- What checking writes: the reports of the lines, and the end of a manifest.
 use denote.Enum.Bare.{sameb}
-use Rattle.std.specs.Prelude.{ℕ, ◌+◌, ◌==◌, ◌&&◌, ◌||◌, Bool, true, false, not, List, [], ◌∷◌, ◌++◌, decimal, codes, filter, length, if◌then◌else◌}
+use Rattle.std.specs.Prelude.{ℕ, ◌+◌, ◌==◌, ◌&&◌, ◌||◌, Bool, true, false, not, List, [], ◌∷◌, ◌++◌, decimal, codes, filter, length, if◌then◌else◌, bytes_eq}
 use Rattle.std.specs.List.{concat}
 use Rattle.sum_lines.specs.grammar.Shapes.{One, Any, mark, tag}
 use Rattle.sum_engine.specs.Behavior.{ByteString, Ending, Whole, Broken}
@@ -9,12 +9,13 @@ pub use Rattle.sum_engine.specs.declared.check.summary.Counts.{Counts}
 use Rattle.sum_engine.specs.declared.settings.Report.TheVariants.{Quiet, Warn, Status}
 use Rattle.sum_engine.specs.{contracts.check.judge.Verdict.the_type, check.Rules.Rules, check.Rules.LabelsValue}
 use Rattle.sum_engine.specs.check.Judge.{Algos, Verdict, Bad, Right, Wrong, Missing, Unread, LineVerdictValue}
-use Rattle.sum_lines.specs.Escape.{Profile, escape_by, escape_differs}
+use Rattle.sum_lines.specs.Escape.{Profile, escape_by}
 use Rattle.sum_engine.specs.Generation.{tool_line, name_fault_line}
 
 -- NAME: TEXT, after a backslash if the name's escape differs from it
 abbrev pub name_line : Profile → ByteString → ByteString → ByteString
-name_line p name text = concat (mark (escape_differs p name) ∷ escape_by p name ∷ codes ": " ∷ text ∷ codes "\n" ∷ [])
+name_line p name text = let escaped = escape_by p name in
+    concat (mark (not (bytes_eq escaped name)) ∷ escaped ∷ codes ": " ∷ text ∷ codes "\n" ∷ [])
 
 -- a line's report on standard output
 abbrev pub out_by : Profile → Report → Verdict → ByteString → ByteString

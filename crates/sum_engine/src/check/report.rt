@@ -69,7 +69,7 @@ fn put_name_line<'a, O: Sink>(
     text: &'a [u8],
 ) -> Result<(), SinkFault>
     ensures { GivesAll out.old out.new (concat
-        (mark (escape_differs own_profile name.now) ∷ escape name.now ∷ text.now ∷ [])) result }
+        (mark (escape_differs name.now) ∷ escape name.now ∷ text.now ∷ [])) result }
 {
     let (mark, name) = mark_and_name(name);
     out.write(&Parts(&[Part::Bytes(mark), name, Part::Bytes(text)]))

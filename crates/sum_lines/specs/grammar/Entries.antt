@@ -2,14 +2,18 @@
 use Rattle.std.specs.Prelude.{ℕ, ◌≡◌, ◌<◌, ◌⊎◌, ◌==◌, ◌||◌, Bool, false, List, [], ◌∷◌, IsTrue, if◌then◌else◌, All}
 use Rattle.std.specs.{Option.option_map_or, Str.byte}
 use Rattle.sum_lines.specs.grammar.Shapes.{ByteString, Algos, IsPlain, IsTagged, KindValue}
-use Rattle.sum_lines.specs.{Escape.Profile, grammar.LineParts.plain_parts}
+use Rattle.sum_lines.specs.{Escape.Profile, Escape.own_profile, grammar.LineParts.plain_parts}
 pub use Rattle.sum_lines.specs.declared.reading.read_line.Form.{Form}
 pub use Rattle.sum_lines.specs.declared.reading.read_line.Form.TheVariants.{Undecided, Standard, Reversed}
 
 -- whether a line is ignored: it begins with `#`, or it is empty and the profile ignores empty lines
-abbrev pub is_ignored : Profile → ByteString → Bool
-is_ignored p [] = p.ignores_empty
-is_ignored p (b ∷ bs) = b == byte "#"
+abbrev pub is_ignored_by : Profile → ByteString → Bool
+is_ignored_by p [] = p.ignores_empty
+is_ignored_by p (b ∷ bs) = b == byte "#"
+
+-- whether the tools here ignore a line
+abbrev pub is_ignored : ByteString → Bool
+is_ignored line = is_ignored_by own_profile line
 
 -- whether a plain line's tail is that of a Standard list: it begins with a space or a star, and more follows
 abbrev pub begins_standard : ByteString → Bool

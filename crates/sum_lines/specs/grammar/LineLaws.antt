@@ -1,9 +1,9 @@
 -- What the laws of the line grammar say, and what `read_line` promises by it.
-use Rattle.std.specs.Prelude.{◌≡◌, ◌≢◌, ◌<◌, ◌↔◌, ◌⊎◌, Bool, true, false, List, [], ◌∷◌, ◌++◌, length, codes, IsTrue, All}
+use Rattle.std.specs.Prelude.{◌≡◌, ◌≢◌, ◌<◌, ◌↔◌, ◌⊎◌, Bool, false, List, [], ◌∷◌, ◌++◌, length, codes, IsTrue, All}
 use Rattle.std.specs.Str.{byte}
 use Rattle.hex.specs.Hex.{IsBytes}
 use Rattle.sum_lines.specs.grammar.Shapes.{ByteString, Algo, Algos, One, Any, IsPlain, IsTagged, KindValue, has_len}
-use Rattle.sum_lines.specs.grammar.Entries.{Form, Undecided, Standard, EntryValue, IsEntry, IsForm, is_ignored, form}
+use Rattle.sum_lines.specs.grammar.Entries.{Form, Undecided, Standard, EntryValue, IsEntry, IsForm, is_ignored_by, form}
 use Rattle.sum_lines.specs.{Lines.Mode, Lines.line, Escape.Profile, Escape.escape, Escape.escape_by}
 use Rattle.sum_lines.specs.declared.writing.put_line.Mode.TheVariants.{Tag}
 use Rattle.sum_lines.specs.grammar.ParsedLines.{ParsedLine, ignored, entry, parse_line}
@@ -24,7 +24,7 @@ HasOneForm = (algos : Algos) (lines : List ByteString) (f : Form) → IsForm alg
 
 -- what is said of a line fits the grammar: it is ignored, or an entry, each if and only if the grammar says so
 pub record FitsGrammar (p : Profile) (algos : Algos) (f : Form) (line : ByteString) (said : ParsedLine) : Type 0 where
-  pub when_ignored : (said ≡ ignored) ↔ (is_ignored p line ≡ true)
+  pub when_ignored : (said ≡ ignored) ↔ IsTrue (is_ignored_by p line)
   pub when_entry : (s : EntryValue) → (said ≡ entry s) ↔ IsEntry (escape_by p) algos f line s
 
 -- what is computed for a line is what the grammar says of it, under every profile

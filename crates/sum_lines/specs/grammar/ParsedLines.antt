@@ -3,7 +3,7 @@
 use Rattle.std.specs.Prelude.{◌≡◌, ◌≤◌, ◌==◌, ◌∷◌, length, drop, slice_range, nat_lt, bytes_eq, ⊤, Option, None, Some, if◌then◌else◌}
 use Rattle.std.specs.{Option.option_or, Option.option_map_or, List.list_all, Str.byte}
 use Rattle.digest_kinds.specs.declared.algo.Algos.{Algos}
-use Rattle.sum_lines.specs.grammar.Entries.{Form, Undecided, Standard, Reversed, EntryValue, begins_standard, is_ignored}
+use Rattle.sum_lines.specs.grammar.Entries.{Form, Undecided, Standard, Reversed, EntryValue, begins_standard, is_ignored_by}
 use Rattle.sum_lines.specs.declared.reading.read_line.Reading.{Reading}
 use Rattle.sum_lines.specs.Escape.{Profile, escape_by, ByteString}
 use Rattle.sum_lines.specs.grammar.LineParts.{LinePartsValue, tagged_parts, plain_parts, ◌>>=◌}
@@ -45,7 +45,7 @@ pub data ParsedLine : Type 0 where
 
 -- how a line parses in a list of that form
 abbrev pub parse_line : Profile → Algos → Form → ByteString → ParsedLine
-parse_line p algos f line = if is_ignored p line then ignored else option_map_or entry (entry_of p algos f line) bad
+parse_line p algos f line = if is_ignored_by p line then ignored else option_map_or entry (entry_of p algos f line) bad
 
 -- what a reading says of a line; the name of an entry is a range of the line's vector
 abbrev pub parsed_line_of : ByteString → Reading → ParsedLine

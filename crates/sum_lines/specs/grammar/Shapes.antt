@@ -1,13 +1,12 @@
 -- The two shapes of a manifest's line, plain and tagged. A line has a shape if some parts, put together, are the line.
 -- Either shape may begin with blanks and then one backslash. The backslash says that the name is escaped.
-use Rattle.std.specs.Prelude.{ℕ, ◌≡◌, ◌<◌, ◌==◌, ◌||◌, ⊤, Bool, true, [], ◌∷◌, ◌++◌, length, codes, IsTrue, Ok, if◌then◌else◌}
+use Rattle.std.specs.Prelude.{ℕ, ◌≡◌, ◌<◌, ◌==◌, ◌||◌, ⊤, Bool, [], ◌∷◌, ◌++◌, length, codes, IsTrue, Ok, if◌then◌else◌}
 use Rattle.std.specs.{List.AllPass, Str.byte}
 pub use Rattle.hex.specs.Hex.{decode_of}
 pub use Rattle.digest_kinds.specs.Bytes.{ByteString}
 pub use Rattle.digest_kinds.specs.Kinds.{KindValue, has_len, tag}
 use Rattle.digest_kinds.specs.KindTexts.{IsWidth}
-pub use Rattle.digest_kinds.specs.declared.algo.Algo.{Algo}
-pub use Rattle.digest_kinds.specs.declared.algo.Algos.{Algos}
+pub use Rattle.digest_kinds.specs.declared.algo.{Algo.Algo, Algos.Algos}
 pub use Rattle.digest_kinds.specs.declared.algo.Algos.TheVariants.{One, Any}
 
 -- whether a byte is a blank: a space or a tab
@@ -30,7 +29,7 @@ pub record IsPlain (algos : Algos) (line : ByteString) (e : Bool) (kind : KindVa
   pub are_blanks : AllPass is_blank blanks
   pub spelled : decode_of digits ≡ Ok digest
   pub size : length digest ≡ kind.len
-  pub is_one_blank : is_blank blank ≡ true
+  pub is_one_blank : IsTrue (is_blank blank)
   pub some : 0 < length tail
   pub whole : line ≡ blanks ++ (mark e ++ (digits ++ (blank ∷ tail)))
 

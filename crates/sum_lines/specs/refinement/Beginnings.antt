@@ -1,5 +1,5 @@
 -- Relates what the functions that scan a line return to the parts that the line is read as.
-use Rattle.std.specs.Prelude.{ℕ, ◌≡◌, ◌+◌, ◌<◌, ◌≤◌, true, length, drop, slice_range, get_or, IsTrue, None, Some, Ok}
+use Rattle.std.specs.Prelude.{ℕ, ◌≡◌, ◌+◌, ◌<◌, ◌≤◌, length, drop, slice_range, slice_index, IsTrue, None, Some, Ok}
 use Rattle.std.specs.List.{position_or_len, before_first, after_first}
 use Rattle.sum_lines.specs.grammar.Shapes.{ByteString, Algo, Algos, One, is_blank, decode_of, has_len}
 use Rattle.sum_lines.specs.declared.{reading.beginnings.Beginning.Beginning, reading.line_parts.LineParts.LineParts, reading.line_parts.Front.Front}
@@ -30,7 +30,7 @@ EndsAt a s at = (digest : ByteString) → BeginsWithDigits a s digest → at ≡
 -- a blank is at that place, something follows it, and the digits end there if the bytes are a plain line's text
 pub record EndsDigits (a : Algo) (s : ByteString) (at : ℕ) : Type 0 where
   pub within : at + 1 < length s
-  pub blank : is_blank (get_or s at 0) ≡ true
+  pub blank : IsTrue (is_blank (slice_index s at))
   pub place : EndsAt a s at
 
 -- a line with that beginning is read as tagged, with that tag, and not as plain; or as plain, and not as tagged

@@ -5,7 +5,7 @@ ghost use Rattle.sum_lines.specs.grammar.LineParts.{plain_parts, tag_in, tagged_
 ghost use Rattle.sum_lines.specs.grammar.Shapes.{ByteString};
 ghost use Rattle.sum_lines.specs.refinement.Beginnings.{BeginsWithDigits, IsReadAs, EndsAt, EndsDigits, IsFront};
 
-use crate::reading::line_parts::{Front, is_blank, text_after};
+use crate::reading::line_parts::{Front, is_blank};
 use digest_kinds::{Algo, Algos, Kind};
 use memchr::memchr2;
 
@@ -32,7 +32,7 @@ pub(crate) fn find_beginning(algos: Algos, line: &[u8], front: Front) -> Option<
     ensures not_plain { IfNone result (None ≡ plain_parts algos line.now) }
     ensures read_as { IfSome result (IsReadAs algos line.now) }
 {
-    let text = text_after(line, front);
+    let text = front.text_of(line);
     if let Some(algo) = tag_in(algos, text) {
         return Some(Beginning::Tag(algo));
     }

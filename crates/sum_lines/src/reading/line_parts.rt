@@ -1,13 +1,12 @@
 //! The steps by which a line is read from its start.
 
 ghost use Rattle.digest_kinds.specs.Bytes.{after_while};
-ghost use Rattle.std.specs.List.{prefix_len, take_while};
+ghost use Rattle.std.specs.List.{prefix_len};
 ghost use Rattle.std.specs.Option.{option_copied, option_map};
 ghost use Rattle.std.specs.Path.{rsplit_once};
 ghost use Rattle.std.specs.Prelude.{◌≡◌, ◌≤◌, length};
 ghost use Rattle.sum_lines.specs.grammar.LineParts.{strip_prefix, mark_and_rest};
 ghost use Rattle.sum_lines.specs.grammar.Shapes.{is_blank};
-ghost use Rattle.sum_lines.specs.refinement.Beginnings.{IsFront};
 
 use digest_kinds::{Digest, Kind};
 use memchr::memrchr;
@@ -21,6 +20,8 @@ pub(crate) struct LineParts {
     pub(crate) digest: Digest,
     pub(crate) start: usize,
     pub(crate) stop: usize,
+    ghost size: { length digest ≡ kind.len },
+    ghost ordered: { start ≤ stop },
 }
 
 /// Whether the byte is a space or a tab.
@@ -39,33 +40,41 @@ pub(crate) struct Front {
     pub(crate) start: usize,
 }
 
-/// What precedes the line's text.
-pub(crate) fn front_of(line: &[u8]) -> Front
-    ensures { IsFront line.now result }
-{
-    let start = blanks(line);
-    match &line[start..] {
-        [b'\\', ..] => Front {
-            escaped: true,
-            start: start + 1,
-        },
-        _ => Front {
-            escaped: false,
-            start,
-        },
+impl Front {
+    ghost use Rattle.digest_kinds.specs.Bytes.{after_while};
+    ghost use Rattle.std.specs.Prelude.{◌≡◌};
+    ghost use Rattle.sum_lines.specs.grammar.LineParts.{mark_and_rest};
+    ghost use Rattle.sum_lines.specs.grammar.Shapes.{is_blank};
+    ghost use Rattle.sum_lines.specs.refinement.Beginnings.{IsFront};
+
+    /// What precedes the line's text.
+    pub(crate) fn of(line: &[u8]) -> Front
+        ensures { IsFront line.now result }
+    {
+        let start = blanks(line);
+        match &line[start..] {
+            [b'\\', ..] => Front {
+                escaped: true,
+                start: start + 1,
+            },
+            _ => Front {
+                escaped: false,
+                start,
+            },
+        }
+    }
+
+    /// The text of the line that has this front.
+    #[tactic(auto, using(std::proofs::lemmas::List::take_rest))]
+    pub(crate) fn text_of(self, line: &[u8]) -> &[u8]
+        requires { IsFront line.now self }
+        ensures { result.now ≡ (mark_and_rest (after_while is_blank line.now)).1 }
+    {
+        &line[self.start..]
     }
 }
 
-/// The line's text, which follows its front.
-#[tactic(auto, using(std::proofs::lemmas::List::take_rest))]
-pub(crate) fn text_after(line: &[u8], front: Front) -> &[u8]
-    requires { IsFront line.now front }
-    ensures { result.now ≡ (mark_and_rest (after_while is_blank line.now)).1 }
-{
-    &line[front.start..]
-}
-
-/// What follows the leading blanks.
+/// The bytes without their leading blanks.
 pub(crate) fn skip_blanks(s: &[u8]) -> &[u8]
     ensures { result.now ≡ after_while is_blank s.now }
 {

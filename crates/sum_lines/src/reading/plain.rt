@@ -8,7 +8,7 @@ ghost use Rattle.sum_lines.specs.grammar.LineParts.{mark_and_rest, plain_parts};
 ghost use Rattle.sum_lines.specs.grammar.Shapes.{is_blank};
 ghost use Rattle.sum_lines.specs.refinement.Beginnings.{EndsDigits, IsFront, line_parts};
 
-use crate::reading::line_parts::{Front, LineParts, text_after};
+use crate::reading::line_parts::{Front, LineParts};
 use digest_kinds::{Algo, Algos, Digest, Kind};
 
 /// Reads a plain line of this algorithm, in whose text the blank after the digits is at `at`. Returns `None` if the
@@ -19,10 +19,9 @@ pub(crate) fn plain(algo: Algo, line: &[u8], front: Front, at: usize) -> Option<
     requires end { EndsDigits algo (mark_and_rest (after_while is_blank line.now)).1 at }
     ensures parts { option_map (line_parts line.now) result
         ≡ plain_parts (Algos.One algo) line.now }
-    ensures range { IfSome result (λ p. (p.start ≤ p.stop) × (p.stop ≤ length line.now)) }
-    ensures size { IfSome result (λ p. length p.digest ≡ p.kind.len) }
+    ensures within { IfSome result (λ found. found.stop ≤ length line.now) }
 {
-    let text = text_after(line, front);
+    let text = front.text_of(line);
     let kind = kind_of_len(algo, at / 2)?;
     // The digits are decoded last, since that costs the most.
     let digest = Digest::from_hex(&text[..at])?;

@@ -2,16 +2,17 @@
 
 ghost use Rattle.std.specs.List.{list_all};
 ghost use Rattle.std.specs.Option.{option_and_then, option_map_or};
-ghost use Rattle.std.specs.Prelude.{◌≡◌, ◌≤◌, None, Some, drop, if◌then◌else◌, length, nat_lt, not, take, vec_len};
+ghost use Rattle.std.specs.Prelude.{◌≡◌, ◌≤◌, None, Some, drop, if◌then◌else◌, nat_lt, not, take, vec_len};
 ghost use Rattle.sum_lines.specs.Escape.{own_profile};
 ghost use Rattle.sum_lines.specs.grammar.Entries.{begins_standard, form_then, is_ignored, line_form};
 ghost use Rattle.sum_lines.specs.grammar.LineLaws.{FitsGrammar};
-ghost use Rattle.sum_lines.specs.grammar.ParsedLines.{bad, entry, entry_of, entry_of_parts, parse_line, unescape, parts_with_raw_name, IsWithin, parsed_line_of};
+ghost use Rattle.sum_lines.specs.grammar.ParsedLines.{bad, entry, entry_of, entry_of_parts, parse_line, unescape};
+ghost use Rattle.sum_lines.specs.grammar.ParsedLines.{parts_with_raw_name, parsed_line_of, IsWithin};
 ghost use Rattle.sum_lines.specs.refinement.Beginnings.{IsReadAs, IsFront, line_parts};
 
 use crate::escape::unescape_in;
 use crate::reading::beginnings::{Beginning, find_beginning};
-use crate::reading::line_parts::{Front, LineParts, front_of};
+use crate::reading::line_parts::{Front, LineParts};
 use crate::reading::plain::plain;
 use crate::reading::tagged::tagged;
 use digest_kinds::{Algos, Digest, Kind};
@@ -81,7 +82,7 @@ pub fn read_line<A: Allocator>(algos: Algos, form: Form, line: &mut Vec<u8, A>) 
     if is_ignored(line) {
         return (Reading::Ignored, form);
     }
-    let front = front_of(line);
+    let front = Front::of(line);
     match find_beginning(algos, line, front) {
         Some(beginning) => read_begun(algos, form, line, front, beginning),
         None => (Reading::Bad, form),
@@ -125,7 +126,7 @@ fn read_begun<A: Allocator>(
 
 /// Returns whether a line of a manifest is ignored: it is empty or begins with `#`.
 pub fn is_ignored(line: &[u8]) -> bool
-    ensures { result ≡ is_ignored own_profile line.now }
+    ensures { result ≡ is_ignored line.now }
 {
     match line {
         [] => true,
@@ -135,10 +136,12 @@ pub fn is_ignored(line: &[u8]) -> bool
 
 // Reads a plain line's tail. The first plain line of a manifest decides the form, even if its name makes it bad.
 #[tactic(auto, using(crate::proofs::EscapeLemmas::raw_standard))]
-fn read_tail<A: Allocator>(form: Form, line: &mut Vec<u8, A>, found: LineParts) -> (Reading, Form)
-    requires size { length found.digest ≡ found.kind.len }
-    requires ordered { found.start ≤ found.stop }
-    requires within { found.stop ≤ length line.old.items }
+fn read_tail<A: Allocator>(
+    form: Form,
+    line: &mut Vec<u8, A>,
+    mut found: LineParts,
+) -> (Reading, Form)
+    requires { found.stop ≤ vec_len line.old }
 
     // What the line says, and the form with this line.
     ensures form { result.1 ≡ form_then form
@@ -156,8 +159,8 @@ fn read_tail<A: Allocator>(form: Form, line: &mut Vec<u8, A>, found: LineParts) 
     let form = form_after(form, standard);
     match form {
         Form::Standard if standard => {
-            let start = found.start + 1;
-            (read_name(line, LineParts { start, ..found }), form)
+            found.start += 1;
+            (read_name(line, found), form)
         }
         Form::Standard => (Reading::Bad, form),
         _ => (read_name(line, found), form),
@@ -186,9 +189,7 @@ fn begins_standard(tail: &[u8]) -> bool
 // name; without one it is the name.
 #[tactic(auto, using(crate::proofs::EscapeLemmas::part_of, std::proofs::lemmas::List::take_rest))]
 fn read_name<A: Allocator>(line: &mut Vec<u8, A>, found: LineParts) -> Reading
-    requires size { length found.digest ≡ found.kind.len }
-    requires ordered { found.start ≤ found.stop }
-    requires within { found.stop ≤ length line.old.items }
+    requires { found.stop ≤ vec_len line.old }
 
     // What the line says.
     ensures parsed { parsed_line_of line.new.items result
@@ -215,7 +216,7 @@ fn read_name<A: Allocator>(line: &mut Vec<u8, A>, found: LineParts) -> Reading
 // no escape.
 #[tactic(auto, using(crate::proofs::EscapeLemmas::unescaped))]
 fn unspell<A: Allocator>(line: &mut Vec<u8, A>, escaped: bool, start: usize) -> bool
-    requires { start ≤ length line.old.items }
+    requires { start ≤ vec_len line.old }
     ensures name { (if result then Some (drop start line.new.items) else None)
         ≡ (if escaped then unescape own_profile (drop start line.old.items)
         else Some (drop start line.old.items)) }

@@ -7,9 +7,7 @@ ghost use Rattle.sum_lines.specs.grammar.LineParts.{mark_and_rest, strip_prefix,
 ghost use Rattle.sum_lines.specs.grammar.Shapes.{is_blank};
 ghost use Rattle.sum_lines.specs.refinement.Beginnings.{IsFront, line_parts};
 
-use crate::reading::line_parts::{
-    Front, LineParts, past_text, skip_blanks, split_at_last, text_after,
-};
+use crate::reading::line_parts::{Front, LineParts, past_text, skip_blanks, split_at_last};
 use digest_kinds::{Algo, Algos, Digest, Kind};
 
 /// Reads a line whose text begins with this algorithm's tag. Returns `None` if the line isn't tagged.
@@ -20,10 +18,9 @@ pub(crate) fn tagged(algo: Algo, line: &[u8], front: Front) -> Option<LineParts>
         (mark_and_rest (after_while is_blank line.now)).1 ≡ Some algo }
     ensures parts { option_map (line_parts line.now) result
         ≡ tagged_parts (Algos.One algo) line.now }
-    ensures range { IfSome result (λ t. (t.start ≤ t.stop) × (t.stop ≤ length line.now)) }
-    ensures size { IfSome result (λ t. length t.digest ≡ t.kind.len) }
+    ensures within { IfSome result (λ found. found.stop ≤ length line.now) }
 {
-    let text = text_after(line, front);
+    let text = front.text_of(line);
     // `?` isn't used: the borrow checker doesn't cover it for a struct with a reference.
     let Some(named) = Kind::of_tag_prefix(algo, text) else {
         return None;

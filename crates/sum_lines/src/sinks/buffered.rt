@@ -1,5 +1,5 @@
 //! A buffer over a sink.
-ghost use Rattle.std.specs.Prelude.{◌≡◌, ◌<◌, ◌≤◌, ◌-◌, ◌+◌, ◌++◌, [], length, min, take, true, OnErr, MatchResult};
+ghost use Rattle.std.specs.Prelude.{◌≡◌, ◌<◌, ◌≤◌, ◌-◌, ◌+◌, ◌++◌, [], length, min, take, IsTrue, OnErr, MatchResult};
 ghost use Rattle.sum_lines.specs.Buffers.{Accepts, FailsToWrite, IsFlushed, WritesAll};
 ghost use Rattle.sum_lines.specs.Sinks.{GivesAll};
 ghost use Rattle.sum_lines.specs.refinement.SinkStates.{MakesRoom};
@@ -76,7 +76,7 @@ impl<S: Sink> Buffered<S> {
         ensures gives { GivesAll self.old.sink.output self.new.sink.output self.old.buffered
             result }
         ensures buffered { self.new.buffered ≡ [] }
-        ensures flushed { OnErr result (self.new.sink.flushed ≡ true) }
+        ensures flushed { OnErr result (IsTrue self.new.sink.flushed) }
     {
         let len = self.len;
         self.len = 0;

@@ -1,6 +1,6 @@
 //! A sink over any `std::io::Write`.
 ghost use Rattle.std.specs.Option.{ForSome};
-ghost use Rattle.std.specs.Prelude.{true, ◌≡◌, ◌+◌, ◌++◌, Some, unwrap_or, []};
+ghost use Rattle.std.specs.Prelude.{true, ◌≡◌, ◌+◌, ◌++◌, OnSome, Some, unwrap_or, []};
 
 use crate::sinks::sink::{Sink, SinkFault};
 use crate::sinks::writes::{Flushed, Offer, Writes};
@@ -51,8 +51,8 @@ impl<W: Write> FromWrite<W> {
 
     /// Returns the writer. If it was known what it held at first, it holds that and what was written.
     pub fn into_inner(self) -> W
-        ensures { ForSome (held_at_first self) (λ _.
-            W.contents result ≡ Some (from_write_state self).output.written) }
+        ensures { OnSome (held_at_first self)
+            (W.contents result ≡ Some (from_write_state self).output.written) }
     {
         self.writer
     }

@@ -1,5 +1,5 @@
 //! An output, to which whole texts are written.
-ghost use Rattle.std.specs.Prelude.{◌≡◌, true};
+ghost use Rattle.std.specs.Prelude.{◌≡◌, true, IsTrue};
 ghost use Rattle.sum_lines.specs.Buffers.{WritesAll};
 ghost use Rattle.sum_lines.specs.Sinks.{ByteString, GivesAll};
 
@@ -37,7 +37,7 @@ impl<S: Sink> Model for Output<S> {
 impl<S: Sink> Output<S> {
     /// Creates an output over a sink that is flushed, as each is before its first call.
     pub fn new(sink: S) -> Self
-        requires { (S.state sink).flushed ≡ true }
+        requires { IsTrue (S.state sink).flushed }
         ensures { result ≡ (S.state sink).output }
     {
         Output {

@@ -1,5 +1,5 @@
 //! The trait of a sink, to which bytes are written.
-ghost use Rattle.std.specs.Prelude.{◌≡◌, ◌≤◌, [], true, Ok, OnErr, length};
+ghost use Rattle.std.specs.Prelude.{◌≡◌, ◌≤◌, [], Ok, IsTrue, OnErr, length};
 ghost use Rattle.sum_lines.specs.Sinks.{SinkState, WritesSome, Flushes, GivesAll};
 ghost use Rattle.sum_lines.specs.declared.sinks.buffered.TheConstants.{CAPACITY};
 
@@ -37,7 +37,7 @@ pub trait Sink {
 pub(crate) fn give_all<S: Sink>(sink: &mut S, bytes: &[u8]) -> Result<(), SinkFault>
     requires { length bytes.now ≤ CAPACITY }
     ensures gives { GivesAll (S.state sink.old).output (S.state sink.new).output bytes.now result }
-    ensures flushed { OnErr result ((S.state sink.new).flushed ≡ true) }
+    ensures flushed { OnErr result (IsTrue (S.state sink.new).flushed) }
 {
     let mut rest = bytes;
     while !rest.is_empty() {

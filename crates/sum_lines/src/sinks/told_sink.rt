@@ -1,5 +1,5 @@
 //! A sink that keeps its bytes in an array.
-ghost use Rattle.std.specs.Prelude.{true, ◌≡◌, ◌≤◌, ◌+◌, ◌<◌, [], length, min, IfOk, IsErr, OnErr, ◌↔◌};
+ghost use Rattle.std.specs.Prelude.{◌≡◌, ◌≤◌, ◌+◌, ◌<◌, [], length, min, IfOk, IsErr, IsTrue, OnErr, ◌↔◌};
 
 use crate::sinks::sink::{Sink, SinkFault};
 use crate::sinks::writes::{Flushed, Offer, Writes};
@@ -35,7 +35,7 @@ impl<const N: usize> ToldSink<N> {
         ensures empty { result.state.output.written ≡ [] }
         ensures room { result.room ≡ min stop N }
         ensures failures { result.state.output.failures ≡ 0 }
-        ensures flushed { result.state.flushed ≡ true }
+        ensures flushed { IsTrue result.state.flushed }
     {
         ToldSink {
             bytes: [0; N],

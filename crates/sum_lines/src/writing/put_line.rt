@@ -2,7 +2,7 @@
 ghost use Rattle.hex.specs.Hex.{encode_lower};
 ghost use Rattle.std.specs.Prelude.{◌≡◌, length};
 ghost use Rattle.sum_lines.specs.Buffers.{WritesAll};
-ghost use Rattle.sum_lines.specs.Escape.{own_profile, escape, escape_differs};
+ghost use Rattle.sum_lines.specs.Escape.{escape, escape_differs};
 ghost use Rattle.sum_lines.specs.Lines.{layout, line};
 ghost use Rattle.sum_lines.specs.grammar.Shapes.{mark};
 ghost use Rattle.sum_lines.specs.PartTexts.{part_text};
@@ -95,7 +95,7 @@ fn digits_of<'a>(digest: &Digest, buffer: &'a mut [u8; 128]) -> &'a [u8]
 /// only once.
 #[doc(hidden)]
 pub fn mark_and_name(name: &[u8]) -> (&'static [u8], Part<'_>)
-    ensures mark { result.0.now ≡ mark (escape_differs own_profile name.now) }
+    ensures mark { result.0.now ≡ mark (escape_differs name.now) }
     ensures name { part_text result.1 ≡ escape name.now }
 {
     if needs_escape(name) {

@@ -4,8 +4,7 @@ use Rattle.sum_lines.proofs.SinkLemmas.{HasLeft}
 use Rattle.sum_lines.proofs.escape.put_escaped.Given as goal
 
 abbrev pub invariant-loop-at : goal.invariant-loop-at
-invariant-loop-at g l =
-    HasLeft l.fn.sink l.sink (escape l.name) (escape l.rest)
+invariant-loop-at g l = HasLeft l.fn.sink l.sink (escape l.name) (escape l.rest)
 
 abbrev pub decreases-loop-at : goal.decreases-loop-at
 decreases-loop-at g l = length l.rest

@@ -11,5 +11,4 @@ returns-in-Some-clause-name g c =
     let small : c.in-Some.len ≤ length c.unescape.new.bytes = rw c.unescape.auto.bytes c.in-Some.ensures.len in
     let low : c.args.from ≤ length c.args.line.now.items = search rules in
     let cut = cut_after _ c.args.from c.in-Some.len c.unescape.new.bytes _ _ same (omega arith) low small in
-    in_place c.args.line.now.items c.truncate.new.self.items c.args.from _ name
-    (c.truncate.ensures.items ∙ cut)
+    in_place c.args.line.now.items c.truncate.new.self.items c.args.from _ name (c.truncate.ensures.items ∙ cut)

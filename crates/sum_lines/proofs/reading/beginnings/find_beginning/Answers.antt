@@ -4,5 +4,4 @@ use Rattle.sum_lines.proofs.reading.beginnings.find_beginning.Goals as goal
 
 -- a tag begins the text
 pub returns-in-Some-clause-read_as : goal.returns-in-Some-clause-read_as
-returns-in-Some-clause-read_as c =
-    by_tag _ _ c.in-Some.algo (rw c.text_after-text.ensures at (sym c.in-Some.ensures))
+returns-in-Some-clause-read_as c = by_tag _ _ c.in-Some.algo (rw c.text_of-text.ensures at (sym c.in-Some.ensures))

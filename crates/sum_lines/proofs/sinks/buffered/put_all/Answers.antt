@@ -10,5 +10,4 @@ returns-in_err-count g c =
 
 -- the buffer accepted a prefix of the rest
 pub loop-rest-preserved : goal.loop-rest-preserved
-loop-rest-preserved g c =
-    HasLeft-step _ c.loop-rest.invariant (grind (arith, common_steps)) c.in_ok-count.ensures.2
+loop-rest-preserved g c = HasLeft-step _ c.loop-rest.invariant (grind (arith, common_steps)) c.in_ok-count.ensures.2

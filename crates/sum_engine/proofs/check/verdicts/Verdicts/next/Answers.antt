@@ -1,7 +1,6 @@
 use Rattle.std.proofs.Common.{rules, arith, ◌≡◌, true, refl, ap, sym, ◌∙◌, Ok, Err}
 use Rattle.sum_lines.specs.grammar.Entries.{is_ignored, form_then}
 use Rattle.sum_lines.specs.declared.reading.read_line.Form.TheVariants.{Undecided, Standard, Reversed}
-use Rattle.sum_lines.specs.Escape.{own_profile}
 use Rattle.sum_lines.proofs.EntryLemmas.{ignored_undecided}
 use Rattle.sum_engine.proofs.WorldLemmas.{asks_none}
 use Rattle.sum_engine.specs.check.Verdicts.{VerdictsValue}
@@ -24,7 +23,7 @@ pub returns-then-is_ignored-clause-verdict : goal.returns-then-is_ignored-clause
 returns-then-is_ignored-clause-verdict g c =
     let read = c.in-Ok-Line.ensures in
     let line = c.next_line.new.line.items in
-    let ignored : is_ignored own_profile line ≡ true =
+    let ignored : is_ignored line ≡ true =
     rw c.deref.ensures.value at (sym c.is_ignored.ensures ∙ c.if-is_ignored.true) in
     let undecided = ignored_undecided c.self.inside.rules.algo line ignored in
     let same : form_then c.self.inside.form Undecided ≡ c.self.inside.form =
