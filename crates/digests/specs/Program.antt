@@ -1,12 +1,11 @@
 -- What the program does, from the list of its arguments to its status.
 use Rattle.std.specs.Prelude.{ℕ, ◌≡◌, ◌⊎◌, false, List, [], ⊤, Option, None, Some, Result, Ok, Err, unwrap_or}
-use Rattle.sum_sources.specs.{Sources.Pair}
+use Rattle.sum_sources.specs.Sources.{Pair}
 use Rattle.sum_lines.specs.Sinks.{OutputState, GivesAll}
 use Rattle.sum_engine.specs.Behavior.{single_step, ByteString}
 use Rattle.sum_engine.specs.Execution.{OutputsState, StreamsState, FailuresMatch, Performs}
-use Rattle.sum_words.specs.Arguments.{ArgumentsState, FitsArguments}
+use Rattle.sum_words.specs.{Arguments.ArgumentsState, Arguments.FitsArguments, declared.tool.Tool.Tool}
 use Rattle.sum_words.specs.CommandLines.{command_line, NeedsMemory}
-use Rattle.sum_words.specs.declared.tool.Tool.{Tool}
 use Rattle.sum_words.specs.Texts.{Stop, stop_line, unknown_tool_line, not_read_line}
 use Rattle.digests.specs.Meaning.{meaning, status_of}
 

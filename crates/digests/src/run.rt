@@ -1,5 +1,6 @@
 //! The run of a tool on its words.
-ghost use Rattle.digests.specs.Meaning.{operands_behavior, request_behavior, names_or_dash, meaning, status_of, allowed_refusals};
+ghost use Rattle.digests.specs.Meaning.{operands_behavior, request_behavior, names_or_dash, meaning, status_of};
+ghost use Rattle.digests.specs.Meaning.{allowed_refusals};
 ghost use Rattle.digests.specs.refinement.Operands.{operand_behavior, job_refusals};
 ghost use Rattle.std.specs.Prelude.{◌≡◌, ◌∷◌, true, Ok};
 ghost use Rattle.sum_engine.specs.Execution.{FailuresMatch, ReadsToEndIf, RefusalsMatch, StopHasCause, Performs};

@@ -2,4 +2,4 @@
 
 /// This many interruptions in a row are a fault. One call of a reader or of a writer goes on after 999
 /// interruptions, and gives up at the 1,000th.
-pub const INTERRUPTIONS: u32 = 1000;
+pub const INTERRUPTION_LIMIT: u32 = 1000;

@@ -15,7 +15,7 @@ ghost use Rattle.std.specs.Prelude.{◌≡◌};
 
 mod interruptions;
 
-pub use interruptions::INTERRUPTIONS;
+pub use interruptions::INTERRUPTION_LIMIT;
 use std::fmt;
 use std::fmt::{Debug, Formatter, Write};
 use std::marker::{Model, PhantomData};

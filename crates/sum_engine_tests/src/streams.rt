@@ -57,7 +57,7 @@ pub(crate) const WARNINGS: &str = "md5sum: x: No such file or directory\n\
     md5sum: WARNING: 1 listed file could not be read\n\
     md5sum: WARNING: 1 computed checksum did NOT match\n";
 
-/// The files `a` and `q\`, newline, `z`, which hold `abc`, the empty `e`, and a manifest `l`.
+/// Four files: `a` and `"q\\\nz"` hold `abc`, `e` is empty, and `l` holds the manifest and has this ending.
 pub(crate) fn files<'a, A: Allocator + Copy>(
     alloc: A,
     manifest: &'a str,

@@ -1,8 +1,8 @@
 -- `ToldSource`: a pair that is added answers for no earlier opening.
 use Rattle.std.proofs.Common.{◌≡◌, ◌≤◌, ℕ, true, false, List, [], ◌∷◌, ◌++◌, length, refl, arith, bytes_eq, nat_le}
-use Rattle.std.specs.Prelude.{◌&&◌}
-use Rattle.std.{proofs.lemmas.Bool.Decides.nat_tests, proofs.lemmas.Option.slice_get_past}
-use Rattle.sum_sources.specs.Sources.{Pair, SourceState, GivesTold, gave_of, names_of, times, first_answer, answer_of_first}
+use Rattle.std.{specs.Prelude.◌&&◌, proofs.lemmas.Bool.Decides.nat_tests, proofs.lemmas.Option.slice_get_past}
+use Rattle.sum_sources.specs.Sources.{Pair, SourceState, GivesTold, gave_of, names_of, times, first_answer}
+use Rattle.sum_sources.specs.Sources.{answer_of_first}
 use Rattle.sum_sources.proofs.GaveLemmas.{true_or_false, same_name, gave-times}
 
 -- a pair that doesn't fit changes no answer

@@ -1,7 +1,10 @@
 -- The law of inputs, with its proofs: what was read of an input fits a content, the one in memory if there is one.
 use Rattle.std.proofs.Common.{rules, ℕ, [], None, refl, drop}
 use Rattle.std.proofs.lemmas.List.{take-append-drop}
-use Rattle.sum_sources.specs.{Contents.Content, Contents.InputState, Contents.HasContent, Contents.Fits, Contents.IsReadTo, Contents.Whole, Contents.empty_content, Contents.Phase, Contents.Unfinished, Contents.Ended, Contents.Past, StandardInput.told_reads, StandardInput.ToldContent, StandardInput.told_file, StandardInput.closable_state, Faults.ByteString, declared.inputs.closable.Closable.Closable, declared.inputs.closable.Closable.TheVariants.Open, declared.inputs.closable.Closable.TheVariants.Closed}
+use Rattle.sum_sources.specs.Contents.{Content, InputState, HasContent, Fits, IsReadTo, Whole, empty_content, Phase}
+use Rattle.sum_sources.specs.{Contents.Unfinished, Contents.Ended, Contents.Past, Faults.ByteString}
+use Rattle.sum_sources.specs.StandardInput.{told_reads, ToldContent, told_file, closable_state}
+use Rattle.sum_sources.specs.declared.inputs.closable.Closable.{Closable, TheVariants.Open, TheVariants.Closed}
 
 -- ---- inputs in memory
 

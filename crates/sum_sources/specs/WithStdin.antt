@@ -1,7 +1,11 @@
 -- Standard input and a source of files, as one source.
-use Rattle.std.specs.Prelude.{ℕ, zero, suc, Bool, true, false, ◌≡◌, ◌∷◌, codes, bytes_eq, filter, not, Option, None, Some, Ok, List, [], if◌then◌else◌}
-use Rattle.std.specs.Option.{option_map}
-use Rattle.sum_sources.specs.{Contents.Content, Contents.InputState, Contents.HasContent, Contents.empty_content, StandardInput.closable_state, StandardInput.given_input, StandardInput.after_taking, StandardInput.put_back, StandardInput.StdinPlace, Sources.Answers, Sources.Pair, Sources.ToldAnswers, Sources.SourceState, Sources.Opening, Sources.after_closing, Faults.ByteString, InputLaws.closable_has_content, declared.sources.opened.Place.Place, declared.sources.opened.Place.TheVariants.Stdin, declared.sources.opened.Place.TheVariants.File}
+use Rattle.std.specs.Prelude.{ℕ, zero, suc, Bool, true, false, ◌≡◌, ◌∷◌, codes, bytes_eq, filter, not, Option, None}
+use Rattle.std.specs.{Prelude.Some, Prelude.Ok, Prelude.List, Prelude.[], Prelude.if◌then◌else◌, Option.option_map}
+use Rattle.sum_sources.specs.Contents.{Content, InputState, HasContent, empty_content}
+use Rattle.sum_sources.specs.StandardInput.{closable_state, given_input, after_taking, put_back, StdinPlace}
+use Rattle.sum_sources.specs.Sources.{Answers, Pair, ToldAnswers, SourceState, Opening, after_closing}
+use Rattle.sum_sources.specs.{Faults.ByteString, InputLaws.closable_has_content}
+use Rattle.sum_sources.specs.declared.sources.opened.Place.{Place, TheVariants.Stdin, TheVariants.File}
 
 -- the name of standard input
 abbrev pub is_dash : ByteString → Bool

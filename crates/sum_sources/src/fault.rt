@@ -13,7 +13,7 @@ use thiserror::Error;
 pub enum Fault {
     /// There is no file of that name.
     NotFound,
-    /// Permission to read the file was denied.
+    /// Permission was denied: to read the file, or to search a directory of its path.
     Denied,
     /// Any other reason. Its text is *Input/output error*.
     Other,

@@ -1,9 +1,14 @@
 -- An input of which the first three bytes, its header, don't count.
-use Rattle.std.proofs.Common.{◌≡◌, ◌∷◌, ◌-◌, ◌≤◌, ℕ, [], List, length, drop, take, None, Ok, Err, Result, refl, ap, ◌∙◌, arith}
+use Rattle.std.proofs.Common.{◌≡◌, ◌∷◌, ◌-◌, ◌≤◌, ℕ, [], List, length, drop, take, None, Ok, Err, Result, refl, ap, ◌∙◌}
+use Rattle.std.proofs.{Common.arith, lemmas.List.drop-append-le, Math.Seq.take-append_seam, Math.Seq.take-length}
 use Rattle.std.specs.Prelude.{IfOk}
-use Rattle.std.proofs.{lemmas.List.drop-append-le, Math.Seq.take-append_seam, Math.Seq.take-length}
 use Rattle.digest_kinds.specs.{Bytes.ByteString, Kinds.digest, Kinds.KindValue}
-use Rattle.sum_sources.specs.{Contents.Content, Contents.InputState, Contents.Reads, Contents.HashesInput, Contents.Fits, Contents.and_read, Contents.clip, Contents.reads_past, Contents.empty_reads, LineReaders.AdvancesLines, LineReaders.IsReading, LineReaders.LineReaderValue, LineReaders.ReadsOn, LineReaders.content_past, LineReaders.remaining_content, ManifestLines.lines, declared.fault.Fault.Fault, declared.fault.Ending.TheVariants.Whole, declared.inputs.phase.Phase.Phase, declared.line_reader.Next.TheVariants.Line, declared.inputs.phase.Phase.TheVariants.Unfinished, declared.inputs.phase.Phase.TheVariants.Ended, declared.inputs.phase.Phase.TheVariants.Past}
+use Rattle.sum_sources.specs.Contents.{Content, InputState, Reads, HashesInput, Fits, and_read, clip, reads_past}
+use Rattle.sum_sources.specs.{Contents.empty_reads, LineReaders.remaining_content, ManifestLines.lines}
+use Rattle.sum_sources.specs.LineReaders.{AdvancesLines, IsReading, LineReaderValue, ReadsOn, content_past}
+use Rattle.sum_sources.specs.declared.fault.{Fault.Fault, Ending.TheVariants.Whole}
+use Rattle.sum_sources.specs.declared.{inputs.phase.Phase.Phase, line_reader.Next.TheVariants.Line}
+use Rattle.sum_sources.specs.declared.inputs.phase.Phase.TheVariants.{Unfinished, Ended, Past}
 
 -- if reads fit a content, those past the first bytes fit its rest
 rest_fits : (m : ℕ) (r : Reads) (c : Content) → m ≤ length r.bytes → Fits r c → Fits (reads_past m r) (content_past m c)

@@ -2,7 +2,6 @@
 //! another file.
 ghost use Rattle.std.specs.Prelude.{◌≡◌};
 ghost use Rattle.sum_sources.specs.Contents.{empty_reads};
-ghost use Rattle.sum_sources.specs.Logs.{no_reads};
 
 use std::alloc::Allocator;
 use std::collections::VecDeque;

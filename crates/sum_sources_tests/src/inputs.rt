@@ -58,7 +58,8 @@ fn abc_read(
 
 const DENIED: Ending = Ending::Broken(Fault::Denied);
 
-// Asserts that a read into four zeros returns this, and changes at most the first of them, to `first`.
+// Reads into four zero bytes. Asserts that the read returns `want`, that the first byte is then `first`, and that the
+// others are still zero.
 fn reads(rt: &impl Abort, input: &mut impl Input, want: Result<usize, Fault>, first: u8) {
     let mut buf = [0; 4];
     let found = input.read(&mut buf);

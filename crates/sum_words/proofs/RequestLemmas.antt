@@ -1,8 +1,9 @@
 -- The options read so far, and the number of a length value.
 use Rattle.std.proofs.Common.{rules, ◌≡◌, ◌≢◌, ℕ, true, List, ◌∷◌, Result, arith, IsUtf8}
 use Rattle.std.proofs.lemmas.{Grind.common_steps, Fmt.IsAscii-from_digits, Str.IsUtf8-from_ascii}
-use Rattle.std.specs.{Result.result_ok, Str.all_ascii_digits, Str.Parse.ParsesUnsigned}
-use Rattle.std.proofs.lemmas.Str.Parse.{numerals_by_value, tells_all_ascii_digits, parse_digits}
+use Rattle.std.specs.{Char.is_ascii_digit, List.list_all, Result.result_ok}
+use Rattle.std.specs.Str.Parse.{ParsesUnsigned, digits_value}
+use Rattle.std.proofs.lemmas.Str.Parse.{IsNumeralModel, numerals_by_value, parse_digits}
 use Rattle.sum_words.specs.Items.{Flag, ByteString, ItemValue, option}
 use Rattle.sum_words.specs.{Request.early_request, refinement.OptionScan.IsNumberOf}
 use Rattle.sum_words.specs.declared.parsing.options.Flag.TheVariants as flags
@@ -12,14 +13,15 @@ pub no_early_request : (flag : Flag) (rest : List ItemValue) → flag ≢ flags.
     → early_request (option flag ∷ rest) ≡ early_request rest
 no_early_request = search rules
 
+-- the value of digits
+digits : IsNumeralModel (λ ds. list_all is_ascii_digit ds ≡ true) (digits_value 10)
+digits = numerals_by_value _ (search rules)
+
 -- digits are a text
-pub digits_text : (value : ByteString) → all_ascii_digits value ≡ true → IsUtf8 value
-digits_text value digits =
-    IsUtf8-from_ascii value (IsAscii-from_digits value ((numerals_by_value _ tells_all_ascii_digits).to value digits))
+pub digits_text : (value : ByteString) → list_all is_ascii_digit value ≡ true → IsUtf8 value
+digits_text value all = IsUtf8-from_ascii value (IsAscii-from_digits value (digits.to value all))
 
 -- parsing digits returns their number, or it is too large
 pub number_parsed : {E : Type 0} (value : ByteString) (r : Result ℕ E) → ParsesUnsigned 64 10 value r
-    → all_ascii_digits value ≡ true → IsNumberOf value (result_ok r)
-number_parsed value r h digits =
-    let parsed = parse_digits (numerals_by_value _ tells_all_ascii_digits) 64 value r h digits in
-    grind (arith, common_steps)
+    → list_all is_ascii_digit value ≡ true → IsNumberOf value (result_ok r)
+number_parsed value r h all = let parsed = parse_digits digits 64 value r h all in grind (arith, common_steps)

@@ -2,7 +2,7 @@
 use Rattle.std.proofs.Common.{rules, arith, ◌≡◌, ◌==◌, ◌≢◌, ℕ, ◌+◌, true, false, List, [], ◌∷◌, codes, length, drop, Option, None, Some, MatchOption, refl, sym, bytes_eq, IsUtf8, Bor}
 use Rattle.std.specs.{List.starts_with, Str.chars, Str.is_utf8, Str.Pattern.FindsTextPrefix}
 use Rattle.std.proofs.lemmas.{Str.Pattern.starts_text, List.nil_from_length, Slice.Eq.bytes_eq-Decides, Bool.false_from_ne_true}
-use Rattle.std.proofs.lemmas.Str.{chars-nil, chars_past_char, encodes-chars, IsUtf8-from_is_utf8, is_utf8-from_IsUtf8}
+use Rattle.std.proofs.lemmas.Str.{chars-nil, encodes-chars, IsUtf8-from_is_utf8, is_utf8-from_IsUtf8}
 use lib.Utf8.{encode}
 use Rattle.sum_words.specs.declared.tool.Tool.{Tool}
 use Rattle.sum_words.specs.Items.{a_word, length_value, fault, is_option_word, items_from}

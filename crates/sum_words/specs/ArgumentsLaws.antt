@@ -1,10 +1,9 @@
 -- The law of arguments: some list agrees with what the calls gave.
 use Rattle.std.proofs.Common.{ℕ, ◌≡◌, ◌+◌, [], ◌∷◌, ◌++◌, refl, None, Some, arith}
-use Rattle.std.proofs.Math.Seq.{drop-append_seam}
-use Rattle.std.proofs.Props.{props}
+use Rattle.std.proofs.{Math.Seq.drop-append_seam, Props.props}
 use Rattle.std.proofs.lemmas.List.{length-replicate}
 use Rattle.std.specs.Prelude.{Option, List, replicate, length, drop, IfSome}
-use Rattle.std.specs.declared.{env.FillError.FillError, env.FillError.TheVariants.NotPresent, env.FillError.TheVariants.TooLong}
+use Rattle.std.specs.declared.env.FillError.{FillError, TheVariants.NotPresent, TheVariants.TooLong}
 use Rattle.sum_words.specs.Arguments.{ArgumentsState, Explains, FitsArguments, ByteString}
 
 -- ---- what agrees

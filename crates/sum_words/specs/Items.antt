@@ -32,7 +32,7 @@ row_of flags.Version = ([], codes "version", codes "print the version")
 
 -- an option's full name
 abbrev pub full_name : Flag → ByteString
-full_name flag = (row_of flag).1
+full_name flag = let (letter, name, text) = row_of flag in name
 
 -- whether an option takes a value
 abbrev pub takes_value : Flag → Bool
@@ -86,7 +86,7 @@ long_option (Err f) value rest = fault f ∷ []
 
 -- a tool's option with this letter
 unfoldable pub option_of_letter : Tool → ℕ → Option Flag
-option_of_letter t c = find (λ flag. bytes_eq (row_of flag).0 (c ∷ [])) (flags_of t)
+option_of_letter t c = find (λ flag. let (letter, name, text) = row_of flag in bytes_eq letter (c ∷ [])) (flags_of t)
 
 -- the items of a cluster of letters and of the rest; what follows the letter of an option with a value is the value
 abbrev pub cluster : Tool → List ℕ → (NextWord → List ItemValue) → List ItemValue

@@ -1,7 +1,8 @@
 -- What a tool's words ask for: a request, or the first fault that counts.
 use denote.Enum.Bare.{sameb}
 use Rattle.std.specs.Prelude.{◌&&◌, ◌||◌, not, nat_lt, Bool, true, false, List, [], ◌∷◌, Option, None, Some, Result, Ok, Err, if◌then◌else◌, unwrap_or, option_map, filter, bytes_eq, filter_map}
-use Rattle.std.specs.{List.last_or, List.list_any, Result.result_ok, Result.result_err, Str.all_ascii_digits, Str.Parse.digits_value}
+use Rattle.std.specs.{Char.is_ascii_digit, List.last_or, List.list_all, List.list_any, Str.Parse.digits_value}
+use Rattle.std.specs.Result.{result_ok, result_err}
 use Rattle.std.specs.Option.{ok_or, option_map_or, option_or, option_and_then}
 use Rattle.sum_words.specs.Tools.{Algos, Tool, algos_of, One, Any}
 use Rattle.digest_kinds.specs.Kinds.{KindValue, full_kind, blake2b_of_bits}
@@ -46,7 +47,7 @@ report_flag reports.Status = Some flags.Status
 -- the kind that a value of --length asks for: the number of bits, in digits, at most 512 and whole bytes
 abbrev pub length_kind : ByteString → Result KindValue WordFaultValue
 length_kind value = let bits = digits_value 10 value in
-    if bytes_eq value [] || not (all_ascii_digits value) || nat_lt 512 bits then Err (length_invalid value)
+    if bytes_eq value [] || not (list_all is_ascii_digit value) || nat_lt 512 bits then Err (length_invalid value)
     else ok_or (result_ok (blake2b_of_bits bits)) (length_not_bytes value)
 
 -- the first fault of the given options in combination, if they have one

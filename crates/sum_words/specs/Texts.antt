@@ -3,9 +3,8 @@ use Rattle.std.specs.Prelude.{[], ◌-◌, ◌++◌, codes, flat_map, if◌then�
 use Rattle.std.specs.Str.{byte}
 use Rattle.sum_words.specs.Tools.{Algos, Tool, name_of, algos_of, One, Any}
 use Rattle.digest_kinds.specs.Kinds.{tag}
-pub use Rattle.sum_engine.specs.declared.stop.Stop.{Stop}
-pub use Rattle.sum_engine.specs.declared.stop.Stop.TheVariants.{Memory, Write}
-use Rattle.sum_words.specs.Items.{Flag, ByteString, row_of, full_name, takes_value, flags_of}
+pub use Rattle.sum_engine.specs.declared.stop.Stop.{Stop, TheVariants.Memory, TheVariants.Write}
+use Rattle.sum_words.specs.Items.{Flag, ByteString, row_of, takes_value, flags_of}
 use Rattle.sum_words.specs.WordFaults.{WordFaultValue, wording}
 
 -- the two lines for a fault of words
@@ -18,15 +17,15 @@ abbrev pub purpose : Algos → ByteString
 purpose (One algo) = codes "Print or check " ++ tag algo ++ codes " checksums."
 purpose Any = codes "Check checksums of tagged lines."
 
--- the letter of an option in the help, or spaces in its place if it has none
-abbrev pub letter_column : Flag → ByteString
-letter_column flag =
-    if bytes_eq (row_of flag).0 [] then codes "      " else codes "  -" ++ (row_of flag).0 ++ codes ", "
+-- an option's letter in the help, or spaces in its place if it has none
+abbrev pub letter_column : ByteString → ByteString
+letter_column letter = if bytes_eq letter [] then codes "      " else codes "  -" ++ letter ++ codes ", "
 
 -- the line of an option in the help: its letter, its full name in 18 columns, and its text
 abbrev pub help_line : Flag → ByteString
-help_line flag = let name = codes "--" ++ full_name flag ++ (if takes_value flag then codes "=BITS" else []) in
-    letter_column flag ++ name ++ replicate (18 - length name) (byte " ") ++ (row_of flag).2 ++ codes "\n"
+help_line flag = let (letter, full_name, text) = row_of flag in
+    let name = codes "--" ++ full_name ++ (if takes_value flag then codes "=BITS" else []) in
+    letter_column letter ++ name ++ replicate (18 - length name) (byte " ") ++ text ++ codes "\n"
 
 -- the text of --help
 abbrev pub help : Tool → ByteString

@@ -2,8 +2,7 @@
 use Rattle.std.specs.Prelude.{[], ◌∷◌, Option, codes, find, bytes_eq}
 pub use Rattle.digest_kinds.specs.Bytes.{ByteString}
 use Rattle.digest_kinds.specs.declared.algo.Algo.TheVariants.{Md5, Sha1, Sha224, Sha256, Sha384, Sha512, Blake2b}
-pub use Rattle.digest_kinds.specs.declared.algo.Algos.{Algos}
-pub use Rattle.digest_kinds.specs.declared.algo.Algos.TheVariants.{One, Any}
+pub use Rattle.digest_kinds.specs.declared.algo.Algos.{Algos, TheVariants.One, TheVariants.Any}
 pub use Rattle.sum_words.specs.declared.tool.Tool.{Tool}
 use Rattle.sum_words.specs.declared.tool.Tool.TheVariants as tools
 

@@ -1,8 +1,7 @@
 -- What may be wrong with the words of a command line, and how it is reported.
 use Rattle.std.specs.Prelude.{ℕ, ◌++◌, codes, encode_utf8}
 use Rattle.sum_lines.specs.Escape.{escape, ByteString}
-pub use Rattle.sum_words.specs.declared.parsing.options.Spelling.{Spelling}
-pub use Rattle.sum_words.specs.declared.parsing.options.Spelling.TheVariants.{Long, Short}
+pub use Rattle.sum_words.specs.declared.parsing.options.Spelling.{Spelling, TheVariants.Long, TheVariants.Short}
 
 -- a fault of the words, with what its text shows: a name of an option, a value, a word, a spelling, or a letter
 pub data WordFaultValue : Type 0 where

@@ -1,7 +1,8 @@
 //! The command line: which tool is asked for, and on which words.
 ghost use Rattle.std.specs.List.{after_last};
 ghost use Rattle.std.specs.Option.{option_map};
-ghost use Rattle.std.specs.Prelude.{◌≡◌, ◌==◌, ◌≤◌, ◌<◌, ◌*◌, ◌∷◌, ◌++◌, [], vec_len, take, length, List, Any, IfOk, IfSome, OnOk, OnErr, MatchResult};
+ghost use Rattle.std.specs.Prelude.{◌≡◌, ◌==◌, ◌≤◌, ◌<◌, ◌*◌, ◌∷◌, ◌++◌, [], vec_len, take, length, List, Any, IfOk};
+ghost use Rattle.std.specs.Prelude.{IfSome, OnOk, OnErr, MatchResult};
 ghost use Rattle.std.specs.Str.{byte};
 ghost use Rattle.std.specs.declared.env.FillError.TheVariants.{TooLong};
 ghost use Rattle.sum_words.specs.Arguments.{FitsArguments};

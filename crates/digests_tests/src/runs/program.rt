@@ -1,5 +1,5 @@
 //! The whole program, over known arguments.
-ghost use Rattle.std.specs.Prelude.{◌≡◌, true};
+ghost use Rattle.std.specs.Prelude.{IsTrue};
 
 use super::{MISSING, source_of, spell, spell_all};
 use digests::command::command;
@@ -31,8 +31,8 @@ fn call<A: Allocator + Copy, O: Sink + Drop, E: Sink + Drop>(
     out: O,
     err: E,
 ) -> Result<(O, E, u8), Fail>
-    requires out { (O.state out).flushed ≡ true }
-    requires err { (E.state err).flushed ≡ true }
+    requires out { IsTrue (O.state out).flushed }
+    requires err { IsTrue (E.state err).flushed }
 {
     let list = [("l", ("$M  a\n", Ending::Whole))];
     let contents = spell_all(alloc, &list)?;
@@ -51,7 +51,7 @@ fn call<A: Allocator + Copy, O: Sink + Drop, E: Sink + Drop>(
 
 // An output in memory.
 fn output() -> ToldSink<256>
-    ensures { result.state.flushed ≡ true }
+    ensures { IsTrue result.state.flushed }
 {
     ToldSink::new(256)
 }
@@ -145,7 +145,7 @@ impl Write for LosesAll {
 }
 
 fn lost() -> FromWrite<LosesAll>
-    ensures { (⟦<FromWrite<LosesAll> as Sink>⟧.state result).flushed ≡ true }
+    ensures { IsTrue (⟦<FromWrite<LosesAll> as Sink>⟧.state result).flushed }
 {
     FromWrite::new(LosesAll)
 }

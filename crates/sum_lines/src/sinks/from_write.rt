@@ -4,7 +4,7 @@ ghost use Rattle.std.specs.Prelude.{true, ◌≡◌, ◌+◌, ◌++◌, OnSome, 
 
 use crate::sinks::sink::{Sink, SinkFault};
 use crate::sinks::writes::{Flushed, Offer, Writes};
-use ghost_log::{INTERRUPTIONS, Log};
+use ghost_log::{INTERRUPTION_LIMIT, Log};
 use std::fmt::{self, Debug, Formatter};
 use std::io::{ErrorKind, Write};
 use std::snapshot::Snapshot;
@@ -78,7 +78,7 @@ impl<W: Write> Sink for FromWrite<W> {
     ghost state = { from_write_state };
 
     /// Writes a nonempty piece to the writer, and retries after each interruption. Returns `SinkFault` if the writer
-    /// fails, accepts nothing of it, or is interrupted for the 1,000th time in a row ([`INTERRUPTIONS`]).
+    /// fails, accepts nothing of it, or is interrupted for the 1,000th time in a row ([`INTERRUPTION_LIMIT`]).
     fn write(&mut self, piece: &[u8]) -> Result<usize, SinkFault>
         ensures bytes { WritesSome (from_write_state self.old) (from_write_state self.new)
             piece.now result }
@@ -89,7 +89,7 @@ impl<W: Write> Sink for FromWrite<W> {
             self.log = self.log.and(&Offer(piece, &[]));
             return Ok(0);
         }
-        for _ in 0..INTERRUPTIONS {
+        for _ in 0..INTERRUPTION_LIMIT {
             match self.writer.write(piece) {
                 Ok(0) => break,
                 Ok(count) => {

@@ -5,7 +5,7 @@ ghost use Rattle.std.specs.Prelude.{◌≡◌, ◌≤◌, length, IfOk};
 ghost use Rattle.sum_sources.specs.Contents.{and_read};
 
 use crate::{Fault, FromRead, Input};
-use ghost_log::INTERRUPTIONS;
+use ghost_log::INTERRUPTION_LIMIT;
 use std::io::Read;
 
 impl<R: Read> Input for FromRead<R> {
@@ -20,7 +20,7 @@ impl<R: Read> Input for FromRead<R> {
             result buf.new }
         ensures log { self.new.log ≡ and_read self.old.log buf.new result }
     {
-        for _ in 0..INTERRUPTIONS {
+        for _ in 0..INTERRUPTION_LIMIT {
             if let Some(read) = self.read_once(buf) {
                 return read;
             }

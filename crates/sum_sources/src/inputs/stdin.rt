@@ -1,5 +1,5 @@
 //! Standard input, which a run gets once.
-ghost use Rattle.std.specs.Prelude.{◌≡◌, None, true};
+ghost use Rattle.std.specs.Prelude.{◌≡◌, IsTrue, None};
 ghost use Rattle.sum_sources.specs.StandardInput.{GivesUnread, StdinPlace, given_input, put_back, after_taking};
 
 use crate::fault::EBADF;
@@ -21,7 +21,7 @@ impl<I: Input> Model for Stdin<I> {
     ghost view = { λ s. (s.taken, s.input) };
 
     ghost invariant = { λ s. GivesUnread I.state (s.taken, s.input)
-        × (s.input ≡ None → s.taken ≡ true) };
+        × (s.input ≡ None → IsTrue s.taken) };
 }
 
 /// What [`Stdin::take`] gives: the input of standard input the first time, and an empty one afterwards. It can't be
@@ -100,7 +100,14 @@ impl<I: Input> Input for Given<I> {
     ghost state = { λ s. closable_state I.state s };
 
     fn read(&mut self, buf: &mut [u8]) -> Result<usize, Fault> {
-        self.input.read(buf)
+        match &mut self.input {
+            Closable::Open(input) => input.read(buf),
+            Closable::Closed(ending, phase) => {
+                let result = ending.read();
+                *phase = phase.after(buf.len(), &result);
+                result
+            }
+        }
     }
 
     ghost has_content = { closable_has_content I.state I.has_content };

@@ -22,11 +22,11 @@ pub struct Opened<I: Input, F: Input> {
 }
 
 impl<I: Input, F: Input> Opened<I, F> {
-    ghost use Rattle.std.specs.Prelude.{true, false};
+    ghost use Rattle.std.specs.Prelude.{IsTrue, false};
 
     // Standard input, by the opening that the log has.
     pub(crate) fn from_stdin(given: Given<I>, log: ReadLog) -> Self
-        requires { is_dash log.name ≡ true }
+        requires { IsTrue (is_dash log.name) }
         ensures { result.place ≡ Place.Stdin given log }
     {
         Opened {

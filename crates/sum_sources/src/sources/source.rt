@@ -1,6 +1,7 @@
 //! The trait of a source of files, and why a file could not be opened.
 ghost use Rattle.std.specs.Prelude.{◌≡◌, IfOk};
-ghost use Rattle.sum_sources.specs.Sources.{SourceState, ToldAnswers, GivesTold, IsOpen, opened_file, after_opening, after_closing};
+ghost use Rattle.sum_sources.specs.Sources.{SourceState, ToldAnswers, GivesTold, IsOpen, opened_file, after_opening};
+ghost use Rattle.sum_sources.specs.Sources.{after_closing};
 
 use crate::{Fault, Input};
 use thiserror::Error;

@@ -1,6 +1,7 @@
 //! A source of files in memory.
 ghost use Rattle.std.specs.Option.{option_map};
-ghost use Rattle.std.specs.Prelude.{◌≡◌, ◌≤◌, ◌++◌, ◌∷◌, [], OnOk, OnErr, MatchBool, length, map, slice_get};
+ghost use Rattle.std.specs.Prelude.{◌≡◌, ◌≤◌, ◌++◌, ◌∷◌, [], OnOk, OnErr, length, map, slice_get};
+ghost use Rattle.std.specs.Vec.{VecUnchanged};
 ghost use Rattle.sum_sources.specs.SourceLaws.{GivesTold-prop};
 ghost use Rattle.sum_sources.specs.Sources.{GivesTold, first_answer, names_of, answer_of_first, times};
 ghost use Rattle.sum_sources.specs.refinement.ToldPairs.{pair_of, answer_value, told_source};
@@ -83,8 +84,8 @@ impl<'a, A: Allocator + Copy> ToldSource<'a, A> {
         }
     }
 
-    /// Adds a pair of a name and its answer. An earlier pair with that name still answers for it. Returns `NoRoom` if
-    /// memory is refused; the pairs are then unchanged.
+    /// Adds a pair of a name and its answer. It answers the openings of that name from now on, if no earlier pair has
+    /// that name. Returns `NoRoom` if memory is refused; the pairs are then unchanged.
     pub fn add(&mut self, name: &[u8], answer: Answer<'a>) -> Result<(), NoRoom>
         ensures ok { OnOk result (let s = told_source_state self.old in
             told_source_state self.new ≡ record s {
@@ -111,16 +112,18 @@ impl<'a, A: Allocator + Copy> ToldSource<'a, A> {
     }
 }
 
-// Adds a name to the names opened.
-fn add_name<A: Allocator + Copy>(alloc: A, asked: &mut Vec<Vec<u8, A>, A>, name: &[u8]) -> bool
-    ensures { MatchBool result
-        (map (λ v. v.items) asked.new.items ≡ map (λ v. v.items) asked.old.items ++ name.now ∷ [])
-        (map (λ v. v.items) asked.new.items ≡ map (λ v. v.items) asked.old.items) }
+// Adds a name to the names opened. Returns `NoRoom` if memory is refused; they are then unchanged.
+fn add_name<A: Allocator + Copy>(
+    alloc: A,
+    asked: &mut Vec<Vec<u8, A>, A>,
+    name: &[u8],
+) -> Result<(), NoRoom>
+    ensures ok { OnOk result (map (λ v. v.items) asked.new.items
+        ≡ map (λ v. v.items) asked.old.items ++ name.now ∷ []) }
+    ensures err { OnErr result (VecUnchanged asked.old asked.new) }
 {
-    match Vec::from_slice(alloc, name) {
-        Ok(name) => asked.push(name).is_ok(),
-        Err(_) => false,
-    }
+    asked.push(Vec::from_slice(alloc, name)?)?;
+    Ok(())
 }
 
 impl<'a, A: Allocator + Copy> Source for ToldSource<'a, A> {
@@ -134,7 +137,7 @@ impl<'a, A: Allocator + Copy> Source for ToldSource<'a, A> {
 
     fn open_file(&mut self, name: &[u8]) -> Result<Told<'a>, OpenFault> {
         let before = times(&self.asked, name);
-        if !add_name(self.alloc, &mut self.asked, name) {
+        if let Err(NoRoom) = add_name(self.alloc, &mut self.asked, name) {
             self.log = self.log.and(&Note::Refused);
             return Err(OpenFault::Memory);
         }

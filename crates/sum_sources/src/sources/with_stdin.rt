@@ -28,12 +28,12 @@ impl<I: Input, S: Source> WithStdin<I, S> {
     ghost use Rattle.sum_sources.specs.WithStdin.{other_openings, pairs_with_stdin, state_without_dash};
     ghost use Rattle.sum_sources.specs.refinement.SourceStates.{both_state, source_in, stdin_in};
     ghost use Rattle.sum_sources.specs.StandardInput.{given_input, is_untaken, closable_state};
-    ghost use Rattle.std.specs.Prelude.{true};
+    ghost use Rattle.std.specs.Prelude.{IsTrue};
 
     /// Creates the inputs with this standard input, which hasn't been taken, and this source. What the source opened
     /// before by the name `-` doesn't count.
     pub fn new(stdin: Stdin<I>, source: S) -> Self
-        requires { is_untaken stdin ≡ true }
+        requires { IsTrue (is_untaken stdin) }
         ensures stdin { stdin_in result ≡ stdin }
         ensures source { source_in result ≡ source }
         ensures state { both_state result ≡ record (state_without_dash (S.state source)) {

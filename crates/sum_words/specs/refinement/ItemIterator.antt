@@ -2,7 +2,6 @@
 use Rattle.std.specs.Prelude.{ℕ, ◌≡◌, map, List, [], ◌∷◌, Option, None, Some, chars, encode_utf8_all}
 use Rattle.sum_words.specs.declared.{tool.Tool.Tool, messages.word_faults.WordFault.WordFault, parsing.items.Item.Item as WordItem}
 use Rattle.sum_words.specs.WordFaults as faults
-use Rattle.sum_words.specs.WordFaults.{Short}
 use Rattle.sum_words.specs.declared.{parsing.items.ParserState.ParserState, parsing.items.ParserStep.ParserStep}
 use Rattle.sum_words.specs.Items.{ByteString, ItemValue, option, length_value, operand, fault, a_word, a_value, cluster, items_from, full_name}
 use Rattle.sum_words.specs.declared.messages.word_faults.WordFault.TheVariants as words
@@ -41,7 +40,7 @@ item_value (items.Fault f) = fault (word_fault_value f)
 
 -- the items from the value of an option in a cluster on; the value is these letters or, if there are none, a word
 abbrev pub attached_value : Tool → List ℕ → List ByteString → List ItemValue
-attached_value t [] words = items_from t words (a_value Short)
+attached_value t [] words = items_from t words (a_value faults.Short)
 attached_value t cs words = length_value (encode_utf8_all cs) ∷ items_from t words a_word
 
 -- the items that remain in a state, before these words

@@ -1,6 +1,6 @@
 -- Relates the scan of the options to the request: the values so far, and what they make of it.
 use Rattle.std.specs.Prelude.{ℕ, ◌≡◌, ◌<◌, ◌^◌, ◌&&◌, ◌||◌, not, bytes_eq, true, Bool, List, [], Option, None, Some, SomeIff, Result, Ok, Err, option_copied, filter_map}
-use Rattle.std.specs.{List.last_or, Str.all_ascii_digits, Str.Parse.digits_value}
+use Rattle.std.specs.{Char.is_ascii_digit, List.last_or, List.list_all, Str.Parse.digits_value}
 use Rattle.sum_words.specs.Request.{report_flag, early_request, has, last_of, mode_flags, report_flags}
 use Rattle.sum_words.specs.Items.{Flag, ByteString, ItemValue, option_in, value_in}
 use Rattle.sum_words.specs.declared.{messages.word_faults.WordFault.WordFault, parsing.request.Chosen.Chosen, parsing.request.ScannedOptions.ScannedOptions}
@@ -39,4 +39,4 @@ IsScanOf (Early r) xs = early_request xs ≡ Some (result_value r)
 -- the number of a value, or `None` if the value isn't one or more digits or its number isn't below 2^64
 abbrev pub IsNumberOf : ByteString → Option ℕ → Type 0
 IsNumberOf value r = let n = digits_value 10 value in
-    SomeIff r ((not (bytes_eq value []) && all_ascii_digits value ≡ true) × (n < 2 ^ 64)) n
+    SomeIff r ((not (bytes_eq value []) && list_all is_ascii_digit value ≡ true) × (n < 2 ^ 64)) n

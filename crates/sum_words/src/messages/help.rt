@@ -2,7 +2,7 @@
 ghost use Rattle.std.specs.Prelude.{◌≡◌, ◌-◌, ◌∷◌, ◌++◌, [], codes, filter, flat_map, if◌then◌else◌, replicate};
 ghost use Rattle.sum_lines.specs.Buffers.{WritesAll};
 ghost use Rattle.sum_lines.specs.PartTexts.{part_text};
-ghost use Rattle.sum_words.specs.Items.{has_option, takes_value};
+ghost use Rattle.sum_words.specs.Items.{has_option, row_of, takes_value};
 ghost use Rattle.sum_words.specs.Texts.{help, help_line, letter_column, purpose, version};
 ghost use Rattle.sum_words.specs.Tools.{algos_of};
 
@@ -74,7 +74,7 @@ fn put_row<'a, O: Sink>(
     letter: &'a [u8],
     suffix: &'a [u8],
 ) -> Result<(), SinkFault>
-    requires { prefix.now ++ letter.now ++ suffix.now ≡ letter_column flag }
+    requires { prefix.now ++ letter.now ++ suffix.now ≡ letter_column (row_of flag).0 }
     ensures { WritesAll out.old out.new (help_line flag) result }
 {
     let (_, name, help) = flag.row();

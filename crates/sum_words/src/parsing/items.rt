@@ -2,11 +2,13 @@
 ghost use Rattle.std.specs.Iterator.{item_count};
 ghost use Rattle.std.specs.List.{starts_with};
 ghost use Rattle.std.specs.Option.{option_copied};
-ghost use Rattle.std.specs.Prelude.{◌≡◌, ◌==◌, List, [], ◌∷◌, MatchOption, drop, length, true, false, filter_map};
+ghost use Rattle.std.specs.Prelude.{◌≡◌, ◌==◌, List, [], ◌∷◌, IsTrue, MatchOption, drop, length, false, filter_map};
 ghost use Rattle.std.specs.Str.{chars};
-ghost use Rattle.sum_words.specs.Items.{ByteString, a_word, name_part, value_part, long_option, name_or_fault, cluster, is_option_word, items_from, operand_in};
+ghost use Rattle.sum_words.specs.Items.{ByteString, a_word, name_part, value_part, long_option, name_or_fault, cluster};
+ghost use Rattle.sum_words.specs.Items.{is_option_word, items_from, operand_in};
 ghost use Rattle.sum_words.specs.declared.tool.Tool.{Tool};
-ghost use Rattle.sum_words.specs.refinement.ItemIterator.{attached_value, remaining_items, step_items, item_value, TakesFirst};
+ghost use Rattle.sum_words.specs.refinement.ItemIterator.{attached_value, remaining_items, step_items, item_value};
+ghost use Rattle.sum_words.specs.refinement.ItemIterator.{TakesFirst};
 
 use crate::messages::word_faults::WordFault;
 use crate::parsing::options::{Flag, Spelling};
@@ -161,7 +163,7 @@ fn is_option_word(word: &[u8]) -> bool
 // The step of a word that begins with a dash, isn't a dash alone, and is UTF-8.
 #[tactic(auto, using(crate::proofs::WordLemmas::utf8))]
 fn option_step<'a>(tool: Tool, word: &'a str) -> ParserStep<'a>
-    requires { is_option_word word.now ≡ true }
+    requires { IsTrue (is_option_word word.now) }
     ensures { (ws : List ByteString) →
         step_items tool result ws ≡ items_from tool (word.now ∷ ws) a_word }
 {
@@ -239,7 +241,7 @@ fn rest_of_cluster(letters: &str) -> ParserState<'_>
 // The first character after a word's dash, and the rest.
 #[tactic(auto, using(crate::proofs::WordLemmas::nonempty_after_dash))]
 fn letters_of(word: &str) -> (char, &str)
-    requires { is_option_word word.now ≡ true }
+    requires { IsTrue (is_option_word word.now) }
     ensures { chars (drop 1 word.now) ≡ result.0 ∷ chars result.1.now }
 {
     let Some(rest) = after_prefix("-", word) else {
@@ -266,7 +268,7 @@ fn first_letter(text: &str) -> Option<(char, &str)>
 #[tactic(auto, using(crate::proofs::WordLemmas::prefix_stripped))]
 fn after_prefix<'a>(prefix: &str, word: &'a str) -> Option<&'a str>
     ensures { MatchOption result (starts_with ◌==◌ word.now prefix.now ≡ false)
-        (λ rest. (starts_with ◌==◌ word.now prefix.now ≡ true)
+        (λ rest. IsTrue (starts_with ◌==◌ word.now prefix.now)
         × (rest.now ≡ drop (length prefix.now) word.now)) }
 {
     word.strip_prefix(prefix)

@@ -2,7 +2,8 @@
 ghost use Rattle.std.specs.List.{filter, starts_with};
 ghost use Rattle.std.specs.Prelude.{◌≡◌, ◌==◌, ◌&&◌, [], ◌∷◌, find, option_to_list};
 ghost use Rattle.std.specs.Str.{bytes_eq};
-ghost use Rattle.sum_words.specs.Items.{row_of, full_name, all_flags, flags_of, has_option, takes_value, option_of_letter, only_or_fault, name_or_fault};
+ghost use Rattle.sum_words.specs.Items.{row_of, full_name, all_flags, flags_of, has_option, takes_value};
+ghost use Rattle.sum_words.specs.Items.{option_of_letter, only_or_fault, name_or_fault};
 ghost use Rattle.sum_words.specs.refinement.OptionScan.{result_value};
 
 use crate::messages::word_faults::WordFault;
@@ -58,9 +59,7 @@ impl Flag {
     /// The option's row in the table: the letter, if there is one, the full name, and the text in the help.
     #[rattlefmt::skip]
     pub(crate) fn row(self) -> (Option<u8>, &'static str, &'static str)
-        ensures letter { option_to_list result.0 ≡ (row_of self).0 }
-        ensures name { result.1.now ≡ full_name self }
-        ensures help { result.2.now ≡ (row_of self).2 }
+        ensures { (option_to_list result.0, result.1.now, result.2.now) ≡ row_of self }
     {
         match self {
             Flag::Binary => (Some(b'b'), "binary", "mark each line as binary"),

@@ -1,7 +1,8 @@
 //! What the words ask for: settings and operands, help, version, or a fault.
+ghost use Rattle.std.specs.Char.{is_ascii_digit};
+ghost use Rattle.std.specs.List.{list_all};
 ghost use Rattle.std.specs.Option.{option_map};
 ghost use Rattle.std.specs.Prelude.{◌≡◌, ◌∷◌, List, [], filter_map};
-ghost use Rattle.std.specs.Str.{all_ascii_digits};
 ghost use Rattle.sum_words.specs.Items.{ItemValue, a_word, items_from, option, option_in};
 ghost use Rattle.sum_words.specs.Request.{length_kind, mode_of, fault_of_options, request_of_options, request};
 ghost use Rattle.sum_words.specs.refinement.ItemIterator.{word_fault_value};
@@ -170,14 +171,9 @@ fn number(value: &[u8]) -> Option<u64>
 
 // Whether all bytes are digits.
 fn all_digits(bytes: &[u8]) -> bool
-    ensures { result ≡ all_ascii_digits bytes.now }
+    ensures { result ≡ list_all is_ascii_digit bytes.now }
 {
-    for byte in bytes {
-        if !byte.is_ascii_digit() {
-            return false;
-        }
-    }
-    true
+    bytes.iter().all(|byte| byte.is_ascii_digit())
 }
 
 // The first fault of the options in combination.

@@ -1,11 +1,10 @@
 use Rattle.std.proofs.Common.{Result, Ok, Err, refl}
-use Rattle.std.specs.Prelude.{⊤}
 use Rattle.sum_lines.specs.Sinks.{ByteString, OutputState, GivesAll}
 use Rattle.digests.proofs.finish.finish_run.Goals as goal
 
 -- a line was written, or its write failed
 writes_line : {E : Type 0} (a b : OutputState) (line : ByteString) (r : Result (Unit {0}) E) → GivesAll a b line r
-    → (x : Result ⊤ ⊤) × GivesAll a b line x
+    → (x : Result (Unit {0}) (Unit {0})) × GivesAll a b line x
 writes_line a b line (Ok u) wrote = (Ok tt, wrote)
 writes_line a b line (Err e) wrote = (Err tt, wrote)
 

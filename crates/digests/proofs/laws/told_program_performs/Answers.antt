@@ -1,8 +1,8 @@
 use Rattle.std.proofs.Common.{ℕ, List, [], Option, None, Some, inl, inr}
-use Rattle.sum_engine.specs.{Behavior.ByteString, Behavior.World, Execution.world_at, Execution.Agrees, Execution.StreamsState}
+use Rattle.sum_engine.{specs.Behavior.ByteString, specs.Behavior.World, proofs.WorldLaws.all_agree}
+use Rattle.sum_engine.specs.Execution.{world_at, Agrees, StreamsState}
 use Rattle.sum_words.specs.{CommandLines.command_line, declared.tool.Tool.Tool}
 use Rattle.digests.specs.{Program.CommandPerforms, InMemory.CommandPerformsIn}
-use Rattle.sum_engine.proofs.WorldLaws.{all_agree}
 use Rattle.digests.proofs.laws.told_program_performs.Goals as goal
 
 -- a call of the tool, or of none, in a world that agrees

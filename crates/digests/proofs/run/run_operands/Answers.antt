@@ -1,7 +1,7 @@
 use Rattle.std.proofs.Common.{rules, arith, ap, Ok}
-use Rattle.std.proofs.lemmas.Result.{err_from_is_err_and}
-use Rattle.std.proofs.Math.Bool.{and-true}
-use Rattle.sum_engine.proofs.{ExecutionLemmas.Happened-none, WorldLemmas.reads_none, WorldLemmas.reads_weaker, WorldLemmas.reads_then}
+use Rattle.std.proofs.{lemmas.Result.err_from_is_err_and, Math.Bool.and-true}
+use Rattle.sum_engine.proofs.ExecutionLemmas.{Happened-none}
+use Rattle.sum_engine.proofs.WorldLemmas.{reads_none, reads_weaker, reads_then}
 use Rattle.digests.proofs.OperandLemmas.{left-next, operands_done_step, operands_done_stop}
 use Rattle.digests.proofs.run.run_operands.Goals as goal
 

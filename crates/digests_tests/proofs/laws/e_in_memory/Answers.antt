@@ -1,7 +1,7 @@
 use Rattle.std.proofs.Common.{arith, ◌≡◌, ◌∙◌, ap, refl, ◌∷◌, ◌++◌, [], Ok, Some, codes}
 use Rattle.sum_engine.specs.Execution.{OutputsState, StreamsState}
 use Rattle.sum_lines.specs.Sinks.{SinkState}
-use Rattle.sum_sources.specs.{Contents.empty_content, StandardInput.ToldContent, WithStdin.answers_with, WithStdin.pairs_with_stdin}
+use Rattle.sum_sources.specs.{Contents.empty_content, WithStdin.answers_with, WithStdin.pairs_with_stdin}
 use Rattle.sum_sources.specs.Sources.{Pair, SourceState, first_answer, names_of, answer_of_first, times}
 use Rattle.digests_tests.proofs.laws.e_in_memory.Goals as goal
 

@@ -1,5 +1,4 @@
-use Rattle.std.proofs.Common.{arith}
-use Rattle.std.{proofs.lemmas.Grind.common_steps, proofs.lemmas.Bool.eqb-true, proofs.Math.Seq.take-length}
+use Rattle.std.proofs.{Common.arith, Math.Seq.take-length, lemmas.Grind.common_steps, lemmas.Bool.eqb-true}
 use Rattle.sum_sources.proofs.PieceLemmas.{plain_prefix, cut_buffer}
 use Rattle.sum_sources.proofs.line_reader.LineReader.take_piece.Goals as goal
 

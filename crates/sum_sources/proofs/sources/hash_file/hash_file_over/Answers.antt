@@ -1,9 +1,9 @@
 use Rattle.std.proofs.Common.{◌≡◌, List, ℕ, Result, Ok, Err}
 use Rattle.std.specs.Result.{IsErrAnd}
 use Rattle.digest_kinds.specs.Kinds.{KindValue}
-use Rattle.sum_sources.specs.{Contents.Fault, Sources.SourceState, Sources.HashFault, Sources.HashesFile, Sources.HashesOpened}
+use Rattle.sum_sources.{specs.Contents.Fault, proofs.GaveLemmas.is_open_last, proofs.GaveLemmas.hashed_last}
+use Rattle.sum_sources.specs.Sources.{SourceState, HashFault, HashesFile, HashesOpened}
 use Rattle.sum_sources.specs.declared.sources.hash_file.HashFault.TheVariants as hashing
-use Rattle.sum_sources.proofs.GaveLemmas.{is_open_last, hashed_last}
 use Rattle.sum_sources.proofs.sources.hash_file.hash_file_over.Goals as goal
 
 -- the file is open when it is closed
