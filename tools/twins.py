@@ -1,72 +1,56 @@
 #!/usr/bin/env python3
-"""Tries the twins of wrong versions, which the prover must accept: `tools/twins.py [--anew] [CRATE ..]`. A crate of which
-nothing has changed since its twins were accepted is left out, unless `--anew` is given."""
+"""Tries the twins of wrong versions, which the prover must accept: `tools/twins.py [--anew] [CRATE ..]`. Without
+`--anew`, a crate is left out if nothing has changed since its twins were accepted."""
 
-import glob
-import os
 import re
 import runpy
 import shutil
 import sys
+from pathlib import Path
 
 sys.dont_write_bytecode = True
 
-from sources import TOP, kit, text_of  # noqa: E402  (nothing is to be left beside these files)
+from sources import TOP, kit  # noqa: E402  (nothing is to be left beside these files)
 
-OUT, RT = f"{TOP}/out/twins", runpy.run_path(f"{kit()}/bin/rt")  # the kit's own code applies and tries edits
-ADDED = re.compile(r"\b(?:fn|struct) |\b[a-z]\w*\(")  # a function, a type, a call
-
-
-def twins_of(crate):
-    """The twins of a crate as edits, by their names; nothing for one that doesn't fit its wrong version, and for a wrong
-    version that adds a function, a type or a call, and has no twin."""
-    found, paths = {}, glob.glob(f"{crate.folder}/must-fail/*.edit") + glob.glob(f"{crate.folder}/twins/*.twin")
-    for name in sorted({os.path.basename(it).split(".")[0] for it in paths}):
-        files = f"{crate.folder}/must-fail/{name}.edit", f"{crate.folder}/twins/{name}.twin"
-        edit, twin = (text_of(it) if it in paths else "" for it in files)
-        old, new = (len(ADDED.findall("".join(re.findall(f"(?m)^{it}: .*", edit)))) for it in ("old", "new"))
-        if twin or new > old:
-            found[name] = edit if twin else ""
-        for wrong, right in re.findall(r"(?m)^wrong: (.*)\nright: ?(.*)", twin):
-            found[name] = found[name].replace(wrong, right) if found[name].count(wrong) == 1 else ""
-    return found
+RT, OUT = runpy.run_path(f"{kit()}/bin/rt"), Path(TOP, "out", "twins")  # the kit's own code applies and tries edits
 
 
-def accepts(crate, edit):
-    """Whether the prover accepts a crate as edited."""
-    texts = RT["edited"](edit, crate.folder)[0]
-    return texts and not RT["checked"](crate, texts, [], f"{OUT}/work").returncode
+def twin_of(folder, name):
+    """The twin of a wrong version as an edit, if it has one; it must, if it adds a function, a type or a call."""
+    edit, path = (folder / f"must-fail/{name}.edit").read_text("utf-8"), folder / f"twins/{name}.twin"
+    pairs = re.findall(r"(?m)^wrong: (.*)\nright: ?(.*)", path.read_text("utf-8") if path.exists() else "")
+    old, new = (re.findall(r"\b(?:fn|struct) |\b[a-z]\w*\(", "".join(re.findall(f"(?m)^{it}: .*", edit)))
+                for it in ("old", "new"))
+    if len(new) > len(old) and not pairs or any(edit.count(wrong) != 1 for wrong, _ in pairs):
+        sys.exit(f"{path} isn't there, or has a text that isn't in the wrong version once")
+    for wrong, right in pairs:
+        edit = edit.replace(wrong, right)
+    return edit if pairs else ""
 
 
-def main():
-    count, refused, named = 0, [], {*sys.argv[1:]} - {"--anew"}
-    for crate in RT["rtlib"].crates_below(TOP):
-        twins, joined, mark = twins_of(crate), [], f"{OUT}/{crate.name}"
-        state = repr((crate.stamp(), twins))
-        if not twins or named and crate.name not in named:
-            continue
-        count += len(twins)
-        if "--anew" not in sys.argv and os.path.exists(mark) and text_of(mark) == state:
-            continue
-        shutil.rmtree(f"{OUT}/work", ignore_errors=True)
-        shutil.copytree(f"{crate.folder}/out/incremental", f"{OUT}/work")
-        for name in twins:  # what can be joined is tried at once
-            for it in joined:
-                if twins[name] and RT["edited"]("".join(twins[each] for each in (*it, name)), crate.folder)[0]:
-                    it.append(name)
-                    break
-            else:
-                joined.append([name])
-        bad = [name for it in joined if not accepts(crate, "".join(twins[each] for each in it))
-               for name in it if len(it) == 1 or not accepts(crate, twins[name])]
-        print(f"{crate.name}: {len(twins)} twins, {len(joined)} checks", *(f"{name} REFUSED" for name in bad), flush=True)
-        if not bad:
-            with open(mark, "w") as it:
-                it.write(state)
-        refused += bad
-    print(f"{count - len(refused)} twins accepted, {len(refused)} refused")
-    sys.exit(len(refused) > 0)
+def refused(crate):
+    """The twins of a crate that the prover refuses. Those that fit together are tried at once."""
+    def accepts(edit):
+        return not RT["checked"](crate, RT["edited"](edit, crate.folder)[0], [], OUT / "work").returncode
+
+    folder, kept, joined = Path(crate.folder), OUT / crate.name, []
+    names = sorted({it.stem for part in ("must-fail", "twins") for it in (folder / part).glob("*.*")})
+    twins = {name: edit for name in names if (edit := twin_of(folder, name))}
+    state = repr((crate.stamp(), twins))
+    if not twins or "--anew" not in sys.argv and kept.exists() and kept.read_text("utf-8") == state:
+        return []
+    shutil.rmtree(OUT / "work", ignore_errors=True)
+    shutil.copytree(folder / "out" / "incremental", OUT / "work")
+    for edit in twins.values():
+        at = next((n for n, it in enumerate(joined) if RT["edited"](it + edit, crate.folder)[0]), len(joined))
+        joined[at:at + 1] = ["".join(joined[at:at + 1]) + edit]
+    accepted = "".join(filter(accepts, joined))
+    bad = [name for name, edit in twins.items() if edit not in accepted and not accepts(edit)]
+    kept.write_text("" if bad else state, "utf-8")
+    print(f"{crate.name}: {len(twins) - len(bad)} twins accepted, {len(bad)} refused", *bad, flush=True)
+    return bad
 
 
 if __name__ == "__main__":
-    main()
+    crates = [it for it in RT["rtlib"].crates_below(TOP) if {*sys.argv[1:]} <= {"--anew"} or it.name in sys.argv]
+    sys.exit(any([refused(it) for it in crates]))
