@@ -115,8 +115,9 @@ class Library:
 
     def promises(self, name):
         """The public calls of that name: where each is, its comment, and what the kit has read, with the clauses."""
-        for it in (it for of in self.items for it in of.members or [of]):
-            if (it.name, it.kind) == (name, "fn") and (it.public and it.comment or it.trait and it.clauses):
+        for it in (it for of in self.items if of.public or of.kind == "impl" for it in of.members or [of]):
+            has_own = it.trait and any(clause.label for clause in it.clauses)
+            if (it.name, it.kind) == (name, "fn") and (has_own or it.public and it.comment):
                 rows = [f"// {it.crate} {it.file}: {it.path}", *(f"/// {row}".rstrip() for row in it.comment)]
                 yield "\n".join([*rows, it.text.split("\nghost ")[0]])  # without what follows it in its `impl`
 
