@@ -62,6 +62,13 @@ class Documents(Case):
         sample = re.sub(r"(?m)^(?=.)", "    ", text_of("crates", "example_check", "src", "bytes.rt"))
         self.assertIn(sample, page, "docs/LIBRARY.md doesn't show the input of example_check as it is")
 
+    def test_a_promise(self):
+        """`tools/library.py NAME` prints where a call is, its comment, and its contract as the kit has read it."""
+        call = Code().function("digests", "run")
+        ran = self.run_command([os.path.join(TOP, "tools", "library.py"), "run"])
+        wanted = ["// digests run.rt: run", *(f"/// {row}".rstrip() for row in call.comment), call.text, ""]
+        self.assertEqual(ran, Ran(0, "\n".join(wanted).encode(), b""))
+
     def test_sums(self):
         """The sums of the newest version in CHANGELOG, if it has any, are those of what is built, as docs/PACKAGING.md
         checks them."""

@@ -1,6 +1,10 @@
 #!/usr/bin/env python3
-"""Writes the list of public calls in docs/LIBRARY.md, as the kit has read them, with the comments of the sources:
-`library.py`. Items marked `#[doc(hidden)]` are public only for the crates here, and are left out."""
+"""The public calls of the crates, as the kit has read them, with the comments of the sources.
+
+    tools/library.py         writes the list of them in docs/LIBRARY.md
+    tools/library.py NAME    prints those of that name, each with its comment and its clauses
+
+Items marked `#[doc(hidden)]` are public only for the crates here, and are left out."""
 
 import os
 import re
@@ -109,6 +113,14 @@ class Library:
                         yield f"- `use {other[1]}::{name}`  \n  The one of `{other[1]}`."
         yield ""
 
+    def promises(self, name):
+        """The public calls of that name: where each is, its comment, and what the kit has read, with the clauses."""
+        for it in (it for of in self.items if of.public or of.kind == "impl" for it in of.members or [of]):
+            has_own = it.trait and any(clause.label for clause in it.clauses)
+            if (it.name, it.kind) == (name, "fn") and (has_own or it.public and it.comment):
+                rows = [f"// {it.crate} {it.file}: {it.path}", *(f"/// {row}".rstrip() for row in it.comment)]
+                yield "\n".join([*rows, it.text.split("\nghost ")[0]])  # without what follows it in its `impl`
+
 
 def page():
     """The text of the page, and the text that it should have."""
@@ -117,9 +129,12 @@ def page():
     return written, written.split(BEGIN)[0] + BEGIN + "\n" + parts
 
 
-def main():
-    if sys.argv[1:]:
+def main(words):
+    if len(words) > 1 or words and words[0].startswith("-"):
         sys.exit(__doc__)
+    if words:
+        found = "\n\n".join(Library().promises(*words))
+        sys.exit(print(found) if found else f"library.py: no public call has the name {words[0]}")
     _, wanted = page()
     with open(PAGE, "w", encoding="utf-8") as file:
         file.write(wanted)
@@ -127,6 +142,6 @@ def main():
 
 if __name__ == "__main__":
     try:
-        main()
+        main(sys.argv[1:])
     except ValueError as error:
         sys.exit(f"library.py: {error}")

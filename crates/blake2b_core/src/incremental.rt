@@ -38,7 +38,7 @@ impl MessageTooLong {
 pub struct Blake2b {
     // The state after the blocks before the buffered one.
     h: [u64; 8],
-    // A full block stays buffered until a byte follows it, since the last block is compressed as the last.
+    // A full block stays buffered until a byte follows it, since the message's last block is compressed with a flag.
     buffer: [u8; 128],
     buffer_len: usize,
     taken: u64,
@@ -106,7 +106,7 @@ impl Blake2b {
         self.taken += bytes.len() as u64;
     }
 
-    // If some bytes are buffered and the piece has more than fit in the buffer: fills the buffer and compresses it.
+    // If some bytes are buffered and the piece has more than fits in the buffer: fills the buffer and compresses it.
     // Returns how many bytes it took.
     fn fill(&mut self, piece: &[u8]) -> usize
         requires { self.old.taken + length piece.now < LIMIT }

@@ -1,2 +1,1 @@
--- Relates the code's values to those of the definitions. No contract of `run` or `command` leads here.
 pub mod AnyHasherState

@@ -113,7 +113,7 @@ fn count_digits(bytes: &[u8]) -> usize
         .count()
 }
 
-// BLAKE2b with the number of bits that the digits write, a multiple of 8 up to 512.
+// BLAKE2b with as many bits as the digits say, a multiple of 8 up to 512.
 fn kind_of_digits(digits: &[u8]) -> Option<Kind>
     requires { AllPass is_ascii_digit digits.now }
     ensures { result ≡ kind_of_digits digits.now }

@@ -17,7 +17,7 @@ MeansInMemory tells b = (tool : Tool) (words : List ByteString) (answer : Answer
     → let all = meaning tool words (record { answer = answer; opened = opened_names a.inputs }) in
     PerformsSteps all.steps (status_of all.good) a b r
 
--- a call of a tool on its words, or of no known tool, in one world
+-- in this world the tool did what its words mean, or, if there is none, the call wrote that the tool is unknown
 abbrev pub CommandPerformsIn : World → Option (Tool × List ByteString) → StreamsState → StreamsState → ℕ → Type 0
 CommandPerformsIn w None = CallRefuses unknown_tool_line
 CommandPerformsIn w (Some (tool, words)) = let all = meaning tool words w in

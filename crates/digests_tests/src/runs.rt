@@ -47,7 +47,7 @@ fn broken(text: &str) -> Given<'_> {
 // A line, what it writes on standard output and on standard error, and its status.
 type Example<'a> = (&'a str, &'a str, &'a str, u8);
 
-// A text with the published digests (of MD5, SHA-2 and BLAKE2b) that it names.
+// The text, with published digests (of MD5, SHA-2 and BLAKE2b) in place of their names.
 fn spell(alloc: Global, text: &str) -> Result<String, Fail> {
     let digests = [
         ("$M", "900150983cd24fb0d6963f7d28e17f72"),

@@ -123,7 +123,7 @@ pub fn added_lines_change_nothing()
     same_front();
 }
 
-/// A manifest of the time of older versions that was good stays good.
+/// If a manifest from the time of older versions was good, it stays good.
 pub fn old_manifest_stays_good()
     ensures good { (r : Rules) (labels : LabelsValue) (w : World) (c : Content)
         → IsOldManifest r labels c → let old = rules_under older_profile r in let new = rules_under own_profile r in

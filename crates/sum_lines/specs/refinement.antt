@@ -1,3 +1,2 @@
--- Relates the code's values to those of the definitions. No contract of `run` or `command` leads here.
 pub mod Beginnings
 pub mod SinkStates

@@ -46,7 +46,7 @@ fn replaced(alloc: Global, text: &str, name: &str, digest: &str) -> Result<Strin
     Ok(text.replace(alloc, name, digest)?)
 }
 
-// A text with the digests that it names.
+// The text, with digests in place of their names.
 pub(crate) fn spell(alloc: Global, text: &str) -> Result<String, Fail> {
     let mut all = String::from_str(alloc, text)?;
     for (name, digest) in DIGESTS {

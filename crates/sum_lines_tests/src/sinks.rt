@@ -54,8 +54,8 @@ fn writer_of(rt: &impl AllocGlobal, most: usize, fails: Range<u32>, kind: ErrorK
     }
 }
 
-// Whether the first write of a piece by a sink over the writer returns this, with this many writes of the writer, of
-// this many bytes in all. A fault isn't tried again by itself; the next write tries again.
+// Whether the first write of a piece by a sink over the writer returns this, after this many calls of the writer, to
+// which this many bytes in all were offered. A fault isn't tried again by itself; the next write tries again.
 fn is_first(
     writer: &mut Writer,
     piece: &[u8],

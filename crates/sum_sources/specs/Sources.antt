@@ -32,7 +32,7 @@ times name names = count_by (λ other. bytes_eq other name) names
 abbrev pub gave_of : List Opening → ByteString → List (Option (Result Reads Fault))
 gave_of os name = filter_map (λ o. if bytes_eq o.name name then Some o.gave else None) os
 
--- what the opening of a name gave that has k others before it
+-- what opening a name gave after k earlier openings of it
 abbrev pub gave_at : List Opening → ByteString → ℕ → Option (Result Reads Fault)
 gave_at os name k = option_flatten (slice_get (gave_of os name) k)
 

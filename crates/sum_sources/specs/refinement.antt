@@ -1,4 +1,3 @@
--- Relates the code's values to those of the definitions. No contract of `run` or `command` leads here.
 pub mod LimitedReads
 pub mod LineStates
 pub mod SourceStates

@@ -51,8 +51,8 @@ fn is_at(rt: &impl Abort, reader: LineReader<TwoParts>, lines: usize, place: usi
     assert_eq!(rt; reader.into_inner().phase(), phase);
 }
 
-// Asserts what a reader returns if its input has this ending after this many bytes, and goes on with the others: just
-// these lines, and then the ending. It has read no further.
+// Asserts that a reader returns just these lines and then the ending, and has read no further, if its input has this
+// ending after that many bytes and then goes on with the others.
 fn reads(
     rt: &(impl Abort + AllocGlobal),
     content: &[u8],

@@ -96,7 +96,7 @@ early_request (option flags.Help ∷ xs) = Some (Ok Help)
 early_request (option flags.Version ∷ xs) = Some (Ok Version)
 early_request (x ∷ xs) = early_request xs
 
--- the request of a tool's words, or what precedes it: an item alone, a fault of the last length, a fault of the options
+-- the request of a tool's words, unless an item decides alone, the last length is wrong or the options conflict
 abbrev pub request : Tool → List ByteString → Result Request WordFaultValue
 request t words = let items = items_from t words a_word in
     let given = filter_map option_in items in

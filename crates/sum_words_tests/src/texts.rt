@@ -10,7 +10,7 @@ use sum_words::{
     put_version, read_words,
 };
 
-// Whether the name has this tool, or none, in both ways of reading it. It has no contract, so that a test knows no more
+// Whether both ways of reading the name give this tool, or none. It has no contract, so that a test knows no more
 // of it than it sees; the same goes for the functions below.
 fn is_called(name: &str, tool: Option<Tool>) -> bool {
     Tool::from_word(name) == tool && name.parse() == tool.ok_or(UnknownTool)

@@ -69,7 +69,7 @@ remaining_behavior r labels a =
       good = good r a.remaining.ending counts;
     }
 
--- one line was handled; the line's vector then holds this
+-- one line was handled, after which the vector for lines holds these bytes
 pub record HandlesLine (r : Rules) (a b : CheckState) (vector : ByteString) : Type 0 where
   pub line : ByteString
   pub lines : lines_under r.profile a.remaining ≡ line ∷ lines_under r.profile b.remaining

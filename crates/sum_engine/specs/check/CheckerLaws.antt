@@ -64,8 +64,8 @@ StepsJoin = (r : Rules) (labels : LabelsValue) (c : Content) (w : World) (b : Ch
     (vectors : List ByteString) → TakesSteps r labels (initial_state c w) b s t vectors
     → HasTakenSteps r labels c (content_behavior r labels c (all_verdicts r w c)) vectors b s t
 
--- the first n lines of two manifests are the same, and this is the last of them: it spells the same entry in both; the
--- verdicts are the same after the same openings; and if it is plain, the form is the same
+-- what holds if two manifests have the same first n lines, of which this is the last: it spells the same entry in both;
+-- the verdicts of the n are the same after the same openings; and if it is plain, the form is the same
 pub record HasSameFront (r : Rules) (w : World) (n : ℕ) (line : ByteString) (ls ks : List ByteString) : Type 0 where
   pub entry : (s : EntryValue)
       → IsEntry escape r.algo (form r.algo ls) line s ↔ IsEntry escape r.algo (form r.algo ks) line s

@@ -20,8 +20,8 @@ pub record StopsAtStep (stop : Stop) (steps : List Step) (c : Content) (n : ℕ)
   pub stopped : PerformsSteps {A = ⊤} (next ∷ []) tt between b (Err stop)
   pub read : n + remaining_before later ≤ length c.bytes + 8192
 
--- so a call stopped that checks the manifest of that name: in each world that agrees with what was read, if the name
--- was answered by a content and the file was closed after these reads
+-- a call that checks the manifest of that name stopped at such a step, in each world that agrees with what was read, if
+-- the name was answered by a content and the file was closed after these reads
 abbrev pub StopsAtLine : Stop → (World → Behavior) → ByteString → StreamsState → StreamsState → Type 0
 StopsAtLine stop behavior name a b = (w : World) → Agrees w b.inputs
     → let at = world_at w a.inputs in (c : Content) → answer_to at name ≡ Ok c

@@ -123,8 +123,8 @@ abbrev pub IsNotUnread : VerdictResult → Type 0
 IsNotUnread (Ok (Some v)) = is_unread v.verdict ≡ false
 IsNotUnread x = ⊤
 
--- what a call for the next verdict opens: the name of the line's verdict, or none; or the source was
--- refused memory, or there was none for a line, of which bytes were read ahead
+-- what a call for the next verdict opens: the name that the verdict is about, or none. Out of memory, the source was
+-- refused memory, or nothing was opened and bytes were read ahead
 abbrev pub AsksFor : ByteString → ByteString → SourceState → SourceState → VerdictResult → Type 0
 AsksFor vector ahead a b (Ok (Some v)) = AsksNames a b (asks_of (line_verdict_value vector v))
 AsksFor vector ahead a b (Err Memory) = RefusesMemory a b ⊎ ((b ≡ a) × (0 < length ahead))

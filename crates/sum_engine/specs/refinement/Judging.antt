@@ -34,7 +34,7 @@ abbrev pub found_verdict : Result LineVerdict NoRoom → VerdictResult
 found_verdict (Err e) = Err Memory
 found_verdict (Ok v) = Ok (Some v)
 
--- from a to b the line's form was taken over and its verdict was counted, and nothing else changed. The name is within
+-- from a to b the line's form was adopted and its verdict was counted, and nothing else changed. The name is within
 -- the line's vector, which didn't grow
 pub record TakesLine {I : Type 0} (a b : VerdictsValue I) (line vector : ByteString) (x : Result LineVerdict NoRoom)
     : Type 0 where

@@ -27,8 +27,8 @@ impl<R: Read> Model for FromRead<R> {
 
     ghost view = { λ s. record { reader = s.reader; log = s.log } };
 
-    // What the reader was known to give at first is what the log has, and then what remains. At an end it is what the
-    // log has.
+    // What the reader was known at first to give is what the log has, followed by what remains. At its end, it is what
+    // the log has.
     ghost invariant = { λ s.
         Consumes (R.remaining s.first.value) (R.remaining s.reader) s.log.reads.bytes
         × (s.log.reads.phase ≡ Ended Whole

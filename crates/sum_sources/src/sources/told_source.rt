@@ -35,7 +35,7 @@ pub struct ToldSource<'a, A: Allocator + Copy> {
     alloc: A,
     piece: usize,
     log: SourceLog,
-    // It has no Model: `gives_told` is the fact `gives`, and no law is given a Model's invariant.
+    // It has no Model: the law `gives_told` needs the fact `gives`, and isn't given a Model's invariant.
     ghost names: { map (λ v. v.items) asked.items ≡ names_of log.openings },
     ghost gives: { GivesTold answer_of_first (told_source pairs.items log) } by { GivesTold-prop answer_of_first (told_source pairs.items log) },
 }

@@ -48,7 +48,7 @@ pub enum WordFault<'a> {
     StrictWithoutCheck,
     /// `anysum` without `--check`.
     CheckNeeded,
-    /// This word isn't UTF-8. It begins with a dash and isn't a dash alone, so it is no operand.
+    /// This word isn't UTF-8. It begins with a dash and isn't a dash alone, so it isn't an operand.
     NotText(&'a [u8]),
 }
 
