@@ -69,16 +69,18 @@ pub fn check_while_written<A: Allocator + Copy, S: Source, O: Sink, E: Sink>(
     streams: &mut Streams<Inputs<S>, Outputs<O, E>>,
 ) -> Result<bool, Stop>
     ensures { result ≡ Err Write → (w : World) → Agrees w streams.new.inputs
-        → let at = world_at w streams.old.inputs in (c : Content) → answer_to at name.now ≡ Ok c → (r : Reads)
-        → gave_at streams.new.inputs.openings name.now (times name.now (opened_names streams.old.inputs))
-        ≡ Some (Ok r) → (done : List Step) × (next : Step) × (later : List Step)
-        × ((check_behavior settings (codes "md5sum") at name.now).steps ≡ done ++ next ∷ later)
+        → let at = world_at w streams.old.inputs in let name = name.now in
+        (c : Content) → answer_to at name ≡ Ok c → (r : Reads)
+        → gave_at streams.new.inputs.openings name
+        (times name (opened_names streams.old.inputs)) ≡ Some (Ok r)
+        → (done : List Step) × (next : Step) × (later : List Step)
+        × ((check_behavior settings (codes "md5sum") at name).steps ≡ done ++ next ∷ later)
         × (length r.bytes + remaining_before later ≤ length (clip c).bytes + 8192) }
 {
     check_one(alloc, settings, "md5sum", name, streams)
 }
 
-/// A count of what a check has read, in parts of 7 bytes, can't overflow.
+/// The number of bytes that a check has read doesn't overflow if it is multiplied by 7.
 pub fn sevenths_taken<'a, I: Input>(checker: &Checker<'a, I>) -> u64
     ensures { result ≡ 7 * checker.now.verdicts.reader.taken }
 {
