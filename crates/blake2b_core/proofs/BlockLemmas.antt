@@ -4,7 +4,7 @@ use Rattle.std.proofs.lemmas.List.{take-append-le, drop-append-le, length-drop, 
 use Rattle.std.proofs.lemmas.{List.FromFn.map-range_with_len_more, List.Sums.fold-append}
 use Rattle.std.specs.Simd.{first_chunks}
 use Rattle.byteorder.specs.Endian.{little_bytes}
-use Rattle.blake2b_core.specs.{Bytes.ByteString, Compression.compress, Digest.count_before_last, Digest.hash_after, Digest.blake2b, refinement.Holding.HasBlocksFrom}
+use Rattle.blake2b_core.specs.{Bytes.ByteString, Compression.compress, Digest.count_before_last, Digest.hash_after, Digest.blake2b, Holding.HasBlocksFrom}
 use Rattle.blake2b_core.proofs.CompressionLemmas.{length-first_chunks, get_or-first_chunks}
 
 -- the chunks of a message from one of its blocks on are its blocks

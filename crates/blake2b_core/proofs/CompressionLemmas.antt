@@ -6,7 +6,7 @@ use Rattle.std.specs.{Int.w64, Int.bit_not, List.range_with_len, Simd.first_chun
 use lib.Dec.{T}
 use Rattle.byteorder.specs.Endian.{little_number}
 use Rattle.blake2b_core.specs.Compression.{◌!◌, ◌⊻◌, sigma, iv, work_vector}
-use Rattle.blake2b_core.specs.refinement.Columns.{block_words, schedule}
+use Rattle.blake2b_core.specs.private.Columns.{block_words, schedule}
 
 -- row k of SIGMA
 abbrev pub sigma_row : ℕ → List ℕ

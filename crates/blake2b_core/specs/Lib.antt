@@ -2,4 +2,5 @@ pub mod Bytes
 pub mod Compression
 pub mod Digest
 pub mod Laws
-pub mod refinement
+pub mod Holding
+pub mod private

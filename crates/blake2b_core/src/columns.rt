@@ -1,7 +1,7 @@
 //! The mixing function G of RFC 7693, 3.1, on four columns or four diagonals at once. The working vector is four rows
 //! of four words, and each row is a vector. No two columns share a word, so each column is a lane of these vectors.
 ghost use Rattle.blake2b_core.specs.Compression.{◌!◌, ◌⊞◌, ◌⊻◌, ◌⋙◌};
-ghost use Rattle.blake2b_core.specs.refinement.Columns.{columns, diagonals, rotated_row, words};
+ghost use Rattle.blake2b_core.specs.private.Columns.{columns, diagonals, rotated_row, words};
 ghost use Rattle.std.specs.Prelude.{◌≡◌, ℕ, ◌<◌};
 
 use std::simd::u64x4;

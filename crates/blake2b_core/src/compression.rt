@@ -1,6 +1,6 @@
 //! The compression function F of RFC 7693, sections 3.1 and 3.2, with the constants of 2.6 and 2.7.
 ghost use Rattle.blake2b_core.specs.Compression.{compress, round, work_vector};
-ghost use Rattle.blake2b_core.specs.refinement.Columns.{block_words, next_state, schedule, words};
+ghost use Rattle.blake2b_core.specs.private.Columns.{block_words, next_state, schedule, words};
 ghost use Rattle.std.specs.Prelude.{◌≡◌};
 
 use crate::columns::{mixed_columns, mixed_diagonals};

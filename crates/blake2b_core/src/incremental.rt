@@ -50,13 +50,13 @@ pub struct Blake2b {
 impl Blake2b {
     ghost use Rattle.blake2b_core.specs.Bytes.{ByteString};
     ghost use Rattle.blake2b_core.specs.Digest.{blake2b};
-    ghost use Rattle.blake2b_core.specs.refinement.Holding.{Holds, HoldsSoFar, digest_len, taken_count};
+    ghost use Rattle.blake2b_core.specs.Holding.{HasTaken, HoldsSoFar, digest_len, taken_count};
 
     /// Creates the state of the empty message, for a digest of `len` bytes. Returns `None` if and only if `len` is 0 or
     /// over 64.
     pub fn new(len: usize) -> Option<Blake2b>
         ensures some { IsSome result ↔ IsDigestLen len }
-        ensures holds { IfSome result (λ s. Holds s []) }
+        ensures holds { IfSome result (λ s. HasTaken s []) }
         ensures len { IfSome result (λ s. digest_len s ≡ len) }
     {
         if len == 0 || len > 64 {
@@ -172,7 +172,7 @@ impl Blake2b {
     pub fn update(&mut self, piece: &[u8])
         requires { taken_count self.old + length piece.now < LIMIT }
         // If the state may have taken a message, it may then have taken that message and the piece.
-        ensures holds { (m : ByteString) → Holds self.old m → Holds self.new (m ++ piece.now) }
+        ensures holds { (m : ByteString) → HasTaken self.old m → HasTaken self.new (m ++ piece.now) }
         ensures taken { taken_count self.new ≡ taken_count self.old + length piece.now }
         ensures len { digest_len self.new ≡ digest_len self.old }
     {
@@ -186,8 +186,8 @@ impl Blake2b {
     /// more. It is then unchanged.
     pub fn try_update(&mut self, piece: &[u8]) -> Result<(), MessageTooLong>
         ensures fits { IsOk result ↔ (taken_count self.old + length piece.now < LIMIT) }
-        ensures holds { OnOk result ((m : ByteString) → Holds self.old m
-            → Holds self.new (m ++ piece.now)) }
+        ensures holds { OnOk result ((m : ByteString) → HasTaken self.old m
+            → HasTaken self.new (m ++ piece.now)) }
         ensures taken { OnOk result (taken_count self.new
             ≡ taken_count self.old + length piece.now) }
         ensures len { digest_len self.new ≡ digest_len self.old }
@@ -200,7 +200,7 @@ impl Blake2b {
 
     /// Returns the digest of the message (RFC 7693, 3.3).
     pub fn finish(self) -> Output
-        ensures digest { (m : ByteString) → Holds self m → result ≡ blake2b (digest_len self) m }
+        ensures digest { (m : ByteString) → HasTaken self m → result ≡ blake2b (digest_len self) m }
         ensures len { length result ≡ digest_len self }
     {
         let last = padded_block(&self.buffer[..self.buffer_len]);

@@ -1,4 +1,4 @@
 pub mod Bytes
 pub mod Kinds
 pub mod KindTexts
-pub mod refinement
+pub mod AnyHasherState

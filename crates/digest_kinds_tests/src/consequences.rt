@@ -1,6 +1,6 @@
 //! What the contracts of hashers, of kinds and of algorithms give a caller.
 ghost use Rattle.blake2b_core.specs.Digest.{IsDigestLen, blake2b};
-ghost use Rattle.blake2b_core.specs.refinement.Holding.{Holds, digest_len, taken_count};
+ghost use Rattle.blake2b_core.specs.Holding.{HasTaken, digest_len, taken_count};
 ghost use Rattle.digest_kinds.specs.Bytes.{ByteString};
 ghost use Rattle.digest_kinds.specs.Kinds.{digest};
 ghost use Rattle.std.specs.Prelude.{◌≡◌, ◌↔◌, ◌+◌, ◌^◌, ◌<◌, ◌++◌, if◌then◌else◌};
@@ -25,7 +25,7 @@ pub fn digest_with<H: Hasher>(mut hasher: H, piece: &[u8]) -> (Digest, Kind, u64
 
 /// The same for BLAKE2b alone.
 pub fn blake2b_with(mut state: Blake2b, piece: &[u8]) -> (Output, u64)
-    ensures digest { (m : ByteString) → Holds state m →
+    ensures digest { (m : ByteString) → HasTaken state m →
         result.0 ≡ blake2b (digest_len state) (take result.1 (m ++ piece.now)) }
     ensures taken { let all = taken_count state + length piece.now in
         result.1 ≡ (if nat_lt all (2 ^ 61) then all else taken_count state) }

@@ -5,7 +5,7 @@ use Rattle.sum_engine.proofs.WorldLemmas.{reads_then, agrees_before, world_at_af
 use Rattle.sum_engine.specs.{declared.stop.Stop.Stop, Behavior.World, Behavior.world_after, Behavior.Step, Behavior.Behavior, Behavior.trace, Behavior.asks, Behavior.ByteString}
 use Rattle.sum_engine.specs.Execution.{StreamsState, ReadsToEndIf, Agrees, world_at, Happened, Performs, PerformsSteps}
 use Rattle.sum_engine.proofs.BehaviorLemmas.{behavior_then-happened, behavior_then-first, behavior_then-second, events_extend}
-use Rattle.sum_words.specs.refinement.ItemIterator.{TakesFirst}
+use Rattle.sum_words.specs.Words.{TakesFirst}
 use Rattle.digests.specs.Meaning.{operands_behavior, status_of}
 
 -- the operands that are left: none, or the next one and those after it

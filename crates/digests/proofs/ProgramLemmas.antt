@@ -2,11 +2,11 @@
 use Rattle.std.proofs.Common.{arith, ℕ, List, [], ◌∷◌, ◌++◌, Option, None, Result, Ok, Err, false, refl, ◌∙◌, append_assoc, append-nil}
 use Rattle.sum_engine.specs.Behavior.{World, Step, Behavior, trace, single_step, ByteString}
 use Rattle.sum_engine.specs.Execution.{OutputsState, StreamsState, world_at, FailuresMatch, Performs, PerformsSteps}
-use Rattle.sum_engine.specs.{declared.stop.Stop.TheVariants.Memory, declared.stop.Stop.TheVariants.Write, refinement.Writes.WritesBoth, refinement.Writes.WritesAndReturns}
+use Rattle.sum_engine.specs.{declared.stop.Stop.TheVariants.Memory, declared.stop.Stop.TheVariants.Write, Writes.WritesBoth, Writes.WritesAndReturns}
 use Rattle.sum_engine.proofs.{WorldLemmas.asks_none, ExecutionLemmas.Happened-then, ExecutionLemmas.step_performed}
 use Rattle.sum_words.specs.{Texts.Stop, declared.tool.Tool.Tool}
 use Rattle.digests.specs.{Meaning.status_of, Program.CallPerforms, Program.CallRefuses}
-use Rattle.digests.specs.refinement.FinishRun.{FinishesRun, Refuses}
+use Rattle.digests.specs.private.FinishRun.{FinishesRun, Refuses}
 use Rattle.digests.proofs.MessageLemmas.{Performs-texts}
 
 -- a run that returned is still performed once both outputs were given an empty text, or it failed after all events

@@ -2,4 +2,4 @@ pub mod Meaning
 pub mod Program
 pub mod GenerationRuns
 pub mod InMemory
-pub mod refinement
+pub mod private

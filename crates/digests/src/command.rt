@@ -1,7 +1,7 @@
 //! The whole program, from the list of its arguments to its exit status.
 ghost use Rattle.digests.specs.Program.{ProgramPerforms};
-ghost use Rattle.digests.specs.refinement.FinishRun.{Refuses};
-ghost use Rattle.digests.specs.refinement.Messages.{message_text};
+ghost use Rattle.digests.specs.private.FinishRun.{Refuses};
+ghost use Rattle.digests.specs.private.Messages.{message_text};
 ghost use Rattle.std.specs.Prelude.{◌≡◌, []};
 ghost use Rattle.sum_engine.specs.Execution.{ReadsToEndIf, failures};
 

@@ -1,6 +1,6 @@
 //! The end of a run: both outputs are flushed once more, and a stop is reported in a line.
 ghost use Rattle.digests.specs.Program.{tool_stop_line};
-ghost use Rattle.digests.specs.refinement.FinishRun.{FinishesRun, FlushesBoth};
+ghost use Rattle.digests.specs.private.FinishRun.{FinishesRun, FlushesBoth};
 ghost use Rattle.std.specs.Prelude.{◌≡◌, Ok};
 ghost use Rattle.sum_engine.specs.Execution.{failures};
 ghost use Rattle.sum_lines.specs.Sinks.{GivesAll};

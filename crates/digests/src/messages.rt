@@ -22,7 +22,7 @@ pub(crate) enum Message<'a> {
 }
 
 impl<'a> Text for Message<'a> {
-    ghost use Rattle.digests.specs.refinement.Messages.{message_text};
+    ghost use Rattle.digests.specs.private.Messages.{message_text};
 
     ghost text = { message_text };
 

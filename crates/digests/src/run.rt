@@ -1,12 +1,11 @@
 //! The run of a tool on its words.
 ghost use Rattle.digests.specs.Meaning.{operands_behavior, request_behavior, names_or_dash, meaning, status_of};
 ghost use Rattle.digests.specs.Meaning.{allowed_refusals};
-ghost use Rattle.digests.specs.refinement.Operands.{operand_behavior, job_refusals};
+ghost use Rattle.digests.specs.private.Operands.{operand_behavior, job_refusals};
 ghost use Rattle.std.specs.Prelude.{◌≡◌, ◌∷◌, true, Ok};
 ghost use Rattle.sum_engine.specs.Execution.{FailuresMatch, ReadsToEndIf, RefusalsMatch, StopHasCause, Performs};
-ghost use Rattle.sum_words.specs.Request.{request};
+ghost use Rattle.sum_words.specs.Request.{request, result_value};
 ghost use Rattle.sum_words.specs.Tools.{name_of};
-ghost use Rattle.sum_words.specs.refinement.OptionScan.{result_value};
 
 use crate::messages::Message;
 use std::alloc::Allocator;

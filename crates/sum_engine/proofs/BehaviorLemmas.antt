@@ -5,8 +5,8 @@ use Rattle.sum_lines.specs.Sinks.{written_byte}
 use Rattle.sum_lines.proofs.EventLemmas.{output_events-bytes}
 use Rattle.sum_engine.specs.Execution.{Stop, Memory, Write, StreamsState, AsksNames, Agrees, world_at, Happened, with_refusals, PerformsSteps, Performs}
 use Rattle.sum_engine.specs.Behavior.{World, Step, Behavior, trace, events_of, opened_name, err_event, out_event, single_step}
-use Rattle.sum_engine.specs.{check.Checker.step_then, check.CheckerLaws.EventsExtend, refinement.Writes.WritesAndReturns}
-use Rattle.sum_engine.specs.refinement.Names.{RefusesMemory}
+use Rattle.sum_engine.specs.{check.Checker.step_then, check.CheckerLaws.EventsExtend, Writes.WritesAndReturns}
+use Rattle.sum_engine.specs.Names.{RefusesMemory}
 use Rattle.sum_engine.proofs.ExecutionLemmas.{step_performed, kind-all, kind-none, Happened-then, refused_first}
 
 -- ---- a behavior after a step, and one behavior after another

@@ -10,7 +10,7 @@ use Rattle.sum_engine.specs.{check.CheckerLaws.RunsManifest, check.Rules.rules_o
 use Rattle.sum_engine.specs.{check.Checking.CheckSettings, check.Checking.check_behavior_by, check.Checking.check_behavior, Generation.name_fault_line}
 use Rattle.sum_engine.specs.check.ReadAhead.{StopsAtStep, StopsAtLine}
 use Rattle.sum_engine.specs.Execution.{Stop, Memory, opened_names, OutputsState, StreamsState, world_at, Happened, Performs}
-use Rattle.sum_engine.specs.{refinement.Writes.WritesAndReturns, refinement.Names.RefusesMemory}
+use Rattle.sum_engine.specs.{Writes.WritesAndReturns, Names.RefusesMemory}
 use Rattle.sum_engine.proofs.{ExecutionLemmas.Happened-by, ExecutionLemmas.Happened-then, ExecutionLemmas.kept_performs, WorldLemmas.asks_one, WorldLemmas.world_at_after}
 use Rattle.sum_engine.proofs.{BehaviorLemmas.behind_step, BehaviorLemmas.Performs-step, BehaviorLemmas.Performs-refused, CheckLinesLemmas.manifest_behavior}
 use Rattle.sum_engine.proofs.OpenedNameLemmas.{WasOpened, fault_answer}

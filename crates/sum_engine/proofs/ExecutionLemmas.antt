@@ -5,7 +5,7 @@ use Rattle.std.proofs.lemmas.{List.map-append, List.Elements.filter_map-append}
 use Rattle.sum_lines.specs.Sinks.{Gets}
 use Rattle.sum_lines.proofs.EventLemmas.{Gets-none, Gets-then}
 use Rattle.sum_engine.specs.Behavior.{Event, Step, SourceState, OutputEvent, output_events, open_name, to_err, to_out}
-use Rattle.sum_engine.specs.{refinement.Writes.WritesBoth, refinement.Writes.WritesAndReturns, refinement.Names.RefusesMemory}
+use Rattle.sum_engine.specs.{Writes.WritesBoth, Writes.WritesAndReturns, Names.RefusesMemory}
 use Rattle.sum_engine.specs.Execution.{StreamsState, opened_names, AsksNames, Stop, Memory, Write, Happened, RunsOutOfMemory, with_refusals, PerformsSteps, none_or_one}
 use Rattle.sum_engine.proofs.WorldLemmas.{asks_none, asks_then}
 

@@ -2,7 +2,7 @@
 use Rattle.std.proofs.Common.{rules, ◌≡◌, ℕ, List, [], ◌∷◌, Result, Ok, Err, refl}
 use Rattle.digest_kinds.specs.Kinds.{KindValue}
 use Rattle.sum_engine.specs.Behavior.{Fault, digest_or_fault, SourceState, Step, World, answer_to}
-use Rattle.sum_engine.specs.refinement.Names.{HashFault, RefusesMemory, NoRoom, fault_in}
+use Rattle.sum_engine.specs.Names.{HashFault, RefusesMemory, NoRoom, fault_in}
 use Rattle.sum_engine.proofs.HashLemmas.{HashesName}
 use Rattle.sum_sources.specs.declared.sources.hash_file.HashFault.TheVariants.{Open, Read}
 use Rattle.sum_sources.specs.declared.sources.source.OpenFault.TheVariants as faults

@@ -3,7 +3,7 @@ use Rattle.std.proofs.Common.{rules, refl, ◌≡◌, ◌≢◌, [], ◌∷◌, 
 use Rattle.digest_kinds.specs.Kinds.{KindValue}
 use Rattle.sum_sources.specs.Sources.{HashesFile}
 use Rattle.sum_engine.specs.Behavior.{World, Answer, Fault, SourceState, answer_to, digest_or_fault}
-use Rattle.sum_engine.specs.{Execution.Agrees, Execution.world_at, Execution.AsksNames, Execution.ReadsToEndIf, refinement.Names.HashFault, refinement.Names.RefusesMemory}
+use Rattle.sum_engine.specs.{Execution.Agrees, Execution.world_at, Execution.AsksNames, Execution.ReadsToEndIf, Names.HashFault, Names.RefusesMemory}
 use Rattle.sum_engine.proofs.WorldLemmas.{opening_agrees, asks_one, reads_one}
 use Rattle.sum_sources.specs.declared.sources.hash_file.HashFault.TheVariants as hashing
 use Rattle.sum_sources.specs.declared.sources.source.OpenFault.TheVariants as faults

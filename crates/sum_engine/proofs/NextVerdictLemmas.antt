@@ -9,8 +9,8 @@ use Rattle.sum_engine.specs.{check.Rules.Rules, check.CheckStates.CheckState, ch
 use Rattle.sum_engine.specs.check.Judge.{lines_under, line_verdict, asks_of, form_then, line_form, own_profile}
 use Rattle.sum_engine.specs.check.Verdicts.{LineVerdict, line_verdict_value, HoldsInEachCheck, IsNextVerdict, AsksFor, VerdictsValue, counts_after, state_at}
 use Rattle.sum_engine.specs.Behavior.{World, Content, InputState, SourceState, world_after}
-use Rattle.sum_engine.specs.{Execution.Agrees, Execution.world_at, refinement.Names.NoRoom}
-use Rattle.sum_engine.specs.refinement.Judging.{TakesLine, parsed_at, found_verdict}
+use Rattle.sum_engine.specs.{Execution.Agrees, Execution.world_at, Names.NoRoom}
+use Rattle.sum_engine.specs.private.Judging.{TakesLine, parsed_at, found_verdict}
 use Rattle.sum_engine.proofs.{WorldLemmas.world_at_after, RemainingLemmas.remaining_next}
 
 -- the lines of a content under the present profile

@@ -6,8 +6,8 @@ use Rattle.sum_engine.specs.{check.Rules.LabelsValue, check.CheckStates.CheckSta
 use Rattle.sum_engine.specs.check.Reports.{err_of, out_of, end_text, good}
 use Rattle.sum_engine.specs.check.Verdicts.{VerdictsValue, LineVerdict, state_at, HoldsInEachCheck, AdvancesVerdicts, AsksFor, VerdictResult, line_verdict_value, counts_after, IsNextVerdict, IsNotUnread, HasNoVerdictLeft}
 use Rattle.sum_engine.specs.check.Checker.{CheckerValue, Progress, Going, Ended, IsStep, TakesStep}
-use Rattle.sum_engine.specs.refinement.Judging.{ReportsFound}
-use Rattle.sum_engine.specs.{Execution.Stop, Execution.Memory, Execution.StopHasCause, Execution.none_or_one, Execution.OutputsState, Execution.StreamsState, Execution.AsksNames, refinement.Writes.WritesAndReturns}
+use Rattle.sum_engine.specs.private.Judging.{ReportsFound}
+use Rattle.sum_engine.specs.{Execution.Stop, Execution.Memory, Execution.StopHasCause, Execution.none_or_one, Execution.OutputsState, Execution.StreamsState, Execution.AsksNames, Writes.WritesAndReturns}
 use Rattle.sum_engine.proofs.{ExecutionLemmas.step_performed, ExecutionLemmas.refused_first, ExecutionLemmas.one_at_most, WorldLemmas.reads_weaker, CountLemmas.counts_then-nil}
 use Rattle.sum_engine.proofs.RemainingLemmas.{line_step, behavior_by, first_step, found_first, going-before}
 use Rattle.sum_sources.specs.declared.line_reader.LineStop.TheVariants as line_stops

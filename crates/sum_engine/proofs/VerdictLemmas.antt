@@ -1,8 +1,8 @@
 -- `judge`: the verdict of an entry, by what hashing its name gave.
 use Rattle.std.proofs.Common.{◌≡◌, List, ℕ, Bool, false, Result, Err, IfOk}
 use Rattle.sum_sources.specs.declared.sources.hash_file.HashFault.TheVariants.{Read}
-use Rattle.sum_engine.specs.{check.Judge.Verdict, check.Reports.is_unread, refinement.Judging.verdict_of_hash}
-use Rattle.sum_engine.specs.refinement.Names.{HashFault, NoRoom}
+use Rattle.sum_engine.specs.{check.Judge.Verdict, check.Reports.is_unread, private.Judging.verdict_of_hash}
+use Rattle.sum_engine.specs.Names.{HashFault, NoRoom}
 use Rattle.sum_engine.proofs.HashLemmas.{IsNotBroken}
 
 -- the verdict says that the file could not be read, if reading it failed

@@ -1,6 +1,8 @@
 pub mod Behavior
 pub mod Generation
+pub mod Names
+pub mod Writes
+pub mod private
 pub mod check
 pub mod Execution
 pub mod WorldLaws
-pub mod refinement

@@ -2,7 +2,7 @@
 ghost use Rattle.std.specs.Prelude.{◌≡◌, [], ◌∷◌, true, Ok};
 ghost use Rattle.sum_engine.specs.Execution.{FailuresMatch, RefusalsMatch, Performs, ReadsToEndIf};
 ghost use Rattle.sum_engine.specs.Generation.{generate_behavior};
-ghost use Rattle.sum_engine.specs.refinement.Names.{fault_in};
+ghost use Rattle.sum_engine.specs.Names.{fault_in};
 
 use crate::inputs::Inputs;
 use crate::settings::Settings;

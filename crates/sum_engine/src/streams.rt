@@ -1,6 +1,6 @@
 //! The streams of a call.
 ghost use Rattle.std.specs.Prelude.{◌≡◌, IsTrue, []};
-ghost use Rattle.sum_engine.specs.refinement.Writes.{WritesAndReturns};
+ghost use Rattle.sum_engine.specs.Writes.{WritesAndReturns};
 
 use crate::inputs::Inputs;
 use crate::stop::Stop;

@@ -11,7 +11,7 @@ use Rattle.sum_lines.specs.{grammar.Entries.EntryValue, grammar.Entries.Standard
 use Rattle.sum_lines.specs.grammar.ParsedLines.{unescaped_bytes, unescape, entry_of_parts, parts_with_raw_name}
 use Rattle.digest_kinds.proofs.PrefixLemmas.{bind_some}
 use Rattle.sum_lines.specs.declared.reading.line_parts.LineParts.{LineParts}
-use Rattle.sum_lines.specs.refinement.Beginnings.{line_parts}
+use Rattle.sum_lines.specs.private.Beginnings.{line_parts}
 
 -- what precedes the first special byte is its own escape
 pub escape-plain : (xs : List ℕ) (k : ℕ) → k ≤ length xs → Nowhere (Passes (is_byte3 92 10 13) xs) 0 k

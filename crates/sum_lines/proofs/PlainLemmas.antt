@@ -10,7 +10,7 @@ use Rattle.hex.proofs.HexLemmas.{decode_of-ok}
 use Rattle.digest_kinds.specs.{Kinds.KindValue, Kinds.tag, Bytes.after_while}
 use Rattle.digest_kinds.proofs.{KindLemmas.no_digits, PrefixLemmas.prefix_passes, PrefixLemmas.prefix-and-rest, PrefixLemmas.prefix_len-stop}
 use Rattle.sum_lines.specs.grammar.Shapes.{Algo, Algos, One, Any, is_blank, IsPlain, IsTagged}
-use Rattle.sum_lines.specs.{grammar.LineParts.LinePartsValue, grammar.LineParts.plain_parts, refinement.Beginnings.BeginsWithDigits}
+use Rattle.sum_lines.specs.{grammar.LineParts.LinePartsValue, grammar.LineParts.plain_parts, private.Beginnings.BeginsWithDigits}
 use Rattle.sum_lines.proofs.PrefixLemmas.{text, mark_and_rest-is}
 use Rattle.sum_lines.proofs.TaggedLemmas.{BeginsText, hex-no_blank, tagged-prefix, mark_and_rest-prefix}
 

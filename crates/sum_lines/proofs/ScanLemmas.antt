@@ -11,7 +11,7 @@ use Rattle.digest_kinds.specs.{Bytes.after_while, KindTexts.kind_and_rest}
 use Rattle.digest_kinds.specs.Kinds.{KindValue, tag, IsDigits, full_len, has_len}
 use Rattle.sum_lines.specs.grammar.Shapes.{Algo, One, is_blank, Algos}
 use Rattle.sum_lines.specs.grammar.LineParts.{strip_prefix, tag_in, tagged_parts, plain_parts}
-use Rattle.sum_lines.specs.refinement.Beginnings.{IsFront, BeginsWithDigits, EndsAt, EndsDigits, IsReadAs}
+use Rattle.sum_lines.specs.private.Beginnings.{IsFront, BeginsWithDigits, EndsAt, EndsDigits, IsReadAs}
 use Rattle.sum_lines.specs.declared.reading.line_parts.Front.{Front}
 use Rattle.sum_lines.proofs.PrefixLemmas.{text, opening, strip_prefix-some, starts-append, opened-some, rsplit-some}
 use Rattle.digest_kinds.proofs.{PrefixLemmas.none_of, KindTextLemmas.kind_and_rest-some, KindLemmas.has_len-full}

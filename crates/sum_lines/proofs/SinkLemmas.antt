@@ -1,7 +1,7 @@
 -- A text is written to a buffer piece by piece. `a`, `b` and `c` are the buffer before, between and after.
 use Rattle.std.proofs.Common.{ℕ, ◌≡◌, ◌<◌, ◌≤◌, ◌-◌, ◌+◌, ◌%◌, List, [], ◌++◌, length, take, Result, Ok, Err, inl, inr, min, refl, sym, ap, ◌∙◌, append_assoc, append-nil, length-append, length-take, lit<, rules, arith}
 use Rattle.std.specs.Result.{IsErr}
-use Rattle.sum_lines.specs.{Sinks.OutputState, Sinks.GivesAll, Sinks.output_events, refinement.SinkStates.MakesRoom}
+use Rattle.sum_lines.specs.{Sinks.OutputState, Sinks.GivesAll, Sinks.output_events, SinkStates.MakesRoom}
 use Rattle.sum_lines.specs.Buffers.{BufferState, Accepts, FailsToWrite, WritesAll}
 use Rattle.sum_lines.proofs.EventLemmas.{output_events-append, Gets-none, Gets-then, GetsPrefix-then}
 

@@ -1,7 +1,7 @@
 -- `read_limited`: what an input's end, its fault and the limit say of its contents.
 use Rattle.std.proofs.Common.{◌≡◌, ℕ, zero, suc, ◌+◌, ◌-◌, ◌^◌, ◌<◌, ◌≤◌, [], ◌∷◌, ◌++◌, List, max, length, take, Result, Ok, Err, refl, arith, length-append, ap, append-nil, append_assoc, sym, ◌∙◌}
 use Rattle.std.{specs.Result.result_unwrap_or, proofs.Math.Seq.take-append_seam, proofs.lemmas.List.length-take-le, proofs.lemmas.List.take-append-le, proofs.lemmas.List.drop-append-le}
-use Rattle.sum_sources.specs.{Contents.Content, Contents.Reads, Contents.InputState, Contents.Fits, Contents.clip, Contents.limit, Contents.Ending, Contents.Whole, Contents.Other, Contents.Fault, Contents.Broken, Contents.and_read, Contents.reads_past, Contents.Unfinished, Contents.Ended, refinement.LimitedReads.FindsEnding, refinement.LimitedReads.AddsLimited}
+use Rattle.sum_sources.specs.{Contents.Content, Contents.Reads, Contents.InputState, Contents.Fits, Contents.clip, Contents.limit, Contents.Ending, Contents.Whole, Contents.Other, Contents.Fault, Contents.Broken, Contents.and_read, Contents.reads_past, Contents.Unfinished, Contents.Ended, private.LimitedReads.FindsEnding, private.LimitedReads.AddsLimited}
 use Rattle.sum_sources.proofs.ContentLemmas.{limit-value, clip-short}
 
 -- an input, of which the bytes past the first m count

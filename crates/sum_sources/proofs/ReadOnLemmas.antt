@@ -5,8 +5,8 @@ use Rattle.std.{specs.Char.is_newline, proofs.Math.Seq.take-append-add, proofs.M
 use Rattle.sum_sources.specs.ManifestLines.{Next, Line, NoMore, LineStop, HasNoNewline, IsNextLine, past_line}
 use Rattle.sum_sources.specs.Contents.{Ending, Whole, Broken, Content, InputState, Reads, Fault, Fits, Other, clip, limit, reads_past, Ended, Past}
 use Rattle.sum_sources.specs.LineReaders.{LineReaderValue, consumed_count, content_past, reads_of, remaining_content, IsUnderWay, IsReading, ReadsOn}
-use Rattle.sum_sources.specs.refinement.LimitedReads.{FindsEnding, AddsLimited, AddsPast, CountsBytes}
-use Rattle.sum_sources.specs.{refinement.LineStates.FillsReader, refinement.LineStates.TakesPiece}
+use Rattle.sum_sources.specs.private.LimitedReads.{FindsEnding, AddsLimited, AddsPast, CountsBytes}
+use Rattle.sum_sources.specs.{LineStates.FillsReader, LineStates.TakesPiece}
 use Rattle.sum_sources.specs.declared.line_reader.LineStop.TheVariants as stops
 use Rattle.sum_sources.proofs.{ContentLemmas.with_prefix, ContentLemmas.limit-value, LimitLemmas.before_more, LineLemmas.lines-nil, LineLemmas.past_line-piece, LineLemmas.IsNextLine-ended}
 

@@ -6,7 +6,7 @@ use Rattle.sum_sources.specs.Contents.{Content, InputState, Reads, Fault, HasCon
 use Rattle.sum_sources.specs.StandardInput.{closable_state, GivesUnread, given_input, is_untaken, put_back, after_taking, StdinPlace}
 use Rattle.sum_sources.specs.Sources.{Answer, Opening, SourceState, ToldAnswers, names_of, times, gave_of, openings_after, opened_file, IsOpen, FitsAnswer}
 use Rattle.sum_sources.specs.WithStdin.{is_dash, first_or_later, answer_of_both, with_stdin_state, state_without_dash, other_openings}
-use Rattle.sum_sources.specs.{WithStdinLaws.gave-both, refinement.WithStdinStates.IsPlaceOf, refinement.WithStdinStates.GivesStdin, refinement.WithStdinStates.IsSoundWithStdin, declared.inputs.closable.Closable.Closable, declared.inputs.closable.Closable.TheVariants.Closed}
+use Rattle.sum_sources.specs.{WithStdinLaws.gave-both, WithStdinStates.IsPlaceOf, WithStdinStates.GivesStdin, WithStdinStates.IsSoundWithStdin, declared.inputs.closable.Closable.Closable, declared.inputs.closable.Closable.TheVariants.Closed}
 use Rattle.sum_sources.proofs.GaveLemmas.{true_or_false, is_same, same_name, none_agrees, of_content, gives-more, gives-closed, gave-times, gave-append, gave-opening, gave-closing}
 
 -- names that differ also differ the other way round

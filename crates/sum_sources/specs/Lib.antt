@@ -10,4 +10,9 @@ pub mod Sources
 pub mod StandardInput
 pub mod WithStdin
 pub mod WithStdinLaws
-pub mod refinement
+pub mod LineStates
+pub mod SourceStates
+pub mod ToldPairs
+pub mod ToldSteps
+pub mod WithStdinStates
+pub mod private

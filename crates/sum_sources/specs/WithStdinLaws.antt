@@ -1,7 +1,7 @@
 -- The law of sources, with its proofs, for standard input and a source of files as one source.
 use Rattle.std.proofs.Common.{◌≡◌, ◌∙◌, ℕ, Bool, true, false, List, [], ◌∷◌, IfSome, refl, ap, sym, codes, bytes_eq, arith}
 use Rattle.std.{proofs.Math.Logic.∥∥₁_elim, proofs.lemmas.Slice.Eq.bytes_eq-Decides}
-use Rattle.sum_sources.specs.{Sources.ToldAnswers, Sources.Opening, Sources.gave_of, Sources.gave_at, Sources.FitsAnswer, Sources.GivesTold, Sources.SourceState, WithStdin.is_dash, WithStdin.other_openings, WithStdin.answer_of_both, WithStdin.with_stdin_state, Contents.InputState, Faults.ByteString, SourceLaws.GivesTold-prop, refinement.WithStdinStates.IsSoundWithStdin, StandardInput.StdinPlace}
+use Rattle.sum_sources.specs.{Sources.ToldAnswers, Sources.Opening, Sources.gave_of, Sources.gave_at, Sources.FitsAnswer, Sources.GivesTold, Sources.SourceState, WithStdin.is_dash, WithStdin.other_openings, WithStdin.answer_of_both, WithStdin.with_stdin_state, Contents.InputState, Faults.ByteString, SourceLaws.GivesTold-prop, WithStdinStates.IsSoundWithStdin, StandardInput.StdinPlace}
 
 -- what another name than `-` gave, of openings without those of `-`
 pub other_openings-gave : (os : List Opening) (name : ByteString) → is_dash name ≡ false

@@ -4,7 +4,7 @@ ghost use Rattle.sum_sources.specs.Contents.{Content};
 ghost use Rattle.sum_sources.specs.WithStdin.{answers_with, answer_of_both, pairs_with_stdin};
 ghost use Rattle.sum_sources.specs.Sources.{Answers, Pair, TellsAll, ToldAnswers, names_of, times};
 ghost use Rattle.sum_sources.specs.StandardInput.{is_untaken};
-ghost use Rattle.sum_sources.specs.refinement.SourceStates.{both_state, stdin_in};
+ghost use Rattle.sum_sources.specs.SourceStates.{both_state, stdin_in};
 
 use crate::{Input, Source, WithStdin};
 

@@ -67,7 +67,7 @@ impl<I> Model for LineReader<I> {
 
     ghost Value = { LineReaderValue I };
 
-    ghost use Rattle.sum_sources.specs.refinement.LineStates.{line_reader_view, IsSoundReader};
+    ghost use Rattle.sum_sources.specs.LineStates.{line_reader_view, IsSoundReader};
 
     ghost view = { λ s. line_reader_view s };
 
@@ -87,8 +87,8 @@ impl<I: Input> LineReader<I> {
     ghost use Rattle.sum_sources.specs.LineReaders.{consumed_count, IsBounded, AdvancesLines, IsReading, ReadsOn};
     ghost use Rattle.sum_sources.specs.ManifestLines.{lines_after};
     ghost use Rattle.sum_sources.specs.Contents.{Unfinished};
-    ghost use Rattle.sum_sources.specs.refinement.LimitedReads.{AddsPast, CountsBytes};
-    ghost use Rattle.sum_sources.specs.refinement.LineStates.{FillsReader, TakesPiece};
+    ghost use Rattle.sum_sources.specs.private.LimitedReads.{AddsPast, CountsBytes};
+    ghost use Rattle.sum_sources.specs.LineStates.{FillsReader, TakesPiece};
 
     /// Creates a reader of the lines of `input`. If the input has `LIMIT` bytes or more, its first `LIMIT - 1` bytes
     /// count, and then `Fault::Other`.

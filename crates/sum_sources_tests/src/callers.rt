@@ -3,7 +3,7 @@ ghost use Rattle.std.specs.Option.{option_map};
 ghost use Rattle.std.specs.Prelude.{ℕ, ◌≡◌, ◌<◌, ◌+◌, ◌^◌, [], Ok, Err, IfOk, IfSome, IsTrue, slice_get};
 ghost use Rattle.sum_sources.specs.Sources.{HashesFile, first_answer, names_of};
 ghost use Rattle.sum_sources.specs.WithStdin.{other_openings};
-ghost use Rattle.sum_sources.specs.refinement.SourceStates.{both_state, source_in, told_source_state};
+ghost use Rattle.sum_sources.specs.SourceStates.{both_state, source_in, told_source_state};
 
 use digest_kinds::{Digest, Hasher, LIMIT};
 use std::alloc::Allocator;

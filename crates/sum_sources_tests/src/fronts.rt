@@ -3,7 +3,7 @@ ghost use Rattle.std.specs.Prelude.{◌≡◌};
 ghost use Rattle.sum_sources.specs.SourceLaws.{GivesTold-prop};
 ghost use Rattle.sum_sources.specs.Sources.{GivesTold};
 ghost use Rattle.sum_sources.specs.StandardInput.{told_file};
-ghost use Rattle.sum_sources.specs.refinement.ToldPairs.{told_value};
+ghost use Rattle.sum_sources.specs.ToldPairs.{told_value};
 ghost use Rattle.sum_sources_tests.specs.Fronts.{fronts_state, tells_fronts};
 
 use sum_sources::{

@@ -3,7 +3,7 @@ ghost use Rattle.std.specs.Prelude.{◌≡◌, ◌++◌, ◌∷◌, [], false, M
 ghost use Rattle.sum_sources.specs.WithStdin.{is_dash};
 ghost use Rattle.sum_sources.specs.Sources.{names_of};
 ghost use Rattle.sum_sources.specs.StandardInput.{given_input, is_untaken, put_back, after_taking};
-ghost use Rattle.sum_sources.specs.refinement.SourceStates.{source_in, stdin_in};
+ghost use Rattle.sum_sources.specs.SourceStates.{source_in, stdin_in};
 
 use digest_kinds::{Digest, Hasher};
 use sum_sources::laws::stdin_is_taken;

@@ -4,7 +4,7 @@ use Rattle.std.specs.List.{after_last}
 use Rattle.std.proofs.lemmas.{Grind.common_steps, List.Sums.suffix_len_is, Bool.not_from_false, Bool.not_from_true, Bool.false_from_ne_true}
 use Rattle.std.specs.declared.{env.FillError.FillError, env.FillError.TheVariants.NotPresent, env.FillError.TheVariants.TooLong}
 use Rattle.memchr.specs.Find.{Passes, Nowhere, is_byte}
-use Rattle.sum_words.specs.{Items.ByteString, Arguments.ArgumentsState, Arguments.Explains, Arguments.FitsArguments, Arguments.and_fill, ArgumentsLaws.agrees_from, refinement.CommandLine.Fails, refinement.CommandLine.Fills}
+use Rattle.sum_words.specs.{Items.ByteString, Arguments.ArgumentsState, Arguments.Explains, Arguments.FitsArguments, Arguments.and_fill, ArgumentsLaws.agrees_from, private.CommandLine.Fails, private.CommandLine.Fills}
 use Rattle.sum_words.proofs.WordBytesLemmas.{drop_at_none, drop_at_some}
 
 -- the part after a slash that no other follows, or all of a path without one

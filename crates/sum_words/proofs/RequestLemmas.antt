@@ -5,7 +5,7 @@ use Rattle.std.specs.{Char.is_ascii_digit, List.list_all, Result.result_ok}
 use Rattle.std.specs.Str.Parse.{ParsesUnsigned, digits_value}
 use Rattle.std.proofs.lemmas.Str.Parse.{IsNumeralModel, numerals_by_value, parse_digits}
 use Rattle.sum_words.specs.Items.{Flag, ByteString, ItemValue, option}
-use Rattle.sum_words.specs.{Request.early_request, refinement.OptionScan.IsNumberOf}
+use Rattle.sum_words.specs.{Request.early_request, private.OptionScan.IsNumberOf}
 use Rattle.sum_words.specs.declared.parsing.options.Flag.TheVariants as flags
 
 -- an option other than help and version decides nothing early

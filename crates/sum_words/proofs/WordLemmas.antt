@@ -6,7 +6,7 @@ use Rattle.std.proofs.lemmas.Str.{chars-nil, encodes-chars, IsUtf8-from_is_utf8,
 use lib.Utf8.{encode}
 use Rattle.sum_words.specs.declared.tool.Tool.{Tool}
 use Rattle.sum_words.specs.Items.{a_word, length_value, fault, is_option_word, items_from}
-use Rattle.sum_words.specs.{WordFaults.not_text, refinement.ItemIterator.attached_value}
+use Rattle.sum_words.specs.{WordFaults.not_text, private.ItemIterator.attached_value}
 
 -- the rest of a text after a prefix, as `strip_prefix` returns it
 pub prefix_stripped : (prefix text : List ℕ) (r : Option (Bor (List ℕ)))

@@ -1,7 +1,9 @@
 -- What a command line asks for. It is a list of arguments, and the first of them is the program's name.
-use Rattle.std.specs.Prelude.{◌<◌, ◌⊎◌, ◌==◌, List, Any, length, drop, slice_get, Option, is_some, IsSomeAnd, if◌then◌else◌, option_and_then, option_map}
+use Rattle.std.specs.Prelude.{◌<◌, ◌⊎◌, ◌==◌, List, Any, length, drop, slice_get, Option, is_some, IsSomeAnd, if◌then◌else◌, option_and_then, option_map, None, Some}
 use Rattle.std.specs.{List.after_last, Str.byte}
 use Rattle.sum_words.specs.Tools.{ByteString, Tool, tool_called}
+use Rattle.sum_words.specs.declared.command_line.CommandLine.TheVariants.{Invoke, UnknownTool}
+use Rattle.sum_words.specs.declared.command_line.CommandLine.{CommandLine}
 
 -- what the arguments ask for: a tool on its words, or `None` if they name no tool. The program's name after its last
 -- slash names the tool, or otherwise the next argument does
@@ -14,3 +16,8 @@ command_line all =
 -- the arguments need memory: a tool has words, or an argument is longer than 4,096 bytes
 abbrev pub NeedsMemory : List ByteString → Type 0
 NeedsMemory all = IsSomeAnd (command_line all) (λ line. 0 < length line.1) ⊎ Any (λ argument. 4096 < length argument) all
+
+-- the value of a `CommandLine`
+abbrev pub command_line_value : {A : Type 0} → CommandLine A → Option (Tool × List ByteString)
+command_line_value UnknownTool = None
+command_line_value (Invoke tool words) = Some (tool, words)

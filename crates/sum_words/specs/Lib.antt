@@ -7,4 +7,5 @@ pub mod Arguments
 pub mod ArgumentsLaws
 pub mod CommandLines
 pub mod Words
-pub mod refinement
+pub mod ArgumentsStates
+pub mod private

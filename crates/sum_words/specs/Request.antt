@@ -16,6 +16,9 @@ pub use Rattle.sum_words.specs.WordFaults.{WordFaultValue, length_invalid, lengt
 use Rattle.sum_lines.specs.declared.writing.put_line.Mode.TheVariants as modes
 use Rattle.sum_engine.specs.declared.settings.Report.TheVariants as reports
 use Rattle.sum_words.specs.declared.parsing.options.Flag.TheVariants as flags
+use Rattle.sum_words.specs.declared.messages.word_faults.WordFault.TheVariants as word_faults
+use Rattle.sum_words.specs.WordFaults as faults
+use Rattle.sum_words.specs.declared.messages.word_faults.WordFault.{WordFault}
 
 -- whether an option is in a list (`sameb` is `==`)
 abbrev pub has : Flag → List Flag → Bool
@@ -105,3 +108,29 @@ request t words = let items = items_from t words a_word in
     let asked = request_of_options (has flags.Check given) (algos_of t) (option_and_then result_ok kind) given
     (filter_map operand_in items) in
     unwrap_or (option_or (early_request items) (option_map Err wrong)) asked
+
+-- the value of a `WordFault`
+abbrev pub word_fault_value : WordFault → faults.WordFaultValue
+word_fault_value (word_faults.UnknownLong name) = faults.unknown_long name.now
+word_fault_value (word_faults.AmbiguousLong name) = faults.ambiguous_long name.now
+word_fault_value (word_faults.ValueNotAllowed name) = faults.value_not_allowed name.now
+word_fault_value (word_faults.ValueMissing spelling) = faults.value_missing spelling
+word_fault_value (word_faults.UnknownShort c) = faults.unknown_short c
+word_fault_value (word_faults.LengthInvalid value) = faults.length_invalid value.now
+word_fault_value (word_faults.LengthNotBytes value) = faults.length_not_bytes value.now
+word_fault_value word_faults.TagWithText = faults.tag_with_text
+word_fault_value word_faults.ZeroWithCheck = faults.zero_with_check
+word_fault_value word_faults.TagWithCheck = faults.tag_with_check
+word_fault_value word_faults.ModeWithCheck = faults.mode_with_check
+word_fault_value word_faults.IgnoreWithoutCheck = faults.without_check (full_name flags.IgnoreMissing)
+word_fault_value word_faults.StatusWithoutCheck = faults.without_check (full_name flags.Status)
+word_fault_value word_faults.WarnWithoutCheck = faults.without_check (full_name flags.Warn)
+word_fault_value word_faults.QuietWithoutCheck = faults.without_check (full_name flags.Quiet)
+word_fault_value word_faults.StrictWithoutCheck = faults.without_check (full_name flags.Strict)
+word_fault_value word_faults.CheckNeeded = faults.check_needed
+word_fault_value (word_faults.NotText word) = faults.not_text word.now
+
+-- the value of a result
+abbrev pub result_value : {X : Type 0} → Result X WordFault → Result X WordFaultValue
+result_value (Ok x) = Ok x
+result_value (Err f) = Err (word_fault_value f)

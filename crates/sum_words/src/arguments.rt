@@ -2,7 +2,7 @@
 ghost use Rattle.std.specs.Prelude.{◌≡◌, ◌≤◌, [], IfOk, None, Some, List, length, map};
 ghost use Rattle.sum_words.specs.Arguments.{ArgumentsState, FitsArguments, ByteString, and_fill};
 ghost use Rattle.sum_words.specs.ArgumentsLaws.{FitsArguments-prop};
-ghost use Rattle.sum_words.specs.refinement.CommandLine.{Fills};
+ghost use Rattle.sum_words.specs.private.CommandLine.{Fills};
 
 use crate::arguments_log::{Filled, Fillings};
 use ghost_log::Log;
@@ -34,7 +34,7 @@ pub struct SystemArguments<R> {
 }
 
 impl<R: Env> SystemArguments<R> {
-    ghost use Rattle.sum_words.specs.refinement.ArgumentsStates.{given_arguments};
+    ghost use Rattle.sum_words.specs.ArgumentsStates.{given_arguments};
 
     /// Creates the list of this runtime's arguments.
     pub fn new(rt: R) -> Self
@@ -48,7 +48,7 @@ impl<R: Env> SystemArguments<R> {
 }
 
 impl<R: Env> Arguments for SystemArguments<R> {
-    ghost use Rattle.sum_words.specs.refinement.ArgumentsStates.{given_arguments};
+    ghost use Rattle.sum_words.specs.ArgumentsStates.{given_arguments};
 
     ghost state = { λ s. record (given_arguments s) { told = None } };
 
@@ -73,7 +73,7 @@ pub struct ToldArguments<'a> {
 }
 
 impl<'a> ToldArguments<'a> {
-    ghost use Rattle.sum_words.specs.refinement.ArgumentsStates.{told_arguments};
+    ghost use Rattle.sum_words.specs.ArgumentsStates.{told_arguments};
 
     /// Creates a list of these arguments, which begin with the name by which the program was called.
     pub fn new(arguments: &'a [&'a [u8]]) -> Self
@@ -92,7 +92,7 @@ impl<'a> ToldArguments<'a> {
 
 impl<'a> Arguments for ToldArguments<'a> {
     ghost use Rattle.std.specs.Prelude.{refl};
-    ghost use Rattle.sum_words.specs.refinement.ArgumentsStates.{told_arguments};
+    ghost use Rattle.sum_words.specs.ArgumentsStates.{told_arguments};
 
     ghost state = { told_arguments };
 

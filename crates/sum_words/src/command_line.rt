@@ -6,10 +6,10 @@ ghost use Rattle.std.specs.Prelude.{IfSome, OnOk, OnErr, MatchResult};
 ghost use Rattle.std.specs.Str.{byte};
 ghost use Rattle.std.specs.declared.env.FillError.TheVariants.{TooLong};
 ghost use Rattle.sum_words.specs.Arguments.{FitsArguments};
-ghost use Rattle.sum_words.specs.CommandLines.{command_line, NeedsMemory};
+ghost use Rattle.sum_words.specs.CommandLines.{command_line, NeedsMemory, command_line_value};
 ghost use Rattle.sum_words.specs.Tools.{ByteString};
 ghost use Rattle.sum_words.specs.declared.command_line.TheConstants.{PAGE};
-ghost use Rattle.sum_words.specs.refinement.CommandLine.{Fails, Gives, FindsTool, command_line_value};
+ghost use Rattle.sum_words.specs.private.CommandLine.{Fails, Gives, FindsTool};
 
 use crate::arguments::Arguments;
 use crate::tool::Tool;

@@ -3,8 +3,7 @@ ghost use Rattle.std.specs.Iterator.{item_count};
 ghost use Rattle.std.specs.Option.{option_copied};
 ghost use Rattle.std.specs.Prelude.{◌≡◌, ◌<◌, [], ◌∷◌, ◌++◌, ◌+◌, ◌^◌, OnOk, OnErr, OnSome, length, drop, slice_get};
 ghost use Rattle.std.specs.Prelude.{slice_index};
-ghost use Rattle.sum_words.specs.Words.{pieces_cut, CutsAt};
-ghost use Rattle.sum_words.specs.refinement.ItemIterator.{TakesFirst};
+ghost use Rattle.sum_words.specs.Words.{pieces_cut, CutsAt, TakesFirst};
 
 use std::alloc::Allocator;
 use std::marker::Model;

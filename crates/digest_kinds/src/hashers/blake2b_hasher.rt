@@ -1,6 +1,6 @@
 //! BLAKE2b as a hasher.
 
-ghost use Rattle.blake2b_core.specs.refinement.Holding.{Holds, digest_len, taken_count};
+ghost use Rattle.blake2b_core.specs.Holding.{HasTaken, digest_len, taken_count};
 ghost use Rattle.digest_kinds.specs.Kinds.{blake2b_kind};
 
 use crate::digest::Digest;
@@ -9,7 +9,7 @@ use crate::kind::Kind;
 use blake2b_core::Blake2b;
 
 impl Hasher for Blake2b {
-    ghost holds = { Holds };
+    ghost holds = { HasTaken };
 
     ghost kind_of = { λ h. blake2b_kind (digest_len h) };
 

@@ -7,7 +7,7 @@ pub use Rattle.sum_sources.specs.declared.line_reader.LineStop.{LineStop}
 use Rattle.sum_sources.specs.declared.{line_reader.Next.TheVariants.NoMore, line_reader.Next.Next}
 use Rattle.sum_engine.specs.Behavior.{ByteString, Ending, Whole, Broken, World, world_after, Content, InputState, SourceState, Fits}
 use Rattle.sum_engine.specs.Execution.{Agrees, world_at, ReadsToEndIf, AsksNames}
-use Rattle.sum_engine.specs.{refinement.Names.RefusesMemory, check.Rules.Rules, check.Judge.Form, check.Judge.LineVerdictValue, check.Judge.asks_of}
+use Rattle.sum_engine.specs.{Names.RefusesMemory, check.Rules.Rules, check.Judge.Form, check.Judge.LineVerdictValue, check.Judge.asks_of}
 pub use Rattle.sum_engine.specs.declared.check.judge.LineVerdict.{LineVerdict}
 use Rattle.sum_engine.specs.check.Reports.{Counts, is_unread}
 use Rattle.sum_engine.specs.check.CheckStates.{CheckState, no_counts, counts_with, HandlesLine, ReadsOneLine, remaining_verdicts}

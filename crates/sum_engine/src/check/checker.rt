@@ -4,7 +4,7 @@ ghost use Rattle.std.specs.{Option.ForSome, Result.ForOk};
 ghost use Rattle.std.specs.Prelude.{◌≡◌, ◌≤◌, None, Ok, IsTrue};
 ghost use Rattle.sum_engine.specs.check.Rules.{rules_of};
 ghost use Rattle.sum_engine.specs.check.Verdicts.{HasNameRange, is_whole};
-ghost use Rattle.sum_engine.specs.refinement.Judging.{ReportsFound};
+ghost use Rattle.sum_engine.specs.private.Judging.{ReportsFound};
 
 use crate::check::judge::{LineVerdict, Verdict};
 use crate::check::progress::Progress;

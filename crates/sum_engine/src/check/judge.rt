@@ -5,8 +5,8 @@ ghost use Rattle.sum_engine.specs.Execution.{Agrees, world_at, AsksNames, ReadsT
 ghost use Rattle.sum_engine.specs.check.Judge.{asks_of, judge};
 ghost use Rattle.sum_engine.specs.check.Reports.{is_unread};
 ghost use Rattle.sum_engine.specs.check.Verdicts.{HasNameRange};
-ghost use Rattle.sum_engine.specs.refinement.Judging.{listed_entry, verdict_of_hash};
-ghost use Rattle.sum_engine.specs.refinement.Names.{RefusesMemory};
+ghost use Rattle.sum_engine.specs.private.Judging.{listed_entry, verdict_of_hash};
+ghost use Rattle.sum_engine.specs.Names.{RefusesMemory};
 
 use crate::check::rules::CheckRules;
 use crate::inputs::Inputs;

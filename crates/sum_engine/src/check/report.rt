@@ -4,7 +4,7 @@ ghost use Rattle.std.specs.Prelude.{◌≡◌, [], ◌∷◌};
 ghost use Rattle.sum_engine.specs.check.Checker.{Going};
 ghost use Rattle.sum_engine.specs.check.Reports.{bad_line, err_by, out_by, tag_word};
 ghost use Rattle.sum_engine.specs.declared.settings.Report.TheVariants.{All};
-ghost use Rattle.sum_engine.specs.refinement.Writes.{WritesAndReturns};
+ghost use Rattle.sum_engine.specs.Writes.{WritesAndReturns};
 ghost use Rattle.sum_lines.specs.Escape.{own_profile, escape, escape_differs};
 ghost use Rattle.sum_lines.specs.Sinks.{GivesAll};
 ghost use Rattle.sum_lines.specs.grammar.Shapes.{mark};

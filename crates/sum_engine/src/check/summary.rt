@@ -2,7 +2,7 @@
 ghost use Rattle.std.specs.Prelude.{◌≡◌, ◌<◌, ◌^◌, []};
 ghost use Rattle.sum_engine.specs.check.CheckStates.{counts_with, total};
 ghost use Rattle.sum_engine.specs.check.Reports.{warning, warnings, unverified_line, end_text, good, entries};
-ghost use Rattle.sum_engine.specs.refinement.Writes.{WritesAndReturns};
+ghost use Rattle.sum_engine.specs.Writes.{WritesAndReturns};
 ghost use Rattle.sum_lines.specs.Buffers.{WritesAll};
 ghost use Rattle.sum_sources.specs.declared.fault.Ending.TheVariants.{Whole};
 

@@ -50,8 +50,8 @@ impl<I: Input> Verdicts<I> {
     ghost use Rattle.sum_engine.specs.check.Judge.{asks_of, line_verdict};
     ghost use Rattle.sum_engine.specs.check.Reports.{good};
     ghost use Rattle.sum_engine.specs.check.Verdicts.{AdvancesVerdicts, HasNameRange, HoldsInEachCheck, IsAtStart, IsNextVerdict, IsNotUnread, KeepsOutcome, is_whole, line_verdict_value, outcome_in_next};
-    ghost use Rattle.sum_engine.specs.refinement.Judging.{TakesLine, found_verdict, parsed_at};
-    ghost use Rattle.sum_engine.specs.refinement.Names.{RefusesMemory};
+    ghost use Rattle.sum_engine.specs.private.Judging.{TakesLine, found_verdict, parsed_at};
+    ghost use Rattle.sum_engine.specs.Names.{RefusesMemory};
     ghost use Rattle.sum_sources.specs.declared.fault.Ending.TheVariants.{Whole};
 
     /// Creates the verdicts of the manifest that `input` gives, before its first line. `from_stdin` says whether the

@@ -3,7 +3,7 @@
 ghost use Rattle.std.specs.Prelude.{◌≡◌, IfNone, IfSome, None};
 ghost use Rattle.sum_lines.specs.grammar.LineParts.{plain_parts, tag_in, tagged_parts};
 ghost use Rattle.sum_lines.specs.grammar.Shapes.{ByteString};
-ghost use Rattle.sum_lines.specs.refinement.Beginnings.{BeginsWithDigits, IsReadAs, EndsAt, EndsDigits, IsFront};
+ghost use Rattle.sum_lines.specs.private.Beginnings.{BeginsWithDigits, IsReadAs, EndsAt, EndsDigits, IsFront};
 
 use crate::reading::line_parts::{Front, is_blank};
 use digest_kinds::{Algo, Algos, Kind};

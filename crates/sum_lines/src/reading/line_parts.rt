@@ -45,7 +45,7 @@ impl Front {
     ghost use Rattle.std.specs.Prelude.{◌≡◌};
     ghost use Rattle.sum_lines.specs.grammar.LineParts.{mark_and_rest};
     ghost use Rattle.sum_lines.specs.grammar.Shapes.{is_blank};
-    ghost use Rattle.sum_lines.specs.refinement.Beginnings.{IsFront};
+    ghost use Rattle.sum_lines.specs.private.Beginnings.{IsFront};
 
     /// What precedes the line's text.
     pub(crate) fn of(line: &[u8]) -> Front

@@ -6,7 +6,7 @@ ghost use Rattle.std.specs.Option.{option_map};
 ghost use Rattle.std.specs.Prelude.{◌≡◌, ◌≤◌, IfSome, if◌then◌else◌, length, Some, None};
 ghost use Rattle.sum_lines.specs.grammar.LineParts.{mark_and_rest, plain_parts};
 ghost use Rattle.sum_lines.specs.grammar.Shapes.{is_blank};
-ghost use Rattle.sum_lines.specs.refinement.Beginnings.{EndsDigits, IsFront, line_parts};
+ghost use Rattle.sum_lines.specs.private.Beginnings.{EndsDigits, IsFront, line_parts};
 
 use crate::reading::line_parts::{Front, LineParts};
 use digest_kinds::{Algo, Algos, Digest, Kind};

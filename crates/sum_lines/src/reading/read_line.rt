@@ -8,7 +8,7 @@ ghost use Rattle.sum_lines.specs.grammar.Entries.{begins_standard, form_then, is
 ghost use Rattle.sum_lines.specs.grammar.LineLaws.{FitsGrammar};
 ghost use Rattle.sum_lines.specs.grammar.ParsedLines.{bad, entry, entry_of, entry_of_parts, parse_line, unescape};
 ghost use Rattle.sum_lines.specs.grammar.ParsedLines.{parts_with_raw_name, parsed_line_of, IsWithin};
-ghost use Rattle.sum_lines.specs.refinement.Beginnings.{IsReadAs, IsFront, line_parts};
+ghost use Rattle.sum_lines.specs.private.Beginnings.{IsReadAs, IsFront, line_parts};
 
 use crate::escape::unescape_in;
 use crate::reading::beginnings::{Beginning, find_beginning};

@@ -2,7 +2,7 @@
 ghost use Rattle.std.specs.Prelude.{◌≡◌, ◌<◌, ◌≤◌, ◌-◌, ◌+◌, ◌++◌, [], length, min, take, IsTrue, OnErr, MatchResult};
 ghost use Rattle.sum_lines.specs.Buffers.{Accepts, FailsToWrite, IsFlushed, WritesAll};
 ghost use Rattle.sum_lines.specs.Sinks.{GivesAll};
-ghost use Rattle.sum_lines.specs.refinement.SinkStates.{MakesRoom};
+ghost use Rattle.sum_lines.specs.SinkStates.{MakesRoom};
 
 use crate::sinks::sink::{Sink, SinkFault, give_all};
 use std::marker::Model;

@@ -27,7 +27,7 @@ impl<W: Write> Debug for FromWrite<W> {
 }
 
 impl<W: Write> FromWrite<W> {
-    ghost use Rattle.sum_lines.specs.refinement.SinkStates.{from_write_state, held_at_first};
+    ghost use Rattle.sum_lines.specs.SinkStates.{from_write_state, held_at_first};
 
     /// Creates a sink over the writer. What the writer is known to hold counts as written.
     pub fn new(writer: W) -> Self
@@ -73,7 +73,7 @@ impl<W: Write> FromWrite<W> {
 impl<W: Write> Sink for FromWrite<W> {
     ghost use Rattle.std.specs.Prelude.{Ok};
     ghost use Rattle.sum_lines.specs.Sinks.{WritesSome, Flushes};
-    ghost use Rattle.sum_lines.specs.refinement.SinkStates.{from_write_state, held_at_first};
+    ghost use Rattle.sum_lines.specs.SinkStates.{from_write_state, held_at_first};
 
     ghost state = { from_write_state };
 

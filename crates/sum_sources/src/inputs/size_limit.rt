@@ -3,7 +3,7 @@ ghost use Rattle.digest_kinds.specs.Bytes.{LIMIT};
 ghost use Rattle.std.specs.Prelude.{◌<◌, ◌≡◌, length, take};
 ghost use Rattle.std.specs.Result.{result_unwrap_or};
 ghost use Rattle.sum_sources.specs.declared.inputs.input.TheConstants.{PIECE};
-ghost use Rattle.sum_sources.specs.refinement.LimitedReads.{CountsLimited, CountsBytes, AddsPast};
+ghost use Rattle.sum_sources.specs.private.LimitedReads.{CountsLimited, CountsBytes, AddsPast};
 
 use crate::{Fault, Input, PIECE};
 use digest_kinds::LIMIT;

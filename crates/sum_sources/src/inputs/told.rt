@@ -1,7 +1,7 @@
 //! An input in memory.
 ghost use Rattle.std.specs.Prelude.{◌≡◌, ◌≤◌, [], length, max, IfOk};
 ghost use Rattle.sum_sources.specs.StandardInput.{told_file};
-ghost use Rattle.sum_sources.specs.refinement.ToldSteps.{GivesFrom, IsSoundTold};
+ghost use Rattle.sum_sources.specs.ToldSteps.{GivesFrom, IsSoundTold};
 
 use crate::inputs::read_log::{ReadLog, ReadNote, Reads};
 use crate::{Ending, Fault, Input, Phase};
@@ -23,7 +23,7 @@ pub struct Told<'a> {
 
 impl<'a> Told<'a> {
     ghost use Rattle.sum_sources.specs.Contents.{empty_reads};
-    ghost use Rattle.sum_sources.specs.refinement.ToldPairs.{told_value};
+    ghost use Rattle.sum_sources.specs.ToldPairs.{told_value};
 
     /// Creates an input of the bytes `content`, at most `piece` per read (0 counts as 1), and then `ending`.
     pub fn new(content: &'a [u8], ending: Ending, piece: usize) -> Told<'a>
@@ -100,7 +100,7 @@ fn give(
 }
 
 impl<'a> Input for Told<'a> {
-    ghost use Rattle.sum_sources.specs.refinement.ToldPairs.{told_value};
+    ghost use Rattle.sum_sources.specs.ToldPairs.{told_value};
 
     ghost state = { λ s. told_file (told_value s) };
 

@@ -47,7 +47,7 @@ impl<I: Input, F: Input> Opened<I, F> {
 
 impl<I: Input, F: Input> Input for Opened<I, F> {
     ghost use Rattle.sum_sources.specs.WithStdin.{opened_has_content};
-    ghost use Rattle.sum_sources.specs.refinement.SourceStates.{opened_state};
+    ghost use Rattle.sum_sources.specs.SourceStates.{opened_state};
 
     ghost state = { opened_state };
 

@@ -4,7 +4,7 @@ ghost use Rattle.std.specs.Prelude.{◌≡◌, ◌≤◌, ◌++◌, ◌∷◌, [
 ghost use Rattle.std.specs.Vec.{VecUnchanged};
 ghost use Rattle.sum_sources.specs.SourceLaws.{GivesTold-prop};
 ghost use Rattle.sum_sources.specs.Sources.{GivesTold, first_answer, names_of, answer_of_first, times};
-ghost use Rattle.sum_sources.specs.refinement.ToldPairs.{pair_of, answer_value, told_source};
+ghost use Rattle.sum_sources.specs.ToldPairs.{pair_of, answer_value, told_source};
 
 use crate::sources::source_log::{Note, Openings, SourceLog, next_file};
 use crate::{Ending, Fault, Input, NoRoom, OpenFault, Source, Told};
@@ -69,7 +69,7 @@ fn answer_to<'a, A: Allocator>(
 
 impl<'a, A: Allocator + Copy> ToldSource<'a, A> {
     ghost use Rattle.sum_sources.specs.Logs.{no_openings};
-    ghost use Rattle.sum_sources.specs.refinement.SourceStates.{told_source_state};
+    ghost use Rattle.sum_sources.specs.SourceStates.{told_source_state};
 
     /// Creates a source without names, whose files give at most `piece` bytes per read (0 counts as 1).
     pub fn new(alloc: A, piece: usize) -> ToldSource<'a, A>
@@ -129,7 +129,7 @@ fn add_name<A: Allocator + Copy>(
 impl<'a, A: Allocator + Copy> Source for ToldSource<'a, A> {
     type File = Told<'a>;
 
-    ghost use Rattle.sum_sources.specs.refinement.SourceStates.{told_source_state};
+    ghost use Rattle.sum_sources.specs.SourceStates.{told_source_state};
 
     ghost state = { told_source_state };
 

@@ -1,7 +1,7 @@
 //! Standard input and a source of files, as one source.
 ghost use Rattle.std.specs.Prelude.{◌≡◌};
 ghost use Rattle.sum_sources.specs.WithStdin.{is_dash};
-ghost use Rattle.sum_sources.specs.refinement.WithStdinStates.{IsSoundWithStdin};
+ghost use Rattle.sum_sources.specs.WithStdinStates.{IsSoundWithStdin};
 
 use crate::sources::opened::{Opened, Place};
 use crate::sources::source_log::{ClosedFile, Note, Openings, OthersOf, SourceLog, next_file};
@@ -26,7 +26,7 @@ pub struct WithStdin<I: Input, S: Source> {
 
 impl<I: Input, S: Source> WithStdin<I, S> {
     ghost use Rattle.sum_sources.specs.WithStdin.{other_openings, pairs_with_stdin, state_without_dash};
-    ghost use Rattle.sum_sources.specs.refinement.SourceStates.{both_state, source_in, stdin_in};
+    ghost use Rattle.sum_sources.specs.SourceStates.{both_state, source_in, stdin_in};
     ghost use Rattle.sum_sources.specs.StandardInput.{given_input, is_untaken, closable_state};
     ghost use Rattle.std.specs.Prelude.{IsTrue};
 
@@ -72,7 +72,7 @@ pub fn is_dash(name: &[u8]) -> bool
 
 impl<I: Input + Drop, S: Source> Source for WithStdin<I, S> {
     ghost use Rattle.sum_sources.specs.WithStdin.{answer_of_both};
-    ghost use Rattle.sum_sources.specs.refinement.SourceStates.{both_state, source_in, stdin_in};
+    ghost use Rattle.sum_sources.specs.SourceStates.{both_state, source_in, stdin_in};
     ghost use Rattle.sum_sources.specs.WithStdinLaws.{with_stdin_gives};
 
     type File = Opened<I, S::File>;
@@ -83,7 +83,7 @@ impl<I: Input + Drop, S: Source> Source for WithStdin<I, S> {
 
     ghost use Rattle.std.specs.Prelude.{IfOk, MatchBool, MatchResult};
     ghost use Rattle.sum_sources.specs.WithStdin.{TakesStdin};
-    ghost use Rattle.sum_sources.specs.refinement.SourceStates.{opened_state, place_in};
+    ghost use Rattle.sum_sources.specs.SourceStates.{opened_state, place_in};
     ghost use Rattle.sum_sources.specs.Sources.{after_opening, opened_file};
 
     /// Opens the name: `-` gives what [`Stdin::take`] gives, and any other name is opened in the source.

@@ -4,7 +4,7 @@ ghost use Rattle.sum_lines.specs.Buffers.{WritesAll};
 ghost use Rattle.sum_lines.specs.PartTexts.{part_text};
 ghost use Rattle.sum_words.specs.Texts.{fault_lines};
 ghost use Rattle.sum_words.specs.WordFaults.{WordFaultValue, wording};
-ghost use Rattle.sum_words.specs.refinement.ItemIterator.{word_fault_value};
+ghost use Rattle.sum_words.specs.Request.{word_fault_value};
 
 use crate::parsing::options::Spelling;
 use crate::tool::Tool;

@@ -7,8 +7,8 @@ ghost use Rattle.std.specs.Str.{chars};
 ghost use Rattle.sum_words.specs.Items.{ByteString, a_word, name_part, value_part, long_option, name_or_fault, cluster};
 ghost use Rattle.sum_words.specs.Items.{is_option_word, items_from, operand_in};
 ghost use Rattle.sum_words.specs.declared.tool.Tool.{Tool};
-ghost use Rattle.sum_words.specs.refinement.ItemIterator.{attached_value, remaining_items, step_items, item_value};
-ghost use Rattle.sum_words.specs.refinement.ItemIterator.{TakesFirst};
+ghost use Rattle.sum_words.specs.private.ItemIterator.{attached_value, remaining_items, step_items, item_value};
+ghost use Rattle.sum_words.specs.Words.{TakesFirst};
 
 use crate::messages::word_faults::WordFault;
 use crate::parsing::options::{Flag, Spelling};
@@ -55,7 +55,7 @@ enum ParserStep<'a> {
 impl<'a> Model for Items<'a> {
     ghost use Rattle.std.specs.Prelude.{List};
     ghost use Rattle.sum_words.specs.Items.{ItemValue};
-    ghost use Rattle.sum_words.specs.refinement.ItemIterator.{remaining_items};
+    ghost use Rattle.sum_words.specs.private.ItemIterator.{remaining_items};
 
     ghost Value = { List ItemValue };
 

@@ -4,7 +4,7 @@ ghost use Rattle.std.specs.Prelude.{◌≡◌, ◌==◌, ◌&&◌, [], ◌∷◌
 ghost use Rattle.std.specs.Str.{bytes_eq};
 ghost use Rattle.sum_words.specs.Items.{row_of, full_name, all_flags, flags_of, has_option, takes_value};
 ghost use Rattle.sum_words.specs.Items.{option_of_letter, only_or_fault, name_or_fault};
-ghost use Rattle.sum_words.specs.refinement.OptionScan.{result_value};
+ghost use Rattle.sum_words.specs.Request.{result_value};
 
 use crate::messages::word_faults::WordFault;
 use crate::tool::Tool;

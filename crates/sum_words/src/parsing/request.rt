@@ -5,8 +5,8 @@ ghost use Rattle.std.specs.Option.{option_map};
 ghost use Rattle.std.specs.Prelude.{◌≡◌, ◌∷◌, List, [], filter_map};
 ghost use Rattle.sum_words.specs.Items.{ItemValue, a_word, items_from, option, option_in};
 ghost use Rattle.sum_words.specs.Request.{length_kind, mode_of, fault_of_options, request_of_options, request};
-ghost use Rattle.sum_words.specs.refinement.ItemIterator.{word_fault_value};
-ghost use Rattle.sum_words.specs.refinement.OptionScan.{IsChosenBy, IsScanOf, result_value, IsNumberOf};
+ghost use Rattle.sum_words.specs.Request.{word_fault_value, result_value};
+ghost use Rattle.sum_words.specs.private.OptionScan.{IsChosenBy, IsScanOf, IsNumberOf};
 
 use crate::messages::word_faults::WordFault;
 use crate::parsing::items::{Item, Items, Operands};

@@ -1,5 +1,5 @@
 use Rattle.std.proofs.Common.{arith}
-use Rattle.blake2b_core.specs.{Compression.mix, refinement.Columns.columns}
+use Rattle.blake2b_core.specs.{Compression.mix, private.Columns.columns}
 use Rattle.blake2b_core.proofs.columns.mixed_columns.Goals as goal
 
 -- each step of G, on all four columns at once

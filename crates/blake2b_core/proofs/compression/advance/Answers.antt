@@ -1,7 +1,7 @@
 use Rattle.std.proofs.Common.{◌≡◌, ap, fold, refl, ◌∙◌}
 use Rattle.std.specs.List.{range_with_len}
 use Rattle.blake2b_core.specs.Compression.{compress, round, work_vector}
-use Rattle.blake2b_core.specs.refinement.Columns.{block_words, next_state, words}
+use Rattle.blake2b_core.specs.private.Columns.{block_words, next_state, words}
 use Rattle.blake2b_core.proofs.compression.advance.Goals as goal
 
 -- twelve rounds, and the new state

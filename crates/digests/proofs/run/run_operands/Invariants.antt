@@ -1,7 +1,7 @@
 use Rattle.std.proofs.Common.{length, Ok}
 use Rattle.sum_engine.specs.Execution.{StopHasCause}
 use Rattle.sum_words.specs.Tools.{name_of}
-use Rattle.digests.specs.{Meaning.names_or_dash, refinement.Operands.job_refusals, refinement.Operands.operand_behavior}
+use Rattle.digests.specs.{Meaning.names_or_dash, private.Operands.job_refusals, private.Operands.operand_behavior}
 use Rattle.digests.proofs.OperandLemmas.{HasReached, left}
 use Rattle.digests.proofs.run.run_operands.Given as goal
 

@@ -1,6 +1,6 @@
 use Rattle.std.proofs.Common.{◌-◌, ◌^◌, ◌≤◌, vec_len}
 use Rattle.std.specs.declared.env.FillError.TheVariants.{TooLong}
-use Rattle.sum_words.specs.refinement.CommandLine.{Fails}
+use Rattle.sum_words.specs.private.CommandLine.{Fails}
 use Rattle.sum_words.proofs.command_line.fill_growing.Given as goal
 
 -- the buffer is longer than a page, and a call failed with a buffer of at least a page

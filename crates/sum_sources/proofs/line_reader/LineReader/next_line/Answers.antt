@@ -3,7 +3,7 @@ use Rattle.std.proofs.Common.{ap, arith, ◌≡◌, length, Some, Err}
 use Rattle.sum_sources.specs.{LineReaders.IsBounded, declared.line_reader.ReaderState.ReaderState}
 use Rattle.sum_sources.specs.declared.line_reader.{LineReader.TheInside.Inside, LineStop.TheVariants.Memory}
 use Rattle.sum_sources.specs.declared.line_reader.ReaderState.TheVariants.{Active, Done, Stopped}
-use Rattle.sum_sources.specs.refinement.LineStates.{line_reader_view, final_answer_in, IsSoundReader}
+use Rattle.sum_sources.specs.LineStates.{line_reader_view, final_answer_in, IsSoundReader}
 use Rattle.sum_sources.proofs.ReadOnLemmas.{counted, settled_again}
 use Rattle.sum_sources.proofs.line_reader.LineReader.next_line.Goals as goal
 

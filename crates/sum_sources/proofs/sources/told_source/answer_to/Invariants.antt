@@ -1,5 +1,5 @@
 use Rattle.std.proofs.Common.{◌≡◌, drop, map}
-use Rattle.sum_sources.specs.{Sources.first_answer, refinement.ToldPairs.pair_of}
+use Rattle.sum_sources.specs.{Sources.first_answer, ToldPairs.pair_of}
 use Rattle.sum_sources.proofs.sources.told_source.answer_to.Given as goal
 
 -- none of the pairs so far has the name

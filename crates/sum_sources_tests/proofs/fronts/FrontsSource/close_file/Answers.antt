@@ -1,6 +1,6 @@
 use Rattle.std.proofs.Common.{refl}
 use Rattle.sum_sources.specs.{Contents.InputState, InputLaws.told_file_has_content, StandardInput.told_file}
-use Rattle.sum_sources.{specs.refinement.ToldPairs.told_value, proofs.GaveLemmas.closing_gives}
+use Rattle.sum_sources.{specs.ToldPairs.told_value, proofs.GaveLemmas.closing_gives}
 use Rattle.sum_sources_tests.specs.Fronts.{fronts_state, tells_fronts}
 use Rattle.sum_sources_tests.proofs.fronts.FrontsSource.close_file.Goals as goal
 

@@ -1,5 +1,5 @@
 use Rattle.std.proofs.Common.{◌≡◌, length}
-use Rattle.sum_words.specs.{Items.a_word, Items.items_from, Request.early_request, refinement.OptionScan.IsChosenBy}
+use Rattle.sum_words.specs.{Items.a_word, Items.items_from, Request.early_request, private.OptionScan.IsChosenBy}
 use Rattle.sum_words.proofs.parsing.request.read_options.Given as goal
 
 -- the options chosen so far and those of the remaining items are those of all items

@@ -1,6 +1,6 @@
 use Rattle.std.proofs.Common.{◌≡◌, slice_range, refl, sym}
 use Rattle.sum_lines.specs.{grammar.Entries.EntryValue, grammar.ParsedLines.entry}
-use Rattle.sum_engine.specs.refinement.Judging.{parsed_at}
+use Rattle.sum_engine.specs.private.Judging.{parsed_at}
 use Rattle.sum_engine.proofs.check.verdicts.Verdicts.judge_line.Goals as goal
 
 -- an entry was judged

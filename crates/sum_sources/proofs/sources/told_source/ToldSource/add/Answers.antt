@@ -1,7 +1,7 @@
 use Rattle.std.proofs.Common.{rules, ◌≡◌, ◌∷◌, ◌++◌, [], Some, map}
 use Rattle.std.{specs.Result.is_ok, proofs.lemmas.List.map-append}
 use Rattle.sum_sources.{specs.Sources.Pair, proofs.GaveLemmas.true_or_false, proofs.ToldSourceLemmas.adding_gives}
-use Rattle.sum_sources.specs.refinement.ToldPairs.{told_source, pair_of, answer_value}
+use Rattle.sum_sources.specs.ToldPairs.{told_source, pair_of, answer_value}
 use Rattle.sum_sources.proofs.sources.told_source.ToldSource.add.Goals as goal
 
 -- the pair answers from the next opening of its name on

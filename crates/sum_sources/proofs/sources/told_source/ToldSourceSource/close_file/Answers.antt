@@ -1,6 +1,6 @@
 use Rattle.std.proofs.Common.{◌≡◌, Some, Ok, Err, refl, ap}
 use Rattle.std.specs.Result.{result_ok}
-use Rattle.sum_sources.specs.{Contents.Content, InputLaws.told_file_has_content, Sources.answer_of_first, Sources.Answer, StandardInput.told_file, refinement.ToldPairs.told_source, refinement.ToldPairs.told_value}
+use Rattle.sum_sources.specs.{Contents.Content, InputLaws.told_file_has_content, Sources.answer_of_first, Sources.Answer, StandardInput.told_file, ToldPairs.told_source, ToldPairs.told_value}
 use Rattle.sum_sources.proofs.GaveLemmas.{names-closed, closing_gives}
 use Rattle.sum_sources.proofs.sources.told_source.ToldSourceSource.close_file.Goals as goal
 

@@ -1,5 +1,5 @@
 use Rattle.std.proofs.Common.{rules, Some, Err}
-use Rattle.sum_sources.specs.{Sources.answer_of_first, refinement.ToldPairs.told_source}
+use Rattle.sum_sources.specs.{Sources.answer_of_first, ToldPairs.told_source}
 use Rattle.sum_sources.proofs.GaveLemmas.{open_gives, opening_gives}
 use Rattle.sum_sources.proofs.sources.told_source.ToldSourceSource.open_file.Goals as goal
 

@@ -2,7 +2,7 @@
 use Rattle.std.specs.Prelude.{◌≡◌, ◌≤◌, Bool, false, [], None, Some, Result, Ok, Err, IfOk, length, if◌then◌else◌, bytes_eq}
 use Rattle.sum_sources.specs.declared.{fault.Fault.TheVariants.NotFound, line_reader.LineStop.TheVariants.Fault, line_reader.LineStop.TheVariants.Memory}
 use Rattle.sum_engine.specs.declared.check.judge.ListedEntry.{ListedEntry}
-use Rattle.sum_engine.specs.{refinement.Names.HashFault, refinement.Names.NoRoom, refinement.Writes.WritesAndReturns}
+use Rattle.sum_engine.specs.{Names.HashFault, Names.NoRoom, Writes.WritesAndReturns}
 use Rattle.sum_engine.specs.{Behavior.ByteString, Behavior.Whole, Behavior.Broken, Execution.OutputsState, Execution.Stop}
 use Rattle.sum_engine.specs.check.{Rules.LabelsValue, Reports.out_of, Reports.err_of, Reports.end_text, Reports.good}
 use Rattle.sum_engine.specs.declared.check.progress.{Progress.Progress, Progress.TheVariants.Going, Progress.TheVariants.Ended}

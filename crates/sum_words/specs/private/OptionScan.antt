@@ -1,11 +1,10 @@
 -- Relates the scan of the options to the request: the values so far, and what they make of it.
-use Rattle.std.specs.Prelude.{ℕ, ◌≡◌, ◌<◌, ◌^◌, ◌&&◌, ◌||◌, not, bytes_eq, true, Bool, List, [], Option, None, Some, SomeIff, Result, Ok, Err, option_copied, filter_map}
+use Rattle.std.specs.Prelude.{ℕ, ◌≡◌, ◌<◌, ◌^◌, ◌&&◌, ◌||◌, not, bytes_eq, true, Bool, List, [], Option, None, Some, SomeIff, option_copied, filter_map}
 use Rattle.std.specs.{Char.is_ascii_digit, List.last_or, List.list_all, Str.Parse.digits_value}
-use Rattle.sum_words.specs.Request.{report_flag, early_request, has, last_of, mode_flags, report_flags}
+use Rattle.sum_words.specs.Request.{report_flag, early_request, has, last_of, mode_flags, report_flags, result_value}
 use Rattle.sum_words.specs.Items.{Flag, ByteString, ItemValue, option_in, value_in}
-use Rattle.sum_words.specs.declared.{messages.word_faults.WordFault.WordFault, parsing.request.Chosen.Chosen, parsing.request.ScannedOptions.ScannedOptions}
+use Rattle.sum_words.specs.declared.{parsing.request.Chosen.Chosen, parsing.request.ScannedOptions.ScannedOptions}
 use Rattle.sum_words.specs.declared.parsing.request.ScannedOptions.TheVariants.{Options, Early}
-use Rattle.sum_words.specs.{WordFaults.WordFaultValue, refinement.ItemIterator.word_fault_value}
 use Rattle.sum_words.specs.declared.parsing.options.Flag.TheVariants as flags
 
 -- an option was given earlier, or is in the rest, exactly if it is among all
@@ -25,11 +24,6 @@ pub record IsChosenBy (c : Chosen) (rest all : List ItemValue) : Type 0 where
   pub zero : IsThere flags.Zero c.zero rest all
   pub ignore_missing : IsThere flags.IgnoreMissing c.ignore_missing rest all
   pub strict : IsThere flags.Strict c.strict rest all
-
--- the value of a result
-abbrev pub result_value : {X : Type 0} → Result X WordFault → Result X WordFaultValue
-result_value (Ok x) = Ok x
-result_value (Err f) = Err (word_fault_value f)
 
 -- the scan returns the options of all items if none of these decides the request early, and otherwise that request
 abbrev pub IsScanOf : ScannedOptions → List ItemValue → Type 0

@@ -1,9 +1,7 @@
 -- Relates what was read of the command line to what the calls for arguments gave.
 use Rattle.std.specs.Prelude.{ℕ, ◌≡◌, ◌<◌, ◌≤◌, List, [], ◌∷◌, ◌++◌, length, take, slice_get, Option, None, Some, IsSomeAnd, Result, Ok, Err}
 use Rattle.std.specs.declared.{env.FillError.FillError, env.FillError.TheVariants.NotPresent, env.FillError.TheVariants.TooLong}
-use Rattle.sum_words.specs.declared.command_line.CommandLine.{CommandLine}
 use Rattle.sum_words.specs.{Arguments.ArgumentsState, Arguments.FitsArguments, CommandLines.command_line, Items.ByteString, Tools.Tool}
-use Rattle.sum_words.specs.declared.command_line.CommandLine.TheVariants.{UnknownTool, Invoke}
 
 -- what a `fill` returns: the buffer starts with the argument at the place, or that is longer, or there is none
 abbrev pub Fills : List ByteString → ℕ → ByteString → Result ℕ FillError → Type 0
@@ -27,8 +25,3 @@ abbrev pub FindsTool : ArgumentsState → Option (Tool × ℕ) → Type 0
 FindsTool s (Some (tool, first)) =
     (first ≡ length s.given) × ((rest : List ByteString) → command_line (s.given ++ rest) ≡ Some (tool, rest))
 FindsTool s None = (all : List ByteString) → FitsArguments s all → command_line all ≡ None
-
--- the value of a `CommandLine`
-abbrev pub command_line_value : {A : Type 0} → CommandLine A → Option (Tool × List ByteString)
-command_line_value UnknownTool = None
-command_line_value (Invoke tool words) = Some (tool, words)

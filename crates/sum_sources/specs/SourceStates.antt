@@ -1,5 +1,5 @@
 -- Relates sources and what they opened, by their fields, to their states.
-use Rattle.sum_sources.specs.{Contents.InputState, Sources.SourceState, StandardInput.StdinPlace, WithStdin.with_stdin_state, WithStdin.place_state, refinement.ToldPairs.told_source, declared.sources.opened.Opened.Opened, declared.sources.opened.Place.Place, declared.sources.told_source.ToldSource.ToldSource, declared.sources.with_stdin.WithStdin.WithStdin}
+use Rattle.sum_sources.specs.{Contents.InputState, Sources.SourceState, StandardInput.StdinPlace, WithStdin.with_stdin_state, WithStdin.place_state, ToldPairs.told_source, declared.sources.opened.Opened.Opened, declared.sources.opened.Place.Place, declared.sources.told_source.ToldSource.ToldSource, declared.sources.with_stdin.WithStdin.WithStdin}
 
 -- the state of a source in memory
 abbrev pub told_source_state : {A : Type 0} → ToldSource A → SourceState

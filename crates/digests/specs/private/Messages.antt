@@ -1,5 +1,5 @@
 -- Relates the messages of the program to their texts.
-use Rattle.sum_words.specs.{Items.ByteString, refinement.ItemIterator.word_fault_value}
+use Rattle.sum_words.specs.{Items.ByteString, Request.word_fault_value}
 use Rattle.sum_words.specs.Texts.{fault_lines, help, version, stop_line, unknown_tool_line, not_read_line}
 use Rattle.digests.specs.declared.messages.Message.{Message}
 use Rattle.digests.specs.declared.messages.Message.TheVariants as texts

@@ -1,6 +1,6 @@
 -- Relates what a run returned to the end of the program.
 use Rattle.std.specs.Prelude.{ℕ, ◌≡◌, [], Option, None, Result, Ok, Err}
-use Rattle.sum_engine.specs.{Execution.OutputsState, refinement.Writes.WritesAndReturns}
+use Rattle.sum_engine.specs.{Execution.OutputsState, Writes.WritesAndReturns}
 use Rattle.sum_words.specs.{Items.ByteString, Texts.Stop, declared.tool.Tool.Tool}
 use Rattle.digests.specs.Program.{ReportsStop}
 

@@ -1,4 +1,3 @@
-pub mod ArgumentsStates
 pub mod ItemIterator
 pub mod OptionScan
 pub mod CommandLine
