@@ -6,9 +6,9 @@
                                  each definition before those that it stands on
     tools/believed.py --write    makes the table of docs/PROMISES.md anew
 
-Each fails if a definition that the headline or the program reaches stands in a folder specs/refinement/ of a crate:
-such a folder only relates the code's values to those of the definitions, so a reader may pass over it. Each also fails
-if a definition outside of these folders has the name of another, or of one of the kit's.
+Each fails if a contract that callers see leads to a file in a folder specs/private/ of a crate, or none leads to a file
+outside of these folders. Each also fails if a definition outside of them has the name of another, or of one of the
+kit's.
 
 What a contract says of a value is said in words that others give a meaning: the clauses of the traits that bound the
 function's parameters, and the views of their types. So these count, with the types and constants of the code that are
@@ -202,19 +202,26 @@ def page():
 
 
 def misplaced():
-    """The definitions that may not stand where they do, a line for each: what `run` or `command` reaches, in a folder
-    specs/refinement/; and elsewhere, what has the name of another, or of one of the kit's that is used."""
-    found = [f"{crate}/specs/{file}.antt: {claim.title} reaches {it.name}; move it out of refinement/"
-             for claim in claims()[:2] for (crate, file), definitions in claim.files.items()
-             if file.startswith("refinement/") for it in definitions]
-    modules = every_definition().modules.values()
+    """What may not stand where it does, a line for each: a file of a folder specs/private/ to which a contract that
+    callers see leads, another file to which none does, and what has the name of another outside of these folders, or
+    of one of the kit's that is used."""
+    specs, modules = every_definition(), every_definition().modules.values()
+    types = {it.name for it in code().items if it.public}
+    seen = [it for of in code().items for it in ([of] if of.trait or of.kind != "impl" else of.members)
+            if it.public or of.trait and of.name in types]
+    led = specs.reached({it for of in seen for clause in of.clauses for it in specs.named(clause.tokens, of.uses)})
+    found = []
+    for it in (it for it in modules if it.crate in compiled.LIBRARIES and it.definitions):
+        public = led & {*it.definitions.values()}
+        if bool(public) == it.file.startswith("private/"):
+            found.append(f"{it.name}: callers see {min((of.name for of in public), default='nothing')} of it")
     used = [origin for names in [*(it.imports for it in modules), *(it.uses for it in code().items)]
             for origin in names.values()]
     owners = {name: module for module, name in used if name and module.split(".")[1] not in needs()}
     prelude = text_of(compiled.library("std"), "lang", "antt", "specs", "Prelude.antt")
     for name in (it for names in re.findall(r"(?m)^pub use .*\{(.*)\}$", prelude) for it in names.split(", ")):
         owners.setdefault(name, "the kit's Prelude")
-    for name, module in ((name, it.name) for it in modules if "refinement/" not in it.file for name in it.definitions):
+    for name, module in ((name, it.name) for it in modules if "private/" not in it.file for name in it.definitions):
         if owners.setdefault(name, module) != module:
             found.append(f"{owners[name]} and {module} both define {name}")
     return found

@@ -23,7 +23,7 @@ pub record HoldsSoFar (s : Blake2b) (m : ByteString) : Type 0 where
   pub hash : s.h ≡ hash_after s.len m done
   pub rest : take s.buffer_len s.buffer ≡ drop (128 * done) m
 
--- the state s holds the message m: so far it does, and unless m is empty, its last block is buffered
+-- the state s has taken the message m: it holds m so far, and unless m is empty, its last block is buffered
 pub record HasTaken (s : Blake2b) (m : ByteString) : Type 0 where
   pub so_far : HoldsSoFar s m
   pub empty_buffer : s.buffer_len ≡ 0 → m ≡ []
