@@ -6,7 +6,7 @@ use Rattle.sum_engine.specs.check.Judge.{Algos, Form, LineVerdictValue, line_ver
 use Rattle.sum_engine.specs.{check.Reports.Counts, check.Reports.end_text, Behavior.Ending, Behavior.Whole, Behavior.Broken, Behavior.World, Behavior.world_after, Behavior.Content}
 use Rattle.sum_sources.specs.ManifestLines.{raw_lines, last_line, past_line}
 use Rattle.sum_sources.proofs.CutLemmas.{bytes_of_lines, cut, raw_lines-joined}
-use Rattle.sum_engine.specs.check.OldVerdicts.{older_profile, rules_under, HasNoCarriageReturn, NamesNoCarriageReturn, IsOldManifest, OldVerdicts, OlderDiffers}
+use Rattle.sum_engine.specs.check.OldVerdicts.{older_profile, HasNoCarriageReturn, NamesNoCarriageReturn, IsOldManifest, OldVerdicts, OlderDiffers}
 use Rattle.sum_lines.proofs.{EntryLemmas.entry-not_ignored, ParsedLineLemmas.bad_exactly}
 use Rattle.sum_engine.proofs.{OldNames.parts_clean, OldNames.same_escape, OldNames.parse_line_same, CarriageReturnLemmas.strips-kept}
 
@@ -46,10 +46,10 @@ pub record Alike (algos : Algos) (f : Form) (line : List ℕ) : Type 0 where
 module _ (r : Rules) (labels : LabelsValue) where
   -- the same rules under each
   abbrev old : Rules
-  old = rules_under older_profile r
+  old = record r { profile = older_profile }
 
   abbrev new : Rules
-  new = rules_under own_profile r
+  new = record r { profile = own_profile }
 
   -- the verdicts are the same
   verdicts_same : (f : Form) (w : World) (n : ℕ) (ls : List (List ℕ)) → All (Alike r.algo f) ls

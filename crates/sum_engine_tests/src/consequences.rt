@@ -7,7 +7,7 @@ ghost use Rattle.sum_engine.specs.check.CheckStates.{CheckState, initial_state};
 ghost use Rattle.sum_engine.specs.check.CheckerLaws.{TakesSteps};
 ghost use Rattle.sum_engine.specs.check.Checking.{check_behavior, content_behavior};
 ghost use Rattle.sum_engine.specs.check.Judge.{all_verdicts, verdicts, form, lines_under, own_profile};
-ghost use Rattle.sum_engine.specs.check.OldVerdicts.{IsOldManifest, older_profile, rules_under};
+ghost use Rattle.sum_engine.specs.check.OldVerdicts.{IsOldManifest, older_profile};
 ghost use Rattle.sum_engine.specs.check.ReadAhead.{remaining_before};
 ghost use Rattle.sum_engine.specs.check.Rules.{LabelsValue, Rules};
 ghost use Rattle.sum_engine.specs.check.Verdicts.{HasNameRange};
@@ -128,7 +128,8 @@ pub fn added_lines_change_nothing()
 /// If a manifest from the time of older versions was good, it stays good.
 pub fn old_manifest_stays_good()
     ensures good { (r : Rules) (labels : LabelsValue) (w : World) (c : Content)
-        → IsOldManifest r labels c → let old = rules_under older_profile r in let new = rules_under own_profile r in
+        → IsOldManifest r labels c → let old = record r { profile = older_profile } in
+        let new = record r { profile = own_profile } in
         (content_behavior old labels c (all_verdicts old w c)).good ≡ true
         → (content_behavior new labels c (all_verdicts new w c)).good ≡ true }
     // To older versions a line that ends with a carriage return was another one.

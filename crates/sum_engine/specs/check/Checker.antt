@@ -6,9 +6,8 @@ use Rattle.sum_sources.specs.{Contents.IsSameInput, LineReaders.IsBounded}
 use Rattle.sum_sources.specs.declared.{line_reader.Next.TheVariants.NoMore, inputs.input.TheConstants.PIECE}
 use Rattle.sum_engine.specs.Behavior.{ByteString, Step, Behavior, InputState}
 use Rattle.sum_engine.specs.Execution.{Stop, StreamsState, PerformsSteps, StopHasCause, none_or_one, ReadsToEndIf}
-use Rattle.sum_engine.specs.check.Rules.{Rules, LabelsValue}
 use Rattle.sum_engine.specs.check.CheckStates.{CheckState, HandlesLine, remaining_behavior}
-use Rattle.sum_engine.specs.check.ReadAhead.{remaining_before}
+use Rattle.sum_engine.specs.check.{Rules.Rules, Rules.LabelsValue, ReadAhead.remaining_before}
 use Rattle.sum_engine.specs.check.Verdicts.{VerdictsValue, HoldsInEachCheck}
 use Rattle.sum_engine.specs.declared.stop.Stop.TheVariants as stops
 

@@ -8,10 +8,6 @@ use Rattle.sum_engine.specs.Behavior.{ByteString, Whole, World, Content}
 abbrev pub older_profile : Profile
 older_profile = record { escapes_carriage_return = false; drops_carriage_return = false; ignores_empty = false }
 
--- the same rules under a profile
-abbrev pub rules_under : Profile → Rules → Rules
-rules_under p r = record r { profile = p }
-
 -- no byte is a carriage return
 abbrev pub HasNoCarriageReturn : ByteString → Type 0
 HasNoCarriageReturn bytes = All (λ b. b ≢ 13) bytes
@@ -32,7 +28,7 @@ pub record IsOldManifest (r : Rules) (labels : LabelsValue) (c : Content) : Type
 -- of its lines and for its end, and it is good under both or under neither
 abbrev pub OldVerdicts : Type 0
 OldVerdicts = (r : Rules) (labels : LabelsValue) (w : World) (c : Content) → IsOldManifest r labels c
-    → let old = rules_under older_profile r in let new = rules_under own_profile r in
+    → let old = record r { profile = older_profile } in let new = record r { profile = own_profile } in
     (all_verdicts old w c ≡ all_verdicts new w c)
     × (content_behavior old labels c (all_verdicts old w c) ≡ content_behavior new labels c (all_verdicts new w c))
 
