@@ -9,8 +9,7 @@ use Rattle.sum_engine.specs.Behavior.{World, answer_to, world_after, digest_or_f
 use Rattle.sum_sources.specs.Sources.{Answer}
 use Rattle.sum_engine.proofs.{ListedEntryLemmas.Item, ListedEntryLemmas.written_text, ListedEntryLemmas.Listed, GoodLemmas.manifest_good}
 use Rattle.sum_words.specs.Tools.{name_of, Algos}
-use Rattle.digests.specs.Meaning.{operands_behavior}
-use Rattle.digests.proofs.CheckWords.{request-check_words}
+use Rattle.digests.{specs.Meaning.operands_behavior, proofs.CheckWords.request-check_words}
 use Rattle.digests.specs.GenerationRuns.{IsListable, GenerationRun, generation_output, IsCheckable, HasFiles, IsAccepted}
 
 -- ---- the lines of a run

@@ -1,8 +1,7 @@
 -- Runs, one after another, and what a run's steps come to.
 use Rattle.std.proofs.Common.{rules, ◌≡◌, ℕ, Bool, List, [], ◌∷◌, ◌++◌, Result, Ok, Err, refl, ap, sym, ◌∙◌, subst, append_assoc, append-nil, flat_map, filter_map, inl}
 use Rattle.std.proofs.lemmas.{Grind.flat_map-append, List.Elements.filter_map-append}
-use Rattle.sum_lines.specs.Sinks.{written_byte}
-use Rattle.sum_lines.proofs.EventLemmas.{output_events-bytes}
+use Rattle.sum_lines.{specs.Sinks.written_byte, proofs.EventLemmas.output_events-bytes}
 use Rattle.sum_engine.specs.Execution.{Stop, Memory, Write, StreamsState, AsksNames, Agrees, world_at, Happened, with_refusals, PerformsSteps, Performs}
 use Rattle.sum_engine.specs.Behavior.{World, Step, Behavior, trace, events_of, opened_name, err_event, out_event, single_step}
 use Rattle.sum_engine.specs.{check.Checker.step_then, check.CheckerLaws.EventsExtend, Writes.WritesAndReturns}

@@ -1,7 +1,6 @@
 -- `check_one`: a manifest is opened, its checker runs to its end, and it is closed.
 use Rattle.std.proofs.Common.{rules, ◌≡◌, ℕ, Bool, false, List, [], ◌∷◌, Result, Ok, Err, None, Some, refl, ap, subst, codes, if◌then◌else◌, arith}
-use Rattle.std.specs.Prelude.{IfErr}
-use Rattle.std.proofs.lemmas.Option.{slice_get_past}
+use Rattle.std.{specs.Prelude.IfErr, proofs.lemmas.Option.slice_get_past}
 use Rattle.sum_sources.specs.{Contents.empty_reads, Sources.and_opening, Sources.gave_of, Sources.gave_at, Sources.times}
 use Rattle.sum_sources.proofs.GaveLemmas.{gave-times}
 use Rattle.sum_lines.proofs.EventLemmas.{Gets-none}

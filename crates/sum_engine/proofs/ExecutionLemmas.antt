@@ -2,8 +2,7 @@
 use Rattle.std.proofs.Common.{rules, arith, ◌≡◌, ◌<◌, ◌+◌, ℕ, List, [], ◌∷◌, ◌++◌, map, Option, None, Some, Result, Ok, Err, refl, inl, inr, append_assoc, append-nil, filter_map}
 use Rattle.std.specs.Prelude.{◌⊎◌, Any}
 use Rattle.std.proofs.lemmas.{List.map-append, List.Elements.filter_map-append}
-use Rattle.sum_lines.specs.Sinks.{Gets}
-use Rattle.sum_lines.proofs.EventLemmas.{Gets-none, Gets-then}
+use Rattle.sum_lines.{specs.Sinks.Gets, proofs.EventLemmas.Gets-none, proofs.EventLemmas.Gets-then}
 use Rattle.sum_engine.specs.Behavior.{Event, Step, SourceState, OutputEvent, output_events, open_name, to_err, to_out}
 use Rattle.sum_engine.specs.{Writes.WritesBoth, Writes.WritesAndReturns, Names.RefusesMemory}
 use Rattle.sum_engine.specs.Execution.{StreamsState, opened_names, AsksNames, Stop, Memory, Write, Happened, RunsOutOfMemory, with_refusals, PerformsSteps, none_or_one}

@@ -5,13 +5,12 @@ use Rattle.sum_engine.specs.check.Rules.{LabelsValue, Rules, rules_of, labels_of
 use Rattle.sum_engine.specs.check.Judge.{Algos, Form, Right, LineVerdictValue, judge, line_verdict, verdicts, all_verdicts, parse_line, past_line, own_profile, escape, IsEntry, form}
 use Rattle.sum_engine.specs.check.Reports.{Report, Counts, out_by, out_of, err_of, counts_of, end_text, good}
 use Rattle.sum_engine.specs.check.Checking.{CheckSettings, line_steps, content_behavior, check_behavior_by, check_behavior}
-use Rattle.sum_engine.specs.check.Checker.{step_then}
+use Rattle.sum_engine.{specs.check.Checker.step_then, proofs.CheckOneLemmas.opening}
 use Rattle.sum_engine.specs.Behavior.{Whole, World, answer_to, world_after, Behavior, out_text, err_text, is_dash, Answer, times}
 use Rattle.sum_sources.specs.Contents.{Content, limit}
 use Rattle.sum_sources.proofs.ContentLemmas.{limit-value, clip-short}
 use Rattle.sum_lines.proofs.ParsedLineLemmas.{parse_is_grammar}
 use Rattle.sum_engine.proofs.ListedEntryLemmas.{Item, written_text, Listed, prefix, spelled_for, ReadableSoFar, back, whole, lines-are}
-use Rattle.sum_engine.proofs.CheckOneLemmas.{opening}
 
 -- ---- each verdict is Right
 

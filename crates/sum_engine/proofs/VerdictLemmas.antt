@@ -2,8 +2,7 @@
 use Rattle.std.proofs.Common.{◌≡◌, List, ℕ, Bool, false, Result, Err, IfOk}
 use Rattle.sum_sources.specs.declared.sources.hash_file.HashFault.TheVariants.{Read}
 use Rattle.sum_engine.specs.{check.Judge.Verdict, check.Reports.is_unread, private.Judging.verdict_of_hash}
-use Rattle.sum_engine.specs.Names.{HashFault, NoRoom}
-use Rattle.sum_engine.proofs.HashLemmas.{IsNotBroken}
+use Rattle.sum_engine.{specs.Names.HashFault, specs.Names.NoRoom, proofs.HashLemmas.IsNotBroken}
 
 -- the verdict says that the file could not be read, if reading it failed
 pub verdict_read : (ignore : Bool) (digest : List ℕ) (found : Result (List ℕ) HashFault) (x : Result Verdict NoRoom)

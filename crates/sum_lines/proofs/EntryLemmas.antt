@@ -1,16 +1,13 @@
 -- The one form of a list of lines, and what later lines change of it: neither how a line parses nor the form after a
 -- plain line.
-use Rattle.std.proofs.lemmas.Grind.{common_steps}
+use Rattle.std.{proofs.lemmas.Grind.common_steps, specs.List.AllPass}
 use Rattle.std.proofs.Common.{ℕ, ◌≡◌, Bool, true, false, List, [], ◌∷◌, ◌++◌, Option, None, Some, refl, sym, ◌∙◌, inl, inr, arith}
-use Rattle.std.specs.List.{AllPass}
-use Rattle.digest_kinds.specs.Kinds.{KindValue}
+use Rattle.digest_kinds.{specs.Kinds.KindValue, proofs.PrefixLemmas.none_of}
 use Rattle.sum_lines.specs.grammar.Shapes.{Algos, is_blank, mark, IsPlain}
 use Rattle.sum_lines.specs.grammar.Entries.{Form, Undecided, EntryValue, is_ignored, is_ignored_by, IsForm, IsEntry, form_then, line_form, form}
 use Rattle.sum_lines.specs.{Escape.Profile, Escape.own_profile, grammar.LineParts.LinePartsValue, grammar.LineParts.plain_parts}
-use Rattle.sum_lines.specs.grammar.LineLaws.{HasOneForm}
-use Rattle.digest_kinds.proofs.PrefixLemmas.{none_of}
+use Rattle.sum_lines.specs.grammar.{LineLaws.HasOneForm, ParsedLines.entry_of, ParsedLines.parse_line}
 use Rattle.sum_lines.proofs.{TaggedLemmas.BeginsText, PlainLemmas.plain-digits, PlainLemmas.plain_is_read, PlainLemmas.read_is_plain}
-use Rattle.sum_lines.specs.grammar.ParsedLines.{entry_of, parse_line}
 
 -- a line of either shape isn't ignored, whichever the profile
 not_ignored : (p : Profile) (blanks : List ℕ) (e : Bool) (xs rest : List ℕ) → AllPass is_blank blanks → BeginsText xs

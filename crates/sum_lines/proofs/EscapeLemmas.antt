@@ -3,15 +3,13 @@
 use Rattle.std.proofs.Common.{◌≡◌, ℕ, zero, suc, ◌+◌, ◌-◌, ◌<◌, ◌≤◌, true, not, List, [], ◌∷◌, ◌++◌, length, take, drop, get_or, Option, None, Some, MatchOption, refl, ap, sym, ◌∙◌, arith, is_some, length-append, length-drop, ◌↔◌, ◌==◌, Bool, false, cond, ◌≢◌, append_assoc, All, nat_lt, rules, slice_range}
 use Rattle.std.proofs.lemmas.{Bool.false_from_ne_true, Grind.flat_map-append, Grind.common_steps, Slice.Eq.bytes_eq-Decides, Option.cond_some, List.Sums.list_all-from_AllPass, List.Folds.list_all_at}
 use Rattle.std.proofs.lemmas.List.{length-take-le, append-nil, append_cancel_left, drop-drop, drop-take, take-append-drop}
-use Rattle.std.proofs.Math.Seq.{take-length, take-append-add}
-use Rattle.std.specs.{List.list_all, Option.is_some}
+use Rattle.std.{proofs.Math.Seq.take-length, proofs.Math.Seq.take-append-add, specs.List.list_all, specs.Option.is_some}
 use Rattle.memchr.specs.Find.{Nowhere, Passes, IsFirstByte, is_byte3, is_byte}
 use Rattle.sum_lines.specs.Escape.{own_profile, escape, escape_of, escape_differs, Profile, escape_by}
 use Rattle.sum_lines.specs.{grammar.Entries.EntryValue, grammar.Entries.Standard, grammar.Entries.begins_standard, grammar.LineParts.LinePartsValue}
 use Rattle.sum_lines.specs.grammar.ParsedLines.{unescaped_bytes, unescape, entry_of_parts, parts_with_raw_name}
 use Rattle.digest_kinds.proofs.PrefixLemmas.{bind_some}
-use Rattle.sum_lines.specs.declared.reading.line_parts.LineParts.{LineParts}
-use Rattle.sum_lines.specs.private.Beginnings.{line_parts}
+use Rattle.sum_lines.specs.{declared.reading.line_parts.LineParts.LineParts, private.Beginnings.line_parts}
 
 -- what precedes the first special byte is its own escape
 pub escape-plain : (xs : List ℕ) (k : ℕ) → k ≤ length xs → Nowhere (Passes (is_byte3 92 10 13) xs) 0 k

@@ -1,14 +1,12 @@
 -- How a line parses, as it is computed, is what the line grammar says of it.
 use Rattle.std.proofs.Common.{◌≡◌, ◌↔◌, ℕ, false, List, Option, None, Some, refl, ap, sym, ◌∙◌, ◌⊎◌, inl, inr, arith}
-use Rattle.std.specs.Option.{option_or}
-use Rattle.std.proofs.lemmas.Option.{same_Some}
-use Rattle.digest_kinds.specs.Bytes.{◌>>=◌}
+use Rattle.std.{specs.Option.option_or, proofs.lemmas.Option.same_Some}
+use Rattle.digest_kinds.{specs.Bytes.◌>>=◌, proofs.PrefixLemmas.bind_some, proofs.PrefixLemmas.none_of}
 use Rattle.sum_lines.specs.{grammar.Shapes.Algos, grammar.Shapes.IsPlain, grammar.Shapes.IsTagged, Escape.Profile, Escape.own_profile, Escape.escape_by}
 use Rattle.sum_lines.specs.grammar.Entries.{Form, EntryValue, IsEntry, IsRawName, is_ignored_by}
 use Rattle.sum_lines.specs.grammar.LineParts.{LinePartsValue, tagged_parts, plain_parts}
 use Rattle.sum_lines.specs.grammar.ParsedLines.{parts_with_raw_name, entry_of_parts, entry_of, ParsedLine, bad, parse_line}
 use Rattle.sum_lines.specs.grammar.LineLaws.{HasOneEntry, FitsGrammar, ParsesByGrammar}
-use Rattle.digest_kinds.proofs.PrefixLemmas.{bind_some, none_of}
 use Rattle.sum_lines.proofs.{PlainLemmas.one_shape, PlainLemmas.plain_is_read, PlainLemmas.read_is_plain, TaggedLemmas.tagged_is_read, TaggedLemmas.read_is_tagged, EntryLemmas.entry-not_ignored, EscapeLemmas.spelled-is, EscapeLemmas.is-spelled}
 
 module _ (p : Profile) (algos : Algos) (f : Form) (line : List ℕ) where

@@ -1,12 +1,10 @@
 -- A line that is put together from the parts of a plain line is read as these parts, and no other line is read as
 -- plain. No line is both plain and tagged.
 use Rattle.std.proofs.Common.{ℕ, ◌≡◌, ◌<◌, ◌≤◌, not, Bool, true, List, ◌∷◌, ◌++◌, length, get_or, None, Some, Ok, refl, ap, sym, ◌∙◌, arith, length-drop, take_while, rules}
-use Rattle.std.proofs.Math.Seq.{drop-append-add}
+use Rattle.std.proofs.{Math.Seq.drop-append-add, lemmas.List.Sums.split_at_first, lemmas.List.Sums.passes_at_first}
 use Rattle.std.specs.List.{AllPass, before_first, after_first, position_or_len}
 use Rattle.std.proofs.lemmas.{List.take_at, List.Elements.All-head, List.Elements.All-tail, List.Elements.All-weaker}
-use Rattle.std.proofs.lemmas.List.Sums.{split_at_first, passes_at_first}
-use Rattle.hex.specs.Hex.{decode_of, is_hex_digit}
-use Rattle.hex.proofs.HexLemmas.{decode_of-ok}
+use Rattle.hex.{specs.Hex.decode_of, specs.Hex.is_hex_digit, proofs.HexLemmas.decode_of-ok}
 use Rattle.digest_kinds.specs.{Kinds.KindValue, Kinds.tag, Bytes.after_while}
 use Rattle.digest_kinds.proofs.{KindLemmas.no_digits, PrefixLemmas.prefix_passes, PrefixLemmas.prefix-and-rest, PrefixLemmas.prefix_len-stop}
 use Rattle.sum_lines.specs.grammar.Shapes.{Algo, Algos, One, Any, is_blank, IsPlain, IsTagged}

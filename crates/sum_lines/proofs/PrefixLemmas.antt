@@ -5,8 +5,7 @@ use Rattle.std.proofs.Math.Seq.{get_or-append_seam, drop-append-add}
 use Rattle.std.proofs.lemmas.{Bool.eq-eqb, Bool.Decides.Decides-eqb, List.take_at, List.get_or-append_right, List.Elements.All-get_or, Slice.Eq.starts_is, Grind.common_steps}
 use Rattle.memchr.specs.Find.{Passes, IsLast, IsLastByte, is_byte}
 use Rattle.memchr.proofs.lemmas.{FindLemmas.Nowhere-more, ValueLemmas.IsLastByte-value}
-use Rattle.digest_kinds.proofs.PrefixLemmas.{map_some}
-use Rattle.digest_kinds.specs.Bytes.{after_while}
+use Rattle.digest_kinds.{proofs.PrefixLemmas.map_some, specs.Bytes.after_while}
 use Rattle.sum_lines.specs.{grammar.LineParts.strip_prefix, grammar.LineParts.mark_and_rest, grammar.Shapes.is_blank, grammar.Shapes.mark}
 
 -- ---- a byte or a text at the start

@@ -3,8 +3,7 @@
 use Rattle.std.proofs.lemmas.{Grind.common_steps, List.append-nil, List.Folds.list_all-append, List.Sums.list_all-from_AllPass, Slice.Eq.bytes_eq-Decides}
 use Rattle.std.proofs.Common.{ℕ, ◌≡◌, ◌*◌, not, cond, Bool, true, false, ◌==◌, ◌||◌, List, [], ◌∷◌, ◌++◌, refl, ◌⊎◌, inl, inr, append_assoc, arith, decimal}
 use Rattle.std.specs.{Char.is_ascii_digit, List.AllPass, List.list_all}
-use Rattle.hex.specs.Hex.{encode_lower, is_hex_digit}
-use Rattle.hex.proofs.HexLemmas.{decode_of-encode_lower}
+use Rattle.hex.{specs.Hex.encode_lower, specs.Hex.is_hex_digit, proofs.HexLemmas.decode_of-encode_lower}
 use Rattle.digest_kinds.specs.{Kinds.KindValue, Kinds.tag, KindTexts.IsWidth, declared.algo.Algo.TheVariants.Blake2b}
 use Rattle.digest_kinds.proofs.{BitsLemmas.decimal-digits, KindLemmas.has_len-range, PrefixLemmas.none_of}
 use Rattle.sum_lines.specs.declared.writing.put_line.Mode.{Mode}

@@ -5,9 +5,8 @@ use Rattle.std.specs.{Option.option_or, Path.rsplit_once, List.position_or_len}
 use Rattle.std.proofs.lemmas.{Grind.common_steps, List.drop_at, List.get_or-take, List.length-take, List.Sums.passes_at_first, List.Sums.position_or_len_is}
 use Rattle.std.proofs.lemmas.List.Elements.{All-get_or}
 use Rattle.memchr.specs.Find.{IsFirstByte, is_byte2}
-use Rattle.hex.specs.Hex.{decode_of}
-use Rattle.hex.proofs.HexLemmas.{decode_of-ok}
-use Rattle.digest_kinds.specs.{Bytes.after_while, KindTexts.kind_and_rest}
+use Rattle.hex.{specs.Hex.decode_of, proofs.HexLemmas.decode_of-ok}
+use Rattle.digest_kinds.specs.{Bytes.after_while, KindTexts.kind_and_rest, declared.algo.Algo.TheVariants.Blake2b}
 use Rattle.digest_kinds.specs.Kinds.{KindValue, tag, IsDigits, full_len, has_len}
 use Rattle.sum_lines.specs.grammar.Shapes.{Algo, One, is_blank, Algos}
 use Rattle.sum_lines.specs.grammar.LineParts.{strip_prefix, tag_in, tagged_parts, plain_parts}
@@ -16,7 +15,6 @@ use Rattle.sum_lines.specs.declared.reading.line_parts.Front.{Front}
 use Rattle.sum_lines.proofs.PrefixLemmas.{text, opening, strip_prefix-some, starts-append, opened-some, rsplit-some}
 use Rattle.digest_kinds.proofs.{PrefixLemmas.none_of, KindTextLemmas.kind_and_rest-some, KindLemmas.has_len-full}
 use Rattle.sum_lines.proofs.PlainLemmas.{uncut, cut-within, no_prefix, plain-digits, plain-prefix, read_is_plain}
-use Rattle.digest_kinds.specs.declared.algo.Algo.TheVariants.{Blake2b}
 use Rattle.sum_lines.proofs.TaggedLemmas.{hex-no_blank, tag_in-some}
 use Rattle.sum_lines.specs.declared.reading.beginnings.Beginning.TheVariants as beginnings
 

@@ -4,7 +4,7 @@ use Rattle.std.proofs.lemmas.{Grind.common_steps, Bool.Decides.Decides-eqb, List
 use Rattle.std.proofs.Common.{ℕ, ◌≡◌, Bool, true, ◌==◌, ◌&&◌, List, [], ◌∷◌, ◌++◌, length, drop, Some, refl, ◌≢◌, false, eq-eqb, arith, nat_lt, take_while, All, rules}
 use Rattle.std.specs.{List.starts_with, List.AllPass, Option.option_or, Path.rsplit_once, Result.result_ok}
 use Rattle.std.proofs.lemmas.Bool.{eqb-true, ltb-true, and_parts, lt-ltb}
-use Rattle.hex.specs.Hex.{decode_of, is_hex_digit}
+use Rattle.hex.{specs.Hex.decode_of, specs.Hex.is_hex_digit, proofs.HexLemmas.decode_of-ok}
 use Rattle.digest_kinds.specs.{Kinds.KindValue, Kinds.all_algos, Kinds.tag, KindTexts.IsWidth, KindTexts.kind_and_rest, Bytes.after_while}
 use Rattle.digest_kinds.proofs.{KindTextLemmas.kind_and_rest-some, TagLemmas.IfSome-find-begins, TagLemmas.find-begins}
 use Rattle.sum_lines.specs.grammar.Shapes.{Algo, Algos, One, Any, is_blank, Allows, IsTagged, mark}
@@ -13,7 +13,6 @@ use Rattle.sum_lines.proofs.PrefixLemmas.{text, opening, mark_and_rest-is, strip
 use Rattle.digest_kinds.proofs.PrefixLemmas.{bind_some, ok_some, prefix_passes, prefix-and-rest, parts-at, prefix_len-all}
 use Rattle.digest_kinds.proofs.BitsLemmas.{kind_of_digits-bits, decimal-digits}
 use Rattle.std.proofs.lemmas.List.Elements.{All-cons, All-head, All-append, All-weaker}
-use Rattle.hex.proofs.HexLemmas.{decode_of-ok}
 
 -- ---- the tag
 

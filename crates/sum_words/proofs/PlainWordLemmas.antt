@@ -1,7 +1,6 @@
 -- Plain words are operands.
 use Rattle.std.proofs.Common.{rules, ◌≡◌, true, false, Bool, not, List, [], ◌∷◌, ◌++◌, map, codes, refl, ap, bytes_eq}
-use Rattle.std.specs.List.{AllPass}
-use Rattle.std.proofs.lemmas.List.Elements.{All-head, All-tail}
+use Rattle.std.{specs.List.AllPass, proofs.lemmas.List.Elements.All-head, proofs.lemmas.List.Elements.All-tail}
 use Rattle.sum_words.specs.declared.tool.Tool.{Tool}
 use Rattle.sum_words.specs.Items.{ByteString, operand, a_word, is_option_word, items_from}
 

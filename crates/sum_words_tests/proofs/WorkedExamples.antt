@@ -1,13 +1,11 @@
 -- Worked examples: what the definitions say of some command lines, computed.
 use Rattle.std.proofs.Common.{rules, ◌≡◌, ◌==◌, ◌≤◌, List, ℕ, [], ◌∷◌, None, Some, Result, Ok, Err, refl, codes, true, false, length}
-use Rattle.std.specs.Prelude.{⊤}
-use Rattle.std.specs.{List.slice_split, Str.byte, Str.chars, Str.is_utf8}
+use Rattle.std.specs.{Prelude.⊤, List.slice_split, Str.byte, Str.chars, Str.is_utf8}
 use Prim.Native.String.{String}
 use lib.Utf8.{encode}
 use Rattle.sum_lines.specs.grammar.Shapes.{Algo, One, Any}
 use Rattle.digest_kinds.specs.declared.algo.Algo.TheVariants.{Md5, Sha256, Blake2b}
-use Rattle.sum_words.specs.Request.{Mode, request}
-use Rattle.sum_words.specs.declared.parsing.request.Request.{Request}
+use Rattle.sum_words.specs.{Request.Mode, Request.request, declared.parsing.request.Request.Request}
 use Rattle.sum_words.specs.declared.parsing.request.Request.TheVariants.{Generate, Check, Help, Version}
 use Rattle.sum_words.specs.declared.parsing.options.Spelling.TheVariants.{Long, Short}
 use Rattle.sum_words.specs.{CommandLines.command_line, CommandLines.NeedsMemory, Items.ByteString, Items.name_or_fault, Items.option_of_letter, Tools.tool_called}

@@ -1,6 +1,5 @@
 use Rattle.std.proofs.Common.{◌≡◌, ◌∙◌, ◌++◌, ◌∷◌, [], None, List, ℕ, refl, ap, sym, arith}
-use Rattle.std.specs.Prelude.{MatchBool}
-use Rattle.std.proofs.lemmas.List.{map-append}
+use Rattle.std.{specs.Prelude.MatchBool, proofs.lemmas.List.map-append}
 use Rattle.sum_sources.specs.{WithStdin.closed_place, WithStdin.is_dash, WithStdin.is_stdin, WithStdin.answer_of_both, WithStdin.TakesStdin, StandardInput.StdinPlace, StandardInput.given_input, StandardInput.put_back, StandardInput.after_taking, Contents.InputState, Sources.SourceState, Sources.and_opening, Sources.names_of, declared.sources.opened.Place.Place, declared.sources.opened.Place.TheVariants.File, declared.sources.opened.Place.TheVariants.Stdin}
 use Rattle.sum_sources.proofs.GaveLemmas.{is_open_last, names-closed}
 use Rattle.sum_sources_tests.proofs.standard_input.visit.Goals as goal

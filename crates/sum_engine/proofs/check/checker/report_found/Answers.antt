@@ -1,6 +1,5 @@
 use Rattle.std.proofs.Common.{rules, ◌≡◌, ℕ, List, [], None, Some, Ok, Err, refl}
-use Rattle.sum_lines.proofs.EventLemmas.{Gets-none}
-use Rattle.sum_lines.specs.Escape.{Profile, own_profile}
+use Rattle.sum_lines.{proofs.EventLemmas.Gets-none, specs.Escape.Profile, specs.Escape.own_profile}
 use Rattle.sum_engine.specs.{check.Judge.Ignored, check.Reports.Report, check.Reports.out_by}
 use Rattle.sum_engine.specs.declared.settings.Report.TheVariants.{Quiet, Status}
 use Rattle.sum_sources.specs.declared.line_reader.LineStop.TheVariants.{Fault}

@@ -1,8 +1,6 @@
-use Rattle.std.proofs.Common.{sym, arith, length, ◌∙◌}
-use Rattle.std.proofs.lemmas.Bool.{eqb-false}
+use Rattle.std.proofs.{Common.sym, Common.arith, Common.length, Common.◌∙◌, lemmas.Bool.eqb-false}
 use Rattle.sum_lines.proofs.ScanLemmas.{two_digits, decoded-digits, front-ends, name_place, tagged-none, tagged-read}
-use Rattle.sum_lines.specs.grammar.Shapes.{One}
-use Rattle.sum_lines.proofs.{PrefixLemmas.text, TaggedLemmas.tag_in-some}
+use Rattle.sum_lines.{specs.grammar.Shapes.One, proofs.PrefixLemmas.text, proofs.TaggedLemmas.tag_in-some}
 use Rattle.sum_lines.proofs.reading.tagged.tagged.Goals as goal
 
 -- the text begins with the tag

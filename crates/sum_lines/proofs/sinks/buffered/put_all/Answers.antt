@@ -1,5 +1,4 @@
-use Rattle.std.proofs.Common.{[], append-nil, sym, arith}
-use Rattle.std.proofs.lemmas.Grind.{common_steps}
+use Rattle.std.proofs.{Common.[], Common.append-nil, Common.sym, Common.arith, lemmas.Grind.common_steps}
 use Rattle.sum_lines.proofs.SinkLemmas.{HasLeft-step, HasLeft-stop}
 use Rattle.sum_lines.proofs.sinks.buffered.put_all.Goals as goal
 

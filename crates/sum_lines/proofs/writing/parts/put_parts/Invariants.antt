@@ -1,6 +1,5 @@
 use Rattle.std.proofs.Common.{drop}
-use Rattle.sum_lines.specs.PartTexts.{parts_text}
-use Rattle.sum_lines.proofs.SinkLemmas.{HasLeft}
+use Rattle.sum_lines.{specs.PartTexts.parts_text, proofs.SinkLemmas.HasLeft}
 use Rattle.sum_lines.proofs.writing.parts.put_parts.Given as goal
 
 abbrev pub invariant-loop-part : goal.invariant-loop-part

@@ -1,5 +1,4 @@
-use Rattle.std.proofs.Common.{◌≡◌}
-use Rattle.std.specs.Io.KnownBytes.{Keeps}
+use Rattle.std.{proofs.Common.◌≡◌, specs.Io.KnownBytes.Keeps}
 use Rattle.sum_lines.proofs.sinks.from_write.FromWriteSink.write.Given as goal
 
 abbrev pub invariant-loop : goal.invariant-loop

@@ -1,5 +1,4 @@
-use Rattle.std.proofs.Common.{◌≡◌, length}
-use Rattle.std.specs.Io.KnownBytes.{Keeps}
+use Rattle.std.{proofs.Common.◌≡◌, proofs.Common.length, specs.Io.KnownBytes.Keeps}
 use Rattle.sum_sources.proofs.inputs.from_read_uninterrupted.FromReadInput.read.Given as goal
 
 -- interruptions take no byte, and end nothing
