@@ -1,6 +1,6 @@
 -- Standard input and a source of files, as one source.
 use Rattle.std.specs.Prelude.{ℕ, zero, suc, Bool, true, false, ◌≡◌, ◌∷◌, codes, bytes_eq, filter, not, Option, None}
-use Rattle.std.specs.{Prelude.Some, Prelude.Ok, Prelude.List, Prelude.[], Prelude.if◌then◌else◌, Option.option_map}
+use Rattle.std.specs.Prelude.{Some, Ok, List, [], if◌then◌else◌, option_map}
 use Rattle.sum_sources.specs.Contents.{Content, InputState, HasContent, empty_content}
 use Rattle.sum_sources.specs.StandardInput.{closable_state, given_input, after_taking, put_back, StdinPlace}
 use Rattle.sum_sources.specs.Sources.{Answers, Pair, ToldAnswers, SourceState, Opening, after_closing}
