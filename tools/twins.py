@@ -15,15 +15,14 @@ from sources import TOP, kit  # noqa: E402  (nothing is to be left beside these 
 RT, OUT = runpy.run_path(f"{kit()}/bin/rt"), Path(TOP, "out", "twins")  # the kit's own code applies and tries edits
 
 
-def twin_of(folder, name):
-    """The twin of a wrong version as an edit, if it has one; it must, if it adds a function, a type or a call."""
-    edit, path = (folder / f"must-fail/{name}.edit").read_text("utf-8"), folder / f"twins/{name}.twin"
-    pairs = re.findall(r"(?m)^wrong: (.*)\nright: ?(.*)", path.read_text("utf-8") if path.exists() else "")
+def twin_of(path):
+    """The twin of a wrong version as an edit. There must be one if that adds a function, a type or a call."""
+    edit, *pairs = re.split(r"(?m)^wrong: (.*)\nright: ?(.*)\n", path.read_text("utf-8"))
     old, new = (re.findall(r"\b(?:fn|struct) |\b[a-z]\w*\(", "".join(re.findall(f"(?m)^{it}: .*", edit)))
                 for it in ("old", "new"))
-    if len(new) > len(old) and not pairs or any(edit.count(wrong) != 1 for wrong, _ in pairs):
-        sys.exit(f"{path} isn't there, or has a text that isn't in the wrong version once")
-    for wrong, right in pairs:
+    assert pairs or len(new) <= len(old), f"{path} has no twin"
+    for wrong, right in zip(pairs[::3], pairs[1::3]):
+        assert edit.count(wrong) == 1, f"{path} doesn't have this once: {wrong}"
         edit = edit.replace(wrong, right)
     return edit if pairs else ""
 
@@ -33,16 +32,15 @@ def refused(crate):
     def accepts(edit):
         return not RT["checked"](crate, RT["edited"](edit, crate.folder)[0], [], OUT / "work").returncode
 
-    folder, kept, joined = Path(crate.folder), OUT / crate.name, []
-    names = sorted({it.stem for part in ("must-fail", "twins") for it in (folder / part).glob("*.*")})
-    twins = {name: edit for name in names if (edit := twin_of(folder, name))}
-    state = repr((crate.stamp(), twins))
+    twins = {it.stem: twin for it in sorted(Path(crate.folder, "must-fail").glob("*")) if (twin := twin_of(it))}
+    state, kept, joined = repr((crate.stamp(), twins)), OUT / crate.name, []
     if not twins or "--anew" not in sys.argv and kept.exists() and kept.read_text("utf-8") == state:
         return []
     shutil.rmtree(OUT / "work", ignore_errors=True)
-    shutil.copytree(folder / "out" / "incremental", OUT / "work")
-    for edit in twins.values():
-        at = next((n for n, it in enumerate(joined) if RT["edited"](it + edit, crate.folder)[0]), len(joined))
+    shutil.copytree(f"{crate.folder}/out/incremental", OUT / "work")
+    for edit in sorted(twins.values(), key=lambda it: it.count("file: ") > 3):  # one that changes much is tried alone
+        others = joined if edit.count("file: ") < 4 else []
+        at = next((n for n, it in enumerate(others) if RT["edited"](it + edit, crate.folder)[0]), len(joined))
         joined[at:at + 1] = ["".join(joined[at:at + 1]) + edit]
     accepted = "".join(filter(accepts, joined))
     bad = [name for name, edit in twins.items() if edit not in accepted and not accepts(edit)]
@@ -52,5 +50,5 @@ def refused(crate):
 
 
 if __name__ == "__main__":
-    crates = [it for it in RT["rtlib"].crates_below(TOP) if {*sys.argv[1:]} <= {"--anew"} or it.name in sys.argv]
-    sys.exit(any([refused(it) for it in crates]))
+    named = {*sys.argv[1:]} - {"--anew"}
+    sys.exit(any([refused(it) for it in RT["rtlib"].crates_below(TOP) if not named or it.name in named]))
