@@ -55,7 +55,6 @@ class Install(Repository):
 
     def theirs(self, *paths):
         for path in paths:
-            os.makedirs(os.path.dirname(self.at(path)), exist_ok=True)
             self.write(self.at(path), "theirs")
 
     def expect_named(self, paths, *words, **how):
