@@ -184,8 +184,9 @@ class Case(unittest.TestCase):
         self.expect(words, err=err, status=1)
 
     def start(self, words, folder=None, **how):
-        """Starts `digests` with these words in the test's folder or another one; it is ended with the test."""
-        started = subprocess.Popen([PROGRAM, *as_words(words)], cwd=folder or self.folder, **how)
+        """Starts `digests` with these words in the test's folder or another one; it is ended with the test. Pipes to it
+        and from it have no buffers."""
+        started = subprocess.Popen([PROGRAM, *as_words(words)], bufsize=0, cwd=folder or self.folder, **how)
         self.addCleanup(end, started)
         return started
 
