@@ -8,6 +8,7 @@ import signal
 import subprocess
 
 import harness
+import reference
 from harness import NAMES, TOOLS, Case, Ran, hasher
 from manual import PAGES, sections_of
 
@@ -58,10 +59,8 @@ def recipes_of(page):
 
 def line_of(tool, name, content, tagged=False):
     """The line of a list, as the standards and the page's LINE FORMATS say."""
-    escaped = name.replace(b"\\", b"\\\\").replace(b"\n", b"\\n").replace(b"\r", b"\\r")
-    tag, digits = TOOLS[tool][0], hasher(TOOLS[tool][0], content).hexdigest().encode()
-    mark = b"\\" if escaped != name else b""
-    return mark + (tag.encode() + b" (" + escaped + b") = " + digits if tagged else digits + b"  " + escaped) + b"\n"
+    tag, _, _ = TOOLS[tool]
+    return reference.line("tag" if tagged else "text", False, tag, name, hasher(tag, content).digest())
 
 
 # The lines of the image by two tools.
