@@ -14,7 +14,7 @@ class Digests(Case):
             self.expect([tool, "a", "e"], out=[f"{of_abc}  a", f"{of_nothing}  e"])
 
     def test_sizes_around_blocks_and_pieces(self):
-        """Python's own digests over the sizes at which a block, a padding or the reading buffer ends, and over 17 MB."""
+        """Python's own digests of 17 MB, and of the sizes at which a block, a padding or the reading buffer ends."""
         near = [base + step for base in (56, 64, 112, 128, 256, 8192, 16384, 65536) for step in (-1, 0, 1)]
         content = bytes(range(251)) * 70000
         files = {f"n{size}": content[:size] for size in [*near, len(content)]}
