@@ -13,18 +13,23 @@ from harness import E, M, WRITE_ERROR, X_MISSING, Case, as_bytes, bad, unread, w
 class FirstLines(Case):
     def test_a_line_before_the_next_file_is_there(self):
         """`md5sum a fifo | while read line` shows the first line at once, and so does a terminal. The named pipe, which
-        nobody feeds yet, holds the program at the next name."""
+        nobody feeds yet, holds the program at the next name, of an operand or of a listed file."""
         os.mkfifo(self.path("p"))
-        for words, end in (("md5sum a p e", "\n"), ("md5sum -z a p e", "\0")):
+        self.write("l", [f"{M}  a", f"{M}  p", f"{M}  a"])
+        for words, output, status, first, rest in (
+                ("md5sum a p e", "stdout", 0, [f"{M}  a"], [f"{M}  p", f"{E}  e"]),
+                ("md5sum -z a p e", "stdout", 0, f"{M}  a\0", f"{M}  p\0{E}  e\0"),
+                ("md5sum -c l", "stdout", 0, ["a: OK"], ["p: OK", "a: OK"]),
+                ("md5sum x p", "stderr", 1, [X_MISSING], b"")):
             for shows, writes in (os.pipe(), self.terminal()):
-                started = self.start(words, stdout=writes)
+                started = self.start(words, **{"stdout": subprocess.DEVNULL, output: writes})
                 os.close(writes)
-                self.shown(shows, f"{M}  a{end}")
+                self.shown(shows, first)
                 self.assertIsNone(started.poll())
                 with self.fed("p") as pipe:
                     pipe.write(b"abc")
-                self.assertEqual(started.wait(timeout=harness.RUN_SECONDS), 0)
-                self.shown(shows, f"{M}  p{end}{E}  e{end}")
+                self.assertEqual(started.wait(timeout=harness.RUN_SECONDS), status)
+                self.shown(shows, rest)
 
 
 class Ended(Case):

@@ -17,7 +17,7 @@ class Build(Repository):
         ran = self.script("digests", "md5sum", "a")
         self.assertEqual((ran.status, ran.out, self.calls), (0, OF_A.out, calls), why)
         self.assertEqual((self.script("digests", "md5sum", "a"), self.calls), (OF_A, []), why)
-        self.assertEqual(len({it.split(b" of ")[1] for it in self.programs().values()}), 1, "they have the same sources")
+        self.assertEqual(len({it.split(b" of ")[1] for it in self.programs().values()}), 1, "of the same sources")
         return ran.err.decode()
 
     def test_a_first_build(self):
@@ -71,7 +71,8 @@ class Build(Repository):
     def test_after_a_power_cut(self):
         """An empty program is neither run nor installed, but built anew. What isn't synced doesn't count as built."""
         self.build()
-        for names, calls in ((["out/digests"], BOTH), (["out/default/digests", "crates/digests_main/out/digests_main"], ASKED)):
+        for names, calls in ((["out/digests"], BOTH),
+                             (["out/default/digests", "crates/digests_main/out/digests_main"], ASKED)):
             for name in names:
                 self.put(name, "")
             said = self.expect_built(names, calls)
@@ -114,7 +115,7 @@ class HowFar(Repository):
             shown += os.read(self.screen, 65536).decode()
 
     def test_parallel(self):
-        """Two crates are proved at a time, and each one's line counts its functions. If one fails, the other goes on."""
+        """Two crates are proved at a time; each one's line counts its functions. If one fails, the other goes on."""
         if int(re.search(r"MemAvailable: *(\d+)", text_of("/proc/meminfo"))[1]) < 8000000:
             self.skipTest("there is too little memory for two crates at a time")
         started, low = self.begin(4, RT_FAILS="lib low")

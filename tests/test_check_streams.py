@@ -20,7 +20,6 @@ class WhileItComes(Case):
             for line, report in ((f"{M}  a", "a: OK"), (f"{M}  e", "e: FAILED"), (f"{E}  e", "e: OK"),
                                  (f"{M}  x", "x: FAILED open or read")):
                 started.stdin.write(as_bytes([line]))
-                started.stdin.flush()
                 self.shown(shows, [report])
             self.shown(started.stderr.fileno(), [X_MISSING])
             self.assertIsNone(started.poll())
@@ -30,22 +29,9 @@ class WhileItComes(Case):
         started = self.start("md5sum -cw", stdin=subprocess.PIPE, stdout=subprocess.DEVNULL, stderr=subprocess.PIPE)
         for number in (1, 2, 3):
             started.stdin.write(b"junk\n")
-            started.stdin.flush()
             named = f"md5sum: standard input: {number}: improperly formatted MD5 checksum line"
             self.shown(started.stderr.fileno(), [named])
         self.assertIsNone(started.poll())
-
-    def test_a_listed_file_that_comes_late(self):
-        os.mkfifo(self.path("p"))
-        self.write("l", [f"{M}  a", f"{M}  p", f"{M}  a"])
-        for shows, writes in (self.terminal(), os.pipe()):
-            started = self.start("md5sum -c l", stdout=writes)
-            os.close(writes)
-            self.shown(shows, ["a: OK"])
-            with open(self.path("p"), "wb") as pipe:
-                pipe.write(b"abc")
-            self.shown(shows, ["p: OK", "a: OK"])
-            self.assertEqual(started.wait(timeout=harness.RUN_SECONDS), 0)
 
     def test_lines_longer_than_a_pipe_holds(self):
         long = "#" * 300000

@@ -25,7 +25,6 @@ class Shell:
         super().setUp()
         if shutil.which(self.shell) is None:
             self.skipTest(f"{self.shell} isn't installed")
-        os.mkdir(self.path("here"))
         for name in ("some", "some more"):
             self.write(f"here/{name}", "")
         texts = shells.completions(harness.PROGRAM, NAMES)

@@ -28,10 +28,9 @@ class FailedRead(Traced):
         for number in (errno.EIO, errno.EAGAIN):
             error, reason = errno.errorcode[number], REASONS.get(number, OTHER)
             for read, out in enumerate(outs, 1):
-                with open(self.path(stdin), "rb") as file:
-                    only = os.fsdecode(self.path(name))
-                    ran, _ = self.failing("read", error, words, only=only, when=str(read), stdin=file)
-                    self.assertEqual(ran, Ran(1, as_bytes(out), err % reason), (words, error, read))
+                how = {"only": self.path(name), "when": str(read), "stdin": self.opened(stdin)}
+                ran, _ = self.failing("read", error, words, **how)
+                self.assertEqual(ran, Ran(1, as_bytes(out), err % reason), (words, error, read))
 
     def test_hashing(self):
         """A part of the file gives no digest."""
@@ -54,22 +53,17 @@ class FailedRead(Traced):
         self.expect_each("l", "md5sum -c l", outs, b"md5sum: l: %s\n")
         self.expect_each("l", "md5sum -c", outs, b"md5sum: standard input: %s\n", stdin="l")
 
-    def expect_failure(self, words, stdin):
+    def test_each_read_of_a_run(self):
         """A run whose status is 0 has another one if one of its reads fails, whichever that is: of an operand, a list,
         a listed file or standard input. The first reads are the loader's."""
-        ran, calls = self.traced("-e trace=read", words, stdin=self.opened(stdin))
-        self.assertEqual(ran.status, 0, ran)
-        for read in range(1, len(calls) + 1):
-            with open(self.path(stdin), "rb") as file:
-                ran, _ = self.failing("read", "EIO", words, when=str(read), stdin=file)
-            self.assertIn(ran.status, (1, 127), (words, read, ran))
-        self.assertGreater(len(calls), 3 * READS)
-
-    def test_each_read_of_a_run(self):
-        self.expect_failure("sha256sum f a - e f", "f")
-
-    def test_each_read_of_a_check(self):
         self.write("l", [self.line, f"#{'#' * PIECE}", f"{M}  a", f"{E}  e"])
         self.write("-l", [f"{M}  a", f"{hashlib.md5(self.read('l')).hexdigest()}  -"])
-        for words in ("md5sum -c l -- -l", "md5sum -c l - l", "md5sum -c --status --ignore-missing l - l"):
-            self.expect_failure(words, "l")
+        for words, stdin in (("sha256sum f a - e f", "f"), ("md5sum -c l -- -l", "l"), ("md5sum -c l - l", "l"),
+                             ("md5sum -c --status --ignore-missing l - l", "l")):
+            ran, calls = self.traced("-e trace=read", words, stdin=self.opened(stdin))
+            self.assertEqual(ran.status, 0, ran)
+            for read in range(1, len(calls) + 1):
+                with open(self.path(stdin), "rb") as file:
+                    ran, _ = self.failing("read", "EIO", words, when=str(read), stdin=file)
+                self.assertIn(ran.status, (1, 127), (words, read, ran))
+            self.assertGreater(len(calls), 3 * READS)

@@ -20,7 +20,6 @@ class Beside(Case):
         super().setUp()
         if missing := [tool for tool in GNU_TOOLS if gnu(tool) is None]:
             self.skipTest(f"GNU coreutils has no {missing[0]} here")
-        os.mkdir(self.path("d"))
         self.names = NAMES
         chance = random.Random(1)
         for i, name in enumerate(self.names + BACKSLASH_NAMES):

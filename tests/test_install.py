@@ -9,7 +9,7 @@ import tempfile
 from harness import GNU_TOOLS, NAMES, TOOLS, Ran
 from sources import text_of
 from repository import DEFAULT, FAST, OF_A, Repository
-from tracing import each_end, needs_strace, strace
+from tracing import each_end, needs_strace
 
 CURRENT, MAN, ALL, OWN = "lib/digests/current", "share/man/man1", "--all-names", "--only-own-names"
 BASH, FISH, ZSH = "share/bash-completion/completions", "share/fish/vendor_completions.d", "share/zsh/site-functions"
@@ -55,7 +55,6 @@ class Install(Repository):
 
     def theirs(self, *paths):
         for path in paths:
-            os.makedirs(os.path.dirname(self.at(path)), exist_ok=True)
             self.write(self.at(path), "theirs")
 
     def expect_named(self, paths, *words, **how):

@@ -2,6 +2,7 @@
 Only a file that isn't there is missing."""
 
 import errno
+import itertools
 import os
 import pty
 import re
@@ -103,27 +104,18 @@ class Reasons(Case):
 
     @needs_strace
     def test_numbers(self):
-        """Each number of the system, of an opening and a read. What is interrupted is tried again: an opening without
-        an end, a read up to a limit."""
+        """Each number of the system, of an opening and a read; some of them wherever the file is named, as GNU's tool
+        says it. A number without a text of its own is an input/output error. What is interrupted is tried again: an
+        opening without an end, a read up to a limit."""
         path = os.fsdecode(self.path("f"))
         self.write("f", "abc")
-        for number in range(1, 141):
-            for call in ("openat", "read"):
-                if (number, call) == (errno.EINTR, "openat"):
-                    continue
-                reason = OTHER if number == errno.EINTR else REASONS.get(number, OTHER)
-                ran = self.run_tool(self.folder, path, self.fails_by(number, call, path))
-                self.assertEqual(ran, Ran(1, b"", b"md5sum: %s: %s\n" % (os.fsencode(path), reason)), (number, call))
-
-    @needs_strace
-    def test_calls_that_fail(self):
-        """Whatever the system says of an opening or a read, as GNU's tool says it. A number without a text of its own
-        is an input/output error."""
-        path = os.fsdecode(self.path("f"))
-        self.write("f", "abc")
-        for number in FAILURES:
-            for call in ("openat", "read"):
-                front = self.fails_by(number, call, path)
-                reason, opened = REASONS.get(number, OTHER), call == "read"
+        for number, call in itertools.product(range(1, 141), ("openat", "read")):
+            if (number, call) == (errno.EINTR, "openat"):
+                continue
+            front, opened = self.fails_by(number, call, path), call == "read"
+            reason = OTHER if number == errno.EINTR else REASONS.get(number, OTHER)
+            ran = self.run_tool(self.folder, path, front)
+            self.assertEqual(ran, Ran(1, b"", b"md5sum: %s: %s\n" % (os.fsencode(path), reason)))
+            if number in FAILURES:
                 self.expect_each(path, reason, missing=number == errno.ENOENT and not opened, opened=opened,
                                  alike=reason.decode() == os.strerror(number), front=front)

@@ -8,6 +8,7 @@ import signal
 import subprocess
 
 import harness
+import reference
 from harness import NAMES, TOOLS, Case, Ran, hasher
 from manual import PAGES, sections_of
 
@@ -58,10 +59,8 @@ def recipes_of(page):
 
 def line_of(tool, name, content, tagged=False):
     """The line of a list, as the standards and the page's LINE FORMATS say."""
-    escaped = name.replace(b"\\", b"\\\\").replace(b"\n", b"\\n").replace(b"\r", b"\\r")
-    tag, digits = TOOLS[tool][0], hasher(TOOLS[tool][0], content).hexdigest().encode()
-    mark = b"\\" if escaped != name else b""
-    return mark + (tag.encode() + b" (" + escaped + b") = " + digits if tagged else digits + b"  " + escaped) + b"\n"
+    tag, _, _ = TOOLS[tool]
+    return reference.line("tag" if tagged else "text", False, tag, name, hasher(tag, content).digest())
 
 
 # The lines of the image by two tools.
@@ -78,11 +77,10 @@ class Typed(Case):
         for command in COMMANDS:
             if shutil.which(command) is None:
                 self.skipTest(f"{command} isn't installed")
-        os.mkdir(self.path("commands"))
-        for name in PAGES:
-            os.symlink(harness.PROGRAM, self.path(f"commands/{name}"))
         self.command("pv", 'exec cat "$@"')
         self.command("gpg", "[ \"$*\" = '--decrypt SUMS.asc' ] && exec grep -x '[0-9a-f]*  ./image.iso' SUMS")
+        for name in PAGES:
+            os.symlink(harness.PROGRAM, self.path(f"commands/{name}"))
         self.env = {**os.environ, "PATH": os.fsdecode(self.path("commands")) + os.pathsep + os.environ["PATH"],
                     "TMPDIR": self.folder}
 
@@ -94,10 +92,8 @@ class Typed(Case):
         self.write_command(name, f"#!/bin/sh\n{script}\n")
 
     def put(self, name, content="more"):
-        """Makes a file in the tree, and the folders above it."""
-        path = os.path.join(self.path("here"), harness.as_bytes(name))
-        os.makedirs(os.path.dirname(path), exist_ok=True)
-        self.write(path, content)
+        """Makes a file in the tree."""
+        self.write(os.path.join(b"here", harness.as_bytes(name)), content)
 
     def make(self, good=True, more=()):
         """A new tree, with the good names or none, and with more. Each file but the image holds its own name."""

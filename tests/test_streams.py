@@ -18,7 +18,6 @@ class StandardInput(Case):
         started = self.start("sha256sum", stdin=subprocess.PIPE, stdout=subprocess.PIPE)
         for piece in (b"a", b"b", b"c"):
             started.stdin.write(piece)
-            started.stdin.flush()
         out, _ = started.communicate(timeout=harness.RUN_SECONDS)
         self.assertEqual(out, f"{harness.S}  -\n".encode())
         self.write("f", "xxabc")
@@ -71,15 +70,6 @@ class Outputs(Case):
             self.assertEqual(started.stdout.read(10), M[:10].encode())
             started.stdout.close()
             self.assertEqual(started.stderr.read(), WRITE_ERROR)
-            self.assertEqual(started.wait(timeout=harness.RUN_SECONDS), 1)
-
-    def test_a_terminal_and_a_pipe_as_standard_error(self):
-        os.mkfifo(self.path("p"))
-        for shows, writes in (self.terminal(), os.pipe()):
-            started = self.start("md5sum x p", stdout=subprocess.DEVNULL, stderr=writes)
-            os.close(writes)
-            self.shown(shows, [X_MISSING])
-            self.opened("p", "wb").close()
             self.assertEqual(started.wait(timeout=harness.RUN_SECONDS), 1)
 
 

@@ -10,10 +10,10 @@ import subprocess
 import harness
 from harness import M, NAMES, S, TOOLS, VERDICTS, VERDICTS_ERR, VERDICTS_OUT, X_MISSING
 from harness import WRITE_ERROR, Case, Ran, as_bytes, as_words
+from reference import line
 from reference_words import help_text
 
 SPECIAL = "q\\\nz\r"
-SPECIAL_SHOWN = "q\\\\\\nz\\r"
 SET_PIPE_SIZE = 1031  # Python names it from 3.10 on
 
 
@@ -65,17 +65,11 @@ class OneWriteALine(Packets):
         self.expect_packets("sha256sum", out=[f"{S}  -\n"], stdin=self.opened("a"))
         self.write(SPECIAL, "abc")
         for tool, (tag, of_nothing, of_abc) in TOOLS.items():
-            forms = {
-                "-t": [f"{of_abc}  a\n", f"{of_nothing}  e\n", f"\\{of_abc}  {SPECIAL_SHOWN}\n"],
-                "-b": [f"{of_abc} *a\n", f"{of_nothing} *e\n", f"\\{of_abc} *{SPECIAL_SHOWN}\n"],
-                "--tag": [f"{tag} (a) = {of_abc}\n", f"{tag} (e) = {of_nothing}\n",
-                          f"\\{tag} ({SPECIAL_SHOWN}) = {of_abc}\n"],
-                "-z": [f"{of_abc}  a\0", f"{of_nothing}  e\0", f"{of_abc}  {SPECIAL}\0"],
-                "-zb": [f"{of_abc} *a\0", f"{of_nothing} *e\0", f"{of_abc} *{SPECIAL}\0"]}
-            for style, lines in forms.items():
-                self.expect_packets([tool, style, "a", "e", SPECIAL], out=lines)
-            self.expect_packets([tool, "-z", "--tag", "a", SPECIAL], out=[
-                f"{tag} (a) = {of_abc}\0", f"{tag} ({SPECIAL}) = {of_abc}\0"])
+            found = {name: bytes.fromhex(it) for name, it in (("a", of_abc), ("e", of_nothing), (SPECIAL, of_abc))}
+            for style, mode in (("-t", "text"), ("-b", "binary"), ("--tag", "tag"), ("-z", "text"), ("-zb", "binary"),
+                                ("-z --tag", "tag")):
+                lines = [line(mode, "z" in style, tag, name.encode(), it) for name, it in found.items()]
+                self.expect_packets([tool, *style.split(), *found], out=lines)
 
     def test_help_and_faults_of_the_words(self):
         for tool in NAMES:

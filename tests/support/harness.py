@@ -83,19 +83,14 @@ def gnu(tool):
     return None
 
 
-def bad(count, tool="md5sum"):
-    """The warning for improperly formatted lines."""
-    return f"{tool}: WARNING: " + ("1 line is" if count == 1 else f"{count} lines are") + " improperly formatted"
+def warning(one, many, count, tool="md5sum"):
+    """The warning for this many lines of a manifest, or listed files."""
+    return f"{tool}: WARNING: {count} {one if count == 1 else many}"
 
 
-def unread(count, tool="md5sum"):
-    """The warning for listed files that could not be read."""
-    return f"{tool}: WARNING: " + ("1 listed file" if count == 1 else f"{count} listed files") + " could not be read"
-
-
-def wrong(count, tool="md5sum"):
-    """The warning for digests that differ."""
-    return f"{tool}: WARNING: {count} computed checksum" + ("" if count == 1 else "s") + " did NOT match"
+bad = functools.partial(warning, "line is improperly formatted", "lines are improperly formatted")
+unread = functools.partial(warning, "listed file could not be read", "listed files could not be read")
+wrong = functools.partial(warning, "computed checksum did NOT match", "computed checksums did NOT match")
 
 
 # "All verdicts": a manifest that comes to every verdict, and what it writes to both outputs.
@@ -146,7 +141,8 @@ class Case(unittest.TestCase):
         return os.path.join(os.fsencode(self.folder), as_bytes(name))
 
     def write(self, name, content):
-        """Makes a file in the test's folder."""
+        """Makes a file in the test's folder, and the folders above it."""
+        os.makedirs(os.path.dirname(self.path(name)), exist_ok=True)
         with open(self.path(name), "wb") as file:
             file.write(as_bytes(content))
 
@@ -188,8 +184,9 @@ class Case(unittest.TestCase):
         self.expect(words, err=err, status=1)
 
     def start(self, words, folder=None, **how):
-        """Starts `digests` with these words in the test's folder or another one; it is ended with the test."""
-        started = subprocess.Popen([PROGRAM, *as_words(words)], cwd=folder or self.folder, **how)
+        """Starts `digests` with these words in the test's folder or another one; it is ended with the test. Pipes to it
+        and from it have no buffers."""
+        started = subprocess.Popen([PROGRAM, *as_words(words)], bufsize=0, cwd=folder or self.folder, **how)
         self.addCleanup(end, started)
         return started
 

@@ -10,7 +10,7 @@ import os
 import re
 
 import options
-from harness import Ran, hasher
+from harness import Ran, as_bytes, bad, hasher, unread, wrong
 
 # Tool: the tag of its algorithm and the length of its full digest. `anysum` has none of its own.
 ALGORITHMS = {tool: (it.tag, (it.bits or 0) // 8) for tool, it in options.TOOLS.items()}
@@ -166,7 +166,7 @@ class Manifest:
         self.options, self.world, self.name = options, world, name
         self.tag = ALGORITHMS[tool][0]
         self.shown = tool.encode() + b": " + (b"standard input" if name == b"-" else escape(name)) + b": "
-        self.tool = tool.encode() + b": "
+        self.tool = tool
         self.out, self.err, self.verdicts = [], [], []
         answer = world.answer(name)
         if isinstance(answer, Fault):
@@ -191,7 +191,7 @@ class Manifest:
         if isinstance(answer, Fault):
             if self.options.ignore_missing and answer.in_opening and answer.text == NOT_FOUND:
                 return "missing"
-            self.err.append(self.tool + escape(name) + b": " + answer.text + b"\n")
+            self.err.append(b"%s: %s: %s\n" % (self.tool.encode(), escape(name), answer.text))
             verdict, text = "unread", b"FAILED open or read"
         elif digest(tag, len(wanted), answer) == wanted:
             verdict, text = "right", b"OK"
@@ -206,12 +206,9 @@ class Manifest:
         if all(verdict == "bad" for verdict in self.verdicts):
             self.err.append(self.shown + b"no properly formatted checksum lines found\n")
         elif self.options.report != "status":
-            for verdict, one, many in (
-                    ("bad", b"line is improperly formatted", b"lines are improperly formatted"),
-                    ("unread", b"listed file could not be read", b"listed files could not be read"),
-                    ("wrong", b"computed checksum did NOT match", b"computed checksums did NOT match")):
+            for verdict, warning in (("bad", bad), ("unread", unread), ("wrong", wrong)):
                 if count := self.verdicts.count(verdict):
-                    self.err.append(self.tool + b"WARNING: %d %s\n" % (count, one if count == 1 else many))
+                    self.err.append(as_bytes([warning(count, self.tool)]))
             if self.options.ignore_missing and "right" not in self.verdicts:
                 self.err.append(self.shown + b"no file was verified\n")
 

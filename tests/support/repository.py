@@ -29,7 +29,6 @@ class Repository(Case):
         self.put("crates.txt", "low: memchr\ndigests_main: low\nexample_some: low\n")
         self.sources = [self.put(f"crates/{crate}/{part}/Some.antt", f"{crate} {part}\n")
                         for crate in ("low", "digests_main") for part in ("src", "specs", "proofs")]
-        os.mkdir(self.path("commands"))
         self.write_command("rt", text_of("tests", "support", "rt.sh"))
         self.env = {**os.environ, "PATH": f"{self.folder}/commands:{os.environ['PATH']}",
                     "RT_NOTES": f"{self.folder}/notes", "RT_PROGRAM": harness.PROGRAM, "RT_FAST": harness.PROGRAM}
@@ -39,11 +38,9 @@ class Repository(Case):
         return os.path.join(self.top, name)
 
     def put(self, name, text):
-        """Writes a file of the repository, and makes its folder; answers its path."""
-        path = self.in_top(name)
-        os.makedirs(os.path.dirname(path), exist_ok=True)
-        self.write(path, text)
-        return path
+        """Writes a file of the repository; answers its path."""
+        self.write(self.in_top(name), text)
+        return self.in_top(name)
 
     def script(self, name, *words, stdin=b"", **how):
         """Runs a script of the repository; `RT_..` are for the script in the place of rt, and `calls` says how it was
