@@ -172,7 +172,8 @@ impl Blake2b {
     pub fn update(&mut self, piece: &[u8])
         requires { taken_count self.old + length piece.now < LIMIT }
         // If the state may have taken a message, it may then have taken that message and the piece.
-        ensures holds { (m : ByteString) → HasTaken self.old m → HasTaken self.new (m ++ piece.now) }
+        ensures holds { (m : ByteString) → HasTaken self.old m
+            → HasTaken self.new (m ++ piece.now) }
         ensures taken { taken_count self.new ≡ taken_count self.old + length piece.now }
         ensures len { digest_len self.new ≡ digest_len self.old }
     {

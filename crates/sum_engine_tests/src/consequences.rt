@@ -96,7 +96,8 @@ pub fn sevenths_read<I: Input>(verdicts: &Verdicts<I>) -> u64
 
 /// The plain check, made strict: no other setting differs from those of the words `--check --strict`.
 pub fn strict_check(algos: Algos) -> CheckSettings
-    ensures { result ≡ record { algo = algos; report = All; strict = true; ignore_missing = false } }
+    ensures { result
+        ≡ record { algo = algos; report = All; strict = true; ignore_missing = false } }
 {
     let mut settings = CheckSettings::new(algos);
     settings.strict = true;
@@ -106,7 +107,8 @@ pub fn strict_check(algos: Algos) -> CheckSettings
 /// After k steps of a checker that each handled a line, each output has grown by the texts of the first k steps.
 pub fn reports_so_far()
     ensures { (r : Rules) (labels : LabelsValue) (c : Content) (w : World) (b : CheckState)
-        (s t : StreamsState) (vectors : List ByteString) → TakesSteps r labels (initial_state c w) b s t vectors
+        (s t : StreamsState) (vectors : List ByteString)
+        → TakesSteps r labels (initial_state c w) b s t vectors
         → t.outputs.out.written ≡ s.outputs.out.written ++ flat_map (λ step. step.out)
         (take (length vectors) (content_behavior r labels c (all_verdicts r w c)).steps) }
 {

@@ -61,7 +61,8 @@ pub fn read_command_line<A: Allocator + Copy, G: Arguments>(
     requires { (G.state arguments.old).given ≡ [] }
     // Of every list of arguments that agrees with what the calls gave: what it asks for, or that it needs memory.
     ensures line { (all : List ByteString) → FitsArguments (G.state arguments.new) all
-        → MatchResult result (λ line. command_line all ≡ command_line_value line) (λ _. NeedsMemory all) }
+        → MatchResult result (λ line. command_line all ≡ command_line_value line)
+        (λ _. NeedsMemory all) }
     ensures told { (G.state arguments.new).told ≡ (G.state arguments.old).told }
 {
     let mut room = Room {
@@ -157,7 +158,8 @@ fn find_tool<A: Allocator, G: Arguments>(
     ensures tool { IfOk result (FindsTool (G.state arguments.new)) }
     ensures first { IfOk result (λ o. IfSome o (λ found. found.1 ≤ 2)) }
     ensures not_read { OnErr result ((all : List ByteString)
-        → FitsArguments (G.state arguments.new) all → Any (λ argument. PAGE < length argument) all) }
+        → FitsArguments (G.state arguments.new) all
+        → Any (λ argument. PAGE < length argument) all) }
     ensures told { (G.state arguments.new).told ≡ (G.state arguments.old).told }
 {
     let Some(path) = room.argument(arguments, 0)? else {
@@ -195,7 +197,8 @@ fn words_from<A: Allocator + Copy, G: Arguments>(
     requires place { first ≡ length (G.state arguments.old).given }
     requires few { first < usize.MAX }
     ensures words { IfOk result (λ words. (all : List ByteString)
-        → FitsArguments (G.state arguments.new) all → all ≡ (G.state arguments.old).given ++ words) }
+        → FitsArguments (G.state arguments.new) all
+        → all ≡ (G.state arguments.old).given ++ words) }
     ensures not_read { OnErr result ((all : List ByteString)
         → FitsArguments (G.state arguments.new) all → (word : ByteString) × (rest : List ByteString)
         × (all ≡ (G.state arguments.old).given ++ word ∷ rest)) }
