@@ -1,10 +1,11 @@
 //! What the laws say of one tool and of one or two names. Each of these functions is there for its contract.
 ghost use Rattle.digests.specs.GenerationRuns.{HasFiles, IsListable};
 ghost use Rattle.digests.specs.Meaning.{meaning, status_of};
-ghost use Rattle.std.specs.Prelude.{ℕ, ◌≡◌, ◌<◌, ◌∷◌, ◌++◌, [], List, Ok, IfOk, Some, codes, length};
-ghost use Rattle.sum_engine.specs.Behavior.{Whole, World, answer_to, out_text, err_text};
+ghost use Rattle.std.specs.Prelude.{ℕ, All, ◌≡◌, ◌<◌, ◌∷◌, ◌++◌, [], List, Ok, IfOk, Some, codes, length};
+ghost use Rattle.sum_engine.specs.Behavior.{Reads, Whole, World, answer_to, out_text, err_text};
 ghost use Rattle.sum_sources.specs.Contents.{empty_content, limit};
 ghost use Rattle.sum_sources.specs.Sources.{Answer as AnswerValue, Answers, TellsAll};
+ghost use Rattle.sum_sources.specs.declared.inputs.phase.Phase.TheVariants.{Ended as EndedBy};
 ghost use Rattle.sum_words.specs.Arguments.{FitsArguments};
 ghost use Rattle.sum_words.specs.Items.{ByteString};
 ghost use Rattle.sum_words.specs.declared.tool.Tool.TheVariants.{Md5sum, Sha256sum, Anysum};
@@ -102,6 +103,30 @@ where
         (codes "md5sum" ∷ codes "-" ∷ codes "-" ∷ []) → result.status ≡ 0 → (text : ByteString)
         × (result.streams.outputs.out.written ≡ text
         ++ codes "d41d8cd98f00b204e9800998ecf8427e  -\n") }
+{
+    program(alloc, env, files, stdin, out, err)
+}
+
+/// The program. If the status is 0, standard output took all that it was offered, and each file that could be opened
+/// was read whole.
+pub fn reads_whole<A, R, F, I, O, E>(
+    alloc: A,
+    env: R,
+    files: F,
+    stdin: I,
+    out: O,
+    err: E,
+) -> Ended<SystemArguments<R>, SystemStreams<F, I, O, E>>
+where
+    A: Allocator + Copy,
+    R: rt::Env,
+    F: rt::Files + Drop,
+    I: Read + AsFd + Drop,
+    O: Write,
+    E: Write,
+    ensures out { result.status ≡ 0 → result.streams.outputs.out.failures ≡ 0 }
+    ensures files { result.status ≡ 0 → All (λ o. (r : Reads) → o.gave ≡ Some (Ok r)
+        → r.phase ≡ EndedBy Whole) result.streams.inputs.openings }
 {
     program(alloc, env, files, stdin, out, err)
 }
