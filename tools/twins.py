@@ -30,14 +30,14 @@ def twin_of(path):
 def refused(crate):
     """The twins of a crate that the prover refuses. Those that fit together are tried at once."""
     def accepts(edit):
-        return not RT["checked"](crate, RT["edited"](edit, crate.folder)[0], [], OUT / "work").returncode
+        return not RT["checked"](crate, RT["edited"](edit, crate.folder)[0], ["--jobs", "1"], work).returncode
 
     twins = {it.stem: twin for it in sorted(Path(crate.folder, "must-fail").glob("*")) if (twin := twin_of(it))}
-    state, kept, joined = repr((crate.stamp(), twins)), OUT / crate.name, []
+    state, kept, work, joined = repr((crate.stamp(), twins)), OUT / crate.name, OUT / "work" / crate.name, []
     if not twins or "--anew" not in sys.argv and kept.exists() and kept.read_text("utf-8") == state:
         return []
-    shutil.rmtree(OUT / "work", ignore_errors=True)
-    shutil.copytree(f"{crate.folder}/out/incremental", OUT / "work")
+    shutil.rmtree(work, ignore_errors=True)
+    shutil.copytree(f"{crate.folder}/out/incremental", work)
     for edit in sorted(twins.values(), key=lambda it: it.count("file: ") > 3):  # one that changes much is tried alone
         others = joined if edit.count("file: ") < 4 else []
         at = next((n for n, it in enumerate(others) if RT["edited"](it + edit, crate.folder)[0]), len(joined))
@@ -51,4 +51,7 @@ def refused(crate):
 
 if __name__ == "__main__":
     named = {*sys.argv[1:]} - {"--anew"}
-    sys.exit(any([refused(it) for it in RT["rtlib"].crates_below(TOP) if not named or it.name in named]))
+    crates = [it for it in RT["rtlib"].crates_below(TOP) if not named or it.name in named]
+    # side by side, as many as there are processors and memory for
+    sys.exit(any(RT["in_lanes"]({(it.name, "edits"): ([], it.count(rb"\n"), RT["need"](it), lambda given, jobs, it=it:
+                                 refused(it)) for it in crates}).values()))
