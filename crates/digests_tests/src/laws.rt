@@ -1,7 +1,7 @@
 //! What the laws say of one tool and of one or two names. Each of these functions is there for its contract.
 ghost use Rattle.digests.specs.GenerationRuns.{HasFiles, IsListable};
 ghost use Rattle.digests.specs.Meaning.{meaning, status_of};
-ghost use Rattle.std.specs.Prelude.{ℕ, All, ◌≡◌, ◌<◌, ◌∷◌, ◌++◌, [], List, Ok, IfOk, Some, codes, length};
+ghost use Rattle.std.specs.Prelude.{All, ◌≡◌, ◌<◌, ◌∷◌, ◌++◌, [], Ok, IfOk, Some, codes, length};
 ghost use Rattle.sum_engine.specs.Behavior.{Reads, Whole, World, answer_to, out_text, err_text};
 ghost use Rattle.sum_sources.specs.Contents.{empty_content, limit};
 ghost use Rattle.sum_sources.specs.Sources.{Answer as AnswerValue, Answers, TellsAll};

@@ -1,5 +1,5 @@
 //! Checking one manifest.
-ghost use Rattle.std.specs.Prelude.{◌≡◌, true, [], ◌∷◌, None, Ok, IfErr, codes, if◌then◌else◌};
+ghost use Rattle.std.specs.Prelude.{◌≡◌, true, None, Ok, IfErr, codes, if◌then◌else◌};
 ghost use Rattle.sum_sources.specs.WithStdin.{is_dash};
 ghost use Rattle.sum_engine.specs.Execution.{FailuresMatch, RefusalsMatch, Performs, ReadsToEndIf, none_or_one};
 ghost use Rattle.sum_engine.specs.check.CheckerLaws.{RunsManifest};

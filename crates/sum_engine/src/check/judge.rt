@@ -1,5 +1,5 @@
 //! The verdict of a line.
-ghost use Rattle.std.specs.Prelude.{◌≡◌, true, false, IfOk, MatchResult, slice_range};
+ghost use Rattle.std.specs.Prelude.{◌≡◌, false, IfOk, MatchResult, slice_range};
 ghost use Rattle.sum_engine.specs.Behavior.{World};
 ghost use Rattle.sum_engine.specs.Execution.{Agrees, world_at, AsksNames, ReadsToEndIf};
 ghost use Rattle.sum_engine.specs.check.Judge.{asks_of, judge};

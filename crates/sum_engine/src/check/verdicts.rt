@@ -1,6 +1,6 @@
 //! The verdicts of a manifest, without any text.
 ghost use Rattle.digest_kinds.specs.Bytes.{LIMIT};
-ghost use Rattle.std.specs.Prelude.{◌≡◌, ◌≤◌, ◌<◌, ◌^◌, ◌&&◌, None, true, IfOk, IfSome, MatchResult};
+ghost use Rattle.std.specs.Prelude.{◌≡◌, ◌≤◌, ◌<◌, ◌^◌, ◌&&◌, None, IfOk, IfSome, MatchResult};
 ghost use Rattle.sum_engine.specs.check.CheckStates.{counts_with, total};
 ghost use Rattle.sum_engine.specs.check.Rules.{rules_of};
 
