@@ -1,9 +1,11 @@
 //! Callers with standard input beside a source of files.
-ghost use Rattle.std.specs.Prelude.{◌≡◌, ◌==◌, IsTrue, false, codes, OnOk};
+ghost use Rattle.std.specs.Prelude.{◌≡◌, ◌==◌, [], ℕ, IsTrue, false, codes, OnOk};
 ghost use Rattle.sum_sources.specs.SourceStates.{stdin_in};
 ghost use Rattle.sum_sources.specs.StandardInput.{is_untaken};
-ghost use Rattle.sum_engine.specs.Behavior.{is_dash, times};
+ghost use Rattle.sum_engine.specs.Behavior.{World, is_dash, times};
 ghost use Rattle.sum_engine.specs.Execution.{opened_names};
+ghost use Rattle.sum_engine.specs.check.Judge.{EntryValue, asks_of, entry, line_verdict};
+ghost use Rattle.sum_engine.specs.check.Rules.{Rules};
 
 use sum_engine::laws::told_agree;
 use sum_engine::{Inputs, Outputs, Settings, Stop, Streams, generate_one};
@@ -31,3 +33,9 @@ pub fn hash_with_stdin<'a, I: Input + Drop, S: Source, O: Sink, E: Sink>(
     stdin_is_taken(inputs);
     (result, inputs)
 }
+
+/// In a manifest from standard input, a line that names `-` opens nothing.
+pub fn listed_dash()
+    ensures { (r : Rules) (w : World) (n : ℕ) (s : EntryValue) → IsTrue r.from_stdin
+        → IsTrue (is_dash s.name) → asks_of (line_verdict r w n (entry s)) ≡ [] }
+{}
