@@ -1,14 +1,15 @@
 //! Callers with standard input beside a source of files.
-ghost use Rattle.std.specs.Prelude.{◌≡◌, ◌==◌, [], ℕ, IsTrue, false, codes, OnOk};
+ghost use Rattle.std.specs.Prelude.{◌≡◌, ◌==◌, ◌+◌, IsTrue, false, codes, OnOk};
 ghost use Rattle.sum_sources.specs.SourceStates.{stdin_in};
 ghost use Rattle.sum_sources.specs.StandardInput.{is_untaken};
-ghost use Rattle.sum_engine.specs.Behavior.{World, is_dash, times};
+ghost use Rattle.sum_engine.specs.Behavior.{is_dash, times};
 ghost use Rattle.sum_engine.specs.Execution.{opened_names};
-ghost use Rattle.sum_engine.specs.check.Judge.{EntryValue, asks_of, entry, line_verdict};
-ghost use Rattle.sum_engine.specs.check.Rules.{Rules};
 
+use std::alloc::Allocator;
 use sum_engine::laws::told_agree;
-use sum_engine::{Inputs, Outputs, Settings, Stop, Streams, generate_one};
+use sum_engine::{
+    CheckSettings, Inputs, Outputs, Settings, Stop, Streams, check_one, generate_one,
+};
 use sum_lines::Sink;
 use sum_sources::laws::stdin_is_taken;
 use sum_sources::{Input, Source, WithStdin};
@@ -34,8 +35,20 @@ pub fn hash_with_stdin<'a, I: Input + Drop, S: Source, O: Sink, E: Sink>(
     (result, inputs)
 }
 
-/// In a manifest from standard input, a line that names `-` opens nothing.
-pub fn listed_dash()
-    ensures { (r : Rules) (w : World) (n : ℕ) (s : EntryValue) → IsTrue r.from_stdin
-        → IsTrue (is_dash s.name) → asks_of (line_verdict r w n (entry s)) ≡ [] }
-{}
+/// Checks a manifest. If it is standard input, `-`, the call opens that once, unless it stops: not even a line that
+/// names `-` opens it again.
+pub fn check_once<A: Allocator + Copy, S: Source, O: Sink, E: Sink>(
+    alloc: A,
+    settings: CheckSettings,
+    tool: &str,
+    name: &[u8],
+    streams: &mut Streams<Inputs<S>, Outputs<O, E>>,
+) -> Result<bool, Stop>
+    ensures { IsTrue (is_dash name.now)
+        → OnOk result (times (codes "-") (opened_names streams.new.inputs)
+        ≡ times (codes "-") (opened_names streams.old.inputs) + 1) }
+{
+    let result = check_one(alloc, settings, tool, name, streams);
+    told_agree(&streams.inputs);
+    result
+}
