@@ -1,5 +1,6 @@
 //! What follows from the laws of `sum_engine`.
-ghost use Rattle.std.specs.Prelude.{◌≡◌, ◌≢◌, ◌≤◌, ◌+◌, ◌*◌, Some, Ok, Err, false, List, [], ◌∷◌, ◌++◌, codes, length, take, flat_map, true, slice_range};
+ghost use Rattle.std.specs.Prelude.{◌≡◌, ◌≢◌, ◌≤◌, ◌+◌, ◌*◌, Some, Ok, Err, false, true, IsTrue, codes, length};
+ghost use Rattle.std.specs.Prelude.{List, [], ◌∷◌, ◌++◌, take, flat_map, slice_range};
 ghost use Rattle.sum_engine.specs.Behavior.{ByteString, Content, Reads, Step, Whole, World, answer_to, clip, times};
 ghost use Rattle.sum_engine.specs.Execution.{Agrees, PerformsSteps, StreamsState, gave_at, opened_names, world_at};
 ghost use Rattle.sum_engine.specs.Generation.{generate_behavior};
@@ -132,8 +133,8 @@ pub fn old_manifest_stays_good()
     ensures good { (r : Rules) (labels : LabelsValue) (w : World) (c : Content)
         → IsOldManifest r labels c → let old = record r { profile = older_profile } in
         let new = record r { profile = own_profile } in
-        (content_behavior old labels c (all_verdicts old w c)).good ≡ true
-        → (content_behavior new labels c (all_verdicts new w c)).good ≡ true }
+        IsTrue (content_behavior old labels c (all_verdicts old w c)).good
+        → IsTrue (content_behavior new labels c (all_verdicts new w c)).good }
     // To older versions a line that ends with a carriage return was another one.
     ensures line { let c : Content = record { bytes = codes "a\r\n"; ending = Whole } in
         lines_under older_profile c ≢ lines_under own_profile c }

@@ -9,6 +9,7 @@ mod generating;
 mod going_on;
 #[cfg(test)]
 mod memory;
+pub mod standard_input;
 #[cfg(test)]
 mod stepping;
 #[cfg(test)]
