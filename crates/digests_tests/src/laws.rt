@@ -1,8 +1,9 @@
 //! What the laws say of one tool and of one or two names. Each of these functions is there for its contract.
 ghost use Rattle.digests.specs.GenerationRuns.{HasFiles, IsListable};
 ghost use Rattle.digests.specs.Meaning.{meaning, status_of};
-ghost use Rattle.std.specs.Prelude.{All, ◌≡◌, ◌<◌, ◌∷◌, ◌++◌, [], Ok, IfOk, Some, codes, length};
+ghost use Rattle.std.specs.Prelude.{All, ◌≡◌, ◌≢◌, ◌<◌, ◌∷◌, ◌++◌, [], Ok, Err, IfOk, Some, codes, length};
 ghost use Rattle.sum_engine.specs.Behavior.{Reads, Whole, World, answer_to, out_text, err_text};
+ghost use Rattle.sum_engine.specs.declared.stop.Stop.TheVariants.{Memory};
 ghost use Rattle.sum_sources.specs.Contents.{empty_content, limit};
 ghost use Rattle.sum_sources.specs.Sources.{Answer as AnswerValue, Answers, TellsAll};
 ghost use Rattle.sum_sources.specs.declared.inputs.phase.Phase.TheVariants.{Ended as EndedBy};
@@ -42,6 +43,18 @@ pub fn run_on_e<A: Allocator + Copy, S: Source, O: Sink, E: Sink>(
     let outcome = run(alloc, Tool::Md5sum, words, streams);
     told_performs(streams);
     outcome
+}
+
+/// `md5sum --version`. There is always memory for it.
+pub fn version<A: Allocator + Copy, S: Source, O: Sink, E: Sink>(
+    alloc: A,
+    words: &Words<A>,
+    streams: &mut Streams<Inputs<S>, Outputs<O, E>>,
+) -> Result<u8, Stop>
+    requires { words.now ≡ codes "--version" ∷ [] }
+    ensures { result ≢ Err Memory }
+{
+    run(alloc, Tool::Md5sum, words, streams)
 }
 
 /// `md5sum` without words, if standard input is empty: if the status is 0, standard output got its line.

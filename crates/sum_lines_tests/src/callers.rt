@@ -1,10 +1,10 @@
 //! What callers know of sinks, and of a line that is ignored.
-ghost use Rattle.std.specs.Prelude.{◌≡◌, ◌≤◌, ◌++◌, Some, IfOk, IsTrue, codes, length, take};
+ghost use Rattle.std.specs.Prelude.{◌≡◌, ◌≤◌, ◌++◌, Some, Ok, IfOk, IsTrue, codes, length, take};
 
 use digest_kinds::Algos;
 use std::alloc::Allocator;
 use std::io::Write;
-use sum_lines::{Form, FromWrite, Reading, Sink, SinkFault, ToldSink, read_line};
+use sum_lines::{Form, FromWrite, Output, Reading, Sink, SinkFault, ToldSink, read_line};
 
 /// A sink in memory holds a text that it has room for, and no call has failed.
 pub fn holds_text(text: &[u8]) -> ToldSink<64>
@@ -38,7 +38,22 @@ pub fn first_bytes<W: Write>(writer: W, piece: &[u8]) -> (Result<usize, SinkFaul
 {
     let mut sink = FromWrite::new(writer);
     let written = sink.write(piece);
+    let _ = sink.flush();
     (written, sink.into_inner())
+}
+
+/// Writes nothing to a sink, which never fails.
+pub fn write_nothing<S: Sink>(sink: &mut S) -> Result<usize, SinkFault>
+    ensures { result ≡ Ok 0 }
+{
+    sink.write(&[])
+}
+
+/// The bytes that an output wrote to a sink in memory: none of them is held back.
+pub fn bytes_of(output: &Output<ToldSink<64>>) -> &[u8]
+    ensures { result.now ≡ output.now.written }
+{
+    output.get_ref().bytes()
 }
 
 /// A comment is still in the vector after it was read.

@@ -1,15 +1,17 @@
 //! Callers of readers and of told sources that need what no program here does.
 ghost use Rattle.std.specs.Option.{option_map};
-ghost use Rattle.std.specs.Prelude.{ℕ, ◌≡◌, ◌<◌, ◌+◌, ◌^◌, [], Ok, Err, IfOk, IfSome, IsTrue, slice_get};
+ghost use Rattle.std.specs.Prelude.{ℕ, ◌≡◌, ◌<◌, ◌+◌, ◌^◌, [], Some, Ok, Err, IfOk, IfSome, IsTrue};
+ghost use Rattle.std.specs.Prelude.{codes, length, slice_get, take};
 ghost use Rattle.sum_sources.specs.Sources.{HashesFile, first_answer, names_of};
 ghost use Rattle.sum_sources.specs.WithStdin.{other_openings};
 ghost use Rattle.sum_sources.specs.SourceStates.{both_state, source_in, told_source_state};
 
 use digest_kinds::{Digest, Hasher, LIMIT};
 use std::alloc::Allocator;
+use std::io::Read;
 use sum_sources::{
-    Answer, Ending, Input, LineReader, LineStop, Next, NoRoom, PIECE, Source, ToldSource,
-    WithStdin, hash_file,
+    Answer, Ending, Fault, FromRead, Input, LineReader, LineStop, Next, NoRoom, PIECE, Source,
+    ToldSource, WithStdin, hash_file,
 };
 
 /// Returns how many more bytes an input may give before it is too long.
@@ -41,6 +43,15 @@ pub fn ask<I: Input, A: Allocator>(
 {
     let next = reader.next_line(line);
     (next, reader.taken() - reader.lines())
+}
+
+/// Reads from a reader that is known to have some bytes left: these come first.
+pub fn read_known<R: Read>(input: &mut FromRead<R>, buf: &mut [u8]) -> Result<usize, Fault>
+    requires { R.remaining input.old.reader ≡ Some (codes "known") }
+    ensures bytes { IfOk result (λ n. take n buf.new ≡ take n (codes "known")) }
+    ensures size { length buf.new ≡ length buf.old }
+{
+    input.read(buf)
 }
 
 /// Returns whether the file of this name has this digest, which it has only if it was read to its end.

@@ -1,5 +1,5 @@
 //! Callers of standard input beside a source of files.
-ghost use Rattle.std.specs.Prelude.{◌≡◌, ◌++◌, ◌∷◌, [], false, MatchBool, OnOk};
+ghost use Rattle.std.specs.Prelude.{◌≡◌, ◌++◌, ◌∷◌, [], false, IsTrue, MatchBool, OnOk};
 ghost use Rattle.sum_sources.specs.WithStdin.{is_dash};
 ghost use Rattle.sum_sources.specs.Sources.{names_of};
 ghost use Rattle.sum_sources.specs.StandardInput.{given_input, is_untaken, put_back, after_taking};
@@ -7,7 +7,7 @@ ghost use Rattle.sum_sources.specs.SourceStates.{source_in, stdin_in};
 
 use digest_kinds::{Digest, Hasher};
 use sum_sources::laws::stdin_is_taken;
-use sum_sources::{HashFault, Input, OpenFault, Source, WithStdin, hash_file};
+use sum_sources::{HashFault, Input, OpenFault, Source, Stdin, WithStdin, hash_file};
 
 /// Opens the file of a name, and closes it unread. If the name is `-`, the source of files is unchanged; otherwise
 /// standard input is.
@@ -26,6 +26,17 @@ pub fn visit<I: Input + Drop, S: Source>(
     let file = inputs.open_file(name)?;
     inputs.close_file(file);
     Ok(())
+}
+
+/// Puts standard input beside a source of files, takes it once, and puts it back unread.
+pub fn visit_stdin<I: Input + Drop, S: Source>(stdin: Stdin<I>, source: S) -> WithStdin<I, S>
+    requires { IsTrue (is_untaken stdin) }
+    ensures stdin { stdin_in result ≡ put_back (after_taking stdin) (given_input stdin) }
+    ensures source { S.state (source_in result) ≡ S.state source }
+{
+    let mut inputs = WithStdin::new(stdin, source);
+    let _ = visit(&mut inputs, b"-");
+    inputs
 }
 
 /// Hashes the file of a name. Only the name `-` takes standard input.
