@@ -2,8 +2,8 @@
 ghost use Rattle.digest_kinds.specs.Kinds.{KindValue};
 ghost use Rattle.digest_kinds.specs.declared.algo.Algos.{Algos};
 ghost use Rattle.digest_kinds.specs.declared.algo.Algos.TheVariants.{Any};
-ghost use Rattle.std.specs.Prelude.{◌≡◌, ◌≤◌, Bool, false, ◌∷◌, [], length};
-ghost use Rattle.sum_lines.specs.Escape.{ByteString, escape};
+ghost use Rattle.std.specs.Prelude.{◌≡◌, ◌≤◌, Bool, false, List, ◌∷◌, [], length};
+ghost use Rattle.sum_lines.specs.Escape.{ByteString, Profile, escape, escape_by};
 ghost use Rattle.sum_lines.specs.Lines.{line};
 ghost use Rattle.sum_lines.specs.Sinks.{pieces};
 ghost use Rattle.sum_lines.specs.declared.writing.put_line.Mode.TheVariants.{Tag};
@@ -12,6 +12,7 @@ ghost use Rattle.sum_lines.specs.declared.reading.read_line.Form.{Form};
 ghost use Rattle.sum_lines.specs.declared.reading.read_line.Form.TheVariants.{Undecided};
 ghost use Rattle.sum_lines.specs.grammar.Entries.{EntryValue, IsEntry, IsForm};
 ghost use Rattle.sum_lines.specs.grammar.LineLaws.{IsWritable, SpellsBack};
+ghost use Rattle.sum_lines.specs.grammar.ParsedLines.{entry, parse_line};
 ghost use Rattle.sum_lines.specs.grammar.Shapes.{IsTagged};
 
 use sum_lines::laws;
@@ -31,6 +32,22 @@ pub fn tagged_is_undecided()
         → IsForm algos (line ∷ []) Undecided }
 {
     laws::one_entry();
+}
+
+/// A list has no two forms.
+pub fn same_form()
+    ensures { (algos : Algos) (lines : List ByteString) (f g : Form)
+        → IsForm algos lines f → IsForm algos lines g → f ≡ g }
+{
+    laws::one_form();
+}
+
+/// If the grammar takes a line for an entry, that entry is what is computed.
+pub fn entry_is_computed()
+    ensures { (p : Profile) (algos : Algos) (f : Form) (line : ByteString) (s : EntryValue)
+        → IsEntry (escape_by p) algos f line s → parse_line p algos f line ≡ entry s }
+{
+    laws::parse_is_grammar();
 }
 
 /// A line of at most 8,192 bytes is offered whole.

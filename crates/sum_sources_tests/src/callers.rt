@@ -1,7 +1,7 @@
 //! Callers of readers and of told sources that need what no program here does.
 ghost use Rattle.std.specs.Option.{option_map};
 ghost use Rattle.std.specs.Prelude.{ℕ, ◌≡◌, ◌<◌, ◌+◌, ◌^◌, [], Some, Ok, Err, IfOk, IfSome, IsTrue};
-ghost use Rattle.std.specs.Prelude.{codes, length, slice_get, take};
+ghost use Rattle.std.specs.Prelude.{codes, slice_get, take};
 ghost use Rattle.sum_sources.specs.Sources.{HashesFile, first_answer, names_of};
 ghost use Rattle.sum_sources.specs.WithStdin.{other_openings};
 ghost use Rattle.sum_sources.specs.SourceStates.{both_state, source_in, told_source_state};
@@ -48,8 +48,7 @@ pub fn ask<I: Input, A: Allocator>(
 /// Reads from a reader that is known to have some bytes left: these come first.
 pub fn read_known<R: Read>(input: &mut FromRead<R>, buf: &mut [u8]) -> Result<usize, Fault>
     requires { R.remaining input.old.reader ≡ Some (codes "known") }
-    ensures bytes { IfOk result (λ n. take n buf.new ≡ take n (codes "known")) }
-    ensures size { length buf.new ≡ length buf.old }
+    ensures { IfOk result (λ n. take n buf.new ≡ take n (codes "known")) }
 {
     input.read(buf)
 }

@@ -15,7 +15,6 @@ impl<R: Read> Input for FromRead<R> {
 
     fn read(&mut self, buf: &mut [u8]) -> Result<usize, Fault>
         ensures count { IfOk result (λ n. n ≤ length buf.new) }
-        ensures size { length buf.new ≡ length buf.old }
         ensures given { ReadConsumes (R.remaining self.old.reader) (R.remaining self.new.reader)
             result buf.new }
         ensures log { self.new.log ≡ and_read self.old.log buf.new result }
