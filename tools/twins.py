@@ -52,6 +52,7 @@ def refused(crate):
 if __name__ == "__main__":
     named = {*sys.argv[1:]} - {"--anew"}
     crates = [it for it in RT["rtlib"].crates_below(TOP) if not named or it.name in named]
-    # side by side, as many as there are processors and memory for
+    RT["rtlib"].guarded()  # which only the main thread may call first
+    # Side by side, as many as there are processors and memory for.
     sys.exit(any(RT["in_lanes"]({(it.name, "edits"): ([], it.count(rb"\n"), RT["need"](it), lambda given, jobs, it=it:
                                  refused(it)) for it in crates}).values()))
