@@ -6,6 +6,7 @@ import re
 import runpy
 import shutil
 import sys
+import tempfile
 from pathlib import Path
 
 sys.dont_write_bytecode = True
@@ -27,32 +28,49 @@ def twin_of(path):
     return edit if pairs else ""
 
 
-def refused(crate):
-    """The twins of a crate that the prover refuses. Those that fit together are tried at once."""
-    def accepts(edit):
-        return not RT["checked"](crate, RT["edited"](edit, crate.folder)[0], ["--jobs", "1"], work).returncode
+def groups(crate, twins):
+    """The twins of a crate by their names, up to eight together that fit into one edit."""
+    found = []
+    for name, edit in sorted(twins.items(), key=lambda it: it[1].count("file: ") > 3):
+        fits = (it for it in found if len(it) < 8 and RT["edited"]("".join(it.values()) + edit, crate.folder)[0])
+        group = next(fits, {}) if edit.count("file: ") < 4 else {}  # one that changes much is tried alone
+        found += [] if group else [group]
+        group[name] = edit
+    return found
 
-    twins = {it.stem: twin for it in sorted(Path(crate.folder, "must-fail").glob("*")) if (twin := twin_of(it))}
-    state, kept, work, joined = repr((crate.stamp(), twins)), OUT / crate.name, OUT / "work" / crate.name, []
-    if not twins or "--anew" not in sys.argv and kept.exists() and kept.read_text("utf-8") == state:
-        return []
-    shutil.rmtree(work, ignore_errors=True)
-    shutil.copytree(f"{crate.folder}/out/incremental", work)
-    for edit in sorted(twins.values(), key=lambda it: it.count("file: ") > 3):  # one that changes much is tried alone
-        others = joined if edit.count("file: ") < 4 else []
-        at = next((n for n, it in enumerate(others) if RT["edited"](it + edit, crate.folder)[0]), len(joined))
-        joined[at:at + 1] = ["".join(joined[at:at + 1]) + edit]
-    accepted = "".join(filter(accepts, joined))
-    bad = [name for name, edit in twins.items() if edit not in accepted and not accepts(edit)]
-    kept.write_text("" if bad else state, "utf-8")
-    print(f"{crate.name}: {len(twins) - len(bad)} twins accepted, {len(bad)} refused", *bad, flush=True)
-    return bad
+
+def refused(crate, group):
+    """Those of a group of twins that the prover refuses. They are tried at once, and if that fails each alone."""
+    with tempfile.TemporaryDirectory(dir=OUT) as work:
+        def accepts(*edits):
+            edit = RT["edited"]("".join(edits), crate.folder)[0]
+            return not RT["checked"](crate, edit, ["--jobs", "1"], f"{work}/kept").returncode
+
+        shutil.copytree(f"{crate.folder}/out/incremental", f"{work}/kept")
+        return [] if accepts(*group.values()) else [name for name, edit in group.items() if not accepts(edit)]
+
+
+def main(named):
+    tasks, states = {}, {}
+    for crate in RT["rtlib"].crates_below(TOP):
+        twins = {it.stem: twin for it in sorted(Path(crate.folder, "must-fail").glob("*")) if (twin := twin_of(it))}
+        state, kept = repr((crate.stamp(), twins)), OUT / crate.name
+        if not twins or named and crate.name not in named or (
+                "--anew" not in sys.argv and kept.exists() and kept.read_text("utf-8") == state):
+            continue
+        states[crate.name] = state, len(twins)
+        for n, group in enumerate(groups(crate, twins)):
+            tasks[crate.name, "edits", n] = ([], len("".join(group.values())), RT["need"](crate),
+                                             lambda given, jobs, it=(crate, group): refused(*it))
+    OUT.mkdir(parents=True, exist_ok=True)
+    RT["rtlib"].guarded()  # which only the main thread may call first
+    given = RT["in_lanes"](tasks)  # side by side, as many as there are processors and memory for
+    for name, (state, number) in states.items():
+        bad = [twin for key, them in given.items() if key[0] == name for twin in them]
+        (OUT / name).write_text("" if bad else state, "utf-8")
+        print(f"{name}: {number - len(bad)} twins accepted, {len(bad)} refused", *bad, flush=True)
+    return any(given.values())
 
 
 if __name__ == "__main__":
-    named = {*sys.argv[1:]} - {"--anew"}
-    crates = [it for it in RT["rtlib"].crates_below(TOP) if not named or it.name in named]
-    RT["rtlib"].guarded()  # which only the main thread may call first
-    # Side by side, as many as there are processors and memory for.
-    sys.exit(any(RT["in_lanes"]({(it.name, "edits"): ([], it.count(rb"\n"), RT["need"](it), lambda given, jobs, it=it:
-                                 refused(it)) for it in crates}).values()))
+    sys.exit(main({*sys.argv[1:]} - {"--anew"}))
