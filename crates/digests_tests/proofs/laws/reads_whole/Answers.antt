@@ -10,7 +10,7 @@ use Rattle.digests_tests.proofs.laws.reads_whole.Goals as goal
 pub returns-clause-files : goal.returns-clause-files
 returns-clause-files g c = λ zero.
     let whole : (o : Opening) → ReadsFile (c.program.result.status ≡ 0) o → (r : Reads) → o.gave ≡ Some (Ok r)
-        → r.phase ≡ Ended Whole
-        = λ o file r gave. let (found, is, read) = file in
-          let same : found ≡ Ok r = search (gave, is) in (rw same at read).1 zero in
+    → r.phase ≡ Ended Whole
+    = λ o file r gave. let (found, is, read) = file in
+    let same : found ≡ Ok r = search (gave, is) in (rw same at read).1 zero in
     All-weaker _ _ whole _ c.program.ensures.reads
