@@ -49,7 +49,9 @@ impl<I: Input> Verdicts<I> {
     ghost use Rattle.sum_engine.specs.Execution.{Agrees, world_at, AsksNames, ReadsToEndIf};
     ghost use Rattle.sum_engine.specs.check.Judge.{asks_of, line_verdict};
     ghost use Rattle.sum_engine.specs.check.Reports.{good};
-    ghost use Rattle.sum_engine.specs.check.Verdicts.{AdvancesVerdicts, HasNameRange, HoldsInEachCheck, IsAtStart, IsNextVerdict, IsNotUnread, KeepsOutcome, is_whole, line_verdict_value, outcome_in_next};
+    ghost use Rattle.sum_engine.specs.check.Verdicts.{AdvancesVerdicts, HasNameRange, HoldsInEachCheck};
+    ghost use Rattle.sum_engine.specs.check.Verdicts.{IsAtStart, IsNextVerdict, IsNotUnread, KeepsOutcome};
+    ghost use Rattle.sum_engine.specs.check.Verdicts.{is_whole, line_verdict_value, outcome_in_next};
     ghost use Rattle.sum_engine.specs.private.Judging.{TakesLine, found_verdict, parsed_at};
     ghost use Rattle.sum_engine.specs.Names.{RefusesMemory};
     ghost use Rattle.sum_sources.specs.declared.fault.Ending.TheVariants.{Whole};
