@@ -87,7 +87,7 @@ Performs-refused run outcome a b first refused outputs = λ w agrees.
 -- ---- what a run's events come to
 
 -- the names that its events open, and the bytes that they write on each output
-kinds : (steps : List Step) → (filter_map opened_name (trace steps) ≡ flat_map (λ s. s.names) steps)
+pub kinds : (steps : List Step) → (filter_map opened_name (trace steps) ≡ flat_map (λ s. s.names) steps)
     × (filter_map written_byte (filter_map err_event (trace steps)) ≡ flat_map (λ s. s.err) steps)
     × (filter_map written_byte (filter_map out_event (trace steps)) ≡ flat_map (λ s. s.out) steps)
 kinds [] = (refl, refl, refl)

@@ -1,7 +1,7 @@
 -- `hash_with_stdin` and `check_once`: how often what a call performed opens `-`.
-use Rattle.std.proofs.Common.{rules, arith, ◌≡◌, ◌∙◌, ◌+◌, ℕ, true, List, [], ◌∷◌, ◌++◌, Result, Ok, Err, refl, ap, sym, append-nil, codes, flat_map, filter_map}
+use Rattle.std.proofs.Common.{arith, ◌≡◌, ◌∙◌, ◌+◌, ℕ, true, List, [], ◌∷◌, ◌++◌, Result, Ok, Err, refl, ap, sym, append-nil, codes, flat_map, filter_map}
 use Rattle.std.{specs.Prelude.OnOk, proofs.lemmas.Grind.flat_map-append, proofs.lemmas.List.Elements.filter_map-append, proofs.lemmas.List.Sums.sum_by-append, proofs.lemmas.Slice.Eq.bytes_eq-Decides}
-use Rattle.sum_engine.{proofs.ExecutionLemmas.kind-all, proofs.ExecutionLemmas.kind-none, specs.Behavior.Answer, specs.Behavior.ByteString, specs.Behavior.Content, specs.Behavior.Step, specs.Behavior.World, specs.Behavior.is_dash, specs.Behavior.opened_name, specs.Behavior.times, specs.Behavior.trace, specs.Execution.PerformsSteps, specs.Execution.StreamsState, specs.Execution.opened_names, specs.declared.settings.CheckSettings.CheckSettings, specs.declared.stop.Stop.Stop, specs.declared.stop.Stop.TheVariants.Memory, specs.declared.stop.Stop.TheVariants.Write}
+use Rattle.sum_engine.{specs.Behavior.Answer, specs.Behavior.ByteString, specs.Behavior.Content, specs.Behavior.Step, specs.Behavior.World, specs.Behavior.is_dash, specs.Behavior.opened_name, specs.Behavior.times, specs.Behavior.trace, specs.Execution.PerformsSteps, specs.Execution.StreamsState, specs.Execution.opened_names, specs.declared.settings.CheckSettings.CheckSettings, specs.declared.stop.Stop.Stop, specs.declared.stop.Stop.TheVariants.Memory, specs.declared.stop.Stop.TheVariants.Write}
 use Rattle.sum_engine.specs.check.{Checking.check_behavior_by, Checking.line_steps, Judge.Form, Judge.verdicts, Rules.LabelsValue, Rules.Rules, Rules.labels_of, Rules.rules_of}
 
 -- how often `-` is among names
@@ -10,10 +10,6 @@ dashes names = times (codes "-") names
 
 pub dashes-append : (xs ys : List ByteString) → dashes (xs ++ ys) ≡ dashes xs + dashes ys
 dashes-append xs ys = sum_by-append _ xs ys
-
-pub names-trace : (steps : List Step) → filter_map opened_name (trace steps) ≡ flat_map (λ s. s.names) steps
-names-trace [] = refl
-names-trace (s ∷ steps) = search (rules, filter_map-append, kind-all, kind-none, names-trace steps)
 
 -- the names that a call opened come first among those of its steps, and are all of them, unless it stopped
 pub opened : {A : Type 0} (s : List Step) (x : A) (a b : StreamsState) (r : Result A Stop) → PerformsSteps s x a b r

@@ -1,6 +1,7 @@
 use Rattle.std.{proofs.Common.arith, proofs.Common.◌≡◌, proofs.Common.◌+◌, proofs.lemmas.Result.on_ok_weaker}
 use Rattle.sum_engine.specs.{Behavior.answer_to, Execution.world_at, check.Checking.check_behavior}
-use Rattle.sum_engine_tests.proofs.DashLemmas.{dashes, dashes-append, names-trace, opened, check_opens}
+use Rattle.sum_engine.proofs.BehaviorLemmas.{kinds}
+use Rattle.sum_engine_tests.proofs.DashLemmas.{dashes, dashes-append, opened, check_opens}
 use Rattle.sum_engine_tests.proofs.standard_input.check_once.Goals as goal
 
 pub returns : goal.returns
@@ -14,6 +15,6 @@ returns g c = λ d.
     let did = c.check_one-result.ensures.behavior _ c.told_agree.ensures.1 in
     let (names, more, are, asked, all) = opened run.steps run.good old new r did in
     let sum : dashes names + dashes more ≡ 1 =
-    rw (← dashes-append, ← are, names-trace)
+    rw (← dashes-append, ← are, (kinds run.steps).0)
     (check_opens c.args.settings c.args.tool.now name _ (answer_to w name) d) in
     rw (asked, dashes-append) (on_ok_weaker r (λ none. grind (arith, rw none at sum)) all)

@@ -1,6 +1,7 @@
 use Rattle.std.{proofs.Common.arith, proofs.Common.◌≡◌, proofs.Common.◌+◌, specs.Prelude.if◌then◌else◌, proofs.lemmas.Result.on_ok_weaker, proofs.lemmas.Slice.Eq.bytes_eq-Decides}
 use Rattle.sum_engine.specs.{Behavior.is_dash, Execution.world_at, Generation.generate_behavior}
-use Rattle.sum_engine_tests.proofs.DashLemmas.{dashes, dashes-append, names-trace, opened}
+use Rattle.sum_engine.proofs.BehaviorLemmas.{kinds}
+use Rattle.sum_engine_tests.proofs.DashLemmas.{dashes, dashes-append, opened}
 use Rattle.sum_engine_tests.proofs.standard_input.hash_with_stdin.Goals as goal
 
 pub returns : goal.returns
@@ -12,7 +13,7 @@ returns g c =
     let did = (rw (← c.streams.view_is) at c.generate_one-result.ensures.behavior) _ c.told_agree.ensures.1 in
     let (names, more, are, asked, all) = opened run.steps run.good old _ r did in
     let sum : dashes names + dashes more ≡ (if is_dash name then 1 else 0) =
-    rw (← dashes-append, ← are, names-trace) (grind (arith, bytes_eq-Decides)) in record {
+    rw (← dashes-append, ← are, (kinds run.steps).0) (grind (arith, bytes_eq-Decides)) in record {
       dash = λ d. rw (c.stdin_is_taken.ensures, asked, dashes-append)
           (on_ok_weaker r (λ none. grind (arith, rw (d, none) at sum)) all);
       others = λ d. rw (c.stdin_is_taken.ensures, asked, dashes-append) (grind (arith, rw d at sum));
