@@ -17,6 +17,18 @@ pub fn blake2b_of_abc() -> Output
     blake2b(64, b"abc").unwrap()
 }
 
+/// Returns the digests of 64 and of 32 bytes of the empty message.
+pub fn blake2b_of_nothing() -> (Output, Output)
+    ensures long { result.0
+        ≡ big_bytes 32 0x786a02f742015903c6c6fd852552d272912f4740e15847618a86e217f71f5419
+        ++ big_bytes 32 0xd25e1031afee585313896444934eb04b903a685b1448b755d56f701afe9be2ce }
+    ensures short { result.1
+        ≡ big_bytes 32 0x0e5751c026e543b2e8ab2eb06099daa1d1e5df47778f7787faab45cdf12fe3a8 }
+{
+    blake2b_core::laws::vectors();
+    (blake2b(64, b"").unwrap(), blake2b(32, b"").unwrap())
+}
+
 /// A tag names one algorithm.
 pub fn tags_differ()
     ensures { (a b : Algo) → tag a ≡ tag b → a ≡ b }

@@ -1,6 +1,8 @@
 //! What follows from the laws of `sum_engine`.
-ghost use Rattle.std.specs.Prelude.{◌≡◌, ◌≢◌, ◌≤◌, ◌+◌, ◌*◌, Some, Ok, Err, false, true, IsTrue, codes, length};
-ghost use Rattle.std.specs.Prelude.{List, [], ◌∷◌, ◌++◌, take, flat_map, slice_range};
+ghost use Rattle.std.specs.Prelude.{◌≡◌, ◌≢◌, ◌≤◌, ◌+◌, ◌*◌, ℕ, Bool, true, false, IsTrue};
+ghost use Rattle.std.specs.Prelude.{Some, Ok, Err, List, [], ◌∷◌, ◌++◌, codes, length, take};
+ghost use Rattle.std.specs.Prelude.{flat_map, slice_range, slice_index_or};
+ghost use Rattle.sum_lines.specs.grammar.Shapes.{IsPlain, KindValue};
 ghost use Rattle.sum_engine.specs.Behavior.{ByteString, Content, Reads, Step, Whole, World, answer_to, clip, times};
 ghost use Rattle.sum_engine.specs.Execution.{Agrees, PerformsSteps, StreamsState, gave_at, opened_names, world_at};
 ghost use Rattle.sum_engine.specs.Generation.{generate_behavior};
@@ -8,6 +10,9 @@ ghost use Rattle.sum_engine.specs.check.CheckStates.{CheckState, initial_state};
 ghost use Rattle.sum_engine.specs.check.CheckerLaws.{TakesSteps};
 ghost use Rattle.sum_engine.specs.check.Checking.{check_behavior, content_behavior};
 ghost use Rattle.sum_engine.specs.check.Judge.{all_verdicts, verdicts, form, lines_under, own_profile};
+ghost use Rattle.sum_engine.specs.check.Judge.{EntryValue, IsEntry, escape};
+ghost use Rattle.sum_engine.specs.check.Checker.{IsStep};
+ghost use Rattle.sum_engine.specs.declared.check.progress.Progress.TheVariants.{Ended};
 ghost use Rattle.sum_engine.specs.check.OldVerdicts.{IsOldManifest, older_profile};
 ghost use Rattle.sum_engine.specs.check.ReadAhead.{remaining_before};
 ghost use Rattle.sum_engine.specs.check.Rules.{LabelsValue, Rules};
@@ -110,20 +115,47 @@ pub fn reports_so_far()
     ensures { (r : Rules) (labels : LabelsValue) (c : Content) (w : World) (b : CheckState)
         (s t : StreamsState) (vectors : List ByteString)
         → TakesSteps r labels (initial_state c w) b s t vectors
-        → t.outputs.out.written ≡ s.outputs.out.written ++ flat_map (λ step. step.out)
-        (take (length vectors) (content_behavior r labels c (all_verdicts r w c)).steps) }
+        → let steps = take (length vectors) (content_behavior r labels c (all_verdicts r w c)).steps in
+        (opened_names t.inputs ≡ opened_names s.inputs ++ flat_map (λ step. step.names) steps)
+        × (t.outputs.err.written ≡ s.outputs.err.written ++ flat_map (λ step. step.err) steps)
+        × (t.outputs.out.written ≡ s.outputs.out.written ++ flat_map (λ step. step.out) steps) }
 {
     steps_join();
     events_extend();
 }
 
-/// Lines that are added at a manifest's end change no verdict of the lines before them.
+/// A checker that ends took a step for each line, and returns whether the manifest is good. What it had read goes at
+/// most 8,192 bytes beyond the manifest's lines, and no line was longer in the vector than in the manifest.
+pub fn whole_check()
+    ensures { (r : Rules) (labels : LabelsValue) (c : Content) (w : World) (b d : CheckState)
+        (s t z : StreamsState) (vectors : List ByteString) (vector : ByteString) (good : Bool)
+        → TakesSteps r labels (initial_state c w) b s t vectors
+        → IsStep r labels vector b d t z (Ok (Ended good))
+        → (length vectors ≡ length (lines_under r.profile c))
+        × (good ≡ (content_behavior r labels c (all_verdicts r w c)).good)
+        × (b.taken ≤ length c.bytes + 8192)
+        × ((i : ℕ) → length (slice_index_or vectors i [])
+        ≤ length (slice_index_or (lines_under r.profile c) i [])) }
+{
+    steps_join();
+}
+
+/// Lines that are added at a manifest's end change no verdict of the lines before them, nor what the last of these
+/// spells, nor the form, if that one is plain.
 pub fn added_lines_change_nothing()
-    ensures { (r : Rules) (w : World) (before : List ByteString) (line : ByteString)
+    ensures verdicts { (r : Rules) (w : World) (before : List ByteString) (line : ByteString)
         (later : List ByteString) → take (length before + 1)
         (verdicts r (form r.algo (before ++ line ∷ later)) w 0 (before ++ line ∷ later))
         ≡ take (length before + 1)
         (verdicts r (form r.algo (before ++ line ∷ [])) w 0 (before ++ line ∷ [])) }
+    ensures entry { (r : Rules) (w : World) (before : List ByteString) (line : ByteString)
+        (later : List ByteString) (s : EntryValue)
+        → IsEntry escape r.algo (form r.algo (before ++ line ∷ later)) line s
+        → IsEntry escape r.algo (form r.algo (before ++ line ∷ [])) line s }
+    ensures form { (r : Rules) (w : World) (before : List ByteString) (line : ByteString)
+        (later : List ByteString) (e : Bool) (kind : KindValue) (d tail : ByteString)
+        → IsPlain r.algo line e kind d tail
+        → form r.algo (before ++ line ∷ later) ≡ form r.algo (before ++ line ∷ []) }
 {
     same_front();
 }

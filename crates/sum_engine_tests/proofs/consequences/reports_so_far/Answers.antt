@@ -7,4 +7,6 @@ pub returns : goal.returns
 returns c = λ r labels m w b s t vectors going.
     let steps = take (length vectors) (content_behavior r labels m (all_verdicts r w m)).steps in
     let did : Behavior = record { steps = steps; good = true } in
-    (c.events_extend.ensures did s t (c.steps_join.ensures r labels m w b s t vectors going).happened).2
+    let happened = (c.steps_join.ensures r labels m w b s t vectors going).happened in
+    let (asked, err, out) = c.events_extend.ensures did s t happened in
+    (asked.asked, err, out)
