@@ -1,10 +1,10 @@
 -- `generate_one`: the behavior of hashing one name, by what `hash_file` gave and what was then written.
-use Rattle.std.proofs.Common.{rules, ◌≡◌, ℕ, List, [], ◌∷◌, Result, Ok, Err, refl}
+use Rattle.std.proofs.Common.{arith, rules, ◌≡◌, ℕ, List, [], ◌∷◌, Result, Ok, Err, refl}
 use Rattle.digest_kinds.specs.Kinds.{KindValue}
 use Rattle.sum_engine.specs.Behavior.{Fault, digest_or_fault, SourceState, Step, World, answer_to}
 use Rattle.sum_engine.specs.Names.{HashFault, RefusesMemory, NoRoom, fault_in}
 use Rattle.sum_engine.proofs.HashLemmas.{HashesName}
-use Rattle.sum_sources.specs.declared.sources.hash_file.HashFault.TheVariants.{Open, Read}
+use Rattle.sum_sources.specs.declared.sources.hash_file.HashFault.TheVariants.{Open}
 use Rattle.sum_sources.specs.declared.sources.source.OpenFault.TheVariants as faults
 use Rattle.sum_engine.specs.{Generation.Settings, Generation.generate_behavior_by, Execution.AsksNames, Execution.Agrees, Execution.world_at}
 
@@ -12,16 +12,13 @@ use Rattle.sum_engine.specs.{Generation.Settings, Generation.generate_behavior_b
 pub fault_found : {kind : KindValue} {name : List ℕ} {a b : SourceState} (e : HashFault) (f : Fault) → Ok f ≡ fault_in e
     → HashesName kind name a b (Err e) → AsksNames a b (name ∷ [])
     × ((w : World) → Agrees w b → digest_or_fault kind (answer_to (world_at w a) name) ≡ Err f)
-fault_found (Open (faults.Fault e)) f is h = (h.asked, λ w agrees. rw (h.hash w agrees) (search rules))
-fault_found (Read e) f is h = (h.asked, λ w agrees. let hash = h.hash w agrees in search rules)
 fault_found (Open faults.Memory) f is h = cc
+fault_found e f is h = (h.asked, λ w agrees. let hash = h.hash w agrees in search rules)
 
 -- if there is no fault of the name, memory was refused
 pub refused_memory : {kind : KindValue} {name : List ℕ} {a b : SourceState} (e : HashFault) (f : NoRoom)
     → Err f ≡ fault_in e → HashesName kind name a b (Err e) → RefusesMemory a b
-refused_memory (Open faults.Memory) f is h = h.asked
-refused_memory (Open (faults.Fault e)) f is h = cc
-refused_memory (Read e) f is h = cc
+refused_memory e f is h = grind arith
 
 -- generation is one step
 pub one_step : (settings : Settings) (tool name : List ℕ) (x : Result (List ℕ) Fault)

@@ -34,21 +34,14 @@ pub record HashesName (kind : KindValue) (name : List ℕ) (a b : SourceState) (
 
 pub hashes_name : {kind : KindValue} {name : List ℕ} {a b : SourceState} (r : Result (List ℕ) HashFault)
     → HashesFile kind name a b r → HashesName kind name a b r
-hashes_name {name = name} {a} {b} (Ok d) h = record {
-  hash = λ w agrees.
-      let (c, is, of) = opening_agrees agrees a.openings [] name (Ok h.reads) (rw h.closed refl) in
-      let found = h.hashes.digest refl c of in search (rules, is);
-  asked = asks_one a b name _ h.closed;
-  reads = reads_one a b name (Ok h.reads) h.closed (h.hashes.past refl, λ u. h.hashes.end refl);
-}
-hashes_name {name = name} {a} {b} (Err (hashing.Read f)) h = record {
-  hash = λ w agrees.
-      let (c, is, of) = opening_agrees agrees a.openings [] name (Ok h.reads) (rw h.closed refl) in
-      let found = h.hashes.digest refl c of in search (rules, is);
-  asked = asks_one a b name _ h.closed;
-  reads = reads_one a b name (Ok h.reads) h.closed (h.hashes.past refl, λ u. absurd u);
-}
 hashes_name {name = name} {a} {b} (Err (hashing.Open (faults.Fault f))) h =
     let hash = λ (w : World) (agrees : Agrees w b). opening_agrees agrees a.openings [] name (Err f) (rw h refl) in
     search (rules, hash, asks_one, reads_one)
 hashes_name (Err (hashing.Open faults.Memory)) h = search rules
+hashes_name {name = name} {a} {b} r h = record {
+  hash = λ w agrees.
+      let (c, is, of) = opening_agrees agrees a.openings [] name (Ok h.reads) (rw h.closed refl) in
+      let found = h.hashes.digest refl c of in search (rules, is);
+  asked = asks_one a b name _ h.closed;
+  reads = reads_one a b name (Ok h.reads) h.closed (h.hashes.past refl, λ u. search (rules, h.hashes.end refl));
+}
