@@ -27,14 +27,8 @@ behavior_by r labels e k c js =
     let counts = counts_then k (counts_of js) in
     record { steps = line_steps r labels (end_text r labels e counts) c js; good = good r e counts }
 
--- the behavior of some verdicts begins with the step of the first
-behavior_by-cons : (r : Rules) (labels : LabelsValue) (e : Ending) (k : Counts) (c : Content)
-    (j : LineVerdictValue) (js : List LineVerdictValue)
-    → behavior_by r labels e k c (j ∷ js) ≡ step_then (line_step r labels (length c.bytes) j)
-    (behavior_by r labels e (counts_with k j.verdict) (past_line c) js)
-behavior_by-cons r labels e k c j js = search rules
-
--- or with that of the end; before it all of the content remains, and after it at most what is past the first line
+-- it begins with the step of the first, or with that of the end; before it all of the content remains, and after it at
+-- most what is past the first line
 pub first_step : (r : Rules) (labels : LabelsValue) (e : Ending) (k : Counts) (c : Content)
     (js : List LineVerdictValue) → (s : Step) × (later : Behavior)
     × (behavior_by r labels e k c js ≡ step_then s later) × (s.remaining ≡ length c.bytes)
@@ -42,21 +36,11 @@ pub first_step : (r : Rules) (labels : LabelsValue) (e : Ending) (k : Counts) (c
 first_step r labels e k c [] =
     (_, record { steps = []; good = good r e (counts_then k (counts_of [])) }, refl, refl, omega arith)
 first_step r labels e k c (j ∷ js) =
-    let (s, later, is, before, after) = first_step r labels e (counts_with k j.verdict) (past_line c) js in (
-      _,
-      _,
-      behavior_by-cons r labels e k c j js,
-      refl,
-      rw (ap (λ (q : Behavior). remaining_before q.steps) is, before) (omega arith),
-    )
-
--- a line was found, which is the first of those that remained
-pub found_first : (r : Rules) (labels : LabelsValue) (a b : CheckState) (j : LineVerdictValue)
-    → remaining_verdicts r a ≡ j ∷ remaining_verdicts r b
-    → b.counts ≡ counts_with a.counts j.verdict → b.remaining ≡ past_line a.remaining
-    → remaining_behavior r labels a
-    ≡ step_then (line_step r labels (length a.remaining.bytes) j) (remaining_behavior r labels b)
-found_first r labels a b j first counted remaining = search rules
+    let here = line_step r labels (length c.bytes) j in
+    let later = behavior_by r labels e (counts_with k j.verdict) (past_line c) js in
+    let begins : behavior_by r labels e k c (j ∷ js) ≡ step_then here later = search rules in
+    let (s, last, is, before, after) = first_step r labels e (counts_with k j.verdict) (past_line c) js in
+    (here, later, begins, refl, rw (ap (λ (q : Behavior). remaining_before q.steps) is, before) (omega arith))
 
 -- a step always remains
 pub going-before : (r : Rules) (labels : LabelsValue) (a : CheckState)

@@ -4,12 +4,12 @@ use Rattle.sum_engine.specs.Behavior.{Ending, Whole, Broken, World, Content, Inp
 use Rattle.sum_sources.specs.LineReaders.{remaining_content}
 use Rattle.sum_engine.specs.{check.Rules.LabelsValue, check.CheckStates.CheckState, check.CheckStates.remaining_verdicts, check.CheckStates.remaining_behavior}
 use Rattle.sum_engine.specs.check.Reports.{err_of, out_of, end_text, good}
-use Rattle.sum_engine.specs.check.Verdicts.{VerdictsValue, LineVerdict, state_at, HoldsInEachCheck, AdvancesVerdicts, AsksFor, VerdictResult, line_verdict_value, counts_after, IsNextVerdict, IsNotUnread, HasNoVerdictLeft}
+use Rattle.sum_engine.specs.check.Verdicts.{VerdictsValue, LineVerdict, state_at, HoldsInEachCheck, AdvancesVerdicts, AsksFor, VerdictResult, line_verdict_value, IsNextVerdict, IsNotUnread, HasNoVerdictLeft}
 use Rattle.sum_engine.specs.check.Checker.{CheckerValue, Progress, Going, Ended, IsStep, TakesStep}
 use Rattle.sum_engine.specs.private.Judging.{ReportsFound}
 use Rattle.sum_engine.specs.{Execution.Stop, Execution.Memory, Execution.StopHasCause, Execution.none_or_one, Execution.OutputsState, Execution.StreamsState, Execution.AsksNames, Writes.WritesAndReturns}
 use Rattle.sum_engine.proofs.{ExecutionLemmas.step_performed, ExecutionLemmas.refused_first, ExecutionLemmas.one_at_most, WorldLemmas.reads_weaker, CountLemmas.counts_then-nil}
-use Rattle.sum_engine.proofs.RemainingLemmas.{line_step, behavior_by, first_step, found_first, going-before}
+use Rattle.sum_engine.proofs.RemainingLemmas.{line_step, behavior_by, first_step, going-before}
 use Rattle.sum_sources.specs.declared.line_reader.LineStop.TheVariants as line_stops
 
 -- what follows from what holds of the states of a check holds of them, too
@@ -22,11 +22,6 @@ InEachCheck-map : {I : Type 0} {state : I → InputState} {p q : VerdictsValue I
 InEachCheck-map h f = search (f, h.holds)
 
 -- ---- a step, by the verdict that was found
-
--- who writes a text doesn't run out of memory
-not_refused : {A : Type 0} {a b : OutputsState} {err out : List ℕ} {x : A} {r : Result A Stop}
-    → WritesAndReturns a b err out x r → r ≡ Err Memory → ⊥
-not_refused said is = (rw is at said).writes
 
 -- from p and the streams a to q and the streams b
 module _ {I : Type 0} {state : I → InputState} {p q : VerdictsValue I} (a b : StreamsState) (labels : LabelsValue)
@@ -53,7 +48,7 @@ module _ {I : Type 0} {state : I → InputState} {p q : VerdictsValue I} (a b : 
           performs = did;
           going = λ h. let no = (rw h at did).0 in cc;
           failed = λ h. inl refl;
-          refused = λ h. absurd (not_refused said h);
+          refused = λ h. absurd (rw h at said).writes;
         })
 
     -- the next verdict was found, and then it was reported
@@ -69,16 +64,15 @@ module _ {I : Type 0} {state : I → InputState} {p q : VerdictsValue I} (a b : 
         rw did.rules at reported in
         InEachCheck-map found (λ c v w f.
         let k = remaining_content p.reader c in
-        let first = state_at p k v in
         let next = state_at q (remaining_content q.reader c) w in
         record {
           step = line_step p.rules labels (length k.bytes) j;
           later = remaining_behavior p.rules labels next;
-          is = found_first p.rules labels first next j f.0.first f.0.counts f.1.remaining;
+          is = search (rules, f);
           performs = rw (going-before p.rules labels next) (step_performed _ y did.asked said);
           going = λ is. (refl, f.1);
           failed = λ is. inr (refl, f.1);
-          refused = λ is. absurd (not_refused said is);
+          refused = λ is. absurd (rw is at said).writes;
         })
     -- no line was left; the end is written, and nothing remains
     step_found (Ok None) found did reported = step_end Whole _ found did.asked did.rules refl reported
@@ -108,17 +102,14 @@ module _ {I : Type 0} {state : I → InputState} {p q : VerdictsValue I} (a b : 
 wrote_cause : {A : Type 0} {a b : StreamsState} {err out : List ℕ} {y : A} (x : Result A Stop) {allowed : List ℕ}
     → b.inputs.refusals ≡ a.inputs.refusals → WritesAndReturns a.outputs b.outputs err out y x
     → StopHasCause allowed a b x
-wrote_cause (Err Memory) same h = absurd h.writes
-wrote_cause x same h = record { refusals = same; failures = h.failures }
+wrote_cause x same h = grind arith
 
 -- what follows from what was found and written
 module _ {I : Type 0} (q : VerdictsValue I) (labels : LabelsValue) (vector : List ℕ) where
   -- a step returns that all is good only at the end, and only if each listed file could be read
   good_found : (found : VerdictResult) (a b : OutputsState) → ReportsFound q labels vector found a b (Ok (Ended true))
       → (found ≡ Ok None) × (q.counts.unread ≡ 0)
-  good_found (Ok None) a b h = let p = h.writes.0 in search rules
-  good_found (Err line_stops.Memory) a b h = let p = h.0 in cc
-  good_found found a b h = let p = h.writes.0 in cc
+  good_found found a b h = grind arith
 
   -- a step goes on only after a line
   going_found : (found : VerdictResult) (a b : OutputsState) → ReportsFound q labels vector found a b (Ok Going)
@@ -130,9 +121,7 @@ module _ {I : Type 0} (q : VerdictsValue I) (labels : LabelsValue) (vector : Lis
   -- if memory runs out, neither output has changed
   unchanged_found : (found : VerdictResult) (a b : OutputsState) → ReportsFound q labels vector found a b (Err Memory)
       → b ≡ a
-  unchanged_found (Err line_stops.Memory) a b h = h.1
-  unchanged_found (Ok None) a b h = absurd h.writes
-  unchanged_found found a b h = absurd h.writes
+  unchanged_found found a b h = grind arith
 
   -- a step stops only if memory was refused, at most once, or bytes remained, or one output failed
   cause_found : (found : VerdictResult) (a b : StreamsState) {x : Result Progress Stop}
@@ -142,11 +131,6 @@ module _ {I : Type 0} (q : VerdictsValue I) (labels : LabelsValue) (vector : Lis
       (record { refusals = one_at_most a.inputs b.inputs asked; failures = rw h.1 refl })
   cause_found (Ok None) a b asked h = wrote_cause _ asked.refusals h
   cause_found found a b asked h = wrote_cause _ asked.refusals h
-
--- a file is counted as unread, or it isn't
-unread_counted : {I : Type 0} (p q : VerdictsValue I) (found : VerdictResult) → q.counts ≡ counts_after p.counts found
-    → (p.counts.unread ≤ q.counts.unread) × (q.counts.unread ≡ p.counts.unread → IsNotUnread found)
-unread_counted p q found counted = search (rules, arith)
 
 -- ---- what a step promises
 
@@ -159,7 +143,9 @@ module _ {I : Type 0} {state : I → InputState} {p q : CheckerValue I} {a b : S
   where
     pub step_taken : TakesStep state vector p q a b x
     step_taken =
-        let counted = unread_counted p.verdicts q.verdicts found did.counts in
+        let unread : p.verdicts.counts.unread ≤ q.verdicts.counts.unread = search (rules, arith) in
+        let not_unread : q.verdicts.counts.unread ≡ p.verdicts.counts.unread → IsNotUnread found =
+        search (rules, arith) in
         record {
           rules = did.rules;
           labels = labels;
@@ -172,8 +158,8 @@ module _ {I : Type 0} {state : I → InputState} {p q : CheckerValue I} {a b : S
           bounds = did.bounds;
           same = did.reader.same;
           taken = did.reader.taken;
-          unread = counted.0;
-          reads = reads_weaker counted.1 did.reads;
+          unread = unread;
+          reads = reads_weaker not_unread did.reads;
           good = λ good.
               let end = good_found q.verdicts p.labels vector found a.outputs b.outputs (rw good at wrote) in
               (did.end end.0, end.1);
