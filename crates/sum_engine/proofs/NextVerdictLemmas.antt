@@ -2,20 +2,16 @@
 use Rattle.std.proofs.Common.{rules, ◌≡◌, ◌∙◌, ℕ, ◌+◌, List, Ok, Err, Result, IfOk, Some, refl, inl, inr, ◌∷◌, ap, sym, arith, length, length-drop, ◌≤◌}
 use Rattle.sum_sources.specs.declared.{line_reader.Next.TheVariants.Line, line_reader.LineReader.LineReader, line_reader.LineStop.LineStop}
 use Rattle.sum_sources.specs.LineReaders.{AdvancesLines, IsBounded, IsReading, ReadsOn, consumed_count, reads_of, remaining_content}
-use Rattle.sum_sources.specs.{Contents.Fits, ManifestLines.lines, ManifestLines.past_line}
+use Rattle.sum_sources.specs.{Contents.Fits, ManifestLines.past_line}
 use Rattle.sum_sources.specs.declared.line_reader.LineStop.TheVariants.{Fault, Memory}
 use Rattle.sum_sources.proofs.LineLemmas.{line-some}
 use Rattle.sum_engine.specs.{check.Rules.Rules, check.CheckStates.CheckState, check.CheckStates.HandlesLine, check.CheckStates.next_judged}
-use Rattle.sum_engine.specs.check.Judge.{lines_under, line_verdict, asks_of, form_then, line_form, own_profile}
+use Rattle.sum_engine.specs.check.Judge.{lines_under, line_verdict, form_then, line_form, own_profile}
 use Rattle.sum_engine.specs.check.Verdicts.{LineVerdict, line_verdict_value, HoldsInEachCheck, IsNextVerdict, AsksFor, VerdictsValue, counts_after, state_at}
-use Rattle.sum_engine.specs.Behavior.{World, Content, InputState, SourceState, world_after}
+use Rattle.sum_engine.specs.Behavior.{World, Content, InputState, SourceState}
 use Rattle.sum_engine.specs.{Execution.Agrees, Execution.world_at, Names.NoRoom}
 use Rattle.sum_engine.specs.private.Judging.{TakesLine, parsed_at, found_verdict}
 use Rattle.sum_engine.proofs.{WorldLemmas.world_at_after, RemainingLemmas.remaining_next}
-
--- the lines of a content under the present profile
-lines_now : (r : Rules) (c : Content) → r.profile ≡ own_profile → lines_under r.profile c ≡ lines c
-lines_now r c h = rw h refl
 
 -- ---- a line was read
 
@@ -66,13 +62,10 @@ module _ {I : Type 0} {state : I → InputState} {p q : VerdictsValue I} {a b : 
           let f : next_judged p.rules first line ≡ line_verdict_value vector found =
           sym (rw h.advances.lines at (h.verdict w agrees)) in
           let lines : lines_under p.rules.profile (remaining_content p.reader c)
-          ≡ line ∷ lines_under p.rules.profile (remaining_content reader c) =
-          lines_now p.rules (remaining_content p.reader c) h.profile ∙ next.0
-          ∙ ap (λ l. line ∷ l) (sym (lines_now p.rules (remaining_content reader c) h.profile)) in
+          ≡ line ∷ lines_under p.rules.profile (remaining_content reader c) = rw h.profile next.0 in
           let sum = reads.sum Line refl c of in
           let handled : HandlesLine p.rules first last vector = search (rules, arith, lines, next, sum, f) in
-          let world : world_at w b ≡ world_after (world_at w a) (asks_of (line_verdict_value vector found)) =
-          world_at_after w a b _ h.asked in
+          let world = world_at_after w a b _ h.asked in
           (search (rules, remaining_next p.rules first last vector handled, f, world), handled);
     })
     next_verdict-line (Err e) h = rw (is_after h) (record {
@@ -112,7 +105,7 @@ next_verdict-stop {p = p} vector r rules reader (Fault f) bytes reads final boun
   before = λ reading. (reads reading).before;
   holds = λ reading c of w agrees.
       let next = (reads reading).line c of in
-      search (lines_now p.rules (remaining_content p.reader c) profile, next);
+      rw profile (search next);
 })
 next_verdict-stop {p = p} vector r rules reader Memory bytes reads final bounds profile is = rw is (record {
   reading = λ reading. (reads reading).reading;

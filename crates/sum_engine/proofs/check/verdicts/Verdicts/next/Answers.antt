@@ -1,6 +1,6 @@
 use Rattle.std.proofs.Common.{rules, arith, ◌≡◌, true, refl, ap, sym, ◌∙◌, Ok, Err}
 use Rattle.sum_lines.specs.grammar.Entries.{is_ignored, form_then}
-use Rattle.sum_lines.specs.declared.reading.read_line.Form.TheVariants.{Undecided, Standard, Reversed}
+use Rattle.sum_lines.specs.declared.reading.read_line.Form.TheVariants.{Undecided}
 use Rattle.sum_lines.{specs.Escape.own_profile, proofs.EntryLemmas.ignored_undecided}
 use Rattle.sum_engine.{proofs.WorldLemmas.asks_none, specs.check.Verdicts.VerdictsValue}
 use Rattle.sum_engine.proofs.NextVerdictLemmas.{next_verdict-line, next_verdict-stop}
@@ -25,9 +25,7 @@ returns-then-is_ignored-clause-verdict g c =
     let ignored : is_ignored line ≡ true =
     rw c.deref.ensures.value at (sym c.is_ignored.ensures ∙ c.if-is_ignored.true) in
     let undecided = ignored_undecided c.self.inside.rules.algo line ignored in
-    let same : form_then c.self.inside.form Undecided ≡ c.self.inside.form =
-    elim c.self.inside.form as (λ f. form_then f Undecided ≡ f)
-    [ Undecided ↦ refl | Standard ↦ refl | Reversed ↦ refl ] in
+    let same : form_then c.self.inside.form Undecided ≡ c.self.inside.form = grind arith in
     let count = c.count_verdict.ensures in
     let own : c.self.inside.rules.profile ≡ own_profile = search rules in
     rw (← c.self.view_is) (λ going. next_verdict-line c.next_line.new.self line c.count_verdict.new.self
