@@ -10,8 +10,7 @@ use Rattle.sum_engine.specs.check.Verdicts.{IsAtStart, VerdictsValue, state_at, 
 use Rattle.sum_engine.specs.check.Checker.{Progress, Going, Ended, IsStep, TakesStep, step_then, progress_before, CheckerValue, end_result}
 use Rattle.sum_sources.specs.declared.inputs.phase.Phase.TheVariants.{Unfinished}
 use Rattle.sum_engine.specs.{check.CheckerLaws.RunsManifest, check.ReadAhead.StopsAtStep}
-use Rattle.sum_engine.specs.declared.stop.Stop.TheVariants as stops
-use Rattle.sum_engine.specs.Execution.{Stop, Write, StreamsState, Agrees, ReadsToEndIf, world_at, PerformsSteps, StopHasCause, none_or_one}
+use Rattle.sum_engine.specs.Execution.{Stop, StreamsState, Agrees, ReadsToEndIf, world_at, PerformsSteps, StopHasCause, none_or_one}
 use Rattle.sum_engine.proofs.{ReadAheadLemmas.read_fits_clip, ReadAheadLemmas.stops_at_step, ExecutionLemmas.Happened-none}
 use Rattle.sum_engine.proofs.{WorldLemmas.agrees_before, WorldLemmas.reads_none, WorldLemmas.reads_then, BehaviorLemmas.HasDoneUpTo, BehaviorLemmas.done_more, BehaviorLemmas.done_stops}
 
@@ -32,8 +31,7 @@ state-initial start c w = rw (start.reader, start.form, start.counts) refl
 -- a step returns whether all is good only if no step remains
 pub none_left : (steps : List Step) (all good : Bool) → Ended good ≡ progress_before steps all
     → (steps ≡ []) × (good ≡ all)
-none_left [] all good h = search rules
-none_left (s ∷ steps) all good h = cc
+none_left steps all good h = grind arith
 
 -- if the last step was performed after all steps before it, the whole behavior was
 pub done_last : {whole left : Behavior} {a b : StreamsState} (c : StreamsState) (step : Step) (later : Behavior)
@@ -51,9 +49,7 @@ done_last {whole} c step later (Err stop) h is k =
 -- the cause of a stop of a step that ends or stops, after steps that went on
 cause_ends : {a b c : StreamsState} (x : Result Bool Stop) → StopHasCause {A = Bool} none_or_one a b (Ok true)
     → StopHasCause none_or_one b c (end_result x) → StopHasCause none_or_one a c x
-cause_ends (Ok good) h k = search rules
-cause_ends (Err Write) h k = search rules
-cause_ends (Err stops.Memory) h k = search rules
+cause_ends x h k = grind arith
 
 -- ---- from the first step on
 

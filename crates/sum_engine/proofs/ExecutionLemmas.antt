@@ -72,17 +72,14 @@ pub refused_first : {a b : StreamsState} {steps : List Step} (next : Step) (late
     → b.outputs ≡ a.outputs → RefusesMemory a.inputs b.inputs ⊎ ((b.inputs ≡ a.inputs) × (0 < next.remaining))
     → RunsOutOfMemory steps a b
 refused_first {a} {b} next later are outputs refused =
-    let same : with_refusals a.inputs.refusals b ≡ a = elim refused [
-      | inl one ↦ rw (one, outputs) refl
-      | inr none ↦ rw (none.0, outputs) refl
-    ] in
+    let same : with_refusals a.inputs.refusals b ≡ a = grind arith in
     record {
       done = [];
       next = next;
       later = later;
       are = are;
       happened = rw same (Happened-none a);
-      cause = elim refused [ inl one ↦ inl (rw one refl) | inr none ↦ inr (rw none.0 refl, none.1) ];
+      cause = grind arith;
     }
 
 -- ---- the cause of a stop
@@ -99,6 +96,4 @@ one_at_most a b (inr same) = (0, 0, search arith, refl, rw same.0 (omega arith))
 pub kept_performs : {A : Type 0} (steps : List Step) (x : A) (a b : StreamsState) (n : SourceState) (r : Result A Stop)
     → opened_names n ≡ opened_names b.inputs → n.refusals ≡ b.inputs.refusals → PerformsSteps steps x a b r
     → PerformsSteps steps x a (record b { inputs = n }) r
-kept_performs steps x a b n (Ok outcome) asked refusals did = search rules
-kept_performs steps x a b n (Err Write) asked refusals did = let h = did.3 in (did.0, did.1, did.2, search rules)
-kept_performs steps x a b n (Err Memory) asked refusals did = search rules
+kept_performs steps x a b n r asked refusals did = grind arith

@@ -73,12 +73,9 @@ vectors_fit : (r : Rules) (labels : LabelsValue) (a b : CheckState) (s t : Strea
     → TakesSteps r labels a b s t vectors → (i : ℕ)
     → length (slice_index_or vectors i []) ≤ length (slice_index_or (lines_under r.profile a.remaining) i [])
 vectors_fit r labels a b s t [] is i = omega arith
-vectors_fit r labels a b s t (v ∷ vectors) more zero =
-    let moves = (more.2.going refl).1 in
-    search (rules, moves.lines, moves.vector_len)
+vectors_fit r labels a b s t (v ∷ vectors) more zero = let moves = (more.2.going refl).1 in search rules
 vectors_fit r labels a b s t (v ∷ vectors) more (suc i) =
-    let moves = (more.2.going refl).1 in
-    search (rules, moves.lines, vectors_fit r labels more.0 b more.1 t vectors more.3 i)
+    let moves = (more.2.going refl).1 in search (rules, vectors_fit r labels more.0 b more.1 t vectors more.3 i)
 
 -- the law
 pub steps_join : StepsJoin

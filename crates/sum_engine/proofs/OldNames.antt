@@ -1,5 +1,5 @@
 -- A line without a carriage return, neither as a byte nor in its name, says the same under both profiles.
-use Rattle.std.proofs.Common.{rules, ◌≡◌, ◌≢◌, ℕ, ◌<◌, Bool, true, false, List, [], ◌∷◌, ◌++◌, length, refl, sym, inl, inr, arith, subst, codes, append_assoc, if◌then◌else◌}
+use Rattle.std.proofs.Common.{rules, ◌≡◌, ◌≢◌, ℕ, ◌<◌, Bool, false, List, [], ◌∷◌, ◌++◌, length, refl, sym, inl, inr, arith, subst, codes, append_assoc, if◌then◌else◌}
 use Rattle.std.proofs.lemmas.{Bool.Decides.nat_tests, List.take_at, List.drop_at}
 use Rattle.std.proofs.lemmas.List.Elements.{All-nil, All-cons, All-head, All-tail, All-take, All-drop}
 use Rattle.digest_kinds.specs.Kinds.{tag}
@@ -51,8 +51,7 @@ older_clean (b ∷ bs) free =
 -- a name that bytes without a carriage return spell by the older escape has none
 older_name : (e : Bool) (raw name : List ℕ) → HasNoCarriageReturn raw
     → raw ≡ (if e then escape_by older_profile name else name) → HasNoCarriageReturn name
-older_name true raw name free is = older_clean name (subst HasNoCarriageReturn is free)
-older_name false raw name free is = subst HasNoCarriageReturn is free
+older_name e raw name free is = grind (arith, older_clean)
 
 -- ---- the raw name
 

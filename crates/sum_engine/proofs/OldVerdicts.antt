@@ -23,13 +23,11 @@ ended_clean e (p ∷ ps) tail free =
     All-cons HasNoCarriageReturn p (ps ++ last_line e tail) (parts_clean p _ line).0 (ended_clean e ps tail rest)
 
 -- no line of a content without a carriage return has one
-pieces_clean : (c : Content) → HasNoCarriageReturn c.bytes → All HasNoCarriageReturn (raw_lines c)
-pieces_clean c free =
-    let all = cut c.bytes in
-    let lines : List ℕ → List (List ℕ) = λ bytes. raw_lines (record { bytes = bytes; ending = c.ending }) in
-    subst (λ bytes. All HasNoCarriageReturn (lines bytes)) (sym all.2)
-    (subst (All HasNoCarriageReturn) (sym (raw_lines-joined c.ending all.0 all.1 all.3 all.4))
-    (ended_clean c.ending all.0 all.1 (subst HasNoCarriageReturn all.2 free)))
+pieces_clean : (e : Ending) (bytes : List ℕ) → HasNoCarriageReturn bytes
+    → All HasNoCarriageReturn (raw_lines (record { bytes = bytes; ending = e }))
+pieces_clean e bytes free =
+    let (ended, tail, is, none, plain) = cut bytes in
+    rw (is, raw_lines-joined e ended tail none plain) (ended_clean e ended tail (rw is at free))
 
 -- ---- under both profiles
 
@@ -69,7 +67,7 @@ module _ (r : Rules) (labels : LabelsValue) where
       → (all_verdicts old w c ≡ all_verdicts new w c) × All CleanName (all_verdicts new w c)
   found_same w c h =
       let f = form r.algo (raw_lines c) in
-      let clean = pieces_clean c h.no_byte in
+      let clean = pieces_clean c.ending c.bytes h.no_byte in
       let all : All (Alike r.algo f) (raw_lines c) =
       λ k d lt. record { no_byte = clean k d lt; no_escape = h.no_escape k d lt; some = h.no_empty k d lt } in
       let Same : List (List ℕ) → Type 0 = λ ls. (all_verdicts old w c ≡ verdicts new (form r.algo ls) w 0 ls)

@@ -1,8 +1,8 @@
 -- How far a manifest was read when its check stopped.
-use Rattle.std.proofs.Common.{rules, arith, ◌≡◌, ◌≤◌, ◌+◌, ◌^◌, ℕ, List, [], ◌∷◌, ◌++◌, length, Bool, Result, Ok, Err, inl, inr, refl, ap, ◌∙◌, length-append, length-take}
+use Rattle.std.proofs.Common.{rules, arith, ◌≡◌, ◌≤◌, ◌+◌, ◌^◌, ℕ, List, [], ◌∷◌, ◌++◌, length, Bool, Result, Ok, Err, refl, ap, ◌∙◌, length-append, length-take}
 use Rattle.std.specs.Prelude.{IfErr}
 use Rattle.sum_sources.specs.{Contents.IsReadTo, Contents.clip, declared.inputs.phase.Phase.Phase}
-use Rattle.sum_sources.specs.declared.inputs.phase.Phase.TheVariants.{Unfinished, Ended, Past}
+use Rattle.sum_sources.specs.declared.inputs.phase.Phase.TheVariants.{Past}
 use Rattle.sum_sources.proofs.ContentLemmas.{limit-value}
 use Rattle.sum_engine.specs.Behavior.{Behavior, Content}
 use Rattle.sum_engine.specs.{check.Rules.Rules, check.Rules.LabelsValue, check.CheckStates.CheckState, check.CheckStates.remaining_behavior}
@@ -13,9 +13,7 @@ use Rattle.sum_engine.proofs.{BehaviorLemmas.HasDoneUpTo, BehaviorLemmas.behavio
 -- reads that didn't go past an end gave, up to the limit, not many more bytes than the content has below the limit
 pub read_fits_clip : (phase : Phase) (bytes : List ℕ) (c : Content) → ¬ (phase ≡ Past) → IsReadTo phase bytes c
     → length bytes ≤ 2 ^ 61 → length bytes ≤ length (clip c).bytes + 8192
-read_fits_clip Unfinished bytes c past of few = grind (arith, limit-value, length-take, length-append)
-read_fits_clip (Ended e) bytes c past of few = grind (arith, limit-value, length-take)
-read_fits_clip Past bytes c past of few = absurd (past refl)
+read_fits_clip phase bytes c past of few = grind (arith, limit-value, length-take, length-append)
 
 -- a check came from the state a to b, where a step ended or stopped it and left it in the state d
 pub stops_at_step : {r : Rules} {labels : LabelsValue} {vector : List ℕ} {m n : StreamsState} (o : StreamsState)
@@ -34,7 +32,4 @@ stops_at_step {r} {labels} {vector} {n = n} o a b d (Err stop) along sum step fi
     by : (stop : Stop) (s : IsStep r labels vector b d n o (Err stop))
         → d.taken + remaining_before s.later.steps ≤ length a.remaining.bytes + 8192
     by Memory s = omega (arith, s.refused refl, sum)
-    by Write s = elim (s.failed refl) [
-      | inl last ↦ rw last (omega (arith, fits))
-      | inr next ↦ rw (next.0, remaining_before-left r labels d) (omega (arith, next.1.taken, next.1.consumed, sum))
-    ]
+    by Write s = grind (arith, s.failed refl, remaining_before-left r labels d)

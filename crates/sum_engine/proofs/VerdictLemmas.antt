@@ -1,11 +1,9 @@
 -- `judge`: the verdict of an entry, by what hashing its name gave.
-use Rattle.std.proofs.Common.{◌≡◌, List, ℕ, Bool, false, Result, Err, IfOk}
-use Rattle.sum_sources.specs.declared.sources.hash_file.HashFault.TheVariants.{Read}
+use Rattle.std.proofs.Common.{arith, ◌≡◌, List, ℕ, Bool, false, Result, IfOk}
 use Rattle.sum_engine.specs.{check.Judge.Verdict, check.Reports.is_unread, private.Judging.verdict_of_hash}
 use Rattle.sum_engine.{specs.Names.HashFault, specs.Names.NoRoom, proofs.HashLemmas.IsNotBroken}
 
 -- the verdict says that the file could not be read, if reading it failed
 pub verdict_read : (ignore : Bool) (digest : List ℕ) (found : Result (List ℕ) HashFault) (x : Result Verdict NoRoom)
     → x ≡ verdict_of_hash ignore digest found → IfOk x (λ v. is_unread v ≡ false) → IsNotBroken found
-verdict_read ignore digest (Err (Read f)) x is read = let seen = rw is at read in cc
-verdict_read ignore digest found x is read = tt
+verdict_read ignore digest found x is read = grind arith

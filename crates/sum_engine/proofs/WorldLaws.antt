@@ -1,5 +1,5 @@
 -- The law that some world agrees with what was read and what is told: by the law of sources.
-use Rattle.std.proofs.Common.{◌≡◌, [], Option, None, Some, Result, Ok, Err, IfSome, refl}
+use Rattle.std.proofs.Common.{arith, ◌≡◌, [], Option, None, Some, Result, Ok, Err, IfSome, refl}
 use Rattle.sum_sources.specs.{Contents.Reads, InputLaws.some_content, declared.fault.Fault.TheVariants.NotFound}
 use Rattle.sum_sources.specs.Sources.{Answers, ToldAnswers, TellsAll, gave_at, FitsAnswer, GivesTold}
 use Rattle.sum_engine.specs.{Execution.Agrees, Behavior.Answer, Behavior.Fault, Behavior.SourceState}
@@ -30,12 +30,10 @@ told_agree tells a gives = (
   where
     agrees : (told : Option Answer) (gave : Option (Result Reads Fault))
         → IfSome told (λ told. IfSome gave (FitsAnswer told)) → IfSome gave (FitsAnswer (told_or told gave))
-    agrees None gave fits = is_given gave
-    agrees (Some told) gave fits = fits
+    agrees told gave fits = grind (arith, is_given gave)
 
     is_told : (told : Option Answer) (gave : Option (Result Reads Fault)) → IfSome told (λ t. told_or told gave ≡ t)
-    is_told None gave = tt
-    is_told (Some told) gave = refl
+    is_told told gave = grind arith
 
 -- answers that are all told are a world that agrees
 pub all_agree : (tells : ToldAnswers) (a : SourceState) (answer : Answers) → ToldAgree tells a

@@ -1,7 +1,6 @@
-use Rattle.std.proofs.Common.{rules, ◌≡◌, ℕ, List, [], None, Some, Ok, Err, refl}
+use Rattle.std.proofs.Common.{arith, rules, ◌≡◌, ℕ, List, [], None, Some, Ok, Err, refl}
 use Rattle.sum_lines.{proofs.EventLemmas.Gets-none, specs.Escape.Profile, specs.Escape.own_profile}
 use Rattle.sum_engine.specs.{check.Judge.Ignored, check.Reports.Report, check.Reports.out_by}
-use Rattle.sum_engine.specs.declared.settings.Report.TheVariants.{Quiet, Status}
 use Rattle.sum_sources.specs.declared.line_reader.LineStop.TheVariants.{Fault}
 use Rattle.sum_engine.proofs.check.checker.report_found.Goals as goal
 
@@ -30,9 +29,7 @@ returns-in_default g c =
 
 -- an ignored line has no text on standard output
 none_out : (p : Profile) (report : Report) (name : List ℕ) → out_by p report Ignored name ≡ []
-none_out p Status name = refl
-none_out p Quiet name = refl
-none_out p report name = refl
+none_out p report name = grind arith
 
 -- nothing is written about an ignored line
 pub returns-in-Ignored : goal.returns-in-Ignored

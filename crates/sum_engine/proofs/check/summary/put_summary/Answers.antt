@@ -1,21 +1,15 @@
-use Rattle.std.proofs.Common.{rules, ◌≡◌, ◌==◌, refl, ◌∙◌}
+use Rattle.std.proofs.Common.{rules, arith, ◌≡◌, ◌∙◌}
 use Rattle.sum_lines.specs.Escape.{own_profile}
 use Rattle.sum_sources.specs.declared.fault.Ending.TheVariants.{Whole}
 use Rattle.sum_engine.specs.{check.Rules.LabelsValue, check.Rules.Rules, declared.settings.Report.TheVariants.Status}
-use Rattle.sum_engine.specs.check.Reports.{Counts, Report, entries, warnings, text_unless_status, end_text}
-use Rattle.std.proofs.lemmas.Bool.{cond-false, ne_eqb}
+use Rattle.sum_engine.specs.check.Reports.{Counts, entries, warnings, end_text}
+use Rattle.std.proofs.lemmas.Bool.{ne_eqb}
 use Rattle.sum_engine.proofs.check.summary.put_summary.Goals as goal
 
 -- if there are entries, and the setting isn't `--status`, the summary is the warnings
 end_text-shown : (r : Rules) (labels : LabelsValue) (c : Counts) → (entries c ≡ 0 → ⊥)
     → (labels.report ≡ Status → ⊥) → end_text r labels Whole c ≡ warnings r labels c
-end_text-shown r labels c some shown = cond-false (entries c == 0) _ _ (ne_eqb (entries c) 0 some)
-    ∙ by labels.report shown
-  where
-    by : (report : Report) → (report ≡ Status → ⊥)
-        → text_unless_status report (warnings r labels c) ≡ warnings r labels c
-    by Status h = absurd (h refl)
-    by report h = refl
+end_text-shown r labels c some shown = grind (arith, ne_eqb (entries c) 0 some)
 
 -- there are entries, and warnings are shown
 pub returns-in_default : goal.returns-in_default
