@@ -1,5 +1,5 @@
 -- What the openings of a name gave, after one more opening and after a closing.
-use Rattle.std.proofs.Common.{◌≡◌, ℕ, zero, suc, ◌+◌, subst, Bool, true, false, List, [], ◌∷◌, ◌++◌, length, slice_set, Option, None, Some, Result, Ok, IfSome, refl, ap, sym, ◌∙◌, append-nil, bytes_eq, arith}
+use Rattle.std.proofs.Common.{rules, ◌≡◌, ℕ, zero, suc, Bool, true, false, List, [], ◌∷◌, ◌++◌, length, slice_set, Option, None, Some, Result, Ok, IfSome, refl, ap, sym, ◌∙◌, append-nil, bytes_eq, arith}
 use Rattle.std.{proofs.lemmas.Slice.Eq.bytes_eq-Decides, proofs.lemmas.List.Elements.filter_map-append, proofs.lemmas.List.Sums.sum_by-cons, specs.Prelude.slice_get, specs.Prelude.if◌then◌else◌, specs.Option.option_flatten}
 use Rattle.sum_sources.specs.{Contents.Content, Contents.Reads, Contents.InputState, Contents.HasContent, Contents.IsSameInput, Contents.Fault, Contents.HashesInput, Sources.Answer, Sources.Opening, Sources.SourceState, Sources.ToldAnswers, Sources.IsOpen, Sources.FitsAnswer, Sources.GivesTold, Sources.names_of, Sources.times, Sources.gave_of, Sources.openings_after, Sources.opened_file, Sources.and_opening, Sources.after_closing, Sources.HashesOpened}
 use Rattle.digest_kinds.specs.Kinds.{KindValue}
@@ -11,9 +11,6 @@ same_name a b is = (bytes_eq-Decides a b).0 is
 pub is_same : (a : List ℕ) → bytes_eq a a ≡ true
 is_same a = (bytes_eq-Decides a a).1 refl
 
-same_test : (o name other : List ℕ) {b : Bool} → bytes_eq name other ≡ true → bytes_eq o name ≡ b → bytes_eq o other ≡ b
-same_test o name other same is = rw (← same_name name other same) is
-
 -- what follows from either answer to a test holds
 pub true_or_false : {P : Type 0} (b : Bool) → (b ≡ true → P) → (b ≡ false → P) → P
 true_or_false true f g = f refl
@@ -21,8 +18,7 @@ true_or_false false f g = g refl
 
 -- nothing has to hold of an opening that is open, or that wasn't made
 pub none_agrees : (told : Option Answer) → IfSome told (λ told. IfSome None (FitsAnswer told))
-none_agrees None = tt
-none_agrees (Some told) = tt
+none_agrees told = grind arith
 
 -- what was read of a file in memory fits its content
 pub of_content : (file : InputState) (c : Content) → HasContent file → file.told ≡ Some c
@@ -32,21 +28,12 @@ of_content file c has told = let fits = rw told at has.1 in (c, refl, rw (sym fi
 -- one more name counts if it is that name
 times-more : (name other : List ℕ) (names : List (List ℕ))
     → times name (other ∷ names) ≡ (if bytes_eq other name then suc (times name names) else times name names)
-times-more name other names = sum_by-cons _ other names ∙ by (bytes_eq other name)
-  where
-    by : (b : Bool)
-        → (if b then 1 else 0) + times name names ≡ (if b then suc (times name names) else times name names)
-    by true = grind arith
-    by false = grind arith
+times-more name other names = sum_by-cons _ other names ∙ grind arith
 
 -- what the openings of a name gave is as long as the list of these openings
 pub gave-times : (os : List Opening) (name : List ℕ) → length (gave_of os name) ≡ times name (names_of os)
 gave-times [] name = refl
-gave-times (o ∷ os) name =
-    let next : length (gave_of (o ∷ os) name)
-    ≡ (if bytes_eq o.name name then suc (times name (names_of os)) else times name (names_of os)) =
-    grind (arith, gave-times os name) in
-    next ∙ sym (times-more name o.name (names_of os))
+gave-times (o ∷ os) name = grind (arith, gave-times os name, times-more name o.name (names_of os))
 
 -- what the openings of a name gave, of some openings followed by others
 pub gave-append : (xs ys : List Opening) (name : List ℕ)
@@ -73,38 +60,23 @@ gave-seam before later name gave =
     (gave-here (gave_of before name) (gave_of later name) gave)
 
 -- what was opened last is open
-pub opened_is_open : (tells : ToldAnswers) (a : SourceState) (name : List ℕ)
-    → IsOpen tells (and_opening a name None) (opened_file tells a name)
-opened_is_open tells a name = record { opening = gave-seam a.openings [] name None; told = refl }
-
 pub is_open_last : (tells : ToldAnswers) (a m : SourceState) (name : List ℕ) (s t : InputState)
     → s ≡ opened_file tells a name → m ≡ and_opening a name None → IsSameInput s t → IsOpen tells m t
-is_open_last tells a m name s t is opens same = record {
-  opening = rw (same, is, opens) (gave-seam a.openings [] name None);
-  told = rw (same, is, opens) refl;
-}
+is_open_last tells a m name s t is opens same =
+    let here = gave-seam a.openings [] name None in rw (same, is, opens) (record { opening = here; told = refl })
 
 -- a closing keeps the names
 pub names-closed : (os : List Opening) (name : List ℕ) (k : ℕ) (r : Reads)
     → names_of (openings_after os name k r) ≡ names_of os
 names-closed [] name k r = refl
-names-closed (o ∷ os) name zero r = grind (arith, names-closed os name zero r)
-names-closed (o ∷ os) name (suc k) r = ap (λ ns. o.name ∷ ns) (names-closed os name _ r)
+names-closed (o ∷ os) name k r = grind (arith, names-closed os)
 
 -- a closing sets what its opening gave, and keeps what the openings of another name gave
 pub gave-closing : (os : List Opening) (name : List ℕ) (k : ℕ) (r : Reads) (other : List ℕ)
     → gave_of (openings_after os name k r) other
     ≡ (if bytes_eq name other then slice_set (gave_of os other) k (Some (Ok r)) else gave_of os other)
 gave-closing [] name k r other = grind arith
-gave-closing (o ∷ os) name zero r other = true_or_false (bytes_eq o.name name)
-    (λ a. rw (a, same_name o.name name a) (grind arith))
-    (λ a. rw (a, gave-closing os name zero r other)
-    (true_or_false (bytes_eq name other) (λ c. rw (c, same_test o.name name other c a) refl) (λ c. rw c refl)))
-gave-closing (o ∷ os) name (suc k) r other = true_or_false (bytes_eq o.name name)
-    (λ a. rw (a, gave-closing os name k r other)
-    (true_or_false (bytes_eq name other) (λ c. rw (c, same_test o.name name other c a) refl) (λ c. rw c refl)))
-    (λ a. rw (a, gave-closing os name (suc k) r other)
-    (true_or_false (bytes_eq name other) (λ c. rw (c, same_test o.name name other c a) refl) (λ c. rw c refl)))
+gave-closing (o ∷ os) name k r other = grind (arith, gave-closing os, bytes_eq-Decides)
 
 -- ---- what holds of each opening, one by one
 
@@ -161,9 +133,7 @@ pub closed-seam : (before later : List Opening) (o : Opening) (r : Reads)
     → openings_after (before ++ o ∷ later) o.name (times o.name (names_of before)) r
     ≡ before ++ record o { gave = Some (Ok r) } ∷ later
 closed-seam [] later o r = rw (is_same o.name) refl
-closed-seam (x ∷ xs) later o r =
-    subst (λ k. openings_after (x ∷ (xs ++ o ∷ later)) o.name k r ≡ x ∷ (xs ++ record o { gave = Some (Ok r) } ∷ later))
-    (sym (times-more o.name x.name (names_of xs))) (grind (arith, closed-seam xs later o r))
+closed-seam (x ∷ xs) later o r = grind (arith, closed-seam xs later o r, times-more o.name x.name (names_of xs))
 
 -- ---- a file that was opened, hashed and closed, and nothing in between
 
@@ -174,6 +144,5 @@ hashed_last tells {name = name} {a = a} {t = t} is opens hashes closes = record 
   reads = t.reads;
   closed = rw (closes, opens, hashes.same, is) (ap (λ os. record a { openings = os })
       (closed-seam a.openings [] (record { name = name; gave = None }) t.reads));
-  hashes = let reads = rw (hashes.same, is) at hashes in
-      record { same = refl; digest = reads.digest; before = reads.before; end = reads.end; past = reads.past };
+  hashes = let reads = rw (hashes.same, is) at hashes in search (rules, reads);
 }
