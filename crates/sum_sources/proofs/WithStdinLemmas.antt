@@ -1,5 +1,5 @@
 -- `WithStdin`: what an opening and a closing keep.
-use Rattle.std.proofs.Common.{◌≡◌, ℕ, zero, suc, true, false, List, [], ◌∷◌, ◌++◌, length, slice_set, append-nil, Option, None, Some, Result, Ok, IfSome, refl, ap, sym, ◌∙◌, codes, bytes_eq, arith}
+use Rattle.std.proofs.Common.{◌≡◌, ℕ, true, false, List, [], ◌∷◌, ◌++◌, length, append-nil, Option, None, Some, Result, Ok, IfSome, refl, ap, sym, ◌∙◌, codes, bytes_eq, arith}
 use Rattle.std.specs.Prelude.{◌==◌, not, if◌then◌else◌, slice_get}
 use Rattle.std.{specs.Option.option_and_then, specs.Option.option_map, specs.Result.result_ok, proofs.lemmas.Slice.Eq.bytes_eq-Decides, proofs.lemmas.List.Elements.filter-append}
 use Rattle.sum_sources.specs.Contents.{Content, InputState, Reads, Fault, HasContent, empty_reads, empty_content, Whole, Unfinished}
@@ -7,18 +7,16 @@ use Rattle.sum_sources.specs.StandardInput.{closable_state, GivesUnread, given_i
 use Rattle.sum_sources.specs.Sources.{Answer, Opening, SourceState, ToldAnswers, names_of, times, gave_of, openings_after, opened_file, IsOpen, FitsAnswer}
 use Rattle.sum_sources.specs.WithStdin.{is_dash, first_or_later, answer_of_both, with_stdin_state, state_without_dash, other_openings}
 use Rattle.sum_sources.specs.{WithStdinLaws.gave-both, WithStdinStates.IsPlaceOf, WithStdinStates.GivesStdin, WithStdinStates.IsSoundWithStdin, declared.inputs.closable.Closable.Closable, declared.inputs.closable.Closable.TheVariants.Closed}
-use Rattle.sum_sources.proofs.GaveLemmas.{true_or_false, is_same, same_name, none_agrees, of_content, gives-more, gives-closed, gave-times, gave-append, gave-opening, gave-closing}
+use Rattle.sum_sources.proofs.GaveLemmas.{same_name, none_agrees, of_content, gives-more, gives-closed, gave-times, gave-append, gave-opening, gave-closing}
 
 -- names that differ also differ the other way round
 turned : (a b : List ℕ) → bytes_eq a b ≡ false → bytes_eq b a ≡ false
-turned a b apart = true_or_false (bytes_eq b a)
-    (λ is. let no = sym apart ∙ (bytes_eq-Decides a b).1 (sym (same_name b a is)) in cc) (λ is. is)
+turned a b apart = grind (arith, bytes_eq-Decides)
 
 -- ---- what is in memory
 
 ok_again : (c : Option Content) → option_and_then result_ok (option_map {U = Answer} Ok c) ≡ c
-ok_again None = refl
-ok_again (Some c) = refl
+ok_again c = grind arith
 
 -- ---- the invariant
 
@@ -42,13 +40,7 @@ other_openings-closing : (os : List Opening) (name : List ℕ) (k : ℕ) (r : Re
     → other_openings (openings_after os name k r)
     ≡ (if is_dash name then other_openings os else openings_after (other_openings os) name k r)
 other_openings-closing [] name k r = grind arith
-other_openings-closing (o ∷ os) name zero r = true_or_false (bytes_eq o.name name)
-    (λ a. rw (a, ← same_name o.name name a) (grind (arith, is_same o.name)))
-    (λ a. rw a (grind (arith, other_openings-closing os name zero r)))
-other_openings-closing (o ∷ os) name (suc k) r =
-    true_or_false (bytes_eq o.name name)
-    (λ a. rw (a, ← same_name o.name name a) (grind (arith, is_same o.name, other_openings-closing os o.name k r)))
-    (λ a. rw a (grind (arith, other_openings-closing os name (suc k) r)))
+other_openings-closing (o ∷ os) name k r = grind (arith, other_openings-closing os, bytes_eq-Decides)
 
 -- the invariant holds at first: nothing was read of standard input
 pub kept_new : {I : Type 0} (state : I → InputState) (stdin : StdinPlace I) (source : SourceState)
@@ -88,21 +80,12 @@ module _ {I : Type 0} {state : I → InputState} {first stdin : StdinPlace I} {o
         gave-append os (o ∷ []) (codes "-") ∙ rw (← same) refl in
         record {
           untaken = kept.untaken;
-          place = rw (more, takes) (later _ stdin);
+          place = rw (more, takes) (grind arith);
           given = λ k. rw more (gives-more (GivesStdin (closable_state state (given_input first))) _ None k
               (none_agrees (first_or_later (option_map Ok (closable_state state (given_input first)).told)
               (Some (Ok empty_content)) _)) (kept.given k));
           files = rw (other_openings-opening os o, is) kept.files;
         }
-      where
-        empty : (old : StdinPlace I) → is_untaken (after_taking old) ≡ false
-        empty (false, given) = refl
-        empty (true, given) = refl
-
-        later : (gs : List (Option (Result Reads Fault))) (old : StdinPlace I)
-            → IsPlaceOf first (after_taking old) (gs ++ None ∷ [])
-        later [] old = empty old
-        later (g ∷ gs) old = empty old
 
     -- the invariant is kept if a file of another name than `-` was closed in the source
     pub kept_closing : (name : List ℕ) (k : ℕ) (r : Reads) → is_dash name ≡ false
@@ -127,31 +110,16 @@ module _ {I : Type 0} {state : I → InputState} {first stdin : StdinPlace I} {o
         let now = gave-closing os (codes "-") k r (codes "-") in
         rw (← same) (record {
           untaken = kept.untaken;
-          place = rw now (back _ k stdin (rw (← same) at was) kept.place);
+          place = rw now (let here = rw (← same) at was in grind (arith, kept.place));
           given = λ j.
               rw now (gives-closed (GivesStdin (closable_state state (given_input first))) _ k j r one (kept.given j));
           files = rw (other_openings-closing os (codes "-") k r) kept.files;
         })
-      where
-        same : (old : StdinPlace I) → is_untaken (put_back old given) ≡ is_untaken old
-        same (false, i) = refl
-        same (true, None) = refl
-        same (true, Some g) = refl
-
-        back : (gs : List (Option (Result Reads Fault))) (k : ℕ) (old : StdinPlace I) → slice_get gs k ≡ Some None
-            → IsPlaceOf first old gs → IsPlaceOf first (put_back old given) (slice_set gs k (Some (Ok r)))
-        back [] k old here was = cc
-        back (g ∷ gs) zero old here was = same old ∙ was
-        back (g ∷ gs) (suc k) old here was = same old ∙ was
 
 -- it was taken if `-` was opened
 pub taken_if : {I : Type 0} (state : I → InputState) (first stdin : StdinPlace I) (os fs : List Opening)
     → IsSoundWithStdin state first stdin os fs → is_untaken stdin ≡ (times (codes "-") (names_of os) == 0)
-taken_if state first stdin os fs kept = rw (← gave-times os (codes "-")) (by _ kept.place)
-  where
-    by : (gs : List (Option (Result Reads Fault))) → IsPlaceOf first stdin gs → is_untaken stdin ≡ (length gs == 0)
-    by [] was = rw was kept.untaken
-    by (g ∷ gs) was = grind (arith, was)
+taken_if state first stdin os fs kept = rw (← gave-times os (codes "-")) (grind (arith, kept.place, kept.untaken))
 
 -- ---- what was opened, and what is closed
 
@@ -175,8 +143,7 @@ module _ {I : Type 0} {state : I → InputState} {first stdin : StdinPlace I} (t
         rw (← same, ← gave-times log.openings (codes "-")) (rw gives (by _ fresh kept.place))
       where
         empty : (place : StdinPlace I) → is_untaken place ≡ false → given_input place ≡ Closed Whole Unfinished
-        empty (false, i) is = cc
-        empty (true, i) is = refl
+        empty place is = grind arith
 
         by : (gs : List (Option (Result Reads Fault))) → GivesUnread state stdin → IsPlaceOf first stdin gs
             → record (closable_state state (given_input stdin)) { name = codes "-"; opening = length gs } ≡ record {
@@ -218,6 +185,4 @@ module _ {I : Type 0} {state : I → InputState} {first stdin : StdinPlace I} (t
             (first_or_later (option_map Ok stdin) (Some (Ok empty_content)) k)
             → IfSome (first_or_later (option_map Ok stdin) (Some (Ok empty_content)) k)
             (λ told. FitsAnswer told (Ok file.reads))
-        by None zero told = tt
-        by (Some c) zero told = of_content file c has told
-        by stdin (suc k) told = of_content file empty_content has told
+        by stdin k told = grind (arith, of_content, has)
