@@ -1,5 +1,5 @@
 -- What was read so far of a line, and what reading on adds to it.
-use Rattle.std.proofs.Common.{◌≡◌, ℕ, zero, suc, ◌+◌, ◌-◌, ◌^◌, ◌<◌, ◌≤◌, true, false, List, [], ◌∷◌, ◌++◌, length, take, drop, None, Some, Result, subst, length-drop, Ok, Err, refl, ap, sym, ◌∙◌, append_assoc, arith, length-append}
+use Rattle.std.proofs.Common.{rules, ◌≡◌, ℕ, zero, suc, ◌+◌, ◌-◌, ◌^◌, ◌<◌, ◌≤◌, true, false, List, [], ◌∷◌, ◌++◌, length, take, drop, None, Some, Result, subst, length-drop, Ok, Err, refl, ap, sym, ◌∙◌, append_assoc, arith, length-append}
 use Rattle.std.specs.Prelude.{nat_lt, if◌then◌else◌}
 use Rattle.std.{specs.Char.is_newline, proofs.Math.Seq.take-append-add, proofs.Math.Seq.drop-append_seam, proofs.lemmas.List.drop_all, proofs.lemmas.List.Elements.All-append, specs.Str.Lines.strip_carriage_return}
 use Rattle.sum_sources.specs.ManifestLines.{Next, Line, NoMore, LineStop, HasNoNewline, IsNextLine, past_line}
@@ -207,12 +207,10 @@ answer_by (Broken f) = Err (stops.Fault f)
 
 -- of a content without bytes there is no line, but its ending
 pub no_line : (e : Ending) (line : List ℕ) → IsNextLine (just e) (just e) (answer_by e) line
-no_line Whole line = (lines-nil Whole, refl, refl)
-no_line (Broken f) line = (lines-nil (Broken f), refl, refl)
+no_line e line = grind (arith, lines-nil)
 
 whole_by : (e : Ending) → answer_by e ≡ Ok NoMore → e ≡ Whole
-whole_by Whole is = refl
-whole_by (Broken f) is = cc
+whole_by e is = grind arith
 
 -- the input ended with this ending, after these bytes
 pub ReadsOn-ending : {I : Type 0} {state : I → InputState} {old s : LineReaderValue I} (m : LineReaderValue I)
@@ -242,17 +240,7 @@ ReadsOn-ending {state = state} {old = old} {s = s} m {line = line} e answer h no
 pub counted : {I : Type 0} {state : I → InputState} {old new : LineReaderValue I} {result : Result Next LineStop}
     {bytes : List ℕ} (n : ℕ) → ReadsOn state old new result bytes
     → ReadsOn state old (record new { lines = n }) result bytes
-counted n h = record {
-  line = h.line;
-  sum = h.sum;
-  reading = let was = h.reading in record {
-    under_way = λ going. let u = was.under_way going in record { phase = u.phase; taken = u.taken; ahead = u.ahead };
-    final = was.final;
-    end = was.end;
-    past = was.past;
-  };
-  before = h.before;
-}
+counted n h = let was = h.reading in search (rules, h.line, h.sum, h.before, was.under_way, was.final)
 
 -- a final answer is returned again
 pub settled_again : {I : Type 0} {state : I → InputState} {r : LineReaderValue I} (answer : Result Next LineStop)
