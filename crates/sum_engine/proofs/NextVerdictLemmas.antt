@@ -1,5 +1,5 @@
 -- `Verdicts::next`: the next verdict of a manifest, by what reading and judging its line did.
-use Rattle.std.proofs.Common.{rules, ◌≡◌, ◌∙◌, ℕ, ◌+◌, List, Ok, Err, Result, IfOk, Some, refl, inl, inr, ◌∷◌, ap, sym, arith, length, length-drop, ◌≤◌}
+use Rattle.std.proofs.Common.{rules, ◌≡◌, ◌∙◌, ℕ, ◌+◌, List, Ok, Err, Result, IfOk, Some, refl, ◌∷◌, ap, sym, arith, length, length-drop, ◌≤◌}
 use Rattle.sum_sources.specs.declared.{line_reader.Next.TheVariants.Line, line_reader.LineReader.LineReader, line_reader.LineStop.LineStop}
 use Rattle.sum_sources.specs.LineReaders.{AdvancesLines, IsBounded, IsReading, ReadsOn, consumed_count, reads_of, remaining_content}
 use Rattle.sum_sources.specs.{Contents.Fits, ManifestLines.past_line}
@@ -75,7 +75,6 @@ module _ {I : Type 0} {state : I → InputState} {p q : VerdictsValue I} {a b : 
           let reads = h.reads reading in
           let next = reads.line c of in
           let left = ap (λ (c : Content). length c.bytes) next.1 in (
-            elim h.asked [ inl refused ↦ ap (world_at w) refused | inr same ↦ ap (world_at w) same.0 ],
             line-some (remaining_content p.reader c) (remaining_content reader c) line next,
             omega (arith, h.bounds.ahead, reads.sum Line refl c of, left),
           );
@@ -112,5 +111,5 @@ next_verdict-stop {p = p} vector r rules reader Memory bytes reads final bounds 
   before = λ reading. (reads reading).before;
   holds = λ reading c of w agrees.
       let read = reads reading in
-      (refl, (read.line c of).0, reads_one_line p.reader reader bytes read final bounds c of);
+      ((read.line c of).0, reads_one_line p.reader reader bytes read final bounds c of);
 })

@@ -89,11 +89,11 @@ module _ {I : Type 0} {state : I → InputState} {p q : VerdictsValue I} (a b : 
           is = first.2;
           performs = refused_first first.0 [] refl reported.1 (elim did.asked [
             | inl refused ↦ inl refused
-            | inr same ↦ inr (same.0, rw first.3 f.1)
+            | inr same ↦ inr (same.0, rw first.3 f.0)
           ]);
           going = λ h. cc;
           failed = λ h. cc;
-          refused = λ h. omega (arith, f.2, first.4);
+          refused = λ h. omega (arith, f.1, first.4);
         }))
 
 -- ---- whatever the content and the world are

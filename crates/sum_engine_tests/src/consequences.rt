@@ -1,16 +1,20 @@
 //! What follows from the laws of `sum_engine`.
 ghost use Rattle.std.specs.Prelude.{◌≡◌, ◌≢◌, ◌≤◌, ◌+◌, ◌*◌, ℕ, Bool, true, false, IsTrue};
-ghost use Rattle.std.specs.Prelude.{Some, Ok, Err, List, [], ◌∷◌, ◌++◌, codes, length, take};
-ghost use Rattle.std.specs.Prelude.{flat_map, slice_range, slice_index_or};
+ghost use Rattle.std.specs.Prelude.{None, Some, Ok, Err, IfErr, List, [], ◌∷◌, ◌++◌, codes, length, take};
+ghost use Rattle.std.specs.Prelude.{⊤, flat_map, slice_range, slice_index_or};
 ghost use Rattle.sum_lines.specs.grammar.Shapes.{IsPlain, KindValue};
 ghost use Rattle.sum_engine.specs.Behavior.{ByteString, Content, Reads, Step, Whole, World, answer_to, clip, times};
-ghost use Rattle.sum_engine.specs.Execution.{Agrees, PerformsSteps, StreamsState, gave_at, opened_names, world_at};
+ghost use Rattle.sum_engine.specs.Behavior.{Fits, trace};
+ghost use Rattle.sum_engine.specs.Execution.{Agrees, Happened, PerformsSteps, StreamsState, gave_at};
+ghost use Rattle.sum_engine.specs.Execution.{opened_names, world_at};
 ghost use Rattle.sum_engine.specs.Generation.{generate_behavior};
-ghost use Rattle.sum_engine.specs.check.CheckStates.{CheckState, initial_state};
+ghost use Rattle.sum_engine.specs.check.CheckStates.{CheckState, counts_with, initial_state};
 ghost use Rattle.sum_engine.specs.check.CheckerLaws.{TakesSteps};
 ghost use Rattle.sum_engine.specs.check.Checking.{check_behavior, content_behavior};
 ghost use Rattle.sum_engine.specs.check.Judge.{all_verdicts, verdicts, form, lines_under, own_profile};
-ghost use Rattle.sum_engine.specs.check.Judge.{EntryValue, IsEntry, escape};
+ghost use Rattle.sum_engine.specs.check.Judge.{EntryValue, IsEntry, escape, form_then, line_form};
+ghost use Rattle.sum_engine.specs.declared.check.judge.Verdict.{Verdict};
+ghost use Rattle.sum_sources.specs.LineReaders.{IsReading, reads_of};
 ghost use Rattle.sum_engine.specs.check.Checker.{IsStep};
 ghost use Rattle.sum_engine.specs.declared.check.progress.Progress.TheVariants.{Ended};
 ghost use Rattle.sum_engine.specs.check.OldVerdicts.{IsOldManifest, older_profile};
@@ -67,7 +71,20 @@ pub fn first_step<A: Allocator, I: Input + Drop, S: Source, O: Sink, E: Sink>(
     Checker::new(settings, "md5sum", b"list", false, input).step(line, streams)
 }
 
-/// Checks a manifest. If an output fails, at most 8,192 bytes past the line of that step were read.
+/// Takes two steps of a check. If the first stopped, the second stops for the same reason.
+pub fn two_steps<A: Allocator, I: Input, S: Source, O: Sink, E: Sink>(
+    checker: &mut Checker<I>,
+    line: &mut Vec<u8, A>,
+    streams: &mut Streams<Inputs<S>, Outputs<O, E>>,
+) -> (Result<Progress, Stop>, Result<Progress, Stop>)
+    ensures { IfErr result.0 (λ stop. result.1 ≡ Err stop) }
+{
+    let first = checker.step(line, streams);
+    (first, checker.step(line, streams))
+}
+
+/// Checks a manifest. If an output fails, that is at a step after others that happened, and at most 8,192 bytes past
+/// the line of that step were read.
 pub fn check_while_written<A: Allocator + Copy, S: Source, O: Sink, E: Sink>(
     alloc: A,
     settings: CheckSettings,
@@ -79,11 +96,30 @@ pub fn check_while_written<A: Allocator + Copy, S: Source, O: Sink, E: Sink>(
         (c : Content) → answer_to at name ≡ Ok c → (r : Reads)
         → gave_at streams.new.inputs.openings name
         (times name (opened_names streams.old.inputs)) ≡ Some (Ok r)
-        → (done : List Step) × (next : Step) × (later : List Step)
+        → (done : List Step) × (next : Step) × (later : List Step) × (between : StreamsState)
         × ((check_behavior settings (codes "md5sum") at name).steps ≡ done ++ next ∷ later)
+        × Happened streams.old between (trace done)
+        × PerformsSteps {A = ⊤} (next ∷ []) tt between streams.new (Err Write)
         × (length r.bytes + remaining_before later ≤ length (clip c).bytes + 8192) }
 {
     check_one(alloc, settings, "md5sum", name, streams)
+}
+
+/// Finds the next verdict, and returns whether it is that of a line: the number of lines, the form and the counts are
+/// then those with this line.
+pub fn takes_line<A: Allocator, I: Input, S: Source>(
+    verdicts: &mut Verdicts<I>,
+    line: &mut Vec<u8, A>,
+    inputs: &mut Inputs<S>,
+) -> bool
+    requires going { verdicts.old.outcome ≡ None }
+    requires reading { IsReading I.state verdicts.old.reader }
+    ensures { IsTrue result → let p = verdicts.old in let q = verdicts.new in
+        (c : Content) → Fits (reads_of I.state q.reader) c → (w : World) → Agrees w inputs.new
+        → (l : ByteString) × (v : Verdict) × (q.reader.lines ≡ p.reader.lines + 1)
+        × (q.form ≡ form_then p.form (line_form p.rules.algo l)) × (q.counts ≡ counts_with p.counts v) }
+{
+    matches!(verdicts.next(line, inputs), Ok(Some(_)))
 }
 
 /// The number of bytes that a check has read doesn't overflow if it is multiplied by 7.

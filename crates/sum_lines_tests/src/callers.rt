@@ -1,5 +1,8 @@
-//! What callers know of sinks, and of a line that is ignored.
-ghost use Rattle.std.specs.Prelude.{◌≡◌, ◌≤◌, ◌++◌, Some, Ok, IfOk, IsTrue, codes, length, take};
+//! What callers know of sinks, and of a line that is read.
+ghost use Rattle.std.specs.Prelude.{◌≡◌, ◌≤◌, ◌++◌, Some, Ok, IfOk, IsTrue, false, codes, length, take};
+ghost use Rattle.sum_lines.specs.Escape.{escape};
+ghost use Rattle.sum_lines.specs.declared.reading.read_line.Form.TheVariants.{Standard};
+ghost use Rattle.sum_lines.specs.grammar.Entries.{EntryValue, IsEntry, is_ignored};
 
 use digest_kinds::Algos;
 use std::alloc::Allocator;
@@ -61,4 +64,16 @@ pub fn keeps_comments<A: Allocator>(algos: Algos, line: &mut Vec<u8, A>) -> bool
     ensures { IsTrue result → line.new.items ≡ line.old.items }
 {
     matches!(read_line(algos, Form::Undecided, line).0, Reading::Ignored)
+}
+
+/// Returns whether a line of a manifest in the form `Standard` is an entry: it is if it spells one, and isn't if it is
+/// ignored.
+pub fn spells_entry<A: Allocator>(algos: Algos, line: &mut Vec<u8, A>) -> bool
+    ensures entry { (s : EntryValue) → IsEntry escape algos Standard line.old.items s → IsTrue result }
+    ensures ignored { IsTrue (is_ignored line.old.items) → result ≡ false }
+{
+    matches!(
+        read_line(algos, Form::Standard, line).0,
+        Reading::Entry { .. }
+    )
 }

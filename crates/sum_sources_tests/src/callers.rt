@@ -2,6 +2,7 @@
 ghost use Rattle.std.specs.Option.{option_map};
 ghost use Rattle.std.specs.Prelude.{ℕ, ◌≡◌, ◌<◌, ◌+◌, ◌^◌, [], Some, Ok, Err, IfOk, IfSome, IsTrue};
 ghost use Rattle.std.specs.Prelude.{codes, slice_get, take};
+ghost use Rattle.sum_sources.specs.ManifestLines.{HasNoNewline};
 ghost use Rattle.sum_sources.specs.Sources.{HashesFile, first_answer, names_of};
 ghost use Rattle.sum_sources.specs.WithStdin.{other_openings};
 ghost use Rattle.sum_sources.specs.SourceStates.{both_state, source_in, told_source_state};
@@ -30,6 +31,17 @@ pub fn ask_twice<I: Input, A: Allocator>(
         (result ≡ answer) × (reader.new ≡ reader.old)) }
 {
     let _ = reader.next_line(line);
+    reader.next_line(line)
+}
+
+/// Asks for a line of which all was read ahead. So nothing is read of the input.
+pub fn ask_ahead<I: Input, A: Allocator>(
+    reader: &mut LineReader<I>,
+    line: &mut Vec<u8, A>,
+) -> Result<Next, LineStop>
+    requires { ¬ HasNoNewline reader.old.ahead }
+    ensures { reader.new.input ≡ reader.old.input }
+{
     reader.next_line(line)
 }
 

@@ -5,7 +5,7 @@ use Rattle.sum_sources.specs.LineReaders.{AdvancesLines, IsBounded, IsReading, c
 use Rattle.sum_sources.specs.declared.{inputs.phase.Phase.TheVariants.Unfinished, line_reader.LineReader.LineReader, line_reader.LineStop.TheVariants.Fault, line_reader.LineStop.TheVariants.Memory}
 pub use Rattle.sum_sources.specs.declared.line_reader.LineStop.{LineStop}
 use Rattle.sum_sources.specs.declared.{line_reader.Next.TheVariants.NoMore, line_reader.Next.Next}
-use Rattle.sum_engine.specs.Behavior.{ByteString, Ending, Whole, Broken, World, world_after, Content, InputState, SourceState, Fits}
+use Rattle.sum_engine.specs.Behavior.{ByteString, Ending, Whole, Broken, World, Content, InputState, SourceState, Fits}
 use Rattle.sum_engine.specs.Execution.{Agrees, world_at, ReadsToEndIf, AsksNames}
 use Rattle.sum_engine.specs.{Names.RefusesMemory, check.Rules.Rules, check.Judge.Form, check.Judge.LineVerdictValue, check.Judge.asks_of}
 pub use Rattle.sum_engine.specs.declared.check.judge.LineVerdict.{LineVerdict}
@@ -69,19 +69,16 @@ pub record HasNameRange (vector : ByteString) (v : LineVerdict) : Type 0 where
   pub start : v.start ≤ v.stop
   pub stop : v.stop ≤ length vector
 
--- a line was judged, the first of those that remained; its name was opened, if its verdict needs it
+-- a line was judged, the first of those that remained, and counted
 pub record FindsFirstVerdict (r : Rules) (a b : CheckState) (j : LineVerdictValue) : Type 0 where
   pub first : remaining_verdicts r a ≡ j ∷ remaining_verdicts r b
-  pub world : b.world ≡ world_after a.world (asks_of j)
   pub counts : b.counts ≡ counts_with a.counts j.verdict
 
--- no line remained, and the manifest has this ending; nothing was opened, and only the ending remains
+-- no line remained, and the manifest has this ending; nothing was counted
 pub record HasNoVerdictLeft (r : Rules) (e : Ending) (a b : CheckState) : Type 0 where
   pub verdicts : remaining_verdicts r a ≡ []
   pub ending : a.remaining.ending ≡ e
-  pub world : b.world ≡ a.world
   pub counts : b.counts ≡ a.counts
-  pub remaining : b.remaining ≡ record { bytes = []; ending = e }
 
 -- the next verdict, by what the call returns
 abbrev pub IsNextVerdict : Rules → ByteString → CheckState → CheckState → VerdictResult → Type 0
@@ -89,7 +86,7 @@ IsNextVerdict r vector a b (Ok (Some v)) =
     FindsFirstVerdict r a b (line_verdict_value vector v) × HandlesLine r a b vector
 IsNextVerdict r vector a b (Ok None) = HasNoVerdictLeft r Whole a b
 IsNextVerdict r vector a b (Err (Fault f)) = HasNoVerdictLeft r (Broken f) a b
-IsNextVerdict r vector a b (Err Memory) = (b.world ≡ a.world) × (0 < length a.remaining.bytes) × ReadsOneLine a b
+IsNextVerdict r vector a b (Err Memory) = (0 < length a.remaining.bytes) × ReadsOneLine a b
 
 -- ---- the outcome
 
