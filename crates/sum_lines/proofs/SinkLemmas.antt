@@ -22,7 +22,6 @@ Accepts-trans xs ys first second =
       full = omega (arith, first.full, second.full, length-append first.given second.given);
       cut = grind (arith, append_assoc);
       last = let one = first.last in let two = second.last in grind (arith, length-append);
-      fits = grind arith;
       gives = rw (output_events-append first.given second.given first.full)
           (Gets-then first.gives.0 second.gives.0, second.gives.1 ∙ first.gives.1);
     }
@@ -67,7 +66,6 @@ accepts_some {a} {b} c piece n made some count sink buffered =
           full = rw full refl;
           cut = grind (arith, append-nil);
           last = λ _. omega (arith, size);
-          fits = λ _. omega (arith, size);
           gives = rw sink gives;
         }
         | inr (less, same, ok) ↦ record {
@@ -75,7 +73,6 @@ accepts_some {a} {b} c piece n made some count sink buffered =
           full = refl;
           cut = grind (arith, append-nil);
           last = λ some. absurd (omega arith);
-          fits = λ _. omega (arith, size);
           gives = rw (sink, same) (Gets-none, refl);
         }
       ],

@@ -1,5 +1,5 @@
 -- A buffer over a sink, and what a call that writes a text to it does.
-use Rattle.std.specs.Prelude.{◌≡◌, ◌<◌, ◌≤◌, ◌%◌, [], ◌++◌, length, IsTrue, ⊤, Result, Ok, Err}
+use Rattle.std.specs.Prelude.{◌≡◌, ◌<◌, ◌%◌, [], ◌++◌, length, IsTrue, ⊤, Result, Ok, Err}
 use Rattle.sum_lines.specs.Sinks.{ByteString, SinkState, GivesAll}
 use Rattle.sum_lines.specs.declared.sinks.buffered.TheConstants.{CAPACITY}
 
@@ -18,7 +18,6 @@ pub record Accepts (a b : BufferState) (text : ByteString) : Type 0 where
   pub full : length given % CAPACITY ≡ 0
   pub cut : a.buffered ++ text ≡ given ++ b.buffered
   pub last : 0 < length given → 0 < length b.buffered
-  pub fits : length a.buffered ≤ CAPACITY → length b.buffered ≤ CAPACITY
   pub gives : GivesAll {E = ⊤} a.sink.output b.sink.output given (Ok tt)
 
 -- a write failed: of the buffered bytes and the text, which isn't empty, all but some last bytes were to be given to
