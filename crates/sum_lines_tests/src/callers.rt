@@ -1,5 +1,6 @@
 //! What callers know of sinks, and of a line that is read.
-ghost use Rattle.std.specs.Prelude.{◌≡◌, ◌≤◌, ◌++◌, Some, Ok, IfOk, IsTrue, false, codes, length, take};
+ghost use Rattle.std.specs.Prelude.{◌≡◌, ◌≤◌, ◌<◌, ◌+◌, ◌++◌, Some, Ok, IfOk, OnOk, OnErr, IsTrue};
+ghost use Rattle.std.specs.Prelude.{false, codes, length, take};
 ghost use Rattle.sum_lines.specs.Escape.{escape};
 ghost use Rattle.sum_lines.specs.declared.reading.read_line.Form.TheVariants.{Standard};
 ghost use Rattle.sum_lines.specs.grammar.Entries.{EntryValue, IsEntry, is_ignored};
@@ -7,7 +8,9 @@ ghost use Rattle.sum_lines.specs.grammar.Entries.{EntryValue, IsEntry, is_ignore
 use digest_kinds::Algos;
 use std::alloc::Allocator;
 use std::io::Write;
-use sum_lines::{Form, FromWrite, Output, Reading, Sink, SinkFault, ToldSink, read_line};
+use sum_lines::{
+    Buffered, Form, FromWrite, Output, Reading, Sink, SinkFault, ToldSink, put_all, read_line,
+};
 
 /// A sink in memory holds a text that it has room for, and no call has failed.
 pub fn holds_text(text: &[u8]) -> ToldSink<64>
@@ -43,6 +46,17 @@ pub fn first_bytes<W: Write>(writer: W, piece: &[u8]) -> (Result<usize, SinkFaul
     let written = sink.write(piece);
     let _ = sink.flush();
     (written, sink.into_inner())
+}
+
+/// Writes a text to a buffer. If it isn't empty, some bytes are still buffered. If the write fails, the text wasn't
+/// empty, and the sink wrote fewer bytes than it and what was buffered have.
+pub fn put<S: Sink>(sink: &mut Buffered<S>, text: &[u8]) -> Result<(), SinkFault>
+    ensures buffered { OnOk result (0 < length text.now → 0 < length sink.new.buffered) }
+    ensures nonempty { OnErr result (0 < length text.now) }
+    ensures fewer { OnErr result (length sink.new.sink.output.written
+        < length sink.old.sink.output.written + length sink.old.buffered + length text.now) }
+{
+    put_all(sink, text)
 }
 
 /// Writes nothing to a sink, which never fails.
