@@ -21,12 +21,6 @@ class Contender(collections.namedtuple("Contender", "name words program status",
 Times = collections.namedtuple("Times", "least kernel")
 
 
-def times_of(runs):
-    """What the pairs of all seconds and the kernel's seconds of some runs come to."""
-    total = sum(both for both, _ in runs)
-    return Times(min(both for both, _ in runs), sum(kernel for _, kernel in runs) / total if total else 0.0)
-
-
 def run_once(contender, stdin, stdout, folder):
     """The seconds of processor time of one run, and those of them that were the kernel's."""
     started = contender.start(stdin, stdout, folder)
@@ -45,7 +39,11 @@ def measure(contenders, rounds, stdin=os.devnull, stdout=os.devnull, folder=None
         first = turn % len(contenders)
         for contender in contenders[first:] + contenders[:first]:
             runs[contender.name].append(run_once(contender, stdin, stdout, folder))
-    return {name: times_of(some) for name, some in runs.items()}
+    found = {}
+    for name, pairs in runs.items():
+        total = sum(both for both, _ in pairs)
+        found[name] = Times(min(pairs)[0], sum(kernel for _, kernel in pairs) / total if total else 0.0)
+    return found
 
 
 def peak_memory(contender, stdin=os.devnull, stdout=os.devnull, folder=None):

@@ -97,11 +97,6 @@ class Reasons(Case):
         self.assertEqual({number: text.encode() for number, text in enumerate(found) if text}
                          | {errno.ENOENT: NOT_FOUND, errno.EACCES: REASONS[errno.EACCES]}, REASONS)
 
-    def fails_by(self, number, call, path):
-        """What stands in front of a tool so that this call for this file fails with this number."""
-        return [strace(), "-qq", "-o", os.devnull, "-P", path, "-e", f"trace={call}", "-e",
-                f"inject={call}:error={number}"]
-
     @needs_strace
     def test_numbers(self):
         """Each number of the system, of an opening and a read; some of them wherever the file is named, as GNU's tool
@@ -112,7 +107,8 @@ class Reasons(Case):
         for number, call in itertools.product(range(1, 141), ("openat", "read")):
             if (number, call) == (errno.EINTR, "openat"):
                 continue
-            front, opened = self.fails_by(number, call, path), call == "read"
+            front, opened = [strace(), "-qq", "-o", os.devnull, "-P", path, "-e", f"trace={call}", "-e",
+                             f"inject={call}:error={number}"], call == "read"
             reason = OTHER if number == errno.EINTR else REASONS.get(number, OTHER)
             ran = self.run_tool(self.folder, path, front)
             self.assertEqual(ran, Ran(1, b"", b"md5sum: %s: %s\n" % (os.fsencode(path), reason)))

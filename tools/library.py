@@ -74,16 +74,14 @@ class Library:
         """What is said of a type besides its sentence: its fields or variants, and its traits; and who has a trait."""
         if item.kind == "trait":
             types = [it for it in self.items if it.kind in ("struct", "enum", "type") and it.public]
-            found = {"Implemented by": [it.name for it in types if self.implements(it, item.name)]}
+            others = [self.code.types[it.name] for it in types if it.kind == "type"]
+            found = {"Implemented by": [it.name for it in types if it.name not in others and any(
+                re.match(rf"{item.name}\b", has) for has in self.traits(it))]}
         else:
             found = {"Fields": [it[len("pub "):] for it in item.parts if it.startswith("pub ")],
                      "Variants": item.parts if item.kind == "enum" else [],
                      "Traits": self.traits(item) if item.kind in ("struct", "enum", "type") else []}
         return [f"*{mark}:* " + ", ".join(f"`{it}`" for it in parts) for mark, parts in found.items() if parts]
-
-    def implements(self, item, trait):
-        others = [self.code.types[it.name] for it in self.items if it.kind == "type"]
-        return item.name not in others and any(re.match(rf"{trait}\b", it) for it in self.traits(item))
 
     def members(self, item):
         """The public calls of a type, and what a trait asks for, each with its bounds."""

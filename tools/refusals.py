@@ -2,7 +2,7 @@
 """Regenerates the table of docs/TESTING.md: which clause refuses which wrong version.
 
     tools/refusals.py         calls `rt must-fail`
-    tools/refusals.py FILE    takes a file with the output of that call, or of the gate"""
+    tools/refusals.py FILE    takes a file with the output of that call, of the gate or of `./test`"""
 
 import os
 import re
@@ -16,7 +16,7 @@ from sources import TOP, needs, text_of  # noqa: E402
 
 PAGE = os.path.join(TOP, "docs", "TESTING.md")
 MARKS = "<!-- made by tools/refusals.py: what stands below -->\n", "\n<!-- and above this line -->"
-LINE = re.compile(r"rt: must-fail (\w+)/([\w.-]+)\.edit: (.*)")
+LINE = re.compile(r"(?m)^rt: must-fail (\w+)/([\w.-]+)\.edit: (.*?)(?: \(\d+ of \d+\))?$")  # `./test` counts them
 # A goal of a function's own, at a line of the code, whose end may be cut; or in a proof, of the function that the
 # folders name. A proof that names a goal which is gone shows nothing.
 AT = re.compile(r"refused, as it must be: note: src/([\w/]+\.rt):(\d+):\d+: [^(]*\(`([^`]*)(`?)")

@@ -1,19 +1,19 @@
 #!/usr/bin/env python3
-"""Tries the twins of wrong versions, which the prover must accept: `tools/twins.py [--anew] [CRATE ..]`. Without
-`--anew`, a crate is left out if nothing has changed since its twins were accepted."""
+"""Makes the checks of libraries that the gate leaves out: `tools/checks.py [--anew] [CRATE ..]`. The prover must accept
+the twins of wrong versions, and no public clause may name a private field. Without `--anew`, a crate is left out if
+nothing has changed since it passed."""
 
 import re
 import runpy
-import shutil
 import sys
 import tempfile
 from pathlib import Path
 
 sys.dont_write_bytecode = True
 
-from sources import TOP, kit  # noqa: E402  (nothing is to be left beside these files)
+from sources import TOP, crates_of_program, kit  # noqa: E402  (nothing is to be left beside these files)
 
-RT, OUT = runpy.run_path(f"{kit()}/bin/rt"), Path(TOP, "out", "twins")  # the kit's own code applies and tries edits
+RT, OUT = runpy.run_path(f"{kit()}/bin/rt"), Path(TOP, "out", "checks")  # the kit's own code applies and tries edits
 
 
 def twin_of(path):
@@ -46,29 +46,35 @@ def refused(crate, group):
             edit = RT["edited"]("".join(edits), crate.folder)[0]
             return not RT["checked"](crate, edit, ["--jobs", "1"], f"{work}/kept").returncode
 
-        shutil.copytree(f"{crate.folder}/out/incremental", f"{work}/kept")
+        RT["linked"](f"{crate.folder}/out/incremental", f"{work}/kept")
         return [] if accepts(*group.values()) else [name for name, edit in group.items() if not accepts(edit)]
+
+
+def private_fields(crate):
+    """What names a private field in a crate's public clauses, if anything does."""
+    said = RT["checked"](crate, {}, ["--jobs", "1", "--private-fields", "--only", ""], None).stdout
+    return [] if "private fields: 0 found" in said else ["private fields"]
 
 
 def main(named):
     tasks, states = {}, {}
-    for crate in RT["rtlib"].crates_below(TOP):
+    for crate in (it for it in RT["rtlib"].crates_below(TOP) if it.name in (named or crates_of_program()[:-1])):
         twins = {it.stem: twin for it in sorted(Path(crate.folder, "must-fail").glob("*")) if (twin := twin_of(it))}
-        state, kept = repr((crate.stamp(), twins)), OUT / crate.name
-        if not twins or named and crate.name not in named or (
-                "--anew" not in sys.argv and kept.exists() and kept.read_text("utf-8") == state):
+        state, kept = repr((crate.stamp(), twins)), OUT / f"{crate.name}.passed"
+        if "--anew" not in sys.argv and kept.exists() and kept.read_text("utf-8") == state:
             continue
-        states[crate.name] = state, len(twins)
+        states[crate.name], needs = (state, len(twins)), RT["need"](crate)
+        tasks[crate.name, "edits"] = [], 0, needs, lambda given, jobs, it=crate: private_fields(it)
         for n, group in enumerate(groups(crate, twins)):
-            tasks[crate.name, "edits", n] = ([], len("".join(group.values())), RT["need"](crate),
+            tasks[crate.name, "edits", n] = ([], len("".join(group.values())), needs,
                                              lambda given, jobs, it=(crate, group): refused(*it))
     OUT.mkdir(parents=True, exist_ok=True)
     RT["rtlib"].guarded()  # which only the main thread may call first
     given = RT["in_lanes"](tasks)  # side by side, as many as there are processors and memory for
     for name, (state, number) in states.items():
-        bad = [twin for key, them in given.items() if key[0] == name for twin in them]
-        (OUT / name).write_text("" if bad else state, "utf-8")
-        print(f"{name}: {number - len(bad)} twins accepted, {len(bad)} refused", *bad, flush=True)
+        bad = [it for key, them in given.items() if key[0] == name for it in them]
+        (OUT / f"{name}.passed").write_text("" if bad else state, "utf-8")
+        print(f"{name}: {number} twins and private fields:", *bad or ["as they must be"], flush=True)
     return any(given.values())
 
 
