@@ -39,11 +39,8 @@ def measure(contenders, rounds, stdin=os.devnull, stdout=os.devnull, folder=None
         first = turn % len(contenders)
         for contender in contenders[first:] + contenders[:first]:
             runs[contender.name].append(run_once(contender, stdin, stdout, folder))
-    found = {}
-    for name, pairs in runs.items():
-        total = sum(both for both, _ in pairs)
-        found[name] = Times(min(pairs)[0], sum(kernel for _, kernel in pairs) / total if total else 0.0)
-    return found
+    sums = {name: [sum(seconds) for seconds in zip(*pairs)] for name, pairs in runs.items()}
+    return {name: Times(min(runs[name])[0], kernel / both if both else 0.0) for name, (both, kernel) in sums.items()}
 
 
 def peak_memory(contender, stdin=os.devnull, stdout=os.devnull, folder=None):

@@ -3,6 +3,7 @@
 the twins of wrong versions, and no public clause may name a private field. Without `--anew`, a crate is left out if
 nothing has changed since it passed."""
 
+import os
 import re
 import runpy
 import sys
@@ -41,7 +42,7 @@ def groups(crate, twins):
 
 def refused(crate, group):
     """Those of a group of twins that the prover refuses. They are tried at once, and if that fails each alone."""
-    with tempfile.TemporaryDirectory(dir=OUT) as work:
+    with tempfile.TemporaryDirectory(prefix=f"rt-edit-{os.getpid()}-") as work:
         def accepts(*edits):
             edit = RT["edited"]("".join(edits), crate.folder)[0]
             return not RT["checked"](crate, edit, ["--jobs", "1"], f"{work}/kept").returncode
@@ -69,6 +70,8 @@ def main(named):
             tasks[crate.name, "edits", n] = ([], len("".join(group.values())), needs,
                                              lambda given, jobs, it=(crate, group): refused(*it))
     OUT.mkdir(parents=True, exist_ok=True)
+    tempfile.tempdir = f"{OUT}"
+    RT["sweep"]()  # removes what killed runs left there
     RT["rtlib"].guarded()  # which only the main thread may call first
     given = RT["in_lanes"](tasks)  # side by side, as many as there are processors and memory for
     for name, (state, number) in states.items():
