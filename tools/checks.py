@@ -1,7 +1,7 @@
 #!/usr/bin/env python3
-"""Makes the checks of libraries that the gate leaves out: `tools/checks.py [--anew] [CRATE ..]`. The prover must accept
-the twins of wrong versions, and no public clause may name a private field. Without `--anew`, a crate is left out if
-nothing has changed since it passed."""
+"""Makes the checks of libraries that the gate leaves out, after a build: `tools/checks.py [--anew] [CRATE ..]`.
+The prover must accept the twins of wrong versions, and no public clause may name a private field. Without `--anew`, a
+crate is left out if nothing has changed since it passed."""
 
 import os
 import re
@@ -52,14 +52,14 @@ def refused(crate, group):
 
 
 def private_fields(crate):
-    """What names a private field in a crate's public clauses, if anything does."""
+    """What the kit says of a crate whose public clauses name a private field."""
     said = RT["checked"](crate, {}, ["--jobs", "1", "--private-fields", "--only", ""], None).stdout
-    return [] if "private fields: 0 found" in said else ["private fields"]
+    return [] if "private fields: 0 found" in said else [said]
 
 
 def main(named):
-    tasks, states = {}, {}
-    for crate in (it for it in RT["rtlib"].crates_below(TOP) if it.name in (named or crates_of_program()[:-1])):
+    tasks, states, crates = {}, {}, {it.name: it for it in RT["rtlib"].crates_below(TOP)}
+    for crate in (crates[name] for name in named or crates_of_program()[:-1]):
         twins = {it.stem: twin for it in sorted(Path(crate.folder, "must-fail").glob("*")) if (twin := twin_of(it))}
         state, kept = repr((crate.stamp(), twins)), OUT / f"{crate.name}.passed"
         if "--anew" not in sys.argv and kept.exists() and kept.read_text("utf-8") == state:
@@ -82,4 +82,4 @@ def main(named):
 
 
 if __name__ == "__main__":
-    sys.exit(main({*sys.argv[1:]} - {"--anew"}))
+    sys.exit(main([it for it in sys.argv[1:] if it != "--anew"]))
