@@ -77,7 +77,8 @@ def main(named):
     for name, (state, number) in states.items():
         bad = [it for key, them in given.items() if key[0] == name for it in them]
         (OUT / f"{name}.passed").write_text("" if bad else state, "utf-8")
-        print(f"{name}: {number} twins and private fields:", *bad or ["as they must be"], flush=True)
+        how = ["failed:", *bad] if bad else ["as they must be"]
+        print(f"{name}: {number} twins and private fields:", *how, flush=True)
     return any(given.values())
 
 
