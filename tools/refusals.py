@@ -16,7 +16,7 @@ from sources import TOP, needs, text_of  # noqa: E402
 
 PAGE = os.path.join(TOP, "docs", "TESTING.md")
 MARKS = "<!-- made by tools/refusals.py: what stands below -->\n", "\n<!-- and above this line -->"
-LINE = re.compile(r"(?m)^rt: must-fail (\w+)/([\w.-]+)\.edit: (.*?)(?: \(\d+ of \d+\))?$")  # `./test` counts them
+LINE = re.compile(r"(?m)rt: must-fail (\w+)/([\w.-]+)\.edit: (.*?)(?: \(\d+ of \d+\))?$")  # `./test` counts them
 # A goal of a function's own, at a line of the code, whose end may be cut; or in a proof, of the function that the
 # folders name. A proof that names a goal which is gone shows nothing.
 AT = re.compile(r"refused, as it must be: note: src/([\w/]+\.rt):(\d+):\d+: [^(]*\(`([^`]*)(`?)")

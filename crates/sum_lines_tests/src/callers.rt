@@ -48,8 +48,8 @@ pub fn first_bytes<W: Write>(writer: W, piece: &[u8]) -> (Result<usize, SinkFaul
     (written, sink.into_inner())
 }
 
-/// Writes a text to a buffer. If that succeeds, and the text isn't empty, some bytes are still buffered. If it fails, the
-/// text wasn't empty, and the sink wrote fewer bytes than the text and what was buffered have together.
+/// Writes a text to a buffer. If that succeeds, and the text isn't empty, some bytes are still buffered. If it fails,
+/// the text wasn't empty, and the sink wrote fewer bytes than the text and what was buffered have together.
 pub fn put<S: Sink>(sink: &mut Buffered<S>, text: &[u8]) -> Result<(), SinkFault>
     ensures buffered { OnOk result (0 < length text.now → 0 < length sink.new.buffered) }
     ensures nonempty { OnErr result (0 < length text.now) }
