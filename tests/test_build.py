@@ -7,8 +7,7 @@ import signal
 import subprocess
 
 from harness import TOP, Case, Ran, end
-from sources import text_of
-from repository import ASKED, BOTH, DEFAULT, FAST, OF_A, Repository
+from repository import BOTH, DEFAULT, FAST, OF_A, Repository
 
 
 class Build(Repository):
@@ -24,8 +23,8 @@ class Build(Repository):
         """A build has a line for each crate, with its time; what rt says is kept."""
         first, *lines = self.expect_built("nothing is built").splitlines()
         self.assertEqual(first, "digests: proving and building the program; a first build takes some minutes")
-        named = ["crate 1 of 2, low", "crate 2 of 2, digests_main", f"the program for {FAST}"]
-        self.assertEqual(sorted(re.sub(r": \d+ s$", "", line) for line in lines), named)
+        named = ["crate 1 of 1, low", f"the program for {DEFAULT}", f"the program for {FAST}"]
+        self.assertEqual([re.sub(r": \d+ s$", "", line) for line in lines], named)
         self.assertIn(b"\n== low\nrt says: lib\n", self.read(self.in_top("out/build.log")))
 
     def test_a_changed_source(self):
@@ -46,7 +45,7 @@ class Build(Repository):
         log = self.in_top("out/build.log")
         end = f"rt: this is why\ndigests: the build failed; all that the kit said is in {log}\n"
         for old in (False, True):
-            for fails, step in (("lib low", "crate 1 of 2, low"), ("run digests_main", "crate 2 of 2, digests_main"),
+            for fails, step in (("lib low", "crate 1 of 1, low"), ("run digests_main", f"the program for {DEFAULT}"),
                                 ("--cpu", f"the program for {FAST}")):
                 self.write(self.sources[0], f"{old} {fails}\n")
                 before = self.programs()
@@ -71,17 +70,15 @@ class Build(Repository):
     def test_after_a_power_cut(self):
         """An empty program is neither run nor installed, but built anew. What isn't synced doesn't count as built."""
         self.build()
-        for names, calls in ((["out/digests"], BOTH),
-                             (["out/default/digests", "crates/digests_main/out/digests_main"], ASKED)):
+        for names in (["out/digests"], ["out/default/digests", "crates/digests_main/out/digests_main"]):
             for name in names:
                 self.put(name, "")
-            said = self.expect_built(names, calls)
-            self.assertTrue(all(f"digests: {name} is empty\n" in said for name in names), said)
+            self.expect_built(names)
         os.remove(self.in_top("out/built"))
-        self.write_command("sync", "#!/bin/sh\n[ \"$*\" != '-f out' ]\n")
+        self.write_command("sync", "#!/bin/sh\n[ \"$1\" != -f ]\n")
         self.assertEqual(self.script("tools/build").status, 1)
         os.remove(self.path("commands/sync"))
-        self.expect_built("it wasn't synced", ASKED)
+        self.expect_built("it wasn't synced")
 
     def test_without_the_kit(self):
         """One line says what is missing and where README has it, before anything is made."""
@@ -94,14 +91,13 @@ class Build(Repository):
 
 
 class HowFar(Repository):
-    """A build of two crates that don't stand on each other, at a terminal. What rt says of them comes through pipes."""
+    """A build of two crates, at a terminal. What rt says of each comes through a pipe."""
 
-    def begin(self, processors, **env):
-        """Starts a build, as if there were this many processors; returns it, and the pipe of the crate `low`."""
+    def begin(self, **env):
+        """Starts a build; returns it, and the pipe of the crate `low`."""
         self.put("crates.txt", "low:\nbeside:\ndigests_main: low beside\n")
         self.put("crates/beside/src/Some.antt", "")
         self.run_command(["mkfifo", "low", "beside"])
-        self.write_command("nproc", f"#!/bin/sh\necho {processors}\n")
         self.screen, writes = self.terminal()
         env = {**self.env, "TERM": "xterm", "RT_PIPES": self.folder, **env}
         started = subprocess.Popen([self.in_top("tools/build")], env=env, stdin=subprocess.DEVNULL, stderr=writes)
@@ -114,32 +110,28 @@ class HowFar(Repository):
         while not all(text in shown for text in texts):
             shown += os.read(self.screen, 65536).decode()
 
-    def test_parallel(self):
-        """Two crates are proved at a time; each one's line counts its functions. If one fails, the other goes on."""
-        if int(re.search(r"MemAvailable: *(\d+)", text_of("/proc/meminfo"))[1]) < 8000000:
-            self.skipTest("there is too little memory for two crates at a time")
-        started, low = self.begin(4, RT_FAILS="lib low")
-        beside = self.fed("beside")
+    def test_shown(self):
+        """The line of a crate that is proved counts its functions. If one fails, no other is begun."""
+        started, low = self.begin(RT_FAILS="lib beside")
         for far in ("1 of 3 functions", "2 of 3 functions"):
-            for pipe in (low, beside):
-                pipe.write(f"so far: {far} checked\n".encode())
-            self.expect_shown(f"\033[K\033[A\033[Kcrate 1 of 3, low: {far}, ", f"\ncrate 2 of 3, beside: {far}, ")
+            low.write(f"so far: {far} checked\n".encode())
+            self.expect_shown(f"\033[A\033[Kcrate 1 of 2, low: {far}, ")
         low.close()
-        self.expect_shown("crate 1 of 3, low: failed\n", f"\033[A\033[Kcrate 2 of 3, beside: {far}, ")
+        beside = self.fed("beside")
+        self.expect_shown("\033[A\033[Kcrate 1 of 2, low: ", "crate 2 of 2, beside: ")
         beside.close()
-        self.assertEqual((started.wait(), os.path.exists(self.in_top("crates/beside/out/made"))), (1, True))
-        self.assertIn(b"== low: failed\nrt says", self.read(self.in_top("out/build.log")))
+        self.expect_shown("crate 2 of 2, beside: failed\n", "rt: this is why\n")
+        self.assertEqual((started.wait(), os.path.exists(self.in_top("crates/low/out/made"))), (1, True))
+        self.assertIn(b"== beside: failed\nrt says", self.read(self.in_top("out/build.log")))
 
     def test_ended(self):
-        """With fewer processors, one crate is proved after another. After a build was ended, the next one completes."""
+        """After a build was ended, the next one completes."""
         for number in (signal.SIGTERM, signal.SIGKILL):
-            started, low = self.begin(2)
-            self.assertRaises(OSError, os.open, self.path("beside"), os.O_WRONLY | os.O_NONBLOCK)
+            started, low = self.begin()
             started.send_signal(number)
             self.assertNotEqual(started.wait(), 0)
             low.close()
             self.build()
-            self.assertFalse(os.path.exists(self.in_top("out/steps")))
 
 
 class SameBytes(Case):
@@ -149,7 +141,7 @@ class SameBytes(Case):
         """A build in another environment, over what is kept of the proofs, gives the same."""
         if shutil.which("rt") is None:
             self.skipTest("the command rt of the Rattle kit is not on the PATH")
-        names = [os.path.join(TOP, name) for name in ("crates", "crates.txt", "tools")]
+        names = [os.path.join(TOP, name) for name in ("crates", "crates.txt", "tools", "README.md")]
         self.run_command(["sh", "-c", 'cp -Rl "$@" . 2>/dev/null || cp -R "$@" .', "sh", *names])
         self.run_command(["sh", "-c", "rm -f crates/digests_main/out/digests_main*"])  # so both are compiled anew
         env = {**os.environ, "HOME": self.folder, "TZ": "Asia/Tokyo", "USER": "other", "SOURCE_DATE_EPOCH": "1"}

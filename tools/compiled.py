@@ -71,7 +71,9 @@ def check_libraries():
     """Fails if a library isn't of what its sources are now."""
     sys.path.append(f"{kit()}/bin")
     import rtlib  # the kit's own, which knows from what a library was made
-    if stale := [it.name for it in rtlib.crates_below(TOP) if it.name in LIBRARIES and not it.is_built()]:
+    crates = [crate for crate in rtlib.crates_below(TOP) if crate.name in LIBRARIES]
+    stamps = {crate.name: rtlib.text_of(f"{crate.folder}/out/rlib/proved") for crate in crates}  # of tools/prove.py
+    if stale := [it.name for it in crates if not it.is_built() and stamps[it.name] != it.stamp()]:
         raise ValueError(f"{', '.join(stale)} isn't proved and built from what the sources are now: ./digests does it")
 
 

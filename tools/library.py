@@ -44,7 +44,8 @@ class Library:
         """What the root of a crate exports: each module's file with the names from there, or None for all of them."""
         root = "\n".join(self.lines[crate, "lib"])
         for module, names in re.findall(r"(?m)^pub use (.*)::(\{.*\}|\w+);$", root):
-            yield module.replace("::", "/"), re.findall(r"\w+", names)
+            if module not in compiled.LIBRARIES:
+                yield module.replace("::", "/"), re.findall(r"\w+", names)
         yield from ((module, None) for module in [*re.findall(r"(?m)^pub mod (\w+);$", root), "lib"])
 
     def types(self, item, name):
@@ -107,7 +108,7 @@ class Library:
             for line in self.lines[crate, file]:
                 other = re.match(r"pub use (\w+)::(?!.*::)", line)
                 for name in re.findall(r"\w+", line[other.end():]) if other and other[1] in compiled.LIBRARIES else ():
-                    if name in (names or []):
+                    if names is None or name in names:
                         yield f"- `use {other[1]}::{name}`  \n  The one of `{other[1]}`."
         yield ""
 

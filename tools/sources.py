@@ -34,11 +34,16 @@ def needs():
     return {name: re.findall(r"[^\s,]+", below) for name, below in lines}
 
 
+def below(crate):
+    """The crates of the repository that a crate stands on, the lowest first."""
+    lines = needs()
+    found = closure([crate], lambda name: (lower for lower in lines[name] if lower in lines))
+    return [name for name in lines if name in found and name != crate]
+
+
 def crates_of_program():
     """The crates of the program `digests`, in that order: it, and what it stands on."""
-    lines = needs()
-    found = closure(["digests_main"], lambda name: (it for it in lines[name] if it in lines))
-    return [name for name in lines if name in found]
+    return [*below("digests_main"), "digests_main"]
 
 
 def files(folder, ending):

@@ -10,8 +10,7 @@ from sources import text_of
 DEFAULT, FAST = "default", "x86-64-v3"
 
 # How rt is called by a build of both programs, sorted.
-ASKED = ["digests_main run -- sha256sum", "low lib"]
-BOTH = sorted([*ASKED, f"digests_main run --cpu {FAST} -- sha256sum"])
+BOTH = ["digests_main run -- sha256sum", f"digests_main run --cpu {FAST} -- sha256sum", "low lib"]
 
 # What `digests md5sum a` comes to.
 OF_A = Ran(0, f"{M}  a\n".encode(), b"")

@@ -3,7 +3,7 @@ use Rattle.std.proofs.Common.{arith, ◌≡◌, Bool, true, not, List, [], ◌�
 use Rattle.std.proofs.lemmas.{Grind.common_steps, Bool.and_parts}
 use Rattle.std.specs.{List.list_all, Str.chars, Str.is_utf8}
 use lib.Utf8.{encode}
-use Rattle.sum_engine.specs.declared.settings.CheckSettings.{CheckSettings}
+use Rattle.sum_settings.specs.declared.settings.CheckSettings.{CheckSettings}
 use Rattle.sum_words.specs.{Request.Report, Request.request, Tools.algos_of, declared.parsing.options.Flag.Flag, declared.tool.Tool.Tool, declared.parsing.request.Request.TheVariants.Check}
 use Rattle.sum_words.specs.Items.{ByteString, option, operand, a_word, items_from, full_name, takes_value, name_or_fault}
 use Rattle.digests.specs.GenerationRuns.{check_options, check_words}

@@ -1,6 +1,7 @@
 -- Runs that write one text and nothing else: a fault, the help, the version.
 use Rattle.std.proofs.Common.{ℕ, Bool, [], Result, refl}
-use Rattle.sum_engine.specs.{declared.stop.Stop.Stop, Writes.WritesAndReturns}
+use Rattle.sum_engine.specs.Writes.{WritesAndReturns}
+use Rattle.sum_settings.specs.declared.stop.Stop.{Stop}
 use Rattle.sum_engine.specs.Behavior.{single_step, ByteString}
 use Rattle.sum_engine.specs.Execution.{OutputsState, StreamsState, Performs}
 use Rattle.sum_engine.proofs.{WorldLemmas.asks_none, BehaviorLemmas.Performs-step}

@@ -2,7 +2,8 @@
 use Rattle.std.proofs.Common.{◌≡◌, ℕ, Bool, true, List, [], ◌∷◌, ◌++◌, Option, None, Some, Result, Ok, Err, ◌&&◌, Bor}
 use Rattle.std.proofs.{Math.Bool.and_assoc, lemmas.Bool.and_parts}
 use Rattle.sum_engine.proofs.WorldLemmas.{reads_then, agrees_before, world_at_after}
-use Rattle.sum_engine.specs.{declared.stop.Stop.Stop, Behavior.World, Behavior.world_after, Behavior.Step, Behavior.Behavior, Behavior.trace, Behavior.asks, Behavior.ByteString}
+use Rattle.sum_engine.specs.{Behavior.World, Behavior.world_after, Behavior.Step, Behavior.Behavior, Behavior.trace, Behavior.asks, Behavior.ByteString}
+use Rattle.sum_settings.specs.declared.stop.Stop.{Stop}
 use Rattle.sum_engine.specs.Execution.{StreamsState, ReadsToEndIf, Agrees, world_at, Happened, Performs, PerformsSteps}
 use Rattle.sum_engine.proofs.BehaviorLemmas.{behavior_then-happened, behavior_then-first, behavior_then-second, events_extend}
 use Rattle.sum_words.specs.Words.{TakesFirst}

@@ -2,7 +2,8 @@
 use Rattle.std.proofs.Common.{arith, ℕ, List, [], ◌∷◌, ◌++◌, Option, None, Result, Ok, Err, false, refl, ◌∙◌, append_assoc, append-nil}
 use Rattle.sum_engine.specs.Behavior.{World, Step, Behavior, trace, single_step, ByteString}
 use Rattle.sum_engine.specs.Execution.{OutputsState, StreamsState, world_at, FailuresMatch, Performs, PerformsSteps}
-use Rattle.sum_engine.specs.{declared.stop.Stop.TheVariants.Memory, declared.stop.Stop.TheVariants.Write, Writes.WritesBoth, Writes.WritesAndReturns}
+use Rattle.sum_engine.specs.{Writes.WritesBoth, Writes.WritesAndReturns}
+use Rattle.sum_settings.specs.declared.{stop.Stop.TheVariants.Memory, stop.Stop.TheVariants.Write}
 use Rattle.sum_engine.proofs.{WorldLemmas.asks_none, ExecutionLemmas.Happened-then, ExecutionLemmas.step_performed}
 use Rattle.sum_words.specs.{Texts.Stop, declared.tool.Tool.Tool}
 use Rattle.digests.specs.{Meaning.status_of, Program.CallPerforms, Program.CallRefuses}

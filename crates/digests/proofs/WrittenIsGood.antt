@@ -3,7 +3,8 @@ use Rattle.std.proofs.Common.{rules, ◌≡◌, ℕ, false, List, [], ◌∷◌,
 use Rattle.std.proofs.lemmas.{List.length-map, List.map-append, Simd.map-map, List.Concat.flat_map-append, List.Folds.flat_map-map}
 use Rattle.std.proofs.lemmas.List.Elements.{All-nil, All-head, All-tail, All-append, All-map}
 use Rattle.digest_kinds.specs.Kinds.{digest}
-use Rattle.sum_engine.specs.{declared.check.judge.Verdict.TheVariants.Right, declared.settings.Settings.Settings, check.Reports.out_by, Generation.generate_behavior}
+use Rattle.sum_engine.specs.{declared.check.judge.Verdict.TheVariants.Right, check.Reports.out_by, Generation.generate_behavior}
+use Rattle.sum_settings.specs.declared.settings.Settings.{Settings}
 use Rattle.sum_lines.specs.Escape.{own_profile}
 use Rattle.sum_engine.specs.Behavior.{World, answer_to, world_after, digest_or_fault, out_text, asks, times, ByteString}
 use Rattle.sum_sources.specs.Sources.{Answer}

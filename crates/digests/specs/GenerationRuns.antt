@@ -1,7 +1,8 @@
 -- What generation wrote is good: a later check of it reports OK for each file, if the files remain unchanged.
 use Rattle.std.specs.Prelude.{ℕ, ◌≡◌, ◌<◌, false, List, [], ◌∷◌, ◌++◌, IsTrue, length, map, flat_map, codes, if◌then◌else◌, All, Ok, option_to_list}
 use Rattle.digest_kinds.specs.Kinds.{has_len}
-use Rattle.sum_engine.specs.declared.{check.judge.Verdict.TheVariants.Right, settings.Settings.Settings, settings.CheckSettings.CheckSettings}
+use Rattle.sum_engine.specs.declared.check.judge.Verdict.TheVariants.{Right}
+use Rattle.sum_settings.specs.declared.{settings.Settings.Settings, settings.CheckSettings.CheckSettings}
 use Rattle.sum_engine.specs.{check.Reports.out_by, Generation.generate_behavior}
 use Rattle.sum_lines.specs.{Escape.own_profile, grammar.LineLaws.AllowsMode}
 use Rattle.sum_engine.specs.Behavior.{Whole, World, Behavior, is_dash, answer_to, out_text, err_text}

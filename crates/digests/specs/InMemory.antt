@@ -1,7 +1,8 @@
 -- The headline for files in memory: what a run does if its source tells all answers.
 use Rattle.std.specs.Prelude.{ℕ, ◌≡◌, ◌⊎◌, List, Option, None, Some, Result, Ok}
 use Rattle.sum_sources.specs.Sources.{Answers, ToldAnswers, TellsAll}
-use Rattle.sum_engine.specs.{Behavior.ByteString, Behavior.World, declared.stop.Stop.Stop}
+use Rattle.sum_engine.specs.{Behavior.ByteString, Behavior.World}
+use Rattle.sum_settings.specs.declared.stop.Stop.{Stop}
 use Rattle.sum_engine.specs.Execution.{StreamsState, opened_names, ReadsToEndIf, PerformsSteps, Performs}
 use Rattle.sum_words.specs.{Arguments.ArgumentsState, CommandLines.command_line, CommandLines.NeedsMemory, Texts.unknown_tool_line, Texts.not_read_line}
 use Rattle.sum_words.specs.declared.tool.Tool.{Tool}

@@ -8,11 +8,12 @@ use Rattle.blake2b_core.specs.Digest.{hash_after as blake2b_after, blake2b}
 use Rattle.sum_engine.specs.Behavior.{World, answer_to, digest_or_fault, Fault, Whole, Broken, out_text, err_text, asks}
 use Rattle.digest_kinds.specs.{Kinds.full_kind, declared.algo.Algo.Algo, declared.algo.Algo.TheVariants.Md5, declared.algo.Algos.Algos}
 use Rattle.hex.specs.Hex.{encode_with, decode_pairs}
-use Rattle.sum_lines.specs.{declared.writing.put_line.Mode.Mode, declared.writing.put_line.Mode.TheVariants.Text, Lines.line, grammar.LineParts.plain_parts, grammar.LineParts.tagged_parts, grammar.ParsedLines.entry_of}
+use Rattle.sum_lines.specs.{Lines.line, grammar.LineParts.plain_parts, grammar.LineParts.tagged_parts, grammar.ParsedLines.entry_of}
 use Rattle.sum_sources.specs.{declared.fault.Fault.TheVariants.NotFound, declared.fault.Fault.TheVariants.Other, ManifestLines.raw_lines, Contents.Content, Contents.limit, Contents.empty_content, Sources.Answer, WithStdin.answers_with}
 use Rattle.sum_words.specs.{declared.tool.Tool.Tool, declared.tool.Tool.TheVariants.Md5sum, declared.tool.Tool.TheVariants.B2sum, declared.tool.Tool.TheVariants.Anysum, Items.ByteString, Texts.not_read_line}
 use Rattle.sum_words_tests.proofs.WorkedExamples.{words, words_on_literals}
-use Rattle.sum_engine.specs.{declared.settings.CheckSettings.CheckSettings, declared.settings.Report.TheVariants.All, declared.stop.Stop.Stop, Execution.Agrees, Execution.StreamsState, Execution.PerformsSteps}
+use Rattle.sum_engine.specs.{Execution.Agrees, Execution.StreamsState, Execution.PerformsSteps}
+use Rattle.sum_settings.specs.declared.{settings.CheckSettings.CheckSettings, settings.Report.TheVariants.All, stop.Stop.Stop, style.Mode.Mode, style.Mode.TheVariants.Text}
 use Rattle.sum_engine.proofs.BehaviorLemmas.{events_extend}
 use Rattle.digests.specs.{Meaning.meaning, Meaning.status_of, GenerationRuns.GenerationRun, Program.CallPerforms, Program.CallRefuses}
 

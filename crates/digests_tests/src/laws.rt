@@ -3,7 +3,7 @@ ghost use Rattle.digests.specs.GenerationRuns.{HasFiles, IsListable};
 ghost use Rattle.digests.specs.Meaning.{meaning, status_of};
 ghost use Rattle.std.specs.Prelude.{All, ◌≡◌, ◌≢◌, ◌<◌, ◌∷◌, ◌++◌, [], Ok, Err, IfOk, Some, codes, length};
 ghost use Rattle.sum_engine.specs.Behavior.{Reads, Whole, World, answer_to, out_text, err_text};
-ghost use Rattle.sum_engine.specs.declared.stop.Stop.TheVariants.{Memory};
+ghost use Rattle.sum_settings.specs.declared.stop.Stop.TheVariants.{Memory};
 ghost use Rattle.sum_sources.specs.Contents.{empty_content, limit};
 ghost use Rattle.sum_sources.specs.Sources.{Answer as AnswerValue, Answers, TellsAll};
 ghost use Rattle.sum_sources.specs.declared.inputs.phase.Phase.TheVariants.{Ended as EndedBy};

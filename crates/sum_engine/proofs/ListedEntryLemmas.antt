@@ -4,7 +4,8 @@ use Rattle.std.specs.{Char.is_newline, Str.Lines.strip_carriage_return}
 use Rattle.std.proofs.lemmas.{Bool.ne_eqb, List.append-nil, List.append_cancel_right, List.Elements.All-nil, List.Elements.All-map, List.Elements.All-weaker}
 use Rattle.digest_kinds.specs.{Kinds.KindValue, Kinds.has_len, Kinds.digest, declared.algo.Algos.Algos}
 use Rattle.digest_kinds.proofs.DigestLemmas.{length-digest, IsBytes-digest}
-use Rattle.sum_lines.specs.declared.{reading.read_line.Form.TheVariants.Undecided, reading.read_line.Form.TheVariants.Standard, writing.put_line.Mode.Mode}
+use Rattle.sum_lines.specs.declared.reading.read_line.Form.TheVariants.{Undecided, Standard}
+use Rattle.sum_settings.specs.declared.style.Mode.{Mode}
 use Rattle.sum_lines.specs.{Escape.escape, Lines.line, grammar.Entries.EntryValue, grammar.Entries.IsEntry, grammar.Entries.form, grammar.LineLaws.AllowsMode}
 use Rattle.sum_lines.proofs.PutLineLemmas.{prefix_of, read_back}
 use Rattle.sum_engine.specs.{Behavior.Whole, Behavior.is_dash, Behavior.Answer, check.OldVerdicts.HasNoCarriageReturn}

@@ -5,8 +5,8 @@ use Rattle.sum_sources.specs.declared.{inputs.phase.Phase.TheVariants.Ended, inp
 pub use Rattle.sum_sources.specs.Sources.{Opening, FitsAnswer, names_of, gave_at}
 use Rattle.sum_lines.specs.Sinks.{OutputState, Gets}
 pub use Rattle.sum_engine.specs.declared.streams.Streams.{Streams}
-pub use Rattle.sum_engine.specs.declared.stop.Stop.{Stop}
-pub use Rattle.sum_engine.specs.declared.stop.Stop.TheVariants.{Memory, Write}
+pub use Rattle.sum_settings.specs.declared.stop.Stop.{Stop}
+pub use Rattle.sum_settings.specs.declared.stop.Stop.TheVariants.{Memory, Write}
 use Rattle.sum_engine.specs.Behavior.{ByteString, World, Event, Step, Behavior, trace, opened_name, err_event, out_event, Reads, SourceState, Fault}
 
 -- both outputs

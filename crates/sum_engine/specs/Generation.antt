@@ -4,7 +4,7 @@ use Rattle.std.specs.List.{concat}
 use Rattle.sum_engine.specs.Behavior.{ByteString, Fault, World, answer_to, digest_or_fault, Behavior, single_step}
 use Rattle.sum_sources.specs.Faults.{fault_text}
 use Rattle.sum_lines.specs.{Lines.line, Escape.Profile, Escape.own_profile, Escape.escape_by}
-pub use Rattle.sum_engine.specs.declared.settings.Settings.{Settings}
+pub use Rattle.sum_settings.specs.declared.settings.Settings.{Settings}
 
 -- TOOL: NAME: TEXT
 abbrev pub tool_line : Profile → ByteString → ByteString → ByteString → ByteString

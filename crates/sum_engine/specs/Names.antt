@@ -1,6 +1,6 @@
 -- Relates opening and hashing a name to what the source did.
 use Rattle.std.specs.Prelude.{◌≡◌, ◌+◌, Result, Ok, Err}
-pub use Rattle.sum_sources.specs.declared.fault.NoRoom.{NoRoom}
+pub use Rattle.sum_settings.specs.declared.stop.NoRoom.{NoRoom}
 pub use Rattle.sum_sources.specs.declared.sources.hash_file.HashFault.{HashFault}
 use Rattle.sum_engine.specs.Behavior.{Fault, SourceState}
 use Rattle.sum_sources.specs.declared.sources.hash_file.HashFault.TheVariants as hashing

@@ -5,11 +5,10 @@ ghost use Rattle.sum_engine.specs.Generation.{generate_behavior};
 ghost use Rattle.sum_engine.specs.Names.{fault_in};
 
 use crate::inputs::Inputs;
-use crate::settings::Settings;
-use crate::stop::Stop;
 use crate::streams::{Outputs, Streams};
 use crate::tool_lines::NameFaultLine;
 use sum_lines::{DigestLine, Sink};
+use sum_settings::{Settings, Stop};
 use sum_sources::{Fault, HashFault, NoRoom, OpenFault, Source};
 
 /// Hashes the file of this name. Its line goes to `out`, or a line with the fault to `err`

@@ -24,8 +24,6 @@ mod check;
 mod generate;
 mod inputs;
 pub mod laws;
-mod settings;
-mod stop;
 mod streams;
 mod tool_lines;
 
@@ -36,6 +34,5 @@ pub use check::progress::Progress;
 pub use check::verdicts::Verdicts;
 pub use generate::generate_one;
 pub use inputs::Inputs;
-pub use settings::{CheckSettings, Report, Settings};
-pub use stop::Stop;
 pub use streams::{Outputs, Streams};
+pub use sum_settings::{CheckSettings, Report, Settings, Stop};

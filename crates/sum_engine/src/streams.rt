@@ -3,9 +3,9 @@ ghost use Rattle.std.specs.Prelude.{◌≡◌, IsTrue, []};
 ghost use Rattle.sum_engine.specs.Writes.{WritesAndReturns};
 
 use crate::inputs::Inputs;
-use crate::stop::Stop;
 use std::marker::Model;
 use sum_lines::{Output, Sink, Text};
+use sum_settings::Stop;
 use sum_sources::Source;
 
 /// Both outputs.

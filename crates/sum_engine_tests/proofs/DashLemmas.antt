@@ -1,7 +1,8 @@
 -- `hash_with_stdin` and `check_once`: how often what a call performed opens `-`.
 use Rattle.std.proofs.Common.{arith, ◌≡◌, ◌∙◌, ◌+◌, ℕ, true, List, [], ◌∷◌, ◌++◌, Result, Ok, Err, refl, ap, sym, append-nil, codes, flat_map, filter_map}
 use Rattle.std.{specs.Prelude.OnOk, proofs.lemmas.Grind.flat_map-append, proofs.lemmas.List.Elements.filter_map-append, proofs.lemmas.List.Sums.sum_by-append, proofs.lemmas.Slice.Eq.bytes_eq-Decides}
-use Rattle.sum_engine.{specs.Behavior.Answer, specs.Behavior.ByteString, specs.Behavior.Content, specs.Behavior.Step, specs.Behavior.World, specs.Behavior.is_dash, specs.Behavior.opened_name, specs.Behavior.times, specs.Behavior.trace, specs.Execution.PerformsSteps, specs.Execution.StreamsState, specs.Execution.opened_names, specs.declared.settings.CheckSettings.CheckSettings, specs.declared.stop.Stop.Stop, specs.declared.stop.Stop.TheVariants.Memory, specs.declared.stop.Stop.TheVariants.Write}
+use Rattle.sum_engine.{specs.Behavior.Answer, specs.Behavior.ByteString, specs.Behavior.Content, specs.Behavior.Step, specs.Behavior.World, specs.Behavior.is_dash, specs.Behavior.opened_name, specs.Behavior.times, specs.Behavior.trace, specs.Execution.PerformsSteps, specs.Execution.StreamsState, specs.Execution.opened_names}
+use Rattle.sum_settings.specs.declared.{settings.CheckSettings.CheckSettings, stop.Stop.Stop, stop.Stop.TheVariants.Memory, stop.Stop.TheVariants.Write}
 use Rattle.sum_engine.specs.check.{Checking.check_behavior_by, Checking.line_steps, Judge.Form, Judge.verdicts, Rules.LabelsValue, Rules.Rules, Rules.labels_of, Rules.rules_of}
 
 -- how often `-` is among names

@@ -21,8 +21,8 @@ ghost use Rattle.sum_engine.specs.check.OldVerdicts.{IsOldManifest, older_profil
 ghost use Rattle.sum_engine.specs.check.ReadAhead.{remaining_before};
 ghost use Rattle.sum_engine.specs.check.Rules.{LabelsValue, Rules};
 ghost use Rattle.sum_engine.specs.check.Verdicts.{HasNameRange};
-ghost use Rattle.sum_engine.specs.declared.settings.Report.TheVariants.{All};
-ghost use Rattle.sum_engine.specs.declared.stop.Stop.TheVariants.{Memory, Write};
+ghost use Rattle.sum_settings.specs.declared.settings.Report.TheVariants.{All};
+ghost use Rattle.sum_settings.specs.declared.stop.Stop.TheVariants.{Memory, Write};
 
 use digest_kinds::Algos;
 use std::alloc::Allocator;

@@ -6,7 +6,7 @@ use Rattle.std.specs.{Char.is_ascii_digit, List.AllPass, List.list_all}
 use Rattle.hex.{specs.Hex.encode_lower, specs.Hex.is_hex_digit, proofs.HexLemmas.decode_of-encode_lower}
 use Rattle.digest_kinds.specs.{Kinds.KindValue, Kinds.tag, KindTexts.IsWidth, declared.algo.Algo.TheVariants.Blake2b}
 use Rattle.digest_kinds.proofs.{BitsLemmas.decimal-digits, KindLemmas.has_len-range, PrefixLemmas.none_of}
-use Rattle.sum_lines.specs.declared.writing.put_line.Mode.{Mode}
+use Rattle.sum_settings.specs.declared.style.Mode.{Mode}
 use Rattle.sum_lines.specs.{Escape.escape, Escape.escape_differs, grammar.LineParts.plain_parts}
 use Rattle.sum_lines.specs.grammar.Shapes.{Algos, One, mark, Allows, IsPlain, IsTagged}
 use Rattle.sum_lines.specs.grammar.Entries.{Form, Undecided, Standard, begins_standard, IsEntry, line_form, form}

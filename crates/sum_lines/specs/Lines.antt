@@ -3,8 +3,8 @@ use Rattle.std.specs.Prelude.{[], ◌∷◌, ◌++◌, codes, if◌then◌else�
 use Rattle.std.specs.List.{concat}
 use Rattle.hex.specs.Hex.{encode_lower}
 use Rattle.digest_kinds.specs.KindTexts.{kind_text}
-pub use Rattle.sum_lines.specs.declared.writing.put_line.{Style.Style, Mode.Mode}
-use Rattle.sum_lines.specs.declared.writing.put_line.Mode.TheVariants.{Text, Binary, Tag}
+pub use Rattle.sum_settings.specs.declared.style.{Style.Style, Mode.Mode}
+use Rattle.sum_settings.specs.declared.style.Mode.TheVariants.{Text, Binary, Tag}
 use Rattle.sum_lines.specs.Escape.{escape, escape_differs}
 use Rattle.sum_lines.specs.grammar.Shapes.{ByteString, mark, KindValue}
 

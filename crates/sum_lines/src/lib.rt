@@ -26,5 +26,6 @@ pub use sinks::output::{Output, Text};
 pub use sinks::sink::{Sink, SinkFault};
 pub use sinks::told_sink::ToldSink;
 pub use sinks::writes::{Flushed, Offer, Writes};
+pub use sum_settings::{Mode, Style};
 pub use writing::parts::{Part, Parts, put_number, put_parts};
-pub use writing::put_line::{DigestLine, Mode, Style, mark_and_name, put_line};
+pub use writing::put_line::{DigestLine, mark_and_name, put_line};

@@ -6,8 +6,8 @@ ghost use Rattle.std.specs.Prelude.{◌≡◌, ◌≤◌, Bool, false, List, ◌
 ghost use Rattle.sum_lines.specs.Escape.{ByteString, Profile, escape, escape_by};
 ghost use Rattle.sum_lines.specs.Lines.{line};
 ghost use Rattle.sum_lines.specs.Sinks.{pieces};
-ghost use Rattle.sum_lines.specs.declared.writing.put_line.Mode.TheVariants.{Tag};
-ghost use Rattle.sum_lines.specs.declared.writing.put_line.Style.{Style};
+ghost use Rattle.sum_settings.specs.declared.style.Mode.TheVariants.{Tag};
+ghost use Rattle.sum_settings.specs.declared.style.Style.{Style};
 ghost use Rattle.sum_lines.specs.declared.reading.read_line.Form.{Form};
 ghost use Rattle.sum_lines.specs.declared.reading.read_line.Form.TheVariants.{Undecided};
 ghost use Rattle.sum_lines.specs.grammar.Entries.{EntryValue, IsEntry, IsForm};

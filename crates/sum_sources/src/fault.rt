@@ -3,10 +3,8 @@ ghost use Rattle.std.specs.IoError.{error_kind, raw_os_error};
 ghost use Rattle.std.specs.Prelude.{◌≡◌, map, MatchResult};
 ghost use Rattle.sum_sources.specs.Faults.{fault_text, fault_of_error, fault_of_number, fault_of_kind, reason, reasons};
 
-use std::alloc::{AllocError, AllocFailed};
 use std::io::{self, ErrorKind};
 use std::{error, fmt};
-use thiserror::Error;
 
 /// Why an input could not be opened or read to its end.
 #[derive(Clone, Copy, Debug, PartialEq, Eq)]
@@ -159,23 +157,6 @@ static REASONS: [&str; 134] = [
     "Owner died", "State not recoverable", "Operation not possible due to RF-kill",  // 130
     "Memory page has hardware error",
 ];
-
-/// Memory was refused.
-#[derive(Clone, Copy, Debug, PartialEq, Eq, Error)]
-#[error("memory exhausted")]
-pub struct NoRoom;
-
-impl From<AllocError> for NoRoom {
-    fn from(_refused: AllocError) -> NoRoom {
-        NoRoom
-    }
-}
-
-impl<T: Drop> From<AllocFailed<T>> for NoRoom {
-    fn from(_refused: AllocFailed<T>) -> NoRoom {
-        NoRoom
-    }
-}
 
 /// How an input ends after its last byte.
 #[derive(Clone, Copy, Debug, PartialEq, Eq)]

@@ -18,7 +18,7 @@ pub mod laws;
 mod line_reader;
 mod sources;
 
-pub use fault::{EBADF, Ending, Fault, NoRoom};
+pub use fault::{EBADF, Ending, Fault};
 pub use inputs::from_read::FromRead;
 pub use inputs::hash_input::{hash_input, hash_input_over};
 pub use inputs::input::{Input, PIECE};
@@ -33,3 +33,4 @@ pub use sources::source::{OpenFault, Source};
 pub use sources::source_log::{Note, Openings, SourceLog, next_file};
 pub use sources::told_source::{Answer, ToldSource};
 pub use sources::with_stdin::{WithStdin, is_dash};
+pub use sum_settings::NoRoom;

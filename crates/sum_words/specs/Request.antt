@@ -6,15 +6,15 @@ use Rattle.std.specs.Result.{result_ok, result_err}
 use Rattle.std.specs.Option.{ok_or, option_map_or, option_or, option_and_then}
 use Rattle.sum_words.specs.Tools.{Algos, Tool, algos_of, One, Any}
 use Rattle.digest_kinds.specs.Kinds.{KindValue, full_kind, blake2b_of_bits}
-pub use Rattle.sum_lines.specs.declared.writing.put_line.Mode.{Mode}
-pub use Rattle.sum_engine.specs.declared.settings.Report.{Report}
+pub use Rattle.sum_settings.specs.declared.style.Mode.{Mode}
+pub use Rattle.sum_settings.specs.declared.settings.Report.{Report}
 use Rattle.sum_words.specs.Items.{Flag, ByteString, ItemValue, option, fault, a_word, items_from, option_in, value_in, operand_in, full_name}
 use Rattle.sum_words.specs.contracts.parsing.options.Flag.{the_type}
 pub use Rattle.sum_words.specs.declared.parsing.request.Request.{Request}
 pub use Rattle.sum_words.specs.declared.parsing.request.Request.TheVariants.{Generate, Check, Help, Version}
 pub use Rattle.sum_words.specs.WordFaults.{WordFaultValue, length_invalid, length_not_bytes, tag_with_text, check_needed, zero_with_check, tag_with_check, mode_with_check, without_check}
-use Rattle.sum_lines.specs.declared.writing.put_line.Mode.TheVariants as modes
-use Rattle.sum_engine.specs.declared.settings.Report.TheVariants as reports
+use Rattle.sum_settings.specs.declared.style.Mode.TheVariants as modes
+use Rattle.sum_settings.specs.declared.settings.Report.TheVariants as reports
 use Rattle.sum_words.specs.declared.parsing.options.Flag.TheVariants as flags
 use Rattle.sum_words.specs.declared.messages.word_faults.WordFault.TheVariants as word_faults
 use Rattle.sum_words.specs.WordFaults as faults

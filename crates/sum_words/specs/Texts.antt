@@ -3,7 +3,7 @@ use Rattle.std.specs.Prelude.{[], ◌-◌, ◌++◌, codes, flat_map, if◌then�
 use Rattle.std.specs.Str.{byte}
 use Rattle.sum_words.specs.Tools.{Algos, Tool, name_of, algos_of, One, Any}
 use Rattle.digest_kinds.specs.Kinds.{tag}
-pub use Rattle.sum_engine.specs.declared.stop.Stop.{Stop, TheVariants.Memory, TheVariants.Write}
+pub use Rattle.sum_settings.specs.declared.stop.Stop.{Stop, TheVariants.Memory, TheVariants.Write}
 use Rattle.sum_words.specs.Items.{Flag, ByteString, row_of, takes_value, flags_of}
 use Rattle.sum_words.specs.WordFaults.{WordFaultValue, wording}
 

@@ -13,10 +13,11 @@ ghost use Rattle.sum_words.specs.private.CommandLine.{Fails, Gives, FindsTool};
 
 use crate::arguments::Arguments;
 use crate::tool::Tool;
-use crate::words::{NoRoom, Words};
+use crate::words::Words;
 use memchr::memrchr;
 use std::alloc::{AllocError, Allocator};
 use std::env::FillError;
+use sum_settings::NoRoom;
 use thiserror::Error;
 
 // The longest argument that is read without taking memory. Larger and smaller sizes made short runs slower.

@@ -3,9 +3,6 @@
 //! What the arguments alone decide belongs here, and the texts that need no file, such as help and faults of words. The
 //! crate may call those below it, and opens no file.
 //!
-//! It depends on `sum_engine` for the settings that a request asks for and for the stop that a message names, and on
-//! `sum_sources` for `NoRoom`. Types of its own would repeat the same fields, and need a proved conversion.
-//!
 //! ```rust
 //! let mut words = Words::new(alloc);
 //! words.add("--tag")?;
@@ -39,5 +36,6 @@ pub use messages::word_faults::{WordFault, put_fault};
 pub use parsing::items::Operands;
 pub use parsing::options::{Flag, Spelling};
 pub use parsing::request::{Request, read_words};
+pub use sum_settings::NoRoom;
 pub use tool::{Tool, UnknownTool};
-pub use words::{NoRoom, Words, WordsIter};
+pub use words::{Words, WordsIter};

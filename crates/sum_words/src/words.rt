@@ -7,7 +7,7 @@ ghost use Rattle.sum_words.specs.Words.{pieces_cut, CutsAt, TakesFirst};
 
 use std::alloc::Allocator;
 use std::marker::Model;
-pub use sum_sources::NoRoom;
+use sum_settings::NoRoom;
 
 /// A list of words, seen as a list of byte strings. A word may contain any bytes.
 #[derive(Debug, Drop)]

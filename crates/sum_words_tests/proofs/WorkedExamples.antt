@@ -11,8 +11,8 @@ use Rattle.sum_words.specs.declared.parsing.options.Spelling.TheVariants.{Long, 
 use Rattle.sum_words.specs.{CommandLines.command_line, CommandLines.NeedsMemory, Items.ByteString, Items.name_or_fault, Items.option_of_letter, Tools.tool_called}
 use Rattle.sum_words.specs.declared.tool.Tool.TheVariants.{Md5sum, Sha256sum, B2sum, Anysum}
 use Rattle.sum_words.specs.WordFaults.{WordFaultValue, unknown_long, ambiguous_long, value_not_allowed, value_missing, unknown_short, length_invalid, length_not_bytes, tag_with_text, zero_with_check, tag_with_check, mode_with_check, without_check, check_needed, not_text}
-use Rattle.sum_lines.specs.declared.writing.put_line.Mode.TheVariants as modes
-use Rattle.sum_engine.specs.declared.settings.Report.TheVariants as reports
+use Rattle.sum_settings.specs.declared.style.Mode.TheVariants as modes
+use Rattle.sum_settings.specs.declared.settings.Report.TheVariants as reports
 
 -- what unfolds if words are read
 unfoldable pub words_on_literals : ⊤

@@ -9,7 +9,7 @@ use Rattle.sum_engine.specs.Execution.{Stop, StreamsState, PerformsSteps, StopHa
 use Rattle.sum_engine.specs.check.CheckStates.{CheckState, HandlesLine, remaining_behavior}
 use Rattle.sum_engine.specs.check.{Rules.Rules, Rules.LabelsValue, ReadAhead.remaining_before}
 use Rattle.sum_engine.specs.check.Verdicts.{VerdictsValue, HoldsInEachCheck}
-use Rattle.sum_engine.specs.declared.stop.Stop.TheVariants as stops
+use Rattle.sum_settings.specs.declared.stop.Stop.TheVariants as stops
 
 -- a checker: the verdicts, what its reports show, and the outcome: whether the manifest is good, or why the check
 -- stopped

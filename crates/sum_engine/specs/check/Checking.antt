@@ -4,7 +4,7 @@ use Rattle.sum_engine.specs.check.Rules.{Rules, LabelsValue, rules_of, labels_of
 use Rattle.sum_engine.specs.check.Judge.{LineVerdictValue, asks_of, all_verdicts, past_line}
 use Rattle.sum_engine.specs.Behavior.{ByteString, World, is_dash, answer_to, world_after, behavior_then, Step, Behavior, single_step, Content, clip, Answer}
 use Rattle.sum_engine.specs.Generation.{name_fault_line}
-pub use Rattle.sum_engine.specs.declared.settings.CheckSettings.{CheckSettings}
+pub use Rattle.sum_settings.specs.declared.settings.CheckSettings.{CheckSettings}
 use Rattle.sum_engine.specs.check.Reports.{out_of, err_of, counts_of, end_text, good}
 
 -- the steps of a content: one for each line, by these verdicts, and one for the end, which has this text

@@ -4,9 +4,9 @@ use Rattle.std.specs.Prelude.{ℕ, ◌+◌, ◌==◌, ◌&&◌, ◌||◌, Bool, 
 use Rattle.std.specs.List.{concat}
 use Rattle.sum_lines.specs.grammar.Shapes.{One, Any, mark, tag}
 use Rattle.sum_engine.specs.Behavior.{ByteString, Ending, Whole, Broken}
-pub use Rattle.sum_engine.specs.declared.settings.Report.{Report}
+pub use Rattle.sum_settings.specs.declared.settings.Report.{Report}
 pub use Rattle.sum_engine.specs.declared.check.summary.Counts.{Counts}
-use Rattle.sum_engine.specs.declared.settings.Report.TheVariants.{Quiet, Warn, Status}
+use Rattle.sum_settings.specs.declared.settings.Report.TheVariants.{Quiet, Warn, Status}
 use Rattle.sum_engine.specs.{contracts.check.judge.Verdict.the_type, check.Rules.Rules, check.Rules.LabelsValue}
 use Rattle.sum_engine.specs.check.Judge.{Algos, Verdict, Bad, Right, Wrong, Missing, Unread, LineVerdictValue}
 use Rattle.sum_lines.specs.Escape.{Profile, escape_by}

@@ -3,7 +3,7 @@ use Rattle.std.specs.Prelude.{Bool, codes, if◌then◌else◌}
 use Rattle.digest_kinds.specs.declared.algo.Algos.{Algos}
 use Rattle.sum_lines.specs.Escape.{Profile, own_profile}
 use Rattle.sum_engine.specs.Behavior.{ByteString, is_dash}
-use Rattle.sum_engine.specs.declared.{settings.CheckSettings.CheckSettings, settings.Report.Report}
+use Rattle.sum_settings.specs.declared.{settings.CheckSettings.CheckSettings, settings.Report.Report}
 
 -- the rules by which a manifest's lines are judged
 pub record Rules : Type 0 where

@@ -10,7 +10,7 @@ use Rattle.sum_engine.specs.check.Judge.{Verdict, Right, Wrong, Missing, Unread,
 use Rattle.sum_engine.specs.check.Verdicts.{LineVerdict, VerdictResult, VerdictsValue, HasNameRange, counts_after, line_verdict_value}
 use Rattle.sum_sources.specs.declared.sources.hash_file.HashFault.TheVariants as hashing
 use Rattle.sum_sources.specs.declared.sources.source.OpenFault.TheVariants as faults
-use Rattle.sum_engine.specs.declared.stop.Stop.TheVariants as stops
+use Rattle.sum_settings.specs.declared.stop.Stop.TheVariants as stops
 
 -- the entry that a line spells
 abbrev pub listed_entry : ListedEntry → EntryValue

@@ -10,12 +10,11 @@ ghost use Rattle.sum_engine.specs.check.Verdicts.{IsAtStart};
 use crate::check::checker::Checker;
 use crate::check::progress::Progress;
 use crate::inputs::Inputs;
-use crate::settings::CheckSettings;
-use crate::stop::Stop;
 use crate::streams::{Outputs, Streams};
 use crate::tool_lines::NameFaultLine;
 use std::alloc::Allocator;
 use sum_lines::Sink;
+use sum_settings::{CheckSettings, Stop};
 use sum_sources::{Input, OpenFault, Source, is_dash};
 
 /// Checks the manifest of this name and returns whether it is good. The reports of its lines

@@ -13,13 +13,12 @@ use crate::check::rules::Labels;
 use crate::check::summary::put_summary;
 use crate::check::verdicts::Verdicts;
 use crate::inputs::Inputs;
-use crate::settings::CheckSettings;
-use crate::stop::Stop;
 use crate::streams::{Outputs, Streams};
 use crate::tool_lines::NameFaultLine;
 use std::alloc::Allocator;
 use std::marker::Model;
 use sum_lines::Sink;
+use sum_settings::{CheckSettings, Stop};
 use sum_sources::{Input, LineStop, Source};
 
 /// Checks a manifest, a line at a time. A checker takes a line and handles it, and only then takes the next.

@@ -3,7 +3,7 @@ ghost use Rattle.std.specs.List.{concat};
 ghost use Rattle.std.specs.Prelude.{◌≡◌, [], ◌∷◌};
 ghost use Rattle.sum_engine.specs.check.Checker.{Going};
 ghost use Rattle.sum_engine.specs.check.Reports.{bad_line, err_by, out_by, tag_word};
-ghost use Rattle.sum_engine.specs.declared.settings.Report.TheVariants.{All};
+ghost use Rattle.sum_settings.specs.declared.settings.Report.TheVariants.{All};
 ghost use Rattle.sum_engine.specs.Writes.{WritesAndReturns};
 ghost use Rattle.sum_lines.specs.Escape.{own_profile, escape, escape_differs};
 ghost use Rattle.sum_lines.specs.Sinks.{GivesAll};
@@ -12,12 +12,11 @@ ghost use Rattle.sum_lines.specs.grammar.Shapes.{mark};
 use crate::check::judge::Verdict;
 use crate::check::progress::Progress;
 use crate::check::rules::{CheckRules, Labels};
-use crate::settings::Report;
-use crate::stop::Stop;
 use crate::streams::Outputs;
 use crate::tool_lines::NameFaultLine;
 use digest_kinds::Algos;
 use sum_lines::{Output, Part, Parts, Sink, SinkFault, mark_and_name};
+use sum_settings::{Report, Stop};
 
 /// Writes the report of a line with this number, verdict and name: first to `err`, and then to `out`. Returns `Going`.
 pub(crate) fn put_report<O: Sink, E: Sink>(

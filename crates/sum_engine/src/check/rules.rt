@@ -2,9 +2,9 @@
 ghost use Rattle.std.specs.Prelude.{◌≡◌};
 ghost use Rattle.sum_engine.specs.check.Rules.{rules_of};
 
-use crate::settings::{CheckSettings, Report};
 use digest_kinds::Algos;
 use std::marker::Model;
+use sum_settings::{CheckSettings, Report};
 
 /// The rules by which a manifest's lines are judged.
 #[derive(Clone, Copy, Debug)]

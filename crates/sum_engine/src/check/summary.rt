@@ -9,11 +9,10 @@ ghost use Rattle.sum_sources.specs.declared.fault.Ending.TheVariants.{Whole};
 use crate::check::judge::Verdict;
 use crate::check::progress::Progress;
 use crate::check::rules::{CheckRules, Labels};
-use crate::settings::Report;
-use crate::stop::Stop;
 use crate::streams::Outputs;
 use crate::tool_lines::tool_line;
 use sum_lines::{Buffered, Part, Parts, Sink, SinkFault, Text, put_parts};
+use sum_settings::{Report, Stop};
 
 /// How many lines of a manifest have each verdict but `Ignored`.
 #[derive(Clone, Copy, Debug, PartialEq, Eq)]

@@ -8,10 +8,10 @@ use crate::check::judge::{LineVerdict, ListedEntry, Verdict, judge};
 use crate::check::rules::CheckRules;
 use crate::check::summary::{Counts, is_good};
 use crate::inputs::Inputs;
-use crate::settings::CheckSettings;
 use std::alloc::Allocator;
 use std::marker::Model;
 use sum_lines::{Form, Reading, is_ignored, read_line};
+use sum_settings::CheckSettings;
 use sum_sources::{Input, LineReader, LineStop, Next, NoRoom, Source};
 
 /// The verdicts of a manifest's lines, one at a time, for a program that shows them in its own way. Nothing is written.

@@ -5,7 +5,7 @@ use Rattle.hex.specs.Hex.{IsBytes}
 use Rattle.sum_lines.specs.grammar.Shapes.{ByteString, Algo, Algos, One, Any, IsPlain, IsTagged, KindValue, has_len}
 use Rattle.sum_lines.specs.grammar.Entries.{Form, Undecided, Standard, EntryValue, IsEntry, IsForm, is_ignored_by, form}
 use Rattle.sum_lines.specs.{Lines.Mode, Lines.line, Escape.Profile, Escape.escape, Escape.escape_by}
-use Rattle.sum_lines.specs.declared.writing.put_line.Mode.TheVariants.{Tag}
+use Rattle.sum_settings.specs.declared.style.Mode.TheVariants.{Tag}
 use Rattle.sum_lines.specs.grammar.ParsedLines.{ParsedLine, ignored, entry, parse_line}
 
 -- for given algorithms and a given form a line spells at most one entry

@@ -3,12 +3,24 @@ ghost use Rattle.std.specs.Prelude.{◌≡◌, ◌≤◌, [], Ok, IsTrue, OnErr,
 ghost use Rattle.sum_lines.specs.Sinks.{SinkState, WritesSome, Flushes, GivesAll};
 ghost use Rattle.sum_lines.specs.declared.sinks.buffered.TheConstants.{CAPACITY};
 
+use sum_settings::Stop;
 use thiserror::Error;
 
 /// A call of a sink has failed.
 #[derive(Clone, Copy, Debug, PartialEq, Eq, Error)]
 #[error("a write failed")]
 pub struct SinkFault;
+
+impl From<SinkFault> for Stop {
+    ghost use Rattle.std.specs.Prelude.{◌≡◌};
+    ghost use Rattle.sum_settings.specs.declared.stop.Stop.TheVariants.{Write};
+
+    ghost from_gives = { λ _ stop. stop ≡ Write };
+
+    fn from(_fault: SinkFault) -> Stop {
+        Stop::Write
+    }
+}
 
 /// A destination of bytes, which writes those that it accepts at once and buffers none. [`Buffered`](crate::Buffered)
 /// buffers bytes for a sink.

@@ -13,26 +13,7 @@ use crate::sinks::output::Text;
 use crate::sinks::sink::{Sink, SinkFault};
 use crate::writing::parts::{Part, put_parts};
 use digest_kinds::{Digest, Kind};
-
-/// The layout of a line (coreutils manual, "md5sum invocation").
-#[derive(Clone, Copy, Debug, PartialEq, Eq)]
-pub enum Mode {
-    /// The digits, two spaces, and the name.
-    Text,
-    /// The digits, a space, `*`, and the name.
-    Binary,
-    /// The tag, the name in parentheses, `=`, and the digits.
-    Tag,
-}
-
-/// How lines are written.
-#[derive(Clone, Copy, Debug, PartialEq, Eq)]
-pub struct Style {
-    /// The layout.
-    pub mode: Mode,
-    /// Whether lines end with NUL and names are left unescaped.
-    pub zero: bool,
-}
+use sum_settings::{Mode, Style};
 
 /// The line of a name and its digest, which [`put_line`] writes.
 #[derive(Clone, Copy, Debug)]

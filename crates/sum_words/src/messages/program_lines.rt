@@ -7,8 +7,8 @@ ghost use Rattle.sum_words.specs.Tools.{name_of};
 ghost use Rattle.sum_words.specs.declared.tool.Tool.{Tool};
 
 use crate::tool::Tool;
-use sum_engine::Stop;
 use sum_lines::{Buffered, Part, Sink, SinkFault, put_all, put_parts};
+use sum_settings::Stop;
 
 /// Writes the line for an unknown or missing tool to the buffer. Returns `SinkFault` as [`sum_lines::put_all`] does.
 pub fn put_unknown<E: Sink>(err: &mut Buffered<E>) -> Result<(), SinkFault>

@@ -15,8 +15,8 @@ use crate::tool::Tool;
 use crate::words::Words;
 use digest_kinds::{Algos, Kind, LengthFault};
 use std::alloc::Allocator;
-use sum_engine::{CheckSettings, Report, Settings};
 use sum_lines::{Mode, Style};
+use sum_settings::{CheckSettings, Report, Settings};
 
 /// What a tool's words ask for. If there is no operand, the caller must use `-` instead.
 #[derive(Debug, Drop)]

@@ -1,6 +1,6 @@
 use Rattle.std.proofs.Common.{rules, All, [], ◌∷◌, codes, append-nil, refl}
 use Rattle.digest_kinds.specs.declared.algo.{Algo.TheVariants.Md5, Algo.TheVariants.Sha256, Algos.TheVariants.Any}
-use Rattle.sum_lines.specs.declared.writing.put_line.Mode.TheVariants.{Tag}
+use Rattle.sum_settings.specs.declared.style.Mode.TheVariants.{Tag}
 use Rattle.sum_words.specs.declared.tool.Tool.TheVariants.{Anysum}
 use Rattle.sum_words_tests.proofs.WorkedExamples.{words_on_literals}
 use Rattle.digests.specs.GenerationRuns.{IsCheckable}

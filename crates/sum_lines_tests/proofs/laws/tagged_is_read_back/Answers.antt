@@ -1,6 +1,6 @@
 use Rattle.std.proofs.Common.{[], inl, refl}
 use Rattle.digest_kinds.specs.declared.algo.Algos.TheVariants.{Any}
-use Rattle.sum_lines.specs.declared.writing.put_line.Mode.TheVariants.{Tag}
+use Rattle.sum_settings.specs.declared.style.Mode.TheVariants.{Tag}
 use Rattle.sum_lines_tests.proofs.laws.tagged_is_read_back.Goals as goal
 
 -- the form of no lines is Undecided

@@ -1,8 +1,24 @@
-//! Why a call stops early.
+//! Why a call stops early, or does nothing.
 
-use sum_lines::SinkFault;
-use sum_sources::NoRoom;
+use std::alloc::{AllocError, AllocFailed};
 use thiserror::Error;
+
+/// Memory was refused.
+#[derive(Clone, Copy, Debug, PartialEq, Eq, Error)]
+#[error("memory exhausted")]
+pub struct NoRoom;
+
+impl From<AllocError> for NoRoom {
+    fn from(_refused: AllocError) -> NoRoom {
+        NoRoom
+    }
+}
+
+impl<T: Drop> From<AllocFailed<T>> for NoRoom {
+    fn from(_refused: AllocFailed<T>) -> NoRoom {
+        NoRoom
+    }
+}
 
 /// Why a call stopped before its end. `Memory`: there was no memory for a line, or to open a file. `Write`: an output
 /// failed. The call writes nothing more.
@@ -16,22 +32,11 @@ pub enum Stop {
 
 impl From<NoRoom> for Stop {
     ghost use Rattle.std.specs.Prelude.{◌≡◌};
-    ghost use Rattle.sum_engine.specs.declared.stop.Stop.TheVariants.{Memory};
+    ghost use Rattle.sum_settings.specs.declared.stop.Stop.TheVariants.{Memory};
 
     ghost from_gives = { λ _ stop. stop ≡ Memory };
 
     fn from(_no_room: NoRoom) -> Stop {
         Stop::Memory
-    }
-}
-
-impl From<SinkFault> for Stop {
-    ghost use Rattle.std.specs.Prelude.{◌≡◌};
-    ghost use Rattle.sum_engine.specs.declared.stop.Stop.TheVariants.{Write};
-
-    ghost from_gives = { λ _ stop. stop ≡ Write };
-
-    fn from(_fault: SinkFault) -> Stop {
-        Stop::Write
     }
 }

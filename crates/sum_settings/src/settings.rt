@@ -1,9 +1,9 @@
 //! What a call is asked to do.
 ghost use Rattle.std.specs.Prelude.{◌≡◌, false};
-ghost use Rattle.sum_engine.specs.declared.settings.Report.TheVariants.{All};
+ghost use Rattle.sum_settings.specs.declared.settings.Report.TheVariants.{All};
 
+use crate::style::Style;
 use digest_kinds::{Algos, Kind};
-use sum_lines::Style;
 
 /// How names are hashed and their lines are written.
 #[derive(Clone, Copy, Debug, PartialEq, Eq)]
