@@ -113,7 +113,7 @@ class Lanes:
 
     def library(self, crate, step, words):
         """Proves a library, and keeps its statements. Only a check, and no build, says how far it is."""
-        shutil.rmtree(os.path.dirname(crate.rlib), ignore_errors=True)
+        Path(crate.rlib).with_name("stamp").unlink(missing_ok=True)  # rt's, for what it made itself
         check = ["check", *words, "--statements", "--progress", "-o", "out/checked"]
         for flag in ("--logic-built", "--jobs"):  # for the check alone
             del words[words.index(flag):words.index(flag) + 2]
@@ -139,6 +139,7 @@ class Lanes:
             def run(file):
                 own = copy.copy(crate)  # both programs are made of one crate
                 own.out = file
+                os.makedirs(f"{crate.folder}/out/rlib", exist_ok=True)
                 return work(own, step, own.words(["--jobs", str(jobs), *LEVELS.get(step, [])], keeps=False))
 
             if not self.progress.run(step, run):
