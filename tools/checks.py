@@ -106,11 +106,16 @@ def check(crate, texts, *flags, kept=None):
         return ran.stdout, ran.returncode == 0
 
 
+def is_accepted(crate, edit, kept):
+    texts = texts_after(edit, crate)
+    return bool(texts) and check(crate, texts, kept=kept)[1]
+
+
 def refused(crate, group, kept):
-    """Returns those of a group of twins that the prover refuses. They are tried at once, and if that fails each alone."""
-    if check(crate, texts_after("".join(group.values()), crate), kept=kept)[1]:
+    """Returns those of a group of twins that don't fit or aren't proved. They are tried at once, and then each alone."""
+    if is_accepted(crate, "".join(group.values()), kept):
         return []
-    return [f"refused: {name}" for name, edit in group.items() if not check(crate, texts_after(edit, crate), kept=kept)[1]]
+    return [f"refused: {name}" for name, edit in group.items() if not is_accepted(crate, edit, kept)]
 
 
 def private_fields(crate):
