@@ -3,6 +3,7 @@ ghost use Rattle.digests.specs.GenerationRuns.{HasFiles, IsListable};
 ghost use Rattle.digests.specs.Meaning.{meaning, status_of};
 ghost use Rattle.std.specs.Prelude.{All, ◌≡◌, ◌≢◌, ◌<◌, ◌∷◌, ◌++◌, [], Ok, Err, IfOk, Some, codes, length};
 ghost use Rattle.sum_engine.specs.Behavior.{Reads, Whole, World, answer_to, out_text, err_text};
+ghost use Rattle.sum_engine.specs.Execution.{failures};
 ghost use Rattle.sum_settings.specs.declared.stop.Stop.TheVariants.{Memory};
 ghost use Rattle.sum_sources.specs.Contents.{empty_content, limit};
 ghost use Rattle.sum_sources.specs.Sources.{Answer as AnswerValue, Answers, TellsAll};
@@ -21,7 +22,7 @@ use std::os::fd::AsFd;
 use std::rt;
 use sum_engine::laws::told_agree;
 use sum_engine::{Inputs, Outputs, Stop, Streams};
-use sum_lines::{Sink, ToldSink};
+use sum_lines::{FromWrite, Sink, ToldSink};
 use sum_sources::laws::with_stdin_tells;
 use sum_sources::{Answer, Ending, NoRoom, Source, Stdin, Told, ToldSource, WithStdin};
 use sum_words::{Arguments, SystemArguments, ToldArguments, Tool, Words};
@@ -112,12 +113,50 @@ where
     I: Read + AsFd + Drop,
     O: Write,
     E: Write,
-    ensures { FitsArguments (⟦<SystemArguments<R> as Arguments>⟧.state result.arguments)
+    ensures line { FitsArguments (⟦<SystemArguments<R> as Arguments>⟧.state result.arguments)
         (codes "md5sum" ∷ codes "-" ∷ codes "-" ∷ []) → result.status ≡ 0 → (text : ByteString)
         × (result.streams.outputs.out.written ≡ text
         ++ codes "d41d8cd98f00b204e9800998ecf8427e  -\n") }
+    ensures no_failures { result.status ≡ 0 → failures result.streams.outputs ≡ (0, 0) }
 {
     program(alloc, env, files, stdin, out, err)
+}
+
+/// The same, as both sinks below the outputs have it: what they got is what the program says that its outputs got.
+pub fn dash_twice_in_sinks<A, R, F, I, O, E>(
+    alloc: A,
+    env: R,
+    files: F,
+    stdin: I,
+    out: O,
+    err: E,
+) -> Ended<SystemArguments<R>, (FromWrite<O>, FromWrite<E>)>
+where
+    A: Allocator + Copy,
+    R: rt::Env,
+    F: rt::Files + Drop,
+    I: Read + AsFd + Drop,
+    O: Write,
+    E: Write,
+    ensures line { FitsArguments (⟦<SystemArguments<R> as Arguments>⟧.state result.arguments)
+        (codes "md5sum" ∷ codes "-" ∷ codes "-" ∷ []) → result.status ≡ 0 → (text : ByteString)
+        × ((⟦<FromWrite<O> as Sink>⟧.state result.streams.0).output.written ≡ text
+        ++ codes "d41d8cd98f00b204e9800998ecf8427e  -\n") }
+    ensures no_failures { result.status ≡ 0 →
+        ((⟦<FromWrite<O> as Sink>⟧.state result.streams.0).output.failures ≡ 0)
+        × ((⟦<FromWrite<E> as Sink>⟧.state result.streams.1).output.failures ≡ 0) }
+{
+    let Ended {
+        status,
+        arguments,
+        streams,
+    } = dash_twice(alloc, env, files, stdin, out, err);
+    let Outputs { out, err } = streams.outputs;
+    Ended {
+        status,
+        arguments,
+        streams: (out.into_inner(), err.into_inner()),
+    }
 }
 
 /// The program. If the status is 0, standard output took all that it was offered, and each file that could be opened

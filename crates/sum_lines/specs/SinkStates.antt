@@ -1,7 +1,7 @@
 -- Relates the calls of a buffer to each other, and a sink over a writer to its state.
 use Rattle.std.specs.Prelude.{◌≡◌, ◌<◌, [], ◌++◌, length, ⊤, Option, unwrap_or, Result, ◌⊎◌, IsOk, OnErr, IsTrue}
 use Rattle.sum_lines.specs.{Sinks.ByteString, Sinks.SinkState, Sinks.GivesAll, Buffers.BufferState}
-use Rattle.sum_lines.specs.declared.{sinks.buffered.TheConstants.CAPACITY, sinks.from_write.FromWrite.FromWrite}
+use Rattle.sum_lines.specs.declared.{sinks.buffered.TheConstants.CAPACITY, system.FromWrite.FromWrite}
 
 -- a full buffer is given to the sink; any other one has room, and stays
 abbrev pub MakesRoom : {E : Type 0} → BufferState → BufferState → Result ⊤ E → Type 0

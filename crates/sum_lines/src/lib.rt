@@ -16,16 +16,17 @@ mod escape;
 pub mod laws;
 mod reading;
 mod sinks;
+mod system;
 mod writing;
 
 pub use escape::{needs_escape, put_escaped, unescape_in};
 pub use reading::read_line::{Form, Reading, is_ignored, read_line};
 pub use sinks::buffered::{Buffered, CAPACITY, put_all};
-pub use sinks::from_write::FromWrite;
 pub use sinks::output::{Output, Text};
 pub use sinks::sink::{Sink, SinkFault};
 pub use sinks::told_sink::ToldSink;
 pub use sinks::writes::{Flushed, Offer, Writes};
 pub use sum_settings::{Mode, Style};
+pub use system::FromWrite;
 pub use writing::parts::{Part, Parts, put_number, put_parts};
 pub use writing::put_line::{DigestLine, mark_and_name, put_line};

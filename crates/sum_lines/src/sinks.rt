@@ -2,7 +2,7 @@
 //! whole texts are written.
 
 pub(crate) mod buffered;
-pub(crate) mod from_write;
+mod from_write;
 pub(crate) mod output;
 pub(crate) mod sink;
 pub(crate) mod told_sink;

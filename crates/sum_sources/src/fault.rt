@@ -1,9 +1,8 @@
 //! Faults of opening and reading, and how an input ends.
-ghost use Rattle.std.specs.IoError.{error_kind, raw_os_error};
 ghost use Rattle.std.specs.Prelude.{◌≡◌, map, MatchResult};
-ghost use Rattle.sum_sources.specs.Faults.{fault_text, fault_of_error, fault_of_number, fault_of_kind, reason, reasons};
+ghost use Rattle.sum_sources.specs.Faults.{fault_text, fault_of_number, fault_of_kind, reason, reasons};
 
-use std::io::{self, ErrorKind};
+use std::io::ErrorKind;
 use std::{error, fmt};
 
 /// Why an input could not be opened or read to its end.
@@ -61,18 +60,8 @@ impl fmt::Display for Fault {
 
 impl error::Error for Fault {}
 
-/// The fault for an `io::Error`. Its number decides or, if it has none, its kind.
-pub(crate) fn fault_of(error: &io::Error) -> Fault
-    ensures { result ≡ fault_of_error (error_kind error.now) (raw_os_error error.now) }
-{
-    match error.raw_os_error() {
-        Some(number) => fault_of_number(number),
-        None => fault_of_kind(error.kind()),
-    }
-}
-
 // The fault for one of the system's numbers.
-fn fault_of_number(number: i32) -> Fault
+pub(crate) fn fault_of_number(number: i32) -> Fault
     ensures { result ≡ fault_of_number number }
 {
     match number {
@@ -84,7 +73,7 @@ fn fault_of_number(number: i32) -> Fault
 }
 
 // The fault for an error that has no number.
-fn fault_of_kind(kind: ErrorKind) -> Fault
+pub(crate) fn fault_of_kind(kind: ErrorKind) -> Fault
     ensures { result ≡ fault_of_kind kind }
 {
     match kind {

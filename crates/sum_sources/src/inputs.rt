@@ -1,8 +1,7 @@
 //! Inputs, from which bytes are read: the trait, its implementations, and the digest of an input.
 
 pub(crate) mod closable;
-pub(crate) mod from_read;
-mod from_read_uninterrupted;
+mod from_read;
 pub(crate) mod hash_input;
 pub(crate) mod input;
 pub(crate) mod phase;

@@ -1,6 +1,5 @@
 //! Sources, which open files: the trait and its implementations.
 
-pub(crate) mod files;
 pub(crate) mod hash_file;
 pub(crate) mod opened;
 pub(crate) mod source;

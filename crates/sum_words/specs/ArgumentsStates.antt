@@ -1,6 +1,6 @@
 -- Relates lists of arguments, by their fields, to their states.
 use Rattle.std.specs.Prelude.{Some, map}
-use Rattle.sum_words.specs.{Arguments.ArgumentsState, declared.arguments.SystemArguments.SystemArguments, declared.arguments.ToldArguments.ToldArguments}
+use Rattle.sum_words.specs.{Arguments.ArgumentsState, declared.system.SystemArguments.SystemArguments, declared.arguments.ToldArguments.ToldArguments}
 
 -- the log of the system's arguments
 abbrev pub given_arguments : {R : Type 0} → SystemArguments R → ArgumentsState

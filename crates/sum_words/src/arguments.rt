@@ -1,4 +1,4 @@
-//! The arguments of the process.
+//! Lists of arguments.
 ghost use Rattle.std.specs.Prelude.{◌≡◌, ◌≤◌, [], IfOk, None, Some, List, length, map};
 ghost use Rattle.sum_words.specs.Arguments.{ArgumentsState, FitsArguments, ByteString, and_fill};
 ghost use Rattle.sum_words.specs.ArgumentsLaws.{FitsArguments-prop};
@@ -7,7 +7,6 @@ ghost use Rattle.sum_words.specs.private.CommandLine.{Fills};
 use crate::arguments_log::{Filled, Fillings};
 use ghost_log::Log;
 use std::env::FillError;
-use std::rt::Env;
 
 /// A list of arguments, which begins with the name by which the program was called.
 pub trait Arguments {
@@ -24,43 +23,6 @@ pub trait Arguments {
 
     /// Law: some list agrees with what its calls gave.
     ghost has_list: { (s : Self) → (all : List ByteString) × FitsArguments (state s) all };
-}
-
-/// The arguments that the system gives.
-#[derive(Debug, Drop)]
-pub struct SystemArguments<R> {
-    rt: R,
-    log: Log<Fillings>,
-}
-
-impl<R: Env> SystemArguments<R> {
-    ghost use Rattle.sum_words.specs.ArgumentsStates.{given_arguments};
-
-    /// Creates the list of this runtime's arguments.
-    pub fn new(rt: R) -> Self
-        ensures { (given_arguments result).given ≡ [] }
-    {
-        SystemArguments {
-            rt,
-            log: Log::of(&Fillings),
-        }
-    }
-}
-
-impl<R: Env> Arguments for SystemArguments<R> {
-    ghost use Rattle.sum_words.specs.ArgumentsStates.{given_arguments};
-
-    ghost state = { λ s. record (given_arguments s) { told = None } };
-
-    fn fill(&mut self, place: usize, buffer: &mut [u8]) -> Result<usize, FillError> {
-        let filled = self.rt.arg(place, buffer);
-        self.log = self.log.and(&Filled(buffer, &filled));
-        filled
-    }
-
-    ghost use Rattle.sum_words.specs.ArgumentsLaws.{untold_has_list};
-
-    ghost has_list = { λ s. untold_has_list (given_arguments s) };
 }
 
 /// A list of arguments in memory.

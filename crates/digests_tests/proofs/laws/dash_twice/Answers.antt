@@ -6,9 +6,9 @@ use Rattle.digests_tests.proofs.WorkedExamples.{ran_to_end, dash_twice}
 use Rattle.digests_tests.proofs.laws.dash_twice.Goals as goal
 
 -- the second `-` is empty in some world that agrees
-pub returns : goal.returns
+pub returns-clause-line : goal.returns-clause-line
 unfolding tool_called
-returns g c = λ are zero.
+returns-clause-line g c = λ are zero.
     let (w, agrees, later) = c.program.ensures.once in
     let run = meaning Md5sum (codes "-" ∷ codes "-" ∷ []) in
     let (end, did, same, out) = ran_to_end _ (Performs run status_of) (λ needs. (w, agrees))

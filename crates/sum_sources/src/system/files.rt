@@ -1,12 +1,13 @@
-//! Real files.
+//! Real files. Nothing else can open one, or set the log of what was opened.
 ghost use Rattle.std.specs.Prelude.{◌≡◌};
 ghost use Rattle.sum_sources.specs.Logs.{no_openings};
 ghost use Rattle.sum_sources.specs.Sources.{SourceState};
 
-use crate::fault::{EILSEQ, fault_of};
+use crate::fault::EILSEQ;
 use crate::sources::source_log::{Note, Openings, SourceLog, next_file};
+use crate::system::errors::{fault_of, is_refusal};
 use crate::{Fault, FromRead, OpenFault, Source};
-use std::io::{self, ErrorKind, Read};
+use std::io::Read;
 use std::marker::Model;
 use std::{fs, rt};
 
@@ -33,12 +34,6 @@ impl<R: rt::Files + Drop> Files<R> {
             log: SourceLog::of(&Openings),
         }
     }
-}
-
-// Whether the runtime had no memory for a call. If the system has none, its error has a number, and is a fault of that
-// file.
-fn is_refusal(error: &io::Error) -> bool {
-    error.kind() == ErrorKind::OutOfMemory && error.raw_os_error().is_none()
 }
 
 impl<R: rt::Files> Source for Files<R>

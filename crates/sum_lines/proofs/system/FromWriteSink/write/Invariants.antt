@@ -1,5 +1,5 @@
 use Rattle.std.{proofs.Common.◌≡◌, specs.Io.KnownBytes.Keeps}
-use Rattle.sum_lines.proofs.sinks.from_write.FromWriteSink.write.Given as goal
+use Rattle.sum_lines.proofs.system.FromWriteSink.write.Given as goal
 
 abbrev pub invariant-loop : goal.invariant-loop
 invariant-loop g l = record {

@@ -1,0 +1,103 @@
+//! A sink over a writer of `std`. Nothing else can call the writer, or set the log of what it took.
+ghost use Rattle.std.specs.Option.{ForSome};
+ghost use Rattle.std.specs.Prelude.{true, ◌≡◌, ◌++◌, OnSome, Some, unwrap_or, []};
+
+use crate::sinks::sink::{Sink, SinkFault};
+use crate::sinks::writes::{Flushed, Offer, Writes};
+use ghost_log::{INTERRUPTION_LIMIT, Log};
+use std::io::{ErrorKind, Write};
+use std::snapshot::Snapshot;
+
+/// A sink that writes its bytes to a writer.
+#[derive(Drop)]
+pub struct FromWrite<W: Write> {
+    writer: W,
+    // The writer as it was at first, and what it took since: only proofs see them.
+    first: Snapshot<W>,
+    log: Log<Writes>,
+    ghost known: { ForSome (W.contents first.value) (λ bytes. W.contents writer
+        ≡ Some (bytes ++ log.output.written)) },
+}
+
+impl<W: Write> FromWrite<W> {
+    ghost use Rattle.sum_lines.specs.SinkStates.{from_write_state, held_at_first};
+
+    /// Creates a sink over the writer. What the writer is known to hold counts as written.
+    pub fn new(writer: W) -> Self
+        ensures held { held_at_first result ≡ W.contents writer }
+        ensures state { from_write_state result
+            ≡ record {
+              output = record {
+                offered = [];
+                written = unwrap_or (W.contents writer) [];
+                failures = 0;
+              };
+              flushed = true;
+            } }
+    {
+        FromWrite {
+            first: Snapshot::of(&writer),
+            writer,
+            log: Log::of(&Writes),
+        }
+    }
+
+    /// Returns the writer. If it was known what it held at first, it holds that and what was written.
+    pub fn into_inner(self) -> W
+        ensures { OnSome (held_at_first self)
+            (W.contents result ≡ Some (from_write_state self).output.written) }
+    {
+        self.writer
+    }
+}
+
+impl<W: Write> Sink for FromWrite<W> {
+    ghost use Rattle.std.specs.Prelude.{Ok};
+    ghost use Rattle.sum_lines.specs.Sinks.{WritesSome, Flushes};
+    ghost use Rattle.sum_lines.specs.SinkStates.{from_write_state, held_at_first};
+
+    ghost state = { from_write_state };
+
+    /// Writes a nonempty piece to the writer, and retries after each interruption. Returns `SinkFault` if the writer
+    /// fails, accepts nothing of it, or is interrupted for the 1,000th time in a row ([`INTERRUPTION_LIMIT`]).
+    fn write(&mut self, piece: &[u8]) -> Result<usize, SinkFault>
+        ensures bytes { WritesSome (from_write_state self.old) (from_write_state self.new)
+            piece.now result }
+        ensures empty { piece.now ≡ [] → result ≡ Ok 0 }
+        ensures held { held_at_first self.new ≡ held_at_first self.old }
+    {
+        if piece.is_empty() {
+            self.log = self.log.and(&Offer(piece, &[]));
+            return Ok(0);
+        }
+        for _ in 0..INTERRUPTION_LIMIT {
+            match self.writer.write(piece) {
+                Err(error) if error.kind() == ErrorKind::Interrupted => continue,
+                Ok(0) | Err(_) => break,
+                Ok(count) => {
+                    self.log = self.log.and(&Offer(piece, &piece[..count]));
+                    return Ok(count);
+                }
+            }
+        }
+        self.log = self.log.and(&Offer(piece, &[])).and(&SinkFault);
+        Err(SinkFault)
+    }
+
+    /// Flushes the writer, once. Returns `SinkFault` if that fails.
+    fn flush(&mut self) -> Result<(), SinkFault>
+        ensures bytes { Flushes (from_write_state self.old) (from_write_state self.new) result }
+        ensures held { held_at_first self.new ≡ held_at_first self.old }
+    {
+        match self.writer.flush() {
+            Ok(()) => {
+                self.log = self.log.and(&Flushed);
+                Ok(())
+            }
+            Err(_) => {
+                self.log = self.log.and(&SinkFault);
+                Err(SinkFault)
+            }
+        }
+    }
+}

@@ -1,0 +1,89 @@
+//! An input over a reader of `std`. Nothing else can call the reader, or set the log of what it gave.
+ghost use Rattle.std.specs.Io.KnownBytes.{Consumes, ReadConsumes};
+ghost use Rattle.std.specs.Prelude.{◌≡◌, ◌≤◌, length, IfOk, IfSome, None};
+ghost use Rattle.sum_sources.specs.Contents.{Ended, FromReadValue, Whole, and_read, empty_reads};
+ghost use Rattle.sum_sources.specs.InputLaws.{real_has_content};
+
+use crate::inputs::read_log::{ReadLog, ReadNote};
+use crate::system::errors::fault_of;
+use crate::{Fault, Input};
+use ghost_log::INTERRUPTION_LIMIT;
+use std::io::{ErrorKind, Read};
+use std::marker::Model;
+use std::snapshot::Snapshot;
+
+/// An `Input` over any `std::io::Read`.
+#[derive(Drop)]
+pub struct FromRead<R: Read> {
+    reader: R,
+    // The reader as it was at first: only proofs see it.
+    first: Snapshot<R>,
+    log: ReadLog,
+}
+
+impl<R: Read> Model for FromRead<R> {
+    ghost Value = { FromReadValue R };
+
+    ghost view = { λ s. record { reader = s.reader; log = s.log } };
+
+    // What the reader was known at first to give is what the log has, followed by what remains. At its end, it is what
+    // the log has.
+    ghost invariant = { λ s.
+        Consumes (R.remaining s.first.value) (R.remaining s.reader) s.log.reads.bytes
+        × (s.log.reads.phase ≡ Ended Whole
+        → IfSome (R.remaining s.first.value) (λ all. all ≡ s.log.reads.bytes)) };
+}
+
+impl<R: Read> FromRead<R> {
+    // The input that reads from `reader`, with this log, which has no reads.
+    pub(crate) fn with_log(reader: R, log: ReadLog) -> Self
+        requires { log.reads ≡ empty_reads }
+        ensures { result ≡ record { reader = reader; log = log } }
+    {
+        FromRead {
+            first: Snapshot::of(&reader),
+            reader,
+            log,
+        }
+    }
+
+    // What its reads gave.
+    pub(crate) fn log(&self) -> &ReadLog
+        ensures { result.now ≡ self.now.log }
+    {
+        &self.log
+    }
+}
+
+// A read, which is tried again after each interruption.
+fn read_uninterrupted<R: Read>(reader: &mut R, buf: &mut [u8]) -> Result<usize, Fault>
+    ensures count { IfOk result (λ n. n ≤ length buf.new) }
+    ensures size { length buf.new ≡ length buf.old }
+    ensures given { ReadConsumes (R.remaining reader.old) (R.remaining reader.new) result buf.new }
+{
+    for _ in 0..INTERRUPTION_LIMIT {
+        match reader.read(buf) {
+            Ok(n) => return Ok(n),
+            Err(error) if error.kind() == ErrorKind::Interrupted => {}
+            Err(error) => return Err(fault_of(&error)),
+        }
+    }
+    Err(Fault::Other)
+}
+
+impl<R: Read> Input for FromRead<R> {
+    ghost state = { λ s. record s.log { told = None } };
+
+    fn read(&mut self, buf: &mut [u8]) -> Result<usize, Fault>
+        ensures count { IfOk result (λ n. n ≤ length buf.new) }
+        ensures given { ReadConsumes (R.remaining self.old.reader) (R.remaining self.new.reader)
+            result buf.new }
+        ensures log { self.new.log ≡ and_read self.old.log buf.new result }
+    {
+        let read = read_uninterrupted(&mut self.reader, buf);
+        self.log = self.log.and(&ReadNote(buf, &read));
+        read
+    }
+
+    ghost has_content = { λ s. real_has_content s.log };
+}
