@@ -144,7 +144,7 @@ module _ {I : Type 0} (state : I → InputState) (first : CheckerValue I) (m : S
       none = rw start.reader refl
 
       size : length (drop (length was.bytes) now.bytes) ≡ taken
-      size = length-drop (length was.bytes) now.bytes ∙ omega (arith, none, h.taken, step.taken)
+      size = length-drop (length was.bytes) now.bytes ∙ omega (arith, none, h.taken, step.advances.reader.taken)
 
       -- the check ended or stopped as it does from the first line on
       from_start : was.phase ≡ Unfinished → (c : Content) → Fits (reads_past (length was.bytes) now) c
@@ -153,7 +153,7 @@ module _ {I : Type 0} (state : I → InputState) (first : CheckerValue I) (m : S
           (clip c)
       from_start going c of w agrees =
           let before : length was.bytes ≡ length now.bytes - taken =
-          omega (arith, none, h.taken, step.taken) in
+          omega (arith, none, h.taken, step.advances.reader.taken) in
           let ended : HoldsUpTo last.verdicts o (λ a d. a.consumed ≡ 0 → EndsAs x d.taken o (left a) a.remaining) =
           one_more_step last o vector (end_result x) h step (λ a b d along step none. record {
             performs = done_last o step.step step.later x along.done step.is step.performs;
@@ -174,15 +174,15 @@ module _ {I : Type 0} (state : I → InputState) (first : CheckerValue I) (m : S
       HasComeTo-last =
           let reading = λ (going : was.phase ≡ Unfinished).
           step.step.reading (h.happened.reading (start.reading going)) in
-          let good_at = λ (good : x ≡ Ok true). (rw good at step).good refl in
+          let good_at = λ (good : x ≡ Ok true). step.good (ap end_result good) in
           record {
             behavior = λ going c of w agrees. (from_start going c of w agrees).performs;
             stopped = λ going c of w agrees.
                 let past = (reading going).past in
-                let fits = read_fits_clip now.phase _ c past of (rw size step.bounds.taken) in
+                let fits = read_fits_clip now.phase _ c past of (rw size step.advances.bounds.taken) in
                 rw size ((from_start going c of w agrees).stopped (rw size at fits));
             manifest = λ going.
-                ((reading going).past, λ good. (reading going).end (good_at good).0);
+                ((reading going).past, λ good. (reading going).end (step.advances.end (good_at good).0));
             same = search rules;
             cause = cause_ends x h.so_far step.cause;
             reads = reads_then (λ good. search (arith, step.unread, (good_at good).1)) h.reads step.reads;

@@ -1,13 +1,12 @@
 -- One step of a checker, `Checker::step`: the next verdict was found, and its text was written.
-use Rattle.std.proofs.Common.{rules, ◌≡◌, ◌≤◌, ℕ, Bool, true, false, List, [], length, None, Some, Result, Ok, Err, inl, inr, refl, ap, ◌∙◌, arith}
+use Rattle.std.proofs.Common.{rules, ◌≡◌, ◌⊎◌, ◌<◌, ◌≤◌, ℕ, Bool, true, false, List, [], length, None, Some, Result, Ok, Err, inl, inr, refl, ap, ◌∙◌, arith}
 use Rattle.sum_engine.specs.Behavior.{Ending, Whole, Broken, World, Content, InputState, SourceState}
 use Rattle.sum_sources.specs.LineReaders.{remaining_content}
 use Rattle.sum_engine.specs.{check.Rules.LabelsValue, check.CheckStates.CheckState, check.CheckStates.remaining_verdicts, check.CheckStates.remaining_behavior}
 use Rattle.sum_engine.specs.check.Reports.{err_of, out_of, end_text, good}
 use Rattle.sum_engine.specs.check.Verdicts.{VerdictsValue, LineVerdict, state_at, HoldsInEachCheck, AdvancesVerdicts, AsksFor, VerdictResult, line_verdict_value, IsNextVerdict, IsNotUnread, HasNoVerdictLeft}
-use Rattle.sum_engine.specs.check.Checker.{CheckerValue, Progress, Going, Ended, IsStep, TakesStep}
-use Rattle.sum_engine.specs.private.Judging.{ReportsFound}
-use Rattle.sum_engine.specs.{Execution.Stop, Execution.Memory, Execution.StopHasCause, Execution.none_or_one, Execution.OutputsState, Execution.StreamsState, Execution.AsksNames, Writes.WritesAndReturns}
+use Rattle.sum_engine.specs.check.Checker.{CheckerValue, Progress, Going, Ended, IsStep, ReportsFound, TakesStep}
+use Rattle.sum_engine.specs.{Names.RefusesMemory, Execution.Stop, Execution.Memory, Execution.StopHasCause, Execution.none_or_one, Execution.OutputsState, Execution.StreamsState, Execution.AsksNames, Writes.WritesAndReturns}
 use Rattle.sum_engine.proofs.{ExecutionLemmas.step_performed, ExecutionLemmas.refused_first, ExecutionLemmas.one_at_most, WorldLemmas.reads_weaker, CountLemmas.counts_then-nil}
 use Rattle.sum_engine.proofs.RemainingLemmas.{line_step, behavior_by, first_step, going-before}
 use Rattle.sum_sources.specs.declared.line_reader.LineStop.TheVariants as line_stops
@@ -112,16 +111,18 @@ module _ {I : Type 0} (q : VerdictsValue I) (labels : LabelsValue) (vector : Lis
   good_found found a b h = grind arith
 
   -- a step goes on only after a line
-  going_found : (found : VerdictResult) (a b : OutputsState) → ReportsFound q labels vector found a b (Ok Going)
+  pub going_found : (found : VerdictResult) (a b : OutputsState) → ReportsFound q labels vector found a b (Ok Going)
       → (v : LineVerdict) × (found ≡ Ok (Some v))
   going_found (Ok (Some v)) a b h = (v, refl)
-  going_found (Err line_stops.Memory) a b h = let p = h.0 in cc
-  going_found found a b h = let p = h.writes.0 in cc
+  going_found found a b h = grind arith
 
-  -- if memory runs out, neither output has changed
-  unchanged_found : (found : VerdictResult) (a b : OutputsState) → ReportsFound q labels vector found a b (Err Memory)
-      → b ≡ a
-  unchanged_found found a b h = grind arith
+  -- if memory runs out, neither output has changed; and memory was refused, or bytes were read ahead
+  memory_found : (found : VerdictResult) (a b : StreamsState)
+      → AsksFor vector q.reader.ahead a.inputs b.inputs found
+      → ReportsFound q labels vector found a.outputs b.outputs (Err Memory)
+      → (b.outputs ≡ a.outputs) × (RefusesMemory a.inputs b.inputs
+      ⊎ ((b.inputs ≡ a.inputs) × (0 < length q.reader.ahead)))
+  memory_found found a b asked h = grind arith
 
   -- a step stops only if memory was refused, at most once, or bytes remained, or one output failed
   cause_found : (found : VerdictResult) (a b : StreamsState) {x : Result Progress Stop}
@@ -147,20 +148,17 @@ module _ {I : Type 0} {state : I → InputState} {p q : CheckerValue I} {a b : S
         let not_unread : q.verdicts.counts.unread ≡ p.verdicts.counts.unread → IsNotUnread found =
         search (rules, arith) in
         record {
-          rules = did.rules;
           labels = labels;
           step = step_found a b p.labels vector found verdict did wrote;
+          found = found;
+          advances = did;
+          reports = wrote;
           cause = cause_found q.verdicts p.labels vector found a b did.asked wrote;
-          no_memory = λ no. unchanged_found q.verdicts p.labels vector found a.outputs b.outputs (rw no at wrote);
+          memory = λ no. memory_found q.verdicts p.labels vector found a b did.asked (rw no at wrote);
           lines = λ going.
               let (v, is) = going_found q.verdicts p.labels vector found a.outputs b.outputs (rw going at wrote) in
               did.number v is;
-          bounds = did.bounds;
-          same = did.reader.same;
-          taken = did.reader.taken;
           unread = unread;
           reads = reads_weaker not_unread did.reads;
-          good = λ good.
-              let end = good_found q.verdicts p.labels vector found a.outputs b.outputs (rw good at wrote) in
-              (did.end end.0, end.1);
+          good = λ good. good_found q.verdicts p.labels vector found a.outputs b.outputs (rw good at wrote);
         }

@@ -1,24 +1,29 @@
 //! What follows from the laws of `sum_engine`.
-ghost use Rattle.std.specs.Prelude.{◌≡◌, ◌≢◌, ◌≤◌, ◌+◌, ◌*◌, ℕ, Bool, true, false, IsTrue};
+ghost use Rattle.std.specs.Prelude.{◌≡◌, ◌≢◌, ◌<◌, ◌≤◌, ◌+◌, ◌*◌, ◌⊎◌, ℕ, Bool, true, false, IsTrue};
 ghost use Rattle.std.specs.Prelude.{None, Some, Ok, Err, IfErr, List, [], ◌∷◌, ◌++◌, codes, length, take};
 ghost use Rattle.std.specs.Prelude.{⊤, flat_map, slice_range, slice_index_or};
+ghost use Rattle.sum_lines.specs.Sinks.{Gets, output_events};
 ghost use Rattle.sum_lines.specs.grammar.Shapes.{IsPlain, KindValue};
 ghost use Rattle.sum_engine.specs.Behavior.{ByteString, Content, Reads, Step, Whole, World, answer_to, clip, times};
 ghost use Rattle.sum_engine.specs.Behavior.{Fits, trace};
-ghost use Rattle.sum_engine.specs.Execution.{Agrees, Happened, PerformsSteps, StreamsState, gave_at};
+ghost use Rattle.sum_engine.specs.Execution.{Agrees, AsksNames, Happened, PerformsSteps, StreamsState, gave_at};
 ghost use Rattle.sum_engine.specs.Execution.{opened_names, world_at};
 ghost use Rattle.sum_engine.specs.Generation.{generate_behavior};
+ghost use Rattle.sum_engine.specs.Names.{RefusesMemory};
 ghost use Rattle.sum_engine.specs.check.CheckStates.{CheckState, counts_with, initial_state};
 ghost use Rattle.sum_engine.specs.check.CheckerLaws.{TakesSteps};
 ghost use Rattle.sum_engine.specs.check.Checking.{check_behavior, content_behavior};
 ghost use Rattle.sum_engine.specs.check.Judge.{all_verdicts, verdicts, form, lines_under, own_profile};
 ghost use Rattle.sum_engine.specs.check.Judge.{EntryValue, IsEntry, escape, form_then, line_form};
+ghost use Rattle.sum_engine.specs.check.Judge.{LineVerdictValue, asks_of};
 ghost use Rattle.sum_engine.specs.declared.check.judge.Verdict.{Verdict};
-ghost use Rattle.sum_sources.specs.LineReaders.{IsReading, reads_of};
+ghost use Rattle.sum_sources.specs.LineReaders.{IsReading, reads_of, remaining_content};
+ghost use Rattle.sum_sources.specs.ManifestLines.{HasNoNewline};
 ghost use Rattle.sum_engine.specs.check.Checker.{IsStep};
-ghost use Rattle.sum_engine.specs.declared.check.progress.Progress.TheVariants.{Ended};
+ghost use Rattle.sum_engine.specs.declared.check.progress.Progress.TheVariants.{Ended, Going};
 ghost use Rattle.sum_engine.specs.check.OldVerdicts.{IsOldManifest, older_profile};
 ghost use Rattle.sum_engine.specs.check.ReadAhead.{remaining_before};
+ghost use Rattle.sum_engine.specs.check.Reports.{out_of};
 ghost use Rattle.sum_engine.specs.check.Rules.{LabelsValue, Rules};
 ghost use Rattle.sum_engine.specs.check.Verdicts.{HasNameRange};
 ghost use Rattle.sum_settings.specs.declared.settings.Report.TheVariants.{All};
@@ -32,7 +37,7 @@ use sum_engine::{
     Verdicts, check_one, generate_one,
 };
 use sum_lines::Sink;
-use sum_sources::{Input, Source};
+use sum_sources::{Input, LineStop, Source};
 
 /// The name of a line's entry, which is cut from the line's vector.
 pub fn entry_name<'a>(found: LineVerdict, line: &'a [u8]) -> &'a [u8]
@@ -59,16 +64,29 @@ pub fn hash_in_some_world<S: Source, O: Sink, E: Sink>(
     result
 }
 
-/// Takes the first step of a check. If there was no memory for it, neither output has changed.
-pub fn first_step<A: Allocator, I: Input + Drop, S: Source, O: Sink, E: Sink>(
-    settings: CheckSettings,
-    input: I,
+/// Takes a step of a check.
+pub fn one_step<A: Allocator, I: Input, S: Source, O: Sink, E: Sink>(
+    checker: &mut Checker<I>,
     line: &mut Vec<u8, A>,
     streams: &mut Streams<Inputs<S>, Outputs<O, E>>,
 ) -> Result<Progress, Stop>
-    ensures { result ≡ Err Memory → streams.new.outputs ≡ streams.old.outputs }
+    requires going { checker.old.outcome ≡ None }
+    // A line has one verdict: its name was opened, unless the line is ignored or bad; it was counted, and reported.
+    ensures line { result ≡ Ok Going → (j : LineVerdictValue)
+        × AsksNames streams.old.inputs streams.new.inputs (asks_of j)
+        × (checker.new.verdicts.counts ≡ counts_with checker.old.verdicts.counts j.verdict)
+        × Gets streams.old.outputs.out streams.new.outputs.out
+        (output_events (out_of checker.new.verdicts.rules checker.old.labels j)) }
+    // Out of memory, neither output has changed; and the source was refused memory, or bytes were read ahead.
+    ensures memory { result ≡ Err Memory → (streams.new.outputs ≡ streams.old.outputs)
+        × (RefusesMemory streams.old.inputs streams.new.inputs
+        ⊎ ((streams.new.inputs ≡ streams.old.inputs)
+        × (0 < length checker.new.verdicts.reader.ahead))) }
+    // A line that was read ahead is handled before the next is read.
+    ensures ahead { ¬ HasNoNewline checker.old.verdicts.reader.ahead
+        → checker.new.verdicts.reader.input ≡ checker.old.verdicts.reader.input }
 {
-    Checker::new(settings, "md5sum", b"list", false, input).step(line, streams)
+    checker.step(line, streams)
 }
 
 /// Takes two steps of a check. If the first stopped, the second stops for the same reason.
@@ -120,6 +138,24 @@ pub fn takes_line<A: Allocator, I: Input, S: Source>(
         × (q.form ≡ form_then p.form (line_form p.rules.algo l)) × (q.counts ≡ counts_with p.counts v) }
 {
     matches!(verdicts.next(line, inputs), Ok(Some(_)))
+}
+
+/// Finds the next verdict, and returns whether no line was left, whole or broken: nothing of the manifest then remains.
+pub fn takes_end<A: Allocator, I: Input, S: Source>(
+    verdicts: &mut Verdicts<I>,
+    line: &mut Vec<u8, A>,
+    inputs: &mut Inputs<S>,
+) -> bool
+    requires going { verdicts.old.outcome ≡ None }
+    requires reading { IsReading I.state verdicts.old.reader }
+    ensures { IsTrue result → (c : Content) → Fits (reads_of I.state verdicts.new.reader) c
+        → (w : World) → Agrees w inputs.new
+        → (remaining_content verdicts.new.reader c).bytes ≡ [] }
+{
+    matches!(
+        verdicts.next(line, inputs),
+        Ok(None) | Err(LineStop::Fault(_))
+    )
 }
 
 /// The number of bytes that a check has read doesn't overflow if it is multiplied by 7.

@@ -1,14 +1,15 @@
 -- A checker, and what its next step does.
-use Rattle.std.specs.Prelude.{Bool, true, ◌≡◌, ◌⊎◌, ◌+◌, ◌≤◌, List, [], ◌∷◌, length, Option, None, Some, Result, Ok, Err}
+use Rattle.std.specs.Prelude.{Bool, true, false, ◌≡◌, ◌⊎◌, ◌+◌, ◌<◌, ◌≤◌, List, [], ◌∷◌, length, Option, None, Some, Result, Ok, Err}
 pub use Rattle.sum_engine.specs.declared.check.progress.Progress.{Progress}
 pub use Rattle.sum_engine.specs.declared.check.progress.Progress.TheVariants.{Going, Ended}
-use Rattle.sum_sources.specs.{Contents.IsSameInput, LineReaders.IsBounded}
-use Rattle.sum_sources.specs.declared.{line_reader.Next.TheVariants.NoMore, inputs.input.TheConstants.PIECE}
-use Rattle.sum_engine.specs.Behavior.{ByteString, Step, Behavior, InputState}
-use Rattle.sum_engine.specs.Execution.{Stop, StreamsState, PerformsSteps, StopHasCause, none_or_one, ReadsToEndIf}
+use Rattle.sum_sources.specs.declared.{line_reader.LineStop.TheVariants.Fault, line_reader.LineStop.TheVariants.Memory, inputs.input.TheConstants.PIECE}
+use Rattle.sum_engine.specs.{Names.RefusesMemory, Writes.WritesAndReturns}
+use Rattle.sum_engine.specs.Behavior.{ByteString, Whole, Broken, Step, Behavior, InputState}
+use Rattle.sum_engine.specs.Execution.{Stop, OutputsState, StreamsState, PerformsSteps, StopHasCause, none_or_one, ReadsToEndIf}
 use Rattle.sum_engine.specs.check.CheckStates.{CheckState, HandlesLine, remaining_behavior}
 use Rattle.sum_engine.specs.check.{Rules.Rules, Rules.LabelsValue, ReadAhead.remaining_before}
-use Rattle.sum_engine.specs.check.Verdicts.{VerdictsValue, HoldsInEachCheck}
+use Rattle.sum_engine.specs.check.Reports.{out_of, err_of, end_text, good}
+use Rattle.sum_engine.specs.check.Verdicts.{VerdictsValue, VerdictResult, HoldsInEachCheck, AdvancesVerdicts, line_verdict_value}
 use Rattle.sum_settings.specs.declared.stop.Stop.TheVariants as stops
 
 -- a checker: the verdicts, what its reports show, and the outcome: whether the manifest is good, or why the check
@@ -43,28 +44,38 @@ pub record IsStep (r : Rules) (labels : LabelsValue) (vector : ByteString) (a b 
   pub refused : x ≡ Err stops.Memory
       → b.taken + remaining_before later.steps ≤ a.consumed + length a.remaining.bytes + PIECE
 
--- the call takes a step of the check
+-- what was found is written: a line's report, or the end; and the step returns whether lines may follow
+abbrev pub ReportsFound : {I : Type 0} → VerdictsValue I → LabelsValue → ByteString → VerdictResult → OutputsState
+    → OutputsState → Result Progress Stop → Type 0
+ReportsFound p labels vector (Ok (Some v)) a b x = let j = line_verdict_value vector v in
+    WritesAndReturns a b (err_of p.rules labels j) (out_of p.rules labels j) Going x
+ReportsFound p labels vector (Ok None) a b x =
+    WritesAndReturns a b (end_text p.rules labels Whole p.counts) [] (Ended (good p.rules Whole p.counts)) x
+ReportsFound p labels vector (Err (Fault f)) a b x =
+    WritesAndReturns a b (end_text p.rules labels (Broken f) p.counts) [] (Ended false) x
+ReportsFound p labels vector (Err Memory) a b x = (x ≡ Err stops.Memory) × (b ≡ a)
+
+-- the call takes a step of the check: it finds the next verdict, and writes what is to be written of it
 pub record TakesStep {I : Type 0} (state : I → InputState) (vector : ByteString) (p q : CheckerValue I)
     (a b : StreamsState) (x : Result Progress Stop) : Type 0 where
-  pub rules : q.verdicts.rules ≡ p.verdicts.rules
   pub labels : q.labels ≡ p.labels
   pub step : HoldsInEachCheck state p.verdicts q.verdicts a.inputs b.inputs
       (λ c d. IsStep p.verdicts.rules p.labels vector c d a b x)
-  -- whatever the manifest's content and the world are: the cause of a stop, and what was read and counted
+  -- whatever the manifest's content and the world are: what was found, and what was written of it
+  pub found : VerdictResult
+  pub advances : AdvancesVerdicts state vector p.verdicts q.verdicts a.inputs b.inputs found
+  pub reports : ReportsFound q.verdicts p.labels vector found a.outputs b.outputs x
+  -- a stop has its cause. Out of memory, nothing was written; and the source was refused memory, or nothing was opened
+  -- and bytes were read ahead
   pub cause : StopHasCause none_or_one a b x
-  pub no_memory : x ≡ Err stops.Memory → b.outputs ≡ a.outputs
+  pub memory : x ≡ Err stops.Memory → (b.outputs ≡ a.outputs) × (RefusesMemory a.inputs b.inputs
+      ⊎ ((b.inputs ≡ a.inputs) × (0 < length q.verdicts.reader.ahead)))
   pub lines : x ≡ Ok Going → q.verdicts.reader.lines ≡ p.verdicts.reader.lines + 1
-  pub bounds : IsBounded q.verdicts.reader
-  pub same : IsSameInput (state p.verdicts.reader.input) (state q.verdicts.reader.input)
-  -- each byte that the input gave is counted
-  pub taken : q.verdicts.reader.taken + length (state p.verdicts.reader.input).reads.bytes
-      ≡ p.verdicts.reader.taken + length (state q.verdicts.reader.input).reads.bytes
   -- a file that could not be opened or read is counted; any other was read to its end
   pub unread : p.verdicts.counts.unread ≤ q.verdicts.counts.unread
   pub reads : ReadsToEndIf (q.verdicts.counts.unread ≡ p.verdicts.counts.unread) a.inputs b.inputs
-  -- the manifest is good only if it and each listed file were read to their ends
-  pub good : x ≡ Ok (Ended true)
-      → (q.verdicts.reader.final_answer ≡ Some (Ok NoMore)) × (q.verdicts.counts.unread ≡ 0)
+  -- the manifest is good only if no line is left, and each listed file was read to its end
+  pub good : x ≡ Ok (Ended true) → (found ≡ Ok None) × (q.verdicts.counts.unread ≡ 0)
 
 -- the result of a step that ends or stops a check with this outcome
 abbrev pub end_result : Result Bool Stop → Result Progress Stop

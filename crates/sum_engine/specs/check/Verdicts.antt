@@ -74,11 +74,12 @@ pub record FindsFirstVerdict (r : Rules) (a b : CheckState) (j : LineVerdictValu
   pub first : remaining_verdicts r a ≡ j ∷ remaining_verdicts r b
   pub counts : b.counts ≡ counts_with a.counts j.verdict
 
--- no line remained, and the manifest has this ending; nothing was counted
+-- no line remained, and the manifest has this ending; nothing was counted, and only the ending remains
 pub record HasNoVerdictLeft (r : Rules) (e : Ending) (a b : CheckState) : Type 0 where
   pub verdicts : remaining_verdicts r a ≡ []
   pub ending : a.remaining.ending ≡ e
   pub counts : b.counts ≡ a.counts
+  pub remaining : b.remaining ≡ record { bytes = []; ending = e }
 
 -- the next verdict, by what the call returns
 abbrev pub IsNextVerdict : Rules → ByteString → CheckState → CheckState → VerdictResult → Type 0

@@ -1,16 +1,12 @@
--- Relates what the code finds of a line to what the line says, to its verdict and to its report.
-use Rattle.std.specs.Prelude.{◌≡◌, ◌≤◌, Bool, false, [], None, Some, Result, Ok, Err, IfOk, length, if◌then◌else◌, bytes_eq}
-use Rattle.sum_sources.specs.declared.{fault.Fault.TheVariants.NotFound, line_reader.LineStop.TheVariants.Fault, line_reader.LineStop.TheVariants.Memory}
+-- Relates what the code finds of a line to what the line says, and to its verdict.
+use Rattle.std.specs.Prelude.{◌≡◌, ◌≤◌, Bool, Some, Result, Ok, Err, IfOk, length, if◌then◌else◌, bytes_eq}
+use Rattle.sum_sources.specs.declared.{fault.Fault.TheVariants.NotFound, line_reader.LineStop.TheVariants.Memory}
 use Rattle.sum_engine.specs.declared.check.judge.ListedEntry.{ListedEntry}
-use Rattle.sum_engine.specs.{Names.HashFault, Names.NoRoom, Writes.WritesAndReturns}
-use Rattle.sum_engine.specs.{Behavior.ByteString, Behavior.Whole, Behavior.Broken, Execution.OutputsState, Execution.Stop}
-use Rattle.sum_engine.specs.check.{Rules.LabelsValue, Reports.out_of, Reports.err_of, Reports.end_text, Reports.good}
-use Rattle.sum_engine.specs.declared.check.progress.{Progress.Progress, Progress.TheVariants.Going, Progress.TheVariants.Ended}
+use Rattle.sum_engine.specs.{Behavior.ByteString, Names.HashFault, Names.NoRoom}
 use Rattle.sum_engine.specs.check.Judge.{Verdict, Right, Wrong, Missing, Unread, EntryValue, form_then, line_form, ParsedLine, parse_line}
-use Rattle.sum_engine.specs.check.Verdicts.{LineVerdict, VerdictResult, VerdictsValue, HasNameRange, counts_after, line_verdict_value}
+use Rattle.sum_engine.specs.check.Verdicts.{LineVerdict, VerdictResult, VerdictsValue, HasNameRange, counts_after}
 use Rattle.sum_sources.specs.declared.sources.hash_file.HashFault.TheVariants as hashing
 use Rattle.sum_sources.specs.declared.sources.source.OpenFault.TheVariants as faults
-use Rattle.sum_settings.specs.declared.stop.Stop.TheVariants as stops
 
 -- the entry that a line spells
 abbrev pub listed_entry : ListedEntry → EntryValue
@@ -44,14 +40,3 @@ pub record TakesLine {I : Type 0} (a b : VerdictsValue I) (line vector : ByteStr
   }
   pub name_range : IfOk x (HasNameRange vector)
   pub len : length vector ≤ length line
-
--- what was found is written: a line's report, or the end; and the step returns whether lines may follow
-abbrev pub ReportsFound : {I : Type 0} → VerdictsValue I → LabelsValue → ByteString → VerdictResult → OutputsState
-    → OutputsState → Result Progress Stop → Type 0
-ReportsFound p labels vector (Ok (Some v)) a b x = let j = line_verdict_value vector v in
-    WritesAndReturns a b (err_of p.rules labels j) (out_of p.rules labels j) Going x
-ReportsFound p labels vector (Ok None) a b x =
-    WritesAndReturns a b (end_text p.rules labels Whole p.counts) [] (Ended (good p.rules Whole p.counts)) x
-ReportsFound p labels vector (Err (Fault f)) a b x =
-    WritesAndReturns a b (end_text p.rules labels (Broken f) p.counts) [] (Ended false) x
-ReportsFound p labels vector (Err Memory) a b x = (x ≡ Err stops.Memory) × (b ≡ a)

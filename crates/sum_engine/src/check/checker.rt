@@ -2,9 +2,9 @@
 ghost use Rattle.digest_kinds.specs.Bytes.{LIMIT};
 ghost use Rattle.std.specs.{Option.ForSome, Result.ForOk};
 ghost use Rattle.std.specs.Prelude.{◌≡◌, ◌≤◌, None, Ok, IsTrue};
+ghost use Rattle.sum_engine.specs.check.Checker.{ReportsFound};
 ghost use Rattle.sum_engine.specs.check.Rules.{rules_of};
 ghost use Rattle.sum_engine.specs.check.Verdicts.{HasNameRange, is_whole};
-ghost use Rattle.sum_engine.specs.private.Judging.{ReportsFound};
 
 use crate::check::judge::{LineVerdict, Verdict};
 use crate::check::progress::Progress;

@@ -31,4 +31,4 @@ lines-preserved g c =
 pub lines-smaller : goal.lines-smaller
 lines-smaller g c =
     let done = rw c.in-Ok-Going.field-0-is at (c.in-Ok-Going.ensures.step c.lines.invariant.going) in
-    omega (arith, done.lines refl, done.bounds)
+    omega (arith, done.lines refl, done.advances.bounds)
