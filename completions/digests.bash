@@ -20,8 +20,10 @@ _digests_wants_length() {
     return 1
 }
 
-# Leaves the word's completions among some texts, each of which ends a word, and no file names.
+# Leaves the word's completions among some texts, each of which ends a word, and no file names. Blanks and newlines
+# separate the texts, whatever the user's IFS is.
 _digests_among() {
+    local IFS=$' \t\n'
     compopt +o default +o bashdefault 2>/dev/null
     mapfile -t COMPREPLY < <(compgen -W "$1" -- "$2")
 }

@@ -76,6 +76,14 @@ class Typed(Shell):
         self.assertEqual(words[:len(before)], before, line)
         return set(words[len(before):]) - {last}
 
+    def test_separators(self):
+        """Each completion is a word of its own, whatever separates words in the user's shell."""
+        for separator in ("':'", "$'\\n'"):
+            self.terminal.completed(f"IFS={separator}; md5sum so")
+            self.assertEqual(self.offered("md5sum -wc --st"), {"--status", "--strict"}, separator)
+            self.assertEqual(self.offered("b2sum -l 25"), {"256"}, separator)
+            self.assertEqual(self.offered("digests sha2"), {"sha224sum", "sha256sum"}, separator)
+
 
 class Bash(Typed, Case):
     shell = "bash"

@@ -7,13 +7,13 @@ import subprocess
 import tempfile
 
 from harness import GNU_TOOLS, NAMES, TOOLS, Ran
+from prefix import BASH, CURRENT, FISH, MAN, ZSH
 from sources import text_of
 from repository import DEFAULT, FAST, OF_A, Repository
 from tracing import each_end, needs_strace
 
-CURRENT, MAN, ALL, OWN = "lib/digests/current", "share/man/man1", "--all-names", "--only-own-names"
-BASH, FISH, ZSH = "share/bash-completion/completions", "share/fish/vendor_completions.d", "share/zsh/site-functions"
-LIST, WAITS = "share/digests/installed", b"install: waiting for another one to end\n"
+ALL, OWN, LIST = "--all-names", "--only-own-names", "share/digests/installed"
+WAITS = b"install: waiting for another one to end\n"
 
 
 def paths_of(own_names):
@@ -85,7 +85,10 @@ class Install(Repository):
         self.assertNotIn("digests", os.listdir(self.at("lib")))
 
     def test_what_is_put_there(self):
-        """It is the same whatever the umask, needs no repository, and may be moved."""
+        """It is the same whatever the umask, needs no repository, and may be moved. Nobody has to listen."""
+        for how in ({"stdout": self.full()}, {"preexec_fn": lambda: os.close(1)}):
+            self.installs(**how)
+            self.expect_removed()
         self.installs(umask=0o077)
         self.prefix = shutil.move(self.prefix, f"{self.folder}/moved")
         self.assertNotIn("first on the PATH", self.installs(PATH=f"{self.prefix}/bin:{self.env['PATH']}"))
@@ -94,16 +97,9 @@ class Install(Repository):
         for tool, (_, _, digest) in TOOLS.items():
             self.assertEqual(self.run_command([self.at(f"bin/{tool}"), "a"]), Ran(0, f"{digest}  a\n".encode(), b""))
 
-    def test_nobody_listens(self):
-        """Standard output is full or closed: the status tells what was done."""
-        with self.full() as full:
-            for how in ({"stdout": full}, {"preexec_fn": lambda: os.close(1)}):
-                self.installs(**how)
-                self.expect_removed()
-
     def test_each_over_another(self):
         """Names and level stay if nothing is said of them. With own names, nothing is called by GNU's."""
-        theirs = ["bin/theirs", f"{MAN}/theirs.1", "lib/theirs"]
+        theirs = ["bin/theirs", f"{MAN}/theirs.1", "lib/theirs", LIST]
         self.theirs(*theirs)
         for words, level, own, kept in (
                 ("", DEFAULT, False, ""), (f"--cpu {FAST} {OWN}", FAST, True, ""),
@@ -152,18 +148,16 @@ class Install(Repository):
             shutil.rmtree(self.prefix)
 
     def test_an_earlier_form(self):
-        """Its list is named, with two commands that remove what that lists. Another file of that name is left alone."""
-        for words, *lines in (([], "program 1 2", "link md5sum"),
-                              (["--remove"], "/", "bin/", "bin/digests", "bin/md5sum", LIST),
+        """One command removes what is left of it, and nothing of others that has taken the place of a command."""
+        for words, *lines in (([], "program 1 2", "link md5sum", "link b2sum"),
+                              (["--remove"], "/", "bin/", "bin/digests", "bin/md5sum", "bin/b2sum", LIST),
                               ([], f"{'0' * 64}  bin/digests", "# folder  bin", "# -> digests  bin/md5sum")):
-            self.theirs("bin/digests", "bin/md5sum", "bin/theirs", LIST)
+            self.theirs("bin/b2sum", "bin/theirs", LIST)
+            self.shell("ln -s digests bin/md5sum; echo digests | tee bin/digests >>bin/b2sum")
             self.write(self.at(LIST), lines)
-            said, *two = self.installs(*words, status=1).splitlines()
-            self.shell(" && ".join(two))
-            self.assertEqual((self.at(LIST) in said, len(two), self.tree()), (True, 2, {"bin/theirs": b"theirs"}))
-        self.theirs(LIST)
-        self.installs()
-        self.expect_installed(theirs=["bin/theirs", LIST])
+            said, command = self.installs(*words, status=1).splitlines()
+            self.assertIn(f"this command, run in {self.prefix}, removes", said)
+            self.assertEqual((self.shell(command), set(self.tree())), (b"", {"bin/b2sum", "bin/theirs"}))
 
     def test_what_appears_meanwhile(self):
         """A file of others that appears meanwhile is named, and not overwritten."""
@@ -205,9 +199,10 @@ class Install(Repository):
                 self.assertEqual((len(links), all(map(os.path.exists, links))), (count, True))
 
     def test_prefixes(self):
-        """With DESTDIR everything is below that directory. A prefix may have any bytes."""
-        for name, stage in (("one/two/three", ""), (os.fsdecode(b"a \n\xff b"), ""), ("/usr", "a stage")):
-            self.prefix = name
+        """With DESTDIR everything is below that directory. A prefix may have any bytes, and go through links."""
+        self.run_command(["sh", "-c", "mkdir -p one/two; ln -s one/two link"])
+        for self.prefix, stage in (("link/../p/q", ""), (os.fsdecode(b"a \n\xff b"), ""), ("/usr", "a stage")):
+            name = self.prefix.replace("link/..", "one")
             self.assertEqual(f"/{name}/bin first on the PATH\n" in self.installs(DESTDIR=stage), not stage)
             self.prefix = os.path.join(self.folder, stage + name)
             self.expect_installed()
@@ -231,12 +226,17 @@ class Install(Repository):
 
     def test_wrong_words(self):
         """One line names what is wrong, or missing."""
-        for *words, it in (["PREFIX"], ["", "PREFIX"], ["x", "y", "y"], ["-x", "x", "-x"], ["--cpu", "o", "x", "'o'"]):
+        for *words, why in (["PREFIX"], ["", "PREFIX"], ["x", "y", "y"], ["-x", "x", "-x"], ["--cpu", "o", "x", "'o'"],
+                            ["--cpu", "x86-64", "x", "no program is built for x86-64: default is for x86-64-v2"]):
             ran = self.script("install", *words)
             self.assertEqual((ran.status, ran.out, ran.err.count(b"\n")), (2, b"", 1), words)
-            self.assertRegex(ran.err.decode(), rf"\Ainstall: .*{it}")
+            self.assertRegex(ran.err.decode(), rf"\Ainstall: .*{why}")
         os.symlink(shutil.which("python3"), self.path("python3"))
         self.assertIn("install: sync, of GNU coreutils, isn't on the PATH", self.installs(status=1, PATH=self.folder))
+        self.put("out/digests", "#!/bin/sh\nexit 127\n")  # as if the processor were too old
+        self.assertEqual(("doesn't run" in self.installs(status=1), os.path.exists(self.prefix)), (True, False))
+        self.write("argparse.py", "import os; os.kill(os.getpid(), 2)")  # Ctrl-C at the beginning
+        self.assertEqual(self.script("install", self.prefix, PYTHONPATH=self.folder), Ran(-2, b"", b""))
 
     @needs_strace
     def test_each_end(self):
@@ -273,7 +273,7 @@ class Install(Repository):
             self.assertIn(" is on the disk" if status else "installed for", self.installs(status=status))
 
     def test_a_power_cut(self):
-        """After each run the disks of the prefix and of its `bin` are copied as they are."""
+        """After each run the disks of the prefix and of its `bin` are copied as they are. Last, no program may run."""
         os.remove(self.path("commands/sync"))
         self.disk("disk.1", self.path("disk"))
         self.disk("disk.2", self.path("disk/a prefix/bin"))
@@ -285,3 +285,6 @@ class Install(Repository):
                 shutil.copy(self.path(f"disk.{part}"), self.path(f"{number}.{part}"))
                 self.disk(f"{number}.{part}", at)
             self.assertEqual(self.tree(), tree)
+        self.run_command(["mount", "-o", "remount,noexec", self.path("disk")])
+        self.prefix = f"{self.folder}/disk/another"
+        self.assertEqual(("noexec" in self.installs(status=1), os.path.exists(self.prefix)), (True, False))

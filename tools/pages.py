@@ -7,7 +7,7 @@ from options import ALWAYS, DIGESTS, NEVER, TOOLS, WITH_CHECK, WITHOUT_CHECK, op
 from roff import WIDTH, bullet, escaped, inline, item, page, section, shown
 from sources import text_of
 
-DATE = "2026-11-29"  # of the last change of the texts
+DATE = "2026-11-30"  # of the last change of the texts
 FEWER = ", or fewer with `--length`"
 
 

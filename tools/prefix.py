@@ -49,10 +49,41 @@ def can_read(folder):
     return os.access(f"{folder}/.", os.R_OK | os.X_OK)
 
 
+def in_folders():
+    """What is in the directories of the links."""
+    return {f"{folder}/{name}" for folder in filter(can_read, FOLDERS) for name in os.listdir(folder)}
+
+
+def is_of_an_earlier_form(path):
+    """Whether this is still what an earlier form put there: a link to the program in the place of a command; or the
+    program, a page or a completion, all of which mention it."""
+    if path.startswith("bin/") and path != "bin/digests":
+        return link_at(path) == "digests"
+    return os.path.isfile(path) and not os.path.islink(path) and b"digests" in pathlib.Path(path).read_bytes()
+
+
+def left_of_an_earlier_form():
+    """What is left of an earlier form, with its list. Each form's list has a line for the program."""
+    name = "share/digests/installed"
+    lines = pathlib.Path(name).read_text(errors="replace").splitlines() if os.path.isfile(name) else []
+    if not any(re.fullmatch(r"program [\d ]+|([0-9a-f]{64}  )?bin/digests", line) for line in lines):
+        return []
+    paths = {"bin/digests", *(re.sub("^link ", "bin/", line.rpartition("  ")[2]) for line in lines)}
+    return [*sorted(filter(is_of_an_earlier_form, paths & in_folders())), name]
+
+
+def is_noexec(base):
+    """Whether lib/digests is, or would be, on a file system that lets no program run."""
+    place = pathlib.Path(base, HOME)
+    while not place.exists():
+        place = place.parent
+    return bool(os.statvfs(place).f_flag & os.ST_NOEXEC)
+
+
 def look(paths):
     """Our links; and what isn't ours at these paths, above them or at lib/digests, in which case no link is ours."""
     above = {str(at) for folder in (HOME, *FOLDERS) for at in pathlib.Path(folder, "any").parents}
-    there = {f"{folder}/{name}" for folder in filter(can_read, FOLDERS) for name in os.listdir(folder)}
+    there = in_folders()
     links = set(filter(is_ours, there))
     others = {path for path in above if os.path.lexists(path) and not can_read(path)} | there & paths - links
     names = os.listdir(HOME) if can_read(HOME) else []
