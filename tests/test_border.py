@@ -1,18 +1,28 @@
-"""What no contract holds: which code may touch the system, and by what; destructors; the stack; and where the words of
-contracts come from. All goes by what the kit has read and compiled, but for two tokens and for definitions."""
+"""What no contract holds: which code may touch the system, and by what; names that are the kit's, too; destructors; the
+stack; and where the words of contracts come from. All goes by what the kit has read and compiled, but for two tokens
+and for definitions."""
 
+import collections
 import glob
 import os
 import re
 
-from compiled import LIBRARIES, around, check_libraries, clauses, function, ours, reached
+from believed import code
+from compiled import LIBRARIES, around, check_libraries, clauses, function, home, naming, ours, reached
 from harness import TOP, Case
 from sources import code_of, crates_of_program, files, needs, text_of, tokens_of
 
-# The rows of tests/border.txt: a table, mostly with a function, and the names there.
-LISTED = {" ".join(f"{row} {names}".split())
-          for row, names in re.findall(r"(?m)^([^#\s].*)\n((?:    .*\n)*)", text_of("tests", "border.txt"))}
-(PURE,) = ({*row.split()[1:]} for row in LISTED if row.startswith("pure "))
+
+def entries(row, text):
+    """What a row of tests/border.txt lists: words or, of a file, what semicolons separate."""
+    words = text.split()
+    return " ".join(words).split("; ") if row.startswith("file ") else words
+
+
+# The rows of tests/border.txt: what each is of, and what it lists.
+ROW = re.compile(r"(?m)^([^#\s].*)\n((?:    .*\n)*)")
+LISTED = {row: entries(row, text) for row, text in ROW.findall(text_of("tests", "border.txt"))}
+PURE = {*LISTED["pure"]}
 STACK = 128 * 1024  # the most bytes that a call of `main` may take of the stack, without what is in C
 
 # The modules whose names a contract or a definition may use: definitions, ours and the kit's, the kit's `std`, and the
@@ -21,9 +31,64 @@ WORDS = re.compile(r"\A(?:Rattle\.(?:\w+\.specs|std)|denote|std)\.")
 USE, ELSEWHERE = re.compile(r"\buse\s+([^\s{;]*)"), re.compile(r"\b(?:Rattle|denote|package)\b")
 
 
-def module_of(name):
+def module_of_kit(name):
     """The crate of a function of the kit, or the module, if the crate has more than what is used here."""
     return re.match(r"(?:(?:core|std_alloc)::)?\w+", name)[0]
+
+
+def of_kit(function):
+    """What a function of ours names of the kit's."""
+    return [name for name in function.named if name.split("::")[0] not in LIBRARIES]
+
+
+def kit_rows():
+    """What the libraries call of the kit. No function in C is reached but those that are listed, and no thread, lock, or
+    call through a pointer."""
+    strange = {"Foreign", "Fork", "Prim", "CallV", "VtMethod"}
+    modules = {module_of_kit(name) for caller in ours().values() for name in of_kit(caller)}
+    in_c = [name for name in reached(ours()) if function(name).words & strange]
+    return {"pure": sorted(modules & PURE), "in_c": sorted(in_c)}
+
+
+def border_rows():
+    """The files that have a function which calls the system: what stands at the margin of each, and all that each of
+    their functions names, and each that runs before and after `command`; and who else names one of theirs."""
+    touching = [name for name, caller in ours().items() if {*map(module_of_kit, of_kit(caller))} - PURE]
+    modules = {home(name) for name in touching}
+    border = {name: caller for name, caller in ours().items() if home(name) in modules}
+    rows = {f"file {file.crate} {file.file}": file.outline for file in code().files if file.module in modules}
+    rows |= {f"calls {name}": caller.named for name, caller in {**border, **around()}.items()}
+    return {**rows, "callers": naming(border)}
+
+
+def names_of_kit():
+    """The names by which our code means something of the kit's: those that it brings in, and those of what it calls,
+    each with the type or the module in which that is."""
+    kit = {name for crate in crates_of_program() for name in needs()[crate]} - {*LIBRARIES} | {"core", "std"}
+    brought = {name for file in code().files for name, crates in file.brought.items() if crates & kit}
+    called = {"::".join(name.split("::")[-2:]) for caller in ours().values() for name in of_kit(caller)}
+    return brought | {word for name in called for word in re.findall(r"\w+", name)}
+
+
+def names_of_ours():
+    """The names of our modules, and of what stands in them."""
+    modules = {name for file in code().files for name in file.modules}
+    return modules | {item.name for item in code().items if item.kind != "impl"}
+
+
+def main_rows():
+    """The files of the program's own crate, all of them."""
+    return {f"main {file}.rt": text_of(path).split() for crate, file, path in files("src", ".rt")
+            if crate == crates_of_program()[-1]}
+
+
+def differences(found, listed):
+    """How rows differ from those that are listed: a line for each row, and for each name in it, that is new or gone."""
+    for row in sorted({*found, *listed}):
+        there, wanted = (collections.Counter(rows.get(row, ())) for rows in (found, listed))
+        yield from (f"{row}: this row is {how}" for how, rows in (("new", listed), ("gone", found)) if row not in rows)
+        yield from (f"{row}: {name} is new" for name in (there - wanted).elements())
+        yield from (f"{row}: {name} is gone" for name in (wanted - there).elements())
 
 
 class Border(Case):
@@ -38,25 +103,27 @@ class Border(Case):
                  for path in glob.glob(os.path.join(TOP, above, name))]
         self.assertEqual(lists, [os.path.join(TOP, "crates.txt")])
 
-    def test_calls(self):
-        """What the libraries call of the kit, and all that is called around `command`; and `main`. No function in C is
-        reached but those that are listed, and no thread, lock, or call through a pointer."""
-        found, pure = [["around", it.name, *it.named] for it in around().values()], set()
-        for it in ours().values():
-            of_kit = [name for name in it.named if name.split("::")[0] not in LIBRARIES]
-            pure |= {module_of(name) for name in of_kit} & PURE
-            if of_system := [name for name in of_kit if module_of(name) not in PURE]:
-                found.append(["system", it.name, *of_system])
-        strange = {"Foreign", "Fork", "Prim", "CallV", "VtMethod"}
-        in_c = sorted(name for name in reached(ours()) if function(name).words & strange)
-        found += [["in_c", *in_c], ["pure", *sorted(pure)]]
-        found += [["main", f"{file}.rt", *text_of(path).split()] for crate, file, path in files("src", ".rt")
-                  if crate == crates_of_program()[-1]]
-        self.assertEqual({" ".join(row) for row in found}, LISTED)
+    def test_rows(self):
+        """What tests/border.txt lists, row by row."""
+        found = {**kit_rows(), **border_rows(), **main_rows(), "names": sorted(names_of_ours() & names_of_kit())}
+        if wrong := [*differences(found, LISTED)]:
+            self.fail("\n".join(["", *wrong, "If this is meant, put it into tests/border.txt."]))
+
+    def test_letters(self):
+        """Types and traits begin with a capital letter, as whoever reads what is believed expects."""
+        self.assertEqual([item.symbol for item in code().called if not item.name[0].isupper()], [])
+
+    def test_what_git_has(self):
+        """Git has no file where builds keep what they made: a library there could be of other sources. And no link
+        leads out of the sources."""
+        ran = self.run_command(["git", "ls-files", "out", "*/out", "*/out/*"], cwd=TOP)
+        self.assertEqual(ran.out, b"")
+        linked = self.run_command(["find", "crates", "-type", "l"], cwd=TOP)
+        self.assertEqual(linked.out, b"")
 
     def test_destructors(self):
         """Each is derived. No contract speaks of what a written one does when `main` ends."""
-        self.assertEqual([it.name for it in ours().values() if it.block.endswith("++Drop")], [])
+        self.assertEqual([name for name, written in ours().items() if written.block.endswith("++Drop")], [])
 
     def test_the_stack(self):
         """What the kit's own compiler computes of the program, which it compiles in a copy: a number, with a `+` if a
@@ -74,8 +141,8 @@ class Border(Case):
     def test_code_that_is_not_seen(self):
         """What the compiled code doesn't tell apart: files that are read as it is made, and raw pointers."""
         words = {"unsafe", "extern", "include", "include_bytes", "include_str"}
-        found = [(crate, file) for crate, file, path in files("src", ".rt") if crate in LIBRARIES
-                 for it in tokens_of(path) if it.text in words]
+        sources = [(crate, file, path) for crate, file, path in files("src", ".rt") if crate in LIBRARIES]
+        found = [(crate, file) for crate, file, path in sources for token in tokens_of(path) if token.text in words]
         self.assertEqual(found, [])
 
     def test_words(self):

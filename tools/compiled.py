@@ -5,8 +5,10 @@ isn't known here raises a ValueError, so that nothing is left out unnoticed."""
 import functools
 import gc
 import glob
+import itertools
 import json
 import os
+import re
 import sys
 
 from sources import TOP, closure, crates_of_program, kit
@@ -126,6 +128,18 @@ def around():
     return found
 
 
+def naming(names):
+    """The other functions of ours that name one of these, or an `impl` in which one is, and those that name them in
+    turn, up to the functions that a trait asks for."""
+    found, asked = set(), {*names}
+    while asked:
+        wanted = asked | {ours()[name].block for name in asked}
+        asked = {it.name for it in ours().values() if wanted & {*it.named}} - found - {*names}
+        found |= asked
+        asked = {name for name in asked if not ours()[name].block}
+    return sorted(found)
+
+
 def statements():
     """What the kit has made of contracts and views: the crate, the module, and what it has there, as JSON."""
     check_libraries()
@@ -145,11 +159,55 @@ def clauses():
         yield from ((crate, module, of["bytes"]) for key, of in inside(json.loads(line)) if key == "Read" and of)
 
 
+def plain(name):
+    """The kit's name for a function of a type, without those of the type's parameters."""
+    return re.sub(r"\+[\w+]*(?=::\w+$)", "", name)
+
+
+@functools.lru_cache(maxsize=None)
+def mentions():
+    """What the kit has resolved in each contract, type, trait and `impl` of ours: for its name, the names there, the
+    kit's, too. In a contract it also lists the types of the whole file, which say nothing."""
+    found = {}
+    for crate, module, line in statements():
+        record = json.loads(line)
+        record.get("Contract", {}).pop("types", None)
+        parts = itertools.takewhile(lambda part: not re.match("The[A-Z]|(Key|Laws)$", part), module.split("/")[2:])
+        names = {value for key, value in inside(record) if key == "symbol"} - {None}
+        found.setdefault(plain("::".join([crate, *parts])), set()).update(map(plain, names))
+    return found
+
+
+def resolved(name):
+    """The names of types, traits and blocks in what the kit calls so."""
+    if name not in mentions():
+        raise ValueError(f"the kit has written nothing of {name}")
+    return mentions()[name]
+
+
 @functools.lru_cache(maxsize=None)
 def laws():
     """The members of our traits that are laws."""
     bounds = (json.loads(line)["BoundOf"] for _, _, line in statements() if line.startswith('{"BoundOf"'))
     return {name for it in bounds for name, _ in it["laws"]}
+
+
+def module(crate, file):
+    """The kit's name for the module of a file of code."""
+    return re.sub("::lib$", "", f"{crate}::{file[:-len('.rt')]}".replace("/", "::"))
+
+
+@functools.lru_cache(maxsize=None)
+def modules():
+    """The modules of our code."""
+    return {module(crate, file) for crate, file, _ in read_files()}
+
+
+def home(name):
+    """The module of a function of ours; that of a type's function is its type's."""
+    parts = name.split("::")
+    above = ("::".join(parts[:size]) for size in range(len(parts) - 1, 0, -1))
+    return next(module for module in above if module in modules())
 
 
 def read_files():

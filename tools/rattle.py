@@ -28,7 +28,7 @@ SPACES = [(re.compile(found), instead) for found, instead in (
     (r"('\w+|\b(?:for|as|mut|where|in|dyn))([(\[])", r"\1 \2"), (r"# \[", "#["), (r", \}", " }"),
     (r"\((\d+)_\w+\)", r"\1"))]
 # The module of definitions of a type of the code, of its variants, or of the constants of a file.
-DECLARED = re.compile(r"Rattle\.(\w+)\.specs\.declared\.([\w.]+?)\.(\w+?)(?:\.The(?:Variants|Inside))?")
+DECLARED = re.compile(r"Rattle\.(\w+)\.specs\.(?:declared|contracts)\.([\w.]+?)\.(\w+?)(?:\.The(?:Variants|Inside))?")
 
 
 def as_in_a_source(line):
@@ -78,8 +78,8 @@ class Item:
     """A function with its contract, a trait, a type, an `impl` or a constant, which has some lines of what the kit has
     read: its attributes; its head, which precedes the contract or the body; and the items in it. `above` is the `impl`
     or the trait in which it is, and `path` its name after that one's. An `impl` has the name of its type, and, as
-    `block`, the one that the kit gives to it. From the source come the `///` comment above it, and its lines there,
-    from its attributes on."""
+    `block`, the one that the kit gives to it; `symbol` is the kit's whole name of an item, which `Code` finds. From the
+    source come the `///` comment above it, and its lines there, from its attributes on."""
 
     def __init__(self, there, lines, above):
         self.there, self.crate, self.file, self.lines, self.above = there, there.crate, there.file, lines, above
@@ -120,6 +120,11 @@ class Item:
         return at_commas(as_in_a_source(self.code(False).partition(" {")[2].removesuffix("}")))
 
     @property
+    def outline(self):
+        """Its head, with the fields of a struct."""
+        return f"{self.head} {{ {', '.join(self.parts)} }}" if self.kind == "struct" else self.head
+
+    @property
     def text(self):
         """Its text, as a source would have it."""
         found = []
@@ -139,16 +144,18 @@ class Item:
 
 class File:
     """A file as the kit has read it: its lines, its clauses, and the tokens that are code; its items; and what it
-    brings in: the names of clauses, and those of code, each with its crates."""
+    brings in: the names of clauses, and those of code, each with its crates. `outline` has what stands at its margin,
+    without the functions, and `modules` the modules below it."""
 
     def __init__(self, crate, file, path):
         self.crate, self.file, self.rows = crate, file, text_of(path).split("\n")
+        self.module = compiled.module(crate, file)
         self.clauses = [*clauses_in(tokens_of(path), text_of(path))]
         self.code = {it for it in tokens_of(path) if it.kind == "Code"}
         if re.search(r"\n\S", "".join(it.text for it in [*tokens_of(path), *self.clauses])):
             raise ValueError(f"{path} has a text or a clause that goes on at the margin")
         self.uses = uses_of(row for row in self.rows if row.startswith("ghost use "))
-        self.items, self.brought, block = [], {}, None
+        self.items, self.brought, self.outline, self.modules, block = [], {}, [], [], None
         starts = [at for at, row in enumerate(self.rows, 1) if row[:1].strip()]
         for first, end in zip(starts, [*starts[1:], len(self.rows)]):
             row = self.rows[first - 1]
@@ -157,10 +164,23 @@ class File:
             elif not NO_ITEM.match(row):
                 new = Item(self, range(first, end), block)
                 (block.members if block else self.items).append(new)
+                self.outline += [] if block or new.kind == "fn" else [new.outline]
                 block = new if new.kind in ("impl", "trait") else block
-            elif use := re.match(r"(?:pub (?:\( \w+ \) )?)?use (\w+)(.*)", row):
-                self.bring(*use.groups())
+            elif not row.startswith("ghost use "):
+                self.outline.append(as_in_a_source(row).rstrip(";"))
+                self.modules += re.findall(r"\bmod (\w+)", row)
+                for use in re.finditer(r"\buse (\w+)(.*)", row):
+                    self.bring(*use.groups())
+        self.refuse_inner_items()
         self.find_in_source()
+
+    def refuse_inner_items(self):
+        """Fails if a function has items in its body, which the kit's names for functions and types don't tell apart."""
+        tokens = sorted(self.code, key=lambda token: token.start)
+        opened = {token.line for token, after in zip(tokens, tokens[1:]) if token.text == "{" and after.text != "}"}
+        for item in (item for above in self.items for item in [above, *above.members] if item.kind == "fn"):
+            if opened & {*item.lines}:
+                raise ValueError(f"{item.path} of {self.crate} has items in its body, which can't be read")
 
     def bring(self, of, names):
         """Takes up what a `use` line brings in. An item of ours is found by its name, so none may have another one."""
@@ -190,19 +210,30 @@ class Code:
     """The items of the program's libraries."""
 
     def __init__(self):
-        self.items = [it for found in compiled.read_files() for it in File(*found).items]
+        self.files = [File(*found) for found in compiled.read_files()]
+        self.items = [item for file in self.files for item in file.items]
         self.called = [it for it in self.items if it.kind in ("trait", "struct", "enum", "type") or it.trait == "Model"]
-        every = [it for of in self.items for it in [of, *of.members]]
-        self.functions = [it for it in every if it.kind == "fn"]
-        self.types = {it.name: it.name for it in self.items if it.kind in ("struct", "enum")}
+        self.functions = [item for above in self.items for item in [above, *above.members] if item.kind == "fn"]
+        types = [item for item in self.items if item.kind in ("struct", "enum")]
+        self.types = {item.name: item.name for item in types}
         self.types |= {it.name: re.search(r"= (\w+)", it.head)[1] for it in self.items if it.kind == "type"}
-        modules = {it: re.sub("::lib$", "", f"{it.crate}/{it.file[:-3]}".replace("/", "::")) for it in self.items}
-        homes = {(it.crate, it.name): modules[it] for it in self.items if it.kind in ("struct", "enum")}
+        homes = {(item.crate, item.name): item.there.module for item in types}
+        if len(homes) < len(types):
+            raise ValueError("a crate has two types of the same name")
         self.symbols = {}  # the kit's name for a function, a trait or an `impl`; a function of a type is where that is
-        for it in self.items:
-            home = homes[it.crate, it.name] if it.kind == "impl" and not it.trait else modules[it]
-            for name, item in [(it.block, it), *((f"{it.block}::{its.name}", its) for its in it.members)]:
-                self.symbols[f"{home}::{name}"] = item
+        self.declared_as = {}  # the kit's name for a type, which is its model's, too, a trait, or an `impl` of one
+        self.replaced = {}  # other names of types, and constants, in whose place the kit puts what they stand for
+        for item in self.items:
+            of_type = item.kind == "impl" and item.trait in (None, "Model")
+            item.symbol = f"{homes[item.crate, item.name] if of_type else item.there.module}::{item.block}"
+            self.symbols[item.symbol] = item
+            for member in item.members:
+                member.symbol = f"{item.symbol}::{member.name}"
+                self.symbols[member.symbol] = member
+            if item.kind in ("type", "const", "static"):
+                self.replaced.setdefault(item.name, []).append(item)
+            elif item.kind != "fn" and (item.kind != "impl" or item.trait):
+                self.declared_as.setdefault(item.symbol, []).append(item)
 
     def laws(self):
         """Each law: a function of a module `laws`."""
@@ -216,7 +247,7 @@ class Code:
         """The function or the `impl` that the kit calls so, if it is one of ours that a source spells out; `TRAIT#N` is
         the Nth function of a trait."""
         name, _, number = name.partition("#")
-        found = self.symbols.get(re.sub(r"\+[\w+]*(?=::\w+$)", "", name))
+        found = self.symbols.get(compiled.plain(name))
         return [it for it in found.members if it.kind != "type"][int(number)] if found and number else found
 
     @staticmethod
@@ -231,17 +262,22 @@ class Code:
         return next(filter(None, chosen), found)
 
     def named(self, item):
-        """The traits, types and models that an item names, but for the names of an enum's variants."""
-        parts = [re.sub(r"^\w+", "", it) for it in item.parts] if item.kind == "enum" else [item.code()]
-        for name in re.findall(r"\b[A-Z]\w*", " ".join([item.head, *parts])):
-            found = self.meant(item, [it for it in self.called if it.name == name])
+        """What an item names: types with their models, traits, and blocks, as the kit has resolved them; and what the
+        kit has replaced, by its name. What it names of ours has to be known here, whatever its letters."""
+        resolved = [it.symbol for it in [item, *item.members] if it.kind not in ("type", "const", "static")]
+        for symbol in sorted({item.symbol}.union(*map(compiled.resolved, resolved))):
+            if symbol not in self.symbols and symbol.split("::")[0] in compiled.LIBRARIES:
+                raise ValueError(f"{symbol}, which {item.path} of {item.crate} names, isn't known here")
+            yield from self.declared_as.get(symbol, ())
+        for name in sorted(self.replaced.keys() & {*re.findall(r"\w+", item.code())}):
+            found = self.meant(item, self.replaced[name])
             if len({it.crate for it in found}) > 1:
                 raise ValueError(f"{name}, which {item.name} of {item.crate} names, is of several crates")
             yield from found
 
     def declared(self, module, name):
         """What a module of definitions that the kit makes of the code declares, and what that names."""
-        if not re.match(rf"Rattle\.(?:{'|'.join(compiled.LIBRARIES)})\.specs\.declared\b", module):
+        if not re.match(rf"Rattle\.(?:{'|'.join(compiled.LIBRARIES)})\.specs\.(?:declared|contracts)\b", module):
             return []
         crate, file, owner = DECLARED.fullmatch(module).groups()
         wanted = crate, file.replace(".", "/") + ".rt", name if owner == "TheConstants" else owner
