@@ -132,7 +132,8 @@ class Border(Case):
         there = f"crates/{crates_of_program()[-1]}"
         script = """cp -R --parents "$0" crates.txt "$1"
             for it in crates/*/src crates/*/specs crates/*/proofs crates/*/out/rlib; do
-                cp -Rl --parents "$it" "$1" 2>/dev/null || cp -R --parents "$it" "$1"; done"""
+                cp -Rl --parents "$it" "$1" 2>/dev/null || cp -R --parents "$it" "$1"; done
+            find "$1" -name proved -execdir mv {} stamp \\;"""  # so that rt takes the libraries that a build has proved
         self.run_command(["sh", "-c", script, there, self.folder], cwd=TOP)
         ran = self.run_command(["rt", "run", "--backend", "rattle", "--", "sha256sum"], cwd=self.path(there))
         found = re.search(rb" stack-bytes=(\d+) ", ran.err)

@@ -59,13 +59,17 @@ class Build(Repository):
             os.utime(self.sources[0], (1, 1))
             self.expect_built("mended, with an older time")
 
-    def test_another_list(self):
-        """A file that rt would read in the place of crates.txt is named, and nothing is made."""
-        for name in ("crates/digests_main/crates.txt", "crates/BUILD.bazel"):
+    def test_strange_files(self):
+        """What rt would read in the place of crates.txt, and a library in git, is named, and nothing is made."""
+        self.run_command(["git", "init", "-q", self.top])
+        for name in ("crates/digests_main/crates.txt", "crates/BUILD.bazel", "crates/low/out/rlib/stamp", "out/built"):
             path = self.put(name, "digests:\n")
-            said = f"digests: {name} is in the place of crates.txt\n".encode()
-            self.assertEqual((self.script("tools/build"), self.calls), (Ran(1, b"", said), []))
+            self.run_command(["git", "-C", self.top, "add", "-f", name])
+            said = f"digests: {name} isn't a source: remove it\n".encode()
+            self.assertEqual((self.script("tools/build"), self.calls), (Ran(1, b"", said), []), name)
             os.remove(path)
+        os.symlink("Some.antt", self.in_top("crates/low/src/Link.antt"))
+        self.assertIn(b"crates/low/src/Link.antt isn't a source", self.script("tools/build").err)
 
     def test_after_a_power_cut(self):
         """An empty program is neither run nor installed, but built anew. What isn't synced doesn't count as built."""

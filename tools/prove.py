@@ -75,7 +75,6 @@ def text_if(path):
 def keep(level, program):
     """Copies a program into a level's directory, where it appears whole, even after a power cut."""
     new = OUT / level / "digests.new"
-    new.parent.mkdir(exist_ok=True)
     shutil.copy(program, new)
     subprocess.run(["sync", new], check=True)
     new.replace(new.with_name("digests"))
@@ -174,6 +173,5 @@ def main():
 
 
 if __name__ == "__main__":
-    for number in (signal.SIGINT, signal.SIGHUP, signal.SIGTERM):
-        signal.signal(number, lambda *_: os._exit(1))
+    signal.signal(signal.SIGINT, signal.SIG_DFL)
     main()
