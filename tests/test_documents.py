@@ -49,11 +49,12 @@ class Documents(Case):
                          "tools/refusals.py makes the table anew")
 
     def test_a_second_audit(self):
-        """The command of docs/AUDITING.md finds the files of the contracts, those of what `main` makes too."""
+        """The command of docs/AUDITING.md finds the files of the contracts, of what `main` makes, and of the border."""
         command = re.search(r"(?m)^    git diff OLD .*\$\((.*)\)$", text_of("docs", "AUDITING.md"))[1]
         ran = self.run_command(["sh", "-c", command], cwd=TOP)
         wanted = {f"crates/digests/src/{name}.rt".encode() for name in ("run", "command", "standard_input")}
-        self.assertLessEqual({*wanted, b"crates/sum_sources/src/sources/opened.rt"}, set(ran.out.split()))
+        wanted |= {b"crates/sum_sources/src/sources/opened.rt", b"crates/sum_sources/src/system/errors.rt"}
+        self.assertLessEqual(wanted, set(ran.out.split()))
 
     def test_the_library(self):
         """docs/LIBRARY.md has each public call as the kit has read it."""

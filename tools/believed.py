@@ -92,10 +92,12 @@ def in_files(definitions):
 
 
 def made():
-    """What runs before and after `command`, and how the types there implement the traits, without the claims."""
-    names = [name for it in compiled.around().values() for name in (it.name, *it.named)]
+    """What runs before and after `command`, and the blocks in which the types there, and those of the claims and the
+    laws, implement the traits, without the claims."""
+    names = [name for caller in compiled.around().values() for name in (caller.name, *caller.named)]
     claimed = [code().function(*claim[:2]) for claim in CLAIMS]
-    return [it for it in dict.fromkeys(map(code().of_symbol, names)) if it and it not in claimed]
+    found = [*map(code().of_symbol, names), *code().blocks([*claimed, *code().laws()])]
+    return [item for item in dict.fromkeys(found) if item and item not in claimed]
 
 
 @functools.lru_cache(maxsize=None)

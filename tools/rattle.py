@@ -221,7 +221,7 @@ class Code:
         if len(homes) < len(types):
             raise ValueError("a crate has two types of the same name")
         self.symbols = {}  # the kit's name for a function, a trait or an `impl`; a function of a type is where that is
-        self.declared_as = {}  # the kit's name for a type, which is its model's, too, a trait, or an `impl` of one
+        self.declared_as = {}  # the kit's name for a trait, or a type, which is its model's, too
         self.replaced = {}  # other names of types, and constants, in whose place the kit puts what they stand for
         for item in self.items:
             of_type = item.kind == "impl" and item.trait in (None, "Model")
@@ -232,7 +232,7 @@ class Code:
                 self.symbols[member.symbol] = member
             if item.kind in ("type", "const", "static"):
                 self.replaced.setdefault(item.name, []).append(item)
-            elif item.kind != "fn" and (item.kind != "impl" or item.trait):
+            elif item in self.called:
                 self.declared_as.setdefault(item.symbol, []).append(item)
 
     def laws(self):
@@ -261,19 +261,33 @@ class Code:
         chosen = [[it for it in found if it.crate in of] for of in (said, [item.crate], needs()[item.crate])]
         return next(filter(None, chosen), found)
 
-    def named(self, item):
-        """What an item names: types with their models, traits, and blocks, as the kit has resolved them; and what the
-        kit has replaced, by its name. What it names of ours has to be known here, whatever its letters."""
-        resolved = [it.symbol for it in [item, *item.members] if it.kind not in ("type", "const", "static")]
-        for symbol in sorted({item.symbol}.union(*map(compiled.resolved, resolved))):
-            if symbol not in self.symbols and symbol.split("::")[0] in compiled.LIBRARIES:
+    def resolved(self, item):
+        """The kit's names for what an item names. What it names of ours has to be known here, whatever its letters."""
+        contracts = [it.symbol for it in [item, *item.members] if it.kind not in ("type", "const", "static")]
+        found = {item.symbol}.union(*map(compiled.resolved, contracts))
+        for symbol in found - self.symbols.keys():
+            if symbol.split("::")[0] in compiled.LIBRARIES:
                 raise ValueError(f"{symbol}, which {item.path} of {item.crate} names, isn't known here")
-            yield from self.declared_as.get(symbol, ())
+        return sorted(found)
+
+    def named(self, item):
+        """The traits, types and models that an item names, and the other names of types, and constants, in whose place
+        the kit puts what they stand for."""
+        yield from (found for symbol in self.resolved(item) for found in self.declared_as.get(symbol, ()))
         for name in sorted(self.replaced.keys() & {*re.findall(r"\w+", item.code())}):
             found = self.meant(item, self.replaced[name])
             if len({it.crate for it in found}) > 1:
                 raise ValueError(f"{name}, which {item.name} of {item.crate} names, is of several crates")
             yield from found
+
+    def blocks(self, items):
+        """The blocks in which the types that these items name, and those that these name in turn, have their traits."""
+
+        def below(item):
+            named = (self.symbols.get(symbol) for symbol in self.resolved(item))
+            return [*self.named(item), *(it for it in named if it and it.kind == "impl" and it.trait)]
+
+        return [it for it in closure(items, below) if it.kind == "impl" and it.trait != "Model"]
 
     def declared(self, module, name):
         """What a module of definitions that the kit makes of the code declares, and what that names."""
