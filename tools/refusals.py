@@ -2,7 +2,9 @@
 """Regenerates the table of docs/TESTING.md: which clause refuses which wrong version.
 
     tools/refusals.py         calls `rt must-fail`
-    tools/refusals.py FILE    takes a file with the output of that call, of the gate or of `./test`"""
+    tools/refusals.py FILE    takes a file with the output of that call, of the gate or of `./test`
+
+Each wrong version must begin with a sentence: what it does, and what a user would see."""
 
 import os
 import re
@@ -12,11 +14,12 @@ import sys
 sys.dont_write_bytecode = True
 
 from rattle import Code  # noqa: E402  (nothing is to be left beside these files)
-from sources import TOP, needs, text_of  # noqa: E402
+from sources import TOP, files, needs, text_of  # noqa: E402
 
 PAGE = os.path.join(TOP, "docs", "TESTING.md")
 MARKS = "<!-- made by tools/refusals.py: what stands below -->\n", "\n<!-- and above this line -->"
 LINE = re.compile(r"(?m)rt: must-fail (\w+)/([\w.-]+)\.edit: (.*?)(?: \(\d+ of \d+\))?$")  # `./test` counts them
+SENTENCE = re.compile(r"[A-Z].*\.\n")
 # A goal of a function's own, at a line of the code, whose end may be cut; or in a proof, of the function that the
 # folders name. A proof that names a goal which is gone shows nothing.
 AT = re.compile(r"refused, as it must be: note: src/([\w/]+\.rt):(\d+):\d+: [^(]*\(`([^`]*)(`?)")
@@ -80,6 +83,8 @@ def rows(said):
 
 
 def main():
+    if silent := [name for _, name, path in files("must-fail", ".edit") if not SENTENCE.match(text_of(path))]:
+        sys.exit(f"{', '.join(silent)}: this doesn't begin with a sentence")
     said = text_of(os.path.abspath(sys.argv[1])) if sys.argv[1:] else subprocess.run(
         ["rt", "must-fail"], cwd=TOP, stdout=subprocess.PIPE, encoding="utf-8").stdout
     found, order = rows(it.groups() for it in LINE.finditer(said)), list(needs())
