@@ -28,8 +28,8 @@ class Recipes(Typed):
         """Each recipe is typed in bash, and in the others unless it says that it is for bash."""
         section = sections_of("digests")["EXAMPLES"]
         for recipe, sort in recipes_of("digests"):
-            said = " ".join(section.partition(recipe)[0].rpartition(".fi\n")[2].split())
-            self.assertEqual("in bash(1)" in said, bool(OF_BASH.search(recipe)), sort)
+            before = " ".join(section.partition(recipe)[0].rpartition(".fi\n")[2].split())
+            self.assertEqual("in bash(1)" in before, bool(OF_BASH.search(recipe)), sort)
         missing = [shell for shell in SHELLS if shutil.which(shell) is None]
         if missing:
             self.skipTest(f"no recipe is typed in {' and '.join(missing)}: not installed")

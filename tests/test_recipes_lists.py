@@ -15,12 +15,8 @@ def with_line(line):
     return lambda whole: whole + line
 
 
-def of(name):
+def zeros_for(name):
     return b"0" * 64 + b"  " + name + b"\n"
-
-
-def first_line(whole):
-    return whole.index(b"\n") + 1
 
 
 # A list that isn't as the recipe "list" writes it, made of a whole one, whose last line is the image's; and the recipes
@@ -40,17 +36,17 @@ LISTS = {
     "an empty line": (with_line(b"\n"), PLAIN | {"check one"}),
     "one space": (lambda whole: whole.replace(b"  ./", b" ./"), PLAIN),
     "one space in the first line": (lambda whole: whole.replace(b"  ./", b" ./", 1), {"check one"}),
-    "one space in the last line": (with_line(of(b"-x").replace(b"  ", b" ")), {"check one"}),
+    "one space in the last line": (with_line(zeros_for(b"-x").replace(b"  ", b" ")), {"check one"}),
     "a tag": (with_line(OTHERS_TAG.replace(b"SHA2-256", b"SHA256 ")), WHOLE | {"check one"}),
     "another's tag": (with_line(OTHERS_TAG), {"check list of others", "check one"}),
     "a byte-order mark": (lambda whole: b"\xef\xbb\xbf" + whole, {"check list of others", "check one"}),
     "a byte 0": (lambda whole: whole.replace(b"  ./image.iso\n", b"  ./image.iso\0\n"), set()),
-    "a bad escape": (with_line(b"\\" + of(b"./\\x")), {"check one", "unlisted"}),
-    "no name": (with_line(of(b"")), {"check one"}),
-    "a name of a directory": (with_line(of(b"./many")), {"check one", "unlisted"}),
-    "a name of nothing": (with_line(of(b"./nothing")), {"check one", "unlisted"}),
-    "a name that isn't UTF-8": (with_line(of(b"./\xff")), {"check one", "unlisted"}),
-    "standard input": (with_line(of(b"-")), {"check one", "unlisted"}),
+    "a bad escape": (with_line(b"\\" + zeros_for(b"./\\x")), {"check one", "unlisted"}),
+    "no name": (with_line(zeros_for(b"")), {"check one"}),
+    "a name of a directory": (with_line(zeros_for(b"./many")), {"check one", "unlisted"}),
+    "a name of nothing": (with_line(zeros_for(b"./nothing")), {"check one", "unlisted"}),
+    "a name that isn't UTF-8": (with_line(zeros_for(b"./\xff")), {"check one", "unlisted"}),
+    "standard input": (with_line(zeros_for(b"-")), {"check one", "unlisted"}),
 }
 
 # What may have happened to a file, by a command of the shell.
@@ -91,7 +87,7 @@ class Lists(Typed):
                 self.fails(recipe, shell)
             self.put("image.iso", IMAGE)
             for content in (b"", b"#\n", whole[:20], whole + whole[:9], b"improper\n" + whole, whole + b"improper",
-                            b"\xef\xbb\xbf" + whole * 2, whole + OTHERS_TAG, whole + of(b"nothing"), whole + of(b"-")):
+                            b"\xef\xbb\xbf" + whole * 2, whole + OTHERS_TAG, whole + zeros_for(b"nothing")):
                 self.put("image.sum", content)
                 self.fails(recipe, shell)
 

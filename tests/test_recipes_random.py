@@ -92,8 +92,8 @@ class AtRandom(Typed):
             found = {text for text in texts if re.fullmatch(rb"[0-9a-f]*  \./image\.iso", text)}
             return found == {line_of("sha256sum", b"./image.iso", image)[:-1]}
         if sort == "unlisted":
-            found = [re.fullmatch(rb"(\\?)[0-9a-f]+ [ *](.+)", text, re.DOTALL) for text in texts]
-            names = {reference.unescape(it[2]) if it[1] else it[2] for it in found if it}
+            lines = [re.fullmatch(rb"(\\?)[0-9a-f]+ [ *](.+)", text, re.DOTALL) for text in texts]
+            names = {reference.unescape(line[2]) if line[1] else line[2] for line in lines if line}
             return set(files) <= names and not reference.is_reversed("SHA256", texts)
         if sort == "not UTF-8":
             return all(map(is_text, files))

@@ -1,13 +1,17 @@
 """Recipes that call gpg or pv, with the real ones: what is signed or not signed, and what can't be read."""
 
 import os
+import random
 import shutil
 
+import harness
 from recipes import IMAGE, Typed, line_of
 
 
 class Signed(Typed):
     """There are two signers, each with keys in a directory of their own. A reader has the key of the first."""
+
+    OUT = b"./-x: OK\n./a b: OK\n./image.iso: OK\n"
 
     def setUp(self):
         super().setUp()
@@ -67,14 +71,24 @@ class Signed(Typed):
     def test_files(self):
         """Only what is signed counts, and each file of it."""
         self.put("SUMS.asc", line_of("sha256sum", b"./nothing", b"") + self.signed + b"improper\n")
-        out = b"./-x: OK\n./a b: OK\n./image.iso: OK\n"
         for recipe, _, shell in self.each_recipe("check gpg"):
-            self.assertEqual(self.type(recipe, shell)[:2], (0, out))
+            self.assertEqual(self.type(recipe, shell)[:2], (0, self.OUT))
             for change in ("echo >>'a b'", "rm 'a b'", "mkdir 'a b'"):
                 self.run_command(["sh", "-c", change], cwd=self.path("here"))
                 self.assertIn(b"./a b: FAILED", self.fails(recipe, shell).out)
             os.rmdir(self.path("here/a b"))
             self.put("a b")
+
+    def test_changes_at_random(self):
+        """After a change of some byte, it is accepted only if the same is checked as before."""
+        shells = [shell for _, _, shell in self.each_recipe("check gpg")]
+        for seed in range(harness.SEED, harness.SEED + harness.CASES // 100):
+            chance = random.Random(seed)
+            place = chance.randrange(len(self.signed))
+            other = chance.choice([b"", b" ", b"\n", b"- ", b"0", bytes([chance.randrange(256)])])
+            self.put("SUMS.asc", self.signed[:place] + other + self.signed[place + chance.choice([0, 1]):])
+            ran = self.type(self.recipe("check gpg"), chance.choice(shells))
+            self.assertTrue(ran.status or ran.out == self.OUT, (seed, ran.out))
 
     def test_blanks(self):
         """After --clear-sign a name that ends in a blank is another one. After --sign it is the same."""
