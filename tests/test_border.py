@@ -83,12 +83,12 @@ def main_rows():
 
 
 def differences(found, listed):
-    """How rows differ from those that are listed: a line for each row, and for each name in it, that is new or gone."""
+    """How rows differ from those that are listed: for each, a line of what is new, and one of what is gone."""
     for row in sorted({*found, *listed}):
-        there, wanted = (collections.Counter(rows.get(row, ())) for rows in (found, listed))
-        yield from (f"{row}: this row is {how}" for how, rows in (("new", listed), ("gone", found)) if row not in rows)
-        yield from (f"{row}: {name} is new" for name in (there - wanted).elements())
-        yield from (f"{row}: {name} is gone" for name in (wanted - there).elements())
+        there, wanted = (collections.Counter(["the row", *rows[row]] if row in rows else []) for rows in (found, listed))
+        for how, names in (("new", there - wanted), ("gone", wanted - there)):
+            if names:
+                yield f"{row}: {how}: {'; '.join(names.elements())}"
 
 
 class Border(Case):
