@@ -101,13 +101,16 @@ class Recipes(Typed):
                 self.passes(recipe, shell=shell)
 
     def test_names_as_they_are(self):
-        """Those of files that don't match, in any locale, and even if they look like reports or aren't UTF-8."""
+        """Those of files that don't match, in any locale, and even if they look like reports or aren't UTF-8. A line of
+        another form, which the tool doesn't write, makes the status 1."""
         names = [*(f"./{name}".encode() for name in GOOD), b"./a: FAILED", b"./a: FAILED open or read", b"./\xe2", *BAD]
         self.make(good=False)
         self.put("SUMS", b"".join(line_of("sha256sum", name, b"") for name in names))
         for locale in ("C", "C.UTF-8"):
             ran = self.type(self.recipe("check names"), env={**self.env, "LC_ALL": locale})
             self.assertEqual((ran.status, ran.out), (1, b"".join(name + b"\0" for name in names)))
+        self.command("digests", "echo ./a: OK")
+        self.assertEqual(self.fails(self.recipe("check names")).out, b"")
 
     def test_a_list_of_others(self):
         """A byte-order mark, and each tag of `openssl dgst`, `rhash --bsd` and uutils. Names stay as they are."""
