@@ -119,7 +119,8 @@ impl<I: Input> LineReader<I> {
 
     /// Returns how many lines were returned so far.
     pub fn lines(&self) -> u64
-        ensures { result ≡ self.now.lines }
+        ensures value { result ≡ self.now.lines }
+        ensures at_most { result ≤ self.now.taken }
     {
         self.lines
     }

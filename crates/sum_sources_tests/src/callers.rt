@@ -22,6 +22,13 @@ pub fn bytes_left<I: Input>(reader: &LineReader<I>) -> u64
     LIMIT - reader.taken()
 }
 
+/// Returns how many bytes an input gave beyond one for each line.
+pub fn bytes_beyond_lines<I: Input>(reader: &LineReader<I>) -> u64
+    ensures { result + reader.now.lines ≡ reader.now.taken }
+{
+    reader.taken() - reader.lines()
+}
+
 /// Asks for a line twice, and returns the second answer. A final answer is returned both times.
 pub fn ask_twice<I: Input, A: Allocator>(
     reader: &mut LineReader<I>,

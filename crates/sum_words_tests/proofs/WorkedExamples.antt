@@ -61,6 +61,7 @@ options :
     × (request Md5sum (words "--help --foo") ≡ Ok Help)
     × (request Md5sum (words "--tag=1 a") ≡ Err (value_not_allowed (codes "tag")))
     × (request Md5sum (words "--foo=1 a") ≡ Err (unknown_long (codes "foo")))
+    × (request Md5sum (words "--s a") ≡ Err (ambiguous_long (codes "s")))
     × (request Md5sum (words "--t a") ≡ Err (ambiguous_long (codes "t")))
     × (request Md5sum (words "--=x a") ≡ Err (ambiguous_long []))
     × (request Md5sum (words "--ta a") ≡ generates Md5 16 modes.Tag (words "a"))
@@ -68,7 +69,7 @@ options :
     × (request Sha256sum (words "-- -b") ≡ generates Sha256 32 modes.Text (words "-b"))
     × (request Md5sum (words "--version a") ≡ Ok Version)
 unfolding words_on_literals
-options = (refl, refl, refl, refl, refl, refl, refl, refl, refl, refl, refl, refl, refl, refl)
+options = (refl, refl, refl, refl, refl, refl, refl, refl, refl, refl, refl, refl, refl, refl, refl)
 
 -- which of several options or faults counts
 order :
