@@ -1,5 +1,5 @@
-"""What makes a recipe that checks a list fail: a list that it isn't for, or a file that isn't as it was. Each row of a
-table is tried with each such recipe, in each shell that it is for."""
+"""What makes a recipe fail that checks or makes a list: a list that it isn't for, a file that isn't as it was, a tree
+that can't be listed. Each row of a table is tried with each such recipe, in each shell that it is for."""
 
 from recipes import BOTH, IMAGE, Typed, line_of
 
@@ -7,6 +7,7 @@ from recipes import BOTH, IMAGE, Typed, line_of
 WHOLE = {"check list", "check list on all", "check list of others", "check names"}
 PLAIN = WHOLE - {"check list on all"}
 SORTS = {*WHOLE, "check one", "unlisted"}
+FIND = ("unlisted", "not UTF-8")
 
 OTHERS_TAG = line_of("sha256sum", b"-x", b"-x", tagged=True).replace(b"SHA256 ", b"SHA2-256")
 
@@ -52,6 +53,12 @@ LISTS = {
 # What may have happened to a file, by a command of the shell.
 DAMAGES = {"damaged": 'echo >>"$1"', "missing": 'rm "$1"', "a directory": 'rm "$1"; mkdir "$1"',
            "unreadable": 'chmod 0 "$1"', "another's": 'cp SUMS "$1"', "a link to nothing": 'ln -sf nothing "$1"'}
+
+# What keeps a tree from being listed, or a list from getting its name; and what keeps it from being looked through.
+CLOSED = ("mkdir -m 0 more", "mkdir -m 333 more")
+TREES = (*CLOSED, "mkdir more; >more/a; chmod 444 more", ">more; chmod 0 more", ">\udcff", "rm SUMS; mkdir SUMS",
+         "chmod 555 .")
+IMAGES = ("chmod 0 image.iso", "rm image.iso", "mkdir image.iso", "rmdir image.iso; ln -s /proc/$PPID/mem image.iso")
 
 
 class Lists(Typed):
@@ -110,3 +117,24 @@ class Lists(Typed):
                 self.put(name, IMAGE if name == "image.iso" else name)
         for recipe, sort, shell in self.each_recipe(*SORTS):
             self.assertEqual(self.type(recipe, shell).status, 0)
+
+    def test_trees(self):
+        """A tree that can't be listed, or only in part: the list of before stays."""
+        for change in TREES:
+            self.make()
+            self.put("SUMS", self.whole)
+            self.shell(f"chmod 777 .; {change}")
+            for recipe, sort, shell in self.each_recipe("list", "list on all", *FIND * (change in CLOSED)):
+                self.fails(recipe, shell, **self.nobody())
+                self.assertTrue("SUMS" in change or self.read("here/SUMS") == self.whole)
+            self.shell("chmod -R 777 .")
+
+    def test_images(self):
+        """A file that can't be read, or only in part: the list of before stays."""
+        self.shell("chmod 777 .")
+        for change in IMAGES:
+            self.shell(change)
+            self.put("image.sum", "of before")
+            for recipe, _, shell in self.each_recipe("write by pv", "write at once"):
+                self.fails(recipe, shell, **({} if "mem" in change else self.nobody()))
+                self.assertEqual(self.read("here/image.sum"), b"of before")

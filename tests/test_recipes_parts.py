@@ -105,10 +105,10 @@ class Parts(Typed):
                     os.chmod(self.path(f"here/{MADE[sort]}"), 0o444)
                 before = sorted(os.listdir(here))
                 answers, terminal = map(os.fdopen, pty.openpty(), ("wb", "rb"))
-                words = [shell, *["-O", "expand_aliases"] * (shell == "bash"), "-c", f'{aliases}eval "$1"', shell, recipe]
+                words = [shell, *["-O", "expand_aliases"] * (shell == "bash"), "-c", f'{aliases}eval "$1"', shell]
                 with answers, terminal:
                     os.write(answers.fileno(), b"n\n" * 9)
-                    ran = self.run_command(words, terminal, cwd=here, env=self.env, **self.nobody())
+                    ran = self.run_command([*words, recipe], terminal, cwd=here, env=self.env, **self.nobody())
                 self.assertEqual((ran.status, sorted(os.listdir(here))), (0, before), aliases)
                 if sort in MADE:
                     self.expect_old_or_new(sort, status=0)
