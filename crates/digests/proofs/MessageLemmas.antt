@@ -1,8 +1,7 @@
 -- Runs that write one text and nothing else: a fault, the help, the version.
 use Rattle.std.proofs.Common.{ℕ, Bool, [], Result, refl}
-use Rattle.sum_engine.specs.Writes.{WritesAndReturns}
+use Rattle.sum_engine.specs.{Writes.WritesAndReturns, Behavior.single_step, Behavior.ByteString}
 use Rattle.sum_settings.specs.declared.stop.Stop.{Stop}
-use Rattle.sum_engine.specs.Behavior.{single_step, ByteString}
 use Rattle.sum_engine.specs.Execution.{OutputsState, StreamsState, Performs}
 use Rattle.sum_engine.proofs.{WorldLemmas.asks_none, BehaviorLemmas.Performs-step}
 use Rattle.digests.specs.Meaning.{status_of}

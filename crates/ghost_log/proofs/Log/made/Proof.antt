@@ -1,6 +1,5 @@
 -- `made` makes the empty struct, with the state that its argument gives.
-use Rattle.std.proofs.Common.{[], ◌∷◌, refl}
-use Rattle.std.proofs.raw_atomic.Walks.{proved}
+use Rattle.std.proofs.{Common.[], Common.◌∷◌, Common.refl, raw_atomic.Walks.proved}
 use mir.Syntax.{a_type, dcons, dnil, named}
 use mir.MapTy.{inst_fn}
 use mir.Val.{vstruct, vcons, vnil}

@@ -1,5 +1,4 @@
-use Rattle.std.proofs.Common.{◌≡◌, ◌+◌, arith}
-use Rattle.std.proofs.lemmas.{Grind.common_steps, List.take_all}
+use Rattle.std.proofs.{Common.◌≡◌, Common.◌+◌, Common.arith, lemmas.Grind.common_steps, lemmas.List.take_all}
 use Rattle.blake2b_core.proofs.BlockLemmas.{hash_after-more}
 use Rattle.blake2b_core.proofs.incremental.Blake2b.fill.Goals as goal
 

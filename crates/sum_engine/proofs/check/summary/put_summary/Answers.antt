@@ -1,10 +1,9 @@
-use Rattle.std.proofs.Common.{rules, arith, ◌≡◌, ◌∙◌}
+use Rattle.std.proofs.{Common.rules, Common.arith, Common.◌≡◌, Common.◌∙◌, lemmas.Bool.ne_eqb}
 use Rattle.sum_lines.specs.Escape.{own_profile}
 use Rattle.sum_sources.specs.declared.fault.Ending.TheVariants.{Whole}
 use Rattle.sum_engine.specs.{check.Rules.LabelsValue, check.Rules.Rules}
 use Rattle.sum_settings.specs.declared.settings.Report.TheVariants.{Status}
 use Rattle.sum_engine.specs.check.Reports.{Counts, entries, warnings, end_text}
-use Rattle.std.proofs.lemmas.Bool.{ne_eqb}
 use Rattle.sum_engine.proofs.check.summary.put_summary.Goals as goal
 
 -- if there are entries, and the setting isn't `--status`, the summary is the warnings
