@@ -47,7 +47,7 @@ def twins_of(crate):
 
 
 def texts_after(edit, crate):
-    """Returns the texts of the files that an edit changes, by their paths in the crate, or nothing if it doesn't fit."""
+    """Returns the texts of the files that an edit changes, by their paths in the crate; nothing if it doesn't fit."""
     texts, path, old = {}, "", ""
     for line in edit.split("\n"):
         word, _, rest = line.partition(":")
@@ -81,8 +81,8 @@ def check(crate, texts, *flags, kept=None):
     says, and whether the crate is proved. Two copies never wait for each other."""
     with tempfile.TemporaryDirectory(dir=OUT) as folder:
         names = [*below(crate), crate]
-        lines = [line for line in Path(TOP, "crates.txt").read_text("utf-8").splitlines() if line.split(":")[0] in names]
-        Path(folder, "crates.txt").write_text("\n".join(lines) + "\n", "utf-8")
+        lines = Path(TOP, "crates.txt").read_text("utf-8").splitlines(keepends=True)
+        Path(folder, "crates.txt").write_text("".join(line for line in lines if line.split(":")[0] in names), "utf-8")
         for name in names:
             there = Path(folder, "crates", name)
             parts = [part for part in ("src", "specs", "proofs", "out/rlib")
@@ -112,7 +112,7 @@ def is_accepted(crate, edit, kept):
 
 
 def refused(crate, group, kept):
-    """Returns those of a group of twins that don't fit or aren't proved. They are tried at once, and then each alone."""
+    """Returns those of a group of twins that don't fit or aren't proved. All are tried at once, and then each alone."""
     if is_accepted(crate, "".join(group.values()), kept):
         return []
     return [f"refused: {name}" for name, edit in group.items() if not is_accepted(crate, edit, kept)]

@@ -36,7 +36,7 @@ class Progress:
             threading.Thread(target=self.show_running, daemon=True).start()
 
     def run(self, step, call):
-        """Runs a step, a crate or a level, and returns whether all is well. `call` gets a file for what the kit says."""
+        """Runs a step, of a crate or a level, and returns whether all is well. `call` gets a file for what is said."""
         with open(OUT / f"{step}.log", "w", encoding="utf-8", errors="replace") as file:
             self.begun[step] = time.monotonic()
             failed = call(file) not in (0, 127)  # a program for later processors than this ends with 127
@@ -153,8 +153,8 @@ class Lanes:
         self.held = self.rtlib.lock([*self.libraries, self.main])
         tasks = {(crate.name, "proof"): self.task(crate.name, crate, self.library, Path(crate.rlib),
                                                   Path(crate.rlib).with_name("proved")) for crate in self.libraries}
-        tasks |= {(level, "program"): self.task(level, self.main, self.program, OUT / level / "digests",
-                                                OUT / level / "stamp") for level in LEVELS}
+        tasks.update({(level, "program"): self.task(level, self.main, self.program, OUT / level / "digests",
+                                                    OUT / level / "stamp") for level in LEVELS})
         return None not in self.rt["in_lanes"](tasks).values()
 
 
