@@ -3,8 +3,8 @@ use crate::words::words_and;
 use std::alloc::Global;
 use std::process::Abort;
 use std::test::Fail;
-use sum_settings::Stop;
 use sum_lines::{Buffered, ToldSink};
+use sum_settings::Stop;
 use sum_words::{
     Tool, UnknownTool, Words, put_fault, put_help, put_not_read, put_stop, put_unknown,
     put_version, read_words,
