@@ -76,33 +76,41 @@ def groups_of(crate, twins):
     return groups
 
 
+def copy(folder, names, there):
+    """Copies what there is of these below a folder, by hard links if that can be."""
+    names = [name for name in names if Path(folder, name).exists()]
+    for how in ("-al", "-a"):
+        if not subprocess.run(["cp", how, "--parents", *names, there], cwd=folder, stderr=subprocess.DEVNULL).returncode:
+            return
+    sys.exit(f"checks.py: {folder} can't be copied to {there}")
+
+
 def check(crate, texts, *flags, kept=None):
     """Checks a copy of a crate with these texts in place of its own, over what a check has kept. Returns what the kit
-    says, and whether the crate is proved. Two copies never wait for each other."""
-    with tempfile.TemporaryDirectory(dir=OUT) as folder:
+    says, and whether the crate is proved. Two copies never wait for each other, and none is below the repository, where
+    `rt` would find its crates."""
+    with tempfile.TemporaryDirectory(prefix="digests-check-") as folder:
         names = [*below(crate), crate]
         lines = Path(TOP, "crates.txt").read_text("utf-8").splitlines(keepends=True)
         Path(folder, "crates.txt").write_text("".join(line for line in lines if line.split(":")[0] in names), "utf-8")
         for name in names:
             there = Path(folder, "crates", name)
-            parts = [part for part in ("src", "specs", "proofs", "out/rlib")
-                     if Path(TOP, "crates", name, part).is_dir()]
             os.makedirs(there)
-            subprocess.run(["cp", "-al", "--parents", *parts, there], cwd=Path(TOP, "crates", name), check=True)
+            copy(Path(TOP, "crates", name), ["src", "specs", "proofs", "out/rlib"], there)
             proved = there / "out/rlib/proved"
             if proved.exists():
                 proved.rename(there / "out/rlib/stamp")
         own = Path(folder, "crates", crate)
         if kept and kept.is_dir():
-            (own / "out").mkdir(exist_ok=True)
-            subprocess.run(["cp", "-al", kept, own / "out/incremental"], check=True)
+            (own / "out/incremental").mkdir(parents=True)
+            copy(kept, ["."], own / "out/incremental")
         for path, text in texts.items():
             (own / path).unlink()
             (own / path).write_text(text, "utf-8")
         ran = subprocess.run(["rt", "check", "--jobs", "1", *flags], cwd=own, stdin=subprocess.DEVNULL,
                              stdout=subprocess.PIPE, stderr=subprocess.STDOUT, text=True, errors="replace")
         if kept and not kept.is_dir() and not texts and not ran.returncode:
-            (own / "out/incremental").rename(kept)
+            shutil.move(own / "out/incremental", kept)
         return ran.stdout, ran.returncode == 0
 
 
@@ -166,8 +174,6 @@ def main(words):
     OUT.mkdir(parents=True, exist_ok=True)
     lock = open(OUT / "lock", "w")
     fcntl.flock(lock, fcntl.LOCK_EX)
-    for left in OUT.glob("tmp*"):  # by a run that was killed
-        shutil.rmtree(left)
     states = {crate: state_of(crate) for crate in crates}
     passed = {crate: OUT / f"{crate}.passed" for crate in crates}
     changed = [crate for crate in crates if "--anew" in words or not passed[crate].exists()
