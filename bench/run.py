@@ -1,11 +1,12 @@
 #!/usr/bin/env python3
-"""Measures the built programs beside GNU coreutils and other tools, in one run:
-`bench/run.py [--size MIB] [--rounds N] [--only PART].. [--program FILE].. [--no-bare]`.
+"""Measures the built programs beside GNU coreutils and other tools, in one run: `bench/run.py
+[--size MIB] [--rounds N] [--only PART].. [--program FILE].. [--no-bare]`.
 
-The program of each level that runs on this machine is measured, or each `--program`, beside GNU's tools; in the part
-`hashing` also beside OpenSSL and a bare loop over the kit's digest. What isn't installed is left out. Times are
-processor time on one processor, in rounds in which the programs take turns. A speed is GNU's least time divided by the
-program's own: 1.00 is as fast as GNU, 2.00 twice as fast. `docs/PERFORMANCE.md` has the tables."""
+The program of each level that runs on this machine is measured, or each `--program`, beside GNU's
+tools; in the part `hashing` also beside OpenSSL and a bare loop over the kit's digest. What isn't
+installed is left out. Times are processor time on one processor, in rounds in which the programs
+take turns. A speed is GNU's least time divided by the program's own: 1.00 is as fast as GNU, 2.00
+twice as fast. `docs/PERFORMANCE.md` has the tables."""
 
 import argparse
 import glob
@@ -23,9 +24,9 @@ TOP = os.path.dirname(HERE)
 sys.dont_write_bytecode = True
 sys.path[:0] = [HERE, os.path.join(TOP, "tools"), os.path.join(TOP, "tests", "support")]
 
-import options  # noqa: E402  (it is in tools)
-from harness import gnu  # noqa: E402  (it is in tests/support)
-from measure import Contender, measure, peak_memory  # noqa: E402  (it is beside this file)
+import options  # it is in tools
+from harness import gnu  # it is in tests/support
+from measure import Contender, measure, peak_memory  # it is beside this file
 
 CHECKED = ("md5sum", "sha256sum", "b2sum")
 MIB = 1 << 20
@@ -34,7 +35,8 @@ LOOPS = os.path.join(HERE, "bare", "main.rt.txt")  # a file named *.rt stands on
 
 
 def built_programs():
-    """The programs of this repository that run on this machine, by level, built where they are stale."""
+    """Returns the programs of this repository that run on this machine, by level, built where they
+    are stale."""
     if subprocess.run([os.path.join(TOP, "tools", "build")]).returncode:
         sys.exit(1)
     found = sorted(glob.glob(os.path.join(TOP, "out", "*", "digests")))
@@ -42,8 +44,9 @@ def built_programs():
 
 
 def built_bare():
-    """The bare loops, proved and built in a small repository of their own; None where that can't be. That is taken away
-    again: the gate reads no crate and no `.rt` file beside this repository's own."""
+    """Returns the bare loops, proved and built in a small repository of their own; None where that
+    can't be. That is taken away again: the gate reads no crate and no `.rt` file beside this
+    repository's own."""
     program = os.path.join(HERE, "out", "bare")
     if os.path.isfile(program) and os.path.getmtime(program) > os.path.getmtime(LOOPS):
         return program
@@ -68,13 +71,14 @@ def built_bare():
 
 
 def works(words):
-    """Whether there is such a command and it hashes nothing well."""
+    """Returns whether there is such a command and it hashes nothing well."""
     quiet = {"stdin": subprocess.DEVNULL, "capture_output": True}
     return bool(shutil.which(words[0])) and not subprocess.run(words, **quiet).returncode
 
 
 class Bench:
-    """The programs that are compared, a folder for what they work on, and the rows that were measured."""
+    """The programs that are compared, a folder for what they work on, and the rows that were
+    measured."""
 
     def __init__(self, asked, folder):
         named = {path: os.path.abspath(path) for path in asked.program or ()}
@@ -88,11 +92,13 @@ class Bench:
 
     def contenders(self, tool, *words, status=0):
         """Ours, and GNU's where it is installed, with the same words."""
-        found = [Contender(name, [path, tool, *words], status=status) for name, path in self.ours.items()]
+        found = [
+            Contender(name, [path, tool, *words], status=status) for name, path in self.ours.items()
+        ]
         return found + ([Contender(GNU, [tool, *words], gnu(tool), status)] if gnu(tool) else [])
 
     def hashers(self, tool):
-        """All contenders that hash standard input as the tool does."""
+        """Returns all contenders that hash standard input as the tool does."""
         found = self.contenders(tool)
         if self.bare and tool in self.looped:
             found.append(Contender(BARE, [self.bare, tool]))
@@ -100,7 +106,7 @@ class Bench:
         return found + ([Contender(OPENSSL, words)] if works(words) else [])
 
     def large(self):
-        """A file of the size that was asked for."""
+        """Returns a file of the size that was asked for."""
         path = os.path.join(self.folder, "large")
         if not os.path.exists(path):
             with open(path, "wb") as file:
@@ -108,7 +114,7 @@ class Bench:
         return path
 
     def small(self, count):
-        """The names of this many files of 100 bytes."""
+        """Returns the names of this many files of 100 bytes."""
         names = [f"f{number:05}" for number in range(count)]
         if not os.path.exists(os.path.join(self.folder, names[-1])):
             chance = random.Random(2)
@@ -118,18 +124,22 @@ class Bench:
         return names
 
     def manifest(self, tool):
-        """The tool's manifest of 200,000 lines for 20,000 files."""
+        """Returns the tool's manifest of 200,000 lines for 20,000 files."""
         path = os.path.join(self.folder, tool)
         if not os.path.exists(path):
             words = [next(iter(self.ours.values())), tool, *self.small(20000)]
-            lines = subprocess.run(words, stdout=subprocess.PIPE, cwd=self.folder, check=True).stdout
+            lines = subprocess.run(
+                words, stdout=subprocess.PIPE, cwd=self.folder, check=True
+            ).stdout
             with open(path, "wb") as file:
                 file.write(lines * 10)
         return path
 
     def add(self, work, contenders, rounds=None, **how):
         """Measures a piece of work and keeps its row."""
-        self.rows.append((work, measure(contenders, rounds or self.rounds, folder=self.folder, **how)))
+        self.rows.append(
+            (work, measure(contenders, rounds or self.rounds, folder=self.folder, **how))
+        )
 
 
 def table(head, rows):
@@ -140,52 +150,71 @@ def table(head, rows):
 
 
 def speed(times, name):
-    """How many times as fast as GNU's a program is."""
+    """Returns how many times as fast as GNU's a program is."""
     return f"{times[GNU].least / times[name].least:.2f}" if GNU in times and name in times else "-"
 
 
 def print_speeds(bench):
     first, *_ = bench.ours
-    names = [name for name in (*bench.ours, BARE, OPENSSL) if any(name in times for _, times in bench.rows)]
-    rows = [[work, *(speed(times, name) for name in names), f"{times[first].kernel:.0%}"] for work, times in bench.rows]
+    names = [
+        name
+        for name in (*bench.ours, BARE, OPENSSL)
+        if any(name in times for _, times in bench.rows)
+    ]
+    rows = [
+        [work, *(speed(times, name) for name in names), f"{times[first].kernel:.0%}"]
+        for work, times in bench.rows
+    ]
     table(["times as fast as GNU", *names, "the kernel's share"], rows)
 
 
 def hashing(bench):
-    """Each tool over standard input."""
+    """Measures each tool over standard input."""
     for tool in options.DIGESTS:
         bench.add(f"`{tool}`, {bench.size} MiB", bench.hashers(tool), stdin=bench.large())
 
 
 def start(bench):
-    """A call with nothing to do."""
+    """Measures a call with nothing to do."""
     for tool, *words in (("sha256sum",), ("md5sum", "/dev/null")):
-        bench.add(f"`{' '.join([tool, *words])}`, start", bench.contenders(tool, *words), 60 * bench.rounds)
+        bench.add(
+            f"`{' '.join([tool, *words])}`, start",
+            bench.contenders(tool, *words),
+            60 * bench.rounds,
+        )
 
 
 def files(bench):
-    """Many small files as operands, and manifests of many lines, with output into a file."""
+    """Measures many small files as operands, and manifests of many lines, with output into a
+    file."""
     for tool in CHECKED:
         rounds, names = 2 * bench.rounds, bench.small(20000)
-        bench.add(f"`{tool}`, 20,000 operands", bench.contenders(tool, *names), 2 * rounds, stdout=bench.out)
+        bench.add(
+            f"`{tool}`, 20,000 operands",
+            bench.contenders(tool, *names),
+            2 * rounds,
+            stdout=bench.out,
+        )
         for words in (("-c",), ("-c", "--status")):
             found = bench.contenders(tool, *words, bench.manifest(tool))
             bench.add(f"`{tool} {' '.join(words)}`, 200,000 lines", found, rounds, stdout=bench.out)
 
 
 def reading(bench):
-    """Lines that are read for nothing: without an entry, of a file that isn't there, and with the longest of names."""
+    """Measures lines that are read for nothing: without an entry, of a file that isn't there, and
+    with the longest of names."""
     manifest = os.path.join(bench.folder, "reading")
     chance = random.Random(3)
     digits = [chance.randbytes(32).hex() for _ in range(200000)]
-    absent = "".join(f"{it}  absent/{place}\n" for place, it in enumerate(digits))
+    absent = "".join(f"{digit}  absent/{place}\n" for place, digit in enumerate(digits))
     escaped = f"\\{digits[0]}  " + "\\\\" * (32 * MIB) + "\n"
     for lines, words, rounds, text in (
         ("4,000,000 empty lines", [], 2, "\n" * 4000000),
         ("2,000,000 comments of 32 bytes", [], 2, "# no file's line, thirty-one....\n" * 2000000),
         ("200,000 lines of absent files", ["--ignore-missing"], 2, absent),
         ("one escaped name of 32 MiB", [], 1, escaped),
-        ("200,000 bad lines", [], 4, "".join(it + "..........\n" for it in digits))):
+        ("200,000 bad lines", [], 4, "".join(digit + "..........\n" for digit in digits)),
+    ):
         with open(manifest, "w") as file:
             file.write(text)
         words = ["-c", *words, "--status"]
@@ -194,30 +223,39 @@ def reading(bench):
 
 
 def memory(bench):
-    """The peak of resident memory."""
+    """Measures the peak of resident memory."""
     with open(os.path.join(bench.folder, "a"), "wb") as file:
         file.write(b"abc")
     rows = []
     for work, tool, words in (
-            (f"`sha256sum`, {bench.size} MiB", "sha256sum", [bench.large()]),
-            (f"`b2sum`, {bench.size} MiB", "b2sum", [bench.large()]),
-            ("`md5sum`, 100,000 operands", "md5sum", ["a"] * 100000),
-            ("`md5sum -c`, 200,000 lines", "md5sum", ["-c", bench.manifest("md5sum")])):
+        (f"`sha256sum`, {bench.size} MiB", "sha256sum", [bench.large()]),
+        (f"`b2sum`, {bench.size} MiB", "b2sum", [bench.large()]),
+        ("`md5sum`, 100,000 operands", "md5sum", ["a"] * 100000),
+        ("`md5sum -c`, 200,000 lines", "md5sum", ["-c", bench.manifest("md5sum")]),
+    ):
         found = bench.contenders(tool, *words)
-        peaks = [peak_memory(it, stdout=bench.out, folder=bench.folder) for it in found]
+        peaks = [
+            peak_memory(contender, stdout=bench.out, folder=bench.folder) for contender in found
+        ]
         rows.append([work, *(f"{peak / 1e6:.1f}" for peak in peaks)])
-    table(["megabytes at most", *(it.name for it in found)], rows)
+    table(["megabytes at most", *(contender.name for contender in found)], rows)
 
 
 PARTS = {"hashing": hashing, "start": start, "files": files, "reading": reading, "memory": memory}
 
 
 def print_conditions(bench, rounds):
-    """What the numbers depend on."""
+    """Prints what the numbers depend on."""
     (processor,) = os.sched_getaffinity(0)
     with open("/proc/cpuinfo") as file:
-        model = next((line.partition(":")[2].strip() for line in file if line.startswith("model name")), "unknown")
-    print(f"{platform.platform()}, {os.cpu_count()} processors ({model}); all on processor {processor}")
+        model = next(
+            (line.partition(":")[2].strip() for line in file if line.startswith("model name")),
+            "unknown",
+        )
+    print(
+        f"{platform.platform()}, {os.cpu_count()} processors ({model}); "
+        f"all on processor {processor}"
+    )
     print(f"load {os.getloadavg()[0]:.1f} at the start; {rounds} rounds or more")
     if gnu("md5sum"):
         print(subprocess.check_output([gnu("md5sum"), "--version"], text=True).splitlines()[0])
@@ -226,13 +264,25 @@ def print_conditions(bench, rounds):
 
 
 def main():
-    reader = argparse.ArgumentParser(description="Measures the programs beside others.", allow_abbrev=False)
+    reader = argparse.ArgumentParser(
+        description="Measures the programs beside others.", allow_abbrev=False
+    )
     number = {"type": int, "metavar": "N"}
-    reader.add_argument("--size", default=256, help="size of the large input in MiB (256)", **number)
-    reader.add_argument("--rounds", default=5, help="rounds at least, of which the least counts (5)", **number)
-    reader.add_argument("--only", choices=PARTS, action="append", help="only this part; may be repeated")
-    reader.add_argument("--program", metavar="FILE", action="append",
-                        help="this program, in place of the two levels'; may be repeated")
+    reader.add_argument(
+        "--size", default=256, help="size of the large input in MiB (256)", **number
+    )
+    reader.add_argument(
+        "--rounds", default=5, help="rounds at least, of which the least counts (5)", **number
+    )
+    reader.add_argument(
+        "--only", choices=PARTS, action="append", help="only this part; may be repeated"
+    )
+    reader.add_argument(
+        "--program",
+        metavar="FILE",
+        action="append",
+        help="this program, in place of the two levels'; may be repeated",
+    )
     reader.add_argument("--no-bare", action="store_true", help="leave out the bare loops")
     asked = reader.parse_args()
     os.environ["LC_ALL"] = "C"

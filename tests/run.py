@@ -1,9 +1,11 @@
 #!/usr/bin/env python3
-"""Runs the end-to-end tests of the built program: `run.py [--only WORD] [--seed N] [--cases N] [PROGRAM..]`.
+"""Runs the end-to-end tests of the built program: `run.py [--only WORD] [--seed N] [--cases N]
+[PROGRAM..]`.
 
-The tests run the program from the outside, on real files, pipes, terminals and devices; some look at the repository.
-Without PROGRAM, the program is this repository's own, for each level for which it is built. If tests ran, the last
-line counts them; the status is 1 if one failed, or none passed."""
+The tests run the program from the outside, on real files, pipes, terminals and devices; some look
+at the repository. Without PROGRAM, the program is this repository's own, for each level for which
+it is built. If tests ran, the last line counts them; the status is 1 if one failed, or none
+passed."""
 
 import argparse
 import collections
@@ -19,16 +21,18 @@ HERE = os.path.dirname(os.path.abspath(__file__))
 sys.path[:0] = [HERE, os.path.join(HERE, "support"), os.path.join(os.path.dirname(HERE), "tools")]
 sys.dont_write_bytecode = True
 
-import harness  # noqa: E402  (it is in support/)
+import harness  # it is in support/
+from sources import TOP
 
 
 def built_programs():
-    """The programs of this repository, the default level's first. Only `./digests` checks whether they are stale."""
-    return sorted(glob.glob(os.path.join(harness.TOP, "out", "*", "digests")))
+    """Returns the programs of this repository, the default level's first. Only `./digests` checks
+    whether they are stale."""
+    return sorted(glob.glob(os.path.join(TOP, "out", "*", "digests")))
 
 
 def why_not(program):
-    """What keeps a program from running on this machine, or nothing."""
+    """Returns what keeps a program from running on this machine, or nothing."""
     if not (os.path.isfile(program) and os.access(program, os.X_OK)):
         sys.exit(f"run.py: {program} is no program")
     how = {"stdin": subprocess.DEVNULL, "capture_output": True, "timeout": harness.RUN_SECONDS}
@@ -42,8 +46,9 @@ def why_not(program):
 
 
 def tests_below(suite, word, again):
-    """The tests of a suite whose full name has the word in it; `again` if they ran over another program before: then
-    those that look at the repository more than at the program are left out."""
+    """Yields the tests of a suite whose full name has the word in it; `again` if they ran over
+    another program before: then those that look at the repository more than at the program are left
+    out."""
     for test in suite:
         if isinstance(test, unittest.TestSuite):
             yield from tests_below(test, word, again)
@@ -52,7 +57,8 @@ def tests_below(suite, word, again):
 
 
 def run_over(program, asked, again):
-    """Runs the tests over a program: how many passed, failed and were skipped, or None if none was chosen."""
+    """Runs the tests over a program: how many passed, failed and were skipped, or None if none was
+    chosen."""
     harness.PROGRAM = program
     harness.gnu.cache_clear()
     started = time.monotonic()
@@ -62,7 +68,8 @@ def run_over(program, asked, again):
         return None
     print(f"{program}: the seed of what is tried at random is {harness.SEED}", flush=True)
     result = unittest.TextTestRunner(sys.stdout, verbosity=2 if asked.verbose else 1).run(chosen)
-    failed = {test.id() for test, _ in result.failures + result.errors}  # once, though its end fails, too
+    # Once, though several parts of it fail, or its end does.
+    failed = {getattr(test, "test_case", test).id() for test, _ in result.failures + result.errors}
     skipped = {test.id() for test, _ in result.skipped} - failed
     for why, count in collections.Counter(why for _, why in result.skipped).items():
         print(f"skipped {count}: {why}")
@@ -72,15 +79,15 @@ def run_over(program, asked, again):
 
 
 def print_counts(title, counts, seconds):
-    said = "{} end-to-end tests passed, {} failed, {} skipped".format(*counts)
-    print(f"{title}: {said}, in {seconds:.0f} s", flush=True)
+    summary = "{} end-to-end tests passed, {} failed, {} skipped".format(*counts)
+    print(f"{title}: {summary}, in {seconds:.0f} s", flush=True)
 
 
 def take_usual_settings():
-    """Makes the tests run under the same settings, whoever calls them: what they start is ended by any signal and finds
-    the three streams open, and others may read the files that they make."""
-    # A caller, such as nohup, may ignore some signals. What is caught here isn't passed on as ignored. Some tests pass
-    # on the two that Python itself ignores.
+    """Makes the tests run under the same settings, whoever calls them: what they start is ended by
+    any signal and finds the three streams open, and others may read the files that they make."""
+    # A caller, such as nohup, may ignore some signals. What is caught here isn't passed on as
+    # ignored. Some tests pass on the two that Python itself ignores.
     for number in signal.valid_signals() - {signal.SIGPIPE, signal.SIGXFSZ}:
         if signal.getsignal(number) is signal.SIG_IGN:
             signal.signal(number, lambda *_: None)
@@ -93,11 +100,19 @@ def take_usual_settings():
 
 def main():
     reader = argparse.ArgumentParser(description="Tests the built program from the outside.")
-    reader.add_argument("program", nargs="*", help="the program digests; without it, this repository's own")
-    reader.add_argument("--only", default="", metavar="WORD", help="run only the tests whose name holds WORD")
+    reader.add_argument(
+        "program", nargs="*", help="the program digests; without it, this repository's own"
+    )
+    reader.add_argument(
+        "--only", default="", metavar="WORD", help="run only the tests whose name holds WORD"
+    )
     reader.add_argument("--verbose", action="store_true", help="name each test")
-    reader.add_argument("--seed", type=int, help="of the first case at random; without it, a new one each day")
-    reader.add_argument("--cases", type=int, default=harness.CASES, help=f"cases at random ({harness.CASES})")
+    reader.add_argument(
+        "--seed", type=int, help="of the first case at random; without it, a new one each day"
+    )
+    reader.add_argument(
+        "--cases", type=int, default=harness.CASES, help=f"cases at random ({harness.CASES})"
+    )
     asked = reader.parse_args()
     harness.SEED, harness.CASES = harness.SEED if asked.seed is None else asked.seed, asked.cases
     programs = [os.path.abspath(program) for program in asked.program] or built_programs()

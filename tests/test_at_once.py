@@ -1,5 +1,6 @@
-"""Each line is there as soon as it is complete. A reader sees it while the program still waits for the next file. A run
-that is killed leaves every line that it had completed. In one file, both outputs are in the order of the run."""
+"""Each line is there as soon as it is complete. A reader sees it while the program still waits for
+the next file. A run that is killed leaves every line that it had completed. In one file, both
+outputs are in the order of the run."""
 
 import mmap
 import os
@@ -7,20 +8,44 @@ import signal
 import subprocess
 
 import harness
-from harness import E, M, WRITE_ERROR, X_MISSING, Case, as_bytes, bad, unread, wrong
+from harness import (
+    MD5_OF_NOTHING,
+    MD5_OF_ABC,
+    WRITE_ERROR,
+    X_MISSING,
+    Case,
+    as_bytes,
+    bad,
+    unread,
+    wrong,
+)
 
 
 class FirstLines(Case):
     def test_a_line_before_the_next_file_is_there(self):
-        """`md5sum a fifo | while read line` shows the first line at once, and so does a terminal. The named pipe, which
-        nobody feeds yet, holds the program at the next name, of an operand or of a listed file."""
+        """`md5sum a fifo | while read line` shows the first line at once, and so does a terminal.
+        The named pipe, which nobody feeds yet, holds the program at the next name, of an operand or
+        of a listed file."""
         os.mkfifo(self.path("p"))
-        self.write("l", [f"{M}  a", f"{M}  p", f"{M}  a"])
+        self.write("l", [f"{MD5_OF_ABC}  a", f"{MD5_OF_ABC}  p", f"{MD5_OF_ABC}  a"])
         for words, output, status, first, rest in (
-                ("md5sum a p e", "stdout", 0, [f"{M}  a"], [f"{M}  p", f"{E}  e"]),
-                ("md5sum -z a p e", "stdout", 0, f"{M}  a\0", f"{M}  p\0{E}  e\0"),
-                ("md5sum -c l", "stdout", 0, ["a: OK"], ["p: OK", "a: OK"]),
-                ("md5sum x p", "stderr", 1, [X_MISSING], b"")):
+            (
+                "md5sum a p e",
+                "stdout",
+                0,
+                [f"{MD5_OF_ABC}  a"],
+                [f"{MD5_OF_ABC}  p", f"{MD5_OF_NOTHING}  e"],
+            ),
+            (
+                "md5sum -z a p e",
+                "stdout",
+                0,
+                f"{MD5_OF_ABC}  a\0",
+                f"{MD5_OF_ABC}  p\0{MD5_OF_NOTHING}  e\0",
+            ),
+            ("md5sum -c l", "stdout", 0, ["a: OK"], ["p: OK", "a: OK"]),
+            ("md5sum x p", "stderr", 1, [X_MISSING], b""),
+        ):
             for shows, writes in (os.pipe(), self.terminal()):
                 started = self.start(words, **{"stdout": subprocess.DEVNULL, output: writes})
                 os.close(writes)
@@ -34,8 +59,8 @@ class FirstLines(Case):
 
 class Ended(Case):
     def ended_at_the_pipe(self, words, number):
-        """Runs `digests` with standard output into the file `out`, and ends it with this signal once it waits for the
-        named pipe: what the file then holds."""
+        """Runs `digests` with standard output into the file `out`, and ends it with this signal
+        once it waits for the named pipe: what the file then holds."""
         started = self.start(words, stdout=self.opened("out", "wb"))
         with self.fed("p"):
             started.send_signal(number)
@@ -45,21 +70,30 @@ class Ended(Case):
     def test_after_500_lines(self):
         """A run that is ended after 500 files leaves their 500 lines, or reports."""
         os.mkfifo(self.path("p"))
-        self.write("l", [*[f"{M}  a"] * 500, f"{M}  p", f"{M}  a"])
+        self.write("l", [*[f"{MD5_OF_ABC}  a"] * 500, f"{MD5_OF_ABC}  p", f"{MD5_OF_ABC}  a"])
         for number in (signal.SIGTERM, signal.SIGKILL, signal.SIGINT):
-            self.same(self.ended_at_the_pipe(["md5sum", *["a"] * 500, "p", "e"], number), [f"{M}  a"] * 500)
-            self.same(self.ended_at_the_pipe("md5sum -c l", number), ["a: OK"] * 500)
+            with self.subTest(number=number):
+                self.same(
+                    self.ended_at_the_pipe(["md5sum", *["a"] * 500, "p", "e"], number),
+                    [f"{MD5_OF_ABC}  a"] * 500,
+                )
+                self.same(self.ended_at_the_pipe("md5sum -c l", number), ["a: OK"] * 500)
 
     def test_at_any_moment(self):
-        """A run that is ended while it writes leaves whole lines, and at most one that is cut at the end of a page."""
-        line = as_bytes([f"{M}  a"])
+        """A run that is ended while it writes leaves whole lines, and at most one that is cut at
+        the end of a page."""
+        line = as_bytes([f"{MD5_OF_ABC}  a"])
         for number in (signal.SIGTERM, signal.SIGKILL):
             started = self.start(["md5sum", *["a"] * 50000], stdout=self.opened("out", "wb"))
-            self.until(lambda: os.path.getsize(self.path("out")) >= 100 * len(line), "100 lines are in the file")
+            self.until(
+                lambda: os.path.getsize(self.path("out")) >= 100 * len(line),
+                "100 lines are in the file",
+            )
             started.send_signal(number)
             started.wait(timeout=harness.RUN_SECONDS)
             out = self.read("out")
-            if len(out) % mmap.PAGESIZE == 0:  # the system can end a write with the process between two pages
+            # The system can end a write with the process between two pages.
+            if len(out) % mmap.PAGESIZE == 0:
                 out = out[: len(out) - len(out) % len(line)]
             self.same(out, line * (len(out) // len(line)))
 
@@ -78,17 +112,47 @@ class OneFile(Case):
     def test_good_and_bad_operands(self):
         """`md5sum a x e d x a 2>&1` reports each file in its place."""
         os.mkdir(self.path("d"))
-        lines = [f"{M}  a", X_MISSING, f"{E}  e", "md5sum: d: Is a directory", X_MISSING, f"{M}  a"]
+        lines = [
+            f"{MD5_OF_ABC}  a",
+            X_MISSING,
+            f"{MD5_OF_NOTHING}  e",
+            "md5sum: d: Is a directory",
+            X_MISSING,
+            f"{MD5_OF_ABC}  a",
+        ]
         self.expect_together("md5sum a x e d x a", lines, 1)
-        self.expect_together(["md5sum", *["a", "x"] * 1000], [f"{M}  a", X_MISSING] * 1000, 1)
+        self.expect_together(
+            ["md5sum", *["a", "x"] * 1000], [f"{MD5_OF_ABC}  a", X_MISSING] * 1000, 1
+        )
 
     def test_checking(self):
-        """What a line gives is in its place: for a file that can't be read the diagnostic, then the report."""
+        """What a line gives is in its place: for a file that can't be read the diagnostic, then the
+        report."""
         os.mkdir(self.path("d"))
-        self.write("l", [f"{M}  a", f"{M}  x", "junk", f"{M}  e", f"{M}  d", f"{E}  e"])
-        lines = ["a: OK", X_MISSING, "x: FAILED open or read", "md5sum: l: 3: improperly formatted MD5 checksum line",
-                 "e: FAILED", "md5sum: d: Is a directory", "d: FAILED open or read", "e: OK",
-                 bad(1), unread(2), wrong(1)]
+        self.write(
+            "l",
+            [
+                f"{MD5_OF_ABC}  a",
+                f"{MD5_OF_ABC}  x",
+                "junk",
+                f"{MD5_OF_ABC}  e",
+                f"{MD5_OF_ABC}  d",
+                f"{MD5_OF_NOTHING}  e",
+            ],
+        )
+        lines = [
+            "a: OK",
+            X_MISSING,
+            "x: FAILED open or read",
+            "md5sum: l: 3: improperly formatted MD5 checksum line",
+            "e: FAILED",
+            "md5sum: d: Is a directory",
+            "d: FAILED open or read",
+            "e: OK",
+            bad(1),
+            unread(2),
+            wrong(1),
+        ]
         self.expect_together("md5sum -cw l x l", [*lines, X_MISSING, *lines], 1)
 
 
@@ -96,11 +160,16 @@ class AfterAFailedWrite(Case):
     """A list is read no further than what was read ahead."""
 
     def test_a_list_without_end(self):
-        ran = self.run_command(["sh", "-c", f"yes '{M}  a' | '{harness.PROGRAM}' md5sum -c -"], stdout=self.full())
+        ran = self.run_command(
+            ["sh", "-c", f"yes '{MD5_OF_ABC}  a' | '{harness.PROGRAM}' md5sum -c -"],
+            stdout=self.full(),
+        )
         self.assertEqual((ran.status, ran.err), (1, WRITE_ERROR))
 
     def test_what_the_next_program_finds(self):
-        self.write("list", f"{M}  a\n" * 10000)
+        self.write("list", f"{MD5_OF_ABC}  a\n" * 10000)
         manifest = self.opened("list")
         self.expect("md5sum -c -", err=WRITE_ERROR, status=1, stdin=manifest, stdout=self.full())
-        self.assertLessEqual(os.lseek(manifest.fileno(), 0, os.SEEK_CUR), len(f"{M}  a\n") + 8192)
+        self.assertLessEqual(
+            os.lseek(manifest.fileno(), 0, os.SEEK_CUR), len(f"{MD5_OF_ABC}  a\n") + 8192
+        )

@@ -1,4 +1,5 @@
-"""Building: `./digests` builds what is stale, and then is the program; what a failed build says and leaves."""
+"""Building: `./digests` builds what is stale, and then is the program; what a failed build says and
+leaves."""
 
 import os
 import re
@@ -6,23 +7,31 @@ import shutil
 import signal
 import subprocess
 
-from harness import TOP, Case, Ran, end
+from harness import Case, Ran, end
+from sources import TOP
 from repository import BOTH, DEFAULT, FAST, OF_A, Repository
 
 
 class Build(Repository):
     def expect_built(self, why, calls=BOTH):
-        """A call builds, and a second one finds nothing to build; returns what the first one said."""
+        """Expects that a call builds, and that a second one finds nothing to build. Returns what
+        the first one said."""
         ran = self.script("digests", "md5sum", "a")
         self.assertEqual((ran.status, ran.out, self.calls), (0, OF_A.out, calls), why)
         self.assertEqual((self.script("digests", "md5sum", "a"), self.calls), (OF_A, []), why)
-        self.assertEqual(len({it.split(b" of ")[1] for it in self.programs().values()}), 1, "of the same sources")
+        self.assertEqual(
+            len({program.split(b" of ")[1] for program in self.programs().values()}),
+            1,
+            "of the same sources",
+        )
         return ran.err.decode()
 
     def test_a_first_build(self):
         """A build has a line for each crate, with its time; what rt says is kept."""
         first, *lines = self.expect_built("nothing is built").splitlines()
-        self.assertEqual(first, "digests: proving and building the program; a first build takes some minutes")
+        self.assertEqual(
+            first, "digests: proving and building the program; a first build takes some minutes"
+        )
         named = ["crate 1 of 1, low", f"the program for {DEFAULT}", f"the program for {FAST}"]
         self.assertEqual([re.sub(r": \d+ s$", "", line) for line in lines], named)
         self.assertIn(b"\n== low\nrt says: lib\n", self.read(self.in_top("out/build.log")))
@@ -41,15 +50,23 @@ class Build(Repository):
         self.expect_built("crates.txt")
 
     def test_a_failed_build(self):
-        """A failed build says why, with status 1, every time; the old program is neither run nor installed."""
+        """A failed build says why, with status 1, every time; the old program is neither run nor
+        installed."""
         log = self.in_top("out/build.log")
         end = f"rt: this is why\ndigests: the build failed; all that the kit said is in {log}\n"
         for old in (False, True):
-            for fails, step in (("lib low", "crate 1 of 1, low"), ("run digests_main", f"the program for {DEFAULT}"),
-                                ("--cpu", f"the program for {FAST}")):
+            for fails, step in (
+                ("lib low", "crate 1 of 1, low"),
+                ("run digests_main", f"the program for {DEFAULT}"),
+                ("--cpu", f"the program for {FAST}"),
+            ):
                 self.write(self.sources[0], f"{old} {fails}\n")
                 before = self.programs()
-                for words in (["digests", "md5sum", "a"], ["digests", "md5sum", "a"], ["install", "prefix"]):
+                for words in (
+                    ["digests", "md5sum", "a"],
+                    ["digests", "md5sum", "a"],
+                    ["install", "prefix"],
+                ):
                     ran = self.script(*words, RT_FAILS=fails)
                     self.assertEqual((ran.status, ran.out), (1, b""))
                     self.assertIn(f"{step}: failed\n", ran.err.decode())
@@ -60,26 +77,38 @@ class Build(Repository):
             self.expect_built("mended, with an older time")
 
     def test_strange_files(self):
-        """What rt would read in the place of crates.txt, and a library in git, is named, and nothing is made."""
+        """What rt would read in the place of crates.txt, and a library in git, is named, and
+        nothing is made."""
         self.run_command(["git", "init", "-q", self.top])
-        for name in ("crates/digests_main/crates.txt", "crates/BUILD.bazel", "crates/low/out/rlib/stamp", "out/built"):
+        for name in (
+            "crates/digests_main/crates.txt",
+            "crates/BUILD.bazel",
+            "crates/low/out/rlib/stamp",
+            "out/built",
+        ):
             path = self.put(name, "digests:\n")
             self.run_command(["git", "-C", self.top, "add", "-f", name])
-            said = f"digests: {name} isn't a source: remove it\n".encode()
-            self.assertEqual((self.script("tools/build"), self.calls), (Ran(1, b"", said), []), name)
+            message = f"digests: {name} isn't a source: remove it\n".encode()
+            self.assertEqual(
+                (self.script("tools/build"), self.calls), (Ran(1, b"", message), []), name
+            )
             os.remove(path)
         os.symlink("Some.antt", self.in_top("crates/low/src/Link.antt"))
         self.assertIn(b"crates/low/src/Link.antt isn't a source", self.script("tools/build").err)
 
     def test_after_a_power_cut(self):
-        """An empty program is neither run nor installed, but built anew. What isn't synced doesn't count as built."""
+        """An empty program is neither run nor installed, but built anew. What isn't synced doesn't
+        count as built."""
         self.build()
-        for names in (["out/digests"], ["out/default/digests", "crates/digests_main/out/digests_main"]):
+        for names in (
+            ["out/digests"],
+            ["out/default/digests", "crates/digests_main/out/digests_main"],
+        ):
             for name in names:
                 self.put(name, "")
             self.expect_built(names)
         os.remove(self.in_top("out/built"))
-        self.write_command("sync", "#!/bin/sh\n[ \"$1\" != -f ]\n")
+        self.write_command("sync", '#!/bin/sh\n[ "$1" != -f ]\n')
         self.assertEqual(self.script("tools/build").status, 1)
         os.remove(self.path("commands/sync"))
         self.expect_built("it wasn't synced")
@@ -87,10 +116,20 @@ class Build(Repository):
     def test_without_the_kit(self):
         """One line says what is missing and where README has it, before anything is made."""
         os.remove(self.path("commands/rt"))
-        folders = [folder for folder in self.env["PATH"].split(os.pathsep) if not os.path.exists(f"{folder}/rt")]
-        said = b"digests: rt, the command of the Rattle kit, isn't on the PATH: see Set-up in README.md\n"
+        folders = [
+            folder
+            for folder in self.env["PATH"].split(os.pathsep)
+            if not os.path.exists(f"{folder}/rt")
+        ]
+        message = (
+            b"digests: rt, the command of the Rattle kit, isn't on the PATH: "
+            b"see Set-up in README.md\n"
+        )
         for words in (["digests", "md5sum", "a"], ["install", "prefix"]):
-            self.assertEqual(self.script(*words, PATH=os.pathsep.join(folders)), Ran(1, b"", said))
+            with self.subTest(words=words):
+                self.assertEqual(
+                    self.script(*words, PATH=os.pathsep.join(folders)), Ran(1, b"", message)
+                )
         self.assertFalse(os.path.exists(self.in_top("out")) or os.path.exists(self.path("prefix")))
 
 
@@ -104,7 +143,9 @@ class HowFar(Repository):
         self.run_command(["mkfifo", "low", "beside"])
         self.screen, writes = self.terminal()
         env = {**self.env, "TERM": "xterm", "RT_PIPES": self.folder, **env}
-        started = subprocess.Popen([self.in_top("tools/build")], env=env, stdin=subprocess.DEVNULL, stderr=writes)
+        started = subprocess.Popen(
+            [self.in_top("tools/build")], env=env, stdin=subprocess.DEVNULL, stderr=writes
+        )
         os.close(writes)
         self.addCleanup(end, started)
         return started, self.fed("low")
@@ -115,7 +156,8 @@ class HowFar(Repository):
             shown += os.read(self.screen, 65536).decode()
 
     def test_shown(self):
-        """The line of a crate that is proved counts its functions. If one fails, no other is begun."""
+        """The line of a crate that is proved counts its functions. If one fails, no other is
+        begun."""
         started, low = self.begin(RT_FAILS="lib beside")
         for far in ("1 of 3 functions", "2 of 3 functions"):
             low.write(f"so far: {far} checked\n".encode())
@@ -125,7 +167,9 @@ class HowFar(Repository):
         self.expect_shown("\033[A\033[Kcrate 1 of 2, low: ", "crate 2 of 2, beside: ")
         beside.close()
         self.expect_shown("crate 2 of 2, beside: failed\n", "rt: this is why\n")
-        self.assertEqual((started.wait(), os.path.exists(self.in_top("crates/low/out/made"))), (1, True))
+        self.assertEqual(
+            (started.wait(), os.path.exists(self.in_top("crates/low/out/made"))), (1, True)
+        )
         self.assertIn(b"== beside: failed\nrt says", self.read(self.in_top("out/build.log")))
 
     def test_ended(self):
@@ -147,10 +191,21 @@ class SameBytes(Case):
             self.skipTest("the command rt of the Rattle kit is not on the PATH")
         names = [os.path.join(TOP, name) for name in ("crates", "crates.txt", "tools", "README.md")]
         self.run_command(["sh", "-c", 'cp -Rl "$@" . 2>/dev/null || cp -R "$@" .', "sh", *names])
-        self.run_command(["sh", "-c", "rm -f crates/digests_main/out/digests_main*"])  # so both are compiled anew
-        env = {**os.environ, "HOME": self.folder, "TZ": "Asia/Tokyo", "USER": "other", "SOURCE_DATE_EPOCH": "1"}
+        # So that both are compiled anew.
+        self.run_command(["sh", "-c", "rm -f crates/digests_main/out/digests_main*"])
+        env = {
+            **os.environ,
+            "HOME": self.folder,
+            "TZ": "Asia/Tokyo",
+            "USER": "other",
+            "SOURCE_DATE_EPOCH": "1",
+        }
         ran = self.run_command(["tools/build"], env=env)
         self.assertEqual(ran.status, 0, ran.err)
         for level in (DEFAULT, FAST):
-            there = os.path.join(TOP, "out", level, "digests")
-            self.assertTrue(self.read(f"out/{level}/digests") == self.read(there), f"{there} is another, or an old one")
+            with self.subTest(level=level):
+                ours = os.path.join(TOP, "out", level, "digests")
+                self.assertTrue(
+                    self.read(f"out/{level}/digests") == self.read(ours),
+                    f"{ours} has other bytes: if it is older than its sources, ./digests builds it",
+                )

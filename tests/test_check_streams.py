@@ -1,11 +1,24 @@
-"""Checking in time and size: reports that appear while the manifest still comes, and manifests of many or very long
-lines, with a limit on the memory that they take."""
+"""Checking in time and size: reports that appear while the manifest still comes, and manifests of
+many or very long lines, with a limit on the memory that they take."""
 
 import os
 import subprocess
 
 import harness
-from harness import E, M, VERDICTS, VERDICTS_ERR, WRITE_ERROR, X_MISSING, Case, as_bytes, bad, limit, unread, wrong
+from harness import (
+    MD5_OF_NOTHING,
+    MD5_OF_ABC,
+    VERDICTS,
+    VERDICTS_ERR,
+    WRITE_ERROR,
+    X_MISSING,
+    Case,
+    as_bytes,
+    bad,
+    limit,
+    unread,
+    wrong,
+)
 
 MEGA = 1000 * 1000
 
@@ -15,10 +28,16 @@ class WhileItComes(Case):
 
     def test_reports_appear_before_the_manifest_ends(self):
         for shows, writes in (self.terminal(), os.pipe()):
-            started = self.start("md5sum -c", stdin=subprocess.PIPE, stdout=writes, stderr=subprocess.PIPE)
+            started = self.start(
+                "md5sum -c", stdin=subprocess.PIPE, stdout=writes, stderr=subprocess.PIPE
+            )
             os.close(writes)
-            for line, report in ((f"{M}  a", "a: OK"), (f"{M}  e", "e: FAILED"), (f"{E}  e", "e: OK"),
-                                 (f"{M}  x", "x: FAILED open or read")):
+            for line, report in (
+                (f"{MD5_OF_ABC}  a", "a: OK"),
+                (f"{MD5_OF_ABC}  e", "e: FAILED"),
+                (f"{MD5_OF_NOTHING}  e", "e: OK"),
+                (f"{MD5_OF_ABC}  x", "x: FAILED open or read"),
+            ):
                 started.stdin.write(as_bytes([line]))
                 self.shown(shows, [report])
             self.shown(started.stderr.fileno(), [X_MISSING])
@@ -26,7 +45,9 @@ class WhileItComes(Case):
             started.stdin.close()
             self.assertEqual(started.wait(timeout=harness.RUN_SECONDS), 1)
             self.assertEqual(started.stderr.read(), as_bytes([unread(1), wrong(1)]))
-        started = self.start("md5sum -cw", stdin=subprocess.PIPE, stdout=subprocess.DEVNULL, stderr=subprocess.PIPE)
+        started = self.start(
+            "md5sum -cw", stdin=subprocess.PIPE, stdout=subprocess.DEVNULL, stderr=subprocess.PIPE
+        )
         for number in (1, 2, 3):
             started.stdin.write(b"junk\n")
             named = f"md5sum: standard input: {number}: improperly formatted MD5 checksum line"
@@ -35,14 +56,16 @@ class WhileItComes(Case):
 
     def test_lines_longer_than_a_pipe_holds(self):
         long = "#" * 300000
-        manifest = [long, f"{M}  a", long, f"{E}  a", long + "\n" + long]
-        self.expect("md5sum -c", stdin=manifest, out=["a: OK", "a: FAILED"], err=[wrong(1)], status=1)
+        manifest = [long, f"{MD5_OF_ABC}  a", long, f"{MD5_OF_NOTHING}  a", long + "\n" + long]
+        self.expect(
+            "md5sum -c", stdin=manifest, out=["a: OK", "a: FAILED"], err=[wrong(1)], status=1
+        )
 
 
 class Outputs(Case):
     def test_full(self):
         self.write("l", VERDICTS)
-        self.write("good", [f"{M}  a"])
+        self.write("good", [f"{MD5_OF_ABC}  a"])
         full = self.full()
         ran = self.run_words("md5sum -c l", stdout=full)
         self.assertEqual(ran.status, 1)
@@ -55,12 +78,16 @@ class Outputs(Case):
 
 
 class Sizes(Case):
-    """Manifests of many lines and of very long ones. The limits on memory are wide: they tell a program that keeps
-    one line from one that keeps the manifest."""
+    """Manifests of many lines and of very long ones. The limits on memory are wide: they tell a
+    program that keeps one line from one that keeps the manifest."""
 
     def test_many_lines(self):
-        lines = [f"{M}  a", f"{E} *e"] * 100000
-        lines[77777], lines[177777], lines[199999] = "junk", f"{E}  a", f"{M}  x"
+        lines = [f"{MD5_OF_ABC}  a", f"{MD5_OF_NOTHING} *e"] * 100000
+        lines[77777], lines[177777], lines[199999] = (
+            "junk",
+            f"{MD5_OF_NOTHING}  a",
+            f"{MD5_OF_ABC}  x",
+        )
         self.write("l", lines)
         named = b"md5sum: l: 77778: improperly formatted MD5 checksum line\n"
         reports = ["a: OK", "e: OK"] * 100000
@@ -69,11 +96,11 @@ class Sizes(Case):
         ran = self.run_words("md5sum -cw l", preexec_fn=limit("AS", 10 * MEGA))
         self.assertEqual((ran.status, ran.err), (1, named + VERDICTS_ERR))
         self.same(ran.out, reports)
-        self.expect("md5sum -c --quiet --strict", stdin=[f"{M}  a"] * 200000)
+        self.expect("md5sum -c --quiet --strict", stdin=[f"{MD5_OF_ABC}  a"] * 200000)
 
     def test_one_name_of_100_megabytes(self):
         name = b"y" * (100 * MEGA)
-        self.write("l", f"{M}  a\n{M}  ".encode() + name)
+        self.write("l", f"{MD5_OF_ABC}  a\n{MD5_OF_ABC}  ".encode() + name)
         ran = self.run_words("md5sum -c l", preexec_fn=limit("AS", 620 * MEGA))
         self.assertEqual(ran.status, 1)
         self.same(ran.out, b"a: OK\n" + name + b": FAILED open or read\n")
@@ -84,20 +111,23 @@ class Sizes(Case):
         with open(self.path("l"), "wb") as file:
             for _ in range(20):
                 file.seek(5 * MEGA, os.SEEK_CUR)
-                file.write(as_bytes(["", f"{M}  a"]))
+                file.write(as_bytes(["", f"{MD5_OF_ABC}  a"]))
         self.expect("md5sum -c --quiet l", err=[bad(20)], preexec_fn=limit("AS", 50 * MEGA))
 
     def test_want_of_memory(self):
-        """At a line longer than the memory that is available the run ends: what came before it is reported. If the
-        output is full, the run ends at what comes first, and reports that. The full output isn't used if memory was
-        short before the first report."""
+        """At a line longer than the memory that is available the run ends: what came before it is
+        reported. If the output is full, the run ends at what comes first, and reports that. The
+        full output isn't used if memory was short before the first report."""
         exhausted = b"md5sum: memory exhausted\n"
-        for before, out, said in (("", b"", exhausted), (f"{M}  a\n", b"a: OK\n", WRITE_ERROR)):
+        for before, out, message in (
+            ("", b"", exhausted),
+            (f"{MD5_OF_ABC}  a\n", b"a: OK\n", WRITE_ERROR),
+        ):
             with open(self.path("l"), "wb") as file:
                 file.write(as_bytes(before))
                 file.seek(2000 * MEGA, os.SEEK_CUR)
-                file.write(as_bytes(["", f"{M}  a"]))
+                file.write(as_bytes(["", f"{MD5_OF_ABC}  a"]))
             full, limited = self.full(), {"status": 1, "preexec_fn": limit("AS", 400 * MEGA)}
             self.expect("md5sum -c l x", out=out, err=exhausted, **limited)
-            self.expect("md5sum -c l", err=said, stdout=full, **limited)
+            self.expect("md5sum -c l", err=message, stdout=full, **limited)
             self.expect("md5sum -c l", stdout=full, stderr=full, **limited)

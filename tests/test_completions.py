@@ -11,9 +11,14 @@ from terminal import Terminal
 
 
 def wanted_options(tool, *before):
-    """The options of the tool's help, in all their spellings, that the program takes after some words."""
-    return {word for option in options_of(harness.PROGRAM, tool) for word in option.words()
-            if takes(harness.PROGRAM, tool, *before, option.words()[0], *(["8"] if option.value else []))}
+    """Returns the options of the tool's help, in all their spellings, that the program takes after
+    some words."""
+    wanted = set()
+    for option in options_of(harness.PROGRAM, tool):
+        value = ["8"] if option.value else []
+        if takes(harness.PROGRAM, tool, *before, option.words()[0], *value):
+            wanted.update(option.words())
+    return wanted
 
 
 class Shell:
@@ -32,14 +37,17 @@ class Shell:
             self.write(name, text)
 
     def test_options(self):
-        """The options that the program takes there. After --check, whether it is offered again is up to the shell."""
+        """The options that the program takes there. After --check, whether it is offered again is
+        up to the shell."""
         again = {"-c", "--check"}
         for tool in ("md5sum", "b2sum", "anysum"):
             for command in (tool, f"digests {tool}"):
                 self.assertEqual(self.offered(f"{command} -"), wanted_options(tool), command)
                 for before in ("-c", "--che", "some -c"):
                     offered = self.offered(f"{command} {before} -")
-                    self.assertEqual(offered - again, wanted_options(tool, "-c") - again, (command, before))
+                    self.assertEqual(
+                        offered - again, wanted_options(tool, "-c") - again, (command, before)
+                    )
         self.assertEqual(self.offered("md5sum -wc --st"), {"--status", "--strict"})
         self.assertEqual(self.offered("md5sum --st"), set())
 
@@ -47,34 +55,54 @@ class Shell:
         every = {str(bits) for bits in range(8, 513, 8)}
         for command in ("b2sum", "digests b2sum"):
             for words, wanted in (("-l ", every), ("--length=", every), ("--tag -l 25", {"256"})):
-                self.assertEqual({it.rpartition("=")[2] for it in self.offered(f"{command} {words}")}, wanted, words)
+                with self.subTest(words=words):
+                    self.assertEqual(
+                        {word.rpartition("=")[2] for word in self.offered(f"{command} {words}")},
+                        wanted,
+                        words,
+                    )
         self.assertTrue(all(takes(harness.PROGRAM, "b2sum", "-l", bits) for bits in every))
 
     def test_files_and_tools(self):
-        for command in ("md5sum ", "digests sha1sum ", "b2sum -c ", "anysum -c ", "b2sum -l 8 ", "b2sum --length=8 ",
-                        "md5sum -w some "):
-            self.assertEqual(self.offered(f"{command}so"), {"some", "some more"}, command)
+        for command in (
+            "md5sum ",
+            "digests sha1sum ",
+            "b2sum -c ",
+            "anysum -c ",
+            "b2sum -l 8 ",
+            "b2sum --length=8 ",
+            "md5sum -w some ",
+        ):
+            with self.subTest(command=command):
+                self.assertEqual(self.offered(f"{command}so"), {"some", "some more"}, command)
         self.write("here/-file", "")
         self.assertEqual(self.offered("md5sum -- -"), {"-file"})
         self.assertEqual(self.offered("digests md5sum -- -"), {"-file"})
         for cut in ("", "sha2", "s", "m", "a"):
-            self.assertEqual(self.offered(f"digests {cut}"), {it for it in NAMES if it.startswith(cut)}, cut)
+            self.assertEqual(
+                self.offered(f"digests {cut}"),
+                {name for name in NAMES if name.startswith(cut)},
+                cut,
+            )
 
 
 class Typed(Shell):
     def setUp(self):
         super().setUp()
-        self.terminal = Terminal(self.shell, self.folder, self.load.format(self.folder), ["digests", *NAMES])
+        self.terminal = Terminal(
+            self.shell, self.folder, self.load.format(self.folder), ["digests", *NAMES]
+        )
         self.addCleanup(self.terminal.close)
 
     def offered(self, line):
-        """What the line has more than before its last word; a word that stays as it is has no completion."""
+        """Returns what the line has more than before its last word; a word that stays as it is has
+        no completion."""
         before, last = line.split()[1:], ""
         if not line.endswith(" "):
             last = before.pop()
         words = self.terminal.completed(line)
-        self.assertEqual(words[:len(before)], before, line)
-        return set(words[len(before):]) - {last}
+        self.assertEqual(words[: len(before)], before, line)
+        return set(words[len(before) :]) - {last}
 
     def test_separators(self):
         """Each completion is a word of its own, whatever separates words in the user's shell."""
@@ -100,7 +128,12 @@ class Fish(Shell, Case):
 
     def offered(self, line):
         command = "source $argv[1]/digests.fish; complete -C $argv[2]"
-        env = {**os.environ, "HOME": self.folder, "XDG_CONFIG_HOME": self.folder, "LC_ALL": "C.UTF-8"}
+        env = {
+            **os.environ,
+            "HOME": self.folder,
+            "XDG_CONFIG_HOME": self.folder,
+            "LC_ALL": "C.UTF-8",
+        }
         words = ["fish", "--no-config", "-c", command, self.folder, line]
         ran = self.run_command(words, cwd=self.path("here"), env=env)
         self.assertEqual((ran.status, ran.err), (0, b""))

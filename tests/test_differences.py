@@ -1,11 +1,23 @@
-"""What the manual pages and documents say of GNU coreutils 9.1. Most statements are tried with GNU's tools and
-with ours. If another version is installed, these tests are skipped."""
+"""What the manual pages and documents say of GNU coreutils 9.1. Most statements are tried with
+GNU's tools and with ours. If another version is installed, these tests are skipped."""
 
 import os
 import subprocess
 
 import harness
-from harness import E, GNU_TOOLS, M, WRITE_ERROR, X_MISSING, Case, Ran, as_bytes, bad, gnu, unread
+from harness import (
+    MD5_OF_NOTHING,
+    GNU_TOOLS,
+    MD5_OF_ABC,
+    WRITE_ERROR,
+    X_MISSING,
+    Case,
+    Ran,
+    as_bytes,
+    bad,
+    gnu,
+    unread,
+)
 from reference import NO_TEXT
 from tracing import needs_strace, strace
 
@@ -16,14 +28,21 @@ class Described(Case):
     def setUp(self):
         super().setUp()
         for tool in ("md5sum", "b2sum", "cksum"):
-            said = self.run_command([gnu(tool), "--version"]).out.decode() if gnu(tool) else f"no GNU {tool}\n"
-            if said.splitlines()[0] != f"{tool} {VERSION}":
-                self.skipTest(f"it pins what {VERSION} does, and here is {said.splitlines()[0]}")
+            version = (
+                self.run_command([gnu(tool), "--version"]).out.decode()
+                if gnu(tool)
+                else f"no GNU {tool}\n"
+            )
+            if version.splitlines()[0] != f"{tool} {VERSION}":
+                self.skipTest(f"it pins what {VERSION} does, and here is {version.splitlines()[0]}")
         os.mkdir(self.path("d"))
 
     def expect_both(self, words, ours, theirs, **how):
-        """Expects of each a status, what it writes to standard output and, as lines, to standard error."""
-        wanted = tuple(Ran(status, as_bytes(out), as_bytes(err)) for status, out, err in (ours, theirs))
+        """Expects of each a status, what it writes to standard output and, as lines, to standard
+        error."""
+        wanted = tuple(
+            Ran(status, as_bytes(out), as_bytes(err)) for status, out, err in (ours, theirs)
+        )
         self.assertEqual(self.ours_and_theirs(words, **how), wanted, words)
 
     def expect_alike(self, words, status, out=(), err=(), **how):
@@ -32,116 +51,188 @@ class Described(Case):
 
 class Messages(Described):
     def test_quoted_names(self):
-        """GNU's tools quote some names in messages as a shell does, as one with a space or a control byte."""
-        for name, ours, theirs in (("x", "x", "x"), ("x y", "x y", "'x y'"), ("x\ty", "x\ty", "'x'$'\\t''y'"),
-                                   ("x\ny", "x\\ny", "'x'$'\\n''y'"), ("x\\y", "x\\\\y", "'x\\y'")):
-            said = [(1, b"", [f"md5sum: {shown}: No such file or directory"]) for shown in (ours, theirs)]
-            self.expect_both(["md5sum", name], *said)
+        """GNU's tools quote some names in messages as a shell does, as one with a space or a
+        control byte."""
+        for name, ours, theirs in (
+            ("x", "x", "x"),
+            ("x y", "x y", "'x y'"),
+            ("x\ty", "x\ty", "'x'$'\\t''y'"),
+            ("x\ny", "x\\ny", "'x'$'\\n''y'"),
+            ("x\\y", "x\\\\y", "'x\\y'"),
+        ):
+            with self.subTest(name=name):
+                both = [
+                    (1, b"", [f"md5sum: {shown}: No such file or directory"])
+                    for shown in (ours, theirs)
+                ]
+                self.expect_both(["md5sum", name], *both)
 
     def test_the_name_in_front(self):
-        """Messages begin with the tool's name; those of GNU's tools with the name by which they were called."""
+        """Messages begin with the tool's name; those of GNU's tools with the name by which they
+        were called."""
         os.symlink(harness.PROGRAM, self.path("md5sum"))
         missing = "x: No such file or directory\n"
-        for called, wanted in ((os.fsdecode(self.path("md5sum")), "md5sum"), (gnu("md5sum"), gnu("md5sum"))):
-            self.assertEqual(self.run_command([called, "x"]), Ran(1, b"", f"{wanted}: {missing}".encode()))
-        for target, status in ((harness.PROGRAM, 1), (gnu("md5sum"), 0)):  # and so are they under any name
+        for called, wanted in (
+            (os.fsdecode(self.path("md5sum")), "md5sum"),
+            (gnu("md5sum"), gnu("md5sum")),
+        ):
+            self.assertEqual(
+                self.run_command([called, "x"]), Ran(1, b"", f"{wanted}: {missing}".encode())
+            )
+        # They are so under any name.
+        for target, status in ((harness.PROGRAM, 1), (gnu("md5sum"), 0)):
             os.symlink(target, self.path(f"other{status}"))
             self.assertEqual(self.run_command([f"./other{status}", "a"]).status, status)
 
     def test_reasons(self):
-        """GNU's tools don't say why a list can't be read, and at their end a closed standard input is one more fault. A
-        name that isn't UTF-8 is a fault only with ours. `test_reasons` has what both say alike."""
-        said = [(1, b"", [f"md5sum: d: {reason}"]) for reason in ("Is a directory", "read error")]
-        self.expect_both("md5sum -c d", *said)
+        """GNU's tools don't say why a list can't be read, and at their end a closed standard input
+        is one more fault. A name that isn't UTF-8 is a fault only with ours. `test_reasons` has
+        what both say alike."""
+        both = [(1, b"", [f"md5sum: d: {reason}"]) for reason in ("Is a directory", "read error")]
+        self.expect_both("md5sum -c d", *both)
         closed = ["md5sum: -: Bad file descriptor", "md5sum: standard input: Bad file descriptor"]
-        self.expect_both("md5sum a -", (1, [f"{M}  a"], closed[:1]), (1, [f"{M}  a"], closed), stdin=subprocess.DEVNULL,
-                         preexec_fn=lambda: os.close(0))
+        self.expect_both(
+            "md5sum a -",
+            (1, [f"{MD5_OF_ABC}  a"], closed[:1]),
+            (1, [f"{MD5_OF_ABC}  a"], closed),
+            stdin=subprocess.DEVNULL,
+            preexec_fn=lambda: os.close(0),
+        )
         self.write(b"\xff", "abc")
-        self.expect_both(["md5sum", b"\xff"], (1, b"", b"md5sum: \xff: " + NO_TEXT + b"\n"),
-                         (0, M.encode() + b"  \xff\n", b""))
+        self.expect_both(
+            ["md5sum", b"\xff"],
+            (1, b"", b"md5sum: \xff: " + NO_TEXT + b"\n"),
+            (0, MD5_OF_ABC.encode() + b"  \xff\n", b""),
+        )
 
     def test_help_and_version(self):
         for option in ("--help", "--version"):
-            ours, theirs = self.ours_and_theirs(["md5sum", option])
-            self.assertEqual((ours.status, ours.err, theirs.status, theirs.err), (0, b"", 0, b""))
-            self.assertNotEqual(ours.out, theirs.out)
+            with self.subTest(option=option):
+                ours, theirs = self.ours_and_theirs(["md5sum", option])
+                self.assertEqual(
+                    (ours.status, ours.err, theirs.status, theirs.err), (0, b"", 0, b"")
+                )
+                self.assertNotEqual(ours.out, theirs.out)
 
     def test_unknown_options(self):
-        """GNU's tools name those that are possible, and a value, and of a cluster the letter; ours the whole word if it
-        isn't UTF-8."""
+        """GNU's tools name those that are possible, and a value, and of a cluster the letter; ours
+        the whole word if it isn't UTF-8."""
         cut, possible = "option '--st' is ambiguous", "; possibilities: '--status' '--strict'"
-        for words, ours, theirs in (("-c --st a", cut, cut + possible),
-                                    ("-c --st=x a", cut, f"option '--st=x' is ambiguous{possible}"),
-                                    ("--oth=x a", "unrecognized option '--oth'", "unrecognized option '--oth=x'")):
-            more = "Try 'md5sum --help' for more information."
-            said = [(1, b"", [f"md5sum: {text}", more]) for text in (ours, theirs)]
-            self.expect_both(f"md5sum {words}", *said)
-        for word, theirs in ((b"-b\xff", b"invalid option -- '\xff'"),
-                             (b"--tag=\xff", b"option '--tag' doesn't allow an argument")):
-            said = [(1, b"", b"md5sum: %s\n%s\n" % (text, more.encode()))
-                    for text in (b"unrecognized option '%s'" % word, theirs)]
-            self.expect_both(["md5sum", word, "a"], *said)
+        for words, ours, theirs in (
+            ("-c --st a", cut, cut + possible),
+            ("-c --st=x a", cut, f"option '--st=x' is ambiguous{possible}"),
+            ("--oth=x a", "unrecognized option '--oth'", "unrecognized option '--oth=x'"),
+        ):
+            with self.subTest(words=words):
+                more = "Try 'md5sum --help' for more information."
+                both = [(1, b"", [f"md5sum: {text}", more]) for text in (ours, theirs)]
+                self.expect_both(f"md5sum {words}", *both)
+        for word, theirs in (
+            (b"-b\xff", b"invalid option -- '\xff'"),
+            (b"--tag=\xff", b"option '--tag' doesn't allow an argument"),
+        ):
+            both = [
+                (1, b"", b"md5sum: %s\n%s\n" % (text, more.encode()))
+                for text in (b"unrecognized option '%s'" % word, theirs)
+            ]
+            self.expect_both(["md5sum", word, "a"], *both)
 
     def test_lengths(self):
         """GNU's tool takes blanks or a plus sign before the number."""
         for value in (" 256", "\t256", "+256"):
-            ours, theirs = self.ours_and_theirs(["b2sum", "-l", value, "e"])
-            self.assertEqual((ours.status, theirs.status, theirs.out), (1, 0, f"{harness.B}  e\n".encode()))
+            with self.subTest(value=value):
+                ours, theirs = self.ours_and_theirs(["b2sum", "-l", value, "e"])
+                self.assertEqual(
+                    (ours.status, theirs.status, theirs.out),
+                    (1, 0, f"{harness.BLAKE2B_256_OF_NOTHING}  e\n".encode()),
+                )
 
     def test_several_lengths(self):
-        """Only the last length is looked at, and none with `--help` or `--version`; GNU's tool refuses others, too."""
-        for words in ("-l x -l 256 e", "-l 7 -l 256 e", "-l x --help", "-l 7 --help", "-l 7 --version"):
-            ours, theirs = self.ours_and_theirs(f"b2sum {words}")
-            self.assertEqual((ours.status, ours.err, theirs.status, theirs.out), (0, b"", 1, b""), words)
+        """Only the last length is looked at, and none with `--help` or `--version`; GNU's tool
+        refuses others, too."""
+        for words in (
+            "-l x -l 256 e",
+            "-l 7 -l 256 e",
+            "-l x --help",
+            "-l 7 --help",
+            "-l 7 --version",
+        ):
+            with self.subTest(words=words):
+                ours, theirs = self.ours_and_theirs(f"b2sum {words}")
+                self.assertEqual(
+                    (ours.status, ours.err, theirs.status, theirs.out), (0, b"", 1, b""), words
+                )
 
     def test_standard_input_twice(self):
         """A second `-` is an empty file; GNU's tools read on, and report a fault again."""
         folder = os.open(self.path("d"), os.O_RDONLY)
         self.addCleanup(os.close, folder)
-        said = ["md5sum: -: Is a directory"]
-        self.expect_both("md5sum - -", (1, [f"{E}  -"], said), (1, b"", said * 2), stdin=folder)
-        self.expect_alike("md5sum - -", 0, [f"{M}  -", f"{E}  -"], stdin=b"abc")
+        message = ["md5sum: -: Is a directory"]
+        self.expect_both(
+            "md5sum - -",
+            (1, [f"{MD5_OF_NOTHING}  -"], message),
+            (1, b"", message * 2),
+            stdin=folder,
+        )
+        self.expect_alike(
+            "md5sum - -", 0, [f"{MD5_OF_ABC}  -", f"{MD5_OF_NOTHING}  -"], stdin=b"abc"
+        )
 
     def test_what_has_no_effect(self):
-        """The language changes GNU's quotes, and POSIXLY_CORRECT makes every word after a name one; here neither."""
-        ran = [self.ours_and_theirs("b2sum -l x e", env={**os.environ, "LC_ALL": name}) for name in ("C", "C.UTF-8")]
+        """The language changes GNU's quotes, and POSIXLY_CORRECT makes every word after a name one;
+        here neither."""
+        ran = [
+            self.ours_and_theirs("b2sum -l x e", env={**os.environ, "LC_ALL": name})
+            for name in ("C", "C.UTF-8")
+        ]
         self.assertEqual(ran[0][0], ran[1][0])
         if ran[0][1] != ran[1][1]:  # if that language is there
             self.assertIn("\u2018x\u2019", ran[1][1].err.decode())
-        theirs = (1, [f"{M}  a"], ["md5sum: -b: No such file or directory"])
+        theirs = (1, [f"{MD5_OF_ABC}  a"], ["md5sum: -b: No such file or directory"])
         env = {**os.environ, "POSIXLY_CORRECT": "1"}
-        self.expect_both("md5sum a -b", (0, [f"{M} *a"], b""), theirs, env=env)
-        self.expect_alike("md5sum a -b", 0, [f"{M} *a"])
+        self.expect_both("md5sum a -b", (0, [f"{MD5_OF_ABC} *a"], b""), theirs, env=env)
+        self.expect_alike("md5sum a -b", 0, [f"{MD5_OF_ABC} *a"])
 
 
 class Checks(Described):
     def test_reports(self):
         """GNU's tools escape a name only if it has a newline."""
-        for name, ours, theirs in (("x", "x", "x"), ("x y", "x y", "x y"), ("x\\y", "\\x\\\\y", "x\\y"),
-                                   ("x\ry", "\\x\\ry", "x\ry"), ("x\n\\y", "\\x\\n\\\\y", "\\x\\n\\\\y")):
+        for name, ours, theirs in (
+            ("x", "x", "x"),
+            ("x y", "x y", "x y"),
+            ("x\\y", "\\x\\\\y", "x\\y"),
+            ("x\ry", "\\x\\ry", "x\ry"),
+            ("x\n\\y", "\\x\\n\\\\y", "\\x\\n\\\\y"),
+        ):
             self.write(name, "abc")
             self.write("list", self.run_words(["md5sum", name]).out)
-            said = [(0, [f"{shown}: OK"], b"") for shown in (ours, theirs)]
-            self.expect_both("md5sum -c --strict list", *said)
+            both = [(0, [f"{shown}: OK"], b"") for shown in (ours, theirs)]
+            self.expect_both("md5sum -c --strict list", *both)
 
     def test_forms(self):
-        """With GNU's tools the first line that begins with its digits, a blank and more decides for all manifests of a
-        call."""
-        self.write("one", [f"{M} a"])
-        self.write("two", [f"{M}  a"])
+        """With GNU's tools the first line that begins with its digits, a blank and more decides for
+        all manifests of a call."""
+        self.write("one", [f"{MD5_OF_ABC} a"])
+        self.write("two", [f"{MD5_OF_ABC}  a"])
         missing = ["md5sum: ' a': No such file or directory", unread(1)]
         theirs = (1, ["a: OK", " a: FAILED open or read"], missing)
         self.expect_both("md5sum -c one two", (0, ["a: OK"] * 2, b""), theirs)
         none = ["md5sum: one: no properly formatted checksum lines found"]
         self.expect_both("md5sum -c two one", (0, ["a: OK"] * 2, b""), (1, ["a: OK"], none))
         for name in ("one", "two"):
-            self.expect_alike(["md5sum", "-c", name], 0, ["a: OK"])
+            with self.subTest(name=name):
+                self.expect_alike(["md5sum", "-c", name], 0, ["a: OK"])
 
     def test_spacing_of_tagged_lines(self):
-        """One space or none after the tag, and blanks around the equals sign, are read by both tools; GNU's b2sum also
-        takes a tab, a second space or a letter after a tag without a length, and a length in octal or hexadecimal."""
+        """One space or none after the tag, and blanks around the equals sign, are read by both
+        tools; GNU's b2sum also takes a tab, a second space or a letter after a tag without a
+        length, and a length in octal or hexadecimal."""
         for tool, (tag, of_nothing, _) in GNU_TOOLS.items():
-            for line in (f"{tag}(e)={of_nothing}", f"{tag} (e)= {of_nothing}", f"{tag} (e) \t = \t{of_nothing}"):
+            for line in (
+                f"{tag}(e)={of_nothing}",
+                f"{tag} (e)= {of_nothing}",
+                f"{tag} (e) \t = \t{of_nothing}",
+            ):
                 self.write("list", [line])
                 self.expect_alike([tool, "-c", "--strict", "list"], 0, ["e: OK"])
         tag, of_nothing, _ = GNU_TOOLS["b2sum"]
@@ -150,30 +241,42 @@ class Checks(Described):
             self.write("list", [f"{tag}{between}(e) = {of_nothing}"])
             self.expect_both("b2sum -c list", (1, b"", none), (0, ["e: OK"], b""))
         for bits in ("-256 ", "-0256", "-256x"):
-            self.write("list", [f"{tag}{bits} (e) = {harness.B}"])
-            self.expect_alike("b2sum -c list", 1, err=none)
+            with self.subTest(bits=bits):
+                self.write("list", [f"{tag}{bits} (e) = {harness.BLAKE2B_256_OF_NOTHING}"])
+                self.expect_alike("b2sum -c list", 1, err=none)
         for bits in ("-0400", "-0x100", "-+256", "- 256"):  # as C reads a number
-            self.write("list", [f"{tag}{bits} (e) = {harness.B}"])
-            self.expect_both("b2sum -c list", (1, b"", none), (0, ["e: OK"], b""))
+            with self.subTest(bits=bits):
+                self.write("list", [f"{tag}{bits} (e) = {harness.BLAKE2B_256_OF_NOTHING}"])
+                self.expect_both("b2sum -c list", (1, b"", none), (0, ["e: OK"], b""))
 
     def test_a_byte_0(self):
-        """GNU's tools take a name that isn't escaped, or a tagged line's digits, up to it; of a list that was written
-        with `--zero` they check the first file, and answer 0."""
+        """GNU's tools take a name that isn't escaped, or a tagged line's digits, up to it; of a
+        list that was written with `--zero` they check the first file, and answer 0."""
         self.write("b", "other")
         for command in ([harness.PROGRAM, "md5sum"], [gnu("md5sum")]):
             self.write("list", self.run_command([*command, "-z", "a", "b", "e"]).out)
             self.write("b", "changed")
-            said = [f"md5sum: list: {text}" for text in ("1: improperly formatted MD5 checksum line",
-                                                         "no properly formatted checksum lines found")]
-            self.expect_both("md5sum -c -w --strict list", (1, b"", said), (0, ["a: OK"], b""))
-        self.write("list", f"{M}  a\0b\n{E}  e\n")
+            message = [
+                f"md5sum: list: {text}"
+                for text in (
+                    "1: improperly formatted MD5 checksum line",
+                    "no properly formatted checksum lines found",
+                )
+            ]
+            self.expect_both("md5sum -c -w --strict list", (1, b"", message), (0, ["a: OK"], b""))
+        self.write("list", f"{MD5_OF_ABC}  a\0b\n{MD5_OF_NOTHING}  e\n")
         self.expect_both("md5sum -c list", (0, ["e: OK"], [bad(1)]), (0, ["a: OK", "e: OK"], b""))
-        for line in (f"MD5 (a\0b) = {M}", f"MD5 (a) = {M}\0", f"\\MD5 (a) = {M}\0more"):
+        for line in (
+            f"MD5 (a\0b) = {MD5_OF_ABC}",
+            f"MD5 (a) = {MD5_OF_ABC}\0",
+            f"\\MD5 (a) = {MD5_OF_ABC}\0more",
+        ):
             self.write("list", [line])
-            self.expect_both("md5sum -c -w --strict list", (1, b"", said), (0, ["a: OK"], b""))
+            self.expect_both("md5sum -c -w --strict list", (1, b"", message), (0, ["a: OK"], b""))
 
     def test_a_name_that_hides_what_follows(self):
-        """If a list was written with `--zero`, a newline and `#` in a name hide all that follows, in both."""
+        """If a list was written with `--zero`, a newline and `#` in a name hide all that follows,
+        in both."""
         self.write("a\n#", "abc")
         self.write("list", self.run_words(["md5sum", "-z", "a\n#", "e"]).out)
         self.write("e", "changed")
@@ -182,22 +285,33 @@ class Checks(Described):
     def test_a_line_without_memory(self):
         """GNU's tools take it for the end of the list."""
         none = ["md5sum: list: no properly formatted checksum lines found"]
-        for lines, out, theirs in ((b"", b"", (1, b"", none)), ([f"{M}  a"], ["a: OK"], (0, ["a: OK"], b""))):
+        for lines, out, theirs in (
+            (b"", b"", (1, b"", none)),
+            ([f"{MD5_OF_ABC}  a"], ["a: OK"], (0, ["a: OK"], b"")),
+        ):
             self.write("list", lines)
             os.truncate(self.path("list"), 1 << 30)
-            self.expect_both("md5sum -c --strict list", (1, out, ["md5sum: memory exhausted"]), theirs,
-                             preexec_fn=harness.limit("AS", 200 << 20))
+            self.expect_both(
+                "md5sum -c --strict list",
+                (1, out, ["md5sum: memory exhausted"]),
+                theirs,
+                preexec_fn=harness.limit("AS", 200 << 20),
+            )
 
     def test_what_other_programs_write(self):
-        """Lines as those of `gpg --print-md`, `openssl dgst` and `rhash --bsd` can't be checked; as those of
-        `openssl dgst -r`, they can."""
-        digits = harness.S.upper()
-        grouped = " ".join(digits[place:place + 8] for place in range(0, 64, 8))
-        for line in (f"a: {grouped}", f"SHA2-256(a)= {harness.S}", f"SHA256   (a) = {harness.S}"):
+        """Lines as those of `gpg --print-md`, `openssl dgst` and `rhash --bsd` can't be checked; as
+        those of `openssl dgst -r`, they can."""
+        digits = harness.SHA256_OF_ABC.upper()
+        grouped = " ".join(digits[place : place + 8] for place in range(0, 64, 8))
+        for line in (
+            f"a: {grouped}",
+            f"SHA2-256(a)= {harness.SHA256_OF_ABC}",
+            f"SHA256   (a) = {harness.SHA256_OF_ABC}",
+        ):
             self.write("list", [line])
             none = ["sha256sum: list: no properly formatted checksum lines found"]
             self.expect_alike("sha256sum -c list", 1, err=none)
-        self.write("list", [f"{harness.S} *a"])
+        self.write("list", [f"{harness.SHA256_OF_ABC} *a"])
         self.expect_alike("sha256sum -c --strict list", 0, ["a: OK"])
 
     def test_an_empty_name(self):
@@ -209,46 +323,73 @@ class Checks(Described):
             self.expect_both([tool, "-c", "list"], (0, ["a: OK"], [bad(1, tool)]), theirs)
 
     def test_digits_and_a_blank(self):
-        """GNU's b2sum takes them for a line with an empty name, which decides how names are read."""
-        for first in (f"{harness.B} ", f"{harness.B}\t", "ab "):
-            self.write("list", [first, f"{harness.B}  e"])
+        """GNU's b2sum takes them for a line with an empty name, which decides how names are
+        read."""
+        for first in (
+            f"{harness.BLAKE2B_256_OF_NOTHING} ",
+            f"{harness.BLAKE2B_256_OF_NOTHING}\t",
+            "ab ",
+        ):
+            self.write("list", [first, f"{harness.BLAKE2B_256_OF_NOTHING}  e"])
             missing = [f"b2sum: '{name}': No such file or directory" for name in ("", " e")]
-            theirs = (1, [f"{name}: FAILED open or read" for name in ("", " e")], [*missing, unread(2, "b2sum")])
+            theirs = (
+                1,
+                [f"{name}: FAILED open or read" for name in ("", " e")],
+                [*missing, unread(2, "b2sum")],
+            )
             self.expect_both("b2sum -c list", (0, ["e: OK"], [bad(1, "b2sum")]), theirs)
 
     def test_lines_that_they_do_not_write(self):
         """GNU's tools read a carriage return as it is in a name after a leading backslash."""
         self.write("q\\\rz", "abc")
         ours = (0, ["a: OK"], [bad(1)])
-        for line in (f"\\{M}  q\\\\\rz", f"\\MD5 (q\\\\\rz) = {M}"):
-            self.write("list", f"{line}\n{M}  a\n")
+        for line in (f"\\{MD5_OF_ABC}  q\\\\\rz", f"\\MD5 (q\\\\\rz) = {MD5_OF_ABC}"):
+            self.write("list", f"{line}\n{MD5_OF_ABC}  a\n")
             self.expect_both("md5sum -c list", ours, (0, ["q\\\rz: OK", "a: OK"], b""))
         written = self.run_command(["md5sum", "q\\\rz"], executable=gnu("md5sum")).out
-        self.assertEqual(written, f"\\{M}  q\\\\\\rz\n".encode())
+        self.assertEqual(written, f"\\{MD5_OF_ABC}  q\\\\\\rz\n".encode())
         self.write("list", written)
         self.expect_both("md5sum -c list", (0, ["\\q\\\\\\rz: OK"], b""), (0, ["q\\\rz: OK"], b""))
 
     def test_statuses(self):
         """Status 0 means the same thing, and is returned in the same cases."""
-        self.write("good", [f"{M}  a", f"{E}  e"])
+        self.write("good", [f"{MD5_OF_ABC}  a", f"{MD5_OF_NOTHING}  e"])
         self.write("none", ["#", "", "junk"])
-        self.write("damaged", [f"{M}  a", "junk"])
-        self.write("some", [f"{M}  a", f"{M}  x"])
-        self.write("gone", [f"{M}  x"])
-        self.write("wrong", [f"{M}  a", f"{M}  e"])
-        for words, status in (("a e", 0), ("a x e", 1), ("d", 1), ("--help", 0), ("--version", 0), ("--other", 1),
-                              ("-c good", 0), ("-c none", 1), ("-c good none", 1), ("-c x good", 1), ("-c e", 1),
-                              ("-c damaged", 0), ("-c --strict damaged", 1), ("-c some", 1), ("-c gone", 1),
-                              ("-c --ignore-missing some", 0), ("-c --ignore-missing gone", 1),
-                              ("-c --ignore-missing good gone", 1), ("-c wrong", 1), ("-c --ignore-missing wrong", 1)):
+        self.write("damaged", [f"{MD5_OF_ABC}  a", "junk"])
+        self.write("some", [f"{MD5_OF_ABC}  a", f"{MD5_OF_ABC}  x"])
+        self.write("gone", [f"{MD5_OF_ABC}  x"])
+        self.write("wrong", [f"{MD5_OF_ABC}  a", f"{MD5_OF_ABC}  e"])
+        for words, status in (
+            ("a e", 0),
+            ("a x e", 1),
+            ("d", 1),
+            ("--help", 0),
+            ("--version", 0),
+            ("--other", 1),
+            ("-c good", 0),
+            ("-c none", 1),
+            ("-c good none", 1),
+            ("-c x good", 1),
+            ("-c e", 1),
+            ("-c damaged", 0),
+            ("-c --strict damaged", 1),
+            ("-c some", 1),
+            ("-c gone", 1),
+            ("-c --ignore-missing some", 0),
+            ("-c --ignore-missing gone", 1),
+            ("-c --ignore-missing good gone", 1),
+            ("-c wrong", 1),
+            ("-c --ignore-missing wrong", 1),
+        ):
             for more in ((), ("--status",), ("--quiet",)) if words.startswith("-c") else ((),):
                 ours, theirs = self.ours_and_theirs(["md5sum", *words.split(" "), *more])
                 self.assertEqual((ours.status, theirs.status), (status, status), (words, more))
 
     def test_cksum(self):
-        """`cksum -c` reads tagged lines of several algorithms, as `anysum -c` does, and no plain ones."""
+        """`cksum -c` reads tagged lines of several algorithms, as `anysum -c` does, and no plain
+        ones."""
         lines = [self.run_words([tool, "--tag", "a"]).out for tool in GNU_TOOLS]
-        lines += [self.run_words("b2sum -l 256 --tag a").out, f"{M}  a\n".encode()]
+        lines += [self.run_words("b2sum -l 256 --tag a").out, f"{MD5_OF_ABC}  a\n".encode()]
         self.write("list", b"".join(lines))
         theirs = self.run_command(["cksum", "-c", "list"], executable=gnu("cksum"))
         ours = self.run_words("anysum -c list")
@@ -258,15 +399,22 @@ class Checks(Described):
 
 class Writing(Described):
     def test_an_output_that_fails(self):
-        """An output that fails ends the run here, standard error at its first line, too; GNU's tools still read the
-        other files, and name the reason of some faults."""
+        """An output that fails ends the run here, standard error at its first line, too; GNU's
+        tools still read the other files, and name the reason of some faults."""
         full, ours = self.full(), (1, b"", WRITE_ERROR)
-        self.expect_both("md5sum a x", ours, (1, b"", [X_MISSING, "md5sum: write error"]), stdout=full)
+        self.expect_both(
+            "md5sum a x", ours, (1, b"", [X_MISSING, "md5sum: write error"]), stdout=full
+        )
         theirs = (1, b"", ["md5sum: write error: No space left on device"])
         self.expect_both("md5sum -z a", ours, theirs, stdout=full)
-        self.write("list", [f"{M}  x", f"{M}  a"])
+        self.write("list", [f"{MD5_OF_ABC}  x", f"{MD5_OF_ABC}  a"])
         for how in ({"stderr": full}, {"preexec_fn": lambda: os.close(2)}):
-            self.expect_both("md5sum a x e", (1, [f"{M}  a"], b""), (1, [f"{M}  a", f"{E}  e"], b""), **how)
+            self.expect_both(
+                "md5sum a x e",
+                (1, [f"{MD5_OF_ABC}  a"], b""),
+                (1, [f"{MD5_OF_ABC}  a", f"{MD5_OF_NOTHING}  e"], b""),
+                **how,
+            )
             theirs = (1, ["x: FAILED open or read", "a: OK"], b"")
             self.expect_both("md5sum -c list", (1, b"", b""), theirs, **how)
 
@@ -286,4 +434,4 @@ class Writing(Described):
             traced = [strace(), "-qq", "-o", os.devnull, *options, *command]
             ran = self.run_command(traced, stdout=self.opened("out", "wb"))
             found = ran.status, self.read("out"), bool(ran.err)
-            self.assertEqual(found, (status, as_bytes([f"{M}  a"]), status == 1))
+            self.assertEqual(found, (status, as_bytes([f"{MD5_OF_ABC}  a"]), status == 1))

@@ -7,28 +7,34 @@ import re
 import believed
 import harness
 import library
-from compiled import clauses
-from harness import TOP, Case, Ran
+from compiled import LIBRARIES, clauses, ours, reached, symbol
+from harness import Case, Ran
 from rattle import Code
-from sources import text_of
+from sources import TOP, files, text_of
 
 
 class Documents(Case):
     of_the_repository = True
 
+    def compare(self, pages, command):
+        """Compares generated pages with those that are there."""
+        for path, wanted in pages.items():
+            with self.subTest(page=path):
+                self.assertEqual(text_of(path), wanted, f"{path} is stale: run {command}")
+
     def test_what_is_believed(self):
-        written, wanted = believed.page()
-        self.assertEqual(written, wanted, "tools/believed.py --write makes the table anew")
-        for (crate, file), says in believed.rows_of(written).items():
-            self.assertNotEqual(says, "?", f"docs/PROMISES.md doesn't say what {file} of {crate} is")
-        self.assertEqual(believed.misplaced(), [])
+        self.compare(believed.pages(), "tools/believed.py --write")
+        self.assertEqual(believed.misplaced() + believed.defined_twice(), [])
 
     def test_what_is_read(self):
-        """The clauses, and the names that are brought in for them, are those that the kit proves."""
-        files = {it.there for it in Code().items}
-        found = {(there.crate, clause.text) for there in files for clause in there.clauses}
-        found |= {(there.crate, use[:-1]) for there in files for row in there.rows
-                  for use in row.partition("ghost use ")[2:] if use}
+        """The clauses, and the names that are imported for them, are those that the kit proves."""
+        found = set()
+        for file in Code().files:
+            found |= {(file.crate, clause.text) for clause in file.clauses}
+            for row in file.rows:
+                _, _, imported = row.partition("ghost use ")
+                if imported:
+                    found.add((file.crate, imported[:-1]))
         self.assertEqual(found, {(crate, text) for crate, _, text in clauses()})
 
     def test_contracts_that_are_quoted(self):
@@ -36,49 +42,93 @@ class Documents(Case):
         shown = re.sub(r"(?m)^ +//.*\n|^ +", "", text_of("docs", "PROMISES.md"))
         for name in ("run", "command"):
             text = Code().function("digests", name).text
-            contract = re.sub(r"(?m)^ +", "", text[text.index("ensures"):])
-            self.assertTrue(contract in shown, f"docs/PROMISES.md doesn't show the contract of {name} as it is")
+            contract = re.sub(r"(?m)^ +", "", text[text.index("ensures") :])
+            with self.subTest(function=name):
+                self.assertTrue(contract in shown, f"put this into docs/PROMISES.md:\n{contract}")
 
     def test_wrong_versions(self):
         """The table of docs/TESTING.md has each wrong version once, in a row of its crate."""
         rows = re.findall(r"(?m)^\|(\w+)\|`[\w:]+`\|(.*)\|$", text_of("docs", "TESTING.md"))
-        named = [(crate, name) for crate, goals in rows for names in re.findall(r": ([\w, ]+)", goals)
-                 for name in names.split(", ")]
-        there = [path.split(os.sep)[-3::2] for path in glob.glob(os.path.join(TOP, "crates", "*", "must-fail", "*"))]
-        self.assertEqual(sorted(named), sorted((crate, file[:-len(".edit")]) for crate, file in there),
-                         "tools/refusals.py makes the table anew")
+        named = []
+        for crate, goals in rows:
+            for names in re.findall(r": ([\w, ]+)", goals):
+                named += [(crate, name) for name in names.split(", ")]
+        wanted = []
+        for path in sorted(glob.glob(os.path.join(TOP, "crates", "*", "must-fail", "*"))):
+            crate, _, file = path.split(os.sep)[-3:]
+            wanted.append((crate, file.removesuffix(".edit")))
+        self.assertEqual(
+            sorted(named), sorted(wanted), "run tools/refusals.py: it makes the table anew"
+        )
 
     def test_a_second_audit(self):
-        """The command of docs/AUDITING.md finds the files of the contracts, of what `main` makes, and of the border."""
-        command = re.search(r"(?m)^    git diff OLD .*\$\((.*)\)$", text_of("docs", "AUDITING.md"))[1]
-        ran = self.run_command(["sh", "-c", command], cwd=TOP)
-        wanted = {f"crates/digests/src/{name}.rt".encode() for name in ("run", "command", "standard_input")}
-        wanted |= {b"crates/sum_sources/src/sources/opened.rt", b"crates/sum_sources/src/system/errors.rt"}
+        """The command of docs/AUDITING.md names the files of the border."""
+        audit = re.search(r"(?m)^    git diff OLD .*\$\((.*)\)$", text_of("docs", "AUDITING.md"))
+        ran = self.run_command(["sh", "-c", audit[1]], cwd=TOP)
+        wanted = {
+            b"crates/digests/src/standard_input.rt",
+            b"crates/sum_sources/src/system/errors.rt",
+        }
         self.assertLessEqual(wanted, set(ran.out.split()))
 
-    def test_the_library(self):
-        """docs/LIBRARY.md has each public call as the kit has read it."""
-        page, wanted = library.page()
-        self.assertEqual(page, wanted, "tools/library.py makes the list anew")
-        sample = re.sub(r"(?m)^(?=.)", "    ", text_of("crates", "example_check", "src", "bytes.rt"))
-        self.assertIn(sample, page, "docs/LIBRARY.md doesn't show the input of example_check as it is")
+    def test_the_libraries(self):
+        """The page of each library has each public call as the kit has read it."""
+        self.compare(library.pages(), "tools/library.py --write")
 
-    def test_a_promise(self):
-        """`tools/library.py NAME` prints where a call is, its comment, and its contract as the kit has read it."""
-        call = Code().function("digests", "run")
-        ran = self.run_command([os.path.join(TOP, "tools", "library.py"), "run"])
-        wanted = ["// digests run.rt: run", *(f"/// {row}".rstrip() for row in call.comment), call.text, ""]
-        self.assertEqual(ran, Ran(0, "\n".join(wanted).encode(), b""))
+    def test_callers(self):
+        """The callers that the pages of libraries show stand, word for word, in crates that the
+        gate proves."""
+        paths = [path for _, _, path in (*files("src", ".rt"), *files("proofs", ".antt"))]
+        sources = [text_of(path) for path in paths]
+        for crate in LIBRARIES:
+            with self.subTest(library=crate):
+                by_hand = library.by_hand(crate)
+                shown = re.findall(r"(?ms)^```(?:rust|antt)\n(.*?)^```$", by_hand)
+                self.assertTrue(shown, f"{library.page_of(crate)} shows no caller")
+                for caller in shown:
+                    is_proved = any(caller in source for source in sources)
+                    self.assertTrue(is_proved, f"no crate has this:\n{caller}")
+        sample = text_of("crates", "example_check", "src", "bytes.rt")
+        indented = re.sub(r"(?m)^(?=.)", "    ", sample)
+        self.assertTrue(
+            indented in text_of("docs", "LIBRARY.md"),
+            "put crates/example_check/src/bytes.rt into docs/LIBRARY.md as it is",
+        )
+
+    def test_what_wrong_versions_change(self):
+        """The way of the program, from `program` on, takes each function that a wrong version
+        changes, but for three of what the program doesn't call."""
+        code = Code()
+        called = {code.of_symbol(name) for name in reached([symbol("digests", "program")], ours())}
+        missed = set()
+        for crate, name, path in files("must-fail", ".edit"):
+            for file, pairs in re.findall(r"file: src/(.*)\n((?:(?!file: ).*\n?)*)", text_of(path)):
+                cited = re.findall(r"(?m)^old: (?!//|ghost )(.*)", pairs)
+                changed = set()
+                for number, line in enumerate(text_of("crates", crate, "src", file).split("\n"), 1):
+                    if any(text in line for text in cited):
+                        changed.add(number)
+                for item in code.functions:
+                    is_there = (item.crate, item.file) == (crate, file)
+                    if is_there and changed & {*item.in_source} and item not in called:
+                        missed.add(name)
+        self.assertEqual(missed, {"last_pair_answers", "other_list_told", "taken_is_zero"})
 
     def test_sums(self):
-        """The sums of the newest version in CHANGELOG, if it has any, are those of what is built, as docs/PACKAGING.md
-        checks them."""
+        """The sums of the newest version in CHANGELOG, if it has any, are those of what is built,
+        as docs/PACKAGING.md checks them."""
         newest = re.split(r"(?m)^## ", text_of("CHANGELOG.md"))[1]
         if not os.path.exists(os.path.join(TOP, "out", "x86-64-v3", "digests")):
             self.skipTest("nothing is built")
-        command = re.search(r"(?m)^    (grep .* CHANGELOG\.md .*)$", text_of("docs", "PACKAGING.md"))[1]
-        ran = self.run_command(["sh", "-c", command.replace("./digests", f"'{harness.PROGRAM}'")], cwd=TOP)
+        packaging = text_of("docs", "PACKAGING.md")
+        command = re.search(r"(?m)^    (grep .* CHANGELOG\.md .*)$", packaging)[1]
+        command = command.replace("./digests", f"'{harness.PROGRAM}'")
+        ran = self.run_command(["sh", "-c", command], cwd=TOP)
         if ran.status and "  out/" not in newest:
             self.skipTest("the programs that are built aren't those that CHANGELOG listed last")
-        self.assertEqual(ran, Ran(0, b"out/default/digests: OK\nout/x86-64-v3/digests: OK\n", b""),
-                         "what is built is older than its sources, or by another kit (`rt version`) than CHANGELOG's")
+        self.assertEqual(
+            ran,
+            Ran(0, b"out/default/digests: OK\nout/x86-64-v3/digests: OK\n", b""),
+            "what is built is older than its sources, or by another kit than CHANGELOG's: "
+            "run ./digests, and put the sums into CHANGELOG.md",
+        )

@@ -1,5 +1,5 @@
-"""Against GNU coreutils, if they are installed: both write the same lines, byte for byte, in every style, and each
-verifies the other's manifests."""
+"""Against GNU coreutils, if they are installed: both write the same lines, byte for byte, in every
+style, and each verifies the other's manifests."""
 
 import os
 import random
@@ -9,9 +9,25 @@ import harness
 from harness import GNU_TOOLS, Case, as_bytes, gnu
 
 STYLES = (["-t"], ["-b"], ["--tag"], ["-z"], ["-z", "-b"], ["-z", "--tag"])
-NAMES = ["a", "e", " ", " lead", "trail ", "*star", "a)", "(b", "x = y", "-dash", "--", "#", "tab\t", "\x01"]
+NAMES = [
+    "a",
+    "e",
+    " ",
+    " lead",
+    "trail ",
+    "*star",
+    "a)",
+    "(b",
+    "x = y",
+    "-dash",
+    "--",
+    "#",
+    "tab\t",
+    "\x01",
+]
 NAMES += ["é", "日本", "d/f", "new\nline", "\n", "both\\\n"]
-# In reports of checking, GNU 9.1 escapes a name only if it has a newline; ours escapes these too, as lines do.
+# In reports of checking, GNU 9.1 escapes a name only if it has a newline; ours escapes these too,
+# as lines do.
 BACKSLASH_NAMES = ["back\\slash", "\\n", "\\", "d/\\"]
 
 
@@ -32,17 +48,21 @@ class SameLines(Beside):
         for tool in GNU_TOOLS:
             for style in STYLES:
                 for names in (["--", *self.names, *BACKSLASH_NAMES], []):
-                    ours, theirs = self.ours_and_theirs([tool, *style, *names], stdin=b"some bytes\r\n\0")
+                    ours, theirs = self.ours_and_theirs(
+                        [tool, *style, *names], stdin=b"some bytes\r\n\0"
+                    )
                     self.assertEqual((ours, ours.status), (theirs, 0))
 
     def test_more_than_2_to_the_32_bits(self):
-        """A sparse file of 512 MiB and 5 bytes, whose number of bits passes 2^32: all tools in parallel, and then,
-        under anysum, all digests once more."""
+        """A sparse file of 512 MiB and 5 bytes, whose number of bits passes 2^32: all tools in
+        parallel, and then, under anysum, all digests once more."""
         with open(self.path("large"), "wb") as file:
             file.truncate((1 << 29) + 5)
         runs, lines = [], []
         for tool in GNU_TOOLS:
-            theirs = subprocess.Popen([gnu(tool), "--tag", "large"], cwd=self.folder, stdout=subprocess.PIPE)
+            theirs = subprocess.Popen(
+                [gnu(tool), "--tag", "large"], cwd=self.folder, stdout=subprocess.PIPE
+            )
             self.addCleanup(harness.end, theirs)
             runs.append((self.start([tool, "--tag", "large"], stdout=subprocess.PIPE), theirs))
         for (tag, _, _), both in zip(GNU_TOOLS.values(), runs):
@@ -55,7 +75,8 @@ class SameLines(Beside):
 
 class Verified(Beside):
     def each_manifest(self, styles=STYLES[:3]):
-        """Each tool, each style that can be checked, and the manifest that GNU's tool writes for all files."""
+        """Yields each tool, each style that can be checked, and the manifest that GNU's tool writes
+        for all files."""
         for tool in GNU_TOOLS:
             for style in styles:
                 ran = self.run_command([gnu(tool), *style, "--", *self.names])
@@ -63,31 +84,47 @@ class Verified(Beside):
                 yield tool, style, ran.out
 
     def checks(self, tool, manifest, *options):
-        """What ours and theirs say of a manifest."""
+        """Returns what ours and theirs say of a manifest."""
         self.write("manifest", manifest)
         return self.ours_and_theirs([tool, "-c", *options, "manifest"])
 
     def test_untouched(self):
         for tool, style, manifest in self.each_manifest():
-            for options in ([], ["--strict"], ["--quiet"], ["--status"], ["-w"], ["--ignore-missing"]):
-                ours, theirs = self.checks(tool, manifest, *options)
-                self.assertEqual(ours, theirs)
-                self.assertEqual((ours.status, ours.err), (0, b""))
+            for options in (
+                [],
+                ["--strict"],
+                ["--quiet"],
+                ["--status"],
+                ["-w"],
+                ["--ignore-missing"],
+            ):
+                with self.subTest(options=options):
+                    ours, theirs = self.checks(tool, manifest, *options)
+                    self.assertEqual(ours, theirs)
+                    self.assertEqual((ours.status, ours.err), (0, b""))
 
     def test_tags_and_backslashes(self):
         manifest = b"".join(lines for _, _, lines in self.each_manifest([["--tag"]]))
         ran = self.run_words("anysum -c --strict", stdin=manifest)
-        self.assertEqual((ran.status, ran.err, ran.out.count(b": OK\n")), (0, b"", len(GNU_TOOLS) * len(self.names)))
+        self.assertEqual(
+            (ran.status, ran.err, ran.out.count(b": OK\n")),
+            (0, b"", len(GNU_TOOLS) * len(self.names)),
+        )
         self.names = BACKSLASH_NAMES
         shown = ["\\back\\\\slash: OK", "\\\\\\n: OK", "\\\\\\: OK", "\\d/\\\\: OK"]
         for tool, _, manifest in self.each_manifest():
-            ours, theirs = self.checks(tool, manifest, "--strict")
-            self.assertEqual(ours, (0, as_bytes(shown), b""))
-            self.assertEqual((theirs.status, theirs.out.count(b": OK\n"), theirs.err), (0, len(shown), b""))
+            with self.subTest(tool=tool):
+                ours, theirs = self.checks(tool, manifest, "--strict")
+                self.assertEqual(ours, (0, as_bytes(shown), b""))
+                self.assertEqual(
+                    (theirs.status, theirs.out.count(b": OK\n"), theirs.err), (0, len(shown), b"")
+                )
 
     def test_lengths(self):
         for bits in range(8, 513, 8):
-            ours, theirs = self.ours_and_theirs(["b2sum", "-l", str(bits), "--tag", "a", "d/f", "new\nline"])
+            ours, theirs = self.ours_and_theirs(
+                ["b2sum", "-l", str(bits), "--tag", "a", "d/f", "new\nline"]
+            )
             self.assertEqual(ours, theirs)
             ours, theirs = self.checks("b2sum", theirs.out, "--strict")
             self.assertEqual((ours, ours.status), (theirs, 0))
@@ -98,10 +135,20 @@ class Verified(Beside):
         os.remove(self.path("*star"))
         self.write("new\nline", "!")
         for tool, _, manifest in manifests:
-            for options in ([], ["--quiet"], ["--status"], ["--ignore-missing"], ["--strict", "-w"]):
-                ours, theirs = self.checks(tool, manifest, *options)
-                self.assertEqual((ours.status, ours.out), (1, theirs.out))
-                self.assertEqual((theirs.status, theirs.err.count(b"WARNING")), (1, ours.err.count(b"WARNING")))
+            for options in (
+                [],
+                ["--quiet"],
+                ["--status"],
+                ["--ignore-missing"],
+                ["--strict", "-w"],
+            ):
+                with self.subTest(options=options):
+                    ours, theirs = self.checks(tool, manifest, *options)
+                    self.assertEqual((ours.status, ours.out), (1, theirs.out))
+                    self.assertEqual(
+                        (theirs.status, theirs.err.count(b"WARNING")),
+                        (1, ours.err.count(b"WARNING")),
+                    )
 
     def test_lines_corrupted_and_reordered(self):
         """Lines in another order, comments, and lines that neither holds to be well formed."""
@@ -110,11 +157,18 @@ class Verified(Beside):
             lines = manifest.splitlines(keepends=True)
             chance.shuffle(lines)
             lines[3:3] = [b"# a comment\n", b"junk\n"]
-            lines[9] = lines[9].replace(b"0", b"g").replace(b"1", b"h").replace(b"2", b"i").replace(b"3", b"j")
+            lines[9] = (
+                lines[9]
+                .replace(b"0", b"g")
+                .replace(b"1", b"h")
+                .replace(b"2", b"i")
+                .replace(b"3", b"j")
+            )
             lines.append(lines[0].rstrip(b"\n"))
             for options in ([], ["-w"], ["--strict"], ["--status"], ["--strict", "--quiet"]):
-                ours, theirs = self.checks(tool, b"".join(lines), *options)
-                self.assertEqual(ours, theirs)
+                with self.subTest(options=options):
+                    ours, theirs = self.checks(tool, b"".join(lines), *options)
+                    self.assertEqual(ours, theirs)
 
     def test_changed_digits(self):
         for tool, style, manifest in self.each_manifest():
@@ -127,11 +181,15 @@ class Verified(Beside):
         self.assertEqual(self.checks("md5sum", manifest), ((0, b"a: OK\ne: OK\n", b""),) * 2)
 
     def test_returns_at_line_ends_and_empty_lines(self):
-        """Ours reads what an editor of another system made of a manifest; older versions of theirs don't."""
+        """Ours reads what an editor of another system made of a manifest; older versions of theirs
+        don't."""
         for tool in GNU_TOOLS:
-            lines = self.run_command([gnu(tool), "a", "e", " lead"]).out
-            manifest = b"\r\n" + lines.replace(b"\n", b"\r\n") + b"\n\n"
-            self.expect([tool, "-c", "--strict"], stdin=manifest, out=["a: OK", "e: OK", " lead: OK"])
+            with self.subTest(tool=tool):
+                lines = self.run_command([gnu(tool), "a", "e", " lead"]).out
+                manifest = b"\r\n" + lines.replace(b"\n", b"\r\n") + b"\n\n"
+                self.expect(
+                    [tool, "-c", "--strict"], stdin=manifest, out=["a: OK", "e: OK", " lead: OK"]
+                )
 
     def test_names_with_a_carriage_return(self):
         """Newer versions of theirs escape it, as ours does."""

@@ -1,9 +1,18 @@
-"""System calls that are interrupted again and again, and the number of writes that a run makes. All of it by `strace`,
-which makes a call fail."""
+"""System calls that are interrupted again and again, and the number of writes that a run makes. All
+of it by `strace`, which makes a call fail."""
 
 import os
 
-from harness import E, M, S, WRITE_ERROR, X_MISSING, Ran, as_bytes, unread
+from harness import (
+    MD5_OF_NOTHING,
+    MD5_OF_ABC,
+    SHA256_OF_ABC,
+    WRITE_ERROR,
+    X_MISSING,
+    Ran,
+    as_bytes,
+    unread,
+)
 from tracing import Traced, needs_strace, sizes
 
 FEW = "1..999"  # a thousand interruptions in a row are a fault
@@ -16,55 +25,85 @@ class Interrupted(Traced):
 
     def test_every_write(self):
         """A run of which every write is interrupted ends with status 1, and writes nothing."""
-        self.write("l", [f"{M}  a"])
-        for words in ("md5sum a e", "md5sum x", "md5sum --help", "md5sum --version", "md5sum --foo", "shasum",
-                      "md5sum -c l"):
-            ran, calls = self.failing("write,writev", "EINTR", words, timeout=ENDLESS)
-            self.assertEqual(ran, Ran(1, b"", b""))
-            self.assertLessEqual(len(calls), 2000)
+        self.write("l", [f"{MD5_OF_ABC}  a"])
+        for words in (
+            "md5sum a e",
+            "md5sum x",
+            "md5sum --help",
+            "md5sum --version",
+            "md5sum --foo",
+            "shasum",
+            "md5sum -c l",
+        ):
+            with self.subTest(words=words):
+                ran, calls = self.failing("write,writev", "EINTR", words, timeout=ENDLESS)
+                self.assertEqual(ran, Ran(1, b"", b""))
+                self.assertLessEqual(len(calls), 2000)
 
     def test_every_write_to_standard_output(self):
-        """A standard output that is always interrupted is a write error, which standard error still reports."""
+        """A standard output that is always interrupted is a write error, which standard error still
+        reports."""
         out = self.path("out")
-        self.write("l", [f"{M}  a"])
-        for words in ("md5sum a e", "md5sum -z a", "md5sum --help", "md5sum --version", "md5sum -c l"):
-            ran, calls = self.failing("write,writev", "EINTR", words, only=out, timeout=ENDLESS)
-            self.assertEqual(ran, Ran(1, b"", WRITE_ERROR))
-            self.assertEqual(len(calls), 1000)
+        self.write("l", [f"{MD5_OF_ABC}  a"])
+        for words in (
+            "md5sum a e",
+            "md5sum -z a",
+            "md5sum --help",
+            "md5sum --version",
+            "md5sum -c l",
+        ):
+            with self.subTest(words=words):
+                ran, calls = self.failing("write,writev", "EINTR", words, only=out, timeout=ENDLESS)
+                self.assertEqual(ran, Ran(1, b"", WRITE_ERROR))
+                self.assertEqual(len(calls), 1000)
 
     def test_every_write_to_standard_error(self):
         """The run stops with status 1, and the lines before stand."""
-        ran, _ = self.failing("write,writev", "EINTR", "md5sum a x e", only=self.path("err"), timeout=ENDLESS)
-        self.assertEqual(ran, Ran(1, as_bytes([f"{M}  a"]), b""))
+        ran, _ = self.failing(
+            "write,writev", "EINTR", "md5sum a x e", only=self.path("err"), timeout=ENDLESS
+        )
+        self.assertEqual(ran, Ran(1, as_bytes([f"{MD5_OF_ABC}  a"]), b""))
 
     def test_some_writes(self):
         """Fewer interruptions than a thousand in a row change nothing."""
-        lines = as_bytes([f"{M}  a", f"{E}  e"])
-        for words, status, err in (("md5sum a e", 0, b""), ("md5sum x a e", 1, as_bytes([X_MISSING]))):
-            ran, _ = self.failing("write", "EINTR", words, when=FEW, timeout=ENDLESS)
-            self.assertEqual(ran, Ran(status, lines, err))
+        lines = as_bytes([f"{MD5_OF_ABC}  a", f"{MD5_OF_NOTHING}  e"])
+        for words, status, err in (
+            ("md5sum a e", 0, b""),
+            ("md5sum x a e", 1, as_bytes([X_MISSING])),
+        ):
+            with self.subTest(words=words):
+                ran, _ = self.failing("write", "EINTR", words, when=FEW, timeout=ENDLESS)
+                self.assertEqual(ran, Ran(status, lines, err))
         for when in ("1+2", "2+2", "1+3"):
-            ran, _ = self.failing("write", "EINTR", ["md5sum", *["a", "x"] * 50], when=when)
-            self.assertEqual(ran, Ran(1, as_bytes([f"{M}  a"] * 50), as_bytes([X_MISSING] * 50)))
+            with self.subTest(when=when):
+                ran, _ = self.failing("write", "EINTR", ["md5sum", *["a", "x"] * 50], when=when)
+                self.assertEqual(
+                    ran, Ran(1, as_bytes([f"{MD5_OF_ABC}  a"] * 50), as_bytes([X_MISSING] * 50))
+                )
 
     def test_every_read(self):
-        """A file or a standard input that can never be read is a fault, and the run goes on with the next one."""
+        """A file or a standard input that can never be read is a fault, and the run goes on with
+        the next one."""
         fault = b"md5sum: %s: Input/output error\n"
         a, e = (os.fsdecode(self.path(name)) for name in "ae")
         ran, calls = self.failing("read", "EINTR", ["md5sum", a, e], only=a, timeout=ENDLESS)
-        self.assertEqual(ran, Ran(1, as_bytes([f"{E}  {e}"]), fault % a.encode()))
+        self.assertEqual(ran, Ran(1, as_bytes([f"{MD5_OF_NOTHING}  {e}"]), fault % a.encode()))
         self.assertLessEqual(len(calls), 1000)
-        ran, _ = self.failing("read", "EINTR", "md5sum", only=a, stdin=self.opened("a"), timeout=ENDLESS)
+        ran, _ = self.failing(
+            "read", "EINTR", "md5sum", only=a, stdin=self.opened("a"), timeout=ENDLESS
+        )
         self.assertEqual(ran, Ran(1, b"", fault % b"-"))
 
     def test_some_reads_and_opens(self):
-        """Fewer interruptions than a thousand in a row change nothing. The library tries an opening 2^64 - 1 times, so
-        no limit is looked for."""
+        """Fewer interruptions than a thousand in a row change nothing. The library tries an opening
+        2^64 - 1 times, so no limit is looked for."""
         a = os.fsdecode(self.path("a"))
         ran, _ = self.failing("read", "EINTR", ["sha256sum", a], only=a, when=FEW, timeout=ENDLESS)
-        self.assertEqual(ran, Ran(0, as_bytes([f"{S}  {a}"]), b""))
-        ran, calls = self.failing("openat", "EINTR", ["md5sum", a], only=a, when=FEW, timeout=ENDLESS)
-        self.assertEqual(ran, Ran(0, as_bytes([f"{M}  {a}"]), b""))
+        self.assertEqual(ran, Ran(0, as_bytes([f"{SHA256_OF_ABC}  {a}"]), b""))
+        ran, calls = self.failing(
+            "openat", "EINTR", ["md5sum", a], only=a, when=FEW, timeout=ENDLESS
+        )
+        self.assertEqual(ran, Ran(0, as_bytes([f"{MD5_OF_ABC}  {a}"]), b""))
         self.assertEqual(len(calls), 1000)
 
 
@@ -75,8 +114,8 @@ class Calls(Traced):
         shows, writes = self.terminal()
         _, calls = self.traced("-e trace=write,writev", "md5sum a e a", stdout=writes)
         os.close(writes)
-        self.assertEqual(sizes(calls, 1), [len(f"{M}  a\n")] * 3)
-        self.shown(shows, [f"{M}  a", f"{E}  e", f"{M}  a"])
+        self.assertEqual(sizes(calls, 1), [len(f"{MD5_OF_ABC}  a\n")] * 3)
+        self.shown(shows, [f"{MD5_OF_ABC}  a", f"{MD5_OF_NOTHING}  e", f"{MD5_OF_ABC}  a"])
 
     def test_lines_around_the_buffer(self):
         """A line of up to 8,192 bytes is one write, and what is longer takes as few as can be."""
@@ -86,12 +125,17 @@ class Calls(Traced):
             ran, calls = self.traced("-e trace=write,writev", ["md5sum", "x", name, "x", "a"])
             whole, behind = divmod(length, 8192)
             short = len(X_MISSING) + 1
-            self.assertEqual(sizes(calls, 2), [short, *[8192] * whole, *[behind] * (behind > 0), short])
-            self.assertEqual(ran.err, as_bytes([X_MISSING, f"md5sum: {name}: File name too long", X_MISSING]))
+            self.assertEqual(
+                sizes(calls, 2), [short, *[8192] * whole, *[behind] * (behind > 0), short]
+            )
+            self.assertEqual(
+                ran.err, as_bytes([X_MISSING, f"md5sum: {name}: File name too long", X_MISSING])
+            )
 
     def test_a_million_escapes(self):
-        """A line of a manifest with a million escaped characters is written by the buffer, not by the character."""
-        self.write("l", [f"\\{M}  " + "\\\\" * 1000000, f"{M}  a"])
+        """A line of a manifest with a million escaped characters is written by the buffer, not by
+        the character."""
+        self.write("l", [f"\\{MD5_OF_ABC}  " + "\\\\" * 1000000, f"{MD5_OF_ABC}  a"])
         ran, calls = self.traced("-e trace=write,writev", "md5sum -c l")
         report = as_bytes(["\\" + "\\\\" * 1000000 + ": FAILED open or read", "a: OK"])
         fault = as_bytes(["md5sum: " + "\\\\" * 1000000 + ": File name too long", unread(1)])
@@ -100,11 +144,12 @@ class Calls(Traced):
         self.assertLessEqual(len(calls), (len(report) + len(fault)) // 8192 + 4)
 
     def test_outputs_that_take_nothing(self):
-        """`md5sum x 2>/dev/full` tries to report the file and then the write error, and no more. `md5sum a a a
-        >/dev/full` tries one line, and reports the write error in one write."""
+        """`md5sum x 2>/dev/full` tries to report the file and then the write error, and no more.
+        `md5sum a a a >/dev/full` tries one line, and reports the write error in one write."""
         for words in ("md5sum x", "md5sum x x x", "md5sum --foo", "shasum"):
-            ran, calls = self.traced("-e trace=write,writev", words, stderr=self.full())
-            self.assertEqual(ran.status, 1)
-            self.assertLessEqual(len(calls), 2)
+            with self.subTest(words=words):
+                ran, calls = self.traced("-e trace=write,writev", words, stderr=self.full())
+                self.assertEqual(ran.status, 1)
+                self.assertLessEqual(len(calls), 2)
         ran, calls = self.traced("-e trace=write,writev", "md5sum a a a", stdout=self.full())
         self.assertEqual((ran, len(calls)), (Ran(1, b"", WRITE_ERROR), 2))

@@ -1,5 +1,5 @@
-"""The manual pages: what they say of options and of faults is what the program does. test_recipes.py types what they
-show."""
+"""The manual pages: what they say of options and of faults is what the program does.
+test_recipes.py types what they show."""
 
 import re
 
@@ -14,16 +14,28 @@ class Pages(Case):
     of_the_repository = True
 
     def test_options(self):
-        """Each option of the help is there, except those that anysum never takes; and each group has the options that
-        the program takes there."""
+        """Each option of the help is there, except those that anysum never takes; and each group
+        has the options that the program takes there."""
         for tool in NAMES:
-            helped = set(re.findall(rb"(?m)^ {2,6}(?:-\w, )?--([a-z-]+)", self.run_words([tool, "--help"]).out))
+            helped = set(
+                re.findall(
+                    rb"(?m)^ {2,6}(?:-\w, )?--([a-z-]+)", self.run_words([tool, "--help"]).out
+                )
+            )
             parts = re.split(r"Only (with(?:out)?) --check:", sections_of(tool)["OPTIONS"])
             groups = {"": parts[0], **dict(zip(parts[1::2], parts[2::2]))}
-            for where, wanted in (("", (True, True)), ("without", (True, False)), ("with", (False, True))):
-                for long, value in re.findall(r"(?m)^\.TP\n(?:-.*, )?--([a-z-]+)(=?)", groups.get(where, "")):
+            for where, wanted in (
+                ("", (True, True)),
+                ("without", (True, False)),
+                ("with", (False, True)),
+            ):
+                for long, value in re.findall(
+                    r"(?m)^\.TP\n(?:-.*, )?--([a-z-]+)(=?)", groups.get(where, "")
+                ):
                     word = f"--{long}=8" if value else f"--{long}"
-                    taken = takes(harness.PROGRAM, tool, word), takes(harness.PROGRAM, tool, "-c", word)
+                    taken = takes(harness.PROGRAM, tool, word), takes(
+                        harness.PROGRAM, tool, "-c", word
+                    )
                     self.assertEqual(taken, wanted, (tool, word))
                     helped.remove(long.encode())
             self.assertEqual(bool(helped), tool == "anysum", (tool, helped))
@@ -36,22 +48,38 @@ class Said(Case):
     """What the program says on standard error is in the DIAGNOSTICS of its page."""
 
     def marks(self):
-        """What a line may be, as patterns: names in capitals are names of others; a reason is one of the reference."""
-        marks = [re.sub(r"\b(?:TOOL|FILE|NAME|N|TAG)\b", ".*", re.escape(mark))
-                 for mark in re.findall(r"(?m)^\.TP\n(.*)$", sections_of("digests")["DIAGNOSTICS"])]
-        return [mark.replace("REASON", f"(?:{b'|'.join(REASONS.values()).decode()})") for mark in marks]
+        """Returns what a line may be, as patterns: names in capitals are names of others; a reason
+        is one of the reference."""
+        marks = [
+            re.sub(r"\b(?:TOOL|FILE|NAME|N|TAG)\b", ".*", re.escape(mark))
+            for mark in re.findall(r"(?m)^\.TP\n(.*)$", sections_of("digests")["DIAGNOSTICS"])
+        ]
+        return [
+            mark.replace("REASON", f"(?:{b'|'.join(REASONS.values()).decode()})") for mark in marks
+        ]
 
     def said_by(self, tool):
-        """Lines for each diagnostic that can be had without refusing memory or permission."""
+        """Returns lines for each diagnostic that can be had without refusing memory or
+        permission."""
         tag, digits, _ = harness.TOOLS[tool]
         self.write("list", f"bad\n{tag} (x) = {digits}\n")
         self.write("missing", f"{tag} (x) = {digits}\n")
-        runs = [["x"], [b"\xff"], ["-c", "-w", "list"], ["-c", "e"], ["-c", "--ignore-missing", "missing"], ["--other"]]
-        said = b"".join(self.run_words([tool, *words]).err for words in runs)
-        said += self.run_words(["other"]).err
-        said += self.run_words([tool, "a"], stdout=self.full()).err
-        return [line for line in said.decode(errors="replace").splitlines()
-                if not line.startswith("Try '") and "WARNING: 1 line is" not in line]
+        runs = [
+            ["x"],
+            [b"\xff"],
+            ["-c", "-w", "list"],
+            ["-c", "e"],
+            ["-c", "--ignore-missing", "missing"],
+            ["--other"],
+        ]
+        messages = b"".join(self.run_words([tool, *words]).err for words in runs)
+        messages += self.run_words(["other"]).err
+        messages += self.run_words([tool, "a"], stdout=self.full()).err
+        return [
+            line
+            for line in messages.decode(errors="replace").splitlines()
+            if not line.startswith("Try '") and "WARNING: 1 line is" not in line
+        ]
 
     def test_each(self):
         for tool in harness.TOOLS:
@@ -61,5 +89,12 @@ class Said(Case):
                 self.assertNotEqual(fitting, [], line)
                 found.update(fitting)
             missing = [mark for mark in self.marks() if mark not in found]
-            self.assertEqual([re.sub(r"\W", "", mark) for mark in missing], [
-                "Inputoutputerror", "memoryexhausted", "digestswordsnotread", "thismachinelacksafeatureofx8664v3"])
+            self.assertEqual(
+                [re.sub(r"\W", "", mark) for mark in missing],
+                [
+                    "Inputoutputerror",
+                    "memoryexhausted",
+                    "digestswordsnotread",
+                    "thismachinelacksafeatureofx8664v3",
+                ],
+            )

@@ -1,5 +1,5 @@
-"""Why a file can't be read: the program gives the system's reason wherever it names the file, as GNU's md5sum does.
-Only a file that isn't there is missing."""
+"""Why a file can't be read: the program gives the system's reason wherever it names the file, as
+GNU's md5sum does. Only a file that isn't there is missing."""
 
 import errno
 import itertools
@@ -11,17 +11,44 @@ import stat
 import subprocess
 
 import harness
-from harness import M, Case, Ran, as_bytes, gnu, text_of
+from harness import MD5_OF_ABC, Case, Ran, as_bytes, gnu, text_of
 from reference import NOT_FOUND, OTHER, REASONS
 from tracing import needs_strace, strace
 
 # Names under which no file can be read, and why; and what the system may say besides.
-NAMES = {"d": errno.EISDIR, "d/": errno.EISDIR, "a/": errno.ENOTDIR, "a/.": errno.ENOTDIR, "a/x": errno.ENOTDIR,
-         "loop": errno.ELOOP, "loop/x": errno.ELOOP, "n" * 300: errno.ENAMETOOLONG, "d/" * 3000: errno.ENAMETOOLONG,
-         "s": errno.ENXIO, "shut": errno.EACCES, "closed/x": errno.EACCES, "x": errno.ENOENT, "d/x": errno.ENOENT}
+NAMES = {
+    "d": errno.EISDIR,
+    "d/": errno.EISDIR,
+    "a/": errno.ENOTDIR,
+    "a/.": errno.ENOTDIR,
+    "a/x": errno.ENOTDIR,
+    "loop": errno.ELOOP,
+    "loop/x": errno.ELOOP,
+    "n" * 300: errno.ENAMETOOLONG,
+    "d/" * 3000: errno.ENAMETOOLONG,
+    "s": errno.ENXIO,
+    "shut": errno.EACCES,
+    "closed/x": errno.EACCES,
+    "x": errno.ENOENT,
+    "d/x": errno.ENOENT,
+}
 # What an opening or a read may fail by besides: some numbers, EIO, and one that has no text.
-FAILURES = (errno.EPERM, errno.ENOENT, errno.ENOMEM, errno.EMFILE, errno.EAGAIN, errno.EUCLEAN, errno.ENOKEY,
-            errno.ENOTCONN, errno.ETIMEDOUT, errno.EHOSTDOWN, errno.ESTALE, errno.EREMOTEIO, errno.EIO, 41)
+FAILURES = (
+    errno.EPERM,
+    errno.ENOENT,
+    errno.ENOMEM,
+    errno.EMFILE,
+    errno.EAGAIN,
+    errno.EUCLEAN,
+    errno.ENOKEY,
+    errno.ENOTCONN,
+    errno.ETIMEDOUT,
+    errno.EHOSTDOWN,
+    errno.ESTALE,
+    errno.EREMOTEIO,
+    errno.EIO,
+    41,
+)
 
 
 class Reasons(Case):
@@ -46,21 +73,32 @@ class Reasons(Case):
         return self.run_command([*front, "md5sum", *words.split(" ")], env=env, **how)
 
     def expect_each(self, name, reason, missing=False, opened=False, alike=True, last=b"", **how):
-        """Names what can't be read as an operand, a list and a listed file, with the settings that could hide it. Where
-        both tools are `alike`, theirs says the same, and this line at its `last`; but of a list that could be `opened`
-        it says `read error`."""
+        """Expects this reason of a name that can't be read: as an operand, a list and a listed
+        file, with the settings that could hide it. If both tools are `alike`, GNU's says the same,
+        and this line at its `last`; but of a list that could be `opened` it says `read error`."""
         reason = reason.decode()
-        fault, unread = f"md5sum: {name}: {reason}", "md5sum: WARNING: 1 listed file could not be read"
+        fault, unread = (
+            f"md5sum: {name}: {reason}",
+            "md5sum: WARNING: 1 listed file could not be read",
+        )
         of_list = fault.replace("md5sum: -:", "md5sum: standard input:")
         reports = [f"{name}: FAILED open or read", "a: OK"]
-        self.write("l", [f"{M}  {name}", f"{M}  a"])
+        self.write("l", [f"{MD5_OF_ABC}  {name}", f"{MD5_OF_ABC}  a"])
         for words, status, out, err in (
-                (f"{name} a", 1, [f"{M}  a"], [fault]), (f"-c {name}", 1, [], [of_list]),
-                (f"-c --status --ignore-missing {name}", 1, [], [of_list]), ("-c l", 1, reports, [fault, unread]),
-                ("-c --status l", 1, [], [fault]),
-                ("-c --ignore-missing l", *((0, ["a: OK"], []) if missing else (1, reports, [fault, unread])))):
+            (f"{name} a", 1, [f"{MD5_OF_ABC}  a"], [fault]),
+            (f"-c {name}", 1, [], [of_list]),
+            (f"-c --status --ignore-missing {name}", 1, [], [of_list]),
+            ("-c l", 1, reports, [fault, unread]),
+            ("-c --status l", 1, [], [fault]),
+            (
+                "-c --ignore-missing l",
+                *((0, ["a: OK"], []) if missing else (1, reports, [fault, unread])),
+            ),
+        ):
             wanted = Ran(status, as_bytes(out), as_bytes(err))
-            ours, *theirs = (self.run_tool(folder, words, **how) for folder in self.tools[:1 + alike])
+            ours, *theirs = (
+                self.run_tool(folder, words, **how) for folder in self.tools[: 1 + alike]
+            )
             self.assertEqual(ours, wanted, words)
             if theirs and (words.endswith((" a", " l")) or not opened):
                 self.assertEqual(theirs, [wanted._replace(err=wanted.err + last)], words)
@@ -71,47 +109,82 @@ class Reasons(Case):
             self.expect_each(name, REASONS[number], missing, opened, **self.nobody())
 
     def test_standard_input(self):
-        """A directory, a file that is open for writing alone, a pipe and a terminal that have nothing yet and don't
-        wait, a terminal whose other side is closed, and a closed standard input."""
+        """A directory, a file that is open for writing alone, a pipe and a terminal that have
+        nothing yet and don't wait, a terminal whose other side is closed, and a closed standard
+        input."""
         pipe, feed = os.pipe()
         shows, terminal = pty.openpty()
-        folder, written = os.open(self.folder, os.O_RDONLY), os.open(self.path("w"), os.O_WRONLY | os.O_CREAT)
+        folder, written = os.open(self.folder, os.O_RDONLY), os.open(
+            self.path("w"), os.O_WRONLY | os.O_CREAT
+        )
         for opened in (pipe, feed, shows, terminal, folder, written):
             os.set_blocking(opened, False)
             self.addCleanup(os.close, opened)
-        for stdin, number in ((folder, errno.EISDIR), (written, errno.EBADF), (pipe, errno.EAGAIN),
-                              (terminal, errno.EAGAIN), (self.broken_input(""), errno.EIO)):
-            self.expect_each("-", REASONS.get(number, OTHER), opened=True, stdin=stdin)
+        for stdin, number in (
+            (folder, errno.EISDIR),
+            (written, errno.EBADF),
+            (pipe, errno.EAGAIN),
+            (terminal, errno.EAGAIN),
+            (self.broken_input(""), errno.EIO),
+        ):
+            with self.subTest(number=number):
+                self.expect_each("-", REASONS.get(number, OTHER), opened=True, stdin=stdin)
         reason = REASONS[errno.EBADF]
-        self.expect_each("-", reason, opened=True, last=b"md5sum: standard input: %s\n" % reason,
-                         stdin=subprocess.DEVNULL, preexec_fn=lambda: os.close(0))
+        self.expect_each(
+            "-",
+            reason,
+            opened=True,
+            last=b"md5sum: standard input: %s\n" % reason,
+            stdin=subprocess.DEVNULL,
+            preexec_fn=lambda: os.close(0),
+        )
 
     def test_table(self):
-        """The definitions have just the C library's texts, and the code is proved to have the definitions'. A line of
-        the table that ends with a number begins with the text of that number."""
-        definitions = text_of("crates", "sum_sources", "specs", "Faults.antt")
+        """The definitions have just the C library's texts, and the code is proved to have the
+        definitions'. A line of the table that ends with a number begins with the text of that
+        number."""
+        definitions = text_of("crates", "sum_sources", "specs", "Fault.antt")
         found = []
-        for line in re.search(r"(?s)\nreasons = .*?\n(.*?)\n\n", definitions)[1].splitlines():
+        for line in re.search(r"(?s)\nreason_table = .*?\n(.*?)\n\n", definitions)[1].splitlines():
             self.assertIn(line.partition("  -- ")[2], ("", str(len(found))))
             found += re.findall(r'"(.*?)" ∷', line)
-        self.assertEqual({number: text.encode() for number, text in enumerate(found) if text}
-                         | {errno.ENOENT: NOT_FOUND, errno.EACCES: REASONS[errno.EACCES]}, REASONS)
+        self.assertEqual(
+            {number: text.encode() for number, text in enumerate(found) if text}
+            | {errno.ENOENT: NOT_FOUND, errno.EACCES: REASONS[errno.EACCES]},
+            REASONS,
+        )
 
     @needs_strace
     def test_numbers(self):
-        """Each number of the system, of an opening and a read; some of them wherever the file is named, as GNU's tool
-        says it. A number without a text of its own is an input/output error. What is interrupted is tried again: an
-        opening without an end, a read up to a limit."""
+        """Each number of the system, of an opening and a read; some of them wherever the file is
+        named, as GNU's tool says it. A number without a text of its own is an input/output error.
+        What is interrupted is tried again: an opening without an end, a read up to a limit."""
         path = os.fsdecode(self.path("f"))
         self.write("f", "abc")
         for number, call in itertools.product(range(1, 141), ("openat", "read")):
             if (number, call) == (errno.EINTR, "openat"):
                 continue
-            front, opened = [strace(), "-qq", "-o", os.devnull, "-P", path, "-e", f"trace={call}", "-e",
-                             f"inject={call}:error={number}"], call == "read"
+            front, opened = [
+                strace(),
+                "-qq",
+                "-o",
+                os.devnull,
+                "-P",
+                path,
+                "-e",
+                f"trace={call}",
+                "-e",
+                f"inject={call}:error={number}",
+            ], call == "read"
             reason = OTHER if number == errno.EINTR else REASONS.get(number, OTHER)
             ran = self.run_tool(self.folder, path, front)
             self.assertEqual(ran, Ran(1, b"", b"md5sum: %s: %s\n" % (os.fsencode(path), reason)))
             if number in FAILURES:
-                self.expect_each(path, reason, missing=number == errno.ENOENT and not opened, opened=opened,
-                                 alike=reason.decode() == os.strerror(number), front=front)
+                self.expect_each(
+                    path,
+                    reason,
+                    missing=number == errno.ENOENT and not opened,
+                    opened=opened,
+                    alike=reason.decode() == os.strerror(number),
+                    front=front,
+                )

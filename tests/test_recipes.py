@@ -1,5 +1,6 @@
-"""The commands that the manual pages show. Each recipe and example is typed as it is there, over trees in which all is
-well and over others. Its status is 0 only if everything that it is for was done."""
+"""The commands that the manual pages show. Each recipe and example is typed as it is there, over
+trees in which all is well and over others. Its status is 0 only if everything that it is for was
+done."""
 
 import os
 import re
@@ -9,7 +10,14 @@ from harness import NAMES, TOOLS, hasher
 from manual import sections_of
 from recipes import BOTH, GOOD, IMAGE, OF_BASH, SHELLS, Typed, line_of, recipes_of
 
-BAD = [b"./bad\xff", b"./bad\nline\xff", b"./\xffnew\nline", b"./\xc0\x80", b"./\xed\xa0\x80", b"./bad\xff folder/a"]
+BAD = [
+    b"./bad\xff",
+    b"./bad\nline\xff",
+    b"./\xffnew\nline",
+    b"./\xc0\x80",
+    b"./\xed\xa0\x80",
+    b"./bad\xff folder/a",
+]
 
 
 class Recipes(Typed):
@@ -18,9 +26,10 @@ class Recipes(Typed):
         self.replace_gpg_and_pv()
 
     def report(self, sort, verdict):
-        """What a check writes of image.iso."""
+        """Returns what a check writes of image.iso."""
         name = {"check": "image.iso", "check by pv": "-"}.get(sort, "./image.iso")
-        if sort == "check names" or verdict == "OK" and sort.startswith("check list"):  # only what doesn't match
+        # These say only what doesn't match.
+        if sort == "check names" or verdict == "OK" and sort.startswith("check list"):
             return b"" if verdict == "OK" else b"./image.iso\0"
         return f"{name}: {verdict}\n".encode() * (2 if sort == "check" else 1)
 
@@ -28,24 +37,35 @@ class Recipes(Typed):
         """Each recipe is typed in bash, and in the others unless it says that it is for bash."""
         section = sections_of("digests")["EXAMPLES"]
         for recipe, sort in recipes_of("digests"):
-            before = " ".join(section.partition(recipe)[0].rpartition(".fi\n")[2].split())
-            self.assertEqual("in bash(1)" in before, bool(OF_BASH.search(recipe)), sort)
+            with self.subTest(recipe=recipe):
+                before = " ".join(section.partition(recipe)[0].rpartition(".fi\n")[2].split())
+                self.assertEqual("in bash(1)" in before, bool(OF_BASH.search(recipe)), sort)
         missing = [shell for shell in SHELLS if shutil.which(shell) is None]
         if missing:
             self.skipTest(f"no recipe is typed in {' and '.join(missing)}: not installed")
 
     def test_good_names(self):
-        """All recipes, in the page's order: lists are as the standards say, and each check passes."""
+        """All recipes, in the page's order: lists are as the standards say, and each check
+        passes."""
         self.make()
         os.symlink("c", self.path("here/some folder/link"))  # which no list has, nor a pipe
         os.mkfifo(self.path("here/some folder/pipe"))
         for recipe, sort, shell in self.each_recipe():
-            self.passes(recipe, self.report(sort, "OK") if sort.startswith("check") else b"", shell)
-            if sort.startswith("list"):
-                self.expect_lines("SUMS", [line_of("sha256sum", *file) for file in self.files_of_the_tree().items()])
-            elif sort.startswith("write"):
-                self.expect_lines("image.sum", BOTH if sort == "write at once" else [line_of("sha256sum", b"-", IMAGE)])
-            self.expect_only("image.sum")
+            with self.subTest(recipe=recipe):
+                self.passes(
+                    recipe, self.report(sort, "OK") if sort.startswith("check") else b"", shell
+                )
+                if sort.startswith("list"):
+                    self.expect_lines(
+                        "SUMS",
+                        [line_of("sha256sum", *file) for file in self.files_of_the_tree().items()],
+                    )
+                elif sort.startswith("write"):
+                    self.expect_lines(
+                        "image.sum",
+                        BOTH if sort == "write at once" else [line_of("sha256sum", b"-", IMAGE)],
+                    )
+                self.expect_only("image.sum")
 
     def test_files_that_cannot_be_read(self):
         """A list without them never gets its name, and a whole one of before stays."""
@@ -55,10 +75,13 @@ class Recipes(Typed):
         for name in BAD:  # names that aren't UTF-8
             self.put(name)
         for recipe, _, shell in self.each_recipe("list", "list on all"):
-            self.assertNotEqual(self.fails(recipe, shell).err, b"")
-            self.assertEqual(self.read("here/SUMS"), before)
+            with self.subTest(recipe=recipe):
+                self.assertNotEqual(self.fails(recipe, shell).err, b"")
+                self.assertEqual(self.read("here/SUMS"), before)
         ran = self.fails(self.recipe("not UTF-8"))
-        self.assertEqual((sorted(ran.out.splitlines()), ran.err), (sorted(b"\n".join(BAD).splitlines()), b""))
+        self.assertEqual(
+            (sorted(ran.out.splitlines()), ran.err), (sorted(b"\n".join(BAD).splitlines()), b"")
+        )
         self.command("sed", 'export LC_ALL=C; real "$@"')  # which takes any byte for a character
         self.fails(self.recipe("not UTF-8"))
         self.restore("sed")
@@ -101,9 +124,15 @@ class Recipes(Typed):
                 self.passes(recipe, shell=shell)
 
     def test_names_as_they_are(self):
-        """Those of files that don't match, in any locale, and even if they look like reports or aren't UTF-8. A line of
-        another form, which the tool doesn't write, makes the status 1."""
-        names = [*(f"./{name}".encode() for name in GOOD), b"./a: FAILED", b"./a: FAILED open or read", b"./\xe2", *BAD]
+        """Those of files that don't match, in any locale, and even if they look like reports or
+        aren't UTF-8. A line of another form, which the tool doesn't write, makes the status 1."""
+        names = [
+            *(f"./{name}".encode() for name in GOOD),
+            b"./a: FAILED",
+            b"./a: FAILED open or read",
+            b"./\xe2",
+            *BAD,
+        ]
         self.make(good=False)
         self.put("SUMS", b"".join(line_of("sha256sum", name, b"") for name in names))
         for locale in ("C", "C.UTF-8"):
@@ -113,14 +142,21 @@ class Recipes(Typed):
         self.assertEqual(self.fails(self.recipe("check names")).out, b"")
 
     def test_a_list_of_others(self):
-        """A byte-order mark, and each tag of `openssl dgst`, `rhash --bsd` and uutils. Names stay as they are."""
+        """A byte-order mark, and each tag of `openssl dgst`, `rhash --bsd` and uutils. Names stay
+        as they are."""
         self.make(good=False)
         for name in ("a", "SHA1  (a)", "(a) = SHA2-"):
             for tool, (tag, _, _) in TOOLS.items():
                 digest = hasher(tag, name.encode()).hexdigest()
-                for front, back in (("\ufeff", ""), (f"\ufeff{tag}(", ")= "), (f"{tag:5} (".replace("2b", "2"), ") = "),
-                                    (re.sub("SHA(?!1)", "SHA2-", tag).replace("b", "B-512") + "(", ")= ")):
-                    line = f"{front}{name}{back}{digest}\n" if back else f"{front}{digest}  {name}\n"
+                for front, back in (
+                    ("\ufeff", ""),
+                    (f"\ufeff{tag}(", ")= "),
+                    (f"{tag:5} (".replace("2b", "2"), ") = "),
+                    (re.sub("SHA(?!1)", "SHA2-", tag).replace("b", "B-512") + "(", ")= "),
+                ):
+                    line = (
+                        f"{front}{name}{back}{digest}\n" if back else f"{front}{digest}  {name}\n"
+                    )
                     recipe = self.recipe("check list of others").replace("sha256sum", tool)
                     self.put("SUMS", line)
                     self.put(name, name)
@@ -140,32 +176,39 @@ class Recipes(Typed):
 
 class Examples(Typed):
     def each_tool(self):
-        """Each tool with a new tree, and the lines that come with downloads: of the image, and of another file."""
+        """Yields each tool with a new tree, and the lines that come with downloads: of the image,
+        and of another file."""
         for tool in NAMES:
             self.make()
             other = "b2sum" if tool == "anysum" else tool
-            yield tool, [line_of(other, name, IMAGE, tool == "anysum") for name in (b"image.iso", b"other.iso")]
+            yield tool, [
+                line_of(other, name, IMAGE, tool == "anysum")
+                for name in (b"image.iso", b"other.iso")
+            ]
 
     def test_good(self):
         for tool, lines in self.each_tool():
             wanted = {"anysum": BOTH}.get(tool, lines[:1])
             if tool == "b2sum":
-                wanted = [self.run_words(["b2sum", "-l", "256"], IMAGE).out.replace(b"-", b"image.iso")]
+                wanted = [
+                    self.run_words(["b2sum", "-l", "256"], IMAGE).out.replace(b"-", b"image.iso")
+                ]
             for recipe, sort, shell in self.each_recipe(page=tool):
-                if sort == "check download":
-                    self.put(recipe.split()[-1], b"".join(lines))
-                    self.passes(recipe, b"image.iso: OK\n", shell)
-                    os.remove(self.path(f"here/{recipe.split()[-1]}"))
-                elif sort == "check":
-                    self.passes(recipe, b"image.iso: OK\n" * len(wanted), shell)
-                else:
-                    self.passes(recipe, shell=shell)
-                    self.expect_lines("image.sum", wanted)
-                self.expect_only("image.sum")
+                with self.subTest(recipe=recipe):
+                    if sort == "check download":
+                        self.put(recipe.split()[-1], b"".join(lines))
+                        self.passes(recipe, b"image.iso: OK\n", shell)
+                        os.remove(self.path(f"here/{recipe.split()[-1]}"))
+                    elif sort == "check":
+                        self.passes(recipe, b"image.iso: OK\n" * len(wanted), shell)
+                    else:
+                        self.passes(recipe, shell=shell)
+                        self.expect_lines("image.sum", wanted)
+                    self.expect_only("image.sum")
 
     def test_bad(self):
-        """A changed file fails, and so does a list that isn't read whole, though all that is read matches: a mark
-        precedes its first line, or a tag is no tool's."""
+        """A changed file fails, and so does a list that isn't read whole, though all that is read
+        matches: a mark precedes its first line, or a tag is no tool's."""
         for tool, (line, _) in self.each_tool():
             for recipe, sort, shell in self.each_recipe("check", "check download", page=tool):
                 for first in (b"\xef\xbb\xbf" + line, b"SHA2-256 (image.iso) = 00\n"):
@@ -179,8 +222,9 @@ class Examples(Typed):
     def test_nothing_there(self):
         for tool, _ in self.each_tool():
             for recipe, sort, shell in self.each_recipe(page=tool):
-                self.make(good=False)
-                self.fails(recipe, shell)
-                if sort.startswith("check"):
-                    self.put(recipe.split()[-1], "")
-                    self.assertEqual(self.fails(recipe, shell).out, b"")
+                with self.subTest(recipe=recipe):
+                    self.make(good=False)
+                    self.fails(recipe, shell)
+                    if sort.startswith("check"):
+                        self.put(recipe.split()[-1], "")
+                        self.assertEqual(self.fails(recipe, shell).out, b"")

@@ -1,5 +1,6 @@
-"""Recipes of which something goes wrong while they run: a command fails or is killed, a file or the list changes, there
-is no space, or the whole run is ended. The status isn't 0, and a list of before is as it was, or new and whole."""
+"""Recipes of which something goes wrong while they run: a command fails or is killed, a file or the
+list changes, there is no space, or the whole run is ended. The status isn't 0, and a list of before
+is as it was, or new and whole."""
 
 import os
 import pty
@@ -12,19 +13,48 @@ from recipes import BOTH, IMAGE, Typed, commands_of, line_of
 
 NAMES = ["image.iso", "a b", "-x", "new\nline", "back\\slash", "some folder/c"]
 
-# What may happen to a command, by a script: it does nothing, or part or all of its work, and then fails or is killed.
-ENDS = ("exit 1", "kill -KILL $$", 'real "$@" | head -c 99; exit 1', 'real "$@"; exit 1', 'real "$@"; kill -KILL $$')
+# What may happen to a command, by a script: it does nothing, or part or all of its work, and then
+# fails or is killed.
+ENDS = (
+    "exit 1",
+    "kill -KILL $$",
+    'real "$@" | head -c 99; exit 1',
+    'real "$@"; exit 1',
+    'real "$@"; kill -KILL $$',
+)
 
-CHANGES = (': >SUMS; : >image.sum; real "$@"', 'usual rm -f SUMS image.sum; real "$@"',
-           'usual rm -f image.iso a*; real "$@"')
+CHANGES = (
+    ': >SUMS; : >image.sum; real "$@"',
+    'usual rm -f SUMS image.sum; real "$@"',
+    'usual rm -f image.iso a*; real "$@"',
+)
 
-# The list that a recipe makes; and those of its commands whose status is lost, because their output is looked at, or
-# because all is done before.
-MADE = {"list": "SUMS", "list on all": "SUMS", "write by pv": "image.sum", "write at once": "image.sum"}
-UNHEARD = {"list": {"rm"}, "list on all": {"rm", "nproc"}, "write by pv": {"rm"},
-           "write at once": {"rm", "wc", "digests"}}
-CHECKS = ("check", "check by pv", "check gpg", "check list", "check list on all", "check list of others", "check names",
-          "check one", "unlisted", "not UTF-8")
+# The list that a recipe makes; and those of its commands whose status is lost, because their output
+# is looked at, or because all is done before.
+MADE = {
+    "list": "SUMS",
+    "list on all": "SUMS",
+    "write by pv": "image.sum",
+    "write at once": "image.sum",
+}
+UNHEARD = {
+    "list": {"rm"},
+    "list on all": {"rm", "nproc"},
+    "write by pv": {"rm"},
+    "write at once": {"rm", "wc", "digests"},
+}
+CHECKS = (
+    "check",
+    "check by pv",
+    "check gpg",
+    "check list",
+    "check list on all",
+    "check list of others",
+    "check names",
+    "check one",
+    "unlisted",
+    "not UTF-8",
+)
 
 
 class Parts(Typed):
@@ -37,23 +67,26 @@ class Parts(Typed):
         self.put("image.sum", BOTH[0])
 
     def make_bad(self):
-        """Nothing passes a check now: the image has changed, a file isn't listed, and its name isn't UTF-8."""
+        """Makes a tree in which nothing passes a check: the image has changed, a file isn't listed,
+        and its name isn't UTF-8."""
         self.put("image.iso", IMAGE[:-1])
         self.put(b"not listed\xff")
 
     def wanted(self, sort):
-        """The lines of the list that a recipe makes."""
+        """Returns the lines of the list that a recipe makes."""
         if sort.startswith("list"):
             return self.lines_of_the_tree()
         return BOTH if sort == "write at once" else [line_of("sha256sum", b"-", IMAGE)]
 
     def expect_old_or_new(self, sort, status):
-        """The list is new and whole; or it is the one of before, and the status says so."""
-        there = self.read(f"here/{MADE[sort]}").splitlines(keepends=True)
-        self.assertTrue(sorted(there) == sorted(self.wanted(sort)) or status and there == [b"of before"], there)
+        """Expects a list that is new and whole; or the one of before, if the status says so."""
+        lines = sorted(self.read(f"here/{MADE[sort]}").splitlines(keepends=True))
+        good = [sorted(self.wanted(sort))] + ([[b"of before"]] if status else [])
+        self.assertIn(lines, good)
 
     def each_script(self, scripts, *sorts):
-        """Each recipe of these sorts with each of its commands replaced by each of the scripts."""
+        """Yields each recipe of these sorts with each of its commands replaced by each of the
+        scripts."""
         for recipe, sort, shell in self.each_recipe(*sorts):
             for command in commands_of(recipe):
                 for script in scripts:
@@ -65,7 +98,8 @@ class Parts(Typed):
     def test_a_command_of_a_check(self):
         self.make_bad()
         for recipe, _, shell, command in self.each_script(ENDS, *CHECKS):
-            self.assertNotEqual(self.type(recipe, shell).status, 0, command)
+            with self.subTest(recipe=recipe):
+                self.assertNotEqual(self.type(recipe, shell).status, 0, command)
 
     def test_a_command_that_makes_a_list(self):
         for recipe, sort, shell, command in self.each_script(ENDS, *MADE):
@@ -80,22 +114,31 @@ class Parts(Typed):
         here, saved = self.path("here"), self.path("saved")
         shutil.copytree(here, saved, symlinks=True)
         for recipe, _, shell, command in self.each_script(CHANGES, *CHECKS):
-            self.assertNotEqual(self.type(recipe, shell).status, 0, command)
-            shutil.rmtree(here)
-            shutil.copytree(saved, here, symlinks=True)
+            with self.subTest(recipe=recipe):
+                self.assertNotEqual(self.type(recipe, shell).status, 0, command)
+                shutil.rmtree(here)
+                shutil.copytree(saved, here, symlinks=True)
 
     def test_a_file_that_vanishes(self):
-        """It vanishes just before a command runs: a list is of the tree as it was before that, or after it."""
-        for recipe, sort, shell, command in self.each_script(['usual rm -f "a b"; real "$@"'], "list", "list on all"):
+        """It vanishes just before a command runs: a list is of the tree as it was before that, or
+        after it."""
+        for recipe, sort, shell, command in self.each_script(
+            ['usual rm -f "a b"; real "$@"'], "list", "list on all"
+        ):
             self.put("a b")
             self.put("SUMS", "of before")
             before = sorted(self.lines_of_the_tree())
             status = self.type(recipe, shell).status
-            there = sorted(self.read("here/SUMS").splitlines(keepends=True))
-            self.assertIn(there, [[b"of before"]] if status else [before, sorted(self.lines_of_the_tree())], command)
+            lines = sorted(self.read("here/SUMS").splitlines(keepends=True))
+            self.assertIn(
+                lines,
+                [[b"of before"]] if status else [before, sorted(self.lines_of_the_tree())],
+                command,
+            )
 
     def test_what_asks(self):
-        """At a terminal, a list that can't be written to is replaced, and no directory stays, even if aliases ask."""
+        """At a terminal, a list that can't be written to is replaced, and no directory stays, even
+        if aliases ask."""
         here = self.path("here")
         os.chmod(here, 0o777)
         for recipe, sort, shell in self.each_recipe(*MADE, "check gpg"):
@@ -105,10 +148,18 @@ class Parts(Typed):
                     os.chmod(self.path(f"here/{MADE[sort]}"), 0o444)
                 before = sorted(os.listdir(here))
                 answers, terminal = map(os.fdopen, pty.openpty(), ("wb", "rb"))
-                words = [shell, *["-O", "expand_aliases"] * (shell == "bash"), "-c", f'{aliases}eval "$1"', shell]
+                words = [
+                    shell,
+                    *["-O", "expand_aliases"] * (shell == "bash"),
+                    "-c",
+                    f'{aliases}eval "$1"',
+                    shell,
+                ]
                 with answers, terminal:
                     os.write(answers.fileno(), b"n\n" * 9)
-                    ran = self.run_command([*words, recipe], terminal, cwd=here, env=self.env, **self.nobody())
+                    ran = self.run_command(
+                        [*words, recipe], terminal, cwd=here, env=self.env, **self.nobody()
+                    )
                 self.assertEqual((ran.status, sorted(os.listdir(here))), (0, before), aliases)
                 if sort in MADE:
                     self.expect_old_or_new(sort, status=0)
@@ -122,27 +173,39 @@ class Parts(Typed):
             self.fails(recipe, shell, stdout=self.full())
         os.remove(self.path(b"here/not listed\xff"))
         for recipe, sort, shell in self.each_recipe(*MADE, "check gpg"):
-            self.put(MADE.get(sort, "image.sum"), "of before")
-            self.fails(recipe, shell, preexec_fn=limit("FSIZE", 40))
-            self.assertEqual(self.read(f"here/{MADE.get(sort, 'image.sum')}"), b"of before")
+            with self.subTest(recipe=recipe):
+                self.put(MADE.get(sort, "image.sum"), "of before")
+                self.fails(recipe, shell, preexec_fn=limit("FSIZE", 40))
+                self.assertEqual(self.read(f"here/{MADE.get(sort, 'image.sum')}"), b"of before")
 
     def test_the_end_of_a_run(self):
-        """A list of before is as it was, and nothing temporary is left, unless nothing could be removed any more."""
+        """A list of before is as it was, and nothing temporary is left, unless nothing could be
+        removed any more."""
         here = self.path("here")
         for recipe, sort, shell in self.each_recipe(*MADE, "check gpg"):
-            command = {"write by pv": "pv", "write at once": "tee", "check gpg": "gpg"}.get(sort, "find")
+            command = {"write by pv": "pv", "write at once": "tee", "check gpg": "gpg"}.get(
+                sort, "find"
+            )
             begun = self.path(f"commands/{command}.begun")
             for number in (signal.SIGHUP, signal.SIGINT, signal.SIGTERM, signal.SIGKILL):
                 self.command(command, f': >"$0.begun"; exec sleep {RUN_SECONDS}')
                 self.put(MADE.get(sort, "image.sum"), "of before")
                 before = sorted(os.listdir(here))
-                started = subprocess.Popen([shell, "-c", recipe], cwd=here, env=self.env, start_new_session=True,
-                                           stderr=subprocess.DEVNULL)
+                started = subprocess.Popen(
+                    [shell, "-c", recipe],
+                    cwd=here,
+                    env=self.env,
+                    start_new_session=True,
+                    stderr=subprocess.DEVNULL,
+                )
                 self.until(lambda: os.path.exists(begun), f"{command} is called by {recipe}")
                 self.assertGreater(len(os.listdir(here)), len(before))
                 os.killpg(started.pid, number)
                 self.assertNotEqual(started.wait(), 0)
                 if number != signal.SIGKILL:
-                    self.until(lambda: sorted(os.listdir(here)) == before, f"{number} leaves nothing of {recipe}")
+                    self.until(
+                        lambda: sorted(os.listdir(here)) == before,
+                        f"{number} leaves nothing of {recipe}",
+                    )
                 self.assertEqual(self.read(f"here/{MADE.get(sort, 'image.sum')}"), b"of before")
                 os.remove(begun)

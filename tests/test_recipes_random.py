@@ -1,5 +1,6 @@
-"""Recipes over trees and lists at random: the status is 0 only if Python, which reads list and files itself, finds that
-all is good. Trees are new each day, or those of `--seed`; 40 of them are tried with `--cases 4000`."""
+"""Recipes over trees and lists at random: the status is 0 only if Python, which reads list and
+files itself, finds that all is good. Trees are new each day, or those of `--seed`; 40 of them are
+tried with `--cases 4000`."""
 
 import os
 import random
@@ -9,13 +10,50 @@ import types
 import harness
 import reference
 from recipes import Typed, line_of
+from sources import TOP
 
-PIECES = [b"a", b"b", b"-", b" ", b"\t", b"\n", b"\r", b"\\", b"n", b"*", b"'", b'"', b"$a", b"`", b"#", b"(", b")",
-          b"=", b": FAILED", b"SUMS.", "é".encode(), b"\xff"]
+PIECES = [
+    b"a",
+    b"b",
+    b"-",
+    b" ",
+    b"\t",
+    b"\n",
+    b"\r",
+    b"\\",
+    b"n",
+    b"*",
+    b"'",
+    b'"',
+    b"$a",
+    b"`",
+    b"#",
+    b"(",
+    b")",
+    b"=",
+    b": FAILED",
+    b"SUMS.",
+    "é".encode(),
+    b"\xff",
+]
 CONTENTS = [b"", b"abc", b"abc\n", bytes(range(256)) * 40]
 
 # What is put into a list in the place of some of its bytes.
-DAMAGE = [b"", b"\n", b" ", b"  ", b"\\", b"*", b"\0", b"\r\n", b"#", b"0", b"/", b"\xff", b"\xef\xbb\xbf"]
+DAMAGE = [
+    b"",
+    b"\n",
+    b" ",
+    b"  ",
+    b"\\",
+    b"*",
+    b"\0",
+    b"\r\n",
+    b"#",
+    b"0",
+    b"/",
+    b"\xff",
+    b"\xef\xbb\xbf",
+]
 
 STRICT = types.SimpleNamespace(strict=True, ignore_missing=False, report="quiet")
 
@@ -29,11 +67,13 @@ class AtRandom(Typed):
         super().setUp()
         self.command("pv", 'exec cat "$@"')
         self.command("gpg", 'exec cat >"$2"')  # which accepts any list
-        self.addCleanup(os.chdir, harness.TOP)
+        self.addCleanup(os.chdir, TOP)
 
     def change_a_file(self):
         """Makes, changes or removes a file."""
-        parts = [b"".join(self.random.choices(PIECES, k=self.random.randint(1, 4))) for _ in range(2)]
+        parts = [
+            b"".join(self.random.choices(PIECES, k=self.random.randint(1, 4))) for _ in range(2)
+        ]
         name = self.random.choice([b"image.iso", parts[0], b"/".join(parts)])
         try:
             self.put(name, self.random.choice(CONTENTS))
@@ -43,16 +83,26 @@ class AtRandom(Typed):
             pass
 
     def damaged(self, content):
-        """A list without some of its bytes, with others, or with lines of other forms."""
+        """Returns a list without some of its bytes, with others, or with lines of other forms."""
         start, lines = self.random.randint(0, len(content)), content.splitlines(keepends=True)
         end = start + self.random.choice([0, 1, 2, 70])
-        return self.random.choice([
-            content[:start], content.removesuffix(b"\n"), b"".join(lines[1:]), b"".join(reversed(lines)),
-            content.replace(b"\n", b"\r\n"), content.replace(b"  ", b" "), content.replace(b"  ", b" ", 1),
-            content.replace(b"\\\\", b"\\"), *[content[:start] + self.random.choice(DAMAGE) + content[end:]] * 8])
+        return self.random.choice(
+            [
+                content[:start],
+                content.removesuffix(b"\n"),
+                b"".join(lines[1:]),
+                b"".join(reversed(lines)),
+                content.replace(b"\n", b"\r\n"),
+                content.replace(b"  ", b" "),
+                content.replace(b"  ", b" ", 1),
+                content.replace(b"\\\\", b"\\"),
+                *[content[:start] + self.random.choice(DAMAGE) + content[end:]] * 8,
+            ]
+        )
 
     def cases(self):
-        """For each seed a tree, and lists of it; and whether both are as the recipes are for them."""
+        """For each seed a tree, and lists of it; and whether both are as the recipes are for
+        them."""
         for seed in range(harness.SEED, harness.SEED + harness.CASES // 100):
             self.random = random.Random(seed)
             self.make(good=False)
@@ -62,8 +112,12 @@ class AtRandom(Typed):
                 self.change_a_file()
             self.put("image.iso", image := self.random.choice(CONTENTS))
             self.lists = {
-                "check by pv": line_of("sha256sum", b"-", image), "SUMS": b"".join(self.lines_of_the_tree()),
-                "check": b"".join(line_of(tool, b"image.iso", image, True) for tool in ("sha256sum", "b2sum"))}
+                "check by pv": line_of("sha256sum", b"-", image),
+                "SUMS": b"".join(self.lines_of_the_tree()),
+                "check": b"".join(
+                    line_of(tool, b"image.iso", image, True) for tool in ("sha256sum", "b2sum")
+                ),
+            }
             changes, damages = self.random.choice([(0, 0), (0, 0), (1, 0), (0, 1), (0, 2), (1, 1)])
             for _ in range(damages):
                 self.lists = {sort: self.damaged(content) for sort, content in self.lists.items()}
@@ -72,21 +126,25 @@ class AtRandom(Typed):
             yield seed, not changes + damages and all(map(is_text, self.files_of_the_tree()))
 
     def is_good(self, tool, content):
-        """Whether a list has a line, all are proper, and all files match, the image being standard input."""
+        """Returns whether a list has a line, all are proper, and all files match, the image being
+        standard input."""
         self.write("list", content)
         world = reference.World(self.read("here/image.iso") if self.is_there("image.iso") else b"")
         return reference.checked(tool, STRICT, [self.path("list")], world).status == 0
 
     def is_done(self, sort):
-        """Whether all that a recipe of this sort is for is good, or was done."""
-        files, there = self.files_of_the_tree(), self.read("here/SUMS")
-        image, texts = files.get(b"./image.iso"), reference.lines(there)
+        """Returns whether all that a recipe of this sort is for is good, or was done."""
+        files, listed = self.files_of_the_tree(), self.read("here/SUMS")
+        image, texts = files.get(b"./image.iso"), reference.lines(listed)
         if sort.startswith("list"):
-            is_whole = sorted(there.splitlines(keepends=True)) == sorted(self.lines_of_the_tree())
+            is_whole = sorted(listed.splitlines(keepends=True)) == sorted(self.lines_of_the_tree())
             return is_whole and all(map(is_text, files))
         if sort.startswith("write"):
-            made = [line_of("sha256sum", b"-", image)] if sort == "write by pv" else [
-                line_of(tool, b"image.iso", image, True) for tool in ("sha256sum", "b2sum")]
+            made = (
+                [line_of("sha256sum", b"-", image)]
+                if sort == "write by pv"
+                else [line_of(tool, b"image.iso", image, True) for tool in ("sha256sum", "b2sum")]
+            )
             return sorted(self.read("here/image.sum").splitlines(keepends=True)) == sorted(made)
         if sort == "check one":
             found = {text for text in texts if re.fullmatch(rb"[0-9a-f]*  \./image\.iso", text)}
@@ -98,8 +156,10 @@ class AtRandom(Typed):
         if sort == "not UTF-8":
             return all(map(is_text, files))
         if sort == "check list of others":
-            there = re.sub(rb"(?m)^SHA2-", b"SHA", re.sub(rb"\A\xef\xbb\xbf", b"", there))
-        return self.is_good("anysum" if sort == "check" else "sha256sum", self.lists.get(sort, there))
+            listed = re.sub(rb"(?m)^SHA2-", b"SHA", re.sub(rb"\A\xef\xbb\xbf", b"", listed))
+        return self.is_good(
+            "anysum" if sort == "check" else "sha256sum", self.lists.get(sort, listed)
+        )
 
     def test_all(self):
         for seed, is_as_meant in self.cases():

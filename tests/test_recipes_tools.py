@@ -1,4 +1,5 @@
-"""Recipes that call gpg or pv, with the real ones: what is signed or not signed, and what can't be read."""
+"""Recipes that call gpg or pv, with the real ones: what is signed or not signed, and what can't be
+read."""
 
 import os
 import random
@@ -9,7 +10,8 @@ from recipes import IMAGE, Typed, line_of
 
 
 class Signed(Typed):
-    """There are two signers, each with keys in a directory of their own. A reader has the key of the first."""
+    """There are two signers, each with keys in a directory of their own. A reader has the key of
+    the first."""
 
     OUT = b"./-x: OK\n./a b: OK\n./image.iso: OK\n"
 
@@ -23,38 +25,54 @@ class Signed(Typed):
         self.lines = self.lines_of_the_tree()
         for name in ("signer", "other", "reader"):
             os.mkdir(self.path(name), 0o700)
-            self.addCleanup(self.run_command, ["gpgconf", "--homedir", self.path(name), "--kill", "all"])
+            self.addCleanup(
+                self.run_command, ["gpgconf", "--homedir", self.path(name), "--kill", "all"]
+            )
             self.gpg(name, "--quick-generate-key", name, "future-default", "default", "never")
         self.gpg("reader", "--import", stdin=self.gpg("signer", "--export"))
         self.env["GNUPGHOME"] = os.fsdecode(self.path("reader"))
         self.signed = self.gpg("signer", "--clear-sign", stdin=b"".join(self.lines))
 
     def gpg(self, name, *words, stdin=b""):
-        """What gpg writes with the keys of somebody."""
-        ran = self.run_command(["gpg", "--homedir", self.path(name), "--batch", "--passphrase", "", *words], stdin)
+        """Returns what gpg writes with the keys of somebody."""
+        ran = self.run_command(
+            ["gpg", "--homedir", self.path(name), "--batch", "--passphrase", "", *words], stdin
+        )
         self.assertEqual(ran.status, 0, ran.err)
         return ran.out
 
     def rows(self):
-        """What mustn't be accepted, though all that is listed is good: a row has its name and what SUMS.asc holds."""
+        """Yields what mustn't be accepted, though all that is listed is good: a row has its name
+        and what SUMS.asc holds."""
         whole = b"".join(self.lines)
         stored = self.gpg("other", "--armor", "--store", stdin=whole)
         yield "by a key that the reader hasn't", self.gpg("other", "--clear-sign", stdin=whole)
         yield "not signed", whole
         yield "stored without a signature", self.gpg("other", "--store", stdin=whole)
         yield "stored without a signature, as text", stored
-        yield "encrypted to the reader", self.gpg("reader", "--recipient", "reader", "--encrypt", stdin=whole)
-        yield "encrypted", self.gpg("other", "--pinentry-mode", "loopback", "--passphrase", "x", "-c", stdin=whole)
+        yield "encrypted to the reader", self.gpg(
+            "reader", "--recipient", "reader", "--encrypt", stdin=whole
+        )
+        yield "encrypted", self.gpg(
+            "other", "--pinentry-mode", "loopback", "--passphrase", "x", "-c", stdin=whole
+        )
         yield "signed, and more stored", self.signed + stored
         yield "stored, and signed", stored + self.signed
         yield "a signature of SUMS", self.gpg("signer", "--armor", "--detach-sign", stdin=whole)
         yield "changed", self.signed.replace(b"./a b", b"./a  b")
         yield "a line less", self.signed.replace(self.lines[0], b"")
         yield "a line more", self.signed.replace(self.lines[0], self.lines[0] * 2)
-        yield "signed, with an improper line", self.gpg("signer", "--clear-sign", stdin=whole + b"improper\n")
+        yield "signed, with an improper line", self.gpg(
+            "signer", "--clear-sign", stdin=whole + b"improper\n"
+        )
         yield "signed, and empty", self.gpg("signer", "--clear-sign", stdin=b"")
         yield "empty", b""
-        for length in (99, len(self.signed) // 2, self.signed.rindex(b"=") - 9, len(self.signed) - 30):
+        for length in (
+            99,
+            len(self.signed) // 2,
+            self.signed.rindex(b"=") - 9,
+            len(self.signed) - 30,
+        ):
             yield f"cut off after {length} bytes", self.signed[:length]
 
     def test_lists(self):
@@ -62,7 +80,12 @@ class Signed(Typed):
         for row, content in self.rows():
             self.put("SUMS.asc", content)
             for recipe, _, shell in self.each_recipe("check gpg"):
-                self.assertEqual(b": OK" in self.fails(recipe, shell).out, row == "signed, with an improper line", row)
+                with self.subTest(recipe=recipe):
+                    self.assertEqual(
+                        b": OK" in self.fails(recipe, shell).out,
+                        row == "signed, with an improper line",
+                        row,
+                    )
         for change in ("rm SUMS.asc", "mkdir SUMS.asc"):
             self.run_command(["sh", "-c", change], cwd=self.path("here"))
             for recipe, _, shell in self.each_recipe("check gpg"):
@@ -74,8 +97,9 @@ class Signed(Typed):
         for recipe, _, shell in self.each_recipe("check gpg"):
             self.assertEqual(self.type(recipe, shell)[:2], (0, self.OUT))
             for change in ("echo >>'a b'", "rm 'a b'", "mkdir 'a b'"):
-                self.run_command(["sh", "-c", change], cwd=self.path("here"))
-                self.assertIn(b"./a b: FAILED", self.fails(recipe, shell).out)
+                with self.subTest(change=change):
+                    self.run_command(["sh", "-c", change], cwd=self.path("here"))
+                    self.assertIn(b"./a b: FAILED", self.fails(recipe, shell).out)
             os.rmdir(self.path("here/a b"))
             self.put("a b")
 
@@ -86,32 +110,49 @@ class Signed(Typed):
             chance = random.Random(seed)
             place = chance.randrange(len(self.signed))
             other = chance.choice([b"", b" ", b"\n", b"- ", b"0", bytes([chance.randrange(256)])])
-            self.put("SUMS.asc", self.signed[:place] + other + self.signed[place + chance.choice([0, 1]):])
+            self.put(
+                "SUMS.asc",
+                self.signed[:place] + other + self.signed[place + chance.choice([0, 1]) :],
+            )
             ran = self.type(self.recipe("check gpg"), chance.choice(shells))
             self.assertTrue(ran.status or ran.out == self.OUT, (seed, ran.out))
 
     def test_blanks(self):
-        """After --clear-sign a name that ends in a blank is another one. After --sign it is the same."""
+        """After --clear-sign a name that ends in a blank is another one. After --sign it is the
+        same."""
         line = line_of("sha256sum", b"./image.iso ", IMAGE)
         for words, status in (["--clear-sign"], 0), (["--sign"], 1), (["--armor", "--sign"], 1):
             self.put("SUMS.asc", self.gpg("signer", *words, stdin=line))
             for recipe, _, shell in self.each_recipe("check gpg"):
-                self.assertEqual(self.type(recipe, shell).status, status)
+                with self.subTest(recipe=recipe):
+                    self.assertEqual(self.type(recipe, shell).status, status)
 
 
 class Shown(Typed):
     def test_pv(self):
-        """A file that can't be read, or only in part: it is missing, a directory, or a memory whose reads fail."""
+        """A file that can't be read, or only in part: it is missing, a directory, or a memory whose
+        reads fail."""
         if shutil.which("pv") is None:
             self.skipTest("pv isn't installed")
         self.make(good=False)
         self.put("image.iso", IMAGE)
         for recipe, _, shell in self.each_recipe("write by pv", "check by pv"):
-            self.assertEqual(self.type(recipe, shell).status, 0)
+            with self.subTest(recipe=recipe):
+                self.assertEqual(self.type(recipe, shell).status, 0)
         self.expect_lines("image.sum", [line_of("sha256sum", b"-", IMAGE)])
-        for change in ("rm image.iso", "mkdir image.iso", f"rmdir image.iso; ln -s /proc/{os.getpid()}/mem image.iso"):
+        for change in (
+            "rm image.iso",
+            "mkdir image.iso",
+            f"rmdir image.iso; ln -s /proc/{os.getpid()}/mem image.iso",
+        ):
             self.run_command(["sh", "-c", change], cwd=self.path("here"))
             for recipe, sort, shell in self.each_recipe("write by pv", "check by pv"):
-                self.put("image.sum", line_of("sha256sum", b"-", b"") if sort == "check by pv" else "of before")
-                self.fails(recipe, shell)
-                self.assertEqual(self.read("here/image.sum") == b"of before", sort == "write by pv")
+                with self.subTest(recipe=recipe):
+                    self.put(
+                        "image.sum",
+                        line_of("sha256sum", b"-", b"") if sort == "check by pv" else "of before",
+                    )
+                    self.fails(recipe, shell)
+                    self.assertEqual(
+                        self.read("here/image.sum") == b"of before", sort == "write by pv"
+                    )

@@ -1,10 +1,21 @@
-"""Runs with hardly any memory, at every limit between one at which nothing starts and one at which there is enough: a
-run does what it should, or says that memory is short; it never does anything else."""
+"""Runs with hardly any memory, at every limit between one at which nothing starts and one at which
+there is enough: a run does what it should, or says that memory is short; it never does anything
+else."""
 
 import os
 
 import harness
-from harness import E, M, S, X_MISSING, Case, Ran, as_bytes, as_words, wrong
+from harness import (
+    MD5_OF_NOTHING,
+    MD5_OF_ABC,
+    SHA256_OF_ABC,
+    X_MISSING,
+    Case,
+    Ran,
+    as_bytes,
+    as_words,
+    wrong,
+)
 from reference_words import help_text
 
 STEP = 4  # KiB, a page: no system hands out less
@@ -13,18 +24,25 @@ NOT_READ = b"digests: words not read\n"
 
 
 class SmallMemory(Case):
-    """A limit on the address space, set by the shell, which then becomes the program. The C library is asked to take
-    no more from the system than what is wanted, so that each growth meets the limit by itself."""
+    """A limit on the address space, set by the shell, which then becomes the program. The C library
+    is asked to take no more from the system than what is wanted, so that each growth meets the
+    limit by itself."""
 
     def limited(self, kibibytes, words):
-        """A run under this limit, with "abc" as standard input."""
-        command = ["sh", "-c", f'ulimit -v {kibibytes} || exit 125; exec "$0" "$@"', harness.PROGRAM, *as_words(words)]
+        """Runs the program under this limit, with "abc" as standard input."""
+        command = [
+            "sh",
+            "-c",
+            f'ulimit -v {kibibytes} || exit 125; exec "$0" "$@"',
+            harness.PROGRAM,
+            *as_words(words),
+        ]
         env = {**os.environ, "GLIBC_TUNABLES": "glibc.malloc.top_pad=0"}
         with open(self.path("a"), "rb") as file:
             return self.run_command(command, stdin=file, env=env)
 
     def first(self, holds, low=256, high=1 << 20):
-        """The first limit at which this holds, given that it holds from there on."""
+        """Returns the first limit at which this holds, given that it holds from there on."""
         if not holds(high):
             self.skipTest("the program doesn't start under a limit on its address space here")
         while high - low > STEP:
@@ -33,63 +51,90 @@ class SmallMemory(Case):
         return high
 
     def limits(self):
-        """The limits to try, from one at which the program doesn't start."""
+        """Returns the limits to try, from one at which the program doesn't start."""
         starts = self.first(lambda limit: self.has_started(self.limited(limit, "sha256sum --help")))
         works = self.first(lambda limit: self.limited(limit, "sha256sum --help").status == 0)
         return range(starts - 2 * STEP, works + MARGIN, STEP)
 
     @staticmethod
     def has_started(ran):
-        """Whether the program itself ran: otherwise the shell or the system's loader of programs says why not, and the
-        status isn't one of the program's."""
+        """Returns whether the program itself ran: otherwise the shell or the system's loader of
+        programs says why not, and the status isn't one of the program's."""
         return ran.status in (0, 1)
 
     def sweep(self, words, right, *wrongs):
-        """Tries every limit: the result is right, or one of the wrongs, or the program didn't start. Returns the first
-        limit from which on it was right."""
+        """Tries every limit: the result is right, or one of the wrongs, or the program didn't
+        start. Returns the first limit from which on it was right."""
         first = None
         for limit in self.limits():
             ran = self.limited(limit, words)
-            self.assertTrue(not self.has_started(ran) or ran in (right, *wrongs), (as_words(words)[:9], limit, ran))
+            self.assertTrue(
+                not self.has_started(ran) or ran in (right, *wrongs),
+                (as_words(words)[:9], limit, ran),
+            )
             first = (first or limit) if ran == right else None
         self.assertIsNotNone(first, "it works at no limit")
         return first
 
     def test_standard_input(self):
         """`digests sha256sum < file` gives the digest, or says that memory is short."""
-        right = Ran(0, as_bytes([f"{S}  -"]), b"")
-        first = self.sweep("sha256sum", right, Ran(1, b"", NOT_READ), Ran(1, b"", b"sha256sum: memory exhausted\n"))
+        right = Ran(0, as_bytes([f"{SHA256_OF_ABC}  -"]), b"")
+        first = self.sweep(
+            "sha256sum", right, Ran(1, b"", NOT_READ), Ran(1, b"", b"sha256sum: memory exhausted\n")
+        )
         many = self.limited(first, ["sha256sum", *["-t"] * 8000])
         self.assertNotEqual(many, right, "a short run needs as much memory as one of many words")
 
     def test_help_version_and_faults(self):
-        """The texts need no memory besides that for the words, so they never report that it is exhausted."""
-        self.sweep("sha256sum --help", Ran(0, as_bytes(help_text("sha256sum")), b""), Ran(1, b"", NOT_READ))
-        self.sweep("sha256sum --version", Ran(0, b"sha256sum (digests), profile 2\n", b""), Ran(1, b"", NOT_READ))
+        """The texts need no memory besides that for the words, so they never report that it is
+        exhausted."""
+        self.sweep(
+            "sha256sum --help", Ran(0, as_bytes(help_text("sha256sum")), b""), Ran(1, b"", NOT_READ)
+        )
+        self.sweep(
+            "sha256sum --version",
+            Ran(0, b"sha256sum (digests), profile 2\n", b""),
+            Ran(1, b"", NOT_READ),
+        )
         err = ["md5sum: unrecognized option '--foo'", "Try 'md5sum --help' for more information."]
         self.sweep("md5sum --foo", Ran(1, b"", as_bytes(err)), Ran(1, b"", NOT_READ))
         self.sweep("shasum", Ran(1, b"", b"digests: unknown tool\n"), Ran(1, b"", NOT_READ))
 
     def test_files(self):
         """A run over files writes whole lines, and stops where memory is short."""
-        lines, stop = [f"{M}  a", f"{E}  e"], b"md5sum: memory exhausted\n"
+        lines, stop = [f"{MD5_OF_ABC}  a", f"{MD5_OF_NOTHING}  e"], b"md5sum: memory exhausted\n"
         missing = as_bytes([X_MISSING])
-        self.sweep("md5sum a x e", Ran(1, as_bytes(lines), missing), Ran(1, b"", NOT_READ), Ran(1, b"", stop),
-                   Ran(1, as_bytes(lines[:1]), stop), Ran(1, as_bytes(lines[:1]), missing + stop))
+        self.sweep(
+            "md5sum a x e",
+            Ran(1, as_bytes(lines), missing),
+            Ran(1, b"", NOT_READ),
+            Ran(1, b"", stop),
+            Ran(1, as_bytes(lines[:1]), stop),
+            Ran(1, as_bytes(lines[:1]), missing + stop),
+        )
 
     def test_checking(self):
         """A check reports whole lines, and never a wrong one."""
-        self.write("l", [f"{M}  a", f"{M}  e"])
-        right, stop = Ran(1, b"a: OK\ne: FAILED\n", as_bytes([wrong(1)])), b"md5sum: memory exhausted\n"
-        self.sweep("md5sum -c l", right, Ran(1, b"", NOT_READ), Ran(1, b"", stop), Ran(1, b"a: OK\n", stop))
+        self.write("l", [f"{MD5_OF_ABC}  a", f"{MD5_OF_ABC}  e"])
+        right, stop = (
+            Ran(1, b"a: OK\ne: FAILED\n", as_bytes([wrong(1)])),
+            b"md5sum: memory exhausted\n",
+        )
+        self.sweep(
+            "md5sum -c l", right, Ran(1, b"", NOT_READ), Ran(1, b"", stop), Ran(1, b"a: OK\n", stop)
+        )
 
 
 class SmallStack(Case):
     def test_64_kib(self):
         for tool, (_, _, of_abc) in harness.TOOLS.items():
             self.write("l", self.run_words([tool, "--tag", "a"]).out)
-            for words, out in (([tool, "a"], f"{of_abc}  a\n"), ([tool, "-c", "l"], "a: OK\n"),
-                               (["anysum", "-c", "l"], "a: OK\n")):
-                script = 'ulimit -s 64 || exit 125; exec env -i "$0" "$@"'
-                ran = self.run_command(["sh", "-c", script, harness.PROGRAM, *words])
-                self.assertEqual(ran, Ran(0, out.encode(), b""), words)
+            for words, out in (
+                ([tool, "a"], f"{of_abc}  a\n"),
+                ([tool, "-c", "l"], "a: OK\n"),
+                (["anysum", "-c", "l"], "a: OK\n"),
+            ):
+                with self.subTest(words=words):
+                    script = 'ulimit -s 64 || exit 125; exec env -i "$0" "$@"'
+                    ran = self.run_command(["sh", "-c", script, harness.PROGRAM, *words])
+                    self.assertEqual(ran, Ran(0, out.encode(), b""), words)

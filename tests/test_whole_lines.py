@@ -1,5 +1,5 @@
-"""Each line is handed to the system whole. Through a pipe that keeps every write apart, each packet is one line. If the
-system takes only a part of a write, or nothing, no byte is lost."""
+"""Each line is handed to the system whole. Through a pipe that keeps every write apart, each packet
+is one line. If the system takes only a part of a write, or nothing, no byte is lost."""
 
 import fcntl
 import os
@@ -8,7 +8,16 @@ import signal
 import subprocess
 
 import harness
-from harness import M, NAMES, S, TOOLS, VERDICTS, VERDICTS_ERR, VERDICTS_OUT, X_MISSING
+from harness import (
+    MD5_OF_ABC,
+    NAMES,
+    SHA256_OF_ABC,
+    TOOLS,
+    VERDICTS,
+    VERDICTS_ERR,
+    VERDICTS_OUT,
+    X_MISSING,
+)
 from harness import WRITE_ERROR, Case, Ran, as_bytes, as_words
 from reference import line
 from reference_words import help_text
@@ -18,21 +27,23 @@ SET_PIPE_SIZE = 1031  # Python names it from 3.10 on
 
 
 def lines_of(text, end=b"\n"):
-    """The lines of a text, each with its end."""
+    """Returns the lines of a text, each with its end."""
     return [line + end for line in as_bytes(text).split(end)[:-1]]
 
 
 def state_of(pid):
-    """The state of a process as the system has it: `S` if it waits, `Z` if it has ended."""
+    """Returns the state of a process as the system has it: `S` if it waits, `Z` if it has ended."""
     with open(f"/proc/{pid}/stat", "rb") as file:
         return file.read().rpartition(b")")[2].split()[0].decode()
 
 
 class Packets(Case):
-    """A run whose outputs are pipes in which each write of up to 4,096 bytes is a packet, which one read takes."""
+    """A run whose outputs are pipes in which each write of up to 4,096 bytes is a packet, which one
+    read takes."""
 
     def packets(self, words, **how):
-        """Runs `digests` with these words: its status, and the packets of both outputs that aren't given."""
+        """Runs `digests` with these words: its status, and the packets of both outputs that aren't
+        given."""
         ends, got = {}, {"stdout": [], "stderr": []}
         for name in got:
             if name not in how:
@@ -61,27 +72,47 @@ class Packets(Case):
 
 class OneWriteALine(Packets):
     def test_every_style(self):
-        """Every line comes whole in each style, with a newline at its end or, under -z, with a NUL."""
-        self.expect_packets("sha256sum", out=[f"{S}  -\n"], stdin=self.opened("a"))
+        """Every line comes whole in each style, with a newline at its end or, under -z, with a
+        NUL."""
+        self.expect_packets("sha256sum", out=[f"{SHA256_OF_ABC}  -\n"], stdin=self.opened("a"))
         self.write(SPECIAL, "abc")
         for tool, (tag, of_nothing, of_abc) in TOOLS.items():
-            found = {name: bytes.fromhex(it) for name, it in (("a", of_abc), ("e", of_nothing), (SPECIAL, of_abc))}
-            for style, mode in (("-t", "text"), ("-b", "binary"), ("--tag", "tag"), ("-z", "text"), ("-zb", "binary"),
-                                ("-z --tag", "tag")):
-                lines = [line(mode, "z" in style, tag, name.encode(), it) for name, it in found.items()]
-                self.expect_packets([tool, *style.split(), *found], out=lines)
+            found = {
+                name: bytes.fromhex(digits)
+                for name, digits in (("a", of_abc), ("e", of_nothing), (SPECIAL, of_abc))
+            }
+            for style, mode in (
+                ("-t", "text"),
+                ("-b", "binary"),
+                ("--tag", "tag"),
+                ("-z", "text"),
+                ("-zb", "binary"),
+                ("-z --tag", "tag"),
+            ):
+                with self.subTest(style=style):
+                    lines = [
+                        line(mode, "z" in style, tag, name.encode(), digest)
+                        for name, digest in found.items()
+                    ]
+                    self.expect_packets([tool, *style.split(), *found], out=lines)
 
     def test_help_and_faults_of_the_words(self):
         for tool in NAMES:
-            self.expect_packets([tool, "--help"], out=[help_text(tool)])
-            self.expect_packets([tool, "--version"], out=[f"{tool} (digests), profile 2\n"])
-        faults = [(["--foo"], "unrecognized option '--foo'"), (["-\n"], "invalid option -- '\\n'"),
-                  (["--s"], "option '--s' is ambiguous"), (["--tag=\\"], "option '--tag' doesn't allow an argument"),
-                  (["-z", "-c"], "the --zero option is not supported when verifying checksums"),
-                  ([b"-\xff"], b"unrecognized option '-\xff'")]
+            with self.subTest(tool=tool):
+                self.expect_packets([tool, "--help"], out=[help_text(tool)])
+                self.expect_packets([tool, "--version"], out=[f"{tool} (digests), profile 2\n"])
+        faults = [
+            (["--foo"], "unrecognized option '--foo'"),
+            (["-\n"], "invalid option -- '\\n'"),
+            (["--s"], "option '--s' is ambiguous"),
+            (["--tag=\\"], "option '--tag' doesn't allow an argument"),
+            (["-z", "-c"], "the --zero option is not supported when verifying checksums"),
+            ([b"-\xff"], b"unrecognized option '-\xff'"),
+        ]
         for words, text in faults:
-            lines = [b"md5sum: " + as_bytes(text), "Try 'md5sum --help' for more information."]
-            self.expect_packets(["md5sum", *words], err=[lines], status=1)
+            with self.subTest(words=words):
+                lines = [b"md5sum: " + as_bytes(text), "Try 'md5sum --help' for more information."]
+                self.expect_packets(["md5sum", *words], err=[lines], status=1)
 
     def test_the_programs_own_lines(self):
         """An unknown tool and a write error are one write each."""
@@ -92,10 +123,12 @@ class OneWriteALine(Packets):
     def test_a_fault_with_a_long_word(self):
         """The two lines of a fault are one write if both together fit into the buffer."""
         for length in (8192, 8195):
-            lines = "md5sum: unrecognized option '--{}'\nTry 'md5sum --help' for more information.\n"
+            lines = (
+                "md5sum: unrecognized option '--{}'\nTry 'md5sum --help' for more information.\n"
+            )
             word = "x" * (length - len(lines.format("")))
             text = lines.format(word)
-            packets = [text[start:start + 4096] for start in range(0, length, 4096)]
+            packets = [text[start : start + 4096] for start in range(0, length, 4096)]
             self.expect_packets(["md5sum", f"--{word}"], err=packets, status=1)
 
 
@@ -113,12 +146,15 @@ class OneWriteAReport(Packets):
         self.expect_packets("md5sum -c --status l", err=[missing], status=1)
         err = [each[0] + each[2]]
         self.expect_packets("md5sum -c --ignore-missing l", out=[out[0], out[2]], err=err, status=1)
-        self.expect_packets("md5sum -c", out=out, err=[missing, warnings], status=1, stdin=self.opened("l"))
+        self.expect_packets(
+            "md5sum -c", out=out, err=[missing, warnings], status=1, stdin=self.opened("l")
+        )
 
     def test_a_report_of_20000_bytes(self):
-        """A report that is longer than any buffer takes several writes, and the next one begins with a new one."""
+        """A report that is longer than any buffer takes several writes, and the next one begins
+        with a new one."""
         name = "y" * 20000
-        self.write("l", [f"{M}  a", f"{M}  {name}", f"{M}  a"])
+        self.write("l", [f"{MD5_OF_ABC}  a", f"{MD5_OF_ABC}  {name}", f"{MD5_OF_ABC}  a"])
         status, out, err = self.packets("md5sum -c l")
         self.assertEqual((status, out[0], out[-1]), (1, b"a: OK\n", b"a: OK\n"))
         self.same(b"".join(out[1:-1]), [f"{name}: FAILED open or read"])
@@ -131,16 +167,19 @@ class ShortWrites(Case):
     """A pipe that holds one page: the system takes a part of a write, or nothing of it."""
 
     def small_pipe(self):
-        """A pipe that holds a page, and how many bytes that are."""
+        """Returns a pipe that holds a page, and how many bytes that are."""
         reads, writes = os.pipe()
         self.addCleanup(os.close, reads)
         return reads, writes, fcntl.fcntl(writes, SET_PIPE_SIZE, 1)
 
     def taken_in_parts(self, words, output):
-        """Runs `digests` with this output into a small pipe. Whenever it waits inside a write, it is stopped and
-        continued: the system then returns what it took so far. Returns the status, and everything that came through."""
+        """Runs `digests` with this output into a small pipe. Whenever it waits inside a write, it
+        is stopped and continued: the system then returns what it took so far. Returns the status,
+        and everything that came through."""
         reads, writes, size = self.small_pipe()
-        started = self.start(words, **{"stdout": subprocess.DEVNULL, "stderr": subprocess.DEVNULL, output: writes})
+        started = self.start(
+            words, **{"stdout": subprocess.DEVNULL, "stderr": subprocess.DEVNULL, output: writes}
+        )
         os.close(writes)
         got = []
         while not got or got[-1]:
@@ -153,24 +192,31 @@ class ShortWrites(Case):
         return started.wait(timeout=harness.RUN_SECONDS), b"".join(got)
 
     def test_parts_of_lines(self):
-        """Lines of 30,000 bytes, and a thousand lines, come through a pipe that holds a page, though each write is cut
-        short."""
+        """Lines of 30,000 bytes, and a thousand lines, come through a pipe that holds a page,
+        though each write is cut short."""
         name = "y" * 30000
-        self.write("l", [f"{M}  {name}", f"{M}  a"] * 3)
+        self.write("l", [f"{MD5_OF_ABC}  {name}", f"{MD5_OF_ABC}  a"] * 3)
         for words, output, status, lines in (
-                (["md5sum", *[name, "x"] * 3], "stderr", 1, [f"md5sum: {name}: File name too long", X_MISSING] * 3),
-                ("md5sum -c l", "stdout", 1, [f"{name}: FAILED open or read", "a: OK"] * 3),
-                (["md5sum", *["a"] * 1000], "stdout", 0, [f"{M}  a"] * 1000)):
-            ended, got = self.taken_in_parts(words, output)
-            self.same(got, lines)
-            self.assertEqual(ended, status)
+            (
+                ["md5sum", *[name, "x"] * 3],
+                "stderr",
+                1,
+                [f"md5sum: {name}: File name too long", X_MISSING] * 3,
+            ),
+            ("md5sum -c l", "stdout", 1, [f"{name}: FAILED open or read", "a: OK"] * 3),
+            (["md5sum", *["a"] * 1000], "stdout", 0, [f"{MD5_OF_ABC}  a"] * 1000),
+        ):
+            with self.subTest(words=words):
+                ended, got = self.taken_in_parts(words, output)
+                self.same(got, lines)
+                self.assertEqual(ended, status)
 
     def test_a_pipe_that_does_not_wait(self):
-        """If the output has room for one more line and then reports that it has none, that line is there whole, nothing
-        of the next one is, and it is a write error."""
+        """If the output has room for one more line and then reports that it has none, that line is
+        there whole, nothing of the next one is, and it is a write error."""
         reads, writes, size = self.small_pipe()
         os.set_blocking(writes, False)
-        line = as_bytes([f"{M}  a"])
+        line = as_bytes([f"{MD5_OF_ABC}  a"])
         filler = b"#" * (size - len(line) - 4)
         self.assertEqual(os.write(writes, filler), len(filler))
         ran = self.run_words("md5sum a a a", stdout=writes)

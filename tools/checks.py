@@ -1,7 +1,10 @@
 #!/usr/bin/env python3
-"""Makes the checks of libraries that the gate leaves out, after a build: `tools/checks.py [--anew] [CRATE ..]`.
-The prover must accept the twins of wrong versions, and no public clause may name a private field. Without `--anew`, a
-crate is left out if nothing has changed since it passed."""
+"""Makes the checks of libraries that the gate leaves out, after a build: `tools/checks.py [--anew]
+[CRATE ..]`. The prover must accept the twins of wrong versions, and no public clause may name a
+private field. Without `--anew`, a crate is left out if nothing has changed since it passed.
+
+A twin is an edit, as a wrong version is, with right code in place of the wrong one: the lines
+`wrong: ..` and `right: ..` of the wrong version say what is replaced, and by what."""
 
 import fcntl
 import hashlib
@@ -14,40 +17,48 @@ import tempfile
 from concurrent.futures import ThreadPoolExecutor
 from pathlib import Path
 
-sys.dont_write_bytecode = True
+sys.dont_write_bytecode = True  # nothing is to be left beside these files
 
-from sources import TOP, below, crates_of_program  # noqa: E402  (nothing is to be left beside these files)
+from sources import TOP, below, crates_of_program
 
 OUT = Path(TOP, "out", "checks")
-MEMORY_OF_A_CHECK = 3_000_000  # in kB
-TOGETHER = 8  # so many twins are tried in one check, if they fit together
+LIBRARIES = crates_of_program()[:-1]
+KB_OF_A_CHECK = 3_000_000
+TWINS_IN_A_CHECK = 8  # at most, if they fit together
+
+
+def adds_code(edit):
+    """Returns whether an edit adds a function, a struct or a call."""
+    counts = {}
+    for word in ("old", "new"):
+        code = "".join(re.findall(f"(?m)^{word}: .*", edit))
+        counts[word] = len(re.findall(r"\b(?:fn|struct) |\b[a-z]\w*\(", code))
+    return counts["new"] > counts["old"]
 
 
 def twin_of(path):
-    """Returns the twin of a wrong version, as an edit, or "" if it has none. One that adds a function, a type or a call
-    must have one."""
+    """Returns the twin of a wrong version, or "" if it has none. One that adds code must have
+    one."""
     edit, *pairs = re.split(r"(?m)^wrong: (.*)\nright: ?(.*)\n", path.read_text("utf-8"))
-    added = {}
-    for word in ("old", "new"):
-        text = "".join(re.findall(f"(?m)^{word}: .*", edit))
-        added[word] = len(re.findall(r"\b(?:fn|struct) |\b[a-z]\w*\(", text))
-    if not pairs and added["new"] > added["old"]:
-        sys.exit(f"{path} has no twin")
+    if not pairs and adds_code(edit):
+        sys.exit(f"{path} has no twin: add to it the lines `wrong: ..` and `right: ..`")
     for wrong, right in zip(pairs[::3], pairs[1::3]):
         if edit.count(wrong) != 1:
-            sys.exit(f"{path} doesn't have this once: {wrong}")
+            sys.exit(f"{path} must have this once above the first `wrong: ..`: {wrong}")
         edit = edit.replace(wrong, right)
     return edit if pairs else ""
 
 
 def twins_of(crate):
     """Returns the twins of a crate's wrong versions, by their names."""
-    twins = {path.stem: twin_of(path) for path in sorted(Path(TOP, "crates", crate, "must-fail").glob("*.edit"))}
+    paths = sorted(Path(TOP, "crates", crate, "must-fail").glob("*.edit"))
+    twins = {path.stem: twin_of(path) for path in paths}
     return {name: twin for name, twin in twins.items() if twin}
 
 
 def texts_after(edit, crate):
-    """Returns the texts of the files that an edit changes, by their paths in the crate; nothing if it doesn't fit."""
+    """Returns the texts of the files that an edit changes, by their paths in the crate; nothing if
+    it doesn't fit."""
     texts, path, old = {}, "", ""
     for line in edit.split("\n"):
         word, _, rest = line.partition(":")
@@ -64,66 +75,88 @@ def texts_after(edit, crate):
 
 
 def groups_of(crate, twins):
-    """Returns the twins of a crate in groups, each a dictionary by name, of which all fit into one edit."""
+    """Returns the twins of a crate in groups, each of which fits into one edit, by their names."""
+
+    def has_room(group, edit):
+        joined = "".join(group.values()) + edit
+        return len(group) < TWINS_IN_A_CHECK and texts_after(joined, crate)
+
     groups = []
     for name, edit in twins.items():
-        fitting = (group for group in groups
-                   if len(group) < TOGETHER and texts_after("".join(group.values()) + edit, crate))
-        group = next(fitting, None)
+        group = next((group for group in groups if has_room(group, edit)), None)
         if group is None:
-            groups.append(group := {})
+            group = {}
+            groups.append(group)
         group[name] = edit
     return groups
 
 
-def copy(folder, names, there):
-    """Copies what there is of these below a folder, by hard links if that can be."""
+def copy(folder, names, target):
+    """Copies what there is of these names below a folder, by hard links if possible."""
     names = [name for name in names if Path(folder, name).exists()]
     for how in ("-al", "-a"):
-        if not subprocess.run(["cp", how, "--parents", *names, there], cwd=folder, stderr=subprocess.DEVNULL).returncode:
+        command = ["cp", how, "--parents", *names, target]
+        if subprocess.run(command, cwd=folder, stderr=subprocess.DEVNULL).returncode == 0:
             return
-    sys.exit(f"checks.py: {folder} can't be copied to {there}")
+    sys.exit(f"checks.py: {folder} can't be copied to {target}: is there room for it?")
+
+
+def copy_crates(names, folder):
+    """Makes a repository of these crates alone, with the libraries that were made of them."""
+    lines = Path(TOP, "crates.txt").read_text("utf-8").splitlines(keepends=True)
+    own_lines = [line for line in lines if line.split(":")[0] in names]
+    Path(folder, "crates.txt").write_text("".join(own_lines), "utf-8")
+    for name in names:
+        target = Path(folder, "crates", name)
+        os.makedirs(target)
+        copy(Path(TOP, "crates", name), ["src", "specs", "proofs", "out/rlib"], target)
+        proved = target / "out/rlib/proved"
+        if proved.exists():
+            proved.rename(target / "out/rlib/stamp")  # so that `rt` takes the library
 
 
 def check(crate, texts, *flags, kept=None):
-    """Checks a copy of a crate with these texts in place of its own, over what a check has kept. Returns what the kit
-    says, and whether the crate is proved. Two copies never wait for each other, and none is below the repository, where
-    `rt` would find its crates."""
+    """Checks a copy of a crate with these texts in place of its own, over what a check has kept.
+    Returns what the kit says, and whether the crate is proved. If nothing was kept, and the crate
+    is as it was, that check keeps its work. Two copies never wait for each other, and none is below
+    the repository, where `rt` would find its crates."""
     with tempfile.TemporaryDirectory(prefix="digests-check-") as folder:
-        names = [*below(crate), crate]
-        lines = Path(TOP, "crates.txt").read_text("utf-8").splitlines(keepends=True)
-        Path(folder, "crates.txt").write_text("".join(line for line in lines if line.split(":")[0] in names), "utf-8")
-        for name in names:
-            there = Path(folder, "crates", name)
-            os.makedirs(there)
-            copy(Path(TOP, "crates", name), ["src", "specs", "proofs", "out/rlib"], there)
-            proved = there / "out/rlib/proved"
-            if proved.exists():
-                proved.rename(there / "out/rlib/stamp")
+        copy_crates([*below(crate), crate], folder)
         own = Path(folder, "crates", crate)
         if kept and kept.is_dir():
             (own / "out/incremental").mkdir(parents=True)
             copy(kept, ["."], own / "out/incremental")
         for path, text in texts.items():
-            (own / path).unlink()
+            (own / path).unlink()  # or the text would change the original, too
             (own / path).write_text(text, "utf-8")
-        ran = subprocess.run(["rt", "check", "--jobs", "1", *flags], cwd=own, stdin=subprocess.DEVNULL,
-                             stdout=subprocess.PIPE, stderr=subprocess.STDOUT, text=True, errors="replace")
-        if kept and not kept.is_dir() and not texts and not ran.returncode:
+        ran = subprocess.run(
+            ["rt", "check", "--jobs", "1", *flags],
+            cwd=own,
+            stdin=subprocess.DEVNULL,
+            stdout=subprocess.PIPE,
+            stderr=subprocess.STDOUT,
+            text=True,
+            errors="replace",
+        )
+        is_proved = ran.returncode == 0
+        if kept and not kept.is_dir() and not texts and is_proved:
             shutil.move(own / "out/incremental", kept)
-        return ran.stdout, ran.returncode == 0
+        return ran.stdout, is_proved
 
 
 def is_accepted(crate, edit, kept):
+    """Returns whether an edit fits, and the crate is proved with it."""
     texts = texts_after(edit, crate)
     return bool(texts) and check(crate, texts, kept=kept)[1]
 
 
 def refused(crate, group, kept):
-    """Returns those of a group of twins that don't fit or aren't proved. All are tried at once, and then each alone."""
+    """Returns a line for each twin of a group that doesn't fit or isn't proved. All are tried at
+    once, and then each alone."""
     if is_accepted(crate, "".join(group.values()), kept):
         return []
-    return [f"refused: {name}" for name, edit in group.items() if not is_accepted(crate, edit, kept)]
+    names = [name for name, edit in group.items() if not is_accepted(crate, edit, kept)]
+    return [f"refused: {name}" for name in names]
 
 
 def private_fields(crate):
@@ -133,7 +166,7 @@ def private_fields(crate):
 
 
 def kept_of(crate):
-    """Returns where a check of a crate has kept its work; without any, one is made."""
+    """Returns where a check of a crate has kept its work. If none has, one is made."""
     kept = Path(TOP, "crates", crate, "out/incremental")
     if not kept.is_dir():
         kept = OUT / f"{crate}.kept"
@@ -143,22 +176,24 @@ def kept_of(crate):
 
 
 def failures_of(crate, twins, pool):
-    """Returns what is wrong with a crate, if anything. What can be done at once is."""
-    linted = pool.submit(private_fields, crate)
+    """Returns a line for each check of a crate that failed. Those that can run at once do."""
+    tried = [pool.submit(private_fields, crate)]
     kept = pool.submit(kept_of, crate).result() if twins else None
-    tried = [pool.submit(refused, crate, group, kept) for group in groups_of(crate, twins)]
-    return [failure for ended in [linted, *tried] for failure in ended.result()]
+    for group in groups_of(crate, twins):
+        tried.append(pool.submit(refused, crate, group, kept))
+    return [failure for ended in tried for failure in ended.result()]
 
 
 def lanes():
     """Returns how many checks run at once: as many as there are processors and memory for."""
     free = int(re.search(r"MemAvailable: *(\d+)", Path("/proc/meminfo").read_text("utf-8"))[1])
-    return max(1, min(len(os.sched_getaffinity(0)), free // MEMORY_OF_A_CHECK))
+    return max(1, min(len(os.sched_getaffinity(0)), free // KB_OF_A_CHECK))
 
 
 def state_of(crate):
     """Returns a sum of all that the checks of a crate read, and of the kit."""
-    state = hashlib.sha256(subprocess.run(["rt", "version"], stdout=subprocess.PIPE, check=True).stdout)
+    version = subprocess.run(["rt", "version"], stdout=subprocess.PIPE, check=True).stdout
+    state = hashlib.sha256(version)
     for name in [*below(crate), crate]:
         for part in ("src", "specs", "proofs", "must-fail"):
             for path in sorted(Path(TOP, "crates", name, part).rglob("*.*")):
@@ -168,26 +203,30 @@ def state_of(crate):
 
 
 def main(words):
-    crates = [word for word in words if word != "--anew"] or crates_of_program()[:-1]
-    if unknown := set(crates) - set(crates_of_program()[:-1]):
+    """Checks the libraries that the words name, or all, and returns the status."""
+    crates = [word for word in words if word != "--anew"] or LIBRARIES
+    if unknown := set(crates) - set(LIBRARIES):
         sys.exit(f"checks.py: no library of the program is called {' '.join(sorted(unknown))}")
     OUT.mkdir(parents=True, exist_ok=True)
-    lock = open(OUT / "lock", "w")
+    lock = open(OUT / "lock", "w")  # held until this process ends
     fcntl.flock(lock, fcntl.LOCK_EX)
     states = {crate: state_of(crate) for crate in crates}
     passed = {crate: OUT / f"{crate}.passed" for crate in crates}
-    changed = [crate for crate in crates if "--anew" in words or not passed[crate].exists()
-               or passed[crate].read_text("utf-8") != states[crate]]
+
+    def is_unchanged(crate):
+        return passed[crate].exists() and passed[crate].read_text("utf-8") == states[crate]
+
+    changed = [crate for crate in crates if "--anew" in words or not is_unchanged(crate)]
+    twins = {crate: twins_of(crate) for crate in changed}
     status = 0
     with ThreadPoolExecutor(lanes()) as pool, ThreadPoolExecutor(len(crates)) as waiting:
-        twins = {crate: twins_of(crate) for crate in changed}
-        failures = {crate: waiting.submit(failures_of, crate, twins[crate], pool) for crate in changed}
-        for crate in changed:
-            failed = failures[crate].result()
-            print(f"{crate}: {len(twins[crate])} twins and private fields:",
-                  *(["failed:", *failed] if failed else ["as they must be"]), flush=True)
-            passed[crate].write_text("" if failed else states[crate], "utf-8")
-            status = 1 if failed else status
+        tried = [waiting.submit(failures_of, crate, twins[crate], pool) for crate in changed]
+        for crate, ended in zip(changed, tried):
+            failures = ended.result()
+            outcome = ["failed:", *failures] if failures else ["as they must be"]
+            print(f"{crate}: {len(twins[crate])} twins and private fields:", *outcome, flush=True)
+            passed[crate].write_text("" if failures else states[crate], "utf-8")
+            status = 1 if failures else status
     return status
 
 

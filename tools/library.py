@@ -1,34 +1,88 @@
 #!/usr/bin/env python3
-"""The public calls of the crates, as the kit has read them, with the comments of the sources.
+"""Writes the contracts in the page of each library, crates/NAME/CALLING.md, as the kit has read
+them.
 
-    tools/library.py         writes the list of them in docs/LIBRARY.md
-    tools/library.py NAME    prints those of that name, each with its comment and its clauses
+    tools/library.py            fails if a page isn't as it should be
+    tools/library.py --write    writes the pages anew; what stands above the mark is written by hand
 
 Items marked `#[doc(hidden)]` are public only for the crates here, and are left out."""
 
-import os
 import re
 import sys
 
-sys.dont_write_bytecode = True
+sys.dont_write_bytecode = True  # nothing is to be left beside these files
 
-import compiled  # noqa: E402  (nothing is to be left beside these files)
-from rattle import Code, as_in_a_source  # noqa: E402
-from sources import TOP, text_of  # noqa: E402
+import compiled
+from items import as_in_a_source
+from rattle import Code
+from sources import stale_pages, text_of, write_pages
 
-PAGE = os.path.join(TOP, "docs", "LIBRARY.md")
-BEGIN = "<!-- From here on tools/library.py writes. -->\n"
+MARK = "<!-- From here on tools/library.py writes. -->\n"
+NOTE = (
+    "## Contracts\n\n"
+    "`docs/AUDITING.md` says how clauses are read, `docs/LIBRARY.md` what their words mean; "
+    "`specs/` defines the words. A clause without a label stands for itself. An `impl` that states "
+    "nothing of its own has the contracts of its trait. A bound after `where` is that of the "
+    "`impl`. A derived `Error` is that of `thiserror`, which gives `Display`, too. A value may be "
+    "dropped only if its type has `Drop`.\n"
+)
 
 
 def first_sentence(comment):
-    text = re.sub(r"\[(`[^`]*`)\](?:\([^)]*\))?", r"\1", " ".join(filter(None, comment)))
+    """Returns the first sentence of a `///` comment, with names in the place of links."""
+    text = " ".join(filter(None, comment))
+    text = re.sub(r"\[(`[^`]*`)\](?:\([^)]*\))?", r"\1", text)
     return re.match(r".*?\.(?= [A-Z`]|$)", text)[0]
 
 
 def bounds(block, known=""):
-    """The bounds of an `impl` besides those that are known, as a clause."""
-    found = [it for it in block.bounds[0] if re.match(r"\w+: ", it) and it not in known] + block.bounds[1]
+    """Returns the bounds of an `impl` besides those that are known, as a clause."""
+    of_parameters, of_where = block.bounds
+    found = [bound for bound in of_parameters if re.match(r"\w+: ", bound) and bound not in known]
+    found += of_where
     return f" where {', '.join(found)}" if found else ""
+
+
+def clause_line(clause):
+    """Returns a clause on one line, without its brackets."""
+    separator = "" if clause.head[-1] in "=:" else ":"
+    return f"  {clause.head}{separator} {' '.join(clause.text.strip()[1:-1].split())}"
+
+
+def is_shown(item, clause):
+    """Returns whether a clause of an item is shown: each one of a function, and each ghost member
+    of another item that isn't the proof of a law."""
+    if item.kind == "fn":
+        return not clause.member
+    is_proof = item.kind != "trait" and clause.member in compiled.laws()
+    return bool(clause.member) and not is_proof
+
+
+def clause_lines(item):
+    """Returns a line for each clause of an item that is shown."""
+    return [clause_line(clause) for clause in item.clauses if is_shown(item, clause)]
+
+
+def calls_of(block):
+    """Returns the functions of an `impl` or a trait."""
+    return [member for member in block.members if member.kind == "fn"]
+
+
+def function_lines(item, where=""):
+    """Yields the lines of a function: its sentence, its head with these bounds, its clauses."""
+    yield f"// {first_sentence(item.comment)}" if item.comment else "// As its trait says, and:"
+    yield f"{item.head}{where}"
+    yield from clause_lines(item)
+
+
+def lines_of_trait_block(block):
+    """Returns the lines of a type's block for a trait: its head, what it states, and those of its
+    calls that state something; nothing if it states nothing of its own."""
+    lines = clause_lines(block)
+    for call in calls_of(block):
+        if clauses := clause_lines(call):
+            lines += [f"  {line}" for line in [call.head, *clauses]]
+    return ["", as_in_a_source(block.head), *lines] if lines else []
 
 
 class Library:
@@ -36,107 +90,179 @@ class Library:
 
     def __init__(self):
         self.code = Code()
-        self.items = [it for it in self.code.items if "doc ( hidden )" not in it.attributes]
-        self.lines = {(crate, file[:-len(".rt")]): [as_in_a_source(it) for it in text_of(path).splitlines()]
-                      for crate, file, path in compiled.read_files()}
+        self.items = [item for item in self.code.items if "doc ( hidden )" not in item.attributes]
+        self.lines = {}
+        for crate, file, path in compiled.read_files():
+            lines = [as_in_a_source(line) for line in text_of(path).splitlines()]
+            self.lines[crate, file[: -len(".rt")]] = lines
 
-    def exported(self, crate):
-        """What the root of a crate exports: each module's file with the names from there, or None for all of them."""
+    def exports(self, crate):
+        """Yields what the root of a crate exports: the file of each module with the names from
+        there, or with None for all of them. First come those that are at the root."""
         root = "\n".join(self.lines[crate, "lib"])
+        yield "lib", None
         for module, names in re.findall(r"(?m)^pub use (.*)::(\{.*\}|\w+);$", root):
             if module not in compiled.LIBRARIES:
                 yield module.replace("::", "/"), re.findall(r"\w+", names)
-        yield from ((module, None) for module in [*re.findall(r"(?m)^pub mod (\w+);$", root), "lib"])
+        for module in re.findall(r"(?m)^pub mod (\w+);$", root):
+            yield module, None
+
+    def passed_on(self, crate):
+        """Yields a line for each other library of whose items a crate exports some."""
+        for line in self.lines[crate, "lib"]:
+            use = re.match(r"pub use (\w+)::(?!.*::)(.*);", line)
+            if use and use[1] in compiled.LIBRARIES:
+                names = ", ".join(f"`{name}`" for name in re.findall(r"\w+", use[2]))
+                yield f"From `{use[1]}`: {names}."
 
     def types(self, item, name):
-        """The types that an item means by a name."""
-        return Code.meant(item, [it for it in self.items if it.name == name and it.kind in ("struct", "enum")])
+        """Returns the types that an item means by a name."""
+        named = [other for other in self.items if other.name == name]
+        return Code.meant(item, [other for other in named if other.kind in ("struct", "enum")])
+
+    def types_meant(self, item):
+        """Returns the type that an item is, or is another name of; in a list."""
+        return self.types(item, self.code.types.get(item.name, item.name))
 
     def blocks(self, item):
-        """The type that an item is, or is another name of, and the blocks of it."""
-        name = self.code.types.get(item.name, item.name)
-        types = self.types(item, name)
-        blocks = [it for it in self.items if (it.kind, it.name) == ("impl", name)]
-        return types, [it for it in blocks if self.types(it, name) == types]
+        """Returns the blocks of the type that an item is, or is another name of."""
+        name, types = self.code.types.get(item.name, item.name), self.types_meant(item)
+        blocks = [block for block in self.items if (block.kind, block.name) == ("impl", name)]
+        return [block for block in blocks if self.types(block, name) == types]
+
+    def bounds_beside(self, block, item):
+        """Returns the bounds of a block besides those of its type; another name has none."""
+        return "" if item.kind == "type" else bounds(block, item.head)
 
     def traits(self, item):
-        """The traits of a type, by a derive or by an `impl`; `Model` is for contracts."""
-        types, blocks = self.blocks(item)
-        derived = " ".join(line for it in types for line in re.findall(r"derive \(([^)]*)\)", it.attributes))
-        found = re.findall(r"\w+", derived)
-        for block in blocks:
+        """Returns the traits of a type, by a derive or by an `impl`; `Model` is shown apart."""
+        found = []
+        for of_type in self.types_meant(item):
+            for line in re.findall(r"derive \(([^)]*)\)", of_type.attributes):
+                found += re.findall(r"\w+", line)
+        for block in self.blocks(item):
             if block.trait not in (None, "Model"):
-                types = [it.head.removeprefix("type ") for it in block.members if it.kind == "type"]
-                where = "" if item.kind == "type" else bounds(block, item.head)
-                found.append(block.trait + (f"<{', '.join(types)}>" if types else "") + where)
+                types = [part.head for part in block.members if part.kind == "type"]
+                members = ", ".join(head.removeprefix("type ") for head in types)
+                where = self.bounds_beside(block, item)
+                found.append(block.trait + (f"<{members}>" if members else "") + where)
         return list(dict.fromkeys(found))
 
-    def details(self, item):
-        """What is said of a type besides its sentence: its fields or variants, and its traits; and who has a trait."""
-        if item.kind == "trait":
-            types = [it for it in self.items if it.kind in ("struct", "enum", "type") and it.public]
-            others = [self.code.types[it.name] for it in types if it.kind == "type"]
-            found = {"Implemented by": [it.name for it in types if it.name not in others and any(
-                re.match(rf"{item.name}\b", has) for has in self.traits(it))]}
-        else:
-            found = {"Fields": [it[len("pub "):] for it in item.parts if it.startswith("pub ")],
-                     "Variants": item.parts if item.kind == "enum" else [],
-                     "Traits": self.traits(item) if item.kind in ("struct", "enum", "type") else []}
-        return [f"*{mark}:* " + ", ".join(f"`{it}`" for it in parts) for mark, parts in found.items() if parts]
+    def implementers(self, trait):
+        """Returns the names of the public types that have a trait. A type with another name that
+        is public goes by that."""
+        public = [item for item in self.items if item.public]
+        types = [item for item in public if item.kind in ("struct", "enum", "type")]
+        renamed = [self.code.types[item.name] for item in types if item.kind == "type"]
+        found = []
+        for item in types:
+            names = [re.split(r"\W", name)[0] for name in self.traits(item)]
+            if item.name not in renamed and trait.name in names:
+                found.append(item.name)
+        return found
 
-    def members(self, item):
-        """The public calls of a type, and what a trait asks for, each with its bounds."""
-        if item.kind == "trait":
-            yield from ((it, "") for it in item.members)
-        for block in self.blocks(item)[1]:
+    def type_lines(self, item):
+        """Yields what is said of a type besides its sentence: its parts, its traits, its view, its
+        public calls, and what its blocks for traits state."""
+        fields = [part.removeprefix("pub ") for part in item.parts if part.startswith("pub ")]
+        facts = {
+            "fields": fields if item.kind == "struct" else [],
+            "variants": item.parts if item.kind == "enum" else [],
+            "traits": self.traits(item),
+        }
+        yield item.head
+        yield from (f"  {name}: {', '.join(parts)}" for name, parts in facts.items() if parts)
+        yield from clause_lines(item)
+        blocks = self.blocks(item)
+        for block in blocks:
+            if block.trait == "Model":
+                yield from clause_lines(block)
+        for block in blocks:
             if block.trait is None:
-                where = "" if item.kind == "type" else bounds(block, item.head)
-                yield from ((it, where) for it in block.members if it.public and it.comment and it.kind == "fn")
+                for call in calls_of(block):
+                    if call.public and call.comment:
+                        yield ""
+                        yield from function_lines(call, self.bounds_beside(block, item))
+        for block in blocks:
+            is_derived = "automatically_derived" in block.attributes
+            if block.trait not in (None, "Model") and not is_derived:
+                yield from lines_of_trait_block(block)
 
-    def described(self, crate):
-        """A crate's part of the page."""
-        yield f"### `{crate}`\n"
-        for file, names in self.exported(crate):
+    def trait_lines(self, item):
+        """Yields what is said of a trait besides its sentence, and then its calls."""
+        yield item.head
+        yield from (f"  {member.head}" for member in item.members if member.kind == "type")
+        yield from clause_lines(item)
+        if types := self.implementers(item):
+            yield f"  implemented by: {', '.join(types)}"
+        for call in calls_of(item):
+            yield ""
+            yield from function_lines(call)
+
+    def exported_items(self, crate):
+        """Yields each item that a crate exports, and the path before its name."""
+        for file, names in self.exports(crate):
             path = f"{file}::" if names is None and file != "lib" else ""
             for item in self.items:
-                if (item.crate, item.file) == (crate, f"{file}.rt") and item.public and item.comment and (
-                        names is None or item.name in names):
-                    said = "  \n  ".join([first_sentence(item.comment), *self.details(item)])
-                    yield f"- `{item.head.replace(item.name, path + item.name, 1)}`  \n  {said}"
-                    for it, where in self.members(item):
-                        yield f"    - `{it.head}{where}`  \n      {first_sentence(it.comment)}"
-            for line in self.lines[crate, file]:
-                other = re.match(r"pub use (\w+)::(?!.*::)", line)
-                for name in re.findall(r"\w+", line[other.end():]) if other and other[1] in compiled.LIBRARIES else ():
-                    if names is None or name in names:
-                        yield f"- `use {other[1]}::{name}`  \n  The one of `{other[1]}`."
-        yield ""
+                is_there = (item.crate, item.file) == (crate, f"{file}.rt")
+                is_documented = item.public and item.comment
+                if is_there and is_documented and (names is None or item.name in names):
+                    yield item, path
 
-    def promises(self, name):
-        """The public calls of that name: where each is, its comment, and what the kit has read, with the clauses."""
-        for it in (it for of in self.items if of.public or of.kind == "impl" for it in of.members or [of]):
-            has_own = it.trait and any(clause.label for clause in it.clauses)
-            if (it.name, it.kind) == (name, "fn") and (has_own or it.public and it.comment):
-                rows = [f"// {it.crate} {it.file}: {it.path}", *(f"/// {row}".rstrip() for row in it.comment)]
-                yield "\n".join([*rows, it.text.split("\nghost ")[0]])  # without what follows it in its `impl`
+    def sections(self, crate):
+        """Yields the sections of a crate's page, each with its title, its sentence and its lines:
+        the functions and constants, and then each type and trait."""
+        functions, others = [], []
+        for item, path in self.exported_items(crate):
+            if item.kind in ("fn", "const", "static"):
+                sentence, head, *clauses = function_lines(item)
+                functions += ["", sentence, head.replace(item.name, path + item.name, 1), *clauses]
+            else:
+                lines = self.trait_lines(item) if item.kind == "trait" else self.type_lines(item)
+                others.append((path + item.name, first_sentence(item.comment), [*lines]))
+        if functions:
+            yield "### Functions and constants", "", functions[1:]
+        for name, sentence, lines in sorted(others):
+            yield f"### `{name}`", sentence, lines
+
+    def contracts(self, crate):
+        """Returns the generated part of a crate's page."""
+        parts = [NOTE, *(line + "\n" for line in self.passed_on(crate))]
+        for title, sentence, lines in self.sections(crate):
+            parts.append(f"{title}\n")
+            if sentence:
+                parts.append(f"{sentence}\n")
+            parts.append("\n".join(["```text", *lines, "```\n"]))
+        return "\n".join(parts)
 
 
-def page():
-    """The text of the page, and the text that it should have."""
-    library, written = Library(), text_of(PAGE)
-    parts = "\n".join(line for crate in compiled.LIBRARIES for line in library.described(crate))
-    return written, written.split(BEGIN)[0] + BEGIN + "\n" + parts
+def page_of(crate):
+    """Returns the path of a library's page."""
+    return f"crates/{crate}/CALLING.md"
+
+
+def by_hand(crate):
+    """Returns the part of a library's page that is written by hand."""
+    return text_of(page_of(crate)).split(MARK)[0]
+
+
+def pages():
+    """Returns the texts that the pages should have, by their paths."""
+    library, found = Library(), {}
+    for crate in compiled.LIBRARIES:
+        found[page_of(crate)] = by_hand(crate) + MARK + "\n" + library.contracts(crate)
+    return found
 
 
 def main(words):
-    if len(words) > 1 or words and words[0].startswith("-"):
+    """Compares the pages, or writes them, and fails with a line for each that is stale."""
+    if words not in ([], ["--write"]):
         sys.exit(__doc__)
+    stale = stale_pages(pages())
     if words:
-        found = "\n\n".join(Library().promises(*words))
-        sys.exit(print(found) if found else f"library.py: no public call has the name {words[0]}")
-    _, wanted = page()
-    with open(PAGE, "w", encoding="utf-8") as file:
-        file.write(wanted)
+        write_pages(stale)
+        stale = {}
+    sys.exit("\n".join(f"{path} is stale: run tools/library.py --write" for path in stale) or 0)
 
 
 if __name__ == "__main__":

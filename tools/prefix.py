@@ -1,8 +1,9 @@
-"""What is ours below a prefix, which is the working directory: lib/digests/VERSION-SUM, to which lib/digests/current
-leads, and links through `current` at the places where others look. All else is of others, even what we made elsewhere:
-if it is in the way, it is named, and stays.
+"""What is ours below a prefix, which is the working directory: lib/digests/VERSION-SUM, to which
+lib/digests/current leads, and links through `current` at the places where others look. All else is
+of others, even what we made elsewhere: if it is in the way, it is named, and stays.
 
-Whatever ends a run, `current` leads to a whole directory, the old one or the new one. The next run completes it."""
+Whatever ends a run, `current` leads to a whole directory, the old one or the new one. The next run
+completes it."""
 
 import contextlib
 import fcntl
@@ -14,10 +15,15 @@ import subprocess
 import sys
 
 HOME, CURRENT, MAN = "lib/digests", "lib/digests/current", "share/man/man1"
-BASH, FISH, ZSH = "share/bash-completion/completions", "share/fish/vendor_completions.d", "share/zsh/site-functions"
+BASH, FISH, ZSH = (
+    "share/bash-completion/completions",
+    "share/fish/vendor_completions.d",
+    "share/zsh/site-functions",
+)
 FOLDERS = ("bin", MAN, BASH, FISH, ZSH)  # those of the links
 NEW = f"{HOME}/new.{os.urandom(8).hex()}"  # what this run hasn't finished
-NAMES = re.compile(r"[\d.]+-[0-9a-f]{16}(\.2)?|new\.[0-9a-f]{16}")  # ours in lib/digests, besides `current`
+# Ours in lib/digests, besides `current`.
+NAMES = re.compile(r"[\d.]+-[0-9a-f]{16}(\.2)?|new\.[0-9a-f]{16}")
 
 
 def say(text, to=1):
@@ -27,21 +33,22 @@ def say(text, to=1):
 
 
 def link_at(path):
-    """What a link says; an empty text if there is none to read."""
+    """Returns what a link says; an empty text if there is none to read."""
     with contextlib.suppress(OSError):
         return os.readlink(path)
     return ""
 
 
 def current():
-    """The name of our directory to which `current` leads, if it leads to one."""
+    """Returns the name of our directory to which `current` leads, if it leads to one."""
     return link_at(CURRENT) if NAMES.fullmatch(link_at(CURRENT)) else None
 
 
 def is_ours(path):
-    """Whether a link at this path leads, by whatever way, to the same path in our `current`."""
+    """Returns whether a link at this path leads, by whatever way, to the same path in our
+    `current`."""
     text, end = link_at(path), f"/current/{path}"
-    way = os.path.join(os.path.dirname(path), text[:-len(end)])
+    way = os.path.join(os.path.dirname(path), text[: -len(end)])
     return text.endswith(end) and os.path.realpath(way) == os.path.realpath(HOME)
 
 
@@ -50,30 +57,41 @@ def can_read(folder):
 
 
 def in_folders():
-    """What is in the directories of the links."""
-    return {f"{folder}/{name}" for folder in filter(can_read, FOLDERS) for name in os.listdir(folder)}
+    """Returns what is in the directories of the links."""
+    return {
+        f"{folder}/{name}" for folder in filter(can_read, FOLDERS) for name in os.listdir(folder)
+    }
 
 
 def is_of_an_earlier_form(path):
-    """Whether this is still what an earlier form put there: a link to the program in the place of a command; or the
-    program, a page or a completion, all of which mention it."""
+    """Returns whether this is still what an earlier form put there: a link to the program in the
+    place of a command; or the program, a page or a completion, all of which mention it."""
     if path.startswith("bin/") and path != "bin/digests":
         return link_at(path) == "digests"
-    return os.path.isfile(path) and not os.path.islink(path) and b"digests" in pathlib.Path(path).read_bytes()
+    return (
+        os.path.isfile(path)
+        and not os.path.islink(path)
+        and b"digests" in pathlib.Path(path).read_bytes()
+    )
 
 
 def left_of_an_earlier_form():
-    """What is left of an earlier form, with its list. Each form's list has a line for the program."""
+    """Returns what is left of an earlier form, with its list. Each form's list has a line for the
+    program."""
     name = "share/digests/installed"
-    lines = pathlib.Path(name).read_text(errors="replace").splitlines() if os.path.isfile(name) else []
-    if not any(re.fullmatch(r"program [\d ]+|([0-9a-f]{64}  )?bin/digests", line) for line in lines):
+    lines = (
+        pathlib.Path(name).read_text(errors="replace").splitlines() if os.path.isfile(name) else []
+    )
+    if not any(
+        re.fullmatch(r"program [\d ]+|([0-9a-f]{64}  )?bin/digests", line) for line in lines
+    ):
         return []
     paths = {"bin/digests", *(re.sub("^link ", "bin/", line.rpartition("  ")[2]) for line in lines)}
     return [*sorted(filter(is_of_an_earlier_form, paths & in_folders())), name]
 
 
 def is_noexec(base):
-    """Whether lib/digests is, or would be, on a file system that lets no program run."""
+    """Returns whether lib/digests is, or would be, on a file system that lets no program run."""
     place = pathlib.Path(base, HOME)
     while not place.exists():
         place = place.parent
@@ -81,11 +99,15 @@ def is_noexec(base):
 
 
 def look(paths):
-    """Our links; and what isn't ours at these paths, above them or at lib/digests, in which case no link is ours."""
-    above = {str(at) for folder in (HOME, *FOLDERS) for at in pathlib.Path(folder, "any").parents}
-    there = in_folders()
-    links = set(filter(is_ours, there))
-    others = {path for path in above if os.path.lexists(path) and not can_read(path)} | there & paths - links
+    """Returns our links; and what isn't ours at these paths, above them or at lib/digests, in which
+    case no link is ours."""
+    above = set()
+    for folder in (HOME, *FOLDERS):
+        above.update(map(str, pathlib.Path(folder, "any").parents))
+    in_the_way = {path for path in above if os.path.lexists(path) and not can_read(path)}
+    found = in_folders()
+    links = set(filter(is_ours, found))
+    others = in_the_way | found & paths - links
     names = os.listdir(HOME) if can_read(HOME) else []
     if names and not current() and ("current" in names or not any(map(NAMES.fullmatch, names))):
         others.add(HOME)  # where a run that was ended leaves what is ours, or nothing
@@ -105,10 +127,12 @@ def check_place():
     """Ends the run if lib/digests is below another prefix, or another user's."""
     here, real = os.path.abspath(HOME), os.path.realpath(HOME)
     if here != real and os.path.isdir("lib"):
-        other = real[:-len(HOME) - 1] or "/" if real.endswith(f"/{HOME}") else "another one"
+        other = real[: -len(HOME) - 1] or "/" if real.endswith(f"/{HOME}") else "another one"
         sys.exit(f"install: {here} is really {real}, so PREFIX has to be {other}")
     if os.path.isdir(HOME) and os.stat(HOME).st_uid != os.geteuid():
-        sys.exit(f"install: {here} is another user's: run install as that user, or choose another PREFIX")
+        sys.exit(
+            f"install: {here} is another user's: run install as that user, or choose another PREFIX"
+        )
 
 
 def sync():
@@ -118,11 +142,17 @@ def sync():
 
 
 def tree(folder):
-    """What is in a directory: owners, types and modes, links and contents. Nothing else, such as a pipe, is opened."""
+    """Returns what is in a directory: owners, types and modes, links and contents. Nothing else,
+    such as a pipe, is opened."""
     with contextlib.suppress(OSError):
-        return {path.relative_to(folder): (path.lstat().st_uid, path.lstat().st_mode, link_at(path) or
-                                           path.is_file() and path.read_bytes())
-                for path in [pathlib.Path(folder), *pathlib.Path(folder).rglob("*")]}
+        return {
+            path.relative_to(folder): (
+                path.lstat().st_uid,
+                path.lstat().st_mode,
+                link_at(path) or path.is_file() and path.read_bytes(),
+            )
+            for path in [pathlib.Path(folder), *pathlib.Path(folder).rglob("*")]
+        }
 
 
 def write(name, things):
@@ -155,12 +185,21 @@ def drop(kept=None):
 
 
 def install(name, things):
-    """Puts these things, bytes of files and what links say, where their paths say, and removes what else is ours."""
+    """Puts these things, bytes of files and what links say, where their paths say, and removes what
+    else is ours."""
     paths = {path for path in things if os.path.dirname(path) in FOLDERS}
     links, others = look(paths)
     if others:
-        sys.exit("\n".join(["install: nothing was installed, as these are taken or can't be read; move them, choose "
-                            "another PREFIX, or say --only-own-names:", *map(os.path.abspath, sorted(others))]))
+        sys.exit(
+            "\n".join(
+                [
+                    "install: nothing was installed, as these are taken or can't be read; "
+                    "move them, choose "
+                    "another PREFIX, or say --only-own-names:",
+                    *map(os.path.abspath, sorted(others)),
+                ]
+            )
+        )
     for folder in (HOME, *FOLDERS):
         os.makedirs(folder, exist_ok=True)
     drop(current())  # what a run has left that was ended
@@ -172,19 +211,29 @@ def install(name, things):
         os.symlink(name, NEW)
         os.rename(NEW, CURRENT)
     for path in sorted(paths - links):  # this fails if something has appeared there
-        os.symlink(os.path.relpath(f"{CURRENT}/{path}", os.path.realpath(os.path.dirname(path))), path)
+        os.symlink(
+            os.path.relpath(f"{CURRENT}/{path}", os.path.realpath(os.path.dirname(path))), path
+        )
     sync()
     drop(current())
     sync()
 
 
 def remove():
-    """Removes what is ours, names what may be, and returns the status. Directories that others may use stay."""
+    """Removes what is ours, names what may be, and returns the status. Directories that others may
+    use stay."""
     inside = (path for folder in FOLDERS for path in pathlib.Path().glob(f"{HOME}/*/{folder}/*"))
     links, others = look({"/".join(path.parts[3:]) for path in inside})
     if others:
-        say("\n".join(["install: these stay, as they may be of others; remove what is yours:",
-                       *map(os.path.abspath, sorted(others))]), 2)
+        say(
+            "\n".join(
+                [
+                    "install: these stay, as they may be of others; remove what is yours:",
+                    *map(os.path.abspath, sorted(others)),
+                ]
+            ),
+            2,
+        )
     elif not links and not os.path.isdir(HOME):
         sys.exit(f"install: nothing is installed in {os.getcwd()}")
     for path in sorted(links):

@@ -1,5 +1,5 @@
-"""Completions for bash, fish and zsh, of the program and of the tools that are called by their own names. The shell
-code is in completions/; the options and tools take the place of @NAME@ there."""
+"""Completions for bash, fish and zsh, of the program and of the tools that are called by their own
+names. The shell code is in completions/; the options and tools take the place of @NAME@ there."""
 
 import re
 
@@ -12,20 +12,25 @@ def words_of(options):
 
 
 def quoted(text):
-    """A text between the quotes of a shell."""
+    """Returns a text between the quotes of a shell."""
     return "'" + text.replace("'", "'\\''") + "'"
 
 
 def zsh_option(option):
-    """What _arguments gets for an option: what it excludes, its words, its text and its value."""
+    """Returns what _arguments gets for an option: what it excludes, its words, its text and its
+    value."""
     text = f"[{option.help}]"
     if option.at_once:
         return quoted(f"(- *)--{option.long}{text}")
     if option.value:
-        return (f"'(-{option.short} --{option.long})'{{-{option.short}+,--{option.long}=}}"
-                f"'{text}:bits:('\"$lengths\"')'")
+        return (
+            f"'(-{option.short} --{option.long})'{{-{option.short}+,--{option.long}=}}"
+            f"'{text}:bits:('\"$lengths\"')'"
+        )
     if option.short:
-        return f"'(-{option.short} --{option.long})'{{-{option.short},--{option.long}}}{quoted(text)}"
+        return (
+            f"'(-{option.short} --{option.long})'{{-{option.short},--{option.long}}}{quoted(text)}"
+        )
     return quoted(f"--{option.long}{text}")
 
 
@@ -34,26 +39,36 @@ def zsh_options(options):
 
 
 def fish_option(option, tool):
-    """An option of one tool, or of any."""
+    """Returns an option of one tool, or of any."""
     state = {WITH_CHECK: " checking", WITHOUT_CHECK: " writing"}.get(option.where, "")
     short = f" -s {option.short}" if option.short else ""
     value = " -x -a '(seq 8 8 512)'" if option.value else ""
     condition = quoted(f"__digests_takes {tool}{state}")
-    return f"    complete -c $name -n {condition}{short} -l {option.long}{value} \\\n        -d {quoted(option.help)}"
+    line = f"    complete -c $name -n {condition}{short} -l {option.long}{value}"
+    return f"{line} \\\n        -d {quoted(option.help)}"
 
 
 def completions(program, names):
-    """The texts for bash, fish and zsh, if these tools are called by their own names."""
+    """Returns the texts for bash, fish and zsh, if these tools are called by their own names."""
     common, b2sum = options_of(program, "md5sum"), options_of(program, "b2sum")
     lengths = [option for option in b2sum if option not in common]
     check = next(option for option in common if option.long == "check")
-    table = {"TOOLS": " ".join(TOOLS), "NAMES": " ".join(names), "CHECK": "|".join(cuts(check, b2sum)),
-             "LENGTH": "|".join(word for option in lengths for word in cuts(option, b2sum)),
-             "LENGTHS": words_of(lengths), "ZSH_LENGTHS": zsh_options(lengths),
-             "FISH": "\n".join([*(fish_option(one, "any") for one in common),
-                                *(fish_option(one, "b2sum") for one in lengths)])}
+    table = {
+        "TOOLS": " ".join(TOOLS),
+        "NAMES": " ".join(names),
+        "CHECK": "|".join(cuts(check, b2sum)),
+        "LENGTH": "|".join(word for option in lengths for word in cuts(option, b2sum)),
+        "LENGTHS": words_of(lengths),
+        "ZSH_LENGTHS": zsh_options(lengths),
+        "FISH": "\n".join(
+            [
+                *(fish_option(option, "any") for option in common),
+                *(fish_option(option, "b2sum") for option in lengths),
+            ]
+        ),
+    }
     for name, where in (("ALWAYS", ALWAYS), ("WITH", WITH_CHECK), ("WITHOUT", WITHOUT_CHECK)):
         options = [option for option in common if option.where == where]
         table.update({name: words_of(options), f"ZSH_{name}": zsh_options(options)})
     texts = [text_of("completions", name) for name in ("digests.bash", "digests.fish", "_digests")]
-    return [re.sub(r"@(\w+)@", lambda it: table[it[1]], text) for text in texts]
+    return [re.sub(r"@(\w+)@", lambda match: table[match[1]], text) for text in texts]

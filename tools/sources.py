@@ -1,5 +1,5 @@
-"""The files of the repository, its crates, and the code in a file: the tokens that the prover reads, which the kit
-prints."""
+"""The files of the repository, its crates, and the code in a file: the tokens that the prover
+reads, which the kit prints."""
 
 import collections
 import functools
@@ -12,64 +12,101 @@ TOP = os.path.dirname(os.path.dirname(os.path.realpath(__file__)))
 
 
 def text_of(*names):
-    """The text of a file, whose path is relative to the top."""
-    with open(os.path.join(TOP, *names), encoding="utf-8", newline="") as it:
-        return it.read()
+    """Returns the text of a file, whose path is relative to the top."""
+    with open(os.path.join(TOP, *names), encoding="utf-8", newline="") as file:
+        return file.read()
 
 
-def closure(first, below):
-    """These and all that they reach, in the order in which it is found; `below` answers what each reaches at once."""
+def stale_pages(pages):
+    """Returns those of some pages, texts by paths, whose file has another text, or isn't there."""
+
+    def is_stale(path):
+        return not os.path.exists(os.path.join(TOP, path)) or text_of(path) != pages[path]
+
+    return {path: text for path, text in pages.items() if is_stale(path)}
+
+
+def write_pages(pages):
+    """Writes pages, texts by paths, into their files."""
+    for path, text in pages.items():
+        with open(os.path.join(TOP, path), "w", encoding="utf-8") as file:
+            file.write(text)
+
+
+def with_part(page, tool, part):
+    """Returns the text of a page, with this in place of the part that a tool makes."""
+    begin = f"<!-- made by tools/{tool}.py: what stands below -->\n"
+    end = "\n<!-- and above this line -->"
+    before, _, rest = page.partition(begin)
+    _, _, after = rest.partition(end)
+    if end not in rest:
+        raise ValueError(f"the marks of tools/{tool}.py are missing from its page: put them back")
+    return before + begin + part + end + after
+
+
+def closure(first, next_of):
+    """Returns the first elements and all that they lead to, in the order in which they are found;
+    `next_of` returns what an element leads to directly."""
     found, left = {}, collections.deque(first)
     while left:
-        it = left.popleft()
-        if it not in found:
-            found[it] = None
-            left.extend(below(it))
+        element = left.popleft()
+        if element not in found:
+            found[element] = None
+            left.extend(next_of(element))
     return list(found)
 
 
-def needs():
-    """The crates of crates.txt, in its order, each with what it stands on."""
+def dependencies():
+    """Returns the crates of crates.txt, in its order, each with those that it may call, the kit's,
+    too."""
     lines = re.findall(r"(?m)^(\w+):([^#\n]*)", text_of("crates.txt"))
-    return {name: re.findall(r"[^\s,]+", below) for name, below in lines}
+    return {crate: re.findall(r"[^\s,]+", names) for crate, names in lines}
 
 
 def below(crate):
-    """The crates of the repository that a crate stands on, the lowest first."""
-    lines = needs()
-    found = closure([crate], lambda name: (lower for lower in lines[name] if lower in lines))
-    return [name for name in lines if name in found and name != crate]
+    """Returns the crates of the repository that a crate stands on, the lowest first."""
+    crates = dependencies()
+    found = closure([crate], lambda name: [lower for lower in crates[name] if lower in crates])
+    return [name for name in crates if name in found and name != crate]
 
 
 def crates_of_program():
-    """The crates of the program `digests`, in that order: it, and what it stands on."""
+    """Returns the crates of the program, the lowest first, and the one of `main` last."""
     return [*below("digests_main"), "digests_main"]
 
 
 def files(folder, ending):
-    """The files of all crates' folders of that name, in subfolders too: each one's crate, path there, and path."""
-    for path in sorted(glob.glob(os.path.join(TOP, "crates", "*", folder, "**", "*" + ending), recursive=True)):
-        crate, _, file = os.path.relpath(path[:-len(ending)], os.path.join(TOP, "crates")).split(os.sep, 2)
-        yield crate, file, path
+    """Yields the files with this ending in the folders of this name, such as `src`, of all crates:
+    the crate, the path in the folder without the ending, and the path."""
+    crates = os.path.join(TOP, "crates")
+    pattern = os.path.join(crates, "*", folder, "**", f"*{ending}")
+    for path in sorted(glob.glob(pattern, recursive=True)):
+        crate, _, file = os.path.relpath(path, crates).split(os.sep, 2)
+        yield crate, file[: -len(ending)], path
 
 
 @functools.lru_cache(maxsize=None)
 def kit():
-    """The kit's folder."""
-    return os.path.dirname(subprocess.run(["rt", "doc"], stdout=subprocess.PIPE, check=True, text=True).stdout)
+    """Returns the kit's folder."""
+    found = subprocess.run(["rt", "doc"], stdout=subprocess.PIPE, check=True, text=True)
+    return os.path.dirname(found.stdout)
 
 
-# A token: its kind (`rattle fmt --help` says which there are), its line, its place in the text, and itself.
+# A token: its kind (`rattle fmt --help` says which there are), its line, where it starts and ends
+# in the text, and itself.
 Token = collections.namedtuple("Token", "kind line start end text")
+# What the kit prints of a token that isn't a comment: its line, its first byte and the one after
+# its last, and its kind.
+PRINTED = re.compile(rb"(?m)^(\d+) (\d+) (\d+) (?!Literal \"//)(\w+)")
 # What stands between tokens: comments, up to the end of a line.
 GAP = re.compile(r"(?:\s|(?://|--)[^\n]*)*")
 
 
 @functools.lru_cache(maxsize=None)
 def printed_tokens():
-    """What the kit prints of the tokens of each file in `src` and `specs`, and of the code that it has read, a line for
-    each."""
-    paths = [path for of in (("src", ".rt"), ("specs", ".antt")) for _, _, path in files(*of)]
+    """Returns what the kit prints of the tokens of each file in `src` and `specs`, and of the code
+    that it has read, by the files' paths."""
+    paths = [path for _, _, path in (*files("src", ".rt"), *files("specs", ".antt"))]
     paths += glob.glob(os.path.join(TOP, "crates/*/out/rlib/*/lang/src/**/*.rt"), recursive=True)
     command = [f"{kit()}/bin/rattle", "fmt", "--tokens", *paths]
     printed = subprocess.run(command, stdout=subprocess.PIPE, check=True).stdout
@@ -78,26 +115,36 @@ def printed_tokens():
 
 @functools.lru_cache(maxsize=None)
 def tokens_of(path):
-    """The tokens of a file, as the prover reads it, without comments."""
-    text, found, read, place = text_of(path), [], 0, 0
+    """Returns the tokens of a file, as the prover reads it, without comments."""
+    text = text_of(path)
     data = text.encode()
-    for line, start, end, kind in re.findall(rb"(?m)^(\d+) (\d+) (\d+) (?!Literal \"//)(\w+)", printed_tokens()[path]):
-        gap, token = data[read:int(start)].decode(), data[int(start):int(end)].decode()
-        place, read = place + len(gap), int(end)
-        found.append(Token(kind.decode(), int(line), place, place + len(token), token))
-        place += len(token)
+    tokens = []
+    byte, place = 0, 0  # how far the text has been read, in bytes and in characters
+    for line, start, end, kind in PRINTED.findall(printed_tokens()[path]):
+        gap, token = data[byte : int(start)].decode(), data[int(start) : int(end)].decode()
         if not GAP.fullmatch(gap) or "«" in token:
             raise ValueError(f"in {path} this can't be read: {gap}{token}")
+        place += len(gap)
+        tokens.append(Token(kind.decode(), int(line), place, place + len(token), token))
+        place += len(token)
+        byte = int(end)
     if not GAP.fullmatch(text[place:]) or not text.replace("\n", "").isprintable():
         raise ValueError(f"in {path} a comment has no end, or a character can't be seen")
-    return found
+    return tokens
+
+
+def blank(text):
+    """Returns a text with spaces for all characters but newlines."""
+    return re.sub(r"[^\n]", " ", text)
 
 
 @functools.lru_cache(maxsize=None)
-def code_of(path, kinds=("Code", "Head", "Antt", "End")):
-    """The code in a file, or what its definitions say, with spaces for comments, texts, characters and other kinds."""
+def code_of(path):
+    """Returns the code in a file, or what its definitions say, with spaces for everything else:
+    comments, and literals of texts and characters."""
     text, code, place = text_of(path), "", 0
-    for it in tokens_of(path):
-        if it.kind in kinds:
-            code, place = code + re.sub(r"[^\n]", " ", text[place:it.start]) + it.text, it.end
-    return code + re.sub(r"[^\n]", " ", text[place:])
+    for token in tokens_of(path):
+        if token.kind in ("Code", "Head", "Antt", "End"):
+            code += blank(text[place : token.start]) + token.text
+            place = token.end
+    return code + blank(text[place:])

@@ -12,9 +12,16 @@ made_by = functools.cache(pages.pages)  # each page's name and text, by the prog
 
 
 def sections_of(page):
-    """The sections of a page's source, with fonts and spelled signs as plain text."""
+    """Returns the sections of a page's source, with fonts and spelled signs as plain text."""
     text = re.sub(r"\\f[BIR]|\\%|\\&", "", made_by(harness.PROGRAM)[page])
-    for spelled, sign in (("\\-", "-"), ("\\(aq", "'"), ("\\(ha", "^"), ("\\(ti", "~"), ("\\ ", " "), ("\\e", "\\")):
+    for spelled, sign in (
+        ("\\-", "-"),
+        ("\\(aq", "'"),
+        ("\\(ha", "^"),
+        ("\\(ti", "~"),
+        ("\\ ", " "),
+        ("\\e", "\\"),
+    ):
         text = text.replace(spelled, sign)
     _, *parts = re.split(r"(?m)^\.SH (.*)\n", text)
     return dict(zip(parts[::2], parts[1::2]))

@@ -31,19 +31,53 @@ SORTS = {
 }
 
 # What the recipes call besides a tool, `gpg` and `pv`: without one of these no recipe is typed.
-COMMANDS = ("find", "grep", "mktemp", "mv", "nproc", "rm", "sed", "sort", "split", "tee", "tr", "uniq", "wc", "xargs")
+COMMANDS = (
+    "find",
+    "grep",
+    "mktemp",
+    "mv",
+    "nproc",
+    "rm",
+    "sed",
+    "sort",
+    "split",
+    "tee",
+    "tr",
+    "uniq",
+    "wc",
+    "xargs",
+)
 
-# What bash has, and another shell may not have; and the shells in which all other recipes are typed.
+# What bash has, and another shell may not have; and the shells in which all other recipes are
+# typed.
 OF_BASH, SHELLS = re.compile(r"pipefail|>\("), ("bash", "dash", "zsh")
 
-GOOD = ["image.iso", "image.iso.old", "image.new", "SUMS.new", "a b", " ", "-x", "*", "'\"", "\u00e9", "new\nline",
-        "back\\slash", "\\n", "end\r", "some folder/c", "some folder/SUMS", "some folder/SUMS.new",
-        "some folder/image.iso", *(f"many/{number}" for number in range(40))]
+GOOD = [
+    "image.iso",
+    "image.iso.old",
+    "image.new",
+    "SUMS.new",
+    "a b",
+    " ",
+    "-x",
+    "*",
+    "'\"",
+    "\u00e9",
+    "new\nline",
+    "back\\slash",
+    "\\n",
+    "end\r",
+    "some folder/c",
+    "some folder/SUMS",
+    "some folder/SUMS.new",
+    "some folder/image.iso",
+    *(f"many/{number}" for number in range(40)),
+]
 IMAGE = bytes(range(256)) * 256
 
 
 def recipes_of(page):
-    """The recipes of a page, in its order, each with its sort."""
+    """Yields the recipes of a page, in its order, each with its sort."""
     for recipe in re.findall(r"(?ms)^\.nf\n(.*?)\n\.fi$", sections_of(page)["EXAMPLES"]):
         sorts = [sort for sort, mark in SORTS.items() if re.search(mark, recipe, re.MULTILINE)]
         if len(sorts) != 1:
@@ -52,14 +86,16 @@ def recipes_of(page):
 
 
 def commands_of(recipe):
-    """The commands that a recipe calls."""
-    return [name for name in (*COMMANDS, "digests", "anysum", "gpg", "pv") if re.search(rf"\b{name}\b", recipe)]
+    """Returns the commands that a recipe calls."""
+    names = (*COMMANDS, "digests", "anysum", "gpg", "pv")
+    return [name for name in names if re.search(rf"\b{name}\b", recipe)]
 
 
 def line_of(tool, name, content, tagged=False):
-    """The line of a list, as the standards and the page's LINE FORMATS say."""
+    """Returns the line of a list, as the standards and the page's LINE FORMATS say."""
     tag, _, _ = TOOLS[tool]
-    return reference.line("tag" if tagged else "text", False, tag, name, hasher(tag, content).digest())
+    mode = "tag" if tagged else "text"
+    return reference.line(mode, False, tag, name, hasher(tag, content).digest())
 
 
 # The lines of the image by two tools.
@@ -67,8 +103,8 @@ BOTH = [line_of(tool, b"image.iso", IMAGE, tagged=True) for tool in ("sha256sum"
 
 
 class Typed(Case):
-    """A directory in which recipes are typed, which is that for temporary files, too. The commands of the program come
-    first on the PATH; scripts may take the place of others there."""
+    """A directory in which recipes are typed, which is that for temporary files, too. The commands
+    of the program come first on the PATH; scripts may take the place of others there."""
 
     of_the_repository = True
 
@@ -80,17 +116,24 @@ class Typed(Case):
         for name in PAGES:
             os.makedirs(self.path("commands"), exist_ok=True)
             os.symlink(harness.PROGRAM, self.path(f"commands/{name}"))
-        self.env = {**os.environ, "PATH": os.fsdecode(self.path("commands")) + os.pathsep + os.environ["PATH"],
-                    "TMPDIR": os.fsdecode(self.path("here"))}
+        self.env = {
+            **os.environ,
+            "PATH": os.fsdecode(self.path("commands")) + os.pathsep + os.environ["PATH"],
+            "TMPDIR": os.fsdecode(self.path("here")),
+        }
 
     def command(self, name, script):
-        """Replaces a command by a script, which calls it as `real`, and others as `usual` and their name."""
-        path, real = self.path(f"commands/{name}"), harness.PROGRAM if name in PAGES else shutil.which(name)
+        """Replaces a command by a script, which calls it as `real`, and others as `usual` and their
+        name."""
+        path = self.path(f"commands/{name}")
+        real = harness.PROGRAM if name in PAGES else shutil.which(name)
         if os.path.lexists(path):
             os.remove(path)
         tool = f" {name}" if name in PAGES and name != "digests" else ""
         usual = f"usual() {{ (PATH='{os.environ['PATH']}' && \"$@\"); }}"
-        self.write_command(name, f"#!/bin/sh\nreal() {{ '{real}'{tool} \"$@\"; }}\n{usual}\n{script}\n")
+        self.write_command(
+            name, f"#!/bin/sh\nreal() {{ '{real}'{tool} \"$@\"; }}\n{usual}\n{script}\n"
+        )
 
     def restore(self, name):
         """Takes a script away again."""
@@ -101,15 +144,18 @@ class Typed(Case):
     def replace_gpg_and_pv(self):
         """Replaces what may not be installed. Other tests have the real ones."""
         self.command("pv", 'exec cat "$@"')
-        self.command("gpg", "[ \"$1 $3\" = '--output --verify' ] && grep -ax '[0-9a-f]*  ./image.iso' >\"$2\"")
+        self.command(
+            "gpg",
+            "[ \"$1 $3\" = '--output --verify' ] && grep -ax '[0-9a-f]*  ./image.iso' >\"$2\"",
+        )
 
     def put(self, name, content="more"):
         """Makes a file in the tree."""
         self.write(os.path.join(b"here", harness.as_bytes(name)), content)
 
     def make(self, good=True, more=()):
-        """A new tree, with the good names or none, and with more. Each file but the image holds its own name. A link in
-        the place of the signed list leads to the list."""
+        """Makes a new tree, with the good names or none, and with more. Each file but the image
+        holds its own name. A link in the place of the signed list leads to the list."""
         shutil.rmtree(self.path("here"), ignore_errors=True)
         os.mkdir(self.path("here"))
         os.symlink("SUMS", self.path("here/SUMS.asc"))
@@ -119,16 +165,18 @@ class Typed(Case):
             self.put(name)
 
     def files_of_the_tree(self):
-        """The names of all files of the tree except its list, as find gives them, and their contents."""
+        """Returns the names of all files of the tree except its list, as find gives them, and their
+        contents."""
         top, found = self.path("here"), {}
-        for path in (os.path.join(folder, name) for folder, _, names in os.walk(top) for name in names):
-            if os.path.isfile(path) and not os.path.islink(path):
-                found[b"." + path[len(top):]] = self.read(path)
+        for folder, _, names in os.walk(top):
+            for path in (os.path.join(folder, name) for name in names):
+                if os.path.isfile(path) and not os.path.islink(path):
+                    found[b"." + path[len(top) :]] = self.read(path)
         found.pop(b"./SUMS", None)
         return found
 
     def lines_of_the_tree(self):
-        """The lines of a whole list; the image's is the last."""
+        """Returns the lines of a whole list; the image's is the last."""
         files = self.files_of_the_tree()
         names = sorted(files, key=lambda name: (name == b"./image.iso", name))
         return [line_of("sha256sum", name, files[name]) for name in names]
@@ -137,7 +185,9 @@ class Typed(Case):
         return os.path.exists(self.path(f"here/{name}"))
 
     def type(self, recipe, shell="bash", **how):
-        return self.run_command([shell, "-c", recipe], cwd=self.path("here"), **{"env": self.env, **how})
+        return self.run_command(
+            [shell, "-c", recipe], cwd=self.path("here"), **{"env": self.env, **how}
+        )
 
     def fails(self, recipe, shell="bash", **how):
         """Types a recipe that mustn't pass, and leaves nothing in the tree that wasn't there."""
@@ -151,7 +201,8 @@ class Typed(Case):
         self.assertEqual(self.type(recipe, shell), Ran(0, out, b""), recipe)
 
     def each_recipe(self, *sorts, page="digests"):
-        """The recipes of a page, of these sorts or of all, with their sorts and with each shell that they are for."""
+        """Yields the recipes of a page, of these sorts or of all, with their sorts and with each
+        shell that they are for."""
         for recipe, sort in recipes_of(page):
             for shell in filter(shutil.which, SHELLS[:1] if OF_BASH.search(recipe) else SHELLS):
                 if sort in sorts or not sorts:
@@ -162,12 +213,17 @@ class Typed(Case):
 
     def expect_lines(self, name, wanted):
         """Expects a list of these lines, in any order."""
-        self.assertEqual(sorted(self.read(f"here/{name}").splitlines(keepends=True)), sorted(wanted))
+        self.assertEqual(
+            sorted(self.read(f"here/{name}").splitlines(keepends=True)), sorted(wanted)
+        )
 
     def expect_only(self, *made):
-        """Expects the good files as they were, these beside them, and nothing else there or in the test's folder."""
+        """Expects the good files as they were, these beside them, and nothing else there or in the
+        test's folder."""
         found = self.files_of_the_tree()
-        wanted = {b"./" + name.encode(): IMAGE if name == "image.iso" else name.encode() for name in GOOD}
+        wanted = {
+            b"./" + name.encode(): IMAGE if name == "image.iso" else name.encode() for name in GOOD
+        }
         self.assertEqual({name: found.pop(name) for name in wanted}, wanted)
         self.assertLessEqual(set(found), {f"./{name}".encode() for name in made})
         tops = {name.split("/")[0].encode() for name in (*GOOD, "SUMS", "SUMS.asc", *made)}

@@ -1,8 +1,9 @@
-"""The rules of the tools, implemented a second time: what hashing and checking write and return, by Python's own means.
-The words that ask for it are read in `reference_words.py`.
+"""The rules of the tools, implemented a second time: what hashing and checking write and return, by
+Python's own means. The words that ask for it are read in `reference_words.py`.
 
-It follows the manual and the decisions in `docs/DECISIONS.md` and knows nothing of the crates: to agree on a misread
-rule, both would have to misread it in the same way. Files are those of the current folder."""
+It follows the manual and the decisions in `docs/DECISIONS.md` and knows nothing of the crates: to
+agree on a misread rule, both would have to misread it in the same way. Files are those of the
+current folder."""
 
 import collections
 import errno
@@ -13,7 +14,7 @@ import options
 from harness import Ran, as_bytes, bad, hasher, unread, wrong
 
 # Tool: the tag of its algorithm and the length of its full digest. `anysum` has none of its own.
-ALGORITHMS = {tool: (it.tag, (it.bits or 0) // 8) for tool, it in options.TOOLS.items()}
+ALGORITHMS = {tool: (row.tag, (row.bits or 0) // 8) for tool, row in options.TOOLS.items()}
 SIZES = {tag: size for tag, size in ALGORITHMS.values() if tag}
 
 NOT_FOUND = b"No such file or directory"
@@ -22,13 +23,17 @@ OTHER = b"Input/output error"
 # The reason of a name that isn't UTF-8.
 NO_TEXT = os.strerror(errno.EILSEQ).encode()
 
-# The reasons of Linux's numbers that have a text in the C library. EIO and any number that isn't here have `OTHER`.
-REASONS = {number: os.strerror(number).encode() for number in range(1, 141)
-           if number != errno.EIO and os.strerror(number) != f"Unknown error {number}"}
+# The reasons of Linux's numbers that have a text in the C library. EIO and any number that isn't
+# here have `OTHER`.
+REASONS = {
+    number: os.strerror(number).encode()
+    for number in range(1, 141)
+    if number != errno.EIO and os.strerror(number) != f"Unknown error {number}"
+}
 
 
 def digest(tag, size, content):
-    """The digest of this many bytes, by hashlib."""
+    """Returns the digest of this many bytes, by hashlib."""
     return hasher(tag, content, size).digest()
 
 
@@ -37,19 +42,21 @@ def escape(name):
 
 
 def unescape(raw):
-    """The name whose escape this is, or None."""
+    """Returns the name whose escape this is, or None."""
     if re.fullmatch(rb"(?:[^\\\n\r]|\\[\\nr])*", raw, re.DOTALL) is None:
         return None
-    return re.sub(rb"\\([\\nr])", lambda found: {b"\\": b"\\", b"n": b"\n", b"r": b"\r"}[found[1]], raw)
+    return re.sub(
+        rb"\\([\\nr])", lambda found: {b"\\": b"\\", b"n": b"\n", b"r": b"\r"}[found[1]], raw
+    )
 
 
 def mark(name):
-    """The backslash before a name that its escape changes."""
+    """Returns the backslash before a name that its escape changes."""
     return b"" if escape(name) == name else b"\\"
 
 
 def line(mode, zero, tag, name, found):
-    """The line of a name and its digest."""
+    """Returns the line of a name and its digest."""
     shown, front, end = (name, b"", b"\0") if zero else (escape(name), mark(name), b"\n")
     digits = found.hex().encode()
     if mode == "tag":
@@ -59,6 +66,7 @@ def line(mode, zero, tag, name, found):
 
 
 def lines(content):
+    """Returns the lines of a manifest, without their ends."""
     pieces = content.removesuffix(b"\n").split(b"\n") if content else []
     return [piece.removesuffix(b"\r") for piece in pieces]
 
@@ -68,7 +76,8 @@ def is_ignored(text):
 
 
 def plain(tag, text):
-    """Whether a backslash stood in front, the digest and the tail of a plain line, or None."""
+    """Returns the parts of a plain line: whether a backslash is in front, the digest, and the tail
+    after the blank; or None."""
     found = re.fullmatch(rb"[ \t]*(\\?)([0-9A-Fa-f]+)[ \t](.+)", text, re.DOTALL)
     if tag is None or found is None:
         return None
@@ -79,7 +88,8 @@ def plain(tag, text):
 
 
 def tagged(tag, text):
-    """Whether a backslash stood in front, the tag, the digest and the raw name of a tagged line, or None."""
+    """Returns the parts of a tagged line: whether a backslash is in front, the tag, the digest, and
+    the name as it stands there; or None."""
     for own, size in SIZES.items() if tag is None else [(tag, SIZES[tag])]:
         bits = rb"(?:-([1-9][0-9]{0,2}))?" if own == "BLAKE2b" else rb"()"
         shape = rb"[ \t]*(\\?)" + own.encode() + bits + rb" ?\((.+)\)[ \t]*=[ \t]*([0-9A-Fa-f]+)"
@@ -92,17 +102,18 @@ def tagged(tag, text):
 
 
 def is_standard(tail):
+    """Returns whether a plain line's tail begins with the sign of a mode, before the name."""
     return len(tail) >= 2 and tail[:1] in (b" ", b"*")
 
 
 def is_reversed(tag, texts):
-    """Whether the first plain line of a manifest has its name right after the blank."""
+    """Returns whether the first plain line of a manifest has its name right after the blank."""
     tails = [plain(tag, text)[2] for text in texts if not is_ignored(text) and plain(tag, text)]
     return bool(tails) and not is_standard(tails[0])
 
 
 def entry(tag, in_reversed, text):
-    """The tag, the digest and the name of a line, or None if it is improperly formatted."""
+    """Returns the tag, the digest and the name of a line, or None if it is improperly formatted."""
     if tagged(tag, text):
         escaped, own, found, raw = tagged(tag, text)
     elif plain(tag, text):
@@ -128,7 +139,7 @@ class World:
         self.stdin = stdin
 
     def answer(self, name):
-        """The content under a name, or the fault."""
+        """Returns the content under a name, or the fault."""
         if name == b"-":
             given, self.stdin = self.stdin, b""
             return given
@@ -147,7 +158,7 @@ class World:
 
 
 def generated(tool, options, names, world):
-    """What hashing these names writes and answers."""
+    """Returns what hashing these names writes and answers."""
     tag, size = ALGORITHMS[tool]
     out, err = [], []
     for name in names:
@@ -155,7 +166,8 @@ def generated(tool, options, names, world):
         if isinstance(answer, Fault):
             err.append(b"%s: %s: %s\n" % (tool.encode(), escape(name), answer.text))
         else:
-            out.append(line(options.mode, options.zero, tag, name, digest(tag, options.size or size, answer)))
+            found = digest(tag, options.size or size, answer)
+            out.append(line(options.mode, options.zero, tag, name, found))
     return Ran(1 if err else 0, b"".join(out), b"".join(err))
 
 
@@ -163,14 +175,14 @@ class Manifest:
     """The check of one manifest: what it writes, and whether it is good."""
 
     def __init__(self, tool, options, name, world):
-        self.options, self.world, self.name = options, world, name
+        self.tool, self.options, self.name, self.world = tool, options, name, world
         self.tag = ALGORITHMS[tool][0]
-        self.shown = tool.encode() + b": " + (b"standard input" if name == b"-" else escape(name)) + b": "
-        self.tool = tool
+        shown = b"standard input" if name == b"-" else escape(name)
+        self.front = b"%s: %s: " % (tool.encode(), shown)
         self.out, self.err, self.verdicts = [], [], []
         answer = world.answer(name)
         if isinstance(answer, Fault):
-            self.err.append(self.shown + answer.text + b"\n")
+            self.err.append(self.front + answer.text + b"\n")
             return
         texts = lines(answer)
         in_reversed = is_reversed(self.tag, texts)
@@ -180,11 +192,11 @@ class Manifest:
         self.summarise()
 
     def verdict(self, number, found):
-        """The verdict of a line, which is reported."""
+        """Returns the verdict of a line, and reports it."""
         if found is None or self.name == found[2] == b"-":
             if self.options.report == "warn":
-                tag = (self.tag or "tagged").encode()
-                self.err.append(self.shown + b"%d: improperly formatted %s checksum line\n" % (number, tag))
+                place = number, (self.tag or "tagged").encode()
+                self.err.append(self.front + b"%d: improperly formatted %s checksum line\n" % place)
             return "bad"
         tag, wanted, name = found
         answer = self.world.answer(name)
@@ -202,15 +214,15 @@ class Manifest:
         return verdict
 
     def summarise(self):
-        """The lines at the manifest's end."""
+        """Writes the lines at the manifest's end."""
         if all(verdict == "bad" for verdict in self.verdicts):
-            self.err.append(self.shown + b"no properly formatted checksum lines found\n")
+            self.err.append(self.front + b"no properly formatted checksum lines found\n")
         elif self.options.report != "status":
             for verdict, warning in (("bad", bad), ("unread", unread), ("wrong", wrong)):
                 if count := self.verdicts.count(verdict):
                     self.err.append(as_bytes([warning(count, self.tool)]))
             if self.options.ignore_missing and "right" not in self.verdicts:
-                self.err.append(self.shown + b"no file was verified\n")
+                self.err.append(self.front + b"no file was verified\n")
 
     def is_good(self):
         harmful = {"wrong", "unread"} | ({"bad"} if self.options.strict else set())
@@ -218,7 +230,7 @@ class Manifest:
 
 
 def checked(tool, options, names, world):
-    """What checking these manifests writes and answers."""
+    """Returns what checking these manifests writes and answers."""
     manifests = [Manifest(tool, options, name, world) for name in names]
     out = b"".join(text for manifest in manifests for text in manifest.out)
     err = b"".join(text for manifest in manifests for text in manifest.err)

@@ -1,5 +1,5 @@
-"""The rules of the words, implemented a second time: what a command line asks for, and what it then writes and
-returns."""
+"""The rules of the words, implemented a second time: what a command line asks for, and what it then
+writes and returns."""
 
 import collections
 import os
@@ -9,8 +9,20 @@ from harness import Ran
 from reference import ALGORITHMS, World, checked, escape, generated
 from sources import text_of
 
-NAMES = ["binary", "check", "tag", "text", "zero", "ignore-missing", "quiet", "status", "strict", "warn", "help",
-         "version"]
+NAMES = [
+    "binary",
+    "check",
+    "tag",
+    "text",
+    "zero",
+    "ignore-missing",
+    "quiet",
+    "status",
+    "strict",
+    "warn",
+    "help",
+    "version",
+]
 LETTERS = {"b": "binary", "c": "check", "t": "text", "z": "zero", "w": "warn"}
 
 
@@ -19,13 +31,14 @@ class WordFault(Exception):
 
 
 def shown(text):
-    """What was typed, as a fault shows it."""
+    """Returns what was typed, as a fault shows it."""
     return os.fsdecode(escape(os.fsencode(text)))
 
 
 class Words:
-    """The options, length values and operands of a command line, in their order, up to the first fault, `--help` or
-    `--version`, which decides. In a word that isn't UTF-8 a byte is one of Python's lone surrogates."""
+    """The options, length values and operands of a command line, in their order, up to the first
+    fault, `--help` or `--version`, which decides. In a word that isn't UTF-8 a byte is one of
+    Python's lone surrogates."""
 
     def __init__(self, tool, words):
         self.tool, self.rest = tool, list(words)
@@ -57,7 +70,9 @@ class Words:
         if len(meant) > 1:
             raise WordFault(f"option '--{shown(typed)}' is ambiguous")
         if meant == ["length"]:
-            self.lengths.append(value if equals else self.next_word("option '--length' requires an argument"))
+            self.lengths.append(
+                value if equals else self.next_word("option '--length' requires an argument")
+            )
         elif equals:
             raise WordFault(f"option '--{meant[0]}' doesn't allow an argument")
         else:
@@ -66,7 +81,9 @@ class Words:
     def take_letters(self, letters):
         for place, letter in enumerate(letters, 1):
             if self.tool == "b2sum" and letter == "l":
-                self.lengths.append(letters[place:] or self.next_word("option requires an argument -- 'l'"))
+                self.lengths.append(
+                    letters[place:] or self.next_word("option requires an argument -- 'l'")
+                )
                 return
             if letter not in LETTERS:
                 raise WordFault(f"invalid option -- '{shown(letter)}'")
@@ -83,8 +100,9 @@ class Words:
         return self.rest.pop(0)
 
     def last_of(self, *names):
-        """The last of these options that stands among the words, if there is one."""
-        return ([None] + [option for option in self.options if option in names])[-1]
+        """Returns the last of these options that stands among the words, if there is one."""
+        found = [option for option in self.options if option in names]
+        return found[-1] if found else None
 
 
 # What the options come to. A size of 0 is the algorithm's own.
@@ -92,7 +110,7 @@ Options = collections.namedtuple("Options", "mode zero size report strict ignore
 
 
 def size_asked(lengths):
-    """The digest's length in bytes by the last length value."""
+    """Returns the digest's length in bytes by the last length value."""
     if not lengths:
         return 0
     value = lengths[-1]
@@ -104,24 +122,39 @@ def size_asked(lengths):
 
 
 def options_of(words):
-    """What the options come to, or the first of their faults."""
-    has = words.options.__contains__
+    """Returns what the options come to, or the first of their faults."""
     size = size_asked(words.lengths)
-    mode, report, check = words.last_of("binary", "text", "tag"), words.last_of("status", "warn", "quiet"), has("check")
+    mode = words.last_of("binary", "text", "tag")
+    report = words.last_of("status", "warn", "quiet")
+
+    def has(name):
+        return name in words.options
+
+    check = has("check")
     meaningful = "option is meaningful only when verifying checksums"
     for holds, text in (
         (has("tag") and mode == "text", "--tag does not support --text mode"),
         (has("zero") and check, "the --zero option is not supported when verifying checksums"),
         (has("tag") and check, "the --tag option is meaningless when verifying checksums"),
-        ((has("binary") or has("text")) and check,
-         "the --binary and --text options are meaningless when verifying checksums"),
+        (
+            (has("binary") or has("text")) and check,
+            "the --binary and --text options are meaningless when verifying checksums",
+        ),
         (has("ignore-missing") and not check, f"the --ignore-missing {meaningful}"),
         (report is not None and not check, f"the --{report} {meaningful}"),
         (has("strict") and not check, f"the --strict {meaningful}"),
-        (words.tool == "anysum" and not check, "--check is required")):
+        (words.tool == "anysum" and not check, "--check is required"),
+    ):
         if holds:
             raise WordFault(text)
-    return Options("tag" if has("tag") else mode, has("zero"), size, report, has("strict"), has("ignore-missing"))
+    return Options(
+        "tag" if has("tag") else mode,
+        has("zero"),
+        size,
+        report,
+        has("strict"),
+        has("ignore-missing"),
+    )
 
 
 HELP = text_of("tests", "support", "help.txt")
@@ -129,15 +162,17 @@ LENGTH_LINE = "  -l, --length=BITS     digest length in bits, a multiple of 8, a
 
 
 def help_text(tool):
-    """The help text of a tool; the line of --length is b2sum's alone."""
-    tag = ALGORITHMS[tool][0]
-    text = HELP if tag else HELP.replace("Print or check TAG checksums.", "Check checksums of tagged lines.")
-    text = text if tool == "b2sum" else text.replace(LENGTH_LINE, "")
+    """Returns the help text of a tool; the line of --length is b2sum's alone."""
+    tag, text = ALGORITHMS[tool][0], HELP
+    if tag is None:
+        text = text.replace("Print or check TAG checksums.", "Check checksums of tagged lines.")
+    if tool != "b2sum":
+        text = text.replace(LENGTH_LINE, "")
     return text.replace("TOOL", tool).replace("TAG", tag or "")
 
 
 def meaning(tool, words, stdin):
-    """What a command line writes and answers, with this on standard input."""
+    """Returns what a command line writes and answers, with this on standard input."""
     read = Words(tool, words)
     try:
         if isinstance(read.decided, WordFault):
@@ -148,7 +183,8 @@ def meaning(tool, words, stdin):
             return Ran(0, f"{tool} (digests), profile 2\n".encode(), b"")
         options = options_of(read)
     except WordFault as fault:
-        return Ran(1, b"", os.fsencode(f"{tool}: {fault}\nTry '{tool} --help' for more information.\n"))
+        message = f"{tool}: {fault}\nTry '{tool} --help' for more information.\n"
+        return Ran(1, b"", os.fsencode(message))
     names = [os.fsencode(operand) for operand in read.operands] or [b"-"]
     does = checked if "check" in read.options else generated
     return does(tool, options, names, World(stdin))

@@ -12,13 +12,17 @@ from sources import text_of
 PROMPT = b"ready to type> "
 ALL = "\x18a"  # the keys that put all completions into the line
 
-# For each shell: how it is started, and the name of the file that it reads first. That is made of the one beside this,
-# in which each of the names is a function that writes its words into a file.
-SHELLS = {"bash": ("bash --noprofile --rcfile {rc} -i".split(), ".bashrc"), "zsh": ("zsh -d -i".split(), ".zshrc")}
+# For each shell: how it is started, and the name of the file that it reads first. That is made of
+# the one beside this, in which each of the names is a function that writes its words into a file.
+SHELLS = {
+    "bash": ("bash --noprofile --rcfile {rc} -i".split(), ".bashrc"),
+    "zsh": ("zsh -d -i".split(), ".zshrc"),
+}
 
 
 class Terminal:
-    """A shell in a folder, which loads completions by a line of its own; they are for functions of these names."""
+    """A shell in a folder, which loads completions by a line of its own; they are for functions of
+    these names."""
 
     def __init__(self, shell, folder, load, names):
         words, rc_name = SHELLS[shell]
@@ -28,12 +32,26 @@ class Terminal:
         self.words = os.path.join(folder, "here", "words")
         rc_path = os.path.join(home, rc_name)
         with open(rc_path, "w", encoding="utf-8") as file:
-            file.write(rc.format(prompt=PROMPT.decode(), load=load, folder=home, names=" ".join(names)))
-        env = {"PATH": os.environ["PATH"], "HOME": home, "ZDOTDIR": home, "TERM": "dumb", "LC_ALL": "C.UTF-8"}
+            file.write(
+                rc.format(prompt=PROMPT.decode(), load=load, folder=home, names=" ".join(names))
+            )
+        env = {
+            "PATH": os.environ["PATH"],
+            "HOME": home,
+            "ZDOTDIR": home,
+            "TERM": "dumb",
+            "LC_ALL": "C.UTF-8",
+        }
         self.master, slave = pty.openpty()
-        self.process = subprocess.Popen([word.format(rc=rc_path) for word in words], stdin=slave, stdout=slave,
-                                        stderr=slave, cwd=os.path.join(folder, "here"), env=env,
-                                        start_new_session=True)
+        self.process = subprocess.Popen(
+            [word.format(rc=rc_path) for word in words],
+            stdin=slave,
+            stdout=slave,
+            stderr=slave,
+            cwd=os.path.join(folder, "here"),
+            env=env,
+            start_new_session=True,
+        )
         os.close(slave)
         self.shown = b""
         self.wait_for(lambda: PROMPT in self.shown)

@@ -15,9 +15,19 @@ from harness import Case, Ran, as_words
 
 @functools.lru_cache
 def strace():
-    """The path of `strace`, if it is installed and may trace."""
+    """Returns the path of `strace`, if it is installed and may trace."""
     path = shutil.which("strace")
-    trial = [path, "-qq", "-o", os.devnull, "-e", "trace=close", "-e", "inject=close:error=EIO:when=900..999", "true"]
+    trial = [
+        path,
+        "-qq",
+        "-o",
+        os.devnull,
+        "-e",
+        "trace=close",
+        "-e",
+        "inject=close:error=EIO:when=900..999",
+        "true",
+    ]
     how = {"stderr": subprocess.DEVNULL, "timeout": harness.RUN_SECONDS}
     return path if path and not subprocess.run(trial, **how).returncode else None
 
@@ -31,38 +41,54 @@ class Traced(Case):
     """A test that runs the program under `strace`. Its files `out` and `err` take the outputs."""
 
     def traced(self, options, words, stdin=subprocess.DEVNULL, **how):
-        """Runs `digests` with these words under `strace` with these options: what it left, its outputs being files,
-        and the calls that the options select, a line each."""
+        """Runs `digests` with these words under `strace` with these options: what it left, its
+        outputs being files, and the calls that the options select, a line each."""
         trace = self.path("trace")
-        command = [strace(), "-qq", "-o", trace, *as_words(options), harness.PROGRAM, *as_words(words)]
+        command = [
+            strace(),
+            "-qq",
+            "-o",
+            trace,
+            *as_words(options),
+            harness.PROGRAM,
+            *as_words(words),
+        ]
         with open(self.path("out"), "wb") as out, open(self.path("err"), "wb") as err:
             ran = self.run_command(command, stdin, **{"stdout": out, "stderr": err, **how})
         calls = self.read("trace").decode(errors="replace").splitlines()
         return Ran(ran.status, self.read("out"), self.read("err")), calls
 
     def failing(self, call, error, words, only=None, when="", **how):
-        """Runs `digests` under `strace`, which lets this call fail with this error: each time or only the times in
-        `when`, for any file or for that of the path `only`."""
-        options = ["-e", f"trace={call}", "-e", f"inject={call}:error={error}" + (when and f":when={when}")]
-        return self.traced(options + (["-P", os.fsdecode(only)] if only else []), words, **how)
+        """Runs `digests` under `strace`, which lets this call fail with this error: each time or
+        only the times in `when`, for any file or for that of the path `only`."""
+        inject = f"inject={call}:error={error}" + (f":when={when}" if when else "")
+        options = ["-e", f"trace={call}", "-e", inject]
+        if only:
+            options += ["-P", os.fsdecode(only)]
+        return self.traced(options, words, **how)
 
 
 def sizes(calls, descriptor):
-    """The bytes that each call to write to this descriptor took."""
-    return [int(it) for it in re.findall(rf"(?m)^writev?\({descriptor},.*= (\d+)$", "\n".join(calls))]
+    """Returns how many bytes each call to write to this descriptor took."""
+    written = re.findall(rf"(?m)^writev?\({descriptor},.*= (\d+)$", "\n".join(calls))
+    return [int(count) for count in written]
 
 
 def faults(trace):
-    """Options that let some calls of a trace fail, or kill the run there: three of each kind, if there are as many."""
+    """Returns options that let some calls of a trace fail, or kill the run there: three of each
+    kind, if there are as many."""
     counts = collections.Counter(re.findall(r"(?m)^(\w+)\(", trace))
-    places = [(call, at) for call, all in counts.items() for at in sorted({1, all // 3 + 1, all * 2 // 3 + 1})]
     ends = itertools.cycle(("error=ENOSPC", "signal=KILL", "error=EIO"))
-    return [f"inject={call}:{end}:when={at}" for (call, at), end in zip(places, ends)]
+    options = []
+    for call, count in counts.items():
+        for place in sorted({1, count // 3 + 1, count * 2 // 3 + 1}):
+            options.append(f"inject={call}:{next(ends)}:when={place}")
+    return options
 
 
 def each_end(case, calls, command, folder, **how):
-    """Runs a command on a folder, to its end and then with each of the faults at these calls, each time with the same
-    in the folder: yields the option of `strace`, and what the run left."""
+    """Runs a command on a folder, to its end and then with each of the faults at these calls, each
+    time with the same in the folder: yields the option of `strace`, and what the run left."""
     shutil.copytree(folder, f"{folder} before", symlinks=True)
     traced, options = [strace(), "-qq", "-o", case.path("trace"), "-e"], [f"trace={calls}"]
     for option in options:

@@ -1,5 +1,6 @@
 -- Lemmas on rows of four words, whose columns are mixed at once.
-use Rattle.std.proofs.Common.{◌≡◌, ℕ, ◌-◌, ◌*◌, ◌/◌, ◌%◌, ◌^◌, ◌<◌, List, [], ◌∷◌, length, map, bit_or, bit_xor, ap, refl, arith}
+use Rattle.std.proofs.Common.{◌≡◌, ℕ, ◌-◌, ◌*◌, ◌/◌, ◌%◌, ◌^◌, ◌<◌, List, [], ◌∷◌, length, map, bit_or, bit_xor, ap}
+use Rattle.std.proofs.Common.{refl, arith}
 use Rattle.std.specs.{Int.rotate_right, Simd.Lanes.zip2}
 use Rattle.blake2b_core.specs.Compression.{◌!◌, ◌⊻◌, ◌⋙◌, mix}
 use Rattle.blake2b_core.specs.private.Columns.{columns, diagonals, rotated_row, row, words}

@@ -1,10 +1,9 @@
--- The compression function F of BLAKE2b (RFC 7693, 2.6, 2.7, 3.1 and 3.2). A word is a number below 2 ^ 64. A block is
--- a list of 128 bytes.
-use Rattle.std.specs.Prelude.{ℕ, ◌+◌, ◌/◌, ◌%◌, ◌^◌, Bool, List, [], ◌∷◌, ◌++◌, map, fold, bit_xor, slice_index, slice_index_or, slice_set, if◌then◌else◌}
-use Rattle.std.specs.{List.range_with_len, Simd.first_chunks}
-use Rattle.std.specs.Int.{w64, bit_not, rotate_right}
+-- The compression function F of BLAKE2b (RFC 7693, 2.6, 2.7, 3.1, 3.2), on words below 2 ^ 64 and blocks of 128 bytes.
+use Rattle.std.specs.Prelude.{ℕ, ◌+◌, ◌/◌, ◌%◌, ◌^◌, Bool, List, [], ◌∷◌, ◌++◌, map, fold, bit_xor}
+use Rattle.std.specs.Prelude.{slice_index, slice_index_or, slice_set, if◌then◌else◌}
+use Rattle.std.specs.{List.range_with_len, Simd.first_chunks, Int.w64, Int.bit_not, Int.rotate_right}
 use Rattle.byteorder.specs.Endian.{little_number}
-pub use Rattle.blake2b_core.specs.Bytes.{ByteString}
+use Rattle.blake2b_core.specs.Bytes.{ByteString}
 
 -- IV, the initialization vector
 abbrev pub iv : List ℕ
@@ -26,10 +25,10 @@ sigma =
     (6 ∷ 15 ∷ 14 ∷ 9 ∷ 11 ∷ 3 ∷ 0 ∷ 8 ∷ 12 ∷ 2 ∷ 13 ∷ 7 ∷ 1 ∷ 4 ∷ 10 ∷ 5 ∷ []) ∷
     (10 ∷ 2 ∷ 8 ∷ 4 ∷ 7 ∷ 6 ∷ 1 ∷ 5 ∷ 15 ∷ 11 ∷ 9 ∷ 14 ∷ 3 ∷ 12 ∷ 13 ∷ 0 ∷ []) ∷ []
 
--- v ! i: the word of v at place i
+-- words ! n: the word at place n
 infixl 90 ◌!◌
 abbrev pub ◌!◌ : List ℕ → ℕ → ℕ
-v ! i = slice_index v i
+words ! n = slice_index words n
 
 -- x ⊞ y: the sum of x and y modulo 2 ^ 64
 infixl 65 ◌⊞◌
@@ -46,10 +45,10 @@ infixl 55 ◌⋙◌
 abbrev pub ◌⋙◌ : ℕ → ℕ → ℕ
 x ⋙ k = rotate_right w64 x k
 
--- the mixing function G (3.1): it mixes the words x and y into v at the places a, b, c and d
+-- the mixing function G (3.1), which mixes the words x and y into the vector at the places a, b, c and d
 unfoldable pub mix : List ℕ → ℕ → ℕ → ℕ → ℕ → ℕ → ℕ → List ℕ
-mix v a b c d x y =
-    let v = slice_set v a (v ! a ⊞ v ! b ⊞ x) in
+mix vector a b c d x y =
+    let v = slice_set vector a (vector ! a ⊞ vector ! b ⊞ x) in
     let v = slice_set v d ((v ! d ⊻ v ! a) ⋙ 32) in
     let v = slice_set v c (v ! c ⊞ v ! d) in
     let v = slice_set v b ((v ! b ⊻ v ! c) ⋙ 24) in
@@ -58,27 +57,27 @@ mix v a b c d x y =
     let v = slice_set v c (v ! c ⊞ v ! d) in
     slice_set v b ((v ! b ⊻ v ! c) ⋙ 63)
 
--- round r (3.2): G on the four columns and then the four diagonals of v, with the words of m in the order of SIGMA
+-- round n (3.2): G on the four columns and then the four diagonals of the vector, with the words in the order of SIGMA
 unfoldable pub round : List ℕ → List ℕ → ℕ → List ℕ
-round m v r = let s = slice_index_or sigma (r % 10) [] in
-    let v = mix v 0 4 8 12 (m ! (s ! 0)) (m ! (s ! 1)) in
-    let v = mix v 1 5 9 13 (m ! (s ! 2)) (m ! (s ! 3)) in
-    let v = mix v 2 6 10 14 (m ! (s ! 4)) (m ! (s ! 5)) in
-    let v = mix v 3 7 11 15 (m ! (s ! 6)) (m ! (s ! 7)) in
-    let v = mix v 0 5 10 15 (m ! (s ! 8)) (m ! (s ! 9)) in
-    let v = mix v 1 6 11 12 (m ! (s ! 10)) (m ! (s ! 11)) in
-    let v = mix v 2 7 8 13 (m ! (s ! 12)) (m ! (s ! 13)) in
-    mix v 3 4 9 14 (m ! (s ! 14)) (m ! (s ! 15))
+round words vector n = let order = slice_index_or sigma (n % 10) [] in
+    let v = mix vector 0 4 8 12 (words ! (order ! 0)) (words ! (order ! 1)) in
+    let v = mix v 1 5 9 13 (words ! (order ! 2)) (words ! (order ! 3)) in
+    let v = mix v 2 6 10 14 (words ! (order ! 4)) (words ! (order ! 5)) in
+    let v = mix v 3 7 11 15 (words ! (order ! 6)) (words ! (order ! 7)) in
+    let v = mix v 0 5 10 15 (words ! (order ! 8)) (words ! (order ! 9)) in
+    let v = mix v 1 6 11 12 (words ! (order ! 10)) (words ! (order ! 11)) in
+    let v = mix v 2 7 8 13 (words ! (order ! 12)) (words ! (order ! 13)) in
+    mix v 3 4 9 14 (words ! (order ! 14)) (words ! (order ! 15))
 
--- the work vector v before the first round (3.2): h and IV, changed by the counter t and, at the last block, by a flag
+-- the vector before the first round (3.2): the hash and IV, changed by the counter and, at the last block, by a flag
 unfoldable pub work_vector : List ℕ → ℕ → Bool → List ℕ
-work_vector h t last = let v = h ++ iv in
-    let v = slice_set v 12 (v ! 12 ⊻ (t % 2 ^ 64)) in
-    let v = slice_set v 13 (v ! 13 ⊻ (t / 2 ^ 64)) in
+work_vector hash counter last = let v = hash ++ iv in
+    let v = slice_set v 12 (v ! 12 ⊻ (counter % 2 ^ 64)) in
+    let v = slice_set v 13 (v ! 13 ⊻ (counter / 2 ^ 64)) in
     if last then slice_set v 14 (bit_not w64 (v ! 14)) else v
 
--- the compression function F (3.2): m has the sixteen words of the block, each of eight bytes, little-endian
+-- the compression function F (3.2), which takes the block as sixteen words of eight bytes, little-endian
 unfoldable pub compress : List ℕ → ByteString → ℕ → Bool → List ℕ
-compress h block t last = let m = map (little_number 8) (first_chunks 8 16 block) in
-    let v = fold (round m) (work_vector h t last) (range_with_len 0 12) in
-    map (λ i. h ! i ⊻ v ! i ⊻ v ! (i + 8)) (range_with_len 0 8)
+compress hash block counter last = let words = map (little_number 8) (first_chunks 8 16 block) in
+    let v = fold (round words) (work_vector hash counter last) (range_with_len 0 12) in
+    map (λ i. hash ! i ⊻ v ! i ⊻ v ! (i + 8)) (range_with_len 0 8)

@@ -2,5 +2,5 @@ pub mod Bytes
 pub mod Compression
 pub mod Digest
 pub mod Laws
-pub mod Holding
+pub mod Blake2b
 pub mod private

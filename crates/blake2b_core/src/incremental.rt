@@ -48,9 +48,9 @@ pub struct Blake2b {
 }
 
 impl Blake2b {
+    ghost use Rattle.blake2b_core.specs.Blake2b.{HasTaken, HoldsSoFar, digest_len, taken_count};
     ghost use Rattle.blake2b_core.specs.Bytes.{ByteString};
     ghost use Rattle.blake2b_core.specs.Digest.{blake2b};
-    ghost use Rattle.blake2b_core.specs.Holding.{HasTaken, HoldsSoFar, digest_len, taken_count};
 
     /// Creates the state of the empty message, for a digest of `len` bytes. Returns `None` if and only if `len` is 0 or
     /// over 64.
@@ -187,6 +187,8 @@ impl Blake2b {
     /// more. It is then unchanged.
     pub fn try_update(&mut self, piece: &[u8]) -> Result<(), MessageTooLong>
         ensures fits { IsOk result ↔ (taken_count self.old + length piece.now < LIMIT) }
+
+        // What it has taken then, and what stays.
         ensures holds { OnOk result ((m : ByteString) → HasTaken self.old m
             → HasTaken self.new (m ++ piece.now)) }
         ensures taken { OnOk result (taken_count self.new

@@ -1,7 +1,6 @@
 //! The digest of a whole message (RFC 7693, 3.3).
 ghost use Rattle.blake2b_core.specs.Bytes.{ByteString};
-ghost use Rattle.blake2b_core.specs.Digest.{IsDigestLen, count_before_last, blake2b, hash_after};
-ghost use Rattle.blake2b_core.specs.Holding.{HasBlocksFrom};
+ghost use Rattle.blake2b_core.specs.Digest.{IsDigestLen, count_before_last, blake2b, hash_after, HasBlocksFrom};
 ghost use Rattle.blake2b_core.specs.declared.one_shot.TheConstants.{BLOCK};
 ghost use Rattle.std.specs.Prelude.{◌≡◌, ◌↔◌, ℕ, ◌+◌, ◌-◌, ◌*◌, ◌^◌, ◌<◌, ◌≤◌, ◌++◌, length, replicate, IsSome, IfSome};
 ghost use Rattle.std.specs.Simd.{first_chunks};

@@ -1,24 +1,26 @@
 -- The bits that a BLAKE2b tag may name: the digits that the code accepts are those of `decimal`.
-use Rattle.std.proofs.Common.{ℕ, ◌≡◌, ◌≢◌, ◌*◌, ◌/◌, ◌%◌, ◌<◌, ◌≤◌, true, List, length, get_or, Some, ap, sym, ◌∙◌, arith, decimal, refl, IsTrue}
+use Rattle.std.proofs.Common.{ℕ, ◌≡◌, ◌≢◌, ◌*◌, ◌/◌, ◌%◌, ◌<◌, ◌≤◌, true, List, length, get_or, Some, ap, sym, ◌∙◌}
+use Rattle.std.proofs.Common.{arith, decimal, refl, IsTrue}
 use Rattle.std.specs.{Char.is_ascii_digit, List.AllPass, Result.result_ok, Str.Parse.digits_value}
-use Rattle.std.proofs.lemmas.Fmt.{decimal_digit, decimal-digits_value, digits_decimal, digits_value-decimal, first_decimal, length-decimal-le}
+use Rattle.std.proofs.lemmas.Fmt.{decimal_digit, decimal-digits_value, digits_decimal, digits_value-decimal}
+use Rattle.std.proofs.lemmas.Fmt.{first_decimal, length-decimal-le}
 use Rattle.std.proofs.lemmas.List.Elements.{All-cons, All-head, All-tail, All-nil}
 use Rattle.std.proofs.lemmas.Str.Parse.{IsNumeralModel, digits_value_short, numerals_by_value}
-use Rattle.digest_kinds.specs.Kinds.{Blake2b, KindValue, blake2b_kind, blake2b_of_bits, has_len}
-use Rattle.digest_kinds.specs.KindTexts.{kind_of_digits, short_number}
+use Rattle.digest_kinds.specs.{Algo.Blake2b, Kind.KindValue, Kind.blake2b_kind, Kind.blake2b_of_bits, Algo.has_len}
+use Rattle.digest_kinds.specs.Kind.{kind_of_digits, short_number}
 use Rattle.digest_kinds.proofs.PrefixLemmas.{bind_some}
 
 -- ---- digits and the number that they write
 
 -- a byte that is a digit
-abbrev IsDigit : ℕ → Type 0
-IsDigit x = is_ascii_digit x ≡ true
+abbrev IsDecimalDigit : ℕ → Type 0
+IsDecimalDigit x = is_ascii_digit x ≡ true
 
 -- bytes that are digits, and the number that they write, as the library has them
 numerals : IsNumeralModel (AllPass is_ascii_digit) (digits_value 10)
 numerals = numerals_by_value _ (record {
-  empty = All-nil IsDigit;
-  parts = λ c cs all. let here = All-head IsDigit c cs all in (grind arith, All-tail IsDigit c cs all);
+  empty = All-nil IsDecimalDigit;
+  parts = λ c cs all. let here = All-head IsDecimalDigit c cs all in (grind arith, All-tail IsDecimalDigit c cs all);
   more = λ c cs range all. grind (arith, All-cons, all);
 })
 

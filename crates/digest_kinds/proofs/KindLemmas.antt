@@ -1,7 +1,7 @@
 -- Facts of all algorithms. They are proved for one variant after another, so that no crate above has to do that.
 use Rattle.std.proofs.Common.{ℕ, ◌≡◌, ◌<◌, ◌≤◌, List, ◌∷◌, ◌++◌, true, arith}
 use Rattle.hex.specs.Hex.{is_hex_digit}
-use Rattle.digest_kinds.specs.Kinds.{Algo, Blake2b, full_len, has_len, tag}
+use Rattle.digest_kinds.specs.Algo.{Algo, Blake2b, full_len, has_len, tag}
 
 -- each digest has 1 to 64 bytes
 pub has_len-range : (a : Algo) (n : ℕ) → has_len a n ≡ true → (0 < n) × (n ≤ 64)

@@ -1,9 +1,10 @@
 -- Searching the algorithms for one whose tag begins the bytes.
-use Rattle.std.proofs.Common.{◌≡◌, refl, sym, ℕ, Bool, true, List, [], ◌∷◌, ◌++◌, ◌==◌, drop, length, Option, None, Some, IfSome, find, arith}
+use Rattle.std.proofs.Common.{◌≡◌, refl, sym, ℕ, Bool, true, List, [], ◌∷◌, ◌++◌, ◌==◌, drop, length, Option, None}
+use Rattle.std.proofs.Common.{Some, IfSome, find, arith}
 use Rattle.std.specs.List.{starts_with}
 use Rattle.std.proofs.lemmas.{Slice.Eq.starts_is, Bool.Decides.Decides-eqb}
 use Rattle.digest_kinds.proofs.PrefixLemmas.{none_of}
-use Rattle.digest_kinds.specs.Kinds.{all_algos, tag, BeginsWithTag, Algo}
+use Rattle.digest_kinds.specs.Algo.{all_algos, tag, BeginsWithTag, Algo}
 
 -- whether the algorithm's tag is a prefix of the bytes
 abbrev pub begins : List ℕ → Algo → Bool

@@ -1,4 +1,5 @@
 pub mod Bytes
-pub mod Kinds
-pub mod KindTexts
-pub mod AnyHasherState
+pub mod Algo
+pub mod Kind
+pub mod Digest
+pub mod AnyHasher

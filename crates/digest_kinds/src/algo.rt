@@ -1,6 +1,6 @@
 //! The algorithms and their tags.
 
-ghost use Rattle.digest_kinds.specs.Kinds.{all_algos, full_len, tag, BeginsWithTag};
+ghost use Rattle.digest_kinds.specs.Algo.{all_algos, full_len, tag, BeginsWithTag};
 ghost use Rattle.std.specs.Fmt.{styled_text};
 ghost use Rattle.std.specs.List.{starts_with};
 ghost use Rattle.std.specs.Prelude.{◌≡◌, ◌==◌, Some, IfSome, Ok, IfOk, find};

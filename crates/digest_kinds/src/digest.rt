@@ -1,7 +1,7 @@
 //! A digest of any kind, and its digits.
 
 ghost use Rattle.blake2b_core.specs.Digest.{IsDigestLen};
-ghost use Rattle.digest_kinds.specs.Kinds.{IsDigits};
+ghost use Rattle.digest_kinds.specs.Digest.{IsDigits};
 ghost use Rattle.hex.specs.Hex.{decode_of, encode_lower};
 ghost use Rattle.std.specs.Prelude.{◌≡◌, ◌*◌, ◌++◌, ◌≤◌, ◌↔◌, IsTrue, drop, length, IsSome, IfSome, Ok, IsOk, IfOk};
 

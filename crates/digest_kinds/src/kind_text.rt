@@ -1,8 +1,9 @@
 //! The texts that name kinds, such as `SHA256` and `BLAKE2b-256`.
 
+ghost use Rattle.digest_kinds.specs.Algo.{BeginsWithTag, tag};
 ghost use Rattle.digest_kinds.specs.Bytes.{after_while};
-ghost use Rattle.digest_kinds.specs.KindTexts.{NamesKind, kind_and_rest, kind_of_digits, kind_text, short_number};
-ghost use Rattle.digest_kinds.specs.Kinds.{BeginsWithTag, KindValue, tag};
+ghost use Rattle.digest_kinds.specs.Kind.{NamesKind, kind_and_rest, kind_of_digits, kind_text, short_number, KindValue};
+ghost use Rattle.digest_kinds.specs.declared.kind_text.TheConstants.{LONGEST_KIND_TEXT};
 ghost use Rattle.std.specs.Char.{is_ascii_digit};
 ghost use Rattle.std.specs.Fmt.{styled_text};
 ghost use Rattle.std.specs.List.{AllPass, prefix_len};
@@ -15,6 +16,9 @@ use itoa::Buffer;
 use std::str::FromStr;
 use std::{fmt, str};
 use thiserror::Error;
+
+/// The length of the longest text of a kind, such as `BLAKE2b-256`.
+pub const LONGEST_KIND_TEXT: usize = 11;
 
 /// A kind whose text some bytes begin with, and what follows that text.
 #[derive(Clone, Copy, Debug)]
@@ -29,7 +33,7 @@ impl Kind {
     /// Returns the text that names the kind: the algorithm's tag and, for a BLAKE2b kind of fewer than 64 bytes, a `-`
     /// and its bits, as in `BLAKE2b-256`. It may be in `buffer`, whose previous content doesn't matter.
     #[tactic(auto, using(crate::proofs::KindTextLemmas::length_bits))]
-    pub fn text_into(self, buffer: &mut [u8; 11]) -> &str
+    pub fn text_into(self, buffer: &mut [u8; LONGEST_KIND_TEXT]) -> &str
         ensures { result.now ≡ kind_text self }
     {
         if self.len() == self.algo().full_len() {
@@ -62,10 +66,10 @@ impl Kind {
 }
 
 // Writes BLAKE2b's tag with these bits to the front of the buffer, and returns how long it is.
-fn put_bits(bits: u64, buffer: &mut [u8; 11]) -> usize
-    requires { length (decimal bits) ≤ 3 }
+fn put_bits(bits: u64, buffer: &mut [u8; LONGEST_KIND_TEXT]) -> usize
+    requires { length (codes "BLAKE2b-" ++ decimal bits) ≤ LONGEST_KIND_TEXT }
     ensures text { take result buffer.new ≡ codes "BLAKE2b-" ++ decimal bits }
-    ensures within { result ≤ 11 }
+    ensures within { result ≤ LONGEST_KIND_TEXT }
 {
     let mut digits = Buffer::new();
     let digits = digits.format(bits).as_bytes();
@@ -173,6 +177,6 @@ impl fmt::Display for Kind {
 
     /// Writes the text that names the kind, padded as a text is.
     fn fmt<W: fmt::Write>(&self, f: &mut fmt::Formatter<W>) -> fmt::Result {
-        f.pad(self.text_into(&mut [0; 11]))
+        f.pad(self.text_into(&mut [0; LONGEST_KIND_TEXT]))
     }
 }

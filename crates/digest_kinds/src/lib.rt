@@ -25,9 +25,9 @@ pub mod laws;
 pub use algo::{Algo, Algos, UnknownTag};
 pub use digest::{Digest, NotDigits};
 pub use hashers::any_hasher::AnyHasher;
-pub use hashers::hasher::{Hasher, LIMIT, MessageTooLong};
-pub use hashers::kit_hashers::{
+pub use hashers::counting_hasher::{
     Md5Hasher, Sha1Hasher, Sha224Hasher, Sha256Hasher, Sha384Hasher, Sha512Hasher,
 };
+pub use hashers::hasher::{Hasher, LIMIT, MessageTooLong};
 pub use kind::{Kind, LengthFault};
-pub use kind_text::{KindPrefix, UnknownKind};
+pub use kind_text::{KindPrefix, LONGEST_KIND_TEXT, UnknownKind};

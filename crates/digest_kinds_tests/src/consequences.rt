@@ -1,9 +1,9 @@
 //! What the contracts of hashers, of kinds and of algorithms give a caller.
+ghost use Rattle.blake2b_core.specs.Blake2b.{HasTaken, digest_len, taken_count};
 ghost use Rattle.blake2b_core.specs.Digest.{IsDigestLen, blake2b};
-ghost use Rattle.blake2b_core.specs.Holding.{HasTaken, digest_len, taken_count};
-ghost use Rattle.digest_kinds.specs.Bytes.{ByteString};
-ghost use Rattle.digest_kinds.specs.Kinds.{digest};
-ghost use Rattle.std.specs.Prelude.{◌≡◌, ◌↔◌, ◌+◌, ◌^◌, ◌<◌, ◌++◌, if◌then◌else◌};
+ghost use Rattle.digest_kinds.specs.Bytes.{ByteString, LIMIT};
+ghost use Rattle.digest_kinds.specs.Kind.{digest};
+ghost use Rattle.std.specs.Prelude.{◌≡◌, ◌↔◌, ◌+◌, ◌<◌, ◌++◌, if◌then◌else◌};
 ghost use Rattle.std.specs.Prelude.{length, take, slice_get, nat_lt, Some, Ok, IsSome, IfSome};
 
 use blake2b_core::{Blake2b, Output};
@@ -16,7 +16,7 @@ pub fn digest_with<H: Hasher>(mut hasher: H, piece: &[u8]) -> (Digest, Kind, u64
         result.0 ≡ digest result.1 (take result.2 (m ++ piece.now)) }
     ensures kind { result.1 ≡ H.kind_of hasher }
     ensures taken { let all = H.taken_of hasher + length piece.now in
-        result.2 ≡ (if nat_lt all (2 ^ 61) then all else H.taken_of hasher) }
+        result.2 ≡ (if nat_lt all LIMIT then all else H.taken_of hasher) }
 {
     let _ = hasher.try_update(piece);
     let (kind, taken) = (hasher.kind(), hasher.taken());
@@ -28,7 +28,7 @@ pub fn blake2b_with(mut state: Blake2b, piece: &[u8]) -> (Output, u64)
     ensures digest { (m : ByteString) → HasTaken state m →
         result.0 ≡ blake2b (digest_len state) (take result.1 (m ++ piece.now)) }
     ensures taken { let all = taken_count state + length piece.now in
-        result.1 ≡ (if nat_lt all (2 ^ 61) then all else taken_count state) }
+        result.1 ≡ (if nat_lt all LIMIT then all else taken_count state) }
 {
     let _ = state.try_update(piece);
     let taken = state.taken();
@@ -37,7 +37,7 @@ pub fn blake2b_with(mut state: Blake2b, piece: &[u8]) -> (Output, u64)
 
 /// Returns the BLAKE2b digest of `len` bytes of a message, or `None` if and only if there is none of that length.
 pub fn blake2b_digest(len: usize, message: &[u8]) -> Option<Digest>
-    requires { length message.now < 2 ^ 61 }
+    requires { length message.now < LIMIT }
     ensures some { IsSome result ↔ IsDigestLen len }
     ensures value { IfSome result (λ d. d ≡ blake2b len message.now) }
 {

@@ -4,31 +4,40 @@ use Rattle.std.proofs.lemmas.{Grind.common_steps, Bool.and_parts}
 use Rattle.std.specs.{List.list_all, Str.chars, Str.is_utf8}
 use lib.Utf8.{encode}
 use Rattle.sum_settings.specs.declared.settings.CheckSettings.{CheckSettings}
-use Rattle.sum_words.specs.{Request.Report, Request.request, Tools.algos_of, declared.parsing.options.Flag.Flag, declared.tool.Tool.Tool, declared.parsing.request.Request.TheVariants.Check}
-use Rattle.sum_words.specs.Items.{ByteString, option, operand, a_word, items_from, full_name, takes_value, name_or_fault}
+use Rattle.sum_settings.specs.declared.settings.Report.{Report}
+use Rattle.sum_words.specs.parsing.Request.{request}
+use Rattle.sum_words.specs.Tool.{algos_of}
+use Rattle.sum_words.specs.declared.parsing.options.Flag.{Flag}
+use Rattle.sum_words.specs.declared.tool.Tool.{Tool}
+use Rattle.sum_words.specs.declared.parsing.request.Request.TheVariants.{Check}
+use Rattle.digest_kinds.specs.Bytes.{ByteString}
+use Rattle.sum_words.specs.parsing.Items.{option, operand, a_word, items_from}
+use Rattle.sum_words.specs.parsing.Options.{full_name, takes_value, name_or_fault}
 use Rattle.digests.specs.GenerationRuns.{check_options, check_words}
 
 -- ---- long options that every tool has, and that take no value
 
+-- whether an option takes no value
 abbrev takes_none : Flag → Bool
 takes_none flag = not (takes_value flag)
 
 -- the word of one option that takes no value is read as that option
-long_word : (t : Tool) (flag : Flag) (more : List ByteString) → takes_none flag ≡ true
+one_long : (t : Tool) (flag : Flag) (more : List ByteString) → takes_none flag ≡ true
     → items_from t ((codes "--" ++ full_name flag) ∷ more) a_word ≡ option flag ∷ items_from t more a_word
 unfolding chars encode is_utf8 name_or_fault
-long_word = grind (arith, common_steps)
+one_long = grind (arith, common_steps)
 
 -- the words of several options that take no value are read as those options
-long_words : (t : Tool) (fs : List Flag) (more : List ByteString) → list_all takes_none fs ≡ true
+several_long : (t : Tool) (fs : List Flag) (more : List ByteString) → list_all takes_none fs ≡ true
     → items_from t (map (λ f. codes "--" ++ full_name f) fs ++ more) a_word ≡ map option fs ++ items_from t more a_word
-long_words t [] more all = refl
-long_words t (flag ∷ fs) more all =
+several_long t [] more all = refl
+several_long t (flag ∷ fs) more all =
     let parts = and_parts _ _ all in
-    long_word t flag _ parts.0 ∙ ap (λ xs. option flag ∷ xs) (long_words t fs more parts.1)
+    one_long t flag _ parts.0 ∙ ap (λ xs. option flag ∷ xs) (several_long t fs more parts.1)
 
 -- ---- the words of a check
 
+-- the settings of a tool's check
 abbrev settings : Tool → Report → Bool → Bool → CheckSettings
 settings t r s i = record { algo = algos_of t; report = r; strict = s; ignore_missing = i }
 
@@ -44,5 +53,5 @@ pub request-check_words : (t : Tool) (check : CheckSettings) (manifest : ByteStr
     → request t (check_words check manifest) ≡ Ok (Check check (manifest ∷ []))
 request-check_words t check manifest h =
     let is = options_ask t (check_words check manifest) manifest check.report check.strict check.ignore_missing in
-    is.1 (long_words t (check_options check) (codes "--" ∷ manifest ∷ []) is.0)
+    is.1 (several_long t (check_options check) (codes "--" ∷ manifest ∷ []) is.0)
     ∙ ap (λ a. Ok (Check (record check { algo = a }) (manifest ∷ []))) (sym h)

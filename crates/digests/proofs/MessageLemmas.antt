@@ -1,13 +1,14 @@
 -- Runs that write one text and nothing else: a fault, the help, the version.
 use Rattle.std.proofs.Common.{ℕ, Bool, [], Result, refl}
-use Rattle.sum_engine.specs.{Writes.WritesAndReturns, Behavior.single_step, Behavior.ByteString}
+use Rattle.sum_engine.specs.{Streams.WritesAndReturns, Behavior.single_step}
+use Rattle.digest_kinds.specs.Bytes.{ByteString}
 use Rattle.sum_settings.specs.declared.stop.Stop.{Stop}
-use Rattle.sum_engine.specs.Execution.{OutputsState, StreamsState, Performs}
+use Rattle.sum_engine.specs.{Streams.BothOutputs, Streams.StreamsState, Execution.Performs}
 use Rattle.sum_engine.proofs.{WorldLemmas.asks_none, BehaviorLemmas.Performs-step}
 use Rattle.digests.specs.Meaning.{status_of}
 
 -- texts alone were written, or a prefix of them
-pub Performs-texts : (a : StreamsState) (outputs : OutputsState) (err out : ByteString) (good : Bool)
+pub Performs-texts : (a : StreamsState) (outputs : BothOutputs) (err out : ByteString) (good : Bool)
     (x : Result ℕ Stop) → WritesAndReturns a.outputs outputs err out (status_of good) x
     → Performs (λ w. single_step [] err out good) status_of a (record a { outputs = outputs }) x
 Performs-texts a outputs err out good x said =

@@ -2,11 +2,13 @@
 use Rattle.std.proofs.Common.{◌≡◌, ℕ, Bool, true, List, [], ◌∷◌, ◌++◌, Option, None, Some, Result, Ok, Err, ◌&&◌, Bor}
 use Rattle.std.proofs.{Math.Bool.and_assoc, lemmas.Bool.and_parts}
 use Rattle.sum_engine.proofs.WorldLemmas.{reads_then, agrees_before, world_at_after}
-use Rattle.sum_engine.specs.{Behavior.World, Behavior.world_after, Behavior.Step, Behavior.Behavior, Behavior.trace, Behavior.asks, Behavior.ByteString}
+use Rattle.sum_engine.specs.Behavior.{World, world_after, Step, Behavior, trace, asks}
+use Rattle.digest_kinds.specs.Bytes.{ByteString}
 use Rattle.sum_settings.specs.declared.stop.Stop.{Stop}
-use Rattle.sum_engine.specs.Execution.{StreamsState, ReadsToEndIf, Agrees, world_at, Happened, Performs, PerformsSteps}
+use Rattle.sum_engine.specs.Streams.{StreamsState}
+use Rattle.sum_engine.specs.Execution.{ReadsToEndIf, Agrees, world_at, Happened, Performs, PerformsSteps}
 use Rattle.sum_engine.proofs.BehaviorLemmas.{behavior_then-happened, behavior_then-first, behavior_then-second, events_extend}
-use Rattle.sum_words.specs.Words.{TakesFirst}
+use Rattle.std.specs.Iterator.{YieldsFirstRef}
 use Rattle.digests.specs.Meaning.{operands_behavior, status_of}
 
 -- the operands that are left: none, or the next one and those after it
@@ -15,16 +17,16 @@ left None rest = []
 left (Some name) rest = name.now ∷ rest
 
 -- one operand was taken
-pub left-next : (old new : List ByteString) (next : Option (Bor ByteString)) → TakesFirst (λ w. w.now) old next new
-    → old ≡ left next new
+pub left-next : (old new : List ByteString) (next : Option (Bor ByteString))
+    → YieldsFirstRef (λ (names : List ByteString). names) old next new → old ≡ left next new
 left-next old new None h = h.0
 left-next old new (Some name) h = h
 
 -- steps happened, and then others were performed
-steps_then : {A : Type 0} {a b : StreamsState} (c : StreamsState) (x : A) (r s : List Step) (y : Result A Stop)
+PerformsSteps-append : {A : Type 0} {a b : StreamsState} (c : StreamsState) (x : A) (r s : List Step) (y : Result A Stop)
     → Happened a b (trace r) → PerformsSteps s x b c y → PerformsSteps (r ++ s) x a c y
-steps_then c x r s (Ok z) h k = (k.0, behavior_then-happened r s h k.1)
-steps_then c x r s (Err stop) h k = behavior_then-second c x x r s stop h k
+PerformsSteps-append c x r s (Ok z) h k = (k.0, behavior_then-happened r s h k.1)
+PerformsSteps-append c x r s (Err stop) h k = behavior_then-second c x x r s stop h k
 
 -- these operands were performed in a world, after others that were good or not
 abbrev PerformsFrom : (World → ByteString → Behavior) → World → List ByteString → Bool → StreamsState → StreamsState
@@ -53,7 +55,7 @@ module _ {one : World → ByteString → Behavior} {names : List ByteString} whe
         let run = one (world_at w y.inputs) name in
         let world = world_at_after w y.inputs z.inputs (asks run) (events_extend run y z q.1).0 in
         h.completes w (agrees_before agrees reads) end r
-        (steps_then end _ run.steps _ r q.1 (rw (world, q.0, and_assoc) at did));
+        (PerformsSteps-append end _ run.steps _ r q.1 (rw (world, q.0, and_assoc) at did));
   }
 
   -- the next operand stopped the run

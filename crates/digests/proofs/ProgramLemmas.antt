@@ -1,17 +1,20 @@
 -- A run and its end, joined: what the whole program does.
 use Rattle.std.proofs.Common.{arith, ℕ, List, [], ◌∷◌, ◌++◌, Option, None, Result, Ok, Err, false, refl, ◌∙◌, append_assoc, append-nil}
-use Rattle.sum_engine.specs.Behavior.{World, Step, Behavior, trace, single_step, ByteString}
-use Rattle.sum_engine.specs.Execution.{OutputsState, StreamsState, world_at, FailuresMatch, Performs, PerformsSteps}
-use Rattle.sum_engine.specs.{Writes.WritesBoth, Writes.WritesAndReturns}
+use Rattle.sum_engine.specs.Behavior.{World, Step, Behavior, trace, single_step}
+use Rattle.digest_kinds.specs.Bytes.{ByteString}
+use Rattle.sum_engine.specs.Streams.{BothOutputs, StreamsState, FailuresMatch}
+use Rattle.sum_engine.specs.Execution.{world_at, Performs, PerformsSteps}
+use Rattle.sum_engine.specs.Streams.{WritesBoth, WritesAndReturns}
 use Rattle.sum_settings.specs.declared.{stop.Stop.TheVariants.Memory, stop.Stop.TheVariants.Write}
 use Rattle.sum_engine.proofs.{WorldLemmas.asks_none, ExecutionLemmas.Happened-then, ExecutionLemmas.step_performed}
-use Rattle.sum_words.specs.{Texts.Stop, declared.tool.Tool.Tool}
+use Rattle.sum_settings.specs.declared.stop.Stop.{Stop}
+use Rattle.sum_words.specs.declared.tool.Tool.{Tool}
 use Rattle.digests.specs.{Meaning.status_of, Program.CallPerforms, Program.CallRefuses}
-use Rattle.digests.specs.private.FinishRun.{FinishesRun, Refuses}
+use Rattle.digests.specs.private.Finish.{FinishesRun, Refuses}
 use Rattle.digests.proofs.MessageLemmas.{Performs-texts}
 
 -- a run that returned is still performed once both outputs were given an empty text, or it failed after all events
-Performs-flushed : (run : World → Behavior) (a b : StreamsState) (outputs : OutputsState) (x : ℕ)
+Performs-flushed : (run : World → Behavior) (a b : StreamsState) (outputs : BothOutputs) (x : ℕ)
     (later : Result ℕ Stop) → Performs run status_of a b (Ok x) → WritesAndReturns b.outputs outputs [] [] x later
     → Performs run status_of a (record b { outputs = outputs }) later
 Performs-flushed run a b outputs x later ran said = λ w agrees.
@@ -34,7 +37,7 @@ Performs-flushed run a b outputs x later ran said = λ w agrees.
 
 -- a run and its end, by the run's answer; b is how things stood between
 pub CallPerforms-finished : (status : ℕ) (tool : Option Tool) (run : World → Behavior) (a b : StreamsState)
-    (outputs : OutputsState) (answer : Result ℕ Stop) → Performs run status_of a b answer
+    (outputs : BothOutputs) (answer : Result ℕ Stop) → Performs run status_of a b answer
     → FailuresMatch a.outputs b.outputs answer → FinishesRun tool answer b.outputs outputs status
     → CallPerforms tool (Performs run status_of) a (record b { outputs = outputs }) status
 CallPerforms-finished status tool run a b outputs (Ok x) ran failed (later, m, flushes, reports) = (
@@ -49,7 +52,7 @@ CallPerforms-finished status tool run a b outputs (Err stop) ran failed (later, 
     (Err stop, b, ran, failed, refl, rw (flushes.0, flushes.1) at reports)
 
 -- a call that is refused with this line
-pub CallRefuses-refused : (status : ℕ) (a : StreamsState) (outputs : OutputsState) (line : ByteString)
+pub CallRefuses-refused : (status : ℕ) (a : StreamsState) (outputs : BothOutputs) (line : ByteString)
     → Refuses line a.outputs outputs status → CallRefuses line a (record a { outputs = outputs }) status
 CallRefuses-refused status a outputs line (answer, between, said, finish) =
     CallPerforms-finished status None (λ w. single_step [] line [] false) a (record a { outputs = between }) outputs

@@ -2,33 +2,37 @@
 use Rattle.std.proofs.Common.{rules, ◌≡◌, ℕ, false, List, [], ◌∷◌, length, map, refl, ap, sym, ◌∙◌, append-nil, map-id, Ok, flat_map, All, Err}
 use Rattle.std.proofs.lemmas.{List.length-map, List.map-append, Simd.map-map, List.Concat.flat_map-append, List.Folds.flat_map-map}
 use Rattle.std.proofs.lemmas.List.Elements.{All-nil, All-head, All-tail, All-append, All-map}
-use Rattle.digest_kinds.specs.Kinds.{digest}
-use Rattle.sum_engine.specs.{declared.check.judge.Verdict.TheVariants.Right, check.Reports.out_by, Generation.generate_behavior}
+use Rattle.digest_kinds.specs.Kind.{digest}
+use Rattle.sum_engine.specs.declared.check.judge.Verdict.TheVariants.{Right}
+use Rattle.sum_engine.specs.check.Report.{out_by}
+use Rattle.sum_engine.specs.Generate.{generate_behavior}
 use Rattle.sum_settings.specs.declared.settings.Settings.{Settings}
-use Rattle.sum_lines.specs.Escape.{own_profile}
-use Rattle.sum_engine.specs.Behavior.{World, answer_to, world_after, digest_or_fault, out_text, asks, times, ByteString}
-use Rattle.sum_sources.specs.Sources.{Answer}
+use Rattle.sum_engine.specs.Behavior.{World, answer_to, world_after, digest_or_fault, out_text, asks}
+use Rattle.sum_sources.specs.Source.{times}
+use Rattle.digest_kinds.specs.Bytes.{ByteString}
+use Rattle.sum_sources.specs.Source.{AnswerValue}
 use Rattle.sum_engine.proofs.{ListedEntryLemmas.Item, ListedEntryLemmas.written_text, ListedEntryLemmas.Listed, GoodLemmas.manifest_good}
-use Rattle.sum_words.specs.Tools.{name_of, Algos}
+use Rattle.sum_words.specs.Tool.{name_of}
+use Rattle.digest_kinds.specs.declared.algo.Algos.{Algos}
 use Rattle.digests.{specs.Meaning.operands_behavior, proofs.CheckWords.request-check_words}
 use Rattle.digests.specs.GenerationRuns.{IsListable, GenerationRun, generation_output, IsCheckable, HasFiles, IsAccepted}
 
 -- ---- the lines of a run
 
 -- what a file gave, as bytes
-abbrev bytes_of : Answer → List ℕ
+abbrev bytes_of : AnswerValue → List ℕ
 bytes_of (Err f) = []
 bytes_of (Ok c) = c.bytes
 
 -- the line that a run writes for a name
-abbrev item : (ByteString → Answer) → Settings → ByteString → Item
+abbrev item : (ByteString → AnswerValue) → Settings → ByteString → Item
 item answer s name = record { mode = s.style.mode; kind = s.kind; name = name; bytes = bytes_of (answer name) }
 
 -- the lines for all its names
-abbrev items : (ByteString → Answer) → GenerationRun → List Item
+abbrev items : (ByteString → AnswerValue) → GenerationRun → List Item
 items answer g = map (item answer g.settings) g.names
 
-module _ (algos : Algos) (files later : ByteString → Answer) where
+module _ (algos : Algos) (files later : ByteString → AnswerValue) where
   -- the line of a file that can be listed, and those of several, one after another
   line-is : (s : Settings) (tool : ByteString) (w : World) (name : ByteString) → HasFiles w files
       → s.style.zero ≡ false → IsListable files name
@@ -76,7 +80,7 @@ written_is_good gs t check manifest files later w v has same by all some fits gi
     let asked = request-check_words t check manifest by in
     record {
       status = rw (asked, f.good) refl;
-      out = rw (asked, append-nil) (f.out ∙ sym (flat_map-map (out_by own_profile check.report Right) (λ i. i.name) xs)
-          ∙ ap (flat_map (out_by own_profile check.report Right)) are.2);
+      out = rw (asked, append-nil) (f.out ∙ sym (flat_map-map (out_by check.report Right) (λ i. i.name) xs)
+          ∙ ap (flat_map (out_by check.report Right)) are.2);
       err = rw (asked, append-nil) f.err;
     }

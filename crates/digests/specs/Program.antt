@@ -1,55 +1,68 @@
 -- What the program does, from the list of its arguments to its status.
-use Rattle.std.specs.Prelude.{ℕ, ◌≡◌, ◌⊎◌, false, List, [], ⊤, Option, None, Some, Result, Ok, Err, unwrap_or}
-use Rattle.sum_sources.specs.Sources.{Pair}
-use Rattle.sum_lines.specs.Sinks.{OutputState, GivesAll}
-use Rattle.sum_engine.specs.Behavior.{single_step, ByteString}
-use Rattle.sum_engine.specs.Execution.{OutputsState, StreamsState, FailuresMatch, Performs}
+use Rattle.std.specs.Prelude.{ℕ, ◌≡◌, ◌⊎◌, false, List, [], ◌++◌, codes, ⊤, Option, None, Some, Result, Ok, Err}
+use Rattle.std.specs.Prelude.{unwrap_or}
+use Rattle.digest_kinds.specs.Bytes.{ByteString}
+use Rattle.sum_settings.specs.declared.stop.Stop.{Stop, TheVariants.Memory, TheVariants.Write}
+use Rattle.sum_lines.specs.Output.{OutputState, GivesAll}
+use Rattle.sum_sources.specs.Source.{Pair}
+use Rattle.sum_engine.specs.Behavior.{single_step}
+use Rattle.sum_engine.specs.{Streams.BothOutputs, Streams.StreamsState, Streams.FailuresMatch, Execution.Performs}
 use Rattle.sum_words.specs.{Arguments.ArgumentsState, Arguments.FitsArguments, declared.tool.Tool.Tool}
-use Rattle.sum_words.specs.CommandLines.{command_line, NeedsMemory}
-use Rattle.sum_words.specs.Texts.{Stop, stop_line, unknown_tool_line, not_read_line}
+use Rattle.sum_words.specs.{CommandLine.command_line, CommandLine.NeedsMemory, Tool.name_of}
 use Rattle.digests.specs.Meaning.{meaning, status_of}
 
--- the line for a stop, which begins with the tool's name; no line if there is no tool
-abbrev pub tool_stop_line : Option Tool → Stop → ByteString
-tool_stop_line None stop = []
-tool_stop_line (Some tool) stop = stop_line tool stop
+-- the line for an unknown or missing tool
+abbrev pub unknown_tool_line : ByteString
+unknown_tool_line = codes "digests: unknown tool\n"
 
--- a run's status is returned; after a stop the status is 1, and standard error is given the line for it, or fails
--- after a prefix of the line's events
-abbrev pub ReportsStop : Option Tool → Result ℕ Stop → OutputsState → OutputsState → ℕ → Type 0
-ReportsStop tool (Ok answer) a b status = (status ≡ answer) × (b ≡ a)
-ReportsStop tool (Err stop) a b status = (status ≡ 1) × (b ≡ record a { err = b.err })
-    × (given : Result ⊤ ⊤) × GivesAll a.err b.err (tool_stop_line tool stop) given
+-- the line for words that could not be read
+abbrev pub not_read_line : ByteString
+not_read_line = codes "digests: words not read\n"
 
--- THE PROGRAM, for one call: it does what `performs` says, and then reports a stop, if there is a tool
+-- the line for a stop, if the call has a tool; otherwise nothing
+abbrev pub stop_line : Option Tool → Stop → ByteString
+stop_line None stop = []
+stop_line (Some tool) Memory = name_of tool ++ codes ": memory exhausted\n"
+stop_line (Some tool) Write = name_of tool ++ codes ": write error\n"
+
+-- the end of a call, after its run. A status is returned as it is. After a stop the status is 1, and standard error
+-- alone is given the line for the stop: all of it or, if that fails, a prefix of its events
+abbrev pub ReportsStop : Option Tool → Result ℕ Stop → BothOutputs → BothOutputs → ℕ → Type 0
+ReportsStop tool (Ok run_status) before after status = (status ≡ run_status) × (after ≡ before)
+ReportsStop tool (Err stop) before after status = (status ≡ 1) × (after ≡ record before { err = after.err })
+    × (line_result : Result ⊤ ⊤) × GivesAll before.err after.err (stop_line tool stop) line_result
+
+-- THE PROGRAM, for one call. Its run does what `performs` says, and returns a status or stops. A stop is reported, if
+-- the call has a tool
 abbrev pub CallPerforms : Option Tool → (StreamsState → StreamsState → Result ℕ Stop → Type 0)
     → StreamsState → StreamsState → ℕ → Type 0
-CallPerforms tool performs a b status = (answer : Result ℕ Stop) × (between : StreamsState)
-    × performs a between answer × FailuresMatch a.outputs between.outputs answer
-    × (b.inputs ≡ between.inputs) × ReportsStop tool answer between.outputs b.outputs status
+CallPerforms tool performs before after status = (result : Result ℕ Stop) × (between : StreamsState)
+    × performs before between result × FailuresMatch before.outputs between.outputs result
+    × (after.inputs ≡ between.inputs) × ReportsStop tool result between.outputs after.outputs status
 
--- a call without a tool writes this line to standard error, and is not good
+-- a call without a tool: its run writes this line to standard error, and isn't good
 abbrev pub CallRefuses : ByteString → StreamsState → StreamsState → ℕ → Type 0
-CallRefuses line = CallPerforms None (Performs (λ w. single_step [] line [] false) status_of)
+CallRefuses line = CallPerforms None (Performs (λ world. single_step [] line [] false) status_of)
 
--- a call of a tool on its words, or of no known tool
+-- a call of a tool performs what the words mean. A call of no tool writes that the tool is unknown
 abbrev pub CommandPerforms : Option (Tool × List ByteString) → StreamsState → StreamsState → ℕ → Type 0
 CommandPerforms None = CallRefuses unknown_tool_line
 CommandPerforms (Some (tool, words)) = CallPerforms (Some tool) (Performs (meaning tool words) status_of)
 
--- for each list that agrees: its call is performed or, if it needs memory, that of words not read
+-- THE PROGRAM, for each list of arguments that agrees with what was given. The call does what the list asks for; or the
+-- list needs memory, and the call writes that the words were not read
 abbrev pub ProgramPerforms : ArgumentsState → StreamsState → StreamsState → ℕ → Type 0
-ProgramPerforms given a b status = (arguments : List ByteString) → FitsArguments given arguments
-    → CommandPerforms (command_line arguments) a b status
-    ⊎ (NeedsMemory arguments × CallRefuses not_read_line a b status)
+ProgramPerforms given before after status = (arguments : List ByteString) → FitsArguments given arguments
+    → CommandPerforms (command_line arguments) before after status
+    ⊎ (NeedsMemory arguments × CallRefuses not_read_line before after status)
 
 -- ---- the program as the system starts it
 
--- an output of which no call was made, over a writer that is known to hold this
+-- the state of an output before its first call. Its writer holds these bytes, if what it holds is known
 abbrev pub fresh_output : Option ByteString → OutputState
 fresh_output held = record { offered = []; written = unwrap_or held []; failures = 0 }
 
--- streams of which nothing was opened, read or written: what is in memory, and what the outputs' writers hold
+-- the state of streams before their first call: what is in memory, and what the writers of both outputs hold
 abbrev pub fresh_streams : List Pair → Option ByteString → Option ByteString → StreamsState
 fresh_streams told out err = record {
   inputs = record { told = told; openings = []; refusals = 0 };

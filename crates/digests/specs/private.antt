@@ -1,3 +1,3 @@
-pub mod FinishRun
-pub mod Operands
+pub mod Finish
+pub mod ToolRun
 pub mod Messages

@@ -1,9 +1,9 @@
 //! The end of a run: both outputs are flushed once more, and a stop is reported in a line.
-ghost use Rattle.digests.specs.Program.{tool_stop_line};
-ghost use Rattle.digests.specs.private.FinishRun.{FinishesRun, FlushesBoth};
+ghost use Rattle.digests.specs.Program.{stop_line};
+ghost use Rattle.digests.specs.private.Finish.{FinishesRun, FlushesBoth};
 ghost use Rattle.std.specs.Prelude.{◌≡◌, Ok};
-ghost use Rattle.sum_engine.specs.Execution.{failures};
-ghost use Rattle.sum_lines.specs.Sinks.{GivesAll};
+ghost use Rattle.sum_engine.specs.Streams.{failures};
+ghost use Rattle.sum_lines.specs.Output.{GivesAll};
 
 use crate::messages::Message;
 use sum_engine::{Outputs, Stop};
@@ -50,7 +50,7 @@ fn put_stop_message<E: Sink>(
     stop: Stop,
     err: &mut Output<E>,
 ) -> Result<(), SinkFault>
-    ensures { GivesAll err.old err.new (tool_stop_line tool stop) result }
+    ensures { GivesAll err.old err.new (stop_line tool stop) result }
 {
     match tool {
         None => Ok(()),

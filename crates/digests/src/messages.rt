@@ -1,10 +1,9 @@
 //! Messages: the texts that the program writes besides lines and reports.
 
+use crate::program_lines::{put_not_read, put_stop, put_unknown};
 use sum_engine::Stop;
 use sum_lines::{Buffered, Sink, SinkFault, Text};
-use sum_words::{
-    Tool, WordFault, put_fault, put_help, put_not_read, put_stop, put_unknown, put_version,
-};
+use sum_words::{Tool, WordFault, put_fault, put_help, put_version};
 
 /// A text that doesn't belong to one operand.
 #[derive(Clone, Copy)]

@@ -1,7 +1,7 @@
 //! The program `digests`: its `main` alone, which passes on what the system gives.
 #![tactic(auto)]
 
-use digests::program::program;
+use digests::program;
 use std::process::ExitCode;
 
 fn main(rt: HostRuntime) -> ExitCode {

@@ -5,14 +5,26 @@ use Rattle.std.specs.{Prelude.⊤, Prelude.◌⊎◌, Path.rsplit_once, Fmt.digi
 use Rattle.md5.specs.Md5.{block_words as md5_words, rounds as md5_rounds, compress as md5_compress, hash_after as md5_after, digest_bytes as md5_bytes, md5}
 use Rattle.blake2b_core.specs.Compression.{mix, round, work_vector, compress}
 use Rattle.blake2b_core.specs.Digest.{hash_after as blake2b_after, blake2b}
-use Rattle.sum_engine.specs.Behavior.{World, answer_to, digest_or_fault, Fault, Whole, Broken, out_text, err_text, asks}
-use Rattle.digest_kinds.specs.{Kinds.full_kind, declared.algo.Algo.Algo, declared.algo.Algo.TheVariants.Md5, declared.algo.Algos.Algos}
+use Rattle.sum_engine.specs.Behavior.{World, answer_to, digest_or_fault, out_text, err_text, asks}
+use Rattle.sum_sources.specs.declared.fault.{Fault.Fault, Ending.TheVariants.Whole, Ending.TheVariants.Broken}
+use Rattle.digest_kinds.specs.Kind.{full_kind}
+use Rattle.digest_kinds.specs.declared.algo.Algo.{Algo}
+use Rattle.digest_kinds.specs.declared.algo.Algo.TheVariants.{Md5}
+use Rattle.digest_kinds.specs.declared.algo.Algos.{Algos}
 use Rattle.hex.specs.Hex.{encode_with, decode_pairs}
-use Rattle.sum_lines.specs.{Lines.line, grammar.LineParts.plain_parts, grammar.LineParts.tagged_parts, grammar.ParsedLines.entry_of}
-use Rattle.sum_sources.specs.{declared.fault.Fault.TheVariants.NotFound, declared.fault.Fault.TheVariants.Other, ManifestLines.raw_lines, Contents.Content, Contents.limit, Contents.empty_content, Sources.Answer, WithStdin.answers_with}
-use Rattle.sum_words.specs.{declared.tool.Tool.Tool, declared.tool.Tool.TheVariants.Md5sum, declared.tool.Tool.TheVariants.B2sum, declared.tool.Tool.TheVariants.Anysum, Items.ByteString, Texts.not_read_line}
+use Rattle.sum_lines.specs.DigestLine.{line}
+use Rattle.sum_lines.specs.grammar.LineParts.{plain_parts, tagged_parts}
+use Rattle.sum_lines.specs.grammar.ParsedLines.{entry_of}
+use Rattle.sum_sources.specs.declared.fault.Fault.TheVariants.{NotFound, Other}
+use Rattle.sum_sources.specs.ManifestLines.{raw_lines}
+use Rattle.sum_sources.specs.Input.{Content, limit, empty_content}
+use Rattle.sum_sources.specs.Source.{AnswerValue}
+use Rattle.sum_sources.specs.WithStdin.{answers_with}
+use Rattle.sum_words.specs.declared.tool.Tool.{Tool, TheVariants.Md5sum, TheVariants.B2sum, TheVariants.Anysum}
+use Rattle.digest_kinds.specs.Bytes.{ByteString}
+use Rattle.digests.specs.Program.{not_read_line}
 use Rattle.sum_words_tests.proofs.WorkedExamples.{words, words_on_literals}
-use Rattle.sum_engine.specs.{Execution.Agrees, Execution.StreamsState, Execution.PerformsSteps}
+use Rattle.sum_engine.specs.{Execution.Agrees, Streams.StreamsState, Execution.PerformsSteps}
 use Rattle.sum_settings.specs.declared.{settings.CheckSettings.CheckSettings, settings.Report.TheVariants.All, stop.Stop.Stop, style.Mode.Mode, style.Mode.TheVariants.Text}
 use Rattle.sum_engine.proofs.BehaviorLemmas.{events_extend}
 use Rattle.digests.specs.{Meaning.meaning, Meaning.status_of, GenerationRuns.GenerationRun, Program.CallPerforms, Program.CallRefuses}
@@ -32,7 +44,7 @@ abbrev broken : ByteString → Content
 broken bytes = record { bytes = bytes; ending = Broken Other }
 
 -- the file `a` holds abc, `e` is empty, and `l` has this content; no other file is there
-abbrev answer_with : Content → ByteString → Answer
+abbrev answer_with : Content → ByteString → AnswerValue
 answer_with l name =
     if bytes_eq name (codes "a") then Ok (whole (codes "abc"))
     else if bytes_eq name (codes "e") then Ok empty_content
@@ -46,16 +58,19 @@ outcome tool words l input =
     let run = meaning tool words (record { answer = answers_with input (λ name k. answer_with l name); opened = [] }) in
     (out_text run, err_text run, asks run, run.good)
 
--- the lines of `a` and of `e`, and that of `e` with a tag
+-- the line of `a`
 abbrev a_line : ByteString
 a_line = codes "900150983cd24fb0d6963f7d28e17f72  a\n"
 
+-- the line of `e`
 abbrev e_line : ByteString
 e_line = codes "d41d8cd98f00b204e9800998ecf8427e  e\n"
 
+-- the tagged line of `e`
 abbrev e_tagged : ByteString
 e_tagged = codes "BLAKE2b-256 (e) = 0e5751c026e543b2e8ab2eb06099daa1d1e5df47778f7787faab45cdf12fe3a8\n"
 
+-- runs of generation
 generation :
     -- each of two files has a line
     (outcome Md5sum (words "a e") empty_content empty_content ≡ (a_line ++ e_line, [], words "a e", true))
@@ -90,6 +105,7 @@ mixed_manifest = whole (a_line ++ codes "#c\njunk\n" ++ codes "900150983cd24fb0d
 abbrev dash_manifest : Content
 dash_manifest = whole (codes "900150983cd24fb0d6963f7d28e17f72  -\n")
 
+-- runs of a check
 checks :
     -- the check of the mixed manifest reports each kind
     (outcome Md5sum (words "-c l") mixed_manifest empty_content ≡ (

@@ -2,20 +2,19 @@
 ghost use Rattle.digests.specs.GenerationRuns.{HasFiles, IsListable};
 ghost use Rattle.digests.specs.Meaning.{meaning, status_of};
 ghost use Rattle.std.specs.Prelude.{All, ◌≡◌, ◌≢◌, ◌<◌, ◌∷◌, ◌++◌, [], Ok, Err, IfOk, Some, codes, length};
-ghost use Rattle.sum_engine.specs.Behavior.{Reads, Whole, World, answer_to, out_text, err_text};
-ghost use Rattle.sum_engine.specs.Execution.{failures};
+ghost use Rattle.sum_sources.specs.{Input.Reads, declared.fault.Ending.TheVariants.Whole};
+ghost use Rattle.sum_engine.specs.Behavior.{World, answer_to, out_text, err_text};
+ghost use Rattle.sum_engine.specs.Streams.{failures};
 ghost use Rattle.sum_settings.specs.declared.stop.Stop.TheVariants.{Memory};
-ghost use Rattle.sum_sources.specs.Contents.{empty_content, limit};
-ghost use Rattle.sum_sources.specs.Sources.{Answer as AnswerValue, Answers, TellsAll};
-ghost use Rattle.sum_sources.specs.declared.inputs.phase.Phase.TheVariants.{Ended as EndedBy};
+ghost use Rattle.sum_sources.specs.Input.{empty_content, limit};
+ghost use Rattle.sum_sources.specs.Source.{AnswerValue as AnswerValue, Answers, TellsAll};
+ghost use Rattle.sum_sources.specs.declared.inputs.input.Phase.TheVariants.{Ended as EndedBy};
 ghost use Rattle.sum_words.specs.Arguments.{FitsArguments};
-ghost use Rattle.sum_words.specs.Items.{ByteString};
+ghost use Rattle.digest_kinds.specs.Bytes.{ByteString};
 ghost use Rattle.sum_words.specs.declared.tool.Tool.TheVariants.{Md5sum, Sha256sum, Anysum};
 
-use digests::command::command;
 use digests::laws::{joined_is_good, told_performs, told_program_performs, written_is_good};
-use digests::program::{Ended, SystemStreams, program};
-use digests::run::run;
+use digests::{Finished, SystemStreams, command, program, run};
 use std::alloc::{Allocator, Global};
 use std::io::{Read, Write};
 use std::os::fd::AsFd;
@@ -105,7 +104,7 @@ pub fn dash_twice<A, R, F, I, O, E>(
     stdin: I,
     out: O,
     err: E,
-) -> Ended<SystemArguments<R>, SystemStreams<F, I, O, E>>
+) -> Finished<SystemArguments<R>, SystemStreams<F, I, O, E>>
 where
     A: Allocator + Copy,
     R: rt::Env,
@@ -130,7 +129,7 @@ pub fn dash_twice_in_sinks<A, R, F, I, O, E>(
     stdin: I,
     out: O,
     err: E,
-) -> Ended<SystemArguments<R>, (FromWrite<O>, FromWrite<E>)>
+) -> Finished<SystemArguments<R>, (FromWrite<O>, FromWrite<E>)>
 where
     A: Allocator + Copy,
     R: rt::Env,
@@ -146,13 +145,13 @@ where
         ((⟦<FromWrite<O> as Sink>⟧.state result.streams.0).output.failures ≡ 0)
         × ((⟦<FromWrite<E> as Sink>⟧.state result.streams.1).output.failures ≡ 0) }
 {
-    let Ended {
+    let Finished {
         status,
         arguments,
         streams,
     } = dash_twice(alloc, env, files, stdin, out, err);
     let Outputs { out, err } = streams.outputs;
-    Ended {
+    Finished {
         status,
         arguments,
         streams: (out.into_inner(), err.into_inner()),
@@ -168,7 +167,7 @@ pub fn reads_whole<A, R, F, I, O, E>(
     stdin: I,
     out: O,
     err: E,
-) -> Ended<SystemArguments<R>, SystemStreams<F, I, O, E>>
+) -> Finished<SystemArguments<R>, SystemStreams<F, I, O, E>>
 where
     A: Allocator + Copy,
     R: rt::Env,

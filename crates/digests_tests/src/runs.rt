@@ -1,6 +1,6 @@
 //! Tests of the run and of the program, over known input and known files, into known sinks.
 ghost use Rattle.std.specs.Prelude.{◌≡◌};
-ghost use Rattle.sum_sources.specs.Contents.{empty_reads};
+ghost use Rattle.sum_sources.specs.Input.{empty_reads};
 
 mod growths;
 mod hostile;
@@ -8,7 +8,7 @@ mod program;
 mod stops;
 mod worked_examples;
 
-use digests::run::run;
+use digests::run;
 use std::alloc::{Allocator, Global};
 use std::process::Abort;
 use std::test::Fail;

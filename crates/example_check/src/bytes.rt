@@ -1,14 +1,14 @@
 //! An input of one's own: the bytes of a reader.
 ghost use Rattle.std.specs.Prelude.{◌≡◌};
-ghost use Rattle.sum_sources.specs.Logs.{no_reads};
+ghost use Rattle.sum_sources.specs.Input.{no_reads};
 
 use std::io::Read;
-use sum_sources::{Fault, Input, ReadLog, ReadNote, Reads};
+use sum_sources::{Fault, Input, InputCalls, InputLog, ReadNote};
 
 #[derive(Drop)]
 pub struct Bytes<R> {
     reader: R,
-    log: ReadLog,
+    log: InputLog,
 }
 
 impl<R: Read> Bytes<R> {
@@ -18,14 +18,14 @@ impl<R: Read> Bytes<R> {
     {
         Bytes {
             reader,
-            log: ReadLog::of(&Reads),
+            log: InputLog::of(&InputCalls),
         }
     }
 }
 
 impl<R: Read> Input for Bytes<R> {
     ghost use Rattle.std.specs.Prelude.{None};
-    ghost use Rattle.sum_sources.specs.InputLaws.{real_has_content};
+    ghost use Rattle.sum_sources.specs.InputLaws.{untold_has_content};
 
     ghost state = { λ s. record s.log { told = None } };
 
@@ -38,5 +38,5 @@ impl<R: Read> Input for Bytes<R> {
         read
     }
 
-    ghost has_content = { λ s. real_has_content s.log };
+    ghost has_content = { λ s. untold_has_content s.log };
 }

@@ -1,7 +1,9 @@
-//! Prints the SHA-256 lines of two files, and between them a comment, which is a text of its own.
+//! Prints the SHA-256 lines of two files, and between them a comment, which is a text of its own. Its status is 0 only
+//! if both files could be hashed.
 #![tactic(auto)]
 
 use digest_kinds::{Algo, Kind};
+use std::process::ExitCode;
 use sum_engine::{Settings, Streams, generate_one};
 use sum_lines::{Buffered, FromWrite, Mode, Part, Parts, Sink, SinkFault, Style, Text};
 use sum_sources::Files;
@@ -21,14 +23,14 @@ impl Text for Comment {
     }
 }
 
-fn main(rt: HostRuntime) -> anyhow::Result<()> {
+fn main(rt: HostRuntime) -> anyhow::Result<ExitCode> {
     let (kind, mode) = (Kind::of(Algo::Sha256), Mode::Text);
     let style = Style { mode, zero: false };
     let (out, err) = (FromWrite::new(rt.stdout()), FromWrite::new(rt.stderr()));
     let mut streams = Streams::new(Files::new(rt), out, err);
     let settings = Settings { kind, style };
-    generate_one(&settings, "example_report", b"abc", &mut streams)?;
+    let first = generate_one(&settings, "example_report", b"abc", &mut streams)?;
     streams.outputs.out.write(&Comment { done: 1 })?;
-    generate_one(&settings, "example_report", b"empty", &mut streams)?;
-    Ok(())
+    let second = generate_one(&settings, "example_report", b"empty", &mut streams)?;
+    Ok(ExitCode::from(u8::from(!(first && second))))
 }

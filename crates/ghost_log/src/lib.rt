@@ -1,11 +1,10 @@
-//! What inputs and outputs share: logs that only proofs see, and how often an interrupted call is retried. Logs take no
-//! room, and their calls do nothing.
+//! Logs that only proofs see. They take no room, and their calls do nothing.
 //!
 //! Clauses see a log as a value of its type parameter, its state. No code can read it, so what a contract says of it
 //! matters to a caller only if a clause of a trait depends on it.
 //!
 //! ```rust
-//! let log: Log<Writes> = Log::of(&Writes);
+//! let log: Log<SinkCalls> = Log::of(&SinkCalls);
 //! let log = log.and(&SinkFault);
 //! ```
 #![tactic(auto)]
@@ -13,9 +12,6 @@
 ghost use Rattle.std.specs.Borrow.{ftrue};
 ghost use Rattle.std.specs.Prelude.{◌≡◌};
 
-mod interruptions;
-
-pub use interruptions::INTERRUPTION_LIMIT;
 use std::fmt;
 use std::fmt::{Debug, Formatter, Write};
 use std::marker::{Model, PhantomData};

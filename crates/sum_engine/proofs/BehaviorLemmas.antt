@@ -1,12 +1,15 @@
 -- Runs, one after another, and what a run's steps come to.
-use Rattle.std.proofs.Common.{rules, ◌≡◌, ℕ, Bool, List, [], ◌∷◌, ◌++◌, Result, Ok, Err, refl, ap, sym, ◌∙◌, subst, append_assoc, append-nil, flat_map, filter_map, inl}
+use Rattle.std.proofs.Common.{rules, ◌≡◌, ℕ, Bool, List, [], ◌∷◌, ◌++◌, Result, Ok, Err, refl, ap, sym, ◌∙◌, subst}
+use Rattle.std.proofs.Common.{append_assoc, append-nil, flat_map, filter_map, inl}
 use Rattle.std.proofs.lemmas.{Grind.flat_map-append, List.Elements.filter_map-append}
-use Rattle.sum_lines.{specs.Sinks.written_byte, proofs.EventLemmas.output_events-bytes}
-use Rattle.sum_engine.specs.Execution.{Stop, Memory, Write, StreamsState, AsksNames, Agrees, world_at, Happened, with_refusals, PerformsSteps, Performs}
-use Rattle.sum_engine.specs.Behavior.{World, Step, Behavior, trace, events_of, opened_name, err_event, out_event, single_step}
-use Rattle.sum_engine.specs.{check.Checker.step_then, check.CheckerLaws.EventsExtend, Writes.WritesAndReturns}
-use Rattle.sum_engine.specs.Names.{RefusesMemory}
-use Rattle.sum_engine.proofs.ExecutionLemmas.{step_performed, kind-all, kind-none, Happened-then, refused_first}
+use Rattle.sum_lines.{specs.Output.written_byte, proofs.EventLemmas.output_events-bytes}
+use Rattle.sum_settings.specs.declared.stop.Stop.{Stop, TheVariants.Memory, TheVariants.Write}
+use Rattle.sum_engine.proofs.ExecutionLemmas.{step_performed, filter_map-kind, filter_map-other_kind, Happened-then}
+use Rattle.sum_engine.{proofs.ExecutionLemmas.refused_first, specs.Behavior.World, specs.Behavior.Step}
+use Rattle.sum_engine.specs.Behavior.{Behavior, trace, events_of, opened_name, err_event, out_event, single_step}
+use Rattle.sum_engine.specs.Execution.{AsksNames, Agrees, world_at, Happened, streams_with_refusals, PerformsSteps}
+use Rattle.sum_engine.specs.{Execution.Performs, Execution.RefusesMemory, Laws.EventsExtend}
+use Rattle.sum_engine.specs.{Streams.StreamsState, Streams.WritesAndReturns, check.Checker.behavior_from}
 
 -- ---- a behavior after a step, and one behavior after another
 
@@ -23,7 +26,7 @@ behavior_then-second c x y r s Write h k =
     (trace r ++ k.0, k.1, search (rules, flat_map-append, append_assoc), Happened-then (trace r) k.0 h k.3)
 behavior_then-second {b} c x y r s Memory h k =
     let did = behavior_then-happened r k.done h
-    (subst (λ n. Happened b (with_refusals n c) (trace k.done)) h.inputs.refusals k.happened) in
+    (subst (λ n. Happened b (streams_with_refusals n c) (trace k.done)) h.inputs.refusals k.happened) in
     let cause = rw h.inputs.refusals at k.cause in
     search (rules, append_assoc, did, cause)
 
@@ -51,14 +54,14 @@ pub record HasDoneUpTo (whole left : Behavior) (a b : StreamsState) : Type 0 whe
 
 -- one more step happened
 pub done_more : {a b c : StreamsState} {whole left : Behavior} (step : Step) (later : Behavior)
-    → HasDoneUpTo whole left a b → left ≡ step_then step later → Happened b c (trace (step ∷ []))
+    → HasDoneUpTo whole left a b → left ≡ behavior_from step later → Happened b c (trace (step ∷ []))
     → HasDoneUpTo whole later a c
 done_more step later h is k =
     let did = behavior_then-happened h.done (step ∷ []) h.happened k in search (rules, append_assoc, did)
 
 -- the next step stopped, so the whole behavior stopped
 pub done_stops : {A B : Type 0} {a b : StreamsState} {whole left : Behavior} (c : StreamsState) (x : A) (y : B)
-    (step : Step) (later : Behavior) (stop : Stop) → HasDoneUpTo whole left a b → left ≡ step_then step later
+    (step : Step) (later : Behavior) (stop : Stop) → HasDoneUpTo whole left a b → left ≡ behavior_from step later
     → PerformsSteps (step ∷ []) y b c (Err stop) → PerformsSteps whole.steps x a c (Err stop)
 done_stops {a = a} {b = b} c x y step later stop h is k =
     let all = h.steps ∙ ap (λ (r : Behavior). h.done ++ r.steps) is in
@@ -93,7 +96,7 @@ pub kinds : (steps : List Step) → (filter_map opened_name (trace steps) ≡ fl
 kinds [] = (refl, refl, refl)
 kinds (s ∷ steps) =
     let (names, err, out) = kinds steps in
-    search (rules, filter_map-append, kind-all, kind-none, output_events-bytes, names, err, out)
+    search (rules, filter_map-append, filter_map-kind, filter_map-other_kind, output_events-bytes, names, err, out)
 
 -- if the trace of a run happened, each output grew by the run's text for it, and its names were opened
 pub events_extend : EventsExtend

@@ -2,7 +2,7 @@
 use Rattle.std.proofs.Common.{rules, ◌≡◌, ◌≢◌, ℕ, List, [], ◌∷◌, map, refl, All}
 use Rattle.std.specs.Str.Lines.{strip_carriage_return}
 use Rattle.std.proofs.lemmas.List.Elements.{All-head, All-tail}
-use Rattle.sum_engine.specs.check.OldVerdicts.{HasNoCarriageReturn}
+use Rattle.sum_engine.specs.OldVerdicts.{HasNoCarriageReturn}
 
 -- the byte is no carriage return
 abbrev pub IsNoCarriageReturn : ℕ → Type 0

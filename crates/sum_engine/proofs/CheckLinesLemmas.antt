@@ -1,25 +1,35 @@
 -- `check_lines`: a new checker runs to its end. What happened so far and what remains is the whole behavior
 -- (`HasComeTo`). A step that goes on keeps this. The step that ends or stops proves the contract by it.
-use Rattle.std.proofs.Common.{rules, ◌-◌, ◌+◌, ◌≤◌, ◌≡◌, ℕ, length, drop, length-drop, Bool, List, [], ◌∷◌, ◌++◌, Result, Ok, Err, None, true, refl, ap, ◌∙◌, subst, arith, append-nil}
+use Rattle.std.proofs.Common.{rules, ◌-◌, ◌+◌, ◌≤◌, ◌≡◌, ℕ, length, drop, length-drop, Bool, List, [], ◌∷◌, ◌++◌}
+use Rattle.std.proofs.Common.{Result, Ok, Err, None, true, refl, ap, ◌∙◌, subst, arith, append-nil}
 use Rattle.std.specs.Prelude.{IfErr}
-use Rattle.sum_sources.specs.{Contents.IsSameInput, Contents.Fits, Contents.reads_past, LineReaders.remaining_content}
-use Rattle.sum_engine.specs.Behavior.{World, Reads, Step, Behavior, Content, InputState, clip}
-use Rattle.sum_engine.specs.{check.Rules.Rules, check.Rules.LabelsValue, check.Judge.all_verdicts, check.Checking.content_behavior}
-use Rattle.sum_engine.specs.check.CheckStates.{CheckState, initial_state, remaining_behavior}
-use Rattle.sum_engine.specs.check.Verdicts.{IsAtStart, VerdictsValue, state_at, HoldsInEachCheck}
-use Rattle.sum_engine.specs.check.Checker.{Progress, Going, Ended, IsStep, TakesStep, step_then, progress_before, CheckerValue, end_result}
-use Rattle.sum_sources.specs.declared.inputs.phase.Phase.TheVariants.{Unfinished}
-use Rattle.sum_engine.specs.{check.CheckerLaws.RunsManifest, check.ReadAhead.StopsAtStep}
-use Rattle.sum_engine.specs.Execution.{Stop, StreamsState, Agrees, ReadsToEndIf, world_at, PerformsSteps, StopHasCause, none_or_one}
-use Rattle.sum_engine.proofs.{ReadAheadLemmas.read_fits_clip, ReadAheadLemmas.stops_at_step, ExecutionLemmas.Happened-none}
-use Rattle.sum_engine.proofs.{WorldLemmas.agrees_before, WorldLemmas.reads_none, WorldLemmas.reads_then, BehaviorLemmas.HasDoneUpTo, BehaviorLemmas.done_more, BehaviorLemmas.done_stops}
+use Rattle.sum_sources.specs.Input.{IsSameInput, Fits, reads_past, Reads, Content, InputState, clip}
+use Rattle.sum_sources.specs.{declared.inputs.input.Phase.TheVariants.Unfinished, LineReader.remaining_content}
+use Rattle.sum_engine.proofs.BehaviorLemmas.{HasDoneUpTo, done_more, done_stops}
+use Rattle.sum_engine.proofs.{CountLemmas.counts_then-none, ExecutionLemmas.Happened-none}
+use Rattle.sum_engine.proofs.{ReadAheadLemmas.read_fits_clip, ReadAheadLemmas.stops_at_step, WorldLemmas.agrees_before}
+use Rattle.sum_engine.{proofs.WorldLemmas.reads_none, proofs.WorldLemmas.reads_then, specs.Behavior.World}
+use Rattle.sum_engine.specs.{Behavior.Step, Behavior.Behavior, Execution.Agrees, Execution.ReadsToEndIf}
+use Rattle.sum_engine.specs.{Execution.world_at, Execution.PerformsSteps, Streams.StreamsState, Streams.StopHasCause}
+use Rattle.sum_engine.specs.{Streams.none_or_one, check.CheckOne.content_behavior, check.CheckOne.StopsAtStep}
+use Rattle.sum_engine.specs.check.{CheckOne.line_steps, Checker.remaining_behavior, Checker.Progress, Checker.Going}
+use Rattle.sum_engine.specs.check.Checker.{Ended, IsStep, TakesStep, behavior_from, progress_before, CheckerValue}
+use Rattle.sum_engine.specs.check.{Checker.end_result, Counts.Counts, Counts.counts_of, Counts.good, Judge.all_verdicts}
+use Rattle.sum_engine.specs.check.{Rules.LabelsValue, Rules.CheckRules, Summary.end_text, Verdicts.CheckState}
+use Rattle.sum_engine.specs.check.Verdicts.{initial_state, IsAtStart, VerdictsValue, state_at, HoldsInEachCheck}
+use Rattle.sum_engine.specs.private.CheckOne.{RunsManifest}
+use Rattle.sum_settings.specs.declared.stop.Stop.{Stop}
 
 -- ---- before the first step
 
 -- all of a new checker's behavior remains
-pub remaining-initial : (r : Rules) (labels : LabelsValue) (c : Content) (w : World)
+pub remaining-initial : (r : CheckRules) (labels : LabelsValue) (c : Content) (w : World)
     → remaining_behavior r labels (initial_state c w) ≡ content_behavior r labels c (all_verdicts r w c)
-remaining-initial r labels c w = search rules
+remaining-initial r labels c w =
+    let js = all_verdicts r w c in
+    let by : Counts → Behavior =
+    λ n. record { steps = line_steps r labels (end_text r labels c.ending n) c js; good = good r c.ending n } in
+    ap by (counts_then-none (counts_of js))
 
 -- at the first line the state is the initial one
 state-initial : {I : Type 0} {state : I → InputState} {p : VerdictsValue I} {input : I} → IsAtStart state p input
@@ -35,7 +45,7 @@ none_left steps all good h = grind arith
 
 -- if the last step was performed after all steps before it, the whole behavior was
 pub done_last : {whole left : Behavior} {a b : StreamsState} (c : StreamsState) (step : Step) (later : Behavior)
-    (x : Result Bool Stop) → HasDoneUpTo whole left a b → left ≡ step_then step later
+    (x : Result Bool Stop) → HasDoneUpTo whole left a b → left ≡ behavior_from step later
     → PerformsSteps (step ∷ []) (progress_before later.steps later.good) b c (end_result x)
     → PerformsSteps whole.steps whole.good a c x
 done_last c step later (Ok good) h is k =
@@ -54,7 +64,7 @@ cause_ends x h k = grind arith
 -- ---- from the first step on
 
 -- the behavior of a manifest
-abbrev pub manifest_behavior : Rules → LabelsValue → Content → World → Behavior
+abbrev pub manifest_behavior : CheckRules → LabelsValue → Content → World → Behavior
 manifest_behavior r labels c w = content_behavior r labels c (all_verdicts r w c)
 
 -- from the checker `first` and the streams m on
@@ -130,19 +140,23 @@ module _ {I : Type 0} (state : I → InputState) (first : CheckerValue I) (m : S
       (start : IsAtStart state first.verdicts first.verdicts.reader.input) (h : HasComeTo q n)
       (step : TakesStep state vector q last n o (end_result x))
     where
+      -- what was read of the input before the first step
       abbrev was : Reads
       was = (state first.verdicts.reader.input).reads
 
+      -- what was read of it after the last step
       abbrev now : Reads
       now = (state last.verdicts.reader.input).reads
 
+      -- how many bytes it gave to the checker
       abbrev taken : ℕ
       taken = last.verdicts.reader.taken
 
-      -- so many bytes were read since the start
+      -- nothing was taken at the start
       none : first.verdicts.reader.taken ≡ 0
       none = rw start.reader refl
 
+      -- so what was read since the start is what was taken
       size : length (drop (length was.bytes) now.bytes) ≡ taken
       size = length-drop (length was.bytes) now.bytes ∙ omega (arith, none, h.taken, step.advances.reader.taken)
 

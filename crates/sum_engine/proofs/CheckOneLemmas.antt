@@ -1,18 +1,23 @@
 -- `check_one`: a manifest is opened, its checker runs to its end, and it is closed.
-use Rattle.std.proofs.Common.{rules, ◌≡◌, ℕ, Bool, false, List, [], ◌∷◌, Result, Ok, Err, None, Some, refl, ap, subst, codes, if◌then◌else◌, arith}
-use Rattle.std.{specs.Prelude.IfErr, proofs.lemmas.Option.slice_get_past}
-use Rattle.sum_sources.specs.{Contents.empty_reads, Sources.and_opening, Sources.gave_of, Sources.gave_at, Sources.times}
-use Rattle.sum_sources.proofs.GaveLemmas.{gave-times}
+use Rattle.std.proofs.Common.{rules, ◌≡◌, ℕ, Bool, false, List, [], ◌∷◌, Result, Ok, Err, None, Some, refl, ap, subst}
+use Rattle.std.{proofs.Common.codes, proofs.Common.if◌then◌else◌, proofs.Common.arith, specs.Prelude.IfErr}
+use Rattle.std.proofs.lemmas.Option.{slice_get_past}
+use Rattle.sum_sources.specs.Input.{empty_reads, Content, InputState, Fits, clip}
+use Rattle.sum_sources.specs.Source.{state_with_opening, results_of, result_at, times, AnswerValue, SourceState}
+use Rattle.sum_sources.{proofs.GaveLemmas.gave-times, specs.declared.fault.Fault.Fault, specs.WithStdin.is_dash}
 use Rattle.sum_lines.proofs.EventLemmas.{Gets-none}
-use Rattle.sum_engine.specs.Behavior.{Fault, World, is_dash, answer_to, world_after, Behavior, Step, events_of, trace, Answer, Content, InputState, SourceState, Fits, clip}
-use Rattle.sum_engine.specs.{check.CheckerLaws.RunsManifest, check.Rules.rules_of, check.Rules.labels_of, check.Judge.own_profile}
-use Rattle.sum_engine.specs.{check.Checking.CheckSettings, check.Checking.check_behavior_by, check.Checking.check_behavior, Generation.name_fault_line}
-use Rattle.sum_engine.specs.check.ReadAhead.{StopsAtStep, StopsAtLine}
-use Rattle.sum_engine.specs.Execution.{Stop, Memory, opened_names, OutputsState, StreamsState, world_at, Happened, Performs}
-use Rattle.sum_engine.specs.{Writes.WritesAndReturns, Names.RefusesMemory}
-use Rattle.sum_engine.proofs.{ExecutionLemmas.Happened-by, ExecutionLemmas.Happened-then, ExecutionLemmas.kept_performs, WorldLemmas.asks_one, WorldLemmas.world_at_after}
-use Rattle.sum_engine.proofs.{BehaviorLemmas.behind_step, BehaviorLemmas.Performs-step, BehaviorLemmas.Performs-refused, CheckLinesLemmas.manifest_behavior}
+use Rattle.sum_engine.specs.Behavior.{World, answer_to, world_after, Behavior, Step, events_of, trace}
+use Rattle.sum_engine.specs.{private.CheckOne.RunsManifest, check.Rules.rules_of, check.Rules.labels_of}
+use Rattle.sum_engine.specs.check.CheckOne.{check_behavior_by, check_behavior, StopsAtStep, StopsAtLine}
+use Rattle.sum_engine.specs.{ToolLines.name_fault_line, Execution.opened_names, Execution.world_at, Execution.Happened}
+use Rattle.sum_engine.specs.{Execution.Performs, Execution.RefusesMemory, Streams.BothOutputs, Streams.StreamsState}
+use Rattle.sum_engine.{specs.Streams.WritesAndReturns, proofs.ExecutionLemmas.Happened-by}
+use Rattle.sum_engine.proofs.{ExecutionLemmas.Happened-then, ExecutionLemmas.kept_performs, WorldLemmas.asks_one}
+use Rattle.sum_engine.proofs.{WorldLemmas.world_at_after, BehaviorLemmas.behind_step, BehaviorLemmas.Performs-step}
+use Rattle.sum_engine.proofs.{BehaviorLemmas.Performs-refused, CheckLinesLemmas.manifest_behavior}
 use Rattle.sum_engine.proofs.OpenedNameLemmas.{WasOpened, fault_answer}
+use Rattle.sum_settings.specs.declared.{settings.CheckSettings.CheckSettings, stop.Stop.Stop}
+use Rattle.sum_settings.specs.declared.stop.Stop.TheVariants.{Memory}
 
 -- the step that opens a manifest of that name
 abbrev pub opening : List ℕ → Step
@@ -56,16 +61,20 @@ module _ (settings : CheckSettings) (tool name : List ℕ) (a : StreamsState) wh
   module _ {Whole : Type 0} (m n : SourceState) (s t : InputState) (b : StreamsState) (fresh : s.reads ≡ empty_reads)
       (o : WasOpened Whole a.inputs m b.inputs n name t)
     where
+      -- the checker ran to its end, and returned this
       abbrev Ran : Result Bool Stop → Type 0
       Ran x = RunsManifest (rules_of settings (is_dash name)) (labels_of settings tool name) s t (from_inputs m) b x
 
+      -- the opening happened
       did : Happened a (from_inputs m) (events_of (opening name))
       did = Happened-by (name ∷ []) [] [] o.asks Gets-none Gets-none
 
+      -- the behavior of what is left, for this content
       abbrev all : Content → World → Behavior
       all c w = manifest_behavior (rules_of settings (is_dash name)) (labels_of settings tool name) (clip c)
           (world_at w m)
 
+      -- the call performed the whole behavior, if the checker performed that of the content
       pub check_opened : (x : Result Bool Stop) → Ran x → Performed (record b { inputs = n }) x
       check_opened x run = λ w agrees.
           let (c, answer, of) = o.answer w agrees in
@@ -75,6 +84,7 @@ module _ (settings : CheckSettings) (tool name : List ℕ) (a : StreamsState) wh
           (rw (answer, ← world_at_after w a.inputs m (name ∷ []) o.asks)
           (behind_step b (all c w).good (opening name) (all c w).steps x did ran))
 
+      -- and stopped where the checker did
       pub check_stops : (x : Result Bool Stop) → Ran x → StoppedAt (record b { inputs = n }) x
       check_stops (Ok good) run = tt {0}
       check_stops (Err stop) run = λ w agrees c answer r gave.
@@ -87,9 +97,9 @@ module _ (settings : CheckSettings) (tool name : List ℕ) (a : StreamsState) wh
           (stops_behind stop (opening name) (clip c) b n did o.asked o.refusals ran)
 
   -- the manifest could not be opened, and the line of its fault was written, or a prefix of it
-  pub refused : (m : SourceState) (f : Fault) (outputs : OutputsState) (x : Result Bool Stop)
-      → m ≡ and_opening a.inputs name (Some (Err f))
-      → WritesAndReturns a.outputs outputs (name_fault_line own_profile tool (shown name) f) [] false x
+  pub refused : (m : SourceState) (f : Fault) (outputs : BothOutputs) (x : Result Bool Stop)
+      → m ≡ state_with_opening a.inputs name (Some (Err f))
+      → WritesAndReturns a.outputs outputs (name_fault_line tool (shown name) f) [] false x
       → Performed (record a { inputs = m; outputs = outputs }) x
   refused m f outputs x opens said =
       Performs-step (λ w. check_behavior settings tool w name) (λ g. g) false a
@@ -97,8 +107,8 @@ module _ (settings : CheckSettings) (tool name : List ℕ) (a : StreamsState) wh
       (λ w agrees. let answer = fault_answer a.inputs m name f opens w agrees in rw answer refl) said
 
   -- nothing was read of a manifest that could not be opened
-  pub not_read : (m : SourceState) (f : Fault) (outputs : OutputsState) (x : Result Bool Stop)
-      → m ≡ and_opening a.inputs name (Some (Err f)) → StoppedAt (record a { inputs = m; outputs = outputs }) x
+  pub not_read : (m : SourceState) (f : Fault) (outputs : BothOutputs) (x : Result Bool Stop)
+      → m ≡ state_with_opening a.inputs name (Some (Err f)) → StoppedAt (record a { inputs = m; outputs = outputs }) x
   not_read m f outputs (Ok good) opens = tt {0}
   not_read m f outputs (Err stop) opens = λ w agrees c answer r gave.
       let fault = fault_answer a.inputs m name f opens w agrees in cc
@@ -110,7 +120,7 @@ module _ (settings : CheckSettings) (tool name : List ℕ) (a : StreamsState) wh
       (λ w. begins (world_after w (name ∷ [])) (answer_to w name)) refused refl
     where
       -- checking begins with a step
-      begins : (w : World) (answer : Answer) → (next : Step) × (rest : List Step) × ((check_behavior_by
+      begins : (w : World) (answer : AnswerValue) → (next : Step) × (rest : List Step) × ((check_behavior_by
           (rules_of settings (is_dash name)) (labels_of settings tool name) name w answer).steps ≡ next ∷ rest)
       begins w (Err f) = (_, [], refl)
       begins w (Ok c) = (opening name, _, refl)
@@ -118,8 +128,8 @@ module _ (settings : CheckSettings) (tool name : List ℕ) (a : StreamsState) wh
   -- so it gave nothing
   pub not_asked : (m : SourceState) → RefusesMemory a.inputs m → StoppedAt (from_inputs m) (Err Memory)
   not_asked m refused = λ w agrees c answer r gave.
-      let past = slice_get_past (gave_of a.inputs.openings name) (times name (opened_names a.inputs))
+      let past = slice_get_past (results_of a.inputs.openings name) (times name (opened_names a.inputs))
       (rw gave-times (omega arith)) in
-      let none : gave_at a.inputs.openings name (times name (opened_names a.inputs)) ≡ None = rw past refl in
+      let none : result_at a.inputs.openings name (times name (opened_names a.inputs)) ≡ None = rw past refl in
       let some = rw refused at gave in
       cc

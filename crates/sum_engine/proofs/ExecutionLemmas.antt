@@ -1,12 +1,17 @@
 -- What happened from one state to another, one event after another.
-use Rattle.std.proofs.Common.{rules, arith, ◌≡◌, ◌<◌, ◌+◌, ℕ, List, [], ◌∷◌, ◌++◌, map, Option, None, Some, Result, Ok, Err, refl, inl, inr, append_assoc, append-nil, filter_map}
-use Rattle.std.specs.Prelude.{◌⊎◌, Any}
-use Rattle.std.proofs.lemmas.{List.map-append, List.Elements.filter_map-append}
-use Rattle.sum_lines.{specs.Sinks.Gets, proofs.EventLemmas.Gets-none, proofs.EventLemmas.Gets-then}
-use Rattle.sum_engine.specs.Behavior.{Event, Step, SourceState, OutputEvent, output_events, open_name, to_err, to_out}
-use Rattle.sum_engine.specs.{Writes.WritesBoth, Writes.WritesAndReturns, Names.RefusesMemory}
-use Rattle.sum_engine.specs.Execution.{StreamsState, opened_names, AsksNames, Stop, Memory, Write, Happened, RunsOutOfMemory, with_refusals, PerformsSteps, none_or_one}
+use Rattle.std.proofs.Common.{rules, arith, ◌≡◌, ◌<◌, ◌+◌, ℕ, List, [], ◌∷◌, ◌++◌, map, Option, None, Some, Result, Ok}
+use Rattle.std.proofs.Common.{Err, refl, inl, inr, append_assoc, append-nil, filter_map}
+use Rattle.std.{specs.Prelude.◌⊎◌, specs.Prelude.Any, proofs.lemmas.List.map-append}
+use Rattle.std.proofs.lemmas.List.Elements.{filter_map-append}
+use Rattle.sum_lines.specs.Output.{Gets, OutputEvent, output_events}
+use Rattle.sum_lines.proofs.EventLemmas.{Gets-none, Gets-then}
+use Rattle.sum_engine.specs.Behavior.{Event, Step, open_name, to_err, to_out}
+use Rattle.sum_engine.specs.Streams.{WritesBoth, WritesAndReturns, StreamsState, none_or_one}
+use Rattle.sum_engine.specs.Execution.{RefusesMemory, opened_names, AsksNames, Happened, RunsOutOfMemory}
+use Rattle.sum_engine.specs.Execution.{streams_with_refusals, PerformsSteps}
 use Rattle.sum_engine.proofs.WorldLemmas.{asks_none, asks_then}
+use Rattle.sum_sources.specs.Source.{SourceState}
+use Rattle.sum_settings.specs.declared.stop.Stop.{Stop, TheVariants.Memory, TheVariants.Write}
 
 -- ---- what of a step's events is of each kind
 
@@ -15,16 +20,16 @@ abbrev pub events_by : List (List ℕ) → List OutputEvent → List OutputEvent
 events_by names err out = map open_name names ++ (map to_err err ++ map to_out out)
 
 -- among events of the kind that is looked for, all are found
-pub kind-all : {A : Type 0} (f : A → Event) (h : Event → Option A) → ((x : A) → h (f x) ≡ Some x) → (xs : List A)
+pub filter_map-kind : {A : Type 0} (f : A → Event) (h : Event → Option A) → ((x : A) → h (f x) ≡ Some x) → (xs : List A)
     → filter_map h (map f xs) ≡ xs
-kind-all f h same [] = refl
-kind-all f h same (x ∷ xs) = search (rules, kind-all f h same xs)
+filter_map-kind f h same [] = refl
+filter_map-kind f h same (x ∷ xs) = search (rules, filter_map-kind f h same xs)
 
 -- among events of another kind, none is found
-pub kind-none : {A B : Type 0} (f : A → Event) (h : Event → Option B) → ((x : A) → h (f x) ≡ None) → (xs : List A)
+pub filter_map-other_kind : {A B : Type 0} (f : A → Event) (h : Event → Option B) → ((x : A) → h (f x) ≡ None) → (xs : List A)
     → filter_map h (map f xs) ≡ []
-kind-none f h none [] = refl
-kind-none f h none (x ∷ xs) = search (rules, kind-none f h none xs)
+filter_map-other_kind f h none [] = refl
+filter_map-other_kind f h none (x ∷ xs) = search (rules, filter_map-other_kind f h none xs)
 
 -- ---- what happened
 
@@ -33,7 +38,7 @@ pub Happened-by : {a b : StreamsState} (names : List (List ℕ)) (err out : List
     → AsksNames a.inputs b.inputs names → Gets a.outputs.err b.outputs.err err
     → Gets a.outputs.out b.outputs.out out
     → Happened a b (events_by names err out)
-Happened-by names err out h p q = search (rules, filter_map-append, kind-all, kind-none)
+Happened-by names err out h p q = search (rules, filter_map-append, filter_map-kind, filter_map-other_kind)
 
 -- nothing happened between equal streams
 pub Happened-none : (a : StreamsState) → Happened a a []
@@ -54,6 +59,7 @@ pub step_performed : {A : Type 0} {a b : StreamsState} {names : List (List ℕ)}
     → PerformsSteps (record { names = names; err = err; out = out; remaining = remaining } ∷ []) x a b r
 step_performed {A} {a} {b} {names} {err} {out} {x} remaining r asked said = by r said.writes
   where
+    -- by what was written
     by : (r : Result A Stop) → WritesBoth a.outputs b.outputs err out x r
         → PerformsSteps (record { names = names; err = err; out = out; remaining = remaining } ∷ []) x a b r
     by (Ok y) h = rw append-nil (h.0, Happened-by names _ _ asked h.1 h.2)
@@ -72,7 +78,7 @@ pub refused_first : {a b : StreamsState} {steps : List Step} (next : Step) (late
     → b.outputs ≡ a.outputs → RefusesMemory a.inputs b.inputs ⊎ ((b.inputs ≡ a.inputs) × (0 < next.remaining))
     → RunsOutOfMemory steps a b
 refused_first {a} {b} next later are outputs refused =
-    let same : with_refusals a.inputs.refusals b ≡ a = grind arith in
+    let same : streams_with_refusals a.inputs.refusals b ≡ a = grind arith in
     record {
       done = [];
       next = next;

@@ -1,22 +1,26 @@
 -- A manifest of lines that were written for whole files is good: by induction on its lines.
-use Rattle.std.proofs.Common.{rules, ◌≡◌, ℕ, suc, ◌+◌, ◌<◌, true, false, List, [], ◌∷◌, ◌++◌, length, map, refl, ap, ◌∙◌, append_assoc, arith, inl, append-nil, flat_map, All, Ok}
-use Rattle.std.proofs.{lemmas.Bool.ne_eqb, lemmas.List.Elements.All-head, lemmas.List.Elements.All-tail, lemmas.Slice.Eq.bytes_eq-Decides, Math.Bool.and-false, Math.Bool.or-true}
-use Rattle.sum_engine.specs.check.Rules.{LabelsValue, Rules, rules_of, labels_of}
-use Rattle.sum_engine.specs.check.Judge.{Algos, Form, Right, LineVerdictValue, judge, line_verdict, verdicts, all_verdicts, parse_line, past_line, own_profile, escape, IsEntry, form}
-use Rattle.sum_engine.specs.check.Reports.{Report, Counts, out_by, out_of, err_of, counts_of, end_text, good}
-use Rattle.sum_engine.specs.check.Checking.{CheckSettings, line_steps, content_behavior, check_behavior_by, check_behavior}
-use Rattle.sum_engine.{specs.check.Checker.step_then, proofs.CheckOneLemmas.opening}
-use Rattle.sum_engine.specs.Behavior.{Whole, World, answer_to, world_after, Behavior, out_text, err_text, is_dash, Answer, times}
-use Rattle.sum_sources.specs.Contents.{Content, limit}
-use Rattle.sum_sources.proofs.ContentLemmas.{limit-value, clip-short}
+use Rattle.std.proofs.Common.{rules, ◌≡◌, ℕ, suc, ◌+◌, ◌<◌, true, false, List, [], ◌∷◌, ◌++◌, length, map, refl, ap}
+use Rattle.std.proofs.Common.{◌∙◌, append_assoc, arith, inl, append-nil, flat_map, All, Ok}
+use Rattle.std.proofs.lemmas.{Bool.ne_eqb, List.Elements.All-head, List.Elements.All-tail, Slice.Eq.bytes_eq-Decides}
+use Rattle.std.proofs.Math.Bool.{and-false, or-true}
+use Rattle.sum_engine.proofs.{CheckOneLemmas.opening, ListedEntryLemmas.Item, ListedEntryLemmas.written_text}
+use Rattle.sum_engine.proofs.ListedEntryLemmas.{Listed, prefix, spelled_for, ReadableSoFar, back, whole, lines-are}
+use Rattle.sum_engine.specs.Behavior.{World, answer_to, world_after, Behavior, out_text, err_text}
+use Rattle.sum_engine.specs.check.CheckOne.{line_steps, content_behavior, check_behavior_by, check_behavior}
+use Rattle.sum_engine.specs.check.{Checker.behavior_from, Counts.Counts, Counts.counts_of, Counts.good, Judge.Right}
+use Rattle.sum_engine.specs.check.Judge.{LineVerdictValue, judge, line_verdict, verdicts, all_verdicts}
+use Rattle.sum_engine.specs.check.{Report.out_by, Report.out_of, Report.err_of, Rules.LabelsValue, Rules.rules_of}
+use Rattle.sum_engine.specs.check.{Rules.labels_of, Rules.CheckRules, Summary.end_text}
+use Rattle.digest_kinds.specs.declared.algo.Algos.{Algos}
+use Rattle.sum_lines.specs.{declared.reading.read_line.Form.Form, grammar.Entries.IsEntry, grammar.Form.form}
+use Rattle.sum_lines.specs.{grammar.ParsedLines.parse_line, Escape.escape}
 use Rattle.sum_lines.proofs.ParsedLineLemmas.{parse_is_grammar}
-use Rattle.sum_engine.proofs.ListedEntryLemmas.{Item, written_text, Listed, prefix, spelled_for, ReadableSoFar, back, whole, lines-are}
+use Rattle.sum_sources.specs.{ManifestLines.past_line, declared.fault.Ending.TheVariants.Whole}
+use Rattle.sum_sources.specs.{Input.Content, Input.limit, WithStdin.is_dash, Source.AnswerValue, Source.times}
+use Rattle.sum_sources.proofs.ContentLemmas.{limit-value, clip-short}
+use Rattle.sum_settings.specs.declared.settings.{Report.Report, CheckSettings.CheckSettings}
 
 -- ---- each verdict is Right
-
--- the same rules at the present profile
-abbrev now : Rules → Rules
-now r = record r { profile = own_profile }
 
 -- the verdict of an item on line n
 abbrev right : ℕ → Item → LineVerdictValue
@@ -28,25 +32,25 @@ rights n [] = []
 rights n (i ∷ is) = right (n + 1) i ∷ rights (n + 1) is
 
 -- these are the files, whatever was opened before
-abbrev pub Steady : (List ℕ → Answer) → World → Type 0
+abbrev pub Steady : (List ℕ → AnswerValue) → World → Type 0
 Steady files w = (name : List ℕ) (k : ℕ) → is_dash name ≡ false → w.answer name k ≡ files name
 
 -- a written line is judged right: its item's file has the digest that it spells
-judged : (r : Rules) (files : List ℕ → Answer) (w : World) (n : ℕ) (f : Form) (i : Item)
+judged : (r : CheckRules) (files : List ℕ → AnswerValue) (w : World) (n : ℕ) (f : Form) (i : Item)
     → Steady files w → Listed r.algo files i
     → IsEntry escape r.algo f (prefix i) (spelled_for i)
-    → line_verdict r w n (parse_line own_profile r.algo f (prefix i)) ≡ right n i
+    → line_verdict r w n (parse_line r.algo f (prefix i)) ≡ right n i
 judged r files w n f i steady h e =
-    let is = parse_is_grammar own_profile r.algo f (prefix i) in
+    let is = parse_is_grammar r.algo f (prefix i) in
     let verdict : judge r w (spelled_for i) ≡ Right =
     rw (steady i.name (times i.name w.opened) h.no_dash)
     (search (rules, clip-short, limit-value, and-false, bytes_eq-Decides)) in
     rw ((is.when_entry (spelled_for i)).1 e, verdict) refl
 
 -- written lines are all judged right, each in the world that those before it leave
-right-verdicts : (r : Rules) (files : List ℕ → Answer) (before : List (List ℕ)) (is : List Item) (w : World) (n : ℕ)
+right-verdicts : (r : CheckRules) (files : List ℕ → AnswerValue) (before : List (List ℕ)) (is : List Item) (w : World) (n : ℕ)
     → Steady files w → ReadableSoFar r.algo before → All (Listed r.algo files) is
-    → verdicts (now r) (form r.algo (before ++ map prefix is)) w n (map prefix is) ≡ rights n is
+    → verdicts r w n (map (parse_line r.algo (form r.algo (before ++ map prefix is))) (map prefix is)) ≡ rights n is
 right-verdicts r files before [] w n steady u all = refl
 right-verdicts r files before (i ∷ is) w n steady u all =
     let algos : Algos = r.algo in
@@ -60,16 +64,16 @@ right-verdicts r files before (i ∷ is) w n steady u all =
 
 -- the report of a right name
 abbrev pub right_line : Report → List ℕ → List ℕ
-right_line report name = out_by own_profile report Right name
+right_line report name = out_by report Right name
 
 -- the counts of k right lines
 abbrev right_counts : ℕ → Counts
 right_counts k = record { right = k; wrong = 0; missing = 0; unread = 0; bad = 0 }
 
-module _ (r : Rules) (labels : LabelsValue) where
+module _ (r : CheckRules) (labels : LabelsValue) where
   -- each name is reported as right, nothing is written on standard error, and each is counted
   rights-are : (n : ℕ) (is : List Item) → let js = rights n is in
-      (flat_map (out_of (now r) labels) js ≡ flat_map (λ (i : Item). right_line labels.report i.name) is)
+      (flat_map (out_of labels) js ≡ flat_map (λ (i : Item). right_line labels.report i.name) is)
       × (flat_map (err_of r labels) js ≡ []) × (counts_of js ≡ right_counts (length is))
   rights-are n [] = (refl, refl, refl)
   rights-are n (i ∷ is) =
@@ -77,14 +81,14 @@ module _ (r : Rules) (labels : LabelsValue) where
 
   -- a manifest's behavior writes the reports of its lines; and on standard error also the end
   texts-are : (end : List ℕ) (c : Content) (js : List LineVerdictValue) → let steps = line_steps r labels end c js in
-      (flat_map (λ s. s.out) steps ≡ flat_map (out_of r labels) js)
+      (flat_map (λ s. s.out) steps ≡ flat_map (out_of labels) js)
       × (flat_map (λ s. s.err) steps ≡ flat_map (err_of r labels) js ++ end)
   texts-are end c [] = (refl, append-nil end)
   texts-are end c (j ∷ js) =
       let (out, err) = texts-are end (past_line c) js in search (rules, append_assoc, out, err)
 
 -- a manifest of right lines is good
-is-good : (r : Rules) (k : ℕ) → good r Whole (right_counts (suc k)) ≡ true
+is-good : (r : CheckRules) (k : ℕ) → good r Whole (right_counts (suc k)) ≡ true
 is-good r k = rw (ne_eqb (suc k) 0 (λ e. omega (arith, e)), or-true) refl
 
 -- ---- the whole manifest
@@ -96,20 +100,20 @@ pub record Found (check : CheckSettings) (tool : List ℕ) (w : World) (manifest
   pub err : err_text (check_behavior check tool w manifest) ≡ []
 
 -- a manifest with at least one line is good, and each of its names is reported as right
-pub manifest_good : (check : CheckSettings) (tool manifest : List ℕ) (files : List ℕ → Answer) (w : World)
+pub manifest_good : (check : CheckSettings) (tool manifest : List ℕ) (files : List ℕ → AnswerValue) (w : World)
     (is : List Item) → Steady files w → All (Listed check.algo files) is → 0 < length is
     → length (flat_map written_text is) < limit → answer_to w manifest ≡ Ok (whole is) → Found check tool w manifest is
 manifest_good check tool manifest files w [] steady all some fits given = absurd (omega arith)
 manifest_good check tool manifest files w (i ∷ is) steady all some fits given =
-    let r : Rules = rules_of check (is_dash manifest) in
+    let r : CheckRules = rules_of check (is_dash manifest) in
     let labels : LabelsValue = labels_of check tool manifest in
     let next : World = world_after w (manifest ∷ []) in
     let c : Content = whole (i ∷ is) in
     let js = rights 0 (i ∷ is) in
-    let verdicts : all_verdicts (now r) next c ≡ js = rw (lines-are check.algo files (i ∷ is) all)
+    let verdicts : all_verdicts r next c ≡ js = rw (lines-are check.algo files (i ∷ is) all)
     (right-verdicts r files [] (i ∷ is) next 0 steady (inl refl) all) in
     let of : Content → List LineVerdictValue → Behavior =
-    λ c js. step_then (opening manifest) (content_behavior r labels c js) in
+    λ c js. behavior_from (opening manifest) (content_behavior r labels c js) in
     let here = ap (check_behavior_by r labels manifest next) given
     ∙ ap (λ c. of c (all_verdicts r next c)) (clip-short c (rw limit-value at fits)) ∙ ap (of c) verdicts in
     let are = rights-are r labels 0 (i ∷ is) in

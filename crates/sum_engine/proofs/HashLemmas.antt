@@ -1,15 +1,16 @@
 -- `Inputs::hash_file`: a name is hashed, and in each world that agrees with what was read this is of its answer.
 use Rattle.std.proofs.Common.{rules, refl, ◌≡◌, ◌≢◌, [], ◌∷◌, ℕ, List, Result, Ok, Err}
-use Rattle.digest_kinds.specs.Kinds.{KindValue}
-use Rattle.sum_sources.specs.Sources.{HashesFile}
-use Rattle.sum_engine.specs.Behavior.{World, Answer, Fault, SourceState, answer_to, digest_or_fault}
-use Rattle.sum_engine.specs.{Execution.Agrees, Execution.world_at, Execution.AsksNames, Execution.ReadsToEndIf, Names.HashFault, Names.RefusesMemory}
+use Rattle.digest_kinds.specs.Kind.{KindValue}
+use Rattle.sum_sources.specs.{HashFile.HashesFile, Source.AnswerValue, Source.SourceState}
+use Rattle.sum_sources.specs.declared.{sources.hash_file.HashFault.HashFault, fault.Fault.Fault}
+use Rattle.sum_engine.specs.Behavior.{World, answer_to, digest_or_fault}
+use Rattle.sum_engine.specs.Execution.{Agrees, world_at, AsksNames, ReadsToEndIf, RefusesMemory}
 use Rattle.sum_engine.proofs.WorldLemmas.{opening_agrees, asks_one, reads_one}
 use Rattle.sum_sources.specs.declared.sources.hash_file.HashFault.TheVariants as hashing
 use Rattle.sum_sources.specs.declared.sources.source.OpenFault.TheVariants as faults
 
 -- what hashing an answer gives
-abbrev pub IsHashOf : KindValue → Answer → Result (List ℕ) HashFault → Type 0
+abbrev pub IsHashOf : KindValue → AnswerValue → Result (List ℕ) HashFault → Type 0
 IsHashOf kind x (Ok d) = digest_or_fault kind x ≡ Ok d
 IsHashOf kind x (Err (hashing.Open (faults.Fault f))) = x ≡ Err f
 IsHashOf kind x (Err (hashing.Read f)) = (digest_or_fault kind x ≡ Err f) × ((g : Fault) → x ≢ Err g)
@@ -32,6 +33,7 @@ pub record HashesName (kind : KindValue) (name : List ℕ) (a b : SourceState) (
   pub asked : AsksUnlessRefused name a b r
   pub reads : ReadsToEndIf (IsNotBroken r) a b
 
+-- a call that hashes the file of a name has this effect
 pub hashes_name : {kind : KindValue} {name : List ℕ} {a b : SourceState} (r : Result (List ℕ) HashFault)
     → HashesFile kind name a b r → HashesName kind name a b r
 hashes_name {name = name} {a} {b} (Err (hashing.Open (faults.Fault f))) h =

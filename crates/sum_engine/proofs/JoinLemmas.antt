@@ -1,24 +1,30 @@
 -- `steps_join`: the steps of a new checker, one after another, by induction on the list of their vectors.
-use Rattle.std.proofs.Common.{rules, ◌≡◌, ℕ, zero, suc, ◌+◌, ◌-◌, ◌≤◌, List, [], ◌∷◌, ◌++◌, Ok, length, take, drop, refl, ap, sym, ◌∙◌, arith, length-drop, slice_index_or}
+use Rattle.std.proofs.Common.{rules, ◌≡◌, ℕ, zero, suc, ◌+◌, ◌-◌, ◌≤◌, List, [], ◌∷◌, ◌++◌, Ok, length, take, drop}
+use Rattle.std.proofs.Common.{refl, ap, sym, ◌∙◌, arith, length-drop, slice_index_or, map}
 use Rattle.std.proofs.lemmas.List.{take-append-drop}
-use Rattle.sum_engine.specs.{check.Rules.Rules, check.Rules.LabelsValue, check.Reports.counts_of, check.Reports.end_text}
-use Rattle.sum_engine.specs.check.Judge.{Form, form, lines_under, LineVerdictValue, verdicts, all_verdicts, past_line, past_lines}
-use Rattle.sum_engine.specs.{check.Checking.line_steps, check.Checking.content_behavior, check.CheckStates.CheckState, check.CheckStates.remaining_behavior, check.CheckStates.initial_state}
-use Rattle.sum_engine.specs.{check.Checker.Going, check.Checker.IsStep, check.Checker.step_then, Execution.StreamsState, Execution.Happened}
-use Rattle.sum_engine.specs.{Behavior.World, Behavior.Behavior, Behavior.trace, Behavior.Content, check.CheckerLaws.TakesSteps, check.CheckerLaws.StepsJoin}
-use Rattle.sum_engine.proofs.{RemainingLemmas.past_next, ExecutionLemmas.Happened-none, BehaviorLemmas.HasDoneUpTo, BehaviorLemmas.behavior_then-happened}
+use Rattle.sum_engine.proofs.BehaviorLemmas.{HasDoneUpTo, behavior_then-happened}
 use Rattle.sum_engine.proofs.CheckLinesLemmas.{remaining-initial, none_left, done_last}
+use Rattle.sum_engine.{proofs.ExecutionLemmas.Happened-none, proofs.RemainingLemmas.past_next, specs.Behavior.World}
+use Rattle.sum_engine.specs.{Behavior.Behavior, Behavior.trace, Execution.Happened, Laws.TakesSteps, Laws.StepsJoin}
+use Rattle.sum_engine.specs.{Streams.StreamsState, check.CheckOne.line_steps, check.CheckOne.content_behavior}
+use Rattle.sum_engine.specs.check.Checker.{remaining_behavior, Going, IsStep, behavior_from}
+use Rattle.sum_engine.specs.check.{Counts.counts_of, Judge.LineVerdictValue, Judge.verdicts, Judge.all_verdicts}
+use Rattle.sum_engine.specs.check.{Rules.LabelsValue, Rules.CheckRules, Summary.end_text, Verdicts.CheckState}
+use Rattle.sum_engine.specs.check.Verdicts.{initial_state}
+use Rattle.sum_lines.specs.{declared.reading.read_line.Form.Form, grammar.Form.form, grammar.ParsedLines.parse_line}
+use Rattle.sum_sources.specs.ManifestLines.{past_line, content_past_lines, lines}
+use Rattle.sum_sources.specs.Input.{Content}
 
 -- ---- as many steps as lines, and one more
 
 -- there are as many verdicts as lines
-length_verdicts : (r : Rules) (f : Form) (ls : List (List ℕ)) (w : World) (n : ℕ)
-    → length (verdicts r f w n ls) ≡ length ls
+length_verdicts : (r : CheckRules) (f : Form) (ls : List (List ℕ)) (w : World) (n : ℕ)
+    → length (verdicts r w n (map (parse_line r.algo f) ls)) ≡ length ls
 length_verdicts r f [] w n = refl
 length_verdicts r f (l ∷ ls) w n = ap suc (length_verdicts r f ls _ (n + 1))
 
 -- a manifest has one more step than it has verdicts
-length_steps : (r : Rules) (labels : LabelsValue) (end : List ℕ) (c : Content) (js : List LineVerdictValue)
+length_steps : (r : CheckRules) (labels : LabelsValue) (end : List ℕ) (c : Content) (js : List LineVerdictValue)
     → length (line_steps r labels end c js) ≡ length js + 1
 length_steps r labels end c [] = refl
 length_steps r labels end c (j ∷ js) = omega (arith, length_steps r labels end (past_line c) js)
@@ -33,15 +39,15 @@ drop_next (suc k) (x ∷ xs) ys y h = search (rules, drop_next k xs ys y h)
 
 -- ---- k steps of a new checker
 
-module _ (r : Rules) (labels : LabelsValue) (c : Content) (w : World) (s : StreamsState) where
+module _ (r : CheckRules) (labels : LabelsValue) (c : Content) (w : World) (s : StreamsState) where
   -- the manifest's behavior
   abbrev whole : Behavior
   whole = content_behavior r labels c (all_verdicts r w c)
 
   -- exactly the first k steps happened, and the others remain; the bytes consumed are those up to the end of line k
   pub record After (b : CheckState) (t : StreamsState) (k : ℕ) : Type 0 where
-    pub remaining : b.remaining ≡ past_lines k c
-    pub consumed : b.consumed + length (past_lines k c).bytes ≡ length c.bytes
+    pub remaining : b.remaining ≡ content_past_lines k c
+    pub consumed : b.consumed + length (content_past_lines k c).bytes ≡ length c.bytes
     pub taken : b.taken ≤ b.consumed + 8192
     pub done : Happened s t (trace (take k whole.steps))
     pub steps : (remaining_behavior r labels b).steps ≡ drop k whole.steps
@@ -52,7 +58,7 @@ module _ (r : Rules) (labels : LabelsValue) (c : Content) (w : World) (s : Strea
       → IsStep r labels v b d t z (Ok Going) → After d z (suc k)
   after_more {b} {d} {t} {z} {v} {k} h step =
       let moves = (step.going refl).1 in
-      let is = step.is ∙ ap (step_then step.step) (step.going refl).0 in
+      let is = step.is ∙ ap (behavior_from step.step) (step.going refl).0 in
       let steps = drop_next k whole.steps (remaining_behavior r labels d).steps step.step
       (sym h.steps ∙ ap (λ (q : Behavior). q.steps) is) in
       let remaining = moves.remaining ∙ ap past_line h.remaining ∙ past_next k c in
@@ -69,9 +75,9 @@ module _ (r : Rules) (labels : LabelsValue) (c : Content) (w : World) (s : Strea
       rw next (after_all more.0 b more.1 t (suc i) vectors (after_more h more.2) more.3)
 
 -- no vector is longer than its line
-vectors_fit : (r : Rules) (labels : LabelsValue) (a b : CheckState) (s t : StreamsState) (vectors : List (List ℕ))
+vectors_fit : (r : CheckRules) (labels : LabelsValue) (a b : CheckState) (s t : StreamsState) (vectors : List (List ℕ))
     → TakesSteps r labels a b s t vectors → (i : ℕ)
-    → length (slice_index_or vectors i []) ≤ length (slice_index_or (lines_under r.profile a.remaining) i [])
+    → length (slice_index_or vectors i []) ≤ length (slice_index_or (lines a.remaining) i [])
 vectors_fit r labels a b s t [] is i = omega arith
 vectors_fit r labels a b s t (v ∷ vectors) more zero = let moves = (more.2.going refl).1 in search rules
 vectors_fit r labels a b s t (v ∷ vectors) more (suc i) =
@@ -97,7 +103,7 @@ steps_join r labels c w b s t vectors going =
           let none = none_left e.later.steps e.later.good good e.performs.0 in
           let last = sym h.steps ∙ ap (λ (q : Behavior). q.steps) e.is ∙ ap (λ steps. e.step ∷ steps) none.0 in
           let one : length all.steps - k ≡ 1 = sym (length-drop k all.steps) ∙ ap length last in
-          let ls = lines_under r.profile c in
+          let ls = lines c in
           omega (
             arith,
             one,

@@ -1,17 +1,20 @@
 -- A manifest of lines that were written for whole files: each line is read back.
-use Rattle.std.proofs.Common.{rules, ◌≡◌, ◌≢◌, ℕ, ◌<◌, false, List, [], ◌∷◌, ◌++◌, length, map, refl, ap, sym, ◌∙◌, subst, ◌⊎◌, inl, IsTrue, flat_map, All, Ok}
-use Rattle.std.specs.{Char.is_newline, Str.Lines.strip_carriage_return}
-use Rattle.std.proofs.lemmas.{Bool.ne_eqb, List.append-nil, List.append_cancel_right, List.Elements.All-nil, List.Elements.All-map, List.Elements.All-weaker}
-use Rattle.digest_kinds.specs.{Kinds.KindValue, Kinds.has_len, Kinds.digest, declared.algo.Algos.Algos}
+use Rattle.std.proofs.Common.{rules, ◌≡◌, ◌≢◌, ℕ, ◌<◌, false, List, [], ◌∷◌, ◌++◌, length, map, refl, ap, sym, ◌∙◌}
+use Rattle.std.proofs.Common.{subst, ◌⊎◌, inl, IsTrue, flat_map, All, Ok}
+use Rattle.std.{specs.Char.is_newline, specs.Str.Lines.strip_carriage_return, proofs.lemmas.Bool.ne_eqb}
+use Rattle.std.proofs.lemmas.List.{append-nil, append_cancel_right}
+use Rattle.std.proofs.lemmas.List.Elements.{All-nil, All-map, All-weaker}
 use Rattle.digest_kinds.proofs.DigestLemmas.{length-digest, IsBytes-digest}
+use Rattle.digest_kinds.specs.{Kind.KindValue, Kind.digest, Algo.has_len, declared.algo.Algos.Algos}
 use Rattle.sum_lines.specs.declared.reading.read_line.Form.TheVariants.{Undecided, Standard}
-use Rattle.sum_settings.specs.declared.style.Mode.{Mode}
-use Rattle.sum_lines.specs.{Escape.escape, Lines.line, grammar.Entries.EntryValue, grammar.Entries.IsEntry, grammar.Entries.form, grammar.LineLaws.AllowsMode}
+use Rattle.sum_lines.specs.{grammar.Entries.EntryValue, grammar.Entries.IsEntry, grammar.Form.form, Escape.escape}
+use Rattle.sum_lines.specs.{DigestLine.line, grammar.LineLaws.AllowsMode}
 use Rattle.sum_lines.proofs.PutLineLemmas.{prefix_of, read_back}
-use Rattle.sum_engine.specs.{Behavior.Whole, Behavior.is_dash, Behavior.Answer, check.OldVerdicts.HasNoCarriageReturn}
-use Rattle.sum_sources.specs.{Contents.Content, Contents.limit, ManifestLines.HasNoNewline, ManifestLines.lines, ManifestLines.raw_lines}
-use Rattle.sum_sources.proofs.CutLemmas.{raw_lines-joined}
-use Rattle.sum_engine.proofs.CarriageReturnLemmas.{strips-kept}
+use Rattle.sum_settings.specs.declared.style.Mode.{Mode}
+use Rattle.sum_sources.specs.{declared.fault.Ending.TheVariants.Whole, Input.Content, Input.limit}
+use Rattle.sum_sources.specs.{WithStdin.is_dash, Source.AnswerValue, ManifestLines.HasNoNewline, ManifestLines.lines}
+use Rattle.sum_sources.{specs.ManifestLines.raw_lines, proofs.CutLemmas.raw_lines-joined}
+use Rattle.sum_engine.{specs.OldVerdicts.HasNoCarriageReturn, proofs.CarriageReturnLemmas.strips-kept}
 
 -- ---- what is written
 
@@ -27,7 +30,7 @@ abbrev pub written_text : Item → List ℕ
 written_text i = line (record { mode = i.mode; zero = false }) i.kind i.name (digest i.kind i.bytes)
 
 -- an item's line is read back, and its file still has these bytes
-pub record Listed (algos : Algos) (answer : List ℕ → Answer) (i : Item) : Type 0 where
+pub record Listed (algos : Algos) (answer : List ℕ → AnswerValue) (i : Item) : Type 0 where
   pub read_by : AllowsMode algos i.mode i.kind.algo
   pub has : IsTrue (has_len i.kind.algo i.kind.len)
   pub some : 0 < length i.name
@@ -60,7 +63,7 @@ Back algos before later s l =
     Plainly l × IsEntry escape algos (form algos (before ++ (l ∷ later))) l s × ReadableSoFar algos (before ++ (l ∷ []))
 
 -- the line of each item, between others, is read as its entry
-pub back : (algos : Algos) (answer : List ℕ → Answer) (before later : List (List ℕ)) (i : Item) → Listed algos answer i
+pub back : (algos : Algos) (answer : List ℕ → AnswerValue) (before later : List (List ℕ)) (i : Item) → Listed algos answer i
     → ReadableSoFar algos before → Back algos before later (spelled_for i) (prefix i)
 back algos answer before later i h u =
     let s = read_back algos i.mode i.kind i.name (digest i.kind i.bytes) before later h.read_by
@@ -81,7 +84,7 @@ abbrev pub whole : List Item → Content
 whole is = record { bytes = flat_map written_text is; ending = Whole }
 
 -- the lines of that content are the written ones
-pub lines-are : (algos : Algos) (answer : List ℕ → Answer) (is : List Item) → All (Listed algos answer) is
+pub lines-are : (algos : Algos) (answer : List ℕ → AnswerValue) (is : List Item) → All (Listed algos answer) is
     → lines (whole is) ≡ map prefix is
 lines-are algos answer is all =
     let one = λ (i : Item) (h : Listed algos answer i). (back algos answer [] [] i h (inl refl)).0 in

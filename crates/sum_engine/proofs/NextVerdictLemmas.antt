@@ -1,17 +1,20 @@
 -- `Verdicts::next`: the next verdict of a manifest, by what reading and judging its line did.
-use Rattle.std.proofs.Common.{rules, ◌≡◌, ◌∙◌, ℕ, ◌+◌, List, Ok, Err, Result, IfOk, Some, refl, ◌∷◌, ap, sym, arith, length, length-drop, ◌≤◌}
-use Rattle.sum_sources.specs.declared.{line_reader.Next.TheVariants.Line, line_reader.LineReader.LineReader, line_reader.LineStop.LineStop}
-use Rattle.sum_sources.specs.LineReaders.{AdvancesLines, IsBounded, IsReading, ReadsOn, consumed_count, reads_of, remaining_content}
-use Rattle.sum_sources.specs.{Contents.Fits, ManifestLines.past_line}
+use Rattle.std.proofs.Common.{rules, ◌≡◌, ◌∙◌, ℕ, ◌+◌, List, Ok, Err, Result, IfOk, Some, refl, ap, sym, arith, length}
+use Rattle.std.proofs.Common.{length-drop, ◌≤◌}
+use Rattle.sum_sources.specs.LineReader.{AdvancesLines, IsBounded, IsReading, ReadsOn, consumed_count, reads_of}
+use Rattle.sum_sources.specs.{LineReader.remaining_content, Input.Fits, Input.Content, Input.InputState}
 use Rattle.sum_sources.specs.declared.line_reader.LineStop.TheVariants.{Fault, Memory}
-use Rattle.sum_sources.proofs.LineLemmas.{line-some}
-use Rattle.sum_engine.specs.{check.Rules.Rules, check.CheckStates.CheckState, check.CheckStates.HandlesLine, check.CheckStates.next_judged}
-use Rattle.sum_engine.specs.check.Judge.{lines_under, line_verdict, form_then, line_form, own_profile}
-use Rattle.sum_engine.specs.check.Verdicts.{LineVerdict, line_verdict_value, HoldsInEachCheck, IsNextVerdict, AsksFor, VerdictsValue, counts_after, state_at}
-use Rattle.sum_engine.specs.Behavior.{World, Content, InputState, SourceState}
-use Rattle.sum_engine.specs.{Execution.Agrees, Execution.world_at, Names.NoRoom}
-use Rattle.sum_engine.specs.private.Judging.{TakesLine, parsed_at, found_verdict}
-use Rattle.sum_engine.proofs.{WorldLemmas.world_at_after, RemainingLemmas.remaining_next}
+use Rattle.sum_sources.specs.declared.line_reader.{Next.TheVariants.Line, LineStop.LineStop}
+use Rattle.sum_sources.specs.{ManifestLines.past_line, declared.line_reader.LineReader.LineReader}
+use Rattle.sum_sources.{proofs.LineLemmas.line-some, specs.Source.SourceState}
+use Rattle.sum_engine.{proofs.RemainingLemmas.remaining_next, proofs.WorldLemmas.world_at_after, specs.Behavior.World}
+use Rattle.sum_engine.specs.Execution.{Agrees, world_at}
+use Rattle.sum_engine.specs.check.{Judge.line_verdict, Judge.LineVerdict, Judge.line_verdict_value, Rules.CheckRules}
+use Rattle.sum_engine.specs.check.Verdicts.{CheckState, HandlesLine, next_judged, HoldsInEachCheck, IsNextVerdict}
+use Rattle.sum_engine.specs.check.Verdicts.{AsksFor, VerdictsValue, counts_after, state_at}
+use Rattle.sum_engine.specs.private.Verdicts.{TakesLine, parsed_at, found_verdict}
+use Rattle.sum_lines.specs.grammar.Form.{form_then, line_form}
+use Rattle.sum_settings.specs.declared.stop.NoRoom.{NoRoom}
 
 -- ---- a line was read
 
@@ -23,7 +26,6 @@ pub record JudgesLine {I : Type 0} (state : I → InputState) (p q : VerdictsVal
   pub advances : AdvancesLines state p.reader reader (Ok Line)
   pub bounds : IsBounded reader
   pub reads : IsReading state p.reader → ReadsOn state p.reader reader (Ok Line) line
-  pub profile : p.rules.profile ≡ own_profile
   pub takes : TakesLine (record p { reader = reader }) judged line vector x
   pub kept : q ≡ record judged { outcome = q.outcome }
   pub asked : AsksFor vector q.reader.ahead a b (found_verdict x)
@@ -43,6 +45,7 @@ after_line p q reader line x = record q {
 module _ {I : Type 0} {state : I → InputState} {p q : VerdictsValue I} {a b : SourceState} {vector : List ℕ}
     (reader : LineReader I) (line : List ℕ) (judged : VerdictsValue I)
   where
+    -- the call led there
     is_after : {x : Result LineVerdict NoRoom} → JudgesLine state p q a b vector x reader line judged
         → q ≡ after_line p q reader line x
     is_after h = h.kept ∙ ap (λ (r : VerdictsValue I). record r { outcome = q.outcome }) h.takes.now
@@ -61,10 +64,8 @@ module _ {I : Type 0} {state : I → InputState} {p q : VerdictsValue I} {a b : 
           state_at (after_line p q reader line (Ok found)) (remaining_content reader c) (world_at w b) in
           let f : next_judged p.rules first line ≡ line_verdict_value vector found =
           sym (rw h.advances.lines at (h.verdict w agrees)) in
-          let lines : lines_under p.rules.profile (remaining_content p.reader c)
-          ≡ line ∷ lines_under p.rules.profile (remaining_content reader c) = rw h.profile next.0 in
           let sum = reads.sum Line refl c of in
-          let handled : HandlesLine p.rules first last vector = search (rules, arith, lines, next, sum, f) in
+          let handled : HandlesLine p.rules first last vector = search (rules, arith, next, sum, f) in
           let world = world_at_after w a b _ h.asked in
           (search (rules, remaining_next p.rules first last vector handled, f, world), handled);
     })
@@ -94,19 +95,17 @@ reads_one_line old new bytes reads final bounds c of =
 
 -- the reader of p stopped
 pub next_verdict-stop : {I : Type 0} {state : I → InputState} {p q : VerdictsValue I} {a : SourceState}
-    (vector : List ℕ) (r : Rules) → r ≡ p.rules → (reader : LineReader I) (stop : LineStop) (bytes : List ℕ)
+    (vector : List ℕ) (r : CheckRules) → r ≡ p.rules → (reader : LineReader I) (stop : LineStop) (bytes : List ℕ)
     → (IsReading state p.reader → ReadsOn state p.reader reader (Err stop) bytes)
-    → reader.final_answer ≡ Some (Err stop) → IsBounded reader → p.rules.profile ≡ own_profile
+    → reader.final_answer ≡ Some (Err stop) → IsBounded reader
     → q ≡ record p { reader = reader; outcome = Some (Err stop) }
     → HoldsInEachCheck state p q a a (λ c d. IsNextVerdict r vector c d (Err stop))
-next_verdict-stop {p = p} vector r rules reader (Fault f) bytes reads final bounds profile is = rw (is, rules) (record {
+next_verdict-stop {p = p} vector r rules reader (Fault f) bytes reads final bounds is = rw (is, rules) (record {
   reading = λ reading. (reads reading).reading;
   before = λ reading. (reads reading).before;
-  holds = λ reading c of w agrees.
-      let next = (reads reading).line c of in
-      rw profile (search next);
+  holds = λ reading c of w agrees. let next = (reads reading).line c of in search next;
 })
-next_verdict-stop {p = p} vector r rules reader Memory bytes reads final bounds profile is = rw is (record {
+next_verdict-stop {p = p} vector r rules reader Memory bytes reads final bounds is = rw is (record {
   reading = λ reading. (reads reading).reading;
   before = λ reading. (reads reading).before;
   holds = λ reading c of w agrees.

@@ -1,15 +1,17 @@
--- A line without a carriage return, neither as a byte nor in its name, says the same under both profiles.
-use Rattle.std.proofs.Common.{rules, ◌≡◌, ◌≢◌, ℕ, ◌<◌, Bool, false, List, [], ◌∷◌, ◌++◌, length, refl, sym, inl, inr, arith, subst, codes, append_assoc, if◌then◌else◌}
-use Rattle.std.proofs.lemmas.{Bool.Decides.nat_tests, List.take_at, List.drop_at}
+-- A line without a carriage return, neither as a byte nor in its name, says now what it said to older versions.
+use Rattle.std.proofs.Common.{rules, arith, ◌≡◌, ◌≢◌, ◌<◌, ◌==◌, ℕ, Bool, List, [], ◌∷◌, ◌++◌, length, refl, sym, inl}
+use Rattle.std.proofs.Common.{inr, subst, codes, append_assoc, if◌then◌else◌}
+use Rattle.std.{specs.List.starts_with, proofs.lemmas.Bool.Decides.nat_tests}
+use Rattle.std.proofs.lemmas.List.{take_at, drop_at}
 use Rattle.std.proofs.lemmas.List.Elements.{All-nil, All-cons, All-head, All-tail, All-take, All-drop}
-use Rattle.digest_kinds.specs.Kinds.{tag}
-use Rattle.sum_lines.specs.{grammar.Shapes.Algos, grammar.Shapes.KindValue, grammar.Shapes.IsPlain, grammar.Shapes.IsTagged, grammar.Shapes.mark, declared.reading.read_line.Form.Form}
+use Rattle.digest_kinds.specs.{Algo.tag, Kind.KindValue, declared.algo.Algos.Algos}
+use Rattle.sum_lines.specs.{Escape.escape, grammar.Shapes.IsPlain, grammar.Shapes.IsTagged, grammar.Shapes.mark}
+use Rattle.sum_lines.specs.declared.reading.read_line.Form.{Form}
 use Rattle.sum_lines.specs.declared.reading.read_line.Form.TheVariants.{Undecided, Standard, Reversed}
-use Rattle.sum_lines.specs.Escape.{own_profile, escape, escape_of, escape_by}
-use Rattle.sum_lines.specs.grammar.Entries.{EntryValue, is_ignored, is_ignored_by, IsRawName, IsEntry}
+use Rattle.sum_lines.specs.grammar.Entries.{EntryValue, is_ignored, IsRawName, IsEntry}
 use Rattle.sum_lines.specs.grammar.ParsedLines.{ParsedLine, ignored, bad, entry, parse_line}
-use Rattle.sum_lines.proofs.ParsedLineLemmas.{parse_is_grammar, bad_exactly}
-use Rattle.sum_engine.specs.check.OldVerdicts.{older_profile, HasNoCarriageReturn, NamesNoCarriageReturn}
+use Rattle.sum_lines.proofs.{ParsedLineLemmas.parse_is_grammar, EntryLemmas.entry_by}
+use Rattle.sum_engine.specs.OldVerdicts.{older_escape, SaidOnce, HasNoCarriageReturn, NamesNoCarriageReturn}
 use Rattle.sum_engine.proofs.CarriageReturnLemmas.{IsNoCarriageReturn}
 
 -- ---- bytes without a carriage return
@@ -29,8 +31,12 @@ part_clean front part rest line is free =
 
 -- ---- the escape
 
--- a name without a carriage return has the same escape under both profiles
-pub same_escape : (name : List ℕ) → HasNoCarriageReturn name → escape_by older_profile name ≡ escape_by own_profile name
+-- the older escape of a byte
+abbrev older_of : ℕ → List ℕ
+older_of b = if b == 92 then codes "\\\\" else if b == 10 then codes "\\n" else b ∷ []
+
+-- a name without a carriage return has the same escape now as it once had
+pub same_escape : (name : List ℕ) → HasNoCarriageReturn name → older_escape name ≡ escape name
 same_escape [] free = refl
 same_escape (b ∷ bs) free =
     let one = All-head IsNoCarriageReturn b bs free in
@@ -39,18 +45,19 @@ same_escape (b ∷ bs) free =
 -- ---- names
 
 -- a name whose older escape has no carriage return has none
-older_clean : (name : List ℕ) → HasNoCarriageReturn (escape_by older_profile name) → HasNoCarriageReturn name
+older_clean : (name : List ℕ) → HasNoCarriageReturn (older_escape name) → HasNoCarriageReturn name
 older_clean [] free = All-nil IsNoCarriageReturn
 older_clean (b ∷ bs) free =
-    let (here, rest) = parts_clean (escape_of older_profile b) (escape_by older_profile bs) free in
+    let (here, rest) = parts_clean (older_of b) (older_escape bs) free in
     All-cons IsNoCarriageReturn b bs (first b here) (older_clean bs rest)
   where
-    first : (b : ℕ) → HasNoCarriageReturn (escape_of older_profile b) → b ≢ 13
+    -- neither has the byte at its front
+    first : (b : ℕ) → HasNoCarriageReturn (older_of b) → b ≢ 13
     first b all = λ is. All-head IsNoCarriageReturn 13 [] (rw is at all) refl
 
 -- a name that bytes without a carriage return spell by the older escape has none
 older_name : (e : Bool) (raw name : List ℕ) → HasNoCarriageReturn raw
-    → raw ≡ (if e then escape_by older_profile name else name) → HasNoCarriageReturn name
+    → raw ≡ (if e then older_escape name else name) → HasNoCarriageReturn name
 older_name e raw name free is = grind (arith, older_clean)
 
 -- ---- the raw name
@@ -78,14 +85,9 @@ tail_clean {line = line} {e} {tail = tail} free p =
 
 -- ---- the entry
 
--- an entry by one escape is an entry by another that gives its name the same escape
-entry_by : (E F : List ℕ → List ℕ) (algos : Algos) (f : Form) (line : List ℕ) (s : EntryValue) → E s.name ≡ F s.name
-    → IsEntry E algos f line s → IsEntry F algos f line s
-entry_by E F algos f line s same h = search rules
-
 -- an older entry of a line without a carriage return has a name without one, since the raw name has none
 older_entry : (algos : Algos) (f : Form) (line : List ℕ) (s : EntryValue) → HasNoCarriageReturn line
-    → IsEntry (escape_by older_profile) algos f line s → HasNoCarriageReturn s.name
+    → IsEntry older_escape algos f line s → HasNoCarriageReturn s.name
 older_entry algos f line s free e = older_name e.escaped e.raw s.name (elim e.shape [
   | inl t ↦ tag_clean free t
   | inr t ↦ raw_clean f t.0 e.raw (tail_clean free t.1) t.2
@@ -99,31 +101,41 @@ CleanParsedLine ignored = Unit {0}
 CleanParsedLine bad = Unit {0}
 CleanParsedLine (entry s) = HasNoCarriageReturn s.name
 
--- a line that isn't empty is ignored under both profiles or under neither
-ignored_same : (line : List ℕ) (q : Bool) → 0 < length line → is_ignored line ≡ q
-    → is_ignored_by older_profile line ≡ q
-ignored_same line q some h = search rules
-
--- a line without one, in which no name has one, says the same under both profiles
-pub parse_line_same : (algos : Algos) (f : Form) (line : List ℕ) → HasNoCarriageReturn line
-    → NamesNoCarriageReturn algos f line → 0 < length line
-    → (parse_line older_profile algos f line ≡ parse_line own_profile algos f line)
-    × CleanParsedLine (parse_line own_profile algos f line)
-parse_line_same algos f line free names some = go (parse_line own_profile algos f line) refl
+-- what a line says names none, if no entry of it does
+pub says_clean : (algos : Algos) (f : Form) (line : List ℕ) → NamesNoCarriageReturn algos f line
+    → CleanParsedLine (parse_line algos f line)
+says_clean algos f line names = go (parse_line algos f line) refl
   where
-    go : (x : ParsedLine) → parse_line own_profile algos f line ≡ x → (parse_line older_profile algos f line ≡ x)
-        × CleanParsedLine x
-    go ignored h = search (rules, parse_is_grammar, ignored_same)
-    go bad h =
-        let is = (bad_exactly own_profile algos f line).0 h in (
-          (bad_exactly older_profile algos f line).1 (
-            ignored_same line false some is.0,
-            λ s e. is.1 s (entry_by (escape_by older_profile) escape algos f line s
-                (same_escape s.name (older_entry algos f line s free e)) e),
-          ),
-          tt,
-        )
-    go (entry s) h =
-        let is = ((parse_is_grammar own_profile algos f line).when_entry s).0 h in
-        let older_is = (parse_is_grammar older_profile algos f line).when_entry s in
-        search (rules, is, names s is, older_is.1, entry_by, same_escape)
+    -- by what it says
+    go : (x : ParsedLine) → parse_line algos f line ≡ x → CleanParsedLine x
+    go ignored h = tt
+    go bad h = tt
+    go (entry s) h = names s (((parse_is_grammar algos f line).when_entry s).0 h)
+
+-- a line that isn't empty was ignored if it is now
+was_ignored : (line : List ℕ) → 0 < length line → starts_with ◌==◌ line (codes "#") ≡ is_ignored line
+was_ignored line some = grind arith
+
+-- a line without one, in which no name has one, said to older versions what it says now
+pub said_once : (algos : Algos) (f : Form) (line : List ℕ) → HasNoCarriageReturn line
+    → NamesNoCarriageReturn algos f line → 0 < length line → SaidOnce algos f line (parse_line algos f line)
+said_once algos f line free names some =
+    let is = parse_is_grammar algos f line in
+    record {
+      when_ignored = rw (was_ignored line some) is.when_ignored;
+      when_entry = λ s. (
+        λ h. let e = (is.when_entry s).0 h in
+            entry_by escape older_escape algos f line s (sym (same_escape s.name (names s e))) e,
+        λ e. (is.when_entry s).1 (entry_by older_escape escape algos f line s
+            (same_escape s.name (older_entry algos f line s free e)) e),
+      );
+    }
+
+-- a line said only one thing
+pub said_one : {algos : Algos} {f : Form} {line : List ℕ} (x y : ParsedLine) → SaidOnce algos f line x
+    → SaidOnce algos f line y → x ≡ y
+said_one ignored y h k = sym (k.when_ignored.1 (h.when_ignored.0 refl))
+said_one (entry s) y h k = sym ((k.when_entry s).1 ((h.when_entry s).0 refl))
+said_one bad ignored h k = h.when_ignored.1 (k.when_ignored.0 refl)
+said_one bad bad h k = refl
+said_one bad (entry s) h k = (h.when_entry s).1 ((k.when_entry s).0 refl)

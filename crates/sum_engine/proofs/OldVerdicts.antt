@@ -1,14 +1,19 @@
--- `old_verdicts`: a manifest of the time of older versions is checked alike under both profiles.
-use Rattle.std.proofs.Common.{rules, ◌≡◌, ℕ, ◌+◌, ◌<◌, List, [], ◌∷◌, length, refl, sym, subst, append_assoc, ◌++◌, All, flat_map}
-use Rattle.std.proofs.lemmas.List.Elements.{All-nil, All-cons, All-head, All-tail}
-use Rattle.sum_engine.specs.{check.Rules.LabelsValue, check.Rules.Rules, check.Checking.line_steps}
-use Rattle.sum_engine.specs.check.Judge.{Algos, Form, LineVerdictValue, line_verdict, asks_of, verdicts, all_verdicts, form, own_profile, parse_line}
-use Rattle.sum_engine.specs.{check.Reports.Counts, check.Reports.end_text, Behavior.Ending, Behavior.Whole, Behavior.Broken, Behavior.World, Behavior.world_after, Behavior.Content}
-use Rattle.sum_sources.specs.ManifestLines.{raw_lines, last_line, past_line}
+-- `old_verdicts`: a manifest of the time of older versions says now what it said to them.
+use Rattle.std.proofs.Common.{rules, ◌≡◌, ◌∙◌, ℕ, ◌+◌, ◌<◌, List, [], ◌∷◌, ◌++◌, length, refl, ap, sym, subst}
+use Rattle.std.proofs.Common.{append_assoc, flat_map, All, map, ◌↔◌}
+use Rattle.std.proofs.lemmas.List.Elements.{All-nil, All-cons, All-head, All-tail, All-weaker}
+use Rattle.digest_kinds.specs.declared.algo.Algos.{Algos}
+use Rattle.sum_lines.specs.{Escape.escape, declared.reading.read_line.Form.Form, grammar.Form.form}
+use Rattle.sum_lines.specs.grammar.ParsedLines.{ParsedLine, ignored, bad, entry, parse_line}
+use Rattle.sum_lines.proofs.EntryLemmas.{entry-not_ignored}
+use Rattle.sum_sources.specs.{ManifestLines.raw_lines, ManifestLines.last_line, declared.fault.Ending.Ending}
 use Rattle.sum_sources.proofs.CutLemmas.{bytes_of_lines, cut, raw_lines-joined}
-use Rattle.sum_engine.specs.check.OldVerdicts.{older_profile, HasNoCarriageReturn, NamesNoCarriageReturn, IsOldManifest, OldVerdicts, OlderDiffers}
-use Rattle.sum_lines.proofs.{EntryLemmas.entry-not_ignored, ParsedLineLemmas.bad_exactly}
-use Rattle.sum_engine.proofs.{OldNames.parts_clean, OldNames.same_escape, OldNames.parse_line_same, CarriageReturnLemmas.strips-kept}
+use Rattle.sum_engine.specs.{Behavior.World, Behavior.world_after, check.Rules.CheckRules, check.Judge.LineVerdictValue}
+use Rattle.sum_engine.specs.check.Judge.{line_verdict, asks_of, verdicts, parsed_content, all_verdicts}
+use Rattle.sum_engine.specs.OldVerdicts.{older_escape, SaidOnce, EachSaidOnce, ContentSaidOnce, HasNoCarriageReturn}
+use Rattle.sum_engine.specs.OldVerdicts.{NamesNoCarriageReturn, OldVerdicts, OlderDiffers}
+use Rattle.sum_engine.proofs.OldNames.{parts_clean, same_escape, CleanParsedLine, says_clean, said_once, said_one}
+use Rattle.sum_engine.proofs.CarriageReturnLemmas.{strips-kept}
 
 -- ---- the lines
 
@@ -29,82 +34,100 @@ pieces_clean e bytes free =
     let (ended, tail, is, none, plain) = cut bytes in
     rw (is, raw_lines-joined e ended tail none plain) (ended_clean e ended tail (rw is at free))
 
--- ---- under both profiles
+-- ---- what they said
 
--- a name that holds no carriage return
-abbrev CleanName : LineVerdictValue → Type 0
-CleanName j = HasNoCarriageReturn j.name
-
--- a line that says the same under both profiles
+-- a line says now what it said to older versions
 pub record Alike (algos : Algos) (f : Form) (line : List ℕ) : Type 0 where
   pub no_byte : HasNoCarriageReturn line
   pub no_escape : NamesNoCarriageReturn algos f line
   pub some : 0 < length line
 
-module _ (r : Rules) (labels : LabelsValue) where
-  -- the same rules under each
-  abbrev old : Rules
-  old = record r { profile = older_profile }
+module _ (algos : Algos) (f : Form) where
+  -- such lines said what they say
+  each_said : (ls : List (List ℕ)) → All (Alike algos f) ls → EachSaidOnce algos f ls (map (parse_line algos f) ls)
+  each_said [] all = tt
+  each_said (l ∷ ls) all =
+      let here = All-head (Alike algos f) l ls all in
+      (said_once algos f l here.no_byte here.no_escape here.some, each_said ls (All-tail (Alike algos f) l ls all))
 
-  abbrev new : Rules
-  new = record r { profile = own_profile }
+  -- and nothing else
+  only_said : (ls : List (List ℕ)) (said : List ParsedLine) → All (Alike algos f) ls → EachSaidOnce algos f ls said
+      → said ≡ map (parse_line algos f) ls
+  only_said [] [] all h = refl
+  only_said [] (x ∷ xs) all h = absurd h
+  only_said (l ∷ ls) [] all h = absurd h
+  only_said (l ∷ ls) (x ∷ xs) all h =
+      let here = All-head (Alike algos f) l ls all in
+      let one = said_one x (parse_line algos f l) h.0
+      (said_once algos f l here.no_byte here.no_escape here.some) in
+      rw (one, only_said ls xs (All-tail (Alike algos f) l ls all) h.1) refl
 
-  -- the verdicts are the same
-  verdicts_same : (f : Form) (w : World) (n : ℕ) (ls : List (List ℕ)) → All (Alike r.algo f) ls
-      → (verdicts old f w n ls ≡ verdicts new f w n ls) × All CleanName (verdicts new f w n ls)
-  verdicts_same f w n [] all = (refl, All-nil CleanName)
-  verdicts_same f w n (l ∷ ls) all =
-      let here = All-head (Alike r.algo f) l ls all in
-      let s = parse_line_same r.algo f l here.no_byte here.no_escape here.some in
-      let j = line_verdict new w (n + 1) (parse_line own_profile r.algo f l) in
-      let one : line_verdict old w (n + 1) (parse_line older_profile r.algo f l) ≡ j = search (rules, s.0) in
-      let more = verdicts_same f (world_after w (asks_of j)) (n + 1) ls (All-tail (Alike r.algo f) l ls all) in
-      let clean : CleanName j = search (rules, s.1) in
-      (rw (one, more.0) refl, All-cons CleanName j _ clean more.1)
+-- ---- the names of their verdicts
 
-  -- the verdicts of such a manifest are the same under both profiles, and name no carriage return
-  found_same : (w : World) (c : Content) → IsOldManifest r labels c
-      → (all_verdicts old w c ≡ all_verdicts new w c) × All CleanName (all_verdicts new w c)
-  found_same w c h =
-      let f = form r.algo (raw_lines c) in
-      let clean = pieces_clean c.ending c.bytes h.no_byte in
-      let all : All (Alike r.algo f) (raw_lines c) =
-      λ k d lt. record { no_byte = clean k d lt; no_escape = h.no_escape k d lt; some = h.no_empty k d lt } in
-      let Same : List (List ℕ) → Type 0 = λ ls. (all_verdicts old w c ≡ verdicts new (form r.algo ls) w 0 ls)
-      × All CleanName (verdicts new (form r.algo ls) w 0 ls) in
-      subst Same (sym (strips-kept (raw_lines c) clean)) (verdicts_same f w 0 (raw_lines c) all)
+-- a name that holds no carriage return
+abbrev CleanName : LineVerdictValue → Type 0
+CleanName j = HasNoCarriageReturn j.name
 
-  -- ---- what is written, if the manifest's own name holds no carriage return
+-- the verdict of a line that names none
+line_clean : (r : CheckRules) (w : World) (n : ℕ) (x : ParsedLine) → CleanParsedLine x
+    → CleanName (line_verdict r w n x)
+line_clean r w n ignored h = search rules
+line_clean r w n bad h = search rules
+line_clean r w n (entry s) h = h
 
-  module _ (own : HasNoCarriageReturn labels.manifest) where
-    -- the text at its end is the same
-    end_same : (e : Ending) (c : Counts) → end_text old labels e c ≡ end_text new labels e c
-    end_same Whole c = search (rules, same_escape)
-    end_same (Broken f) c = search (rules, same_escape)
-
-    -- and the steps are, if no verdict's name holds one
-    steps_same : (end : List ℕ) (c : Content) (js : List LineVerdictValue) → All CleanName js
-        → line_steps old labels end c js ≡ line_steps new labels end c js
-    steps_same end c [] all = refl
-    steps_same end c (j ∷ js) all =
-        let later = steps_same end (past_line c) js (All-tail CleanName j js all) in
-        let free : CleanName j = All-head CleanName j js all in search (rules, same_escape, later)
+-- the verdicts of such lines
+names_clean : (r : CheckRules) (f : Form) (w : World) (n : ℕ) (ls : List (List ℕ)) → All (Alike r.algo f) ls
+    → All CleanName (verdicts r w n (map (parse_line r.algo f) ls))
+names_clean r f w n [] all = All-nil CleanName
+names_clean r f w n (l ∷ ls) all =
+    let x = parse_line r.algo f l in
+    let j = line_verdict r w (n + 1) x in
+    let free = says_clean r.algo f l (All-head (Alike r.algo f) l ls all).no_escape in
+    All-cons CleanName j _ (line_clean r w (n + 1) x free)
+    (names_clean r f (world_after w (asks_of j)) (n + 1) ls (All-tail (Alike r.algo f) l ls all))
 
 -- ---- the laws
 
+-- a manifest of the time of older versions says what it said to them, and each name has the same escape
 pub old_verdicts : OldVerdicts
 old_verdicts r labels w c h =
-    let found = found_same r labels w c h in
-    (found.0, search (rules, found.0, found.1, end_same, steps_same))
+    let f = form r.algo (raw_lines c) in
+    let clean = pieces_clean c.ending c.bytes h.no_byte in
+    let all : All (Alike r.algo f) (raw_lines c) =
+    λ k d lt. record { no_byte = clean k d lt; no_escape = h.no_escape k d lt; some = h.no_empty k d lt } in
+    let now : map (parse_line r.algo f) (raw_lines c) ≡ parsed_content r.algo c =
+    ap (λ (ls : List (List ℕ)). map (parse_line r.algo (form r.algo ls)) ls) (sym (strips-kept (raw_lines c) clean)) in
+    let only : (said : List ParsedLine) → ContentSaidOnce r.algo c said → said ≡ parsed_content r.algo c =
+    λ said k. only_said r.algo f (raw_lines c) said all k ∙ now in
+    let said : ContentSaidOnce r.algo c (parsed_content r.algo c) =
+    subst (ContentSaidOnce r.algo c) now (each_said r.algo f (raw_lines c) all) in
+    let names : All CleanName (all_verdicts r w c) =
+    subst (λ ps. All CleanName (verdicts r w 0 ps)) now (names_clean r f w 0 (raw_lines c) all) in (
+      λ other. (only other, λ is. subst (ContentSaidOnce r.algo c) (sym is) said),
+      λ other k. ap (verdicts r w 0) (only other k),
+      All-weaker CleanName (λ found. older_escape found.name ≡ escape found.name)
+          (λ found free. same_escape found.name free) (all_verdicts r w c) names,
+      same_escape labels.manifest h.own_name,
+    )
 
--- ---- how the profiles differ
+-- to older versions an empty line said nothing but that it is improperly formatted
+only_bad : (algos : Algos) (f : Form) (said : ParsedLine) → SaidOnce algos f [] said → said ≡ bad
+only_bad algos f ignored h = let wrong = h.when_ignored.0 refl in cc
+only_bad algos f bad h = refl
+only_bad algos f (entry s) h = let wrong = entry-not_ignored ((h.when_entry s).0 refl) in cc
 
--- the profiles do differ: a name with a carriage return, a line with one at its end, and an empty line
+-- and it did say so
+bad_said : (algos : Algos) (f : Form) → SaidOnce algos f [] bad
+bad_said algos f = record {
+  when_ignored = (λ h. absurd cc, λ h. absurd cc);
+  when_entry = λ s. (λ h. absurd cc, λ e. let wrong = entry-not_ignored e in absurd cc);
+}
+
+-- both
+empty_bad : (algos : Algos) (f : Form) (said : ParsedLine) → SaidOnce algos f [] said ↔ (said ≡ bad)
+empty_bad algos f said = (only_bad algos f said, λ is. subst (SaidOnce algos f []) (sym is) (bad_said algos f))
+
+-- older versions do differ: by a name with a carriage return, by a line with one at its end, and by an empty line
 pub older_differs : OlderDiffers
 unfolding raw_lines
-older_differs = (
-  refl,
-  refl,
-  λ algos f.
-      (bad_exactly older_profile algos f []).1 (refl, λ s e. let wrong = entry-not_ignored own_profile e in cc),
-)
+older_differs = (refl, refl, empty_bad)

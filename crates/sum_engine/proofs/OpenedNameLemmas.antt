@@ -1,10 +1,12 @@
 -- `check_one`: a name is opened, read and closed, and in between other calls may open names.
 use Rattle.std.proofs.Common.{rules, refl, ◌≡◌, ◌∙◌, [], ◌∷◌, ◌++◌, ℕ, List, Ok, Err, None, Some, append_assoc}
-use Rattle.std.proofs.lemmas.{List.map-append, List.Elements.All-cons}
-use Rattle.sum_sources.specs.{Contents.Fits, Contents.IsSameInput, Sources.Opening, Sources.ToldAnswers, Sources.opened_file, Sources.and_opening, Sources.after_closing, Sources.IsOpen}
-use Rattle.sum_sources.proofs.GaveLemmas.{closed-seam, gave-seam}
-use Rattle.sum_engine.specs.Behavior.{World, Content, Fault, InputState, SourceState, answer_to, times}
-use Rattle.sum_engine.specs.Execution.{Agrees, world_at, opened_names, gave_at, AsksNames, IsAtEndIf, ReadsFile, ReadsToEndIf}
+use Rattle.std.proofs.lemmas.List.{map-append, Elements.All-cons}
+use Rattle.sum_sources.specs.Input.{Fits, IsSameInput, Content, InputState}
+use Rattle.sum_sources.specs.Source.{Opening, ToldAnswers, opened_file, state_with_opening, state_after_closing, IsOpen}
+use Rattle.sum_sources.specs.Source.{SourceState, times, result_at}
+use Rattle.sum_sources.{proofs.GaveLemmas.closed-seam, proofs.GaveLemmas.gave-seam, specs.declared.fault.Fault.Fault}
+use Rattle.sum_engine.specs.Behavior.{World, answer_to}
+use Rattle.sum_engine.specs.Execution.{Agrees, world_at, opened_names, AsksNames, IsAtEndIf, ReadsFile, ReadsToEndIf}
 use Rattle.sum_engine.proofs.WorldLemmas.{agrees_open, opening_agrees, asks_one}
 
 -- the name was opened; over the opening, some calls and the closing all was read as `ReadsToEndIf` says; and what was
@@ -12,7 +14,7 @@ use Rattle.sum_engine.proofs.WorldLemmas.{agrees_open, opening_agrees, asks_one}
 pub record WasOpened (Whole : Type 0) (a m b n : SourceState) (name : List ℕ) (t : InputState) : Type 0 where
   pub asks : AsksNames a m (name ∷ [])
   pub reads : ReadsToEndIf Whole a n
-  pub gave : gave_at n.openings name (times name (opened_names a)) ≡ Some (Ok t.reads)
+  pub gave : result_at n.openings name (times name (opened_names a)) ≡ Some (Ok t.reads)
   -- what the closing leaves as it is
   pub asked : opened_names n ≡ opened_names b
   pub refusals : n.refusals ≡ b.refusals
@@ -20,9 +22,10 @@ pub record WasOpened (Whole : Type 0) (a m b n : SourceState) (name : List ℕ) 
   pub answer : (w : World) → Agrees w n
       → (c : Content) × (answer_to (world_at w a) name ≡ Ok c) × Fits t.reads c
 
+-- a name was opened and closed, and between the two some calls opened other names
 pub was_opened : {Whole : Type 0} (tells : ToldAnswers) {a m b n : SourceState} {name : List ℕ} {s t : InputState}
-    → s ≡ opened_file tells a name → m ≡ and_opening a name None → IsSameInput s t → IsAtEndIf Whole t.reads
-    → ReadsToEndIf Whole m b → n ≡ after_closing b t → WasOpened Whole a m b n name t
+    → s ≡ opened_file tells a name → m ≡ state_with_opening a name None → IsSameInput s t → IsAtEndIf Whole t.reads
+    → ReadsToEndIf Whole m b → n ≡ state_after_closing b t → WasOpened Whole a m b n name t
 was_opened {Whole} tells {a} {m} {b} {n} {name} {s} {t} is opens same read reads closes =
     let before = a.openings in
     let later = reads.openings.0 in
@@ -44,13 +47,14 @@ was_opened {Whole} tells {a} {m} {b} {n} {name} {s} {t} is opens same read reads
 
 -- what was opened is still open after some calls
 pub still_open : {Whole : Type 0} {tells : ToldAnswers} (a : SourceState) {m b : SourceState} {name : List ℕ}
-    {s t : InputState} → s ≡ opened_file tells a name → m ≡ and_opening a name None → IsSameInput s t
+    {s t : InputState} → s ≡ opened_file tells a name → m ≡ state_with_opening a name None → IsSameInput s t
     → ReadsToEndIf Whole m b → IsOpen tells b t
 still_open a {name = name} is opens same reads =
     let still = gave-seam a.openings reads.openings.0 name None in search (rules, append_assoc, still)
 
 -- ---- a fault of opening
 
-pub fault_answer : (a m : SourceState) (name : List ℕ) (f : Fault) → m ≡ and_opening a name (Some (Err f))
+-- the world's answer is the fault with which opening the name failed
+pub fault_answer : (a m : SourceState) (name : List ℕ) (f : Fault) → m ≡ state_with_opening a name (Some (Err f))
     → (w : World) → Agrees w m → answer_to (world_at w a) name ≡ Err f
 fault_answer a m name f opens w agrees = opening_agrees agrees a.openings [] name (Err f) (rw opens refl)

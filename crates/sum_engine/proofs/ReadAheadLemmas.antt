@@ -1,14 +1,15 @@
 -- How far a manifest was read when its check stopped.
-use Rattle.std.proofs.Common.{rules, arith, ◌≡◌, ◌≤◌, ◌+◌, ◌^◌, ℕ, List, [], ◌∷◌, ◌++◌, length, Bool, Result, Ok, Err, refl, ap, ◌∙◌, length-append, length-take}
+use Rattle.std.proofs.Common.{rules, arith, ◌≡◌, ◌≤◌, ◌+◌, ◌^◌, ℕ, List, [], ◌∷◌, ◌++◌, length, Bool, Result, Ok, Err}
+use Rattle.std.proofs.Common.{refl, ap, ◌∙◌, length-append, length-take}
 use Rattle.std.specs.Prelude.{IfErr}
-use Rattle.sum_sources.specs.{Contents.IsReadTo, Contents.clip, declared.inputs.phase.Phase.Phase}
-use Rattle.sum_sources.specs.declared.inputs.phase.Phase.TheVariants.{Past}
-use Rattle.sum_sources.proofs.ContentLemmas.{limit-value}
-use Rattle.sum_engine.specs.Behavior.{Behavior, Content}
-use Rattle.sum_engine.specs.{check.Rules.Rules, check.Rules.LabelsValue, check.CheckStates.CheckState, check.CheckStates.remaining_behavior}
-use Rattle.sum_engine.specs.{check.Checker.IsStep, check.Checker.end_result, check.Checker.progress_before, check.ReadAhead.remaining_before, check.ReadAhead.StopsAtStep}
-use Rattle.sum_engine.specs.Execution.{Stop, StreamsState, Write, Memory}
-use Rattle.sum_engine.proofs.{BehaviorLemmas.HasDoneUpTo, BehaviorLemmas.behavior_then-first, RemainingLemmas.remaining_before-left}
+use Rattle.sum_sources.specs.{Input.IsReadTo, Input.clip, Input.Content, declared.inputs.input.Phase.Phase}
+use Rattle.sum_sources.{specs.declared.inputs.input.Phase.TheVariants.Past, proofs.ContentLemmas.limit-value}
+use Rattle.sum_engine.specs.{Behavior.Behavior, check.Rules.LabelsValue, check.Rules.CheckRules}
+use Rattle.sum_engine.specs.check.{Verdicts.CheckState, Checker.remaining_behavior, Checker.IsStep, Checker.end_result}
+use Rattle.sum_engine.specs.check.{Checker.progress_before, CheckOne.remaining_before, CheckOne.StopsAtStep}
+use Rattle.sum_engine.{specs.Streams.StreamsState, proofs.BehaviorLemmas.HasDoneUpTo}
+use Rattle.sum_engine.proofs.{BehaviorLemmas.behavior_then-first, RemainingLemmas.remaining_before-left}
+use Rattle.sum_settings.specs.declared.stop.Stop.{Stop, TheVariants.Write, TheVariants.Memory}
 
 -- reads that didn't go past an end gave, up to the limit, not many more bytes than the content has below the limit
 pub read_fits_clip : (phase : Phase) (bytes : List ℕ) (c : Content) → ¬ (phase ≡ Past) → IsReadTo phase bytes c
@@ -16,7 +17,7 @@ pub read_fits_clip : (phase : Phase) (bytes : List ℕ) (c : Content) → ¬ (ph
 read_fits_clip phase bytes c past of few = grind (arith, limit-value, length-take, length-append)
 
 -- a check came from the state a to b, where a step ended or stopped it and left it in the state d
-pub stops_at_step : {r : Rules} {labels : LabelsValue} {vector : List ℕ} {m n : StreamsState} (o : StreamsState)
+pub stops_at_step : {r : CheckRules} {labels : LabelsValue} {vector : List ℕ} {m n : StreamsState} (o : StreamsState)
     (a b d : CheckState) (x : Result Bool Stop)
     → HasDoneUpTo (remaining_behavior r labels a) (remaining_behavior r labels b) m n
     → b.consumed + length b.remaining.bytes ≡ length a.remaining.bytes → IsStep r labels vector b d n o (end_result x)
@@ -29,6 +30,7 @@ stops_at_step {r} {labels} {vector} {n = n} o a b d (Err stop) along sum step fi
     [] stop step.performs in
     let read = by stop step in search (rules, are, stopped, read)
   where
+    -- by the reason of the stop
     by : (stop : Stop) (s : IsStep r labels vector b d n o (Err stop))
         → d.taken + remaining_before s.later.steps ≤ length a.remaining.bytes + 8192
     by Memory s = omega (arith, s.refused refl, sum)

@@ -1,44 +1,49 @@
 -- `same_front`: later lines have no part in what a line says, by induction on the lines before it.
-use Rattle.std.proofs.Common.{rules, ◌≡◌, ℕ, ◌+◌, List, [], ◌∷◌, ◌++◌, length, take, refl, sym, ◌∙◌, append_assoc, length-append}
-use Rattle.sum_engine.specs.{check.Rules.Rules, Behavior.World, Behavior.world_after, check.CheckerLaws.SameFront}
-use Rattle.sum_engine.specs.check.Judge.{Algos, Form, LineVerdictValue, line_verdict, asks_of, verdicts, parse_line, own_profile, escape, EntryValue, IsEntry, form, form_then, line_form}
-use Rattle.sum_lines.specs.declared.reading.read_line.Form.TheVariants.{Undecided}
-use Rattle.sum_lines.proofs.{ParsedLineLemmas.parse_is_grammar, EntryLemmas.form_next, EntryLemmas.parse_stays, EntryLemmas.same_parse, EntryLemmas.same_form}
+use Rattle.std.proofs.Common.{rules, ◌≡◌, ℕ, ◌+◌, List, [], ◌∷◌, ◌++◌, length, take, refl, sym, ◌∙◌, append_assoc}
+use Rattle.std.proofs.Common.{length-append, map}
+use Rattle.sum_engine.specs.{Behavior.World, Behavior.world_after, Laws.SameFront, check.Judge.LineVerdictValue}
+use Rattle.sum_engine.specs.check.{Judge.line_verdict, Judge.asks_of, Judge.verdicts, Rules.CheckRules}
+use Rattle.sum_lines.proofs.EntryLemmas.{form_next, parse_stays, same_parse, same_form}
+use Rattle.sum_lines.{proofs.ParsedLineLemmas.parse_is_grammar, specs.Escape.escape}
+use Rattle.sum_lines.specs.declared.reading.read_line.Form.{Form, TheVariants.Undecided}
+use Rattle.sum_lines.specs.grammar.{Entries.EntryValue, Entries.IsEntry, Form.form, Form.form_then, Form.line_form}
+use Rattle.sum_lines.specs.grammar.ParsedLines.{parse_line}
+use Rattle.digest_kinds.specs.declared.algo.Algos.{Algos}
 
 -- the verdicts of the first lines, by the form so far
-abbrev running : Rules → World → ℕ → Form → List (List ℕ) → List LineVerdictValue
+abbrev running : CheckRules → World → ℕ → Form → List (List ℕ) → List LineVerdictValue
 running r w n f [] = []
 running r w n f (l ∷ ls) =
     let here = form_then f (line_form r.algo l) in
-    let j = line_verdict r w (n + 1) (parse_line r.profile r.algo here l) in
+    let j = line_verdict r w (n + 1) (parse_line r.algo here l) in
     j ∷ running r (world_after w (asks_of j)) (n + 1) here ls
 
 -- the verdicts of the first lines are the same, whatever follows
-prefix_verdicts : (r : Rules) (w : World) (n : ℕ) (f : Form) (prefix later : List (List ℕ)) →
-    take (length prefix) (verdicts r (form_then f (form r.algo (prefix ++ later))) w n
-    (prefix ++ later)) ≡ running r w n f prefix
+prefix_verdicts : (r : CheckRules) (w : World) (n : ℕ) (f : Form) (prefix later : List (List ℕ)) →
+    take (length prefix) (verdicts r w n (map (parse_line r.algo (form_then f (form r.algo (prefix ++ later))))
+    (prefix ++ later))) ≡ running r w n f prefix
 prefix_verdicts r w n f [] later = refl
 prefix_verdicts r w n f (l ∷ ls) later =
     let here = form_then f (line_form r.algo l) in
     let rest = form r.algo (ls ++ later) in
-    let j = line_verdict r w (n + 1) (parse_line r.profile r.algo here l) in
+    let j = line_verdict r w (n + 1) (parse_line r.algo here l) in
     let later_on = prefix_verdicts r (world_after w (asks_of j)) (n + 1) here ls later in
-    search (rules, form_next, parse_stays r.profile r.algo f rest l, later_on)
+    search (rules, form_next, parse_stays r.algo f rest l, later_on)
 
 -- an entry by one form is one by another, if the line says the same
 entry_same : (algos : Algos) (f g : Form) (line : List ℕ) (s : EntryValue)
-    → parse_line own_profile algos f line ≡ parse_line own_profile algos g line
+    → parse_line algos f line ≡ parse_line algos g line
     → IsEntry escape algos f line s → IsEntry escape algos g line s
 entry_same algos f g line s same e =
-    ((parse_is_grammar own_profile algos g line).when_entry s).0
-    (sym same ∙ ((parse_is_grammar own_profile algos f line).when_entry s).1 e)
+    ((parse_is_grammar algos g line).when_entry s).0
+    (sym same ∙ ((parse_is_grammar algos f line).when_entry s).1 e)
 
 -- later lines have no part in an entry, a verdict or a plain line's form
 pub same_front : SameFront
 same_front r w before line later others =
-    let same : (a b : List (List ℕ)) → parse_line own_profile r.algo (form r.algo (before ++ (line ∷ a))) line
-    ≡ parse_line own_profile r.algo (form r.algo (before ++ (line ∷ b))) line =
-    λ a b. same_parse own_profile r.algo before a b line in
+    let same : (a b : List (List ℕ)) → parse_line r.algo (form r.algo (before ++ (line ∷ a))) line
+    ≡ parse_line r.algo (form r.algo (before ++ (line ∷ b))) line =
+    λ a b. same_parse r.algo before a b line in
     let prefix = before ++ line ∷ [] in
     let all = prefix_verdicts r w 0 Undecided prefix later ∙ sym (prefix_verdicts r w 0 Undecided prefix others) in
     record {

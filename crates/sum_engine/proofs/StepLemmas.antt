@@ -1,14 +1,20 @@
 -- One step of a checker, `Checker::step`: the next verdict was found, and its text was written.
-use Rattle.std.proofs.Common.{rules, ◌≡◌, ◌⊎◌, ◌<◌, ◌≤◌, ℕ, Bool, true, false, List, [], length, None, Some, Result, Ok, Err, inl, inr, refl, ap, ◌∙◌, arith}
-use Rattle.sum_engine.specs.Behavior.{Ending, Whole, Broken, World, Content, InputState, SourceState}
-use Rattle.sum_sources.specs.LineReaders.{remaining_content}
-use Rattle.sum_engine.specs.{check.Rules.LabelsValue, check.CheckStates.CheckState, check.CheckStates.remaining_verdicts, check.CheckStates.remaining_behavior}
-use Rattle.sum_engine.specs.check.Reports.{err_of, out_of, end_text, good}
-use Rattle.sum_engine.specs.check.Verdicts.{VerdictsValue, LineVerdict, state_at, HoldsInEachCheck, AdvancesVerdicts, AsksFor, VerdictResult, line_verdict_value, IsNextVerdict, IsNotUnread, HasNoVerdictLeft}
-use Rattle.sum_engine.specs.check.Checker.{CheckerValue, Progress, Going, Ended, IsStep, ReportsFound, TakesStep}
-use Rattle.sum_engine.specs.{Names.RefusesMemory, Execution.Stop, Execution.Memory, Execution.StopHasCause, Execution.none_or_one, Execution.OutputsState, Execution.StreamsState, Execution.AsksNames, Writes.WritesAndReturns}
-use Rattle.sum_engine.proofs.{ExecutionLemmas.step_performed, ExecutionLemmas.refused_first, ExecutionLemmas.one_at_most, WorldLemmas.reads_weaker, CountLemmas.counts_then-nil}
-use Rattle.sum_engine.proofs.RemainingLemmas.{line_step, behavior_by, first_step, going-before}
+use Rattle.std.proofs.Common.{rules, ◌≡◌, ◌⊎◌, ◌<◌, ◌≤◌, ℕ, Bool, true, false, List, [], length, None, Some, Result, Ok}
+use Rattle.std.proofs.Common.{Err, inl, inr, refl, ap, ◌∙◌, arith}
+use Rattle.sum_sources.specs.declared.fault.Ending.{Ending, TheVariants.Whole, TheVariants.Broken}
+use Rattle.sum_sources.specs.{Input.Content, Input.InputState, Source.SourceState, LineReader.remaining_content}
+use Rattle.sum_engine.specs.{Behavior.World, check.Rules.LabelsValue, check.Verdicts.CheckState}
+use Rattle.sum_engine.specs.check.Verdicts.{remaining_verdicts, VerdictsValue, state_at, HoldsInEachCheck}
+use Rattle.sum_engine.specs.check.Verdicts.{AdvancesVerdicts, AsksFor, VerdictResult, IsNextVerdict, IsNotUnread}
+use Rattle.sum_engine.specs.check.{Verdicts.HasNoVerdictLeft, Checker.remaining_behavior, Checker.CheckerValue}
+use Rattle.sum_engine.specs.check.Checker.{Progress, Going, Ended, IsStep, ReportsFound, TakesStep}
+use Rattle.sum_engine.specs.check.{Report.err_of, Report.out_of, Summary.end_text, Counts.good, Judge.LineVerdict}
+use Rattle.sum_engine.specs.{check.Judge.line_verdict_value, Execution.RefusesMemory, Execution.AsksNames}
+use Rattle.sum_engine.specs.Streams.{StopHasCause, none_or_one, BothOutputs, StreamsState, WritesAndReturns}
+use Rattle.sum_engine.proofs.ExecutionLemmas.{step_performed, refused_first, one_at_most}
+use Rattle.sum_engine.proofs.{WorldLemmas.reads_weaker, CountLemmas.counts_then-nil, RemainingLemmas.line_step}
+use Rattle.sum_engine.proofs.RemainingLemmas.{behavior_by, first_step, going-before}
+use Rattle.sum_settings.specs.declared.stop.Stop.{Stop, TheVariants.Memory}
 use Rattle.sum_sources.specs.declared.line_reader.LineStop.TheVariants as line_stops
 
 -- what follows from what holds of the states of a check holds of them, too
@@ -59,7 +65,7 @@ module _ {I : Type 0} {state : I → InputState} {p q : VerdictsValue I} (a b : 
     -- a line had a verdict; its report is written, and the lines after it remain
     step_found (Ok (Some v)) {y} found did reported =
         let j = line_verdict_value vector v in
-        let said : WritesAndReturns a.outputs b.outputs (err_of p.rules labels j) (out_of p.rules labels j) Going _ =
+        let said : WritesAndReturns a.outputs b.outputs (err_of p.rules labels j) (out_of labels j) Going _ =
         rw did.rules at reported in
         InEachCheck-map found (λ c v w f.
         let k = remaining_content p.reader c in
@@ -106,12 +112,12 @@ wrote_cause x same h = grind arith
 -- what follows from what was found and written
 module _ {I : Type 0} (q : VerdictsValue I) (labels : LabelsValue) (vector : List ℕ) where
   -- a step returns that all is good only at the end, and only if each listed file could be read
-  good_found : (found : VerdictResult) (a b : OutputsState) → ReportsFound q labels vector found a b (Ok (Ended true))
+  good_found : (found : VerdictResult) (a b : BothOutputs) → ReportsFound q labels vector found a b (Ok (Ended true))
       → (found ≡ Ok None) × (q.counts.unread ≡ 0)
   good_found found a b h = grind arith
 
   -- a step goes on only after a line
-  pub going_found : (found : VerdictResult) (a b : OutputsState) → ReportsFound q labels vector found a b (Ok Going)
+  pub going_found : (found : VerdictResult) (a b : BothOutputs) → ReportsFound q labels vector found a b (Ok Going)
       → (v : LineVerdict) × (found ≡ Ok (Some v))
   going_found (Ok (Some v)) a b h = (v, refl)
   going_found found a b h = grind arith
@@ -142,6 +148,7 @@ module _ {I : Type 0} {state : I → InputState} {p q : CheckerValue I} {a b : S
     (did : AdvancesVerdicts state vector p.verdicts q.verdicts a.inputs b.inputs found)
     (wrote : ReportsFound q.verdicts p.labels vector found a.outputs b.outputs x)
   where
+    -- the call took a step of the check
     pub step_taken : TakesStep state vector p q a b x
     step_taken =
         let unread : p.verdicts.counts.unread ≤ q.verdicts.counts.unread = search (rules, arith) in

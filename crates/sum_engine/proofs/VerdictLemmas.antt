@@ -1,7 +1,9 @@
 -- `judge`: the verdict of an entry, by what hashing its name gave.
 use Rattle.std.proofs.Common.{arith, ◌≡◌, List, ℕ, Bool, false, Result, IfOk}
-use Rattle.sum_engine.specs.{check.Judge.Verdict, check.Reports.is_unread, private.Judging.verdict_of_hash}
-use Rattle.sum_engine.{specs.Names.HashFault, specs.Names.NoRoom, proofs.HashLemmas.IsNotBroken}
+use Rattle.sum_engine.specs.{check.Judge.Verdict, check.Judge.is_unread, private.Judge.verdict_of_hash}
+use Rattle.sum_engine.proofs.HashLemmas.{IsNotBroken}
+use Rattle.sum_sources.specs.declared.sources.hash_file.HashFault.{HashFault}
+use Rattle.sum_settings.specs.declared.stop.NoRoom.{NoRoom}
 
 -- the verdict says that the file could not be read, if reading it failed
 pub verdict_read : (ignore : Bool) (digest : List ℕ) (found : Result (List ℕ) HashFault) (x : Result Verdict NoRoom)

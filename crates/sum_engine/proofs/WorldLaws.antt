@@ -1,38 +1,42 @@
 -- The law that some world agrees with what was read and what is told: by the law of sources.
 use Rattle.std.proofs.Common.{arith, ◌≡◌, [], Option, None, Some, Result, Ok, Err, IfSome, refl}
-use Rattle.sum_sources.specs.{Contents.Reads, InputLaws.some_content, declared.fault.Fault.TheVariants.NotFound}
-use Rattle.sum_sources.specs.Sources.{Answers, ToldAnswers, TellsAll, gave_at, FitsAnswer, GivesTold}
-use Rattle.sum_engine.specs.{Execution.Agrees, Behavior.Answer, Behavior.Fault, Behavior.SourceState}
-use Rattle.sum_engine.specs.WorldLaws.{ToldAgree}
+use Rattle.sum_sources.specs.{Input.Reads, InputLaws.some_content, declared.fault.Fault.TheVariants.NotFound}
+use Rattle.sum_sources.specs.{declared.fault.Fault.Fault, Source.Answers, Source.ToldAnswers, Source.TellsAll}
+use Rattle.sum_sources.specs.Source.{result_at, FitsAnswer, GivesTold, AnswerValue, SourceState}
+use Rattle.sum_engine.specs.{Execution.Agrees, Laws.ToldAgree}
 
 -- an answer that gave this
-abbrev answer_of : Option (Result Reads Fault) → Answer
+abbrev answer_of : Option (Result Reads Fault) → AnswerValue
 answer_of None = Err NotFound
 answer_of (Some (Ok r)) = Ok (some_content r.bytes r.phase).0
 answer_of (Some (Err f)) = Err f
 
+-- what an opening gave fits that answer
 is_given : (gave : Option (Result Reads Fault)) → IfSome gave (FitsAnswer (answer_of gave))
 is_given None = tt
 is_given (Some (Ok r)) = let (c, of) = some_content r.bytes r.phase in (c, refl, of)
 is_given (Some (Err f)) = refl
 
 -- the answer that is told, if there is one
-abbrev told_or : Option Answer → Option (Result Reads Fault) → Answer
+abbrev told_or : Option AnswerValue → Option (Result Reads Fault) → AnswerValue
 told_or None gave = answer_of gave
 told_or (Some told) gave = told
 
+-- the world of these answers agrees, and has each that is told
 pub told_agree : (tells : ToldAnswers) (a : SourceState) → GivesTold tells a → ToldAgree tells a
 told_agree tells a gives = (
-  record { answer = λ name k. told_or (tells a.told name k) (gave_at a.openings name k); opened = [] },
-  record { gave = λ name k. agrees (tells a.told name k) (gave_at a.openings name k) (gives name k) },
-  λ name k. is_told (tells a.told name k) (gave_at a.openings name k),
+  record { answer = λ name k. told_or (tells a.told name k) (result_at a.openings name k); opened = [] },
+  record { gave = λ name k. agrees (tells a.told name k) (result_at a.openings name k) (gives name k) },
+  λ name k. is_told (tells a.told name k) (result_at a.openings name k),
 )
   where
-    agrees : (told : Option Answer) (gave : Option (Result Reads Fault))
+    -- it agrees, whether an answer is told or not
+    agrees : (told : Option AnswerValue) (gave : Option (Result Reads Fault))
         → IfSome told (λ told. IfSome gave (FitsAnswer told)) → IfSome gave (FitsAnswer (told_or told gave))
     agrees told gave fits = grind (arith, is_given gave)
 
-    is_told : (told : Option Answer) (gave : Option (Result Reads Fault)) → IfSome told (λ t. told_or told gave ≡ t)
+    -- it has the answer that is told
+    is_told : (told : Option AnswerValue) (gave : Option (Result Reads Fault)) → IfSome told (λ t. told_or told gave ≡ t)
     is_told told gave = grind arith
 
 -- answers that are all told are a world that agrees

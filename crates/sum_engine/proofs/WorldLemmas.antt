@@ -1,10 +1,14 @@
 -- Names opened one after another, and the worlds that agree with one call after another.
-use Rattle.std.proofs.Common.{rules, ◌≡◌, ap, refl, ℕ, zero, suc, List, [], ◌∷◌, ◌++◌, Option, None, Some, Result, IfSome, IfOk, append_assoc, append-nil, bytes_eq}
-use Rattle.std.specs.{Prelude.slice_get, Option.option_flatten}
-use Rattle.std.proofs.{lemmas.List.map-append, lemmas.Result.IfOk-weaker, lemmas.List.Elements.All-nil, lemmas.List.Elements.All-cons, lemmas.List.Elements.All-append, lemmas.List.Elements.All-weaker}
-use Rattle.sum_sources.specs.{Contents.Reads, Sources.Opening, Sources.FitsAnswer, Sources.and_opening, Sources.gave_of, Sources.names_of, Sources.times}
+use Rattle.std.proofs.Common.{rules, ◌≡◌, ap, refl, ℕ, zero, suc, List, [], ◌∷◌, ◌++◌, Option, None, Some, Result}
+use Rattle.std.proofs.Common.{IfSome, IfOk, append_assoc, append-nil, bytes_eq}
+use Rattle.std.{specs.Prelude.slice_get, specs.Option.option_flatten, proofs.lemmas.List.map-append}
+use Rattle.std.proofs.lemmas.Result.{IfOk-weaker}
+use Rattle.std.proofs.lemmas.List.Elements.{All-nil, All-cons, All-append, All-weaker}
 use Rattle.sum_sources.proofs.GaveLemmas.{true_or_false, gave-append, gave-seam}
-use Rattle.sum_engine.specs.Behavior.{World, Fault, SourceState, world_after}
+use Rattle.sum_sources.specs.Input.{Reads}
+use Rattle.sum_sources.specs.Source.{Opening, FitsAnswer, state_with_opening, results_of}
+use Rattle.sum_sources.specs.{Source.names_of, Source.times, Source.SourceState, declared.fault.Fault.Fault}
+use Rattle.sum_engine.specs.Behavior.{World, world_after}
 use Rattle.sum_engine.specs.Execution.{AsksNames, Agrees, world_at, IsAtEndIf, ReadsFile, ReadsToEndIf}
 
 -- ---- names asked
@@ -19,7 +23,7 @@ pub asks_then : {a b c : SourceState} {names more : List (List ℕ)} → AsksNam
 asks_then h k = search (rules, append_assoc)
 
 -- one name was opened
-pub asks_one : (a b : SourceState) (name : List ℕ) (gave : Option (Result Reads Fault)) → b ≡ and_opening a name gave
+pub asks_one : (a b : SourceState) (name : List ℕ) (gave : Option (Result Reads Fault)) → b ≡ state_with_opening a name gave
     → AsksNames a b (name ∷ [])
 asks_one a b name gave is = search (rules, map-append)
 
@@ -47,7 +51,7 @@ reads_then {K = K} {a = a} {b = b} {c = c} f g h =
 
 -- a name was opened, which gave this
 pub reads_one : {Whole : Type 0} (a b : SourceState) (name : List ℕ) (gave : Result Reads Fault)
-    → b ≡ and_opening a name (Some gave) → IfOk gave (IsAtEndIf Whole) → ReadsToEndIf Whole a b
+    → b ≡ state_with_opening a name (Some gave) → IfOk gave (IsAtEndIf Whole) → ReadsToEndIf Whole a b
 reads_one {Whole} a b name gave is read =
     let o : Opening = record { name = name; gave = Some gave } in
     let all = All-cons (ReadsFile Whole) o [] (gave, refl, read) (All-nil (ReadsFile Whole)) in search (rules, all)
@@ -63,16 +67,18 @@ world_at_after w a b names asks = ap (λ opened. record w { opened = opened }) a
 abbrev Gave : Type 0
 Gave = List (Option (Result Reads Fault))
 
+-- what opening k gave, if it is known
 abbrev at : Gave → ℕ → Option (Result Reads Fault)
 at gs k = option_flatten (slice_get gs k)
 
--- what holds of an opening holds before later ones, and as long as it is open
+-- what holds of an opening holds before later ones
 gave-front : (P : Result Reads Fault → Type 0) (gs more : Gave) (k : ℕ) → IfSome (at (gs ++ more) k) P
     → IfSome (at gs k) P
 gave-front P [] more k h = tt
 gave-front P (g ∷ gs) more zero h = h
 gave-front P (g ∷ gs) more (suc k) h = gave-front P gs more k h
 
+-- it holds as long as one of them is open
 gave-open : (P : Result Reads Fault → Type 0) (gs more : Gave) (g : Option (Result Reads Fault)) (k : ℕ)
     → IfSome (at (gs ++ g ∷ more) k) P → IfSome (at (gs ++ None ∷ more) k) P
 gave-open P [] more g zero h = tt
@@ -85,7 +91,7 @@ pub agrees_before : {Whole : Type 0} {w : World} {b c : SourceState} → Agrees 
 agrees_before {w = w} {b = b} {c = c} h reads = record {
   gave = λ name k.
       let both = rw (reads.openings.1, gave-append b.openings reads.openings.0 name) at (h.gave name k) in
-      gave-front (FitsAnswer (w.answer name k)) (gave_of b.openings name) (gave_of reads.openings.0 name) k both;
+      gave-front (FitsAnswer (w.answer name k)) (results_of b.openings name) (results_of reads.openings.0 name) k both;
 }
 
 -- a world that agrees with what was read after a file was closed agrees with what was read before
@@ -96,7 +102,7 @@ agrees_open {w} {b} {c} before later o h was is = record {
   gave = λ name k.
       let here = rw (is, gave-append before (o ∷ later) name) at (h.gave name k) in
       rw (was, gave-append before (record o { gave = None } ∷ later) name) (true_or_false (bytes_eq o.name name)
-      (λ same. rw same (gave-open (FitsAnswer (w.answer name k)) (gave_of before name) (gave_of later name) o.gave k
+      (λ same. rw same (gave-open (FitsAnswer (w.answer name k)) (results_of before name) (results_of later name) o.gave k
       (rw same at here)))
       (λ apart. rw apart (rw apart at here)));
 }

@@ -1,8 +1,9 @@
 pub mod Behavior
-pub mod Generation
-pub mod Names
-pub mod Writes
-pub mod private
-pub mod check
+pub mod Streams
 pub mod Execution
-pub mod WorldLaws
+pub mod ToolLines
+pub mod Generate
+pub mod check
+pub mod private
+pub mod Laws
+pub mod OldVerdicts

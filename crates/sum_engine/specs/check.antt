@@ -1,11 +1,9 @@
--- Checking a manifest: its verdicts and reports, a checker's steps, and the laws of these.
+-- Checking a manifest: its verdicts and reports, and a checker's steps.
 pub mod Rules
 pub mod Judge
-pub mod Reports
-pub mod Checking
-pub mod CheckStates
+pub mod Counts
+pub mod Report
+pub mod Summary
+pub mod CheckOne
 pub mod Verdicts
 pub mod Checker
-pub mod ReadAhead
-pub mod CheckerLaws
-pub mod OldVerdicts

@@ -1,1 +1,4 @@
-pub mod Judging
+pub mod Generate
+pub mod Judge
+pub mod Verdicts
+pub mod CheckOne

@@ -2,6 +2,7 @@
 
 pub(crate) mod check_one;
 pub(crate) mod checker;
+pub(crate) mod counts;
 pub(crate) mod judge;
 pub(crate) mod progress;
 pub(crate) mod report;

@@ -1,8 +1,9 @@
 //! Hashing one name, and writing its line.
 ghost use Rattle.std.specs.Prelude.{◌≡◌, [], ◌∷◌, true, Ok};
-ghost use Rattle.sum_engine.specs.Execution.{FailuresMatch, RefusalsMatch, Performs, ReadsToEndIf};
-ghost use Rattle.sum_engine.specs.Generation.{generate_behavior};
-ghost use Rattle.sum_engine.specs.Names.{fault_in};
+ghost use Rattle.sum_engine.specs.Execution.{Performs, ReadsToEndIf};
+ghost use Rattle.sum_engine.specs.Generate.{generate_behavior};
+ghost use Rattle.sum_engine.specs.Streams.{StopHasCause};
+ghost use Rattle.sum_engine.specs.private.Generate.{fault_in};
 
 use crate::inputs::Inputs;
 use crate::streams::{Outputs, Streams};
@@ -29,8 +30,7 @@ pub fn generate_one<S: Source, O: Sink, E: Sink>(
     // Returns true only if the file was read to its end; whatever is returned, it was read no further.
     ensures reads { ReadsToEndIf (result ≡ Ok true) streams.old.inputs streams.new.inputs }
     // A stop has its cause: one more refusal of the source, or one more failure of one output.
-    ensures refusals { RefusalsMatch (1 ∷ []) streams.old.inputs streams.new.inputs result }
-    ensures failures { FailuresMatch streams.old.outputs streams.new.outputs result }
+    ensures cause { StopHasCause (1 ∷ []) streams.old streams.new result }
 {
     match streams.inputs.hash_file(settings.kind, name) {
         Ok(digest) => {

@@ -1,6 +1,7 @@
 //! What a call opens and reads through.
 ghost use Rattle.std.specs.Prelude.{◌≡◌, length, IfOk};
-ghost use Rattle.sum_sources.specs.Sources.{HashesFile, IsOpen, after_closing, after_opening, opened_file};
+ghost use Rattle.sum_sources.specs.HashFile.{HashesFile};
+ghost use Rattle.sum_sources.specs.Source.{IsOpen, state_after_closing, state_after_opening, opened_file};
 
 use digest_kinds::{AnyHasher, Digest, Kind};
 use std::marker::{Model, PhantomData};
@@ -18,7 +19,7 @@ pub struct Inputs<S: Source> {
 }
 
 impl<S: Source> Model for Inputs<S> {
-    ghost use Rattle.sum_sources.specs.Sources.{SourceState};
+    ghost use Rattle.sum_sources.specs.Source.{SourceState};
 
     ghost Value = { SourceState };
 
@@ -39,7 +40,7 @@ impl<S: Source> Inputs<S> {
 
     /// Opens the file of that name in the source.
     pub(crate) fn open(&mut self, name: &[u8]) -> Result<S::File, OpenFault>
-        ensures state { self.new ≡ after_opening self.old name.now result }
+        ensures state { self.new ≡ state_after_opening self.old name.now result }
         ensures file { IfOk result
             (λ file. S.File.state file ≡ opened_file S.tells self.old name.now) }
     {
@@ -49,7 +50,7 @@ impl<S: Source> Inputs<S> {
     /// Has the source close a file.
     pub(crate) fn close(&mut self, file: S::File)
         requires { IsOpen S.tells self.old (S.File.state file) }
-        ensures { self.new ≡ after_closing self.old (S.File.state file) }
+        ensures { self.new ≡ state_after_closing self.old (S.File.state file) }
     {
         self.source.close_file(file);
     }

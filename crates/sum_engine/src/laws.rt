@@ -1,7 +1,6 @@
 //! Laws about what was read, and about whole checks: what the steps of a [`Checker`](crate::Checker) do together.
-ghost use Rattle.sum_engine.specs.WorldLaws.{ToldAgree};
-ghost use Rattle.sum_engine.specs.check.CheckerLaws.{StepsJoin, EventsExtend, SameFront};
-ghost use Rattle.sum_engine.specs.check.OldVerdicts.{OldVerdicts, OlderDiffers};
+ghost use Rattle.sum_engine.specs.Laws.{EventsExtend, SameFront, StepsJoin, ToldAgree};
+ghost use Rattle.sum_engine.specs.OldVerdicts.{OldVerdicts, OlderDiffers};
 
 use crate::inputs::Inputs;
 use sum_sources::Source;
@@ -37,11 +36,12 @@ pub fn same_front()
     ensures { SameFront }
 {}
 
-/// A manifest has the same verdicts under the older profile and the present one if it has no empty line and no carriage
-/// return. A carriage return counts in the manifest's own name, as a byte, and as the escape `\r` in a name after a
-/// leading backslash. Older versions of the tools didn't escape carriage returns in names, didn't drop them at a line's
-/// end, and found empty lines improperly formatted. The verdicts are those after the same openings; the reports and the
-/// summary are the same, too, and the manifest is good under both or under neither.
+/// A manifest from the time of older versions says what it said to them, if it has no empty line and no carriage
+/// return. Its verdicts after the same openings are the same, and with them their counts and whether it is good. Its
+/// reports and its summary are the same, too, since each name in them has the same escape. A carriage return counts in
+/// the manifest's own name, as a byte, and as the escape `\r` in a name after a leading backslash. Older versions of
+/// the tools didn't escape carriage returns in names, didn't drop them at a line's end, and found empty lines
+/// improperly formatted.
 pub fn old_verdicts()
     ensures verdicts { OldVerdicts }
     ensures differs { OlderDiffers }

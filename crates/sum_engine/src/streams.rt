@@ -1,6 +1,6 @@
 //! The streams of a call.
 ghost use Rattle.std.specs.Prelude.{◌≡◌, IsTrue, []};
-ghost use Rattle.sum_engine.specs.Writes.{WritesAndReturns};
+ghost use Rattle.sum_engine.specs.Streams.{WritesAndReturns};
 
 use crate::inputs::Inputs;
 use std::marker::Model;
@@ -18,9 +18,9 @@ pub struct Outputs<O: Sink, E: Sink> {
 }
 
 impl<O: Sink, E: Sink> Model for Outputs<O, E> {
-    ghost use Rattle.sum_engine.specs.Execution.{OutputsState};
+    ghost use Rattle.sum_engine.specs.Streams.{BothOutputs};
 
-    ghost Value = { OutputsState };
+    ghost Value = { BothOutputs };
 
     ghost view = { λ outputs. record { out = outputs.out; err = outputs.err } };
 }
@@ -61,6 +61,7 @@ impl<S: Source, O: Sink, E: Sink> Streams<Inputs<S>, Outputs<O, E>> {
     pub fn new(source: S, out: O, err: E) -> Self
         requires out { IsTrue (O.state out).flushed }
         requires err { IsTrue (E.state err).flushed }
+        // The state of the streams is that of the parts.
         ensures inputs { result.inputs ≡ S.state source }
         ensures outputs { result.outputs ≡ record {
           out = (O.state out).output;

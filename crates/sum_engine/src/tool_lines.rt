@@ -1,15 +1,14 @@
 //! The lines that begin with the tool and a name.
 ghost use Rattle.std.specs.Prelude.{◌≡◌};
-ghost use Rattle.sum_engine.specs.Generation.{tool_line};
-ghost use Rattle.sum_lines.specs.Escape.{own_profile};
-ghost use Rattle.sum_lines.specs.PartTexts.{parts_text};
+ghost use Rattle.sum_engine.specs.ToolLines.{tool_line};
+ghost use Rattle.sum_lines.specs.Parts.{joined_text};
 
 use sum_lines::{Buffered, Part, Sink, SinkFault, Text, put_parts};
 use sum_sources::Fault;
 
 /// The parts of `TOOL: NAME: TEXT`.
 pub(crate) fn tool_line<'a>(tool: &'a str, name: &'a [u8], text: &'a [u8]) -> [Part<'a>; 6]
-    ensures { parts_text result ≡ tool_line own_profile tool.now name.now text.now }
+    ensures { joined_text result ≡ tool_line tool.now name.now text.now }
 {
     [
         Part::Bytes(tool.as_bytes()),
@@ -30,10 +29,9 @@ pub(crate) struct NameFaultLine<'a> {
 }
 
 impl<'a> Text for NameFaultLine<'a> {
-    ghost use Rattle.sum_engine.specs.Generation.{name_fault_line};
-    ghost use Rattle.sum_lines.specs.Escape.{own_profile};
+    ghost use Rattle.sum_engine.specs.ToolLines.{name_fault_line};
 
-    ghost text = { λ l. name_fault_line own_profile l.tool.now l.name.now l.fault };
+    ghost text = { λ l. name_fault_line l.tool.now l.name.now l.fault };
 
     fn put<S: Sink>(&self, sink: &mut Buffered<S>) -> Result<(), SinkFault> {
         let line = tool_line(self.tool, self.name, self.fault.text().as_bytes());

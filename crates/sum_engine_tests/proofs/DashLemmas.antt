@@ -1,14 +1,23 @@
 -- `hash_with_stdin` and `check_once`: how often what a call performed opens `-`.
-use Rattle.std.proofs.Common.{arith, ◌≡◌, ◌∙◌, ◌+◌, ℕ, true, List, [], ◌∷◌, ◌++◌, Result, Ok, Err, refl, ap, sym, append-nil, codes, flat_map, filter_map}
-use Rattle.std.{specs.Prelude.OnOk, proofs.lemmas.Grind.flat_map-append, proofs.lemmas.List.Elements.filter_map-append, proofs.lemmas.List.Sums.sum_by-append, proofs.lemmas.Slice.Eq.bytes_eq-Decides}
-use Rattle.sum_engine.{specs.Behavior.Answer, specs.Behavior.ByteString, specs.Behavior.Content, specs.Behavior.Step, specs.Behavior.World, specs.Behavior.is_dash, specs.Behavior.opened_name, specs.Behavior.times, specs.Behavior.trace, specs.Execution.PerformsSteps, specs.Execution.StreamsState, specs.Execution.opened_names}
-use Rattle.sum_settings.specs.declared.{settings.CheckSettings.CheckSettings, stop.Stop.Stop, stop.Stop.TheVariants.Memory, stop.Stop.TheVariants.Write}
-use Rattle.sum_engine.specs.check.{Checking.check_behavior_by, Checking.line_steps, Judge.Form, Judge.verdicts, Rules.LabelsValue, Rules.Rules, Rules.labels_of, Rules.rules_of}
+use Rattle.std.proofs.Common.{arith, ◌≡◌, ◌∙◌, ◌+◌, ℕ, true, List, [], ◌∷◌, ◌++◌, Result, Ok, Err, refl, ap, sym}
+use Rattle.std.proofs.Common.{append-nil, codes, flat_map, filter_map}
+use Rattle.std.{specs.Prelude.OnOk, proofs.lemmas.Grind.flat_map-append, proofs.lemmas.List.Elements.filter_map-append}
+use Rattle.std.proofs.lemmas.{List.Sums.sum_by-append, Slice.Eq.bytes_eq-Decides}
+use Rattle.sum_sources.specs.{Source.AnswerValue, Source.times, Input.Content, WithStdin.is_dash}
+use Rattle.digest_kinds.specs.Bytes.{ByteString}
+use Rattle.sum_engine.specs.Behavior.{Step, World, opened_name, trace}
+use Rattle.sum_engine.specs.{Execution.PerformsSteps, Execution.opened_names, Streams.StreamsState}
+use Rattle.sum_engine.specs.check.{CheckOne.check_behavior_by, CheckOne.line_steps, Judge.verdicts, Rules.LabelsValue}
+use Rattle.sum_engine.specs.{check.Rules.labels_of, check.Rules.rules_of, declared.check.rules.CheckRules.CheckRules}
+use Rattle.sum_settings.specs.declared.{settings.CheckSettings.CheckSettings, stop.Stop.Stop}
+use Rattle.sum_settings.specs.declared.stop.Stop.TheVariants.{Memory, Write}
+use Rattle.sum_lines.specs.grammar.ParsedLines.{ParsedLine}
 
 -- how often `-` is among names
 abbrev pub dashes : List ByteString → ℕ
 dashes names = times (codes "-") names
 
+-- how often `-` is among names, and then among others
 pub dashes-append : (xs ys : List ByteString) → dashes (xs ++ ys) ≡ dashes xs + dashes ys
 dashes-append xs ys = sum_by-append _ xs ys
 
@@ -24,15 +33,15 @@ opened s x a b (Err Memory) h =
     (_, _, are ∙ filter_map-append _ (trace h.done) (trace (h.next ∷ h.later)), h.happened.inputs.asked, tt)
 
 -- a line of a manifest from standard input doesn't open `-`
-lines_open : (r : Rules) → r.from_stdin ≡ true → (labels : LabelsValue) (end : ByteString) (f : Form)
-    (ls : List ByteString) (c : Content) (w : World) (n : ℕ)
-    → dashes (flat_map (λ s. s.names) (line_steps r labels end c (verdicts r f w n ls))) ≡ 0
-lines_open r is labels end f [] c w n = refl
-lines_open r is labels end f (l ∷ ls) c w n =
-    rw (sum_by-append, lines_open r is labels end f ls) (grind (arith, is, bytes_eq-Decides))
+lines_open : (r : CheckRules) → r.from_stdin ≡ true → (labels : LabelsValue) (end : ByteString)
+    (said : List ParsedLine) (c : Content) (w : World) (n : ℕ)
+    → dashes (flat_map (λ s. s.names) (line_steps r labels end c (verdicts r w n said))) ≡ 0
+lines_open r is labels end [] c w n = refl
+lines_open r is labels end (x ∷ xs) c w n =
+    rw (sum_by-append, lines_open r is labels end xs) (grind (arith, is, bytes_eq-Decides))
 
 -- so a check of one opens `-` once
-pub check_opens : (settings : CheckSettings) (tool name : ByteString) (w : World) (answer : Answer)
+pub check_opens : (settings : CheckSettings) (tool name : ByteString) (w : World) (answer : AnswerValue)
     → is_dash name ≡ true
     → let run = check_behavior_by (rules_of settings (is_dash name)) (labels_of settings tool name) name w answer in
     dashes (flat_map (λ s. s.names) run.steps) ≡ 1

@@ -1,33 +1,41 @@
 //! What follows from the laws of `sum_engine`.
-ghost use Rattle.std.specs.Prelude.{◌≡◌, ◌≢◌, ◌<◌, ◌≤◌, ◌+◌, ◌*◌, ◌⊎◌, ℕ, Bool, true, false, IsTrue};
-ghost use Rattle.std.specs.Prelude.{None, Some, Ok, Err, IfErr, List, [], ◌∷◌, ◌++◌, codes, length, take};
-ghost use Rattle.std.specs.Prelude.{⊤, flat_map, slice_range, slice_index_or};
-ghost use Rattle.sum_lines.specs.Sinks.{Gets, output_events};
-ghost use Rattle.sum_lines.specs.grammar.Shapes.{IsPlain, KindValue};
-ghost use Rattle.sum_engine.specs.Behavior.{ByteString, Content, Reads, Step, Whole, World, answer_to, clip, times};
-ghost use Rattle.sum_engine.specs.Behavior.{Fits, trace};
-ghost use Rattle.sum_engine.specs.Execution.{Agrees, AsksNames, Happened, PerformsSteps, StreamsState, gave_at};
-ghost use Rattle.sum_engine.specs.Execution.{opened_names, world_at};
-ghost use Rattle.sum_engine.specs.Generation.{generate_behavior};
-ghost use Rattle.sum_engine.specs.Names.{RefusesMemory};
-ghost use Rattle.sum_engine.specs.check.CheckStates.{CheckState, counts_with, initial_state};
-ghost use Rattle.sum_engine.specs.check.CheckerLaws.{TakesSteps};
-ghost use Rattle.sum_engine.specs.check.Checking.{check_behavior, content_behavior};
-ghost use Rattle.sum_engine.specs.check.Judge.{all_verdicts, verdicts, form, lines_under, own_profile};
-ghost use Rattle.sum_engine.specs.check.Judge.{EntryValue, IsEntry, escape, form_then, line_form};
-ghost use Rattle.sum_engine.specs.check.Judge.{LineVerdictValue, asks_of};
-ghost use Rattle.sum_engine.specs.declared.check.judge.Verdict.{Verdict};
-ghost use Rattle.sum_sources.specs.LineReaders.{IsReading, reads_of, remaining_content};
-ghost use Rattle.sum_sources.specs.ManifestLines.{HasNoNewline};
+ghost use Rattle.digest_kinds.specs.Bytes.{ByteString};
+ghost use Rattle.digest_kinds.specs.Kind.{KindValue};
+ghost use Rattle.std.specs.Prelude.{◌≡◌, ◌≢◌, ◌<◌, ◌≤◌, ◌+◌, ◌*◌, ◌⊎◌, ℕ, Bool, true, false, IsTrue, None};
+ghost use Rattle.std.specs.Prelude.{Some, Ok, Err, IfErr, List, [], ◌∷◌, ◌++◌, codes, length, take, ⊤};
+ghost use Rattle.std.specs.Prelude.{flat_map, slice_range, slice_index_or, map};
+ghost use Rattle.sum_engine.specs.Behavior.{Step, World, answer_to, trace};
+ghost use Rattle.sum_engine.specs.Execution.{Agrees, AsksNames, Happened, PerformsSteps, opened_names};
+ghost use Rattle.sum_engine.specs.Execution.{world_at, RefusesMemory};
+ghost use Rattle.sum_engine.specs.Generate.{generate_behavior};
+ghost use Rattle.sum_engine.specs.Laws.{TakesSteps};
+ghost use Rattle.sum_engine.specs.OldVerdicts.{ContentSaidOnce, IsOldManifest};
+ghost use Rattle.sum_engine.specs.Streams.{StreamsState};
+ghost use Rattle.sum_engine.specs.check.CheckOne.{check_behavior, content_behavior, remaining_before};
 ghost use Rattle.sum_engine.specs.check.Checker.{IsStep};
+ghost use Rattle.sum_engine.specs.check.Counts.{counts_and_line};
+ghost use Rattle.sum_engine.specs.check.Judge.{all_verdicts, verdicts, LineVerdictValue, asks_of};
+ghost use Rattle.sum_engine.specs.check.Judge.{HasNameRange};
+ghost use Rattle.sum_engine.specs.check.Report.{out_of};
+ghost use Rattle.sum_engine.specs.check.Rules.{LabelsValue};
+ghost use Rattle.sum_engine.specs.check.Verdicts.{CheckState, initial_state};
+ghost use Rattle.sum_engine.specs.declared.check.judge.Verdict.{Verdict};
 ghost use Rattle.sum_engine.specs.declared.check.progress.Progress.TheVariants.{Ended, Going};
-ghost use Rattle.sum_engine.specs.check.OldVerdicts.{IsOldManifest, older_profile};
-ghost use Rattle.sum_engine.specs.check.ReadAhead.{remaining_before};
-ghost use Rattle.sum_engine.specs.check.Reports.{out_of};
-ghost use Rattle.sum_engine.specs.check.Rules.{LabelsValue, Rules};
-ghost use Rattle.sum_engine.specs.check.Verdicts.{HasNameRange};
+ghost use Rattle.sum_engine.specs.declared.check.rules.CheckRules.{CheckRules};
+ghost use Rattle.sum_lines.specs.Escape.{escape};
+ghost use Rattle.sum_lines.specs.Output.{Gets, output_events};
+ghost use Rattle.sum_lines.specs.grammar.Entries.{EntryValue, IsEntry};
+ghost use Rattle.sum_lines.specs.grammar.Form.{form, form_then, line_form};
+ghost use Rattle.sum_lines.specs.grammar.ParsedLines.{ParsedLine, parse_line};
+ghost use Rattle.sum_lines.specs.grammar.Shapes.{IsPlain};
 ghost use Rattle.sum_settings.specs.declared.settings.Report.TheVariants.{All};
 ghost use Rattle.sum_settings.specs.declared.stop.Stop.TheVariants.{Memory, Write};
+ghost use Rattle.sum_sources.specs.Input.{Content, Reads, clip, Fits};
+ghost use Rattle.sum_sources.specs.LineReader.{IsReading, reads_of, remaining_content};
+ghost use Rattle.sum_sources.specs.ManifestLines.{HasNoNewline, lines, raw_lines};
+ghost use Rattle.sum_sources.specs.Source.{times, result_at};
+ghost use Rattle.sum_sources.specs.declared.fault.Ending.TheVariants.{Whole};
+ghost use Rattle.sum_sources.specs.declared.inputs.input.TheConstants.{PIECE};
 
 use digest_kinds::Algos;
 use std::alloc::Allocator;
@@ -74,9 +82,9 @@ pub fn one_step<A: Allocator, I: Input, S: Source, O: Sink, E: Sink>(
     // A line has one verdict: its name was opened, unless the line is ignored or bad; it was counted, and reported.
     ensures line { result ≡ Ok Going → (j : LineVerdictValue)
         × AsksNames streams.old.inputs streams.new.inputs (asks_of j)
-        × (checker.new.verdicts.counts ≡ counts_with checker.old.verdicts.counts j.verdict)
+        × (checker.new.verdicts.counts ≡ counts_and_line checker.old.verdicts.counts j.verdict)
         × Gets streams.old.outputs.out streams.new.outputs.out
-        (output_events (out_of checker.new.verdicts.rules checker.old.labels j)) }
+        (output_events (out_of checker.old.labels j)) }
     // Out of memory, neither output has changed; and the source was refused memory, or bytes were read ahead.
     ensures memory { result ≡ Err Memory → (streams.new.outputs ≡ streams.old.outputs)
         × (RefusesMemory streams.old.inputs streams.new.inputs
@@ -112,13 +120,13 @@ pub fn check_while_written<A: Allocator + Copy, S: Source, O: Sink, E: Sink>(
     ensures { result ≡ Err Write → (w : World) → Agrees w streams.new.inputs
         → let at = world_at w streams.old.inputs in let name = name.now in
         (c : Content) → answer_to at name ≡ Ok c → (r : Reads)
-        → gave_at streams.new.inputs.openings name
+        → result_at streams.new.inputs.openings name
         (times name (opened_names streams.old.inputs)) ≡ Some (Ok r)
         → (done : List Step) × (next : Step) × (later : List Step) × (between : StreamsState)
         × ((check_behavior settings (codes "md5sum") at name).steps ≡ done ++ next ∷ later)
         × Happened streams.old between (trace done)
         × PerformsSteps {A = ⊤} (next ∷ []) tt between streams.new (Err Write)
-        × (length r.bytes + remaining_before later ≤ length (clip c).bytes + 8192) }
+        × (length r.bytes + remaining_before later ≤ length (clip c).bytes + PIECE) }
 {
     check_one(alloc, settings, "md5sum", name, streams)
 }
@@ -135,7 +143,7 @@ pub fn takes_line<A: Allocator, I: Input, S: Source>(
     ensures { IsTrue result → let p = verdicts.old in let q = verdicts.new in
         (c : Content) → Fits (reads_of I.state q.reader) c → (w : World) → Agrees w inputs.new
         → (l : ByteString) × (v : Verdict) × (q.reader.lines ≡ p.reader.lines + 1)
-        × (q.form ≡ form_then p.form (line_form p.rules.algo l)) × (q.counts ≡ counts_with p.counts v) }
+        × (q.form ≡ form_then p.form (line_form p.rules.algo l)) × (q.counts ≡ counts_and_line p.counts v) }
 {
     matches!(verdicts.next(line, inputs), Ok(Some(_)))
 }
@@ -184,13 +192,14 @@ pub fn strict_check(algos: Algos) -> CheckSettings
 
 /// After k steps of a checker that each handled a line, each output has grown by the texts of the first k steps.
 pub fn reports_so_far()
-    ensures { (r : Rules) (labels : LabelsValue) (c : Content) (w : World) (b : CheckState)
-        (s t : StreamsState) (vectors : List ByteString)
-        → TakesSteps r labels (initial_state c w) b s t vectors
-        → let steps = take (length vectors) (content_behavior r labels c (all_verdicts r w c)).steps in
-        (opened_names t.inputs ≡ opened_names s.inputs ++ flat_map (λ step. step.names) steps)
-        × (t.outputs.err.written ≡ s.outputs.err.written ++ flat_map (λ step. step.err) steps)
-        × (t.outputs.out.written ≡ s.outputs.out.written ++ flat_map (λ step. step.out) steps) }
+    ensures { (rules : CheckRules) (labels : LabelsValue) (content : Content) (world : World)
+        (state : CheckState) (before after : StreamsState) (vectors : List ByteString)
+        → TakesSteps rules labels (initial_state content world) state before after vectors
+        → let all = content_behavior rules labels content (all_verdicts rules world content) in
+        let steps = take (length vectors) all.steps in
+        (opened_names after.inputs ≡ opened_names before.inputs ++ flat_map (λ step. step.names) steps)
+        × (after.outputs.err.written ≡ before.outputs.err.written ++ flat_map (λ step. step.err) steps)
+        × (after.outputs.out.written ≡ before.outputs.out.written ++ flat_map (λ step. step.out) steps) }
 {
     steps_join();
     events_extend();
@@ -199,15 +208,16 @@ pub fn reports_so_far()
 /// A checker that ends took a step for each line, and returns whether the manifest is good. What it had read goes at
 /// most 8,192 bytes beyond the manifest's lines, and no line was longer in the vector than in the manifest.
 pub fn whole_check()
-    ensures { (r : Rules) (labels : LabelsValue) (c : Content) (w : World) (b d : CheckState)
-        (s t z : StreamsState) (vectors : List ByteString) (vector : ByteString) (good : Bool)
-        → TakesSteps r labels (initial_state c w) b s t vectors
-        → IsStep r labels vector b d t z (Ok (Ended good))
-        → (length vectors ≡ length (lines_under r.profile c))
-        × (good ≡ (content_behavior r labels c (all_verdicts r w c)).good)
-        × (b.taken ≤ length c.bytes + 8192)
+    ensures { (rules : CheckRules) (labels : LabelsValue) (content : Content) (world : World)
+        (state new : CheckState) (before after end : StreamsState)
+        (vectors : List ByteString) (vector : ByteString) (good : Bool)
+        → TakesSteps rules labels (initial_state content world) state before after vectors
+        → IsStep rules labels vector state new after end (Ok (Ended good))
+        → (length vectors ≡ length (lines content))
+        × (good ≡ (content_behavior rules labels content (all_verdicts rules world content)).good)
+        × (state.taken ≤ length content.bytes + 8192)
         × ((i : ℕ) → length (slice_index_or vectors i [])
-        ≤ length (slice_index_or (lines_under r.profile c) i [])) }
+        ≤ length (slice_index_or (lines content) i [])) }
 {
     steps_join();
 }
@@ -215,33 +225,35 @@ pub fn whole_check()
 /// Lines that are added at a manifest's end change no verdict of the lines before them, nor what the last of these
 /// spells, nor the form, if that one is plain.
 pub fn added_lines_change_nothing()
-    ensures verdicts { (r : Rules) (w : World) (before : List ByteString) (line : ByteString)
-        (later : List ByteString) → take (length before + 1)
-        (verdicts r (form r.algo (before ++ line ∷ later)) w 0 (before ++ line ∷ later))
+    ensures verdicts { (rules : CheckRules) (world : World) (before : List ByteString)
+        (line : ByteString) (later : List ByteString)
+        → let all = before ++ line ∷ later in let first = before ++ line ∷ [] in
+        take (length before + 1)
+        (verdicts rules world 0 (map (parse_line rules.algo (form rules.algo all)) all))
         ≡ take (length before + 1)
-        (verdicts r (form r.algo (before ++ line ∷ [])) w 0 (before ++ line ∷ [])) }
-    ensures entry { (r : Rules) (w : World) (before : List ByteString) (line : ByteString)
-        (later : List ByteString) (s : EntryValue)
-        → IsEntry escape r.algo (form r.algo (before ++ line ∷ later)) line s
-        → IsEntry escape r.algo (form r.algo (before ++ line ∷ [])) line s }
-    ensures form { (r : Rules) (w : World) (before : List ByteString) (line : ByteString)
-        (later : List ByteString) (e : Bool) (kind : KindValue) (d tail : ByteString)
-        → IsPlain r.algo line e kind d tail
-        → form r.algo (before ++ line ∷ later) ≡ form r.algo (before ++ line ∷ []) }
+        (verdicts rules world 0 (map (parse_line rules.algo (form rules.algo first)) first)) }
+    ensures entry { (rules : CheckRules) (world : World) (before : List ByteString)
+        (line : ByteString) (later : List ByteString) (listed : EntryValue)
+        → IsEntry escape rules.algo (form rules.algo (before ++ line ∷ later)) line listed
+        → IsEntry escape rules.algo (form rules.algo (before ++ line ∷ [])) line listed }
+    ensures form { (rules : CheckRules) (world : World) (before : List ByteString)
+        (line : ByteString) (later : List ByteString) (escaped : Bool) (kind : KindValue)
+        (digest tail : ByteString) → IsPlain rules.algo line escaped kind digest tail
+        → form rules.algo (before ++ line ∷ later) ≡ form rules.algo (before ++ line ∷ []) }
 {
     same_front();
 }
 
 /// If a manifest from the time of older versions was good, it stays good.
 pub fn old_manifest_stays_good()
-    ensures good { (r : Rules) (labels : LabelsValue) (w : World) (c : Content)
-        → IsOldManifest r labels c → let old = record r { profile = older_profile } in
-        let new = record r { profile = own_profile } in
-        IsTrue (content_behavior old labels c (all_verdicts old w c)).good
-        → IsTrue (content_behavior new labels c (all_verdicts new w c)).good }
+    ensures good { (rules : CheckRules) (labels : LabelsValue) (world : World) (content : Content)
+        (said : List ParsedLine) → IsOldManifest rules labels content
+        → ContentSaidOnce rules.algo content said
+        → IsTrue (content_behavior rules labels content (verdicts rules world 0 said)).good
+        → IsTrue (content_behavior rules labels content (all_verdicts rules world content)).good }
     // To older versions a line that ends with a carriage return was another one.
-    ensures line { let c : Content = record { bytes = codes "a\r\n"; ending = Whole } in
-        lines_under older_profile c ≢ lines_under own_profile c }
+    ensures line { let content : Content = record { bytes = codes "a\r\n"; ending = Whole } in
+        raw_lines content ≢ lines content }
 {
     old_verdicts();
 }

@@ -1,9 +1,10 @@
 //! Callers with standard input beside a source of files.
 ghost use Rattle.std.specs.Prelude.{◌≡◌, ◌==◌, ◌+◌, IsTrue, false, codes, OnOk};
-ghost use Rattle.sum_sources.specs.SourceStates.{stdin_in};
-ghost use Rattle.sum_sources.specs.StandardInput.{is_untaken};
-ghost use Rattle.sum_engine.specs.Behavior.{is_dash, times};
 ghost use Rattle.sum_engine.specs.Execution.{opened_names};
+ghost use Rattle.sum_sources.specs.WithStdinView.{stdin_in};
+ghost use Rattle.sum_sources.specs.Source.{times};
+ghost use Rattle.sum_sources.specs.Stdin.{is_untaken};
+ghost use Rattle.sum_sources.specs.WithStdin.{is_dash};
 
 use std::alloc::Allocator;
 use sum_engine::laws::told_agree;

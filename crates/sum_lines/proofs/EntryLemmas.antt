@@ -1,36 +1,43 @@
 -- The one form of a list of lines, and what later lines change of it: neither how a line parses nor the form after a
 -- plain line.
-use Rattle.std.{proofs.lemmas.Grind.common_steps, specs.List.AllPass}
-use Rattle.std.proofs.Common.{ℕ, ◌≡◌, Bool, true, false, List, [], ◌∷◌, ◌++◌, Option, None, Some, refl, sym, ◌∙◌, inl, inr, arith}
-use Rattle.digest_kinds.{specs.Kinds.KindValue, proofs.PrefixLemmas.none_of}
-use Rattle.sum_lines.specs.grammar.Shapes.{Algos, is_blank, mark, IsPlain}
-use Rattle.sum_lines.specs.grammar.Entries.{Form, Undecided, EntryValue, is_ignored, is_ignored_by, IsForm, IsEntry, form_then, line_form, form}
-use Rattle.sum_lines.specs.{Escape.Profile, Escape.own_profile, grammar.LineParts.LinePartsValue, grammar.LineParts.plain_parts}
-use Rattle.sum_lines.specs.grammar.{LineLaws.HasOneForm, ParsedLines.entry_of, ParsedLines.parse_line}
-use Rattle.sum_lines.proofs.{TaggedLemmas.BeginsText, PlainLemmas.plain-digits, PlainLemmas.plain_is_read, PlainLemmas.read_is_plain}
+use Rattle.std.{proofs.lemmas.Grind.common_steps, specs.List.AllPass, proofs.Common.ℕ, proofs.Common.◌≡◌}
+use Rattle.std.proofs.Common.{Bool, true, false, List, [], ◌∷◌, ◌++◌, Option, None, Some, refl, sym, ◌∙◌, inl, inr}
+use Rattle.std.proofs.Common.{arith, rules}
+use Rattle.digest_kinds.{specs.Kind.KindValue, proofs.PrefixLemmas.none_of, specs.declared.algo.Algos.Algos}
+use Rattle.sum_lines.specs.grammar.{Shapes.is_blank, Shapes.mark, Shapes.IsPlain, Form.Form, Form.Undecided}
+use Rattle.sum_lines.specs.grammar.{Form.IsForm, Form.form_then, Form.line_form, Form.form, Entries.EntryValue}
+use Rattle.sum_lines.specs.grammar.{Entries.is_ignored, Entries.IsEntry, LineParts.LinePartsValue}
+use Rattle.sum_lines.specs.grammar.{LineParts.plain_parts, LineLaws.HasOneForm, ParsedLines.entry_of}
+use Rattle.sum_lines.{specs.grammar.ParsedLines.parse_line, proofs.TaggedLemmas.BeginsText}
+use Rattle.sum_lines.proofs.PlainLemmas.{plain-digits, plain_is_read, read_is_plain}
 
--- a line of either shape isn't ignored, whichever the profile
-not_ignored : (p : Profile) (blanks : List ℕ) (e : Bool) (xs rest : List ℕ) → AllPass is_blank blanks → BeginsText xs
-    → is_ignored_by p (blanks ++ (mark e ++ (xs ++ rest))) ≡ false
-not_ignored p blanks e xs rest all b = grind (arith, common_steps)
+-- a line of either shape isn't ignored
+not_ignored : (blanks : List ℕ) (e : Bool) (xs rest : List ℕ) → AllPass is_blank blanks → BeginsText xs
+    → is_ignored (blanks ++ (mark e ++ (xs ++ rest))) ≡ false
+not_ignored blanks e xs rest all b = grind (arith, common_steps)
 
 -- a plain line isn't ignored
-pub plain-not_ignored : {algos : Algos} {line : List ℕ} {e : Bool} {kind : KindValue} {d tail : List ℕ} (p : Profile)
-    → IsPlain algos line e kind d tail → is_ignored_by p line ≡ false
-plain-not_ignored p plain = let digits = plain-digits plain in grind (arith, not_ignored)
+pub plain-not_ignored : {algos : Algos} {line : List ℕ} {e : Bool} {kind : KindValue} {d tail : List ℕ}
+    → IsPlain algos line e kind d tail → is_ignored line ≡ false
+plain-not_ignored plain = let digits = plain-digits plain in grind (arith, not_ignored)
 
 -- no line that spells an entry is ignored
 pub entry-not_ignored : {escape : List ℕ → List ℕ} {algos : Algos} {f : Form} {line : List ℕ} {s : EntryValue}
-    (p : Profile) → IsEntry escape algos f line s → is_ignored_by p line ≡ false
-entry-not_ignored p e = elim e.shape [
+    → IsEntry escape algos f line s → is_ignored line ≡ false
+entry-not_ignored e = elim e.shape [
   | inl t ↦ grind (arith, not_ignored)
-  | inr t ↦ plain-not_ignored p t.1
+  | inr t ↦ plain-not_ignored t.1
 ]
+
+-- an entry by one escape is an entry by another that gives its name the same escape
+pub entry_by : (E F : List ℕ → List ℕ) (algos : Algos) (f : Form) (line : List ℕ) (s : EntryValue) → E s.name ≡ F s.name
+    → IsEntry E algos f line s → IsEntry F algos f line s
+entry_by E F algos f line s same h = search rules
 
 -- an ignored line is not plain, and has no form
 pub ignored_undecided : (algos : Algos) (line : List ℕ) → is_ignored line ≡ true → line_form algos line ≡ Undecided
 ignored_undecided algos line ignored =
-    rw (← none_of (plain_parts algos line) (λ p h. cc (plain-not_ignored own_profile (read_is_plain h)))) refl
+    rw (← none_of (plain_parts algos line) (λ p h. cc (plain-not_ignored (read_is_plain h)))) refl
 
 -- the computed form is one that the list has
 is-form : (algos : Algos) (lines : List (List ℕ)) → IsForm algos lines (form algos lines)
@@ -73,17 +80,17 @@ pub form_at : (algos : Algos) (before later : List (List ℕ)) (line : List ℕ)
 form_at algos before later line = grind (arith, form-append)
 
 -- no later line changes how a line parses
-pub parse_stays : (p : Profile) (algos : Algos) (f g : Form) (line : List ℕ)
-    → parse_line p algos (form_then (form_then f (line_form algos line)) g) line
-    ≡ parse_line p algos (form_then f (line_form algos line)) line
+pub parse_stays : (algos : Algos) (f g : Form) (line : List ℕ)
+    → parse_line algos (form_then (form_then f (line_form algos line)) g) line
+    ≡ parse_line algos (form_then f (line_form algos line)) line
 unfolding entry_of
-parse_stays p algos f g line = grind arith
+parse_stays algos f g line = grind arith
 
 -- how a line parses stays if later lines are others
-pub same_parse : (p : Profile) (algos : Algos) (before later others : List (List ℕ)) (line : List ℕ)
-    → parse_line p algos (form algos (before ++ (line ∷ later))) line
-    ≡ parse_line p algos (form algos (before ++ (line ∷ others))) line
-same_parse p algos before later others line = grind (arith, form_at, parse_stays)
+pub same_parse : (algos : Algos) (before later others : List (List ℕ)) (line : List ℕ)
+    → parse_line algos (form algos (before ++ (line ∷ later))) line
+    ≡ parse_line algos (form algos (before ++ (line ∷ others))) line
+same_parse algos before later others line = grind (arith, form_at, parse_stays)
 
 -- no later line changes the form after a plain line
 pub same_form : (algos : Algos) (before later others : List (List ℕ)) (line : List ℕ) (e : Bool) (kind : KindValue)

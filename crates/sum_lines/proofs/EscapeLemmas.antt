@@ -1,15 +1,19 @@
 -- The escape of a list of bytes, cut at its first special byte: a backslash, a newline or a carriage return. What is
 -- escaped can be read back: both the definition and the code find the name. After that, the raw name in a line.
-use Rattle.std.proofs.Common.{◌≡◌, ℕ, zero, suc, ◌+◌, ◌-◌, ◌<◌, ◌≤◌, true, not, List, [], ◌∷◌, ◌++◌, length, take, drop, get_or, Option, None, Some, MatchOption, refl, ap, sym, ◌∙◌, arith, is_some, length-append, length-drop, ◌↔◌, ◌==◌, Bool, false, cond, ◌≢◌, append_assoc, All, nat_lt, rules, slice_range}
-use Rattle.std.proofs.lemmas.{Bool.false_from_ne_true, Grind.flat_map-append, Grind.common_steps, Slice.Eq.bytes_eq-Decides, Option.cond_some, List.Sums.list_all-from_AllPass, List.Folds.list_all_at}
-use Rattle.std.proofs.lemmas.List.{length-take-le, append-nil, append_cancel_left, drop-drop, drop-take, take-append-drop}
+use Rattle.std.proofs.Common.{◌≡◌, ℕ, zero, suc, ◌+◌, ◌-◌, ◌<◌, ◌≤◌, true, not, List, [], ◌∷◌, ◌++◌, length, take, drop}
+use Rattle.std.proofs.Common.{get_or, Option, None, Some, MatchOption, refl, ap, sym, ◌∙◌, arith, is_some}
+use Rattle.std.proofs.Common.{length-append, length-drop, ◌↔◌, ◌==◌, Bool, false, cond, ◌≢◌, append_assoc, All, nat_lt}
+use Rattle.std.proofs.{Common.rules, Common.slice_range, lemmas.Bool.false_from_ne_true}
+use Rattle.std.proofs.lemmas.{Grind.flat_map-append, Grind.common_steps, Slice.Eq.bytes_eq-Decides, Option.cond_some}
+use Rattle.std.proofs.lemmas.List.{Sums.list_all-from_AllPass, Folds.list_all_at, length-take-le, append-nil}
+use Rattle.std.proofs.lemmas.List.{append_cancel_left, drop-drop, drop-take, take-append-drop}
 use Rattle.std.{proofs.Math.Seq.take-length, proofs.Math.Seq.take-append-add, specs.List.list_all, specs.Option.is_some}
 use Rattle.memchr.specs.Find.{Nowhere, Passes, IsFirstByte, is_byte3, is_byte}
-use Rattle.sum_lines.specs.Escape.{own_profile, escape, escape_of, escape_differs, Profile, escape_by}
-use Rattle.sum_lines.specs.{grammar.Entries.EntryValue, grammar.Entries.Standard, grammar.Entries.begins_standard, grammar.LineParts.LinePartsValue}
+use Rattle.sum_lines.specs.{Escape.escape, Escape.escape_of, Escape.escape_differs, grammar.Entries.EntryValue}
+use Rattle.sum_lines.specs.grammar.{Form.Standard, Form.begins_standard, LineParts.LinePartsValue}
 use Rattle.sum_lines.specs.grammar.ParsedLines.{unescaped_bytes, unescape, entry_of_parts, parts_with_raw_name}
-use Rattle.digest_kinds.proofs.PrefixLemmas.{bind_some}
 use Rattle.sum_lines.specs.{declared.reading.line_parts.LineParts.LineParts, private.Beginnings.line_parts}
+use Rattle.digest_kinds.proofs.PrefixLemmas.{bind_some}
 
 -- what precedes the first special byte is its own escape
 pub escape-plain : (xs : List ℕ) (k : ℕ) → k ≤ length xs → Nowhere (Passes (is_byte3 92 10 13) xs) 0 k
@@ -26,7 +30,7 @@ pub escape_cut : (xs : List ℕ) (r : Option ℕ) → IsFirstByte (is_byte3 92 1
 escape_cut xs None none = rw (take-length xs) at (escape-plain xs (length xs) (omega arith) none)
 escape_cut xs (Some k) first =
     let within = first.0.high in
-    let split = ap escape (sym (take-append-drop k xs)) ∙ flat_map-append (escape_of own_profile) (take k xs) _ in
+    let split = ap escape (sym (take-append-drop k xs)) ∙ flat_map-append escape_of (take k xs) _ in
     rw (escape-plain xs k (omega arith) first.0.before) at split
 
 -- an escape, cut at the first special byte, of the two parts of a slice that was split there
@@ -56,34 +60,32 @@ plain-first : (b : ℕ) (rest : List ℕ) → (b == 92) ≡ false → unescaped_
 plain-first b rest h = grind arith
 
 -- unescaping what is escaped gives the name, and goes on after it
-pub unescaped_bytes-append : (p : Profile) (n rest : List ℕ)
-    → unescaped_bytes (escape_by p n ++ rest) ≡ n ++ unescaped_bytes rest
-unescaped_bytes-append p [] rest = refl
-unescaped_bytes-append p (b ∷ bs) rest = grind (arith, append_assoc, unescaped_bytes-append p bs rest, plain-first)
+pub unescaped_bytes-append : (n rest : List ℕ) → unescaped_bytes (escape n ++ rest) ≡ n ++ unescaped_bytes rest
+unescaped_bytes-append [] rest = refl
+unescaped_bytes-append (b ∷ bs) rest = grind (arith, append_assoc, unescaped_bytes-append bs rest, plain-first)
 
 -- unescaping the escape of a name gives the name
-pub unescaped_bytes-escape : (p : Profile) (n : List ℕ) → unescaped_bytes (escape_by p n) ≡ n
-unescaped_bytes-escape p n = simp append-nil at (unescaped_bytes-append p n [])
+pub unescaped_bytes-escape : (n : List ℕ) → unescaped_bytes (escape n) ≡ n
+unescaped_bytes-escape n = simp append-nil at (unescaped_bytes-append n [])
 
 -- a name is read back from its escape
-pub unescape-escape : (p : Profile) (n : List ℕ) → unescape p (escape_by p n) ≡ Some n
-unescape-escape p n = search (rules, unescaped_bytes-escape)
+pub unescape-escape : (n : List ℕ) → unescape (escape n) ≡ Some n
+unescape-escape n = search (rules, unescaped_bytes-escape)
 
 -- ---- the entry of a line's parts
 
 -- parts whose raw name spells a name spell an entry
-pub spelled-is : (p : Profile) (t : LinePartsValue) (n : List ℕ) → All (λ b. 0 < b) n
-    → t.text ≡ cond t.escaped (escape_by p n) n
-    → entry_of_parts p t ≡ Some (record { kind = t.kind; digest = t.digest; name = n })
-spelled-is p t n no_nul is =
+pub spelled-is : (t : LinePartsValue) (n : List ℕ) → All (λ b. 0 < b) n → t.text ≡ cond t.escaped (escape n) n
+    → entry_of_parts t ≡ Some (record { kind = t.kind; digest = t.digest; name = n })
+spelled-is t n no_nul is =
     let all : list_all (nat_lt 0) n ≡ true = grind (arith, list_all-from_AllPass) in grind (arith, unescape-escape)
 
 -- parts that spell an entry have a raw name that spells a name
-pub is-spelled : (p : Profile) (t : LinePartsValue) (s : EntryValue) → entry_of_parts p t ≡ Some s
-    → (n : List ℕ) × All (λ b. 0 < b) n × (t.text ≡ cond t.escaped (escape_by p n) n)
+pub is-spelled : (t : LinePartsValue) (s : EntryValue) → entry_of_parts t ≡ Some s
+    → (n : List ℕ) × All (λ b. 0 < b) n × (t.text ≡ cond t.escaped (escape n) n)
     × (record { kind = t.kind; digest = t.digest; name = n } ≡ s)
-is-spelled p t s h =
-    let n = bind_some (cond t.escaped (unescape p t.text) (Some t.text)) _ h in
+is-spelled t s h =
+    let n = bind_some (cond t.escaped (unescape t.text) (Some t.text)) _ h in
     let e = cond_some (list_all (nat_lt 0) n.0) _ s n.2 in
     (n.0, grind (arith, common_steps), search rules, e.1)
 
@@ -91,12 +93,12 @@ is-spelled p t s h =
 pub escape-rest : (a n rest : List ℕ) → escape a ++ rest ≡ escape n → (m : List ℕ) × (n ≡ a ++ m) × (rest ≡ escape m)
 escape-rest a n rest h =
     let is : n ≡ a ++ unescaped_bytes rest =
-    rw (← unescaped_bytes-append own_profile a rest, h) (sym (unescaped_bytes-escape own_profile n)) in
+    rw (← unescaped_bytes-append a rest, h) (sym (unescaped_bytes-escape n)) in
     (unescaped_bytes rest, is, grind (arith, append_cancel_left, flat_map-append))
 
 -- no two names have the same escape
 pub escape-apart : (a b : List ℕ) → escape a ≡ escape b → a ≡ b
-escape-apart a b h = simp (unescaped_bytes-escape own_profile) at (ap unescaped_bytes h)
+escape-apart a b h = simp unescaped_bytes-escape at (ap unescaped_bytes h)
 
 -- what the loop keeps: the escape of what it wrote, and then what it has still to read, are the bytes at its start
 pub record IsHalfUnescaped (start bytes : List ℕ) (read write : ℕ) : Type 0 where
@@ -113,7 +115,7 @@ IsHalfUnescaped-refused {bytes = bytes} {read = read} {write = write} h some non
     let rest = escape-rest (take write bytes) n (drop read bytes) (h.whole ∙ e) in
     elim rest.0 as (λ m. drop read bytes ≡ escape m → ⊥) [
       | [] ↦ λ is. omega (arith, length-drop read bytes, ap length is)
-      | b ∷ bs ↦ λ is. none b (escape bs) (is ∙ flat_map-append (escape_of own_profile) (b ∷ []) bs)
+      | b ∷ bs ↦ λ is. none b (escape bs) (is ∙ flat_map-append escape_of (b ∷ []) bs)
     ] rest.2
 
 -- the bytes from a place on, which were replaced by the name whose escape they were
@@ -133,11 +135,11 @@ pub part_of : (xs : List ℕ) (i j : ℕ) → i ≤ j → drop i (take j xs) ≡
 part_of xs i j le = let whole = drop-take i (j - i) xs in grind arith
 
 -- the bytes from a place on are left as the name whose escape they are, or are none
-pub unescaped : (from : ℕ) (old new : List ℕ) (r : Bool)
+pub replaced_by_name : (from : ℕ) (old new : List ℕ) (r : Bool)
     → ((n : List ℕ) → (drop from old ≡ escape n) ↔ ((r ≡ true) × (new ≡ take from old ++ n)))
-    → take from new ≡ take from old → cond r (Some (drop from new)) None ≡ unescape own_profile (drop from old)
-unescaped from old new true h before = let is = h (drop from new) in grind (arith, common_steps, unescape-escape)
-unescaped from old new false h before = search rules
+    → take from new ≡ take from old → cond r (Some (drop from new)) None ≡ unescape (drop from old)
+replaced_by_name from old new true h before = let is = h (drop from new) in grind (arith, common_steps, unescape-escape)
+replaced_by_name from old new false h before = search rules
 
 -- a search for NUL shows whether all bytes are above zero
 pub no_nul : (xs : List ℕ) (r : Option ℕ) → IsFirstByte (is_byte 0) xs r → not (is_some r) ≡ list_all (nat_lt 0) xs

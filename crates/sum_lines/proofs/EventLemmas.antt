@@ -1,8 +1,11 @@
 -- The pieces of a text, the events of these, and what happened of them.
-use Rattle.std.proofs.lemmas.{Grind.common_steps, List.take-append-le, List.drop-append-le, List.Concat.flat_map-append, List.Elements.filter_map-append}
-use Rattle.std.proofs.Common.{ℕ, zero, suc, ◌≡◌, ◌<◌, ◌≤◌, ◌+◌, ◌*◌, ◌/◌, ◌%◌, List, [], ◌∷◌, ◌++◌, length, drop, flat_map, filter_map, refl, sym, ap, append_assoc, append-nil, length-append, length-drop, take_all, arith}
+use Rattle.std.proofs.lemmas.{Grind.common_steps, List.take-append-le, List.drop-append-le, List.Concat.flat_map-append}
+use Rattle.std.proofs.{lemmas.List.Elements.filter_map-append, Common.ℕ, Common.zero, Common.suc, Common.◌≡◌}
+use Rattle.std.proofs.Common.{◌<◌, ◌≤◌, ◌+◌, ◌*◌, ◌/◌, ◌%◌, List, [], ◌∷◌, ◌++◌, length, drop, flat_map, filter_map}
+use Rattle.std.proofs.Common.{refl, sym, ap, append_assoc, append-nil, length-append, length-drop, take_all, arith}
 use Rattle.std.specs.{List.concat, Simd.first_chunks}
-use Rattle.sum_lines.specs.Sinks.{OutputState, OutputEvent, offer_piece, write_byte, written_byte, pieces, byte_events, output_events, OffersEach, Gets, GetsPrefix}
+use Rattle.sum_lines.specs.Output.{OutputState, OutputEvent, offer_piece, write_byte, written_byte, pieces, byte_events}
+use Rattle.sum_lines.specs.Output.{output_events, OffersEach, Gets, GetsPrefix}
 
 -- ---- the pieces of a text
 
@@ -17,6 +20,7 @@ first_chunks-append n (suc k) j xs ys size =
     let more = first_chunks-append n k j (drop n xs) ys (omega (arith, length-drop n xs)) in
     rw next (grind (arith, take-append-le, drop-append-le))
 
+-- the pieces of a text that begins with full pieces
 pieces-append : (xs ys : List ℕ) → length xs % 8192 ≡ 0 → pieces (xs ++ ys) ≡ pieces xs ++ pieces ys
 pieces-append xs ys full =
     let k = length xs / 8192 in
@@ -26,11 +30,13 @@ pieces-append xs ys full =
     omega (arith, length-append xs ys) in
     rw (own, both) (first_chunks-append 8192 k ((length ys + 8191) / 8192) xs ys size)
 
+-- a text that fits a piece is one
 pub one_piece : (xs : List ℕ) → 0 < length xs → length xs ≤ 8192 → pieces xs ≡ xs ∷ []
 one_piece xs some fits =
     let one : (length xs + 8191) / 8192 ≡ 1 = omega arith in
     rw (one, take_all 8192 xs fits) refl
 
+-- the chunks of a list, joined, are the list
 concat-chunks : (n k : ℕ) (xs : List ℕ) → length xs ≤ k * n → concat (first_chunks n k xs) ≡ xs
 concat-chunks n zero [] fits = refl
 concat-chunks n zero (x ∷ xs) fits = absurd (omega arith)
@@ -40,10 +46,12 @@ concat-chunks n (suc k) xs fits =
 
 -- ---- the events of pieces
 
+-- the bytes of a piece's events are the piece
 bytes-written : (xs : List ℕ) → filter_map written_byte (byte_events xs) ≡ xs
 bytes-written [] = refl
 bytes-written (x ∷ xs) = ap (λ l. x ∷ l) (bytes-written xs)
 
+-- the bytes of the events of some pieces are these pieces, joined
 bytes-in : (ps : List (List ℕ))
     → filter_map written_byte (flat_map (λ piece. offer_piece piece ∷ byte_events piece) ps) ≡ concat ps
 bytes-in [] = refl
@@ -60,6 +68,7 @@ output_events-append xs ys full = grind (arith, pieces-append, flat_map-append)
 
 -- ---- what happened
 
+-- the pieces of some events were offered, and then those of others
 OffersEach-then : (a b c : List (List ℕ)) (es fs : List OutputEvent) → OffersEach a b es → OffersEach b c fs
     → OffersEach a c (es ++ fs)
 OffersEach-then a b c [] fs h k = rw h at k

@@ -1,7 +1,9 @@
 -- A text of one piece is given to a sink. `a`, `b` and `c` are the sink before, between and after.
-use Rattle.std.proofs.Common.{ℕ, zero, suc, ◌≡◌, ◌<◌, ◌≤◌, List, [], ◌∷◌, ◌++◌, length, take, drop, filter_map, Ok, Err, inl, inr, refl, ap, append_assoc, append-nil, arith, rules}
+use Rattle.std.proofs.Common.{ℕ, zero, suc, ◌≡◌, ◌<◌, ◌≤◌, List, [], ◌∷◌, ◌++◌, length, take, drop, filter_map, Ok, Err}
+use Rattle.std.proofs.Common.{inl, inr, refl, ap, append_assoc, append-nil, arith, rules}
 use Rattle.std.proofs.lemmas.List.Elements.{filter_map-append}
-use Rattle.sum_lines.specs.Sinks.{SinkState, OutputEvent, WritesSome, OffersEach, GivesAll, offer_piece, write_byte, written_byte, byte_events, output_events}
+use Rattle.sum_lines.specs.{Sink.SinkState, Sink.WritesSome, Output.OutputEvent, Output.OffersEach, Output.GivesAll}
+use Rattle.sum_lines.specs.Output.{offer_piece, write_byte, written_byte, byte_events, output_events}
 use Rattle.sum_lines.proofs.EventLemmas.{one_piece}
 
 -- what is left of a piece is offered, if anything is
@@ -23,11 +25,12 @@ offered-again : (b : ℕ) (left : List ℕ) (old new : List (List ℕ)) (es : Li
 offered-again b [] old new es h = inl (rw append-nil at h)
 offered-again b (c ∷ left) old new es h = inr (omega arith, h)
 
-takes : (n : ℕ) (left : List ℕ) → n < length left → Takes (suc n) left
-takes n [] within = absurd (omega arith)
-takes zero (b ∷ left) within =
+-- of bytes, at least one was written, and what is left of them is offered again
+Takes-suc : (n : ℕ) (left : List ℕ) → n < length left → Takes (suc n) left
+Takes-suc n [] within = absurd (omega arith)
+Takes-suc zero (b ∷ left) within =
     record { events = write_byte b left ∷ []; cut = refl; bytes = refl; offers = offered-again b left }
-takes (suc n) (b ∷ left) within = let more = takes n left (omega arith) in record {
+Takes-suc (suc n) (b ∷ left) within = let more = Takes-suc n left (omega arith) in record {
   events = write_byte b left ∷ more.events;
   cut = ap (λ es. write_byte b left ∷ es) more.cut;
   bytes = ap (λ bs. b ∷ bs) more.bytes;
@@ -55,7 +58,7 @@ pub HasGiven-more : {a b c : SinkState} {text : List ℕ} (rest : List ℕ) (n :
     → 0 < length rest → WritesSome {E = Unit {0}} b c rest (Ok n) → HasGiven a c text (drop n rest)
 HasGiven-more [] n h some wrote = absurd (omega (arith, some))
 HasGiven-more (x ∷ xs) zero h some (within, taken, is) = absurd (omega (arith, taken some))
-HasGiven-more (x ∷ xs) (suc n) h some (within, taken, is) = let t = takes n (x ∷ xs) within in rw is (record {
+HasGiven-more (x ∷ xs) (suc n) h some (within, taken, is) = let t = Takes-suc n (x ∷ xs) within in rw is (record {
   events = h.events ++ t.events;
   cut = rw (h.cut, t.cut, append_assoc) refl;
   offers = λ new es later. rw append_assoc (h.offers new (t.events ++ es) (t.offers _ new es later));

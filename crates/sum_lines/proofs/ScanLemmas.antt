@@ -1,16 +1,20 @@
 -- What the functions that scan a line return, step by step; what a line begins with, and the parts that it is then read
 -- as. The code looks for the first blank of a plain line's text among as many bytes as the longest digest has digits.
-use Rattle.std.proofs.Common.{ℕ, ◌≡◌, ◌≢◌, ◌+◌, ◌-◌, ◌*◌, ◌<◌, ◌≤◌, List, [], ◌∷◌, ◌++◌, length, take, drop, slice_range, Option, None, Some, MatchOption, Ok, Bor, sym, arith, append_assoc, option_copied, get_or, min, ◌/◌, true, cond, IfNone, IfSome, refl, length-drop, rules}
+use Rattle.std.proofs.Common.{ℕ, ◌≡◌, ◌≢◌, ◌+◌, ◌-◌, ◌*◌, ◌<◌, ◌≤◌, List, [], ◌∷◌, ◌++◌, length, take, drop}
+use Rattle.std.proofs.Common.{slice_range, Option, None, Some, MatchOption, Ok, Bor, sym, arith, append_assoc}
+use Rattle.std.proofs.Common.{option_copied, get_or, min, ◌/◌, true, cond, IfNone, IfSome, refl, length-drop, rules}
 use Rattle.std.specs.{Option.option_or, Path.rsplit_once, List.position_or_len}
-use Rattle.std.proofs.lemmas.{Grind.common_steps, List.drop_at, List.get_or-take, List.length-take, List.Sums.passes_at_first, List.Sums.position_or_len_is}
+use Rattle.std.proofs.lemmas.{Grind.common_steps, List.drop_at, List.get_or-take, List.length-take}
+use Rattle.std.proofs.lemmas.List.Sums.{passes_at_first, position_or_len_is}
 use Rattle.std.proofs.lemmas.List.Elements.{All-get_or}
 use Rattle.memchr.specs.Find.{IsFirstByte, is_byte2}
 use Rattle.hex.{specs.Hex.decode_of, proofs.HexLemmas.decode_of-ok}
-use Rattle.digest_kinds.specs.{Bytes.after_while, KindTexts.kind_and_rest, declared.algo.Algo.TheVariants.Blake2b}
-use Rattle.digest_kinds.specs.Kinds.{KindValue, tag, IsDigits, full_len, has_len}
-use Rattle.sum_lines.specs.grammar.Shapes.{Algo, One, is_blank, Algos}
+use Rattle.digest_kinds.specs.{Bytes.after_while, Kind.kind_and_rest, declared.algo.Algo.TheVariants.Blake2b}
+use Rattle.digest_kinds.specs.{Kind.KindValue, Algo.tag, Digest.IsDigits, Algo.full_len, Algo.has_len}
+use Rattle.digest_kinds.specs.declared.algo.{Algo.Algo, Algos.Algos, Algos.TheVariants.One}
+use Rattle.sum_lines.specs.grammar.Shapes.{is_blank}
 use Rattle.sum_lines.specs.grammar.LineParts.{strip_prefix, tag_in, tagged_parts, plain_parts}
-use Rattle.sum_lines.specs.private.Beginnings.{IsFront, BeginsWithDigits, EndsAt, EndsDigits, IsReadAs}
+use Rattle.sum_lines.specs.private.Beginnings.{IsFront, BeginsWithDigits, IsFirstBlank, EndsDigits, IsReadAs}
 use Rattle.sum_lines.specs.declared.reading.line_parts.Front.{Front}
 use Rattle.sum_lines.proofs.PrefixLemmas.{text, opening, strip_prefix-some, starts-append, opened-some, rsplit-some}
 use Rattle.digest_kinds.proofs.{PrefixLemmas.none_of, KindTextLemmas.kind_and_rest-some, KindLemmas.has_len-full}
@@ -115,7 +119,7 @@ by_tag algos line a h =
 -- ---- the blank after the digits
 
 -- an algorithm other than BLAKE2b has digests of one length, so a line's digits are as many
-pub fixed_len : (a : Algo) (s : List ℕ) (n : ℕ) → (a ≡ Blake2b → ⊥) → n ≡ 2 * full_len a → EndsAt a s n
+pub fixed_len : (a : Algo) (s : List ℕ) (n : ℕ) → (a ≡ Blake2b → ⊥) → n ≡ 2 * full_len a → IsFirstBlank a s n
 fixed_len a s n other is = grind (arith, has_len-full, cut-size)
 
 -- if no blank is found among the first bytes, the line isn't plain
@@ -129,11 +133,11 @@ search_none a s (Some i) is first = tt
 
 -- the blank that is found is the first one
 pub search_some : (a : Algo) (s : List ℕ) {n : ℕ} (r : Option ℕ) → n ≡ min (length s) 129
-    → IsFirstByte (is_byte2 32 9) (take n s) r → IfSome r (EndsAt a s)
+    → IsFirstByte (is_byte2 32 9) (take n s) r → IfSome r (IsFirstBlank a s)
 search_some a s r is none = search (rules, position_or_len_is, get_or-take)
 
 -- a blank ends the digits of a plain line, and something follows it
-pub end_none : (a : Algo) (s : List ℕ) (at : ℕ) → EndsAt a s at
+pub end_none : (a : Algo) (s : List ℕ) (at : ℕ) → IsFirstBlank a s at
     → (at + 1 < length s → is_blank (get_or s at 0) ≡ true → ⊥) → (d : List ℕ) → ¬ BeginsWithDigits a s d
 end_none a s at place other d = grind (arith, length-drop, passes_at_first)
 

@@ -1,8 +1,9 @@
 -- A text is written to a buffer piece by piece. `a`, `b` and `c` are the buffer before, between and after.
-use Rattle.std.proofs.Common.{ℕ, ◌≡◌, ◌<◌, ◌≤◌, ◌-◌, ◌+◌, ◌%◌, List, [], ◌++◌, length, take, Result, Ok, Err, inl, inr, min, refl, sym, ap, ◌∙◌, append_assoc, append-nil, length-append, length-take, lit<, rules, arith}
-use Rattle.std.specs.Result.{IsErr}
-use Rattle.sum_lines.specs.{Sinks.OutputState, Sinks.GivesAll, Sinks.output_events, SinkStates.MakesRoom}
-use Rattle.sum_lines.specs.Buffers.{BufferState, Accepts, FailsToWrite, WritesAll}
+use Rattle.std.proofs.Common.{ℕ, ◌≡◌, ◌<◌, ◌≤◌, ◌-◌, ◌+◌, ◌%◌, List, [], ◌++◌, length, take, Result, Ok, Err, inl, inr}
+use Rattle.std.proofs.Common.{min, refl, sym, ap, ◌∙◌, append_assoc, append-nil, length-append, length-take, lit<}
+use Rattle.std.{proofs.Common.rules, proofs.Common.arith, specs.Result.IsErr}
+use Rattle.sum_lines.specs.Output.{OutputState, GivesAll, output_events}
+use Rattle.sum_lines.specs.Buffered.{MakesRoom, BufferState, Accepts, FailsToWrite, WritesAll}
 use Rattle.sum_lines.proofs.EventLemmas.{output_events-append, Gets-none, Gets-then, GetsPrefix-then}
 
 -- ---- two texts, one after the other
@@ -107,17 +108,17 @@ HasLeft-step piece left cut written = let own = left.cut in
     record { prefix = left.prefix ++ piece; cut = grind (arith, append_assoc); wrote = search (rules, Accepts-trans) }
 
 -- a piece of the rest failed, and so the whole text did
-pub HasLeft-stop : {E : Type 0} {a b c : BufferState} {text rest piece : List ℕ} (more : List ℕ)
+pub HasLeft-failed : {E : Type 0} {a b c : BufferState} {text rest piece : List ℕ} (more : List ℕ)
     (r : Result (Unit {0}) E) → HasLeft a b text rest → rest ≡ piece ++ more → FailsToWrite b c piece → IsErr r
     → WritesAll a c text r
-HasLeft-stop more (Ok u) left cut failed err = cc
-HasLeft-stop {piece = piece} more (Err e) left cut failed err =
+HasLeft-failed more (Ok u) left cut failed err = cc
+HasLeft-failed {piece = piece} more (Err e) left cut failed err =
     FailsToWrite-in left.prefix piece more left.wrote failed (left.cut ∙ ap (λ l. left.prefix ++ l) cut)
 
 -- the write of a text's first part failed
 pub writes_stop : {E : Type 0} {a b : BufferState} (xs more : List ℕ) (r : Result (Unit {0}) E) → FailsToWrite a b xs
     → IsErr r → WritesAll a b (xs ++ more) r
-writes_stop xs more r failed err = HasLeft-stop more r HasLeft-all refl failed err
+writes_stop xs more r failed err = HasLeft-failed more r HasLeft-all refl failed err
 
 -- the last piece is all of the rest: its result is that of the whole text
 pub HasLeft-last : {E : Type 0} {a b : BufferState} {text rest : List ℕ} (c : BufferState) (r : Result (Unit {0}) E)

@@ -1,8 +1,10 @@
 pub mod Escape
-pub mod SinkStates
-pub mod private
+pub mod Output
+pub mod Sink
+pub mod ToldSink
+pub mod FromWrite
+pub mod Buffered
+pub mod Parts
+pub mod DigestLine
 pub mod grammar
-pub mod Sinks
-pub mod Buffers
-pub mod Lines
-pub mod PartTexts
+pub mod private

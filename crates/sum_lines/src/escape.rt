@@ -1,8 +1,9 @@
 //! The escape of names in lines and diagnostics.
+ghost use Rattle.digest_kinds.specs.Bytes.{ByteString};
 ghost use Rattle.std.specs.Prelude.{◌≡◌, ◌≢◌, ◌↔◌, ◌<◌, ◌≤◌, ◌∷◌, ◌++◌, [], ℕ};
 ghost use Rattle.std.specs.Prelude.{length, vec_len, take, drop, is_some, IsTrue, IfSome, IfNone, MatchOption};
-ghost use Rattle.sum_lines.specs.Buffers.{WritesAll};
-ghost use Rattle.sum_lines.specs.Escape.{ByteString, escape, escape_differs};
+ghost use Rattle.sum_lines.specs.Buffered.{WritesAll};
+ghost use Rattle.sum_lines.specs.Escape.{escape, escape_differs};
 
 use crate::sinks::buffered::{Buffered, put_all};
 use crate::sinks::sink::{Sink, SinkFault};
@@ -17,7 +18,7 @@ pub fn needs_escape(name: &[u8]) -> bool
 }
 
 /// Writes the escaped name: `\\` for a backslash, `\n` for a newline, `\r` for a carriage return, each other byte as
-/// it is. Returns `SinkFault` as `put_all` does.
+/// it is.
 #[tactic(auto, using(crate::proofs::SinkLemmas::at_first))]
 pub fn put_escaped<S: Sink>(sink: &mut Buffered<S>, name: &[u8]) -> Result<(), SinkFault>
     ensures { WritesAll sink.old sink.new (escape name.now) result }

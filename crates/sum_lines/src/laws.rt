@@ -1,7 +1,8 @@
 //! Laws of the line grammar, and one of the pieces of a text. Each is the contract of a function that does nothing, and
 //! holds whatever the code does.
+ghost use Rattle.digest_kinds.specs.Bytes.{ByteString};
 ghost use Rattle.std.specs.Prelude.{◌≡◌, ◌<◌, ◌≤◌, ◌∷◌, [], length};
-ghost use Rattle.sum_lines.specs.Sinks.{ByteString, pieces};
+ghost use Rattle.sum_lines.specs.Output.{pieces};
 ghost use Rattle.sum_lines.specs.grammar.LineLaws.{HasOneShape, HasOneEntry, HasOneForm, ParsesByGrammar, IsReadBack};
 
 /// For given algorithms and a given form, a line spells at most one entry. No line is both plain and tagged, even with
@@ -17,8 +18,8 @@ pub fn one_form()
     ensures { HasOneForm }
 {}
 
-/// What is computed for a line is what the line grammar says of it, under every profile: it is ignored, an entry, or
-/// bad, each if and only if the grammar says so.
+/// What is computed for a line is what the line grammar says of it: it is ignored, an entry, or bad, each if and only if
+/// the grammar says so.
 #[tactic(auto, using(crate::proofs::ParsedLineLemmas::parse_is_grammar))]
 pub fn parse_is_grammar()
     ensures { ParsesByGrammar }

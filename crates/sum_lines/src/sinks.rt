@@ -5,5 +5,5 @@ pub(crate) mod buffered;
 mod from_write;
 pub(crate) mod output;
 pub(crate) mod sink;
+pub(crate) mod sink_log;
 pub(crate) mod told_sink;
-pub(crate) mod writes;

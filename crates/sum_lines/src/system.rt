@@ -3,10 +3,10 @@ ghost use Rattle.std.specs.Option.{ForSome};
 ghost use Rattle.std.specs.Prelude.{true, ◌≡◌, ◌++◌, OnSome, Some, unwrap_or, []};
 
 use crate::sinks::sink::{Sink, SinkFault};
-use crate::sinks::writes::{Flushed, Offer, Writes};
-use ghost_log::{INTERRUPTION_LIMIT, Log};
+use crate::sinks::sink_log::{Flushed, Offer, SinkCalls, SinkLog};
 use std::io::{ErrorKind, Write};
 use std::snapshot::Snapshot;
+use sum_settings::INTERRUPTION_LIMIT;
 
 /// A sink that writes its bytes to a writer.
 #[derive(Drop)]
@@ -14,13 +14,13 @@ pub struct FromWrite<W: Write> {
     writer: W,
     // The writer as it was at first, and what it took since: only proofs see them.
     first: Snapshot<W>,
-    log: Log<Writes>,
+    log: SinkLog,
     ghost known: { ForSome (W.contents first.value) (λ bytes. W.contents writer
         ≡ Some (bytes ++ log.output.written)) },
 }
 
 impl<W: Write> FromWrite<W> {
-    ghost use Rattle.sum_lines.specs.SinkStates.{from_write_state, held_at_first};
+    ghost use Rattle.sum_lines.specs.FromWrite.{from_write_state, held_at_first};
 
     /// Creates a sink over the writer. What the writer is known to hold counts as written.
     pub fn new(writer: W) -> Self
@@ -38,7 +38,7 @@ impl<W: Write> FromWrite<W> {
         FromWrite {
             first: Snapshot::of(&writer),
             writer,
-            log: Log::of(&Writes),
+            log: SinkLog::of(&SinkCalls),
         }
     }
 
@@ -53,8 +53,8 @@ impl<W: Write> FromWrite<W> {
 
 impl<W: Write> Sink for FromWrite<W> {
     ghost use Rattle.std.specs.Prelude.{Ok};
-    ghost use Rattle.sum_lines.specs.Sinks.{WritesSome, Flushes};
-    ghost use Rattle.sum_lines.specs.SinkStates.{from_write_state, held_at_first};
+    ghost use Rattle.sum_lines.specs.FromWrite.{from_write_state, held_at_first};
+    ghost use Rattle.sum_lines.specs.Sink.{WritesSome, Flushes};
 
     ghost state = { from_write_state };
 

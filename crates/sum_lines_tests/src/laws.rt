@@ -1,19 +1,21 @@
 //! What follows from the laws of lines.
-ghost use Rattle.digest_kinds.specs.Kinds.{KindValue};
+ghost use Rattle.digest_kinds.specs.Bytes.{ByteString};
+ghost use Rattle.digest_kinds.specs.Kind.{KindValue};
 ghost use Rattle.digest_kinds.specs.declared.algo.Algos.{Algos};
 ghost use Rattle.digest_kinds.specs.declared.algo.Algos.TheVariants.{Any};
 ghost use Rattle.std.specs.Prelude.{◌≡◌, ◌≤◌, Bool, false, List, ◌∷◌, [], length};
-ghost use Rattle.sum_lines.specs.Escape.{ByteString, Profile, escape, escape_by};
-ghost use Rattle.sum_lines.specs.Lines.{line};
-ghost use Rattle.sum_lines.specs.Sinks.{pieces};
-ghost use Rattle.sum_settings.specs.declared.style.Mode.TheVariants.{Tag};
-ghost use Rattle.sum_settings.specs.declared.style.Style.{Style};
+ghost use Rattle.sum_lines.specs.DigestLine.{line};
+ghost use Rattle.sum_lines.specs.Escape.{escape};
+ghost use Rattle.sum_lines.specs.Output.{pieces};
 ghost use Rattle.sum_lines.specs.declared.reading.read_line.Form.{Form};
 ghost use Rattle.sum_lines.specs.declared.reading.read_line.Form.TheVariants.{Undecided};
-ghost use Rattle.sum_lines.specs.grammar.Entries.{EntryValue, IsEntry, IsForm};
+ghost use Rattle.sum_lines.specs.grammar.Entries.{EntryValue, IsEntry};
+ghost use Rattle.sum_lines.specs.grammar.Form.{IsForm};
 ghost use Rattle.sum_lines.specs.grammar.LineLaws.{IsWritable, SpellsBack};
 ghost use Rattle.sum_lines.specs.grammar.ParsedLines.{entry, parse_line};
 ghost use Rattle.sum_lines.specs.grammar.Shapes.{IsTagged};
+ghost use Rattle.sum_settings.specs.declared.style.Mode.TheVariants.{Tag};
+ghost use Rattle.sum_settings.specs.declared.style.Style.{Style};
 
 use sum_lines::laws;
 
@@ -44,8 +46,8 @@ pub fn same_form()
 
 /// If the grammar takes a line for an entry, that entry is what is computed.
 pub fn entry_is_computed()
-    ensures { (p : Profile) (algos : Algos) (f : Form) (line : ByteString) (s : EntryValue)
-        → IsEntry (escape_by p) algos f line s → parse_line p algos f line ≡ entry s }
+    ensures { (algos : Algos) (f : Form) (line : ByteString) (s : EntryValue)
+        → IsEntry escape algos f line s → parse_line algos f line ≡ entry s }
 {
     laws::parse_is_grammar();
 }

@@ -14,7 +14,7 @@ struct Writer {
     most: usize,
     fails: Range<u32>,
     kind: ErrorKind,
-    // what it was called for
+    // How often each call was made, how many bytes were offered to it in all, and which it accepted.
     writes: u32,
     offered: usize,
     flushes: u32,

@@ -1,5 +1,5 @@
 //! What a call is asked to do, and why it stops early: what a command line is read into, and what the calls above take
-//! and return. Of our crates it calls `digest_kinds`.
+//! and return. Also how often an interrupted call of the system is tried again. Of our crates it calls `digest_kinds`.
 //!
 //! ```rust
 //! let settings = CheckSettings {
@@ -9,10 +9,12 @@
 //! ```
 #![tactic(auto)]
 
+mod interruptions;
 mod settings;
 mod stop;
 mod style;
 
+pub use interruptions::INTERRUPTION_LIMIT;
 pub use settings::{CheckSettings, Report, Settings};
 pub use stop::{NoRoom, Stop};
 pub use style::{Mode, Style};

@@ -1,8 +1,11 @@
 -- Bytes cut at their newlines.
-use Rattle.std.proofs.Common.{◌≡◌, ℕ, List, [], ◌∷◌, ◌++◌, refl, ap, ◌∙◌, append_assoc, inl, inr, false, All, arith, rules}
-use Rattle.std.specs.Prelude.{flat_map}
-use Rattle.std.{specs.Char.is_newline, proofs.lemmas.Bool.Decides.eqb_tells, proofs.lemmas.List.Elements.All-nil, proofs.lemmas.List.Elements.All-cons, proofs.lemmas.List.Elements.All-head, proofs.lemmas.List.Elements.All-tail}
-use Rattle.sum_sources.specs.{declared.fault.Ending.Ending, ManifestLines.HasNoNewline, ManifestLines.last_line, ManifestLines.raw_lines}
+use Rattle.std.proofs.Common.{◌≡◌, ℕ, List, [], ◌∷◌, ◌++◌, refl, ap, ◌∙◌, append_assoc, inl, inr, false, All, arith}
+use Rattle.std.proofs.Common.{rules}
+use Rattle.std.proofs.lemmas.List.Elements.{All-nil, All-cons, All-head, All-tail}
+use Rattle.std.proofs.{lemmas.Bool.Decides.eqb_tells}
+use Rattle.std.specs.{Prelude.flat_map, Char.is_newline}
+use Rattle.sum_sources.specs.ManifestLines.{HasNoNewline, last_line, raw_lines}
+use Rattle.sum_sources.specs.{declared.fault.Ending.Ending}
 use Rattle.sum_sources.proofs.LineLemmas.{pieces-newline, pieces-last}
 
 -- these pieces, each ended by a newline, and then the tail

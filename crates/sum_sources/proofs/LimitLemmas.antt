@@ -1,7 +1,12 @@
 -- `read_limited`: what an input's end, its fault and the limit say of its contents.
-use Rattle.std.proofs.Common.{◌≡◌, ℕ, zero, suc, ◌+◌, ◌-◌, ◌^◌, ◌<◌, ◌≤◌, [], ◌∷◌, ◌++◌, List, max, length, take, Result, Ok, Err, refl, arith, length-append, ap, append-nil, append_assoc, sym, ◌∙◌}
-use Rattle.std.{specs.Result.result_unwrap_or, proofs.Math.Seq.take-append_seam, proofs.lemmas.List.length-take-le, proofs.lemmas.List.take-append-le, proofs.lemmas.List.drop-append-le}
-use Rattle.sum_sources.specs.{Contents.Content, Contents.Reads, Contents.InputState, Contents.Fits, Contents.clip, Contents.limit, Contents.Ending, Contents.Whole, Contents.Other, Contents.Fault, Contents.Broken, Contents.and_read, Contents.reads_past, Contents.Unfinished, Contents.Ended, private.LimitedReads.FindsEnding, private.LimitedReads.AddsLimited}
+use Rattle.std.proofs.Common.{◌≡◌, ℕ, zero, suc, ◌+◌, ◌-◌, ◌^◌, ◌<◌, ◌≤◌, [], ◌∷◌, ◌++◌, List, max, length, take}
+use Rattle.std.proofs.Common.{Result, Ok, Err, refl, arith, length-append, ap, append-nil, append_assoc, sym, ◌∙◌}
+use Rattle.std.proofs.lemmas.List.{length-take-le, take-append-le, drop-append-le}
+use Rattle.std.proofs.{Math.Seq.take-append_seam}
+use Rattle.std.specs.{Result.result_unwrap_or}
+use Rattle.sum_sources.specs.Input.{Content, Reads, InputState, Fits, clip, state_after_read, reads_past, limit}
+use Rattle.sum_sources.specs.{Fault.Ending, Fault.Whole, Fault.Other, Fault.Fault, Fault.Broken, Input.Ended}
+use Rattle.sum_sources.specs.{Input.Unfinished, private.SizeLimit.FindsEnding, private.SizeLimit.AddsLimited}
 use Rattle.sum_sources.proofs.ContentLemmas.{limit-value, clip-short}
 
 -- an input, of which the bytes past the first m count
@@ -17,7 +22,7 @@ before_more a b more going is c of =
 
 -- a read adds the same bytes if only those past the first m count
 pub past_read : (m : ℕ) (a b : InputState) (given : List ℕ) (r : Result ℕ Fault) → m ≤ length a.reads.bytes
-    → b ≡ and_read a given r → past m b ≡ and_read (past m a) given r
+    → b ≡ state_after_read a given r → past m b ≡ state_after_read (past m a) given r
 past_read m a b given r low is = rw (is, drop-append-le m a.reads.bytes (take (result_unwrap_or r 0) given) low) refl
 
 module _ (a b : InputState) (t : ℕ) (going : a.reads.phase ≡ Unfinished) (few : t < 2 ^ 61) where
@@ -52,14 +57,14 @@ module _ (a b : InputState) (t : ℕ) (going : a.reads.phase ≡ Unfinished) (fe
           grind (arith, limit-value, size, last, sum, sum2, front, begins)
 
   -- a read failed, so its fault was found
-  pub read_fails : (f : Fault) (given : List ℕ) → 0 < length given → b ≡ and_read a given (Err f)
+  pub read_fails : (f : Fault) (given : List ℕ) → 0 < length given → b ≡ state_after_read a given (Err f)
       → FindsEnding t a.reads b.reads (Broken f)
   read_fails f [] some is = absurd (omega arith)
   read_fails f (x ∷ xs) some is = finds_ending (Broken f) (rw (is, going, append-nil) refl)
 
   -- the byte that was read reached the limit, so the fault for that was found
   pub read_reaches : (n : ℕ) (given : List ℕ) → 0 < length given → n ≤ length given → t + n ≡ 2 ^ 61
-      → length given ≤ max (2 ^ 61 - 1 - t) 1 → b ≡ and_read a given (Ok n)
+      → length given ≤ max (2 ^ 61 - 1 - t) 1 → b ≡ state_after_read a given (Ok n)
       → FindsEnding t a.reads b.reads (Broken Other)
   read_reaches n [] some fits last bound is = absurd (omega arith)
   read_reaches zero (x ∷ xs) some fits last bound is = absurd (omega (arith, few))
@@ -70,7 +75,7 @@ module _ (a b : InputState) (t : ℕ) (going : a.reads.phase ≡ Unfinished) (fe
 
   -- a read gave bytes, or the end was found
   pub read_gives : (n : ℕ) (given rest : List ℕ) → 0 < length given → n ≤ length given
-      → b ≡ and_read a given (Ok n) → AddsLimited t a.reads b.reads (take n (given ++ rest)) (Ok n)
+      → b ≡ state_after_read a given (Ok n) → AddsLimited t a.reads b.reads (take n (given ++ rest)) (Ok n)
   read_gives n [] rest some fits is = absurd (omega arith)
   read_gives zero (x ∷ xs) rest some fits is = finds_ending Whole (rw (is, going, append-nil) refl)
   read_gives (suc n) (x ∷ xs) rest some fits is = rw (is, going, take-append-le) refl

@@ -1,8 +1,14 @@
 -- Pieces and lines at the steps of the line reader.
-use Rattle.std.{specs.Char.is_newline, proofs.lemmas.Grind.common_steps, proofs.lemmas.List.append-nil, proofs.lemmas.List.Splits.slice_split_at, proofs.lemmas.List.Splits.slice_split_none, proofs.lemmas.List.Splits.length-slice_split, specs.List.after_first, specs.Str.Lines.strip_carriage_return, proofs.lemmas.List.Elements.All-head, proofs.lemmas.List.Elements.All-tail}
-use Rattle.std.proofs.Common.{◌≡◌, ℕ, ◌<◌, false, List, [], ◌∷◌, ◌++◌, length, map, Ok, Err, refl, ap, append_assoc, arith, rules}
-use Rattle.sum_sources.specs.{Faults.Fault, Contents.Ending, Contents.Broken, Contents.Content, Contents.empty_content, ManifestLines.Line, ManifestLines.last_line, ManifestLines.raw_lines, ManifestLines.lines, ManifestLines.past_line, ManifestLines.HasNoNewline, ManifestLines.IsNextLine}
-use Rattle.sum_sources.proofs.ContentLemmas.{with_prefix}
+use Rattle.std.specs.{Char.is_newline, List.after_first, Str.Lines.strip_carriage_return}
+use Rattle.std.proofs.lemmas.List.Splits.{slice_split_at, slice_split_none, length-slice_split}
+use Rattle.std.proofs.lemmas.List.Elements.{All-head, All-tail}
+use Rattle.std.proofs.Common.{◌≡◌, ℕ, ◌<◌, false, List, [], ◌∷◌, ◌++◌, length, map, Ok, Err, refl, ap, append_assoc}
+use Rattle.std.proofs.Common.{arith, rules}
+use Rattle.std.proofs.{lemmas.Grind.common_steps, lemmas.List.append-nil}
+use Rattle.sum_sources.specs.ManifestLines.{Line, last_line, raw_lines, lines, past_line, HasNoNewline}
+use Rattle.sum_sources.specs.ManifestLines.{IsNextLine}
+use Rattle.sum_sources.specs.{Fault.Fault, Fault.Ending, Fault.Broken, Input.Content, Input.empty_content}
+use Rattle.sum_sources.proofs.{ContentLemmas.with_prefix}
 use Rattle.sum_sources.specs.declared.line_reader.LineStop.TheVariants as stops
 
 -- a newline ends the first piece
@@ -57,5 +63,6 @@ some_bytes : (bytes line : List ℕ) (e : Ending) (ls : List (List ℕ))
     → lines (record { bytes = bytes; ending = e }) ≡ line ∷ ls → 0 < length bytes
 some_bytes bytes line e ls is = grind (arith, common_steps, lines-nil)
 
+-- so has one before its first line
 pub line-some : (c d : Content) (line : List ℕ) → IsNextLine c d (Ok Line) line → 0 < length c.bytes
 line-some c d line is = some_bytes c.bytes line c.ending (lines d) is.0

@@ -1,14 +1,19 @@
 -- What was read so far of a line, and what reading on adds to it.
-use Rattle.std.proofs.Common.{rules, ◌≡◌, ℕ, zero, suc, ◌+◌, ◌-◌, ◌^◌, ◌<◌, ◌≤◌, true, false, List, [], ◌∷◌, ◌++◌, length, take, drop, None, Some, Result, subst, length-drop, Ok, Err, refl, ap, sym, ◌∙◌, append_assoc, arith, length-append}
-use Rattle.std.specs.Prelude.{nat_lt, if◌then◌else◌}
-use Rattle.std.{specs.Char.is_newline, proofs.Math.Seq.take-append-add, proofs.Math.Seq.drop-append_seam, proofs.lemmas.List.drop_all, proofs.lemmas.List.Elements.All-append, specs.Str.Lines.strip_carriage_return}
+use Rattle.std.proofs.Common.{rules, ◌≡◌, ℕ, zero, suc, ◌+◌, ◌-◌, ◌^◌, ◌<◌, ◌≤◌, true, false, List, [], ◌∷◌, ◌++◌}
+use Rattle.std.proofs.Common.{length, take, drop, None, Some, Result, subst, length-drop, Ok, Err, refl, ap, sym, ◌∙◌}
+use Rattle.std.proofs.Common.{append_assoc, arith, length-append}
+use Rattle.std.proofs.Math.Seq.{take-append-add, drop-append_seam}
+use Rattle.std.proofs.{lemmas.List.drop_all, lemmas.List.Elements.All-append}
+use Rattle.std.specs.{Prelude.nat_lt, Prelude.if◌then◌else◌, Char.is_newline, Str.Lines.strip_carriage_return}
 use Rattle.sum_sources.specs.ManifestLines.{Next, Line, NoMore, LineStop, HasNoNewline, IsNextLine, past_line}
-use Rattle.sum_sources.specs.Contents.{Ending, Whole, Broken, Content, InputState, Reads, Fault, Fits, Other, clip, limit, reads_past, Ended, Past}
-use Rattle.sum_sources.specs.LineReaders.{LineReaderValue, consumed_count, content_past, reads_of, remaining_content, IsUnderWay, IsReading, ReadsOn}
-use Rattle.sum_sources.specs.private.LimitedReads.{FindsEnding, AddsLimited, AddsPast, CountsBytes}
-use Rattle.sum_sources.specs.{LineStates.FillsReader, LineStates.TakesPiece}
+use Rattle.sum_sources.specs.LineReader.{LineReaderValue, consumed_count, content_past, reads_of, remaining_content}
+use Rattle.sum_sources.specs.LineReader.{IsUnderWay, IsReading, ReadsOn, FillsReader, TakesPiece}
+use Rattle.sum_sources.specs.private.SizeLimit.{FindsEnding, AddsLimited, AddsPast, CountsBytes}
+use Rattle.sum_sources.specs.Input.{Content, InputState, Reads, Fits, Ended, Past, clip, limit, reads_past}
+use Rattle.sum_sources.specs.Fault.{Ending, Whole, Broken, Fault, Other}
+use Rattle.sum_sources.proofs.LineLemmas.{lines-nil, past_line-piece, IsNextLine-ended}
+use Rattle.sum_sources.proofs.{ContentLemmas.with_prefix, ContentLemmas.limit-value, LimitLemmas.before_more}
 use Rattle.sum_sources.specs.declared.line_reader.LineStop.TheVariants as stops
-use Rattle.sum_sources.proofs.{ContentLemmas.with_prefix, ContentLemmas.limit-value, LimitLemmas.before_more, LineLemmas.lines-nil, LineLemmas.past_line-piece, LineLemmas.IsNextLine-ended}
 
 -- the content without bytes that has this ending
 abbrev just : Ending → Content
@@ -209,6 +214,7 @@ answer_by (Broken f) = Err (stops.Fault f)
 pub no_line : (e : Ending) (line : List ℕ) → IsNextLine (just e) (just e) (answer_by e) line
 no_line e line = grind (arith, lines-nil)
 
+-- only a whole ending gives the answer that no line remains
 whole_by : (e : Ending) → answer_by e ≡ Ok NoMore → e ≡ Whole
 whole_by e is = grind arith
 

@@ -1,13 +1,20 @@
 -- `WithStdin`: what an opening and a closing keep.
-use Rattle.std.proofs.Common.{◌≡◌, ℕ, true, false, List, [], ◌∷◌, ◌++◌, length, append-nil, Option, None, Some, Result, Ok, IfSome, refl, ap, sym, ◌∙◌, codes, bytes_eq, arith}
+use Rattle.std.proofs.Common.{◌≡◌, ℕ, true, false, List, [], ◌∷◌, ◌++◌, length, append-nil, Option, None, Some, Result}
+use Rattle.std.proofs.Common.{Ok, IfSome, refl, ap, sym, ◌∙◌, codes, bytes_eq, arith}
+use Rattle.std.proofs.{lemmas.Slice.Eq.bytes_eq-Decides, lemmas.List.Elements.filter-append}
 use Rattle.std.specs.Prelude.{◌==◌, not, if◌then◌else◌, slice_get}
-use Rattle.std.{specs.Option.option_and_then, specs.Option.option_map, specs.Result.result_ok, proofs.lemmas.Slice.Eq.bytes_eq-Decides, proofs.lemmas.List.Elements.filter-append}
-use Rattle.sum_sources.specs.Contents.{Content, InputState, Reads, Fault, HasContent, empty_reads, empty_content, Whole, Unfinished}
-use Rattle.sum_sources.specs.StandardInput.{closable_state, GivesUnread, given_input, is_untaken, put_back, after_taking, StdinPlace}
-use Rattle.sum_sources.specs.Sources.{Answer, Opening, SourceState, ToldAnswers, names_of, times, gave_of, openings_after, opened_file, IsOpen, FitsAnswer}
-use Rattle.sum_sources.specs.WithStdin.{is_dash, first_or_later, answer_of_both, with_stdin_state, state_without_dash, other_openings}
-use Rattle.sum_sources.specs.{WithStdinLaws.gave-both, WithStdinStates.IsPlaceOf, WithStdinStates.GivesStdin, WithStdinStates.IsSoundWithStdin, declared.inputs.closable.Closable.Closable, declared.inputs.closable.Closable.TheVariants.Closed}
-use Rattle.sum_sources.proofs.GaveLemmas.{same_name, none_agrees, of_content, gives-more, gives-closed, gave-times, gave-append, gave-opening, gave-closing}
+use Rattle.std.specs.{Option.option_and_then, Option.option_map, Result.result_ok}
+use Rattle.sum_sources.specs.Input.{Content, InputState, Reads, HasContent, empty_reads, empty_content}
+use Rattle.sum_sources.specs.Source.{AnswerValue, Opening, SourceState, ToldAnswers, names_of, times, results_of}
+use Rattle.sum_sources.specs.Source.{openings_after_closing, opened_file, IsOpen, FitsAnswer}
+use Rattle.sum_sources.specs.WithStdin.{is_dash, first_or_later, answer_of_both, with_stdin_state, state_without_dash}
+use Rattle.sum_sources.specs.WithStdin.{other_openings, IsPlaceOf, GivesStdin, IsSoundWithStdin}
+use Rattle.sum_sources.specs.{Fault.Fault, Fault.Whole, Stdin.is_untaken, Stdin.StdinPlace}
+use Rattle.sum_sources.specs.{Input.Unfinished, Stdin.GivesUnread, Stdin.given_input, SourceLaws.results-both}
+use Rattle.sum_sources.specs.{Stdin.closable_state, Stdin.stdin_after_taking, declared.inputs.stdin.Closable.Closable}
+use Rattle.sum_sources.specs.{Stdin.stdin_after_put_back, declared.inputs.stdin.Closable.TheVariants.Closed}
+use Rattle.sum_sources.proofs.GaveLemmas.{same_name, none_agrees, of_content, gives-more, gives-closed, gave-times}
+use Rattle.sum_sources.proofs.GaveLemmas.{gave-append, gave-opening, gave-closing}
 
 -- names that differ also differ the other way round
 turned : (a b : List ℕ) → bytes_eq a b ≡ false → bytes_eq b a ≡ false
@@ -15,16 +22,18 @@ turned a b apart = grind (arith, bytes_eq-Decides)
 
 -- ---- what is in memory
 
-ok_again : (c : Option Content) → option_and_then result_ok (option_map {U = Answer} Ok c) ≡ c
+-- a content is the content of the answer that it makes
+ok_again : (c : Option Content) → option_and_then result_ok (option_map {U = AnswerValue} Ok c) ≡ c
 ok_again c = grind arith
 
 -- ---- the invariant
 
--- the openings without those of `-`: none of `-` is left, and what is left stays
-other_openings-dash : (os : List Opening) → gave_of (other_openings os) (codes "-") ≡ []
+-- the openings without those of `-`: none of `-` is left
+other_openings-dash : (os : List Opening) → results_of (other_openings os) (codes "-") ≡ []
 other_openings-dash [] = refl
 other_openings-dash (o ∷ os) = grind (arith, other_openings-dash os, turned (codes "-") o.name)
 
+-- and what is left stays
 other_openings-again : (os : List Opening) → other_openings (other_openings os) ≡ other_openings os
 other_openings-again [] = refl
 other_openings-again (o ∷ os) = grind (arith, other_openings-again os)
@@ -37,8 +46,8 @@ other_openings-opening os o =
 
 -- after a closing
 other_openings-closing : (os : List Opening) (name : List ℕ) (k : ℕ) (r : Reads)
-    → other_openings (openings_after os name k r)
-    ≡ (if is_dash name then other_openings os else openings_after (other_openings os) name k r)
+    → other_openings (openings_after_closing os name k r)
+    ≡ (if is_dash name then other_openings os else openings_after_closing (other_openings os) name k r)
 other_openings-closing [] name k r = grind arith
 other_openings-closing (o ∷ os) name k r = grind (arith, other_openings-closing os, bytes_eq-Decides)
 
@@ -61,7 +70,7 @@ module _ {I : Type 0} {state : I → InputState} {first stdin : StdinPlace I} {o
         (fs ++ record { name = name; gave = gave } ∷ [])
     kept_opening name gave apart =
         let o : Opening = record { name = name; gave = gave } in
-        let same : gave_of (os ++ o ∷ []) (codes "-") ≡ gave_of os (codes "-") =
+        let same : results_of (os ++ o ∷ []) (codes "-") ≡ results_of os (codes "-") =
         rw (gave-opening os o (codes "-"), turned (codes "-") name apart) refl in
         record {
           untaken = kept.untaken;
@@ -71,12 +80,12 @@ module _ {I : Type 0} {state : I → InputState} {first stdin : StdinPlace I} {o
         }
 
     -- the invariant is kept if `-` was opened
-    pub kept_stdin : (name : List ℕ) (new : StdinPlace I) → is_dash name ≡ true → new ≡ after_taking stdin
+    pub kept_stdin : (name : List ℕ) (new : StdinPlace I) → is_dash name ≡ true → new ≡ stdin_after_taking stdin
         → IsSoundWithStdin state first new (os ++ record { name = name; gave = None } ∷ []) fs
     kept_stdin name new is takes =
         let o : Opening = record { name = name; gave = None } in
         let same : codes "-" ≡ name = same_name (codes "-") name is in
-        let more : gave_of (os ++ o ∷ []) (codes "-") ≡ gave_of os (codes "-") ++ None ∷ [] =
+        let more : results_of (os ++ o ∷ []) (codes "-") ≡ results_of os (codes "-") ++ None ∷ [] =
         gave-append os (o ∷ []) (codes "-") ∙ rw (← same) refl in
         record {
           untaken = kept.untaken;
@@ -89,9 +98,9 @@ module _ {I : Type 0} {state : I → InputState} {first stdin : StdinPlace I} {o
 
     -- the invariant is kept if a file of another name than `-` was closed in the source
     pub kept_closing : (name : List ℕ) (k : ℕ) (r : Reads) → is_dash name ≡ false
-        → IsSoundWithStdin state first stdin (openings_after os name k r) (openings_after fs name k r)
+        → IsSoundWithStdin state first stdin (openings_after_closing os name k r) (openings_after_closing fs name k r)
     kept_closing name k r apart =
-        let same : gave_of (openings_after os name k r) (codes "-") ≡ gave_of os (codes "-") =
+        let same : results_of (openings_after_closing os name k r) (codes "-") ≡ results_of os (codes "-") =
         rw (gave-closing os name k r (codes "-"), turned (codes "-") name apart) refl in
         record {
           untaken = kept.untaken;
@@ -102,9 +111,9 @@ module _ {I : Type 0} {state : I → InputState} {first stdin : StdinPlace I} {o
 
     -- the invariant is kept if standard input was put back
     pub kept_back : (name : List ℕ) (k : ℕ) (r : Reads) (given : Closable I) → is_dash name ≡ true
-        → slice_get (gave_of os name) k ≡ Some None
+        → slice_get (results_of os name) k ≡ Some None
         → GivesStdin (closable_state state (given_input first)) k (Some (Ok r))
-        → IsSoundWithStdin state first (put_back stdin given) (openings_after os name k r) fs
+        → IsSoundWithStdin state first (stdin_after_put_back stdin given) (openings_after_closing os name k r) fs
     kept_back name k r given is was one =
         let same : codes "-" ≡ name = same_name (codes "-") name is in
         let now = gave-closing os (codes "-") k r (codes "-") in
@@ -131,7 +140,8 @@ module _ {I : Type 0} {state : I → InputState} {first stdin : StdinPlace I} (t
         → times name (names_of source.openings) ≡ times name (names_of log.openings)
     times_there name apart =
         sym (gave-times source.openings name)
-        ∙ ap length (sym (gave-both log.openings source.openings kept.files name apart)) ∙ gave-times log.openings name
+        ∙ ap length (sym (results-both log.openings source.openings kept.files name apart))
+        ∙ gave-times log.openings name
 
     -- what opening `-` gives is standard input, as it was given
     pub stdin_opened : (name : List ℕ) (given : Closable I)
@@ -168,7 +178,7 @@ module _ {I : Type 0} {state : I → InputState} {first stdin : StdinPlace I} (t
     pub open_there : (file : InputState) → is_dash file.name ≡ false
         → IsOpen (answer_of_both tells) (with_stdin_state state first log source) file → IsOpen tells source file
     open_there file apart here = record {
-      opening = rw (← gave-both log.openings source.openings kept.files file.name apart) here.opening;
+      opening = rw (← results-both log.openings source.openings kept.files file.name apart) here.opening;
       told = rw apart at here.told;
     }
 

@@ -1,22 +1,22 @@
 -- The law of inputs, with its proofs: what was read of an input fits a content, the one in memory if there is one.
 use Rattle.std.proofs.Common.{rules, ℕ, [], None, refl, drop}
 use Rattle.std.proofs.lemmas.List.{take-append-drop}
-use Rattle.sum_sources.specs.Contents.{Content, InputState, HasContent, Fits, IsReadTo, Whole, empty_content, Phase}
-use Rattle.sum_sources.specs.{Contents.Unfinished, Contents.Ended, Contents.Past, Faults.ByteString}
-use Rattle.sum_sources.specs.StandardInput.{told_reads, ToldContent, told_file, closable_state}
-use Rattle.sum_sources.specs.declared.inputs.closable.Closable.{Closable, TheVariants.Open, TheVariants.Closed}
-
--- ---- inputs in memory
+use Rattle.digest_kinds.specs.Bytes.{ByteString}
+use Rattle.sum_sources.specs.Input.{Content, InputState, HasContent, Fits, IsReadTo, told_reads, empty_content}
+use Rattle.sum_sources.specs.{Fault.Whole, Input.Phase, Input.Unfinished, Input.Ended, Input.Past}
+use Rattle.sum_sources.specs.{Told.ToldValue, Told.told_state, Stdin.closable_state, Place.place_state}
+use Rattle.sum_sources.specs.declared.sources.opened.Place.{Place, TheVariants.Stdin, TheVariants.File}
+use Rattle.sum_sources.specs.declared.inputs.stdin.Closable.{Closable, TheVariants.Open, TheVariants.Closed}
 
 -- what reads of a content gave fits it
-pub told_reads_fit : (c : Content) (n : ℕ) (phase : Phase) → Fits (told_reads c n phase) c
-told_reads_fit c n Unfinished = (drop n c.bytes, Prim.search (rules, take-append-drop))
-told_reads_fit c n (Ended e) = refl
-told_reads_fit c n Past = tt
+pub told_reads_fit : (content : Content) (n : ℕ) (phase : Phase) → Fits (told_reads content n phase) content
+told_reads_fit content n Unfinished = (drop n content.bytes, Prim.search (rules, take-append-drop))
+told_reads_fit content n (Ended ending) = refl
+told_reads_fit content n Past = tt
 
 -- the law of an input in memory
-pub told_file_has_content : (t : ToldContent) → HasContent (told_file t)
-told_file_has_content t = (t.content, refl, told_reads_fit t.content t.given t.phase)
+pub told_has_content : (told : ToldValue) → HasContent (told_state told)
+told_has_content told = (told.content, refl, told_reads_fit told.content told.given told.phase)
 
 -- the law of an input that may be closed
 pub closable_has_content : {I : Type 0} (state : I → InputState) (has : (i : I) → HasContent (state i))
@@ -24,14 +24,19 @@ pub closable_has_content : {I : Type 0} (state : I → InputState) (has : (i : I
 closable_has_content state has (Open i) = has i
 closable_has_content state has (Closed e phase) = (_, refl, told_reads_fit (record { bytes = []; ending = e }) 0 phase)
 
--- ---- inputs that aren't in memory
+-- the law of what was opened beside standard input
+pub opened_has_content : {I F : Type 0} (stdin : I → InputState) (file : F → InputState)
+    → ((i : I) → HasContent (stdin i)) → ((f : F) → HasContent (file f)) → (p : Place I F)
+    → HasContent (place_state stdin file p)
+opened_has_content stdin file has has_file (Stdin given log) = closable_has_content stdin has given
+opened_has_content stdin file has has_file (File f) = has_file f
 
 -- a content that these reads fit
-pub some_content : (bytes : ByteString) (phase : Phase) → (c : Content) × IsReadTo phase bytes c
+pub some_content : (bytes : ByteString) (phase : Phase) → (content : Content) × IsReadTo phase bytes content
 some_content bytes Unfinished = (record { bytes = bytes; ending = Whole }, ([], Prim.search rules))
-some_content bytes (Ended e) = (_, refl)
+some_content bytes (Ended ending) = (_, refl)
 some_content bytes Past = (empty_content, tt)
 
 -- the law of any other input
-pub real_has_content : (s : InputState) → HasContent (record s { told = None })
-real_has_content s = let (c, of) = some_content s.reads.bytes s.reads.phase in (c, tt, of)
+pub untold_has_content : (s : InputState) → HasContent (record s { told = None })
+untold_has_content s = let (c, of) = some_content s.reads.bytes s.reads.phase in (c, tt, of)

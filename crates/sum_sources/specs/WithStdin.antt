@@ -1,13 +1,13 @@
 -- Standard input and a source of files, as one source.
-use Rattle.std.specs.Prelude.{ℕ, zero, suc, Bool, true, false, ◌≡◌, ◌∷◌, codes, bytes_eq, filter, not, Option, None}
-use Rattle.std.specs.Prelude.{Some, Ok, List, [], if◌then◌else◌, option_map}
-use Rattle.sum_sources.specs.Contents.{Content, InputState, HasContent, empty_content}
-use Rattle.sum_sources.specs.StandardInput.{closable_state, given_input, after_taking, put_back, StdinPlace}
-use Rattle.sum_sources.specs.Sources.{Answers, Pair, ToldAnswers, SourceState, Opening, after_closing}
-use Rattle.sum_sources.specs.{Faults.ByteString, InputLaws.closable_has_content}
-use Rattle.sum_sources.specs.declared.sources.opened.Place.{Place, TheVariants.Stdin, TheVariants.File}
+use Rattle.std.specs.Prelude.{ℕ, zero, suc, Bool, true, false, ◌≡◌, List, [], ◌∷◌, codes, bytes_eq, filter, not, Option}
+use Rattle.std.specs.Prelude.{None, Some, Result, Ok, IfSome, if◌then◌else◌, option_map}
+use Rattle.digest_kinds.specs.Bytes.{ByteString}
+use Rattle.sum_sources.specs.{Fault.Fault, Source.result_at}
+use Rattle.sum_sources.specs.Input.{Content, InputState, Reads, empty_content}
+use Rattle.sum_sources.specs.Stdin.{StdinPlace, closable_state, given_input, is_untaken}
+use Rattle.sum_sources.specs.Source.{Answers, Pair, ToldAnswers, SourceState, Opening, FitsAnswer, results_of}
 
--- the name of standard input
+-- whether a name is that of standard input
 abbrev pub is_dash : ByteString → Bool
 is_dash name = bytes_eq (codes "-") name
 
@@ -28,46 +28,36 @@ answer_of_both tells (stdin ∷ told) name k =
 
 -- the answers of both, if all are told
 abbrev pub answers_with : Content → Answers → Answers
-answers_with c answer name k = if is_dash name then first_or_later (Ok c) (Ok empty_content) k else answer name k
+answers_with told answer name k = if is_dash name then first_or_later (Ok told) (Ok empty_content) k else answer name k
 
 -- the state of both: standard input at first, what was opened so far, and the source
 abbrev pub with_stdin_state : {I : Type 0} → (I → InputState) → StdinPlace I → SourceState → SourceState → SourceState
-with_stdin_state state first log source = let stdin = (closable_state state (given_input first)).told in
+with_stdin_state state_of first log source = let stdin = (closable_state state_of (given_input first)).told in
     record source { told = pairs_with_stdin stdin source.told; openings = log.openings }
 
 -- the openings of names other than `-`
 abbrev pub other_openings : List Opening → List Opening
-other_openings os = filter (λ o. not (is_dash o.name)) os
+other_openings openings = filter (λ o. not (is_dash o.name)) openings
 
 -- a source, without what it opened itself by the name `-`
 abbrev pub state_without_dash : SourceState → SourceState
-state_without_dash s = record s { openings = other_openings s.openings }
+state_without_dash source = record source { openings = other_openings source.openings }
 
--- the state of what was opened
-abbrev pub place_state : {I F : Type 0} → (I → InputState) → (F → InputState) → Place I F → InputState
-place_state stdin file (Stdin given log) =
-    record (closable_state stdin given) { name = log.name; opening = log.opening }
-place_state stdin file (File f) = file f
+-- standard input is as it was at first if `-` wasn't opened, and is taken otherwise
+abbrev pub IsPlaceOf : {I : Type 0} → StdinPlace I → StdinPlace I → List (Option (Result Reads Fault)) → Type 0
+IsPlaceOf first stdin [] = stdin ≡ first
+IsPlaceOf first stdin (x ∷ xs) = is_untaken stdin ≡ false
 
--- whether standard input was opened
-abbrev pub is_stdin : {I F : Type 0} → Place I F → Bool
-is_stdin (Stdin given log) = true
-is_stdin (File f) = false
+-- what an opening of `-` gave fits its answer, if one is told
+abbrev pub GivesStdin : InputState → ℕ → Option (Result Reads Fault) → Type 0
+GivesStdin untaken k gave = IfSome (first_or_later (option_map Ok untaken.told) (Some (Ok empty_content)) k)
+    (λ told. IfSome gave (FitsAnswer told))
 
--- what was opened is what taking standard input gives
-abbrev pub TakesStdin : {I F : Type 0} → StdinPlace I → StdinPlace I → Place I F → Type 0
-TakesStdin old new (Stdin given log) = (given ≡ given_input old) × (new ≡ after_taking old)
-TakesStdin old new (File f) = ⊥
-
--- closing `-` puts standard input back, and closing another file closes it in the source; the other is unchanged
-abbrev pub closed_place : {I F : Type 0} → (F → InputState) → Place I F → StdinPlace I → SourceState
-    → StdinPlace I × SourceState
-closed_place state (Stdin given log) stdin source = (put_back stdin given, source)
-closed_place state (File f) stdin source = (stdin, after_closing source (state f))
-
--- the reads of what was opened fit a content
-pub opened_has_content : {I F : Type 0} (stdin : I → InputState) (file : F → InputState)
-    → ((i : I) → HasContent (stdin i)) → ((f : F) → HasContent (file f)) → (p : Place I F)
-    → HasContent (place_state stdin file p)
-opened_has_content stdin file has has_file (Stdin given log) = closable_has_content stdin has given
-opened_has_content stdin file has has_file (File f) = has_file f
+-- the invariant of standard input at first and now, the openings of both, and those of the source
+pub record IsSoundWithStdin {I : Type 0} (state_of : I → InputState) (first stdin : StdinPlace I)
+    (openings of_source : List Opening) : Type 0 where
+  pub untaken : is_untaken first ≡ true
+  pub place : IsPlaceOf first stdin (results_of openings (codes "-"))
+  pub given : (k : ℕ) → GivesStdin (closable_state state_of (given_input first)) k (result_at openings (codes "-") k)
+  -- the other names were opened in the source
+  pub files : other_openings openings ≡ other_openings of_source

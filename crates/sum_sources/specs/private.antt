@@ -1,1 +1,1 @@
-pub mod LimitedReads
+pub mod SizeLimit

@@ -1,6 +1,6 @@
 //! Faults of opening and reading, and how an input ends.
 ghost use Rattle.std.specs.Prelude.{◌≡◌, map, MatchResult};
-ghost use Rattle.sum_sources.specs.Faults.{fault_text, fault_of_number, fault_of_kind, reason, reasons};
+ghost use Rattle.sum_sources.specs.Fault.{fault_text, fault_of_number, fault_of_kind, reason, reason_table};
 
 use std::io::ErrorKind;
 use std::{error, fmt};
@@ -87,7 +87,7 @@ pub(crate) fn fault_of_kind(kind: ErrorKind) -> Fault
 fn reason(number: i32) -> &'static str
     ensures { result.now ≡ reason number }
 {
-    let reasons = reasons();
+    let reasons = reason_table();
     match usize::try_from(number) {
         Ok(place) if place < reasons.len() => reasons[place],
         _ => "",
@@ -95,9 +95,9 @@ fn reason(number: i32) -> &'static str
 }
 
 // The table below.
-#[tactic(auto, unfolding(crate::specs::Faults::reasons))]
-fn reasons() -> &'static [&'static str]
-    ensures { map (λ text. text.now) result.now ≡ reasons }
+#[tactic(auto, unfolding(crate::specs::Fault::reason_table))]
+fn reason_table() -> &'static [&'static str]
+    ensures { map (λ text. text.now) result.now ≡ reason_table }
 {
     &REASONS
 }

@@ -1,5 +1,6 @@
 //! Where bytes come from: inputs and sources of files, in memory and real ones, the digest of an input, and the lines
-//! of a manifest. Of our crates it calls `digest_kinds` and `ghost_log`.
+//! of a manifest. Of our crates it calls `digest_kinds`, `ghost_log` and
+//! `sum_settings`.
 //!
 //! Inputs and sources keep logs of what their calls gave. Only proofs see them. The code that opens a file must close
 //! it.
@@ -21,15 +22,14 @@ mod system;
 
 pub use fault::{EBADF, Ending, Fault};
 pub use inputs::hash_input::{hash_input, hash_input_over};
-pub use inputs::input::{Input, PIECE};
-pub use inputs::phase::Phase;
-pub use inputs::read_log::{ReadLog, ReadNote, Reads};
+pub use inputs::input::{Input, PIECE, Phase};
+pub use inputs::input_log::{InputCalls, InputLog, ReadNote};
 pub use inputs::stdin::{Given, Stdin};
 pub use inputs::told::Told;
 pub use line_reader::{LineReader, LineStop, Next};
 pub use sources::hash_file::{HashFault, hash_file, hash_file_over};
 pub use sources::source::{OpenFault, Source};
-pub use sources::source_log::{Note, Openings, SourceLog, next_file};
+pub use sources::source_log::{Note, SourceCalls, SourceLog, next_file};
 pub use sources::told_source::{Answer, ToldSource};
 pub use sources::with_stdin::{WithStdin, is_dash};
 pub use sum_settings::NoRoom;

@@ -63,11 +63,11 @@ pub struct LineReader<I> {
 }
 
 impl<I> Model for LineReader<I> {
-    ghost use Rattle.sum_sources.specs.LineReaders.{LineReaderValue};
+    ghost use Rattle.sum_sources.specs.LineReader.{LineReaderValue};
 
     ghost Value = { LineReaderValue I };
 
-    ghost use Rattle.sum_sources.specs.LineStates.{line_reader_view, IsSoundReader};
+    ghost use Rattle.sum_sources.specs.LineReader.{line_reader_view, IsSoundReader};
 
     ghost view = { λ s. line_reader_view s };
 
@@ -84,11 +84,11 @@ fn drop_return<A: Allocator>(line: &mut Vec<u8, A>)
 }
 
 impl<I: Input> LineReader<I> {
-    ghost use Rattle.sum_sources.specs.LineReaders.{consumed_count, IsBounded, AdvancesLines, IsReading, ReadsOn};
+    ghost use Rattle.sum_sources.specs.LineReader.{consumed_count, IsBounded, AdvancesLines, IsReading, ReadsOn};
+    ghost use Rattle.sum_sources.specs.LineReader.{FillsReader, TakesPiece};
     ghost use Rattle.sum_sources.specs.ManifestLines.{lines_after};
-    ghost use Rattle.sum_sources.specs.Contents.{Unfinished};
-    ghost use Rattle.sum_sources.specs.private.LimitedReads.{AddsPast, CountsBytes};
-    ghost use Rattle.sum_sources.specs.LineStates.{FillsReader, TakesPiece};
+    ghost use Rattle.sum_sources.specs.Input.{Unfinished};
+    ghost use Rattle.sum_sources.specs.private.SizeLimit.{AddsPast, CountsBytes};
 
     /// Creates a reader of the lines of `input`. If the input has `LIMIT` bytes or more, its first `LIMIT - 1` bytes
     /// count, and then `Fault::Other`.
@@ -243,15 +243,18 @@ impl<I: Input> LineReader<I> {
     /// any of these, the content of `line` is unspecified, and every later call returns the same without reading the
     /// input.
     pub fn next_line<A: Allocator>(&mut self, line: &mut Vec<u8, A>) -> Result<Next, LineStop>
-        // For each content that what was read since `new` fits: the next line of what remained.
+        // For each content that the reads since `new` fit: the next line of what remained.
         ensures line { IsReading I.state self.old
             → ReadsOn I.state self.old self.new result line.new.items }
+
         // A final answer is returned again, and the reader is unchanged.
         ensures repeats { IfSome self.old.final_answer (λ answer. (result ≡ answer)
             × (self.new ≡ self.old)) }
+
         // The lines counted, and which answers are final.
         ensures reader { AdvancesLines I.state self.old self.new result }
-        // At most 8,192 bytes are read ahead of the lines, and no count passes its limit.
+
+        // At most `PIECE` bytes are read ahead of the lines, and no count passes its limit.
         ensures bounds { IsBounded self.new }
     {
         match self.state {

@@ -2,13 +2,14 @@
 use Rattle.std.proofs.Common.{◌≡◌, ◌∷◌, ◌-◌, ◌≤◌, ℕ, [], List, length, drop, take, None, Ok, Err, Result, refl, ap, ◌∙◌}
 use Rattle.std.proofs.{Common.arith, lemmas.List.drop-append-le, Math.Seq.take-append_seam, Math.Seq.take-length}
 use Rattle.std.specs.Prelude.{IfOk}
-use Rattle.digest_kinds.specs.{Bytes.ByteString, Kinds.digest, Kinds.KindValue}
-use Rattle.sum_sources.specs.Contents.{Content, InputState, Reads, HashesInput, Fits, and_read, clip, reads_past}
-use Rattle.sum_sources.specs.{Contents.empty_reads, LineReaders.remaining_content, ManifestLines.lines}
-use Rattle.sum_sources.specs.LineReaders.{AdvancesLines, IsReading, LineReaderValue, ReadsOn, content_past}
+use Rattle.digest_kinds.specs.{Bytes.ByteString, Kind.digest, Kind.KindValue}
+use Rattle.sum_sources.specs.Input.{Content, InputState, Reads, Fits, state_after_read, clip, reads_past}
+use Rattle.sum_sources.specs.HashInput.{HashesInput}
+use Rattle.sum_sources.specs.{Input.empty_reads, LineReader.remaining_content, ManifestLines.lines}
+use Rattle.sum_sources.specs.LineReader.{AdvancesLines, IsReading, LineReaderValue, ReadsOn, content_past}
 use Rattle.sum_sources.specs.declared.fault.{Fault.Fault, Ending.TheVariants.Whole}
-use Rattle.sum_sources.specs.declared.{inputs.phase.Phase.Phase, line_reader.Next.TheVariants.Line}
-use Rattle.sum_sources.specs.declared.inputs.phase.Phase.TheVariants.{Unfinished, Ended, Past}
+use Rattle.sum_sources.specs.declared.{inputs.input.Phase.Phase, line_reader.Next.TheVariants.Line}
+use Rattle.sum_sources.specs.declared.inputs.input.Phase.TheVariants.{Unfinished, Ended, Past}
 
 -- if reads fit a content, those past the first bytes fit its rest
 rest_fits : (m : ℕ) (r : Reads) (c : Content) → m ≤ length r.bytes → Fits r c → Fits (reads_past m r) (content_past m c)
@@ -25,7 +26,7 @@ clip_whole : (c : Content) → (clip c).ending ≡ Whole → clip c ≡ c
 clip_whole c whole = grind arith
 
 -- after the header
-pub header_read : (a m : InputState) (buf : List ℕ) (n : ℕ) → a.reads ≡ empty_reads → m ≡ and_read a buf (Ok n)
+pub header_read : (a m : InputState) (buf : List ℕ) (n : ℕ) → a.reads ≡ empty_reads → m ≡ state_after_read a buf (Ok n)
     → length buf ≡ 3 → n ≡ 3 → m.reads ≡ record { bytes = buf; phase = Unfinished }
 header_read a m buf n new is size all = rw (is, new, all, size, ← size, take-length) refl
 

@@ -1,8 +1,9 @@
 -- A source that computes its answers: each file holds the front of one text that is as long as the file's name.
 use Rattle.std.specs.Prelude.{length, take, List, [], ◌∷◌, None, Some, Ok, Err}
-use Rattle.std.specs.Option.{option_map}
-use Rattle.digest_kinds.specs.Bytes.{ByteString}
-use Rattle.sum_sources.specs.{Contents.Content, declared.fault.Ending.TheVariants.Whole, Sources.Answer, Sources.Pair, Sources.SourceState, Sources.ToldAnswers}
+use Rattle.std.specs.{Option.option_map}
+use Rattle.digest_kinds.specs.{Bytes.ByteString}
+use Rattle.sum_sources.specs.Source.{AnswerValue, Pair, SourceState, ToldAnswers}
+use Rattle.sum_sources.specs.{Input.Content, declared.fault.Ending.TheVariants.Whole}
 
 -- a content that ends whole
 abbrev pub whole : ByteString → Content
@@ -13,7 +14,7 @@ abbrev pub told_text : ByteString → List Pair
 told_text text = record { name = []; from = 0; answer = Some (Ok (whole text)) } ∷ []
 
 -- the front of the text that is as long as the name
-abbrev pub front_answer : Answer → ByteString → Answer
+abbrev pub front_answer : AnswerValue → ByteString → AnswerValue
 front_answer (Ok text) name = Ok (whole (take (length name) text.bytes))
 front_answer (Err f) name = Err f
 

@@ -1,23 +1,24 @@
 //! Callers of readers and of told sources that need what no program here does.
 ghost use Rattle.std.specs.Option.{option_map};
-ghost use Rattle.std.specs.Prelude.{ℕ, ◌≡◌, ◌<◌, ◌+◌, ◌^◌, [], Some, Ok, Err, IfOk, IfSome, IsTrue};
+ghost use Rattle.std.specs.Prelude.{ℕ, ◌≡◌, ◌<◌, ◌≤◌, ◌+◌, [], Some, Ok, Err, IfOk, IfSome, IsTrue, max};
 ghost use Rattle.std.specs.Prelude.{codes, slice_get, take};
+ghost use Rattle.digest_kinds.specs.Bytes.{LIMIT};
 ghost use Rattle.sum_sources.specs.ManifestLines.{HasNoNewline};
-ghost use Rattle.sum_sources.specs.Sources.{HashesFile, first_answer, names_of};
+ghost use Rattle.sum_sources.specs.{HashFile.HashesFile, Source.first_answer, Source.names_of};
 ghost use Rattle.sum_sources.specs.WithStdin.{other_openings};
-ghost use Rattle.sum_sources.specs.SourceStates.{both_state, source_in, told_source_state};
+ghost use Rattle.sum_sources.specs.{WithStdinView.both_state, WithStdinView.source_in, ToldSource.told_source_state};
 
 use digest_kinds::{Digest, Hasher, LIMIT};
 use std::alloc::Allocator;
 use std::io::Read;
 use sum_sources::{
     Answer, Ending, Fault, FromRead, Input, LineReader, LineStop, Next, NoRoom, PIECE, Source,
-    ToldSource, WithStdin, hash_file,
+    Told, ToldSource, WithStdin, hash_file,
 };
 
 /// Returns how many more bytes an input may give before it is too long.
 pub fn bytes_left<I: Input>(reader: &LineReader<I>) -> u64
-    ensures { result + reader.now.taken ≡ 2 ^ 61 }
+    ensures { result + reader.now.taken ≡ LIMIT }
 {
     LIMIT - reader.taken()
 }
@@ -62,6 +63,15 @@ pub fn ask<I: Input, A: Allocator>(
 {
     let next = reader.next_line(line);
     (next, reader.taken() - reader.lines())
+}
+
+/// Reads twice from bytes in memory, of which each read gives at most `piece`; 0 counts as 1.
+pub fn read_piece(content: &[u8], piece: usize, buf: &mut [u8]) -> Result<usize, Fault>
+    ensures { IfOk result (λ n. n ≤ max piece 1) }
+{
+    let mut input = Told::new(content, Ending::Whole, piece);
+    input.read(buf)?;
+    input.read(buf)
 }
 
 /// Reads from a reader that is known to have some bytes left: these come first.

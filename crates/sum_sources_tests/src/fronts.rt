@@ -1,28 +1,27 @@
 //! A source in memory that computes its answers.
 ghost use Rattle.std.specs.Prelude.{◌≡◌};
 ghost use Rattle.sum_sources.specs.SourceLaws.{GivesTold-prop};
-ghost use Rattle.sum_sources.specs.Sources.{GivesTold};
-ghost use Rattle.sum_sources.specs.StandardInput.{told_file};
-ghost use Rattle.sum_sources.specs.ToldPairs.{told_value};
+ghost use Rattle.sum_sources.specs.Source.{GivesTold};
+ghost use Rattle.sum_sources.specs.Told.{told_state, told_view};
 ghost use Rattle.sum_sources_tests.specs.Fronts.{fronts_state, tells_fronts};
 
 use sum_sources::{
-    Ending, Fault, Input, Note, OpenFault, Openings, PIECE, ReadLog, ReadNote, Source, SourceLog,
-    Told, next_file,
+    Ending, Fault, Input, InputLog, Note, OpenFault, PIECE, ReadNote, Source, SourceCalls,
+    SourceLog, Told, next_file,
 };
 
 /// The front of a text.
 #[derive(Drop)]
 pub struct Front<'a> {
     told: Told<'a>,
-    log: ReadLog,
-    ghost same: { log.reads ≡ (told_file (told_value told)).reads },
+    log: InputLog,
+    ghost same: { log.reads ≡ (told_state (told_view told)).reads },
 }
 
 impl<'a> Input for Front<'a> {
-    ghost use Rattle.sum_sources.specs.InputLaws.{told_file_has_content};
+    ghost use Rattle.sum_sources.specs.InputLaws.{told_has_content};
 
-    ghost state = { λ s. record (told_file (told_value s.told)) {
+    ghost state = { λ s. record (told_state (told_view s.told)) {
       name = s.log.name;
       opening = s.log.opening;
     } };
@@ -33,7 +32,7 @@ impl<'a> Input for Front<'a> {
         result
     }
 
-    ghost has_content = { λ s. told_file_has_content (told_value s.told) };
+    ghost has_content = { λ s. told_has_content (told_view s.told) };
 }
 
 /// A source of which every name is a file: the front of one text, as long as the name, or all of it.
@@ -49,7 +48,7 @@ impl<'a> Fronts<'a> {
     pub fn new(text: &'a [u8]) -> Fronts<'a> {
         Fronts {
             text,
-            log: SourceLog::of(&Openings),
+            log: SourceLog::of(&SourceCalls),
         }
     }
 }

@@ -1,13 +1,13 @@
 //! An input and a source that do what real ones may: bytes follow an end or a fault, and a name that is opened again is
 //! another file.
 ghost use Rattle.std.specs.Prelude.{◌≡◌};
-ghost use Rattle.sum_sources.specs.Contents.{empty_reads};
+ghost use Rattle.sum_sources.specs.Input.{empty_reads};
 
 use std::alloc::Allocator;
 use std::collections::VecDeque;
 use sum_sources::{
-    Ending, Fault, Input, NoRoom, Note, OpenFault, Openings, Phase, ReadLog, ReadNote, Reads,
-    Source, SourceLog, Told, next_file,
+    Ending, Fault, Input, InputCalls, InputLog, NoRoom, Note, OpenFault, Phase, ReadNote, Source,
+    SourceCalls, SourceLog, Told, next_file,
 };
 
 /// An input of two parts. After the end or the fault of the first part it goes on with the second.
@@ -16,7 +16,7 @@ pub struct TwoParts<'a> {
     told: Told<'a>,
     second: Option<Told<'a>>,
     phase: Phase,
-    log: ReadLog,
+    log: InputLog,
 }
 
 impl<'a> TwoParts<'a> {
@@ -25,7 +25,7 @@ impl<'a> TwoParts<'a> {
     pub fn new(content: &'a [u8], place: usize, ending: Ending, piece: usize) -> TwoParts<'a>
         ensures { (⟦<TwoParts<'a> as Input>⟧.state result).reads ≡ empty_reads }
     {
-        TwoParts::opened(content, place, ending, piece, ReadLog::of(&Reads))
+        TwoParts::opened(content, place, ending, piece, InputLog::of(&InputCalls))
     }
 
     fn opened(
@@ -33,7 +33,7 @@ impl<'a> TwoParts<'a> {
         place: usize,
         ending: Ending,
         piece: usize,
-        log: ReadLog,
+        log: InputLog,
     ) -> TwoParts<'a>
         ensures { result.log ≡ log }
     {
@@ -54,7 +54,7 @@ impl<'a> TwoParts<'a> {
 
 impl<'a> Input for TwoParts<'a> {
     ghost use Rattle.std.specs.Prelude.{None};
-    ghost use Rattle.sum_sources.specs.InputLaws.{real_has_content};
+    ghost use Rattle.sum_sources.specs.InputLaws.{untold_has_content};
 
     ghost state = { λ s. record s.log { told = None } };
 
@@ -72,7 +72,7 @@ impl<'a> Input for TwoParts<'a> {
         result
     }
 
-    ghost has_content = { λ s. real_has_content s.log };
+    ghost has_content = { λ s. untold_has_content s.log };
 }
 
 /// A source whose files follow one another, whatever the names. After the last, no file is found.
@@ -93,7 +93,7 @@ impl<'a, A: Allocator> InTurn<'a, A> {
         InTurn {
             files: VecDeque::new(alloc),
             piece,
-            log: SourceLog::of(&Openings),
+            log: SourceLog::of(&SourceCalls),
             opened: 0,
             ended: 0,
             failed: 0,
@@ -117,11 +117,11 @@ impl<'a, A: Allocator> InTurn<'a, A> {
 impl<'a, A: Allocator> Source for InTurn<'a, A> {
     type File = TwoParts<'a>;
 
-    ghost use Rattle.sum_sources.specs.Logs.{untold_state};
+    ghost use Rattle.std.specs.Prelude.{[]};
     ghost use Rattle.sum_sources.specs.SourceLaws.{untold_gives};
-    ghost use Rattle.sum_sources.specs.Sources.{no_answer};
+    ghost use Rattle.sum_sources.specs.Source.{no_answer};
 
-    ghost state = { λ s. untold_state s.log };
+    ghost state = { λ s. record s.log { told = [] } };
 
     ghost tells = { no_answer };
 

@@ -1,9 +1,9 @@
 //! Callers of standard input beside a source of files.
 ghost use Rattle.std.specs.Prelude.{◌≡◌, ◌++◌, ◌∷◌, [], false, IsTrue, MatchBool, OnOk};
 ghost use Rattle.sum_sources.specs.WithStdin.{is_dash};
-ghost use Rattle.sum_sources.specs.Sources.{names_of};
-ghost use Rattle.sum_sources.specs.StandardInput.{given_input, is_untaken, put_back, after_taking};
-ghost use Rattle.sum_sources.specs.SourceStates.{source_in, stdin_in};
+ghost use Rattle.sum_sources.specs.Source.{names_of};
+ghost use Rattle.sum_sources.specs.Stdin.{given_input, is_untaken, stdin_after_put_back, stdin_after_taking};
+ghost use Rattle.sum_sources.specs.WithStdinView.{source_in, stdin_in};
 
 use digest_kinds::{Digest, Hasher};
 use sum_sources::laws::stdin_is_taken;
@@ -17,7 +17,7 @@ pub fn visit<I: Input + Drop, S: Source>(
 ) -> Result<(), OpenFault>
     ensures { MatchBool (is_dash name.now)
         (let old = stdin_in inputs.old in
-        (stdin_in inputs.new ≡ put_back (after_taking old) (given_input old))
+        (stdin_in inputs.new ≡ stdin_after_put_back (stdin_after_taking old) (given_input old))
         × (S.state (source_in inputs.new) ≡ S.state (source_in inputs.old)))
         ((stdin_in inputs.new ≡ stdin_in inputs.old)
         × OnOk result (names_of (S.state (source_in inputs.new)).openings
@@ -31,7 +31,7 @@ pub fn visit<I: Input + Drop, S: Source>(
 /// Puts standard input beside a source of files, takes it once, and puts it back unread.
 pub fn visit_stdin<I: Input + Drop, S: Source>(stdin: Stdin<I>, source: S) -> WithStdin<I, S>
     requires { IsTrue (is_untaken stdin) }
-    ensures stdin { stdin_in result ≡ put_back (after_taking stdin) (given_input stdin) }
+    ensures stdin { stdin_in result ≡ stdin_after_put_back (stdin_after_taking stdin) (given_input stdin) }
     ensures source { S.state (source_in result) ≡ S.state source }
 {
     let mut inputs = WithStdin::new(stdin, source);

@@ -4,7 +4,9 @@ use Rattle.std.specs.List.{after_last}
 use Rattle.std.proofs.lemmas.{Grind.common_steps, List.Sums.suffix_len_is, Bool.not_from_false, Bool.not_from_true, Bool.false_from_ne_true}
 use Rattle.std.specs.declared.{env.FillError.FillError, env.FillError.TheVariants.NotPresent, env.FillError.TheVariants.TooLong}
 use Rattle.memchr.specs.Find.{Passes, Nowhere, is_byte}
-use Rattle.sum_words.specs.{Items.ByteString, Arguments.ArgumentsState, Arguments.Explains, Arguments.FitsArguments, Arguments.and_fill, ArgumentsLaws.agrees_from, private.CommandLine.Fails, private.CommandLine.Fills}
+use Rattle.digest_kinds.specs.Bytes.{ByteString}
+use Rattle.sum_words.specs.Arguments.{ArgumentsState, Explains, FitsArguments, state_after_fill, FitsArguments-append}
+use Rattle.sum_words.specs.private.CommandLine.{Fails, Fills}
 use Rattle.sum_words.proofs.WordBytesLemmas.{drop_at_none, drop_at_some}
 
 -- the part after a slash that no other follows, or all of a path without one
@@ -25,11 +27,11 @@ first_there P all n (Some x) is h = rw (drop_at_some all n is) h
 
 -- a list in memory still agrees after a call that does as it says
 pub agrees_after : (s : ArgumentsState) (all : List ByteString) (buffer : ByteString) (r : Result ℕ FillError)
-    → FitsArguments s all → Fills all (length s.given) buffer r → FitsArguments (and_fill s buffer r) all
+    → FitsArguments s all → Fills all (length s.given) buffer r → FitsArguments (state_after_fill s buffer r) all
 agrees_after s all buffer (Ok n) agrees fills =
     let word = take n buffer in
     let rest = drop (length s.given + 1) all in
-    agrees_from (record s { given = s.given ++ word ∷ []; fault = None }) all rest agrees.told
+    FitsArguments-append (record s { given = s.given ++ word ∷ []; fault = None }) all rest agrees.told
     (agrees.given ∙ rw (drop_at_some all (length s.given) fills) (sym (append_assoc s.given (word ∷ []) rest))) tt
 agrees_after s all buffer (Err TooLong) agrees fills = record {
   told = agrees.told;
@@ -46,6 +48,7 @@ follows : (given : List ByteString) (size : ℕ) (all rest : List ByteString) �
 follows given size all [] are explains = absurd explains
 follows given size all (word ∷ more) are explains = (word, more, are, explains)
 
+-- if an argument was longer than its buffer, each list that agrees has one that is, after those that were given
 pub next_longer : {least : ℕ} {a b : ArgumentsState} (all : List ByteString) → Fails TooLong least a b
     → FitsArguments b all → (word : ByteString) × (more : List ByteString) × (all ≡ a.given ++ word ∷ more) × (least < length word)
 next_longer {least} {a} all fails agrees =

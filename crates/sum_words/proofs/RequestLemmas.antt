@@ -4,8 +4,9 @@ use Rattle.std.proofs.lemmas.{Grind.common_steps, Fmt.IsAscii-from_digits, Str.I
 use Rattle.std.specs.{Char.is_ascii_digit, List.list_all, Result.result_ok}
 use Rattle.std.specs.Str.Parse.{ParsesUnsigned, digits_value}
 use Rattle.std.proofs.lemmas.Str.Parse.{IsNumeralModel, numerals_by_value, parse_digits}
-use Rattle.sum_words.specs.Items.{Flag, ByteString, ItemValue, option}
-use Rattle.sum_words.specs.{Request.early_request, private.OptionScan.IsNumberOf}
+use Rattle.sum_words.specs.{declared.parsing.options.Flag.Flag, parsing.Items.ItemValue, parsing.Items.option}
+use Rattle.digest_kinds.specs.Bytes.{ByteString}
+use Rattle.sum_words.specs.{parsing.Request.early_request, private.Request.IsNumberOf}
 use Rattle.sum_words.specs.declared.parsing.options.Flag.TheVariants as flags
 
 -- an option other than help and version decides nothing early

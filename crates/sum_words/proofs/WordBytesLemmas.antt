@@ -2,7 +2,8 @@
 use Rattle.std.proofs.Common.{◌≡◌, ℕ, zero, suc, ◌-◌, ◌≤◌, List, [], ◌∷◌, ◌++◌, length, take, drop, get_or, Option, None, Some, refl, ap, arith, length-append, slice_get, ◌+◌, ◌<◌}
 use Rattle.std.proofs.lemmas.{List.drop_all, List.drop_more, Grind.common_steps}
 use Rattle.std.proofs.lemmas.Option.{slice_get_within, slice_get_past, slice_get_cases, get_or_from_slice_get}
-use Rattle.sum_words.specs.{Items.ByteString, Words.pieces_cut, Words.CutsAt}
+use Rattle.digest_kinds.specs.Bytes.{ByteString}
+use Rattle.sum_words.specs.Words.{pieces_cut, CutsAt}
 
 -- if nothing is at a place, nothing is from there on
 pub drop_at_none : {X : Type 0} (xs : List X) (p : ℕ) → slice_get xs p ≡ None → drop p xs ≡ []

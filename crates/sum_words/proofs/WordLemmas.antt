@@ -4,8 +4,8 @@ use Rattle.std.specs.{List.starts_with, Str.chars, Str.is_utf8, Str.Pattern.Find
 use Rattle.std.proofs.lemmas.{Str.Pattern.starts_text, List.nil_from_length, Slice.Eq.bytes_eq-Decides, Bool.false_from_ne_true}
 use Rattle.std.proofs.lemmas.Str.{chars-nil, encodes-chars, IsUtf8-from_is_utf8, is_utf8-from_IsUtf8}
 use lib.Utf8.{encode}
-use Rattle.sum_words.specs.{declared.tool.Tool.Tool, WordFaults.not_text, private.ItemIterator.attached_value}
-use Rattle.sum_words.specs.Items.{a_word, length_value, fault, is_option_word, items_from}
+use Rattle.sum_words.specs.{declared.tool.Tool.Tool, parsing.WordFault.not_text, private.Items.attached_value}
+use Rattle.sum_words.specs.parsing.Items.{a_word, length_value, fault, is_option_word, items_from}
 
 -- the rest of a text after a prefix, as `strip_prefix` returns it
 pub prefix_stripped : (prefix text : List ℕ) (r : Option (Bor (List ℕ)))

@@ -1,11 +1,7 @@
-pub mod Tools
-pub mod WordFaults
-pub mod Items
-pub mod Request
-pub mod Texts
 pub mod Arguments
-pub mod ArgumentsLaws
-pub mod CommandLines
+pub mod CommandLine
+pub mod Tool
 pub mod Words
-pub mod ArgumentsStates
+pub mod parsing
+pub mod messages
 pub mod private

@@ -1,3 +1,3 @@
-pub mod ItemIterator
-pub mod OptionScan
 pub mod CommandLine
+pub mod Items
+pub mod Request

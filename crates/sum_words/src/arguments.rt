@@ -1,10 +1,10 @@
 //! Lists of arguments.
+ghost use Rattle.digest_kinds.specs.Bytes.{ByteString};
 ghost use Rattle.std.specs.Prelude.{◌≡◌, ◌≤◌, [], IfOk, None, Some, List, length, map};
-ghost use Rattle.sum_words.specs.Arguments.{ArgumentsState, FitsArguments, ByteString, and_fill};
-ghost use Rattle.sum_words.specs.ArgumentsLaws.{FitsArguments-prop};
+ghost use Rattle.sum_words.specs.Arguments.{ArgumentsState, FitsArguments, FitsArguments-prop, state_after_fill};
 ghost use Rattle.sum_words.specs.private.CommandLine.{Fills};
 
-use crate::arguments_log::{Filled, Fillings};
+use crate::arguments_log::{ArgumentCalls, Filled};
 use ghost_log::Log;
 use std::env::FillError;
 
@@ -19,7 +19,7 @@ pub trait Arguments {
     fn fill(&mut self, place: usize, buffer: &mut [u8]) -> Result<usize, FillError>
         requires { place ≡ length (state self.old).given }
         ensures count { IfOk result (λ n. n ≤ length buffer.new) }
-        ensures given { state self.new ≡ and_fill (state self.old) buffer.new result };
+        ensures given { state self.new ≡ state_after_fill (state self.old) buffer.new result };
 
     /// Law: some list agrees with what its calls gave.
     ghost has_list: { (s : Self) → (all : List ByteString) × FitsArguments (state s) all };
@@ -29,17 +29,15 @@ pub trait Arguments {
 #[derive(Debug, Drop)]
 pub struct ToldArguments<'a> {
     arguments: &'a [&'a [u8]],
-    log: Log<Fillings>,
-    // It has no Model: `has_list` is proved from this fact, and no law is given a Model's invariant.
+    log: Log<ArgumentCalls>,
+    // The list agrees with what the calls gave.
     ghost agrees: { FitsArguments log (map (λ a. a.now) arguments.now) } by { FitsArguments-prop log (map (λ a. a.now) arguments.now) },
 }
 
 impl<'a> ToldArguments<'a> {
-    ghost use Rattle.sum_words.specs.ArgumentsStates.{told_arguments};
-
     /// Creates a list of these arguments, which begin with the name by which the program was called.
     pub fn new(arguments: &'a [&'a [u8]]) -> Self
-        ensures { told_arguments result ≡ record {
+        ensures { ⟦<ToldArguments<'a> as Arguments>⟧.state result ≡ record {
           told = Some (map (λ a. a.now) arguments.entry.now);
           given = [];
           fault = None;
@@ -47,16 +45,15 @@ impl<'a> ToldArguments<'a> {
     {
         ToldArguments {
             arguments,
-            log: Log::of(&Fillings),
+            log: Log::of(&ArgumentCalls),
         }
     }
 }
 
 impl<'a> Arguments for ToldArguments<'a> {
     ghost use Rattle.std.specs.Prelude.{refl};
-    ghost use Rattle.sum_words.specs.ArgumentsStates.{told_arguments};
 
-    ghost state = { told_arguments };
+    ghost state = { λ s. record s.log { told = Some (map (λ a. a.now) s.arguments.now) } };
 
     fn fill(&mut self, place: usize, buffer: &mut [u8]) -> Result<usize, FillError> {
         let filled = fill_from(self.arguments, place, buffer);

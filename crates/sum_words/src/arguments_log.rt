@@ -3,11 +3,11 @@ use ghost_log::Notes;
 use std::env::FillError;
 use std::marker::Model;
 
-/// Arguments before the first call. A log of them, which only proofs see, keeps what the calls gave.
+/// The calls for arguments, before the first. Their log, which only proofs see, has what they gave.
 #[derive(Drop)]
-pub(crate) struct Fillings;
+pub(crate) struct ArgumentCalls;
 
-impl Model for Fillings {
+impl Model for ArgumentCalls {
     ghost use Rattle.std.specs.Prelude.{[], None};
     ghost use Rattle.sum_words.specs.Arguments.{ArgumentsState};
 
@@ -20,8 +20,8 @@ impl Model for Fillings {
 #[derive(Clone, Copy)]
 pub(crate) struct Filled<'a>(pub(crate) &'a [u8], pub(crate) &'a Result<usize, FillError>);
 
-impl<'a> Notes<Filled<'a>> for Fillings {
-    ghost use Rattle.sum_words.specs.Arguments.{and_fill};
+impl<'a> Notes<Filled<'a>> for ArgumentCalls {
+    ghost use Rattle.sum_words.specs.Arguments.{state_after_fill};
 
-    ghost after_note = { λ s x. and_fill s x.0.now x.1.now };
+    ghost after_note = { λ s x. state_after_fill s x.0.now x.1.now };
 }

@@ -1,4 +1,5 @@
 //! The command line: which tool is asked for, and on which words.
+ghost use Rattle.digest_kinds.specs.Bytes.{ByteString};
 ghost use Rattle.std.specs.List.{after_last};
 ghost use Rattle.std.specs.Option.{option_map};
 ghost use Rattle.std.specs.Prelude.{◌≡◌, ◌==◌, ◌≤◌, ◌<◌, ◌*◌, ◌∷◌, ◌++◌, [], vec_len, take, length, List, Any, IfOk};
@@ -6,8 +7,7 @@ ghost use Rattle.std.specs.Prelude.{IfSome, OnOk, OnErr, MatchResult};
 ghost use Rattle.std.specs.Str.{byte};
 ghost use Rattle.std.specs.declared.env.FillError.TheVariants.{TooLong};
 ghost use Rattle.sum_words.specs.Arguments.{FitsArguments};
-ghost use Rattle.sum_words.specs.CommandLines.{command_line, NeedsMemory, command_line_value};
-ghost use Rattle.sum_words.specs.Tools.{ByteString};
+ghost use Rattle.sum_words.specs.CommandLine.{command_line, NeedsMemory, command_line_value};
 ghost use Rattle.sum_words.specs.declared.command_line.TheConstants.{PAGE};
 ghost use Rattle.sum_words.specs.private.CommandLine.{Fails, Gives, FindsTool};
 
@@ -15,30 +15,12 @@ use crate::arguments::Arguments;
 use crate::tool::Tool;
 use crate::words::Words;
 use memchr::memrchr;
-use std::alloc::{AllocError, Allocator};
+use std::alloc::Allocator;
 use std::env::FillError;
 use sum_settings::NoRoom;
-use thiserror::Error;
 
 // The longest argument that is read without taking memory. Larger and smaller sizes made short runs slower.
 const PAGE: usize = 4096;
-
-/// The words could not be read: memory was refused.
-#[derive(Clone, Copy, Debug, PartialEq, Eq, Error)]
-#[error("words not read")]
-pub struct NotRead;
-
-impl From<AllocError> for NotRead {
-    fn from(_refused: AllocError) -> NotRead {
-        NotRead
-    }
-}
-
-impl From<NoRoom> for NotRead {
-    fn from(_no_room: NoRoom) -> NotRead {
-        NotRead
-    }
-}
 
 /// What a command line asks for.
 #[derive(Debug, Drop)]
@@ -53,12 +35,12 @@ pub enum CommandLine<A: Allocator> {
 /// a tool's name, the next argument names it. The arguments after the tool's place are its words. If they name no tool,
 /// no further argument is read.
 ///
-/// Returns `NotRead` if memory is refused. Memory is needed only if an argument follows the tool's place, or if one is
+/// Returns `NoRoom` if memory is refused. Memory is needed only if an argument follows the tool's place, or if one is
 /// longer than 4,096 bytes.
 pub fn read_command_line<A: Allocator + Copy, G: Arguments>(
     alloc: A,
     arguments: &mut G,
-) -> Result<CommandLine<A>, NotRead>
+) -> Result<CommandLine<A>, NoRoom>
     requires { (G.state arguments.old).given ≡ [] }
     // Of every list of arguments that agrees with what the calls gave: what it asks for, or that it needs memory.
     ensures line { (all : List ByteString) → FitsArguments (G.state arguments.new) all
@@ -90,7 +72,7 @@ impl<A: Allocator> Room<A> {
         &mut self,
         arguments: &mut G,
         place: usize,
-    ) -> Result<Option<&[u8]>, NotRead>
+    ) -> Result<Option<&[u8]>, NoRoom>
         requires { place ≡ length (G.state arguments.old).given }
         ensures gives { IfOk result (λ o. Gives (G.state arguments.old) (G.state arguments.new)
             (option_map (λ s. s.now) o)) }
@@ -116,19 +98,22 @@ fn fill_growing<A: Allocator, G: Arguments>(
     arguments: &mut G,
     place: usize,
     more: &mut Vec<u8, A>,
-) -> Result<Option<usize>, NotRead>
+) -> Result<Option<usize>, NoRoom>
     requires place { place ≡ length (G.state arguments.old).given }
     requires long { Fails TooLong PAGE (G.state arguments.old) (G.state arguments.old) }
+
+    // The argument, at the front of the vector.
     ensures within { IfOk result (λ o. IfSome o (λ n. n ≤ vec_len more.new)) }
     ensures gives { IfOk result (λ o. Gives (G.state arguments.old) (G.state arguments.new)
         (option_map (λ n. take n more.new.items) o)) }
+
+    // Memory was refused, after a call whose buffer was too short.
     ensures not_read { OnErr result
         (Fails TooLong PAGE (G.state arguments.old) (G.state arguments.new)) }
 {
     if more.len() < PAGE {
         grow(more)?;
     }
-    // The label names the loop for its proof.
     'longer: loop {
         match arguments.fill(place, more.as_mut_slice()) {
             Ok(len) => return Ok(Some(len)),
@@ -139,12 +124,12 @@ fn fill_growing<A: Allocator, G: Arguments>(
 }
 
 // Makes the vector longer, at least twice as long as it was, and longer than a page.
-fn grow<A: Allocator>(more: &mut Vec<u8, A>) -> Result<(), NotRead>
+fn grow<A: Allocator>(more: &mut Vec<u8, A>) -> Result<(), NoRoom>
     ensures longer { OnOk result (vec_len more.old < vec_len more.new) }
     ensures twice { OnOk result (2 * vec_len more.old ≤ vec_len more.new) }
     ensures page { OnOk result (PAGE < vec_len more.new) }
 {
-    let twice = more.len().checked_mul(2).ok_or(NotRead)?;
+    let twice = more.len().checked_mul(2).ok_or(NoRoom)?;
     more.resize(twice.max(2 * PAGE), 0)?;
     Ok(())
 }
@@ -154,10 +139,14 @@ fn grow<A: Allocator>(more: &mut Vec<u8, A>) -> Result<(), NotRead>
 fn find_tool<A: Allocator, G: Arguments>(
     arguments: &mut G,
     room: &mut Room<A>,
-) -> Result<Option<(Tool, usize)>, NotRead>
+) -> Result<Option<(Tool, usize)>, NoRoom>
     requires { (G.state arguments.old).given ≡ [] }
+
+    // The tool, and the place.
     ensures tool { IfOk result (FindsTool (G.state arguments.new)) }
     ensures first { IfOk result (λ o. IfSome o (λ found. found.1 ≤ 2)) }
+
+    // Memory was refused, so in each list that agrees an argument is longer than a page.
     ensures not_read { OnErr result ((all : List ByteString)
         → FitsArguments (G.state arguments.new) all
         → Any (λ argument. PAGE < length argument) all) }
@@ -194,24 +183,27 @@ fn words_from<A: Allocator + Copy, G: Arguments>(
     arguments: &mut G,
     first: usize,
     room: &mut Room<A>,
-) -> Result<Words<A>, NotRead>
+) -> Result<Words<A>, NoRoom>
     requires place { first ≡ length (G.state arguments.old).given }
     requires few { first < usize.MAX }
+
+    // The words, of each list that agrees.
     ensures words { IfOk result (λ words. (all : List ByteString)
         → FitsArguments (G.state arguments.new) all
         → all ≡ (G.state arguments.old).given ++ words) }
+
+    // Memory was refused, so in each list that agrees there is a word.
     ensures not_read { OnErr result ((all : List ByteString)
         → FitsArguments (G.state arguments.new) all → (word : ByteString) × (rest : List ByteString)
         × (all ≡ (G.state arguments.old).given ++ word ∷ rest)) }
     ensures told { (G.state arguments.new).told ≡ (G.state arguments.old).told }
 {
     let mut words = Words::new(alloc);
-    // The label names the loop for its proof.
     'places: for place in first..usize::MAX {
         let Some(word) = room.argument(arguments, place)? else {
             return Ok(words);
         };
         words.add_bytes(word)?;
     }
-    Err(NotRead)
+    Err(NoRoom)
 }

@@ -1,8 +1,9 @@
 //! The laws of plain words and of arguments. Each is the contract of a function that does nothing.
+ghost use Rattle.digest_kinds.specs.Bytes.{ByteString};
 ghost use Rattle.std.specs.List.{AllPass};
 ghost use Rattle.std.specs.Prelude.{◌≡◌, not, List, ◌∷◌, ◌++◌, map, codes};
 ghost use Rattle.sum_words.specs.Arguments.{FitsArguments};
-ghost use Rattle.sum_words.specs.Items.{ByteString, operand, a_word, is_option_word, items_from};
+ghost use Rattle.sum_words.specs.parsing.Items.{operand, a_word, is_option_word, items_from};
 ghost use Rattle.sum_words.specs.declared.tool.Tool.{Tool};
 
 use crate::arguments::Arguments;
@@ -16,9 +17,9 @@ pub fn some_list_agrees<G: Arguments>(arguments: &G)
 /// whatever follows them. After a `--` that ends the options, every word is an operand.
 #[tactic(auto, using(crate::proofs::PlainWordLemmas::plain_words))]
 pub fn plain_words_are_operands()
-    ensures plain { (t : Tool) (words more : List ByteString) →
+    ensures plain { (tool : Tool) (words more : List ByteString) →
         AllPass (λ word. not (is_option_word word)) words →
-        items_from t (words ++ more) a_word ≡ map operand words ++ items_from t more a_word }
-    ensures after_dashes { (t : Tool) (words : List ByteString) →
-        items_from t (codes "--" ∷ words) a_word ≡ map operand words }
+        items_from tool (words ++ more) a_word ≡ map operand words ++ items_from tool more a_word }
+    ensures after_dashes { (tool : Tool) (words : List ByteString) →
+        items_from tool (codes "--" ∷ words) a_word ≡ map operand words }
 {}

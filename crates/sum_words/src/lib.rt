@@ -30,13 +30,13 @@ mod tool;
 mod words;
 
 pub use arguments::{Arguments, ToldArguments};
-pub use command_line::{CommandLine, NotRead, read_command_line};
+pub use command_line::{CommandLine, read_command_line};
+pub use messages::fault_lines::put_fault;
 pub use messages::help::{put_help, put_version};
-pub use messages::program_lines::{put_not_read, put_stop, put_unknown};
-pub use messages::word_faults::{WordFault, put_fault};
 pub use parsing::items::Operands;
 pub use parsing::options::{Flag, Spelling};
 pub use parsing::request::{Request, read_words};
+pub use parsing::word_fault::WordFault;
 pub use sum_settings::NoRoom;
 pub use system::SystemArguments;
 pub use tool::{Tool, UnknownTool};

@@ -1,5 +1,4 @@
-//! The texts that need no file: help and version, faults of words, and the lines of the program itself.
+//! The texts that need no file: help and version, and faults of words.
 
+pub(crate) mod fault_lines;
 pub(crate) mod help;
-pub(crate) mod program_lines;
-pub(crate) mod word_faults;

@@ -3,3 +3,4 @@
 pub(crate) mod items;
 pub(crate) mod options;
 pub(crate) mod request;
+pub(crate) mod word_fault;

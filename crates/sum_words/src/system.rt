@@ -2,7 +2,7 @@
 ghost use Rattle.std.specs.Prelude.{◌≡◌, [], None};
 
 use crate::arguments::Arguments;
-use crate::arguments_log::{Filled, Fillings};
+use crate::arguments_log::{ArgumentCalls, Filled};
 use ghost_log::Log;
 use std::env::FillError;
 use std::rt::Env;
@@ -11,27 +11,23 @@ use std::rt::Env;
 #[derive(Debug, Drop)]
 pub struct SystemArguments<R> {
     rt: R,
-    log: Log<Fillings>,
+    log: Log<ArgumentCalls>,
 }
 
 impl<R: Env> SystemArguments<R> {
-    ghost use Rattle.sum_words.specs.ArgumentsStates.{given_arguments};
-
     /// Creates the list of this runtime's arguments.
     pub fn new(rt: R) -> Self
-        ensures { (given_arguments result).given ≡ [] }
+        ensures { (⟦<SystemArguments<R> as Arguments>⟧.state result).given ≡ [] }
     {
         SystemArguments {
             rt,
-            log: Log::of(&Fillings),
+            log: Log::of(&ArgumentCalls),
         }
     }
 }
 
 impl<R: Env> Arguments for SystemArguments<R> {
-    ghost use Rattle.sum_words.specs.ArgumentsStates.{given_arguments};
-
-    ghost state = { λ s. record (given_arguments s) { told = None } };
+    ghost state = { λ s. record s.log { told = None } };
 
     fn fill(&mut self, place: usize, buffer: &mut [u8]) -> Result<usize, FillError> {
         let filled = self.rt.arg(place, buffer);
@@ -39,7 +35,7 @@ impl<R: Env> Arguments for SystemArguments<R> {
         filled
     }
 
-    ghost use Rattle.sum_words.specs.ArgumentsLaws.{untold_has_list};
+    ghost use Rattle.sum_words.specs.Arguments.{untold_has_list};
 
-    ghost has_list = { λ s. untold_has_list (given_arguments s) };
+    ghost has_list = { λ s. untold_has_list s.log };
 }

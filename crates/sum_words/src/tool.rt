@@ -1,6 +1,6 @@
 //! The tools and their names.
 ghost use Rattle.std.specs.Prelude.{◌≡◌, ◌↔◌, Some, Ok, IfSome};
-ghost use Rattle.sum_words.specs.Tools.{name_of, algos_of, tool_called};
+ghost use Rattle.sum_words.specs.Tool.{name_of, algos_of, tool_called};
 ghost use Rattle.sum_words.specs.declared.tool.Tool.{Tool};
 
 use digest_kinds::{Algo, Algos};
@@ -35,7 +35,7 @@ impl Tool {
     ];
 
     /// Returns the tool of this name, if there is one.
-    #[tactic(auto, unfolding(crate::specs::Tools::tool_called))]
+    #[tactic(auto, unfolding(crate::specs::Tool::tool_called))]
     pub fn from_word(word: &str) -> Option<Tool>
         ensures { (tool : Tool) → (result ≡ Some tool) ↔ (name_of tool ≡ word.now) }
     {
@@ -43,7 +43,7 @@ impl Tool {
     }
 
     /// Returns the tool whose name these bytes are, if there is one.
-    #[tactic(auto, unfolding(crate::specs::Tools::tool_called))]
+    #[tactic(auto, unfolding(crate::specs::Tool::tool_called))]
     pub fn from_name(name: &[u8]) -> Option<Tool>
         ensures tool { result ≡ tool_called name.now }
         // So the tool's name is this one.

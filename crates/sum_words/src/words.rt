@@ -1,9 +1,9 @@
 //! Lists of words, and the iterator over one.
-ghost use Rattle.std.specs.Iterator.{item_count};
+ghost use Rattle.std.specs.Iterator.{YieldsFirstRef, item_count};
 ghost use Rattle.std.specs.Option.{option_copied};
-ghost use Rattle.std.specs.Prelude.{◌≡◌, ◌<◌, [], ◌∷◌, ◌++◌, ◌+◌, ◌^◌, OnOk, OnErr, OnSome, length, drop, slice_get};
+ghost use Rattle.std.specs.Prelude.{◌≡◌, ◌↔◌, ◌<◌, [], ◌∷◌, ◌++◌, IsTrue, OnOk, OnErr, OnSome, length, drop, slice_get};
 ghost use Rattle.std.specs.Prelude.{slice_index};
-ghost use Rattle.sum_words.specs.Words.{pieces_cut, CutsAt, TakesFirst};
+ghost use Rattle.sum_words.specs.Words.{pieces_cut, CutsAt};
 
 use std::alloc::Allocator;
 use std::marker::Model;
@@ -19,8 +19,9 @@ pub struct Words<A: Allocator> {
 }
 
 impl<A: Allocator> Model for Words<A> {
+    ghost use Rattle.digest_kinds.specs.Bytes.{ByteString};
     ghost use Rattle.std.specs.Prelude.{List};
-    ghost use Rattle.sum_words.specs.Words.{ByteString, pieces_cut, CutsAt};
+    ghost use Rattle.sum_words.specs.Words.{pieces_cut, CutsAt};
 
     ghost Value = { List ByteString };
 
@@ -73,6 +74,13 @@ impl<A: Allocator> Words<A> {
         self.ends.len()
     }
 
+    /// Returns whether the list is empty.
+    pub fn is_empty(&self) -> bool
+        ensures { IsTrue result ↔ (self.now ≡ []) }
+    {
+        self.len() == 0
+    }
+
     /// Returns an iterator over the words.
     pub fn iter(&self) -> WordsIter<'_>
         ensures { result ≡ self.now }
@@ -101,8 +109,9 @@ pub struct WordsIter<'a> {
 }
 
 impl<'a> Model for WordsIter<'a> {
+    ghost use Rattle.digest_kinds.specs.Bytes.{ByteString};
     ghost use Rattle.std.specs.Prelude.{List, drop};
-    ghost use Rattle.sum_words.specs.Words.{ByteString, pieces_cut, CutsAt};
+    ghost use Rattle.sum_words.specs.Words.{pieces_cut, CutsAt};
 
     ghost Value = { List ByteString };
 
@@ -114,7 +123,7 @@ impl<'a> Model for WordsIter<'a> {
 impl<'a> Iterator for WordsIter<'a> {
     type Item = &'a [u8];
 
-    ghost next_gives = { TakesFirst (λ word. word.now) };
+    ghost next_gives = { YieldsFirstRef (λ words. words) };
 
     ghost remaining = { item_count (λ words. words) };
 
@@ -131,7 +140,7 @@ impl<'a> Iterator for WordsIter<'a> {
 fn piece_at<'a>(bytes: &'a [u8], ends: &'a [usize], i: usize) -> Option<&'a [u8]>
     requires { CutsAt bytes.now 0 ends.now }
     ensures piece { option_copied result ≡ slice_get (pieces_cut bytes.now 0 ends.now) i }
-    ensures within { OnSome result (i + 1 < 2 ^ 64) }
+    ensures within { OnSome result (i < usize.MAX) }
 {
     let end = *ends.get(i)?;
     let start = start_of(ends, i);

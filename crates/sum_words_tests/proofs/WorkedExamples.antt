@@ -3,16 +3,24 @@ use Rattle.std.proofs.Common.{rules, ◌≡◌, ◌==◌, ◌≤◌, List, ℕ, 
 use Rattle.std.specs.{Prelude.⊤, List.slice_split, Str.byte, Str.chars, Str.is_utf8}
 use Prim.Native.String.{String}
 use lib.Utf8.{encode}
-use Rattle.sum_lines.specs.grammar.Shapes.{Algo, One, Any}
+use Rattle.digest_kinds.specs.declared.algo.{Algo.Algo, Algos.TheVariants.One, Algos.TheVariants.Any}
 use Rattle.digest_kinds.specs.declared.algo.Algo.TheVariants.{Md5, Sha256, Blake2b}
-use Rattle.sum_words.specs.{Request.Mode, Request.request, declared.parsing.request.Request.Request}
+use Rattle.sum_settings.specs.declared.style.Mode.{Mode}
+use Rattle.sum_words.specs.{parsing.Request.request, declared.parsing.request.Request.Request}
 use Rattle.sum_words.specs.declared.parsing.request.Request.TheVariants.{Generate, Check, Help, Version}
 use Rattle.sum_words.specs.declared.parsing.options.Spelling.TheVariants.{Long, Short}
-use Rattle.sum_words.specs.{CommandLines.command_line, CommandLines.NeedsMemory, Items.ByteString, Items.name_or_fault, Items.option_of_letter, Tools.tool_called}
+use Rattle.sum_words.specs.CommandLine.{command_line, NeedsMemory}
+use Rattle.sum_words.specs.parsing.Options.{name_or_fault, option_of_letter}
+use Rattle.sum_words.specs.Tool.{tool_called}
+use Rattle.digest_kinds.specs.Bytes.{ByteString}
 use Rattle.sum_words.specs.declared.tool.Tool.TheVariants.{Md5sum, Sha256sum, B2sum, Anysum}
-use Rattle.sum_words.specs.WordFaults.{WordFaultValue, unknown_long, ambiguous_long, value_not_allowed, value_missing, unknown_short, length_invalid, length_not_bytes, tag_with_text, zero_with_check, tag_with_check, mode_with_check, without_check, check_needed, not_text}
+use Rattle.sum_words.specs.parsing.WordFault.{WordFaultValue, unknown_long, ambiguous_long, value_not_allowed}
+use Rattle.sum_words.specs.parsing.WordFault.{value_missing, unknown_short, length_invalid, length_not_bytes}
+use Rattle.sum_words.specs.parsing.WordFault.{tag_with_text, zero_with_check, tag_with_check, mode_with_check}
+use Rattle.sum_words.specs.parsing.WordFault.{without_check, check_needed, not_text}
 use Rattle.sum_settings.specs.declared.style.Mode.TheVariants as modes
 use Rattle.sum_settings.specs.declared.settings.Report.TheVariants as reports
+use Rattle.sum_words.specs.declared.parsing.options.Flag.TheVariants as flags
 
 -- what unfolds if words are read
 unfoldable pub words_on_literals : ⊤
@@ -54,9 +62,9 @@ lengths = (refl, refl, refl, refl, refl, refl, refl, refl, refl, refl, refl, ref
 -- options, abbreviated ones among them, and their faults
 options :
     (request Sha256sum (words "--st l") ≡ Err (ambiguous_long (codes "st")))
-    × (request Sha256sum (words "--str l") ≡ Err (without_check (codes "strict")))
+    × (request Sha256sum (words "--str l") ≡ Err (without_check flags.Strict))
     × (request Sha256sum (words "-cq l") ≡ Err (unknown_short 113))
-    × (request Md5sum (words "--status --quiet a") ≡ Err (without_check (codes "quiet")))
+    × (request Md5sum (words "--status --quiet a") ≡ Err (without_check flags.Quiet))
     × (request Md5sum (words "--foo --help") ≡ Err (unknown_long (codes "foo")))
     × (request Md5sum (words "--help --foo") ≡ Ok Help)
     × (request Md5sum (words "--tag=1 a") ≡ Err (value_not_allowed (codes "tag")))
@@ -79,9 +87,9 @@ order :
     × (request Md5sum (words "-c --tag -z l") ≡ Err zero_with_check)
     × (request Md5sum (words "-c --tag l") ≡ Err tag_with_check)
     × (request Md5sum (words "-c -b l") ≡ Err mode_with_check)
-    × (request Md5sum (words "--strict --ignore-missing a") ≡ Err (without_check (codes "ignore-missing")))
-    × (request Md5sum (words "--quiet -w --status a") ≡ Err (without_check (codes "status")))
-    × (request Md5sum (words "--status -w a") ≡ Err (without_check (codes "warn")))
+    × (request Md5sum (words "--strict --ignore-missing a") ≡ Err (without_check flags.IgnoreMissing))
+    × (request Md5sum (words "--quiet -w --status a") ≡ Err (without_check flags.Status))
+    × (request Md5sum (words "--status -w a") ≡ Err (without_check flags.Warn))
     × (request Md5sum (words "-c -t --tag -t l") ≡ Err tag_with_text)
 unfolding words_on_literals
 order = (refl, refl, refl, refl, refl, refl, refl, refl, refl, refl)
@@ -91,7 +99,7 @@ checking :
     (request Anysum [] ≡ Err check_needed)
     × (request Anysum (words "m") ≡ Err check_needed)
     × (request Anysum (words "-b m") ≡ Err check_needed)
-    × (request Anysum (words "--quiet m") ≡ Err (without_check (codes "quiet")))
+    × (request Anysum (words "--quiet m") ≡ Err (without_check flags.Quiet))
     × (request Anysum (words "-z -c m") ≡ Err zero_with_check)
     × (request Anysum (words "-c -l 8 m") ≡ Err (unknown_short 108))
     × (request Anysum (words "-c --length=8 m") ≡ Err (unknown_long (codes "length")))

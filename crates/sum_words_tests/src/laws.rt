@@ -1,7 +1,8 @@
 //! What the law of plain words says of a command line.
 ghost use Rattle.std.specs.List.{AllPass};
 ghost use Rattle.std.specs.Prelude.{◌≡◌, not, List, ◌∷◌, ◌++◌, map, codes};
-ghost use Rattle.sum_words.specs.Items.{ByteString, operand, a_word, is_option_word, items_from};
+ghost use Rattle.digest_kinds.specs.Bytes.{ByteString};
+ghost use Rattle.sum_words.specs.parsing.Items.{operand, a_word, is_option_word, items_from};
 ghost use Rattle.sum_words.specs.declared.tool.Tool.{Tool};
 
 use sum_words::laws::plain_words_are_operands;

@@ -4,11 +4,7 @@ use std::alloc::Global;
 use std::process::Abort;
 use std::test::Fail;
 use sum_lines::{Buffered, ToldSink};
-use sum_settings::Stop;
-use sum_words::{
-    Tool, UnknownTool, Words, put_fault, put_help, put_not_read, put_stop, put_unknown,
-    put_version, read_words,
-};
+use sum_words::{Tool, UnknownTool, Words, put_fault, put_help, put_version, read_words};
 
 // Whether both ways of reading the name give this tool, or none. It has no contract, so that a test knows no more
 // of it than it sees; the same goes for the functions below.
@@ -34,36 +30,27 @@ fn tools(rt: HostRuntime) -> Result<(), Fail> {
     Ok(())
 }
 
-// The lines of a run that ends early, of the version, and of no tool and no words.
-fn put_lines() -> Result<ToldSink<256>, Fail> {
-    let mut sink = Buffered::new(ToldSink::new(256));
-    put_stop(&mut sink, Tool::Sha256sum, Stop::Write)?;
-    put_stop(&mut sink, Tool::Sha256sum, Stop::Memory)?;
-    put_version(&mut sink, Tool::Sha1sum)?;
-    put_unknown(&mut sink)?;
-    put_not_read(&mut sink)?;
-    sink.flush()?;
-    Ok(sink.into_inner())
-}
-
-#[test]
-fn lines(rt: HostRuntime) -> Result<(), Fail> {
-    let lines = b"sha256sum: write error\n\
-        sha256sum: memory exhausted\n\
-        sha1sum (digests), profile 2\n\
-        digests: unknown tool\n\
-        digests: words not read\n"
-        .as_slice();
-    assert_eq!(rt; put_lines()?.bytes(), lines);
-    Ok(())
-}
-
 // The help of a tool.
 fn help_of(tool: Tool) -> Result<ToldSink<1024>, Fail> {
     let mut out = Buffered::new(ToldSink::new(1024));
     put_help(&mut out, tool)?;
     out.flush()?;
     Ok(out.into_inner())
+}
+
+// The version of a tool.
+fn version_of(tool: Tool) -> Result<ToldSink<64>, Fail> {
+    let mut out = Buffered::new(ToldSink::new(64));
+    put_version(&mut out, tool)?;
+    out.flush()?;
+    Ok(out.into_inner())
+}
+
+#[test]
+fn version(rt: HostRuntime) -> Result<(), Fail> {
+    let text = b"sha1sum (digests), profile 2\n".as_slice();
+    assert_eq!(rt; version_of(Tool::Sha1sum)?.bytes(), text);
+    Ok(())
 }
 
 // How it begins: the tests of the program have all of it.

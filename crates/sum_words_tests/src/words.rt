@@ -20,6 +20,7 @@ pub(crate) fn words_and(alloc: Global, line: &str, last: &[u8]) -> Result<Words<
 fn are(words: &Words<Global>, wanted: &[&[u8]]) -> bool {
     words.iter().eq(wanted.iter().copied())
         && words.len() == wanted.len()
+        && words.is_empty() == wanted.is_empty()
         && words.get(2) == wanted.get(2).copied()
         && words.get(wanted.len()).is_none()
 }

@@ -4,10 +4,10 @@ ghost use Rattle.std.specs.Prelude.{◌≡◌, []};
 
 use crate::algo::Algo;
 use crate::digest::Digest;
-use crate::hashers::hasher::Hasher;
-use crate::hashers::kit_hashers::{
+use crate::hashers::counting_hasher::{
     Md5Hasher, Sha1Hasher, Sha224Hasher, Sha256Hasher, Sha384Hasher, Sha512Hasher,
 };
+use crate::hashers::hasher::Hasher;
 use crate::kind::Kind;
 use blake2b_core::Blake2b;
 
@@ -66,7 +66,7 @@ impl AnyHasher {
 }
 
 impl Hasher for AnyHasher {
-    ghost use Rattle.digest_kinds.specs.AnyHasherState.{hasher_in, taken-length};
+    ghost use Rattle.digest_kinds.specs.AnyHasher.{hasher_in, taken-length};
 
     ghost holds = { λ h. (hasher_in h).holds };
 

@@ -1,7 +1,7 @@
 //! BLAKE2b as a hasher.
 
-ghost use Rattle.blake2b_core.specs.Holding.{HasTaken, digest_len, taken_count};
-ghost use Rattle.digest_kinds.specs.Kinds.{blake2b_kind};
+ghost use Rattle.blake2b_core.specs.Blake2b.{HasTaken, digest_len, taken_count};
+ghost use Rattle.digest_kinds.specs.Kind.{blake2b_kind};
 
 use crate::digest::Digest;
 use crate::hashers::hasher::Hasher;

@@ -1,7 +1,7 @@
 //! The trait of a hasher.
 
 ghost use Rattle.digest_kinds.specs.Bytes.{ByteString, LIMIT};
-ghost use Rattle.digest_kinds.specs.Kinds.{KindValue, digest};
+ghost use Rattle.digest_kinds.specs.Kind.{KindValue, digest};
 ghost use Rattle.std.specs.Prelude.{◌≡◌, ◌↔◌, ℕ, ◌+◌, ◌<◌, ◌++◌, length, IsOk, OnOk, OnErr};
 
 use crate::digest::Digest;
@@ -39,6 +39,8 @@ pub trait Hasher {
     /// [`LIMIT`](crate::LIMIT) bytes or more; the hasher is then unchanged.
     fn try_update(&mut self, piece: &[u8]) -> Result<(), MessageTooLong>
         ensures fits { IsOk result ↔ (taken_of self.old + length piece.now < LIMIT) }
+
+        // What it has taken then, and what stays.
         ensures holds { OnOk result ((m : ByteString) → holds self.old m
             → holds self.new (m ++ piece.now)) }
         ensures taken { OnOk result (taken_of self.new ≡ taken_of self.old + length piece.now) }

@@ -1,6 +1,9 @@
 -- Relates the messages of the program to their texts.
-use Rattle.sum_words.specs.{Items.ByteString, Request.word_fault_value}
-use Rattle.sum_words.specs.Texts.{fault_lines, help, version, stop_line, unknown_tool_line, not_read_line}
+use Rattle.std.specs.Prelude.{Some}
+use Rattle.digest_kinds.specs.Bytes.{ByteString}
+use Rattle.sum_words.specs.{parsing.WordFault.word_fault_value, messages.FaultLines.fault_lines, messages.Help.help}
+use Rattle.sum_words.specs.messages.Help.{version}
+use Rattle.digests.specs.Program.{stop_line, unknown_tool_line, not_read_line}
 use Rattle.digests.specs.declared.messages.Message.{Message}
 use Rattle.digests.specs.declared.messages.Message.TheVariants as texts
 
@@ -11,4 +14,4 @@ message_text (texts.Help tool) = help tool
 message_text (texts.Version tool) = version tool
 message_text texts.UnknownTool = unknown_tool_line
 message_text texts.NotRead = not_read_line
-message_text (texts.Stop tool stop) = stop_line tool stop
+message_text (texts.Stop tool stop) = stop_line (Some tool) stop

@@ -2,16 +2,16 @@
 ghost use Rattle.std.specs.Prelude.{IsTrue};
 
 use super::{MISSING, source_of, spell, spell_all};
-use digests::command::command;
+use digests::{command, put_not_read, put_stop, put_unknown};
 use linked_list_allocator::LocalHeap;
 use std::alloc::{Allocator, Global};
 use std::io::{self, ErrorKind, Write};
 use std::process::Abort;
 use std::test::Fail;
-use sum_engine::{Inputs, Outputs, Streams};
-use sum_lines::{FromWrite, Sink, ToldSink};
+use sum_engine::{Inputs, Outputs, Stop, Streams};
+use sum_lines::{Buffered, FromWrite, Sink, ToldSink};
 use sum_sources::{Ending, Stdin, Told, ToldSource, WithStdin};
-use sum_words::ToldArguments;
+use sum_words::{ToldArguments, Tool};
 
 // The program itself. It has no contract, so that its callers' proofs don't meet that of `command`.
 fn status_of<A: Allocator + Copy, O: Sink, E: Sink>(
@@ -54,6 +54,28 @@ fn output() -> ToldSink<256>
     ensures { IsTrue result.state.flushed }
 {
     ToldSink::new(256)
+}
+
+// The lines for both stops, for no tool and for no words.
+fn put_lines() -> Result<ToldSink<256>, Fail> {
+    let mut sink = Buffered::new(output());
+    put_stop(&mut sink, Tool::Sha256sum, Stop::Write)?;
+    put_stop(&mut sink, Tool::Sha256sum, Stop::Memory)?;
+    put_unknown(&mut sink)?;
+    put_not_read(&mut sink)?;
+    sink.flush()?;
+    Ok(sink.into_inner())
+}
+
+#[test]
+fn lines(rt: HostRuntime) -> Result<(), Fail> {
+    let lines = b"sha256sum: write error\n\
+        sha256sum: memory exhausted\n\
+        digests: unknown tool\n\
+        digests: words not read\n"
+        .as_slice();
+    assert_eq!(rt; put_lines()?.bytes(), lines);
+    Ok(())
 }
 
 // What a call writes on each output, and its status.

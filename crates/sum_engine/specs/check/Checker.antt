@@ -1,81 +1,97 @@
 -- A checker, and what its next step does.
-use Rattle.std.specs.Prelude.{Bool, true, false, ◌≡◌, ◌⊎◌, ◌+◌, ◌<◌, ◌≤◌, List, [], ◌∷◌, length, Option, None, Some, Result, Ok, Err}
-pub use Rattle.sum_engine.specs.declared.check.progress.Progress.{Progress}
-pub use Rattle.sum_engine.specs.declared.check.progress.Progress.TheVariants.{Going, Ended}
-use Rattle.sum_sources.specs.declared.{line_reader.LineStop.TheVariants.Fault, line_reader.LineStop.TheVariants.Memory, inputs.input.TheConstants.PIECE}
-use Rattle.sum_engine.specs.{Names.RefusesMemory, Writes.WritesAndReturns}
-use Rattle.sum_engine.specs.Behavior.{ByteString, Whole, Broken, Step, Behavior, InputState}
-use Rattle.sum_engine.specs.Execution.{Stop, OutputsState, StreamsState, PerformsSteps, StopHasCause, none_or_one, ReadsToEndIf}
-use Rattle.sum_engine.specs.check.CheckStates.{CheckState, HandlesLine, remaining_behavior}
-use Rattle.sum_engine.specs.check.{Rules.Rules, Rules.LabelsValue, ReadAhead.remaining_before}
-use Rattle.sum_engine.specs.check.Reports.{out_of, err_of, end_text, good}
-use Rattle.sum_engine.specs.check.Verdicts.{VerdictsValue, VerdictResult, HoldsInEachCheck, AdvancesVerdicts, line_verdict_value}
+use Rattle.std.specs.Prelude.{◌≡◌, ◌+◌, ◌<◌, ◌≤◌, ◌⊎◌, Bool, true, false, List, [], ◌∷◌, length, Option, None, Some}
+use Rattle.std.specs.Prelude.{Result, Ok, Err}
+use Rattle.digest_kinds.specs.Bytes.{ByteString}
+use Rattle.sum_settings.specs.declared.stop.Stop.{Stop}
 use Rattle.sum_settings.specs.declared.stop.Stop.TheVariants as stops
+use Rattle.sum_sources.specs.{Input.InputState, declared.fault.Ending.TheVariants.Whole}
+use Rattle.sum_sources.specs.declared.{fault.Ending.TheVariants.Broken, inputs.input.TheConstants.PIECE}
+use Rattle.sum_sources.specs.declared.line_reader.LineStop.TheVariants.{Fault, Memory}
+use Rattle.sum_engine.specs.Behavior.{Step, Behavior}
+use Rattle.sum_engine.specs.Execution.{PerformsSteps, ReadsToEndIf, RefusesMemory}
+use Rattle.sum_engine.specs.Streams.{BothOutputs, StreamsState, StopHasCause, none_or_one, WritesAndReturns}
+use Rattle.sum_engine.specs.check.{Rules.LabelsValue, Rules.CheckRules, Judge.line_verdict_value}
+use Rattle.sum_engine.specs.check.{Counts.counts_of, Counts.counts_then, Counts.good, Report.out_of, Report.err_of}
+use Rattle.sum_engine.specs.check.{Summary.end_text, CheckOne.line_steps, CheckOne.remaining_before}
+use Rattle.sum_engine.specs.check.Verdicts.{VerdictsValue, CheckState, HandlesLine, HoldsInEachCheck, VerdictResult}
+use Rattle.sum_engine.specs.check.Verdicts.{AdvancesVerdicts, remaining_verdicts}
+pub use Rattle.sum_engine.specs.declared.check.progress.Progress.{Progress, TheVariants.Going, TheVariants.Ended}
 
--- a checker: the verdicts, what its reports show, and the outcome: whether the manifest is good, or why the check
--- stopped
+-- a checker
 pub record CheckerValue (I : Type 0) : Type 0 where
   pub verdicts : VerdictsValue I
   pub labels : LabelsValue
-  pub outcome : Option (Result Bool Stop)
+  pub outcome : Option (Result Bool Stop)  -- whether the manifest is good, or why the check stopped
 
--- a step, and then a behavior
-abbrev pub step_then : Step → Behavior → Behavior
-step_then s r = record { steps = s ∷ r.steps; good = r.good }
+-- the behavior that remains
+abbrev pub remaining_behavior : CheckRules → LabelsValue → CheckState → Behavior
+remaining_behavior rules labels state =
+    let verdicts = remaining_verdicts rules state in
+    let counts = counts_then state.counts (counts_of verdicts) in
+    record {
+      steps = line_steps rules labels (end_text rules labels state.remaining.ending counts) state.remaining verdicts;
+      good = good rules state.remaining.ending counts;
+    }
 
--- what a step returns if these steps remain after it: Going, if there are any, and otherwise whether all is good
+-- the behavior that begins with this step, and then is that of another
+abbrev pub behavior_from : Step → Behavior → Behavior
+behavior_from step later = record { steps = step ∷ later.steps; good = later.good }
+
+-- what a step returns before these steps: Going, if there are any, and otherwise whether all is good
 abbrev pub progress_before : List Step → Bool → Progress
 progress_before [] good = Ended good
 progress_before steps good = Going
 
--- a step leads the check from a to b, and the streams from s to t: it performs the first step of the behavior that
--- remained; if it returns Going, a line was handled, and the others remain. That also holds after a write fault, unless
--- no step was left
-pub record IsStep (r : Rules) (labels : LabelsValue) (vector : ByteString) (a b : CheckState) (s t : StreamsState)
-    (x : Result Progress Stop) : Type 0 where
+-- a step of a checker performs the first step of the behavior that remained. If it returns Going, a line was handled,
+-- and the later steps remain. That also holds after a write fault, unless no step was left
+pub record IsStep (rules : CheckRules) (labels : LabelsValue) (vector : ByteString) (old new : CheckState)
+    (before after : StreamsState) (result : Result Progress Stop) : Type 0 where
   pub step : Step
   pub later : Behavior
-  pub is : remaining_behavior r labels a ≡ step_then step later
-  pub performs : PerformsSteps (step ∷ []) (progress_before later.steps later.good) s t x
-  pub going : x ≡ Ok Going → (later ≡ remaining_behavior r labels b) × HandlesLine r a b vector
-  pub failed : x ≡ Err stops.Write
-      → (later.steps ≡ []) ⊎ ((later ≡ remaining_behavior r labels b) × HandlesLine r a b vector)
+  pub is : remaining_behavior rules labels old ≡ behavior_from step later
+  pub performs : PerformsSteps (step ∷ []) (progress_before later.steps later.good) before after result
+  pub going : result ≡ Ok Going → (later ≡ remaining_behavior rules labels new) × HandlesLine rules old new vector
+  pub failed : result ≡ Err stops.Write
+      → (later.steps ≡ []) ⊎ ((later ≡ remaining_behavior rules labels new) × HandlesLine rules old new vector)
   -- if memory ran out: how far beyond the step's line was read
-  pub refused : x ≡ Err stops.Memory
-      → b.taken + remaining_before later.steps ≤ a.consumed + length a.remaining.bytes + PIECE
+  pub refused : result ≡ Err stops.Memory
+      → new.taken + remaining_before later.steps ≤ old.consumed + length old.remaining.bytes + PIECE
 
--- what was found is written: a line's report, or the end; and the step returns whether lines may follow
-abbrev pub ReportsFound : {I : Type 0} → VerdictsValue I → LabelsValue → ByteString → VerdictResult → OutputsState
-    → OutputsState → Result Progress Stop → Type 0
-ReportsFound p labels vector (Ok (Some v)) a b x = let j = line_verdict_value vector v in
-    WritesAndReturns a b (err_of p.rules labels j) (out_of p.rules labels j) Going x
-ReportsFound p labels vector (Ok None) a b x =
-    WritesAndReturns a b (end_text p.rules labels Whole p.counts) [] (Ended (good p.rules Whole p.counts)) x
-ReportsFound p labels vector (Err (Fault f)) a b x =
-    WritesAndReturns a b (end_text p.rules labels (Broken f) p.counts) [] (Ended false) x
-ReportsFound p labels vector (Err Memory) a b x = (x ≡ Err stops.Memory) × (b ≡ a)
+-- what was found is written: a line's report, or the end. The step returns whether lines may follow
+abbrev pub ReportsFound : {I : Type 0} → VerdictsValue I → LabelsValue → ByteString → VerdictResult → BothOutputs
+    → BothOutputs → Result Progress Stop → Type 0
+ReportsFound verdicts labels vector (Ok (Some found)) before after result =
+    let line = line_verdict_value vector found in
+    WritesAndReturns before after (err_of verdicts.rules labels line) (out_of labels line) Going result
+ReportsFound verdicts labels vector (Ok None) before after result =
+    WritesAndReturns before after (end_text verdicts.rules labels Whole verdicts.counts) []
+    (Ended (good verdicts.rules Whole verdicts.counts)) result
+ReportsFound verdicts labels vector (Err (Fault fault)) before after result =
+    WritesAndReturns before after (end_text verdicts.rules labels (Broken fault) verdicts.counts) []
+    (Ended false) result
+ReportsFound verdicts labels vector (Err Memory) before after result = (result ≡ Err stops.Memory) × (after ≡ before)
 
--- the call takes a step of the check: it finds the next verdict, and writes what is to be written of it
-pub record TakesStep {I : Type 0} (state : I → InputState) (vector : ByteString) (p q : CheckerValue I)
-    (a b : StreamsState) (x : Result Progress Stop) : Type 0 where
-  pub labels : q.labels ≡ p.labels
-  pub step : HoldsInEachCheck state p.verdicts q.verdicts a.inputs b.inputs
-      (λ c d. IsStep p.verdicts.rules p.labels vector c d a b x)
+-- a call takes a step of the check: it finds the next verdict, and writes what is to be written of it
+pub record TakesStep {I : Type 0} (state_of : I → InputState) (vector : ByteString) (old new : CheckerValue I)
+    (before after : StreamsState) (result : Result Progress Stop) : Type 0 where
+  pub labels : new.labels ≡ old.labels
+  pub step : HoldsInEachCheck state_of old.verdicts new.verdicts before.inputs after.inputs
+      (λ a b. IsStep old.verdicts.rules old.labels vector a b before after result)
   -- whatever the manifest's content and the world are: what was found, and what was written of it
   pub found : VerdictResult
-  pub advances : AdvancesVerdicts state vector p.verdicts q.verdicts a.inputs b.inputs found
-  pub reports : ReportsFound q.verdicts p.labels vector found a.outputs b.outputs x
-  -- a stop has its cause. Out of memory, nothing was written; and the source was refused memory, or nothing was opened
-  -- and bytes were read ahead
-  pub cause : StopHasCause none_or_one a b x
-  pub memory : x ≡ Err stops.Memory → (b.outputs ≡ a.outputs) × (RefusesMemory a.inputs b.inputs
-      ⊎ ((b.inputs ≡ a.inputs) × (0 < length q.verdicts.reader.ahead)))
-  pub lines : x ≡ Ok Going → q.verdicts.reader.lines ≡ p.verdicts.reader.lines + 1
+  pub advances : AdvancesVerdicts state_of vector old.verdicts new.verdicts before.inputs after.inputs found
+  pub reports : ReportsFound new.verdicts old.labels vector found before.outputs after.outputs result
+  pub cause : StopHasCause none_or_one before after result
+  -- out of memory: nothing was written. The source was refused memory; or bytes were read ahead, and nothing was opened
+  pub memory : result ≡ Err stops.Memory → (after.outputs ≡ before.outputs)
+      × (RefusesMemory before.inputs after.inputs
+      ⊎ ((after.inputs ≡ before.inputs) × (0 < length new.verdicts.reader.ahead)))
+  pub lines : result ≡ Ok Going → new.verdicts.reader.lines ≡ old.verdicts.reader.lines + 1
   -- a file that could not be opened or read is counted; any other was read to its end
-  pub unread : p.verdicts.counts.unread ≤ q.verdicts.counts.unread
-  pub reads : ReadsToEndIf (q.verdicts.counts.unread ≡ p.verdicts.counts.unread) a.inputs b.inputs
+  pub unread : old.verdicts.counts.unread ≤ new.verdicts.counts.unread
+  pub reads : ReadsToEndIf (new.verdicts.counts.unread ≡ old.verdicts.counts.unread) before.inputs after.inputs
   -- the manifest is good only if no line is left, and each listed file was read to its end
-  pub good : x ≡ Ok (Ended true) → (found ≡ Ok None) × (q.verdicts.counts.unread ≡ 0)
+  pub good : result ≡ Ok (Ended true) → (found ≡ Ok None) × (new.verdicts.counts.unread ≡ 0)
 
 -- the result of a step that ends or stops a check with this outcome
 abbrev pub end_result : Result Bool Stop → Result Progress Stop

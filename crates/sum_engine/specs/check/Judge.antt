@@ -1,16 +1,15 @@
 -- The verdict of a line, and those of a manifest's lines.
-use Rattle.std.specs.Prelude.{ℕ, ◌+◌, ◌&&◌, Bool, true, false, List, [], ◌∷◌, Ok, Err, if◌then◌else◌, bytes_eq}
-pub use Rattle.digest_kinds.specs.declared.algo.Algos.{Algos}
-use Rattle.sum_engine.specs.check.Rules.{Rules}
-use Rattle.sum_engine.specs.Behavior.{ByteString, World, is_dash, answer_to, world_after, digest_or_fault, Content, Answer}
-use Rattle.sum_sources.specs.declared.fault.Fault.TheVariants.{NotFound}
-pub use Rattle.sum_sources.specs.ManifestLines.{lines, raw_lines, past_line, past_lines}
-pub use Rattle.sum_lines.specs.declared.reading.read_line.Form.{Form}
-pub use Rattle.sum_lines.specs.grammar.Entries.{EntryValue, IsEntry, form, form_then, line_form}
-pub use Rattle.sum_engine.specs.declared.check.judge.Verdict.{Verdict}
+use Rattle.std.specs.Prelude.{ℕ, ◌+◌, ◌≤◌, ◌&&◌, Bool, true, false, List, [], ◌∷◌, length, Result, Ok, Err}
+use Rattle.std.specs.Prelude.{if◌then◌else◌, bytes_eq, slice_range, map}
+use Rattle.digest_kinds.specs.{Bytes.ByteString, declared.algo.Algos.Algos}
+use Rattle.sum_lines.specs.grammar.{Entries.EntryValue, Form.form}
+use Rattle.sum_lines.specs.grammar.ParsedLines.{ParsedLine, ignored, bad, entry, parse_line}
+use Rattle.sum_sources.specs.{Input.Content, ManifestLines.lines, Source.AnswerValue, WithStdin.is_dash}
+use Rattle.sum_sources.specs.declared.fault.Fault.{Fault, TheVariants.NotFound}
+use Rattle.sum_engine.specs.Behavior.{World, answer_to, world_after, digest_or_fault}
+use Rattle.sum_engine.specs.check.Rules.{CheckRules}
+pub use Rattle.sum_engine.specs.declared.check.judge.{LineVerdict.LineVerdict, Verdict.Verdict}
 pub use Rattle.sum_engine.specs.declared.check.judge.Verdict.TheVariants.{Ignored, Bad, Right, Wrong, Missing, Unread}
-pub use Rattle.sum_lines.specs.Escape.{Profile, own_profile, escape, escape_by}
-pub use Rattle.sum_lines.specs.grammar.ParsedLines.{ParsedLine, ignored, bad, entry, parse_line}
 
 -- a line's number (the first is 1), its verdict, and the name of its entry
 pub record LineVerdictValue : Type 0 where
@@ -18,40 +17,67 @@ pub record LineVerdictValue : Type 0 where
   pub verdict : Verdict
   pub name : ByteString
 
+-- the range of a line's name is within the vector
+pub record HasNameRange (vector : ByteString) (found : LineVerdict) : Type 0 where
+  pub start : found.start ≤ found.stop
+  pub stop : found.stop ≤ length vector
+
+-- a line's verdict, with its name in place of the name's range in the vector
+abbrev pub line_verdict_value : ByteString → LineVerdict → LineVerdictValue
+line_verdict_value vector found =
+    record { number = found.number; verdict = found.verdict; name = slice_range vector found.start found.stop }
+
+-- whether a verdict is `Unread`, with any fault
+abbrev pub is_unread : Verdict → Bool
+is_unread (Unread fault) = true
+is_unread verdict = false
+
 -- whether there is no such file
-abbrev pub is_not_found : Answer → Bool
+abbrev pub is_not_found : AnswerValue → Bool
 is_not_found (Err NotFound) = true
-is_not_found r = false
+is_not_found answer = false
+
+-- the verdict of an entry that lists this digest, by what its file gave
+abbrev pub verdict_of_file : ByteString → Result ByteString Fault → Verdict
+verdict_of_file listed (Ok digest) = if bytes_eq digest listed then Right else Wrong
+verdict_of_file listed (Err fault) = Unread fault
 
 -- the verdict of an entry
-abbrev pub judge : Rules → World → EntryValue → Verdict
-judge r w s = let c = answer_to w s.name in
-    if r.from_stdin && is_dash s.name then Bad
-    else if r.ignore_missing && is_not_found c then Missing
-    else elim (digest_or_fault s.kind c) [ Ok d ↦ if bytes_eq d s.digest then Right else Wrong | Err f ↦ Unread f ]
+abbrev pub judge : CheckRules → World → EntryValue → Verdict
+judge rules world listed = let answer = answer_to world listed.name in
+    if rules.from_stdin && is_dash listed.name then Bad
+    else if rules.ignore_missing && is_not_found answer then Missing
+    else verdict_of_file listed.digest (digest_or_fault listed.kind answer)
 
 -- the verdict of line n, which says this
-abbrev pub line_verdict : Rules → World → ℕ → ParsedLine → LineVerdictValue
-line_verdict r w n ignored = record { number = n; verdict = Ignored; name = [] }
-line_verdict r w n bad = record { number = n; verdict = Bad; name = [] }
-line_verdict r w n (entry s) = record { number = n; verdict = judge r w s; name = s.name }
+abbrev pub line_verdict : CheckRules → World → ℕ → ParsedLine → LineVerdictValue
+line_verdict rules world n ignored = record { number = n; verdict = Ignored; name = [] }
+line_verdict rules world n bad = record { number = n; verdict = Bad; name = [] }
+line_verdict rules world n (entry listed) =
+    record { number = n; verdict = judge rules world listed; name = listed.name }
 
--- the names that a line's verdict opens: that of its entry, unless the line is ignored or bad
+-- the names that were opened for a verdict on this name: none for an ignored line or a bad one
+abbrev pub asks_by : Verdict → ByteString → List ByteString
+asks_by Ignored name = []
+asks_by Bad name = []
+asks_by verdict name = name ∷ []
+
+-- the names that a line's verdict opens
 abbrev pub asks_of : LineVerdictValue → List ByteString
-asks_of j = elim j.verdict [ Ignored ↦ [] | Bad ↦ [] | v ↦ j.name ∷ [] ]
+asks_of found = asks_by found.verdict found.name
 
--- the lines of a content, each without one carriage return at its end, unless the profile drops none
-abbrev pub lines_under : Profile → Content → List ByteString
-lines_under p c = if p.drops_carriage_return then lines c else raw_lines c
+-- the verdicts of the lines after line n, which say this
+abbrev pub verdicts : CheckRules → World → ℕ → List ParsedLine → List LineVerdictValue
+verdicts rules world n [] = []
+verdicts rules world n (x ∷ xs) =
+    let first = line_verdict rules world (n + 1) x in
+    let asked = world_after world (asks_of first) in  -- the world that the later lines find
+    first ∷ verdicts rules asked (n + 1) xs
 
--- the verdicts of the lines after line n in a manifest of that form
-abbrev pub verdicts : Rules → Form → World → ℕ → List ByteString → List LineVerdictValue
-verdicts r f w n [] = []
-verdicts r f w n (l ∷ ls) =
-    let first = line_verdict r w (n + 1) (parse_line r.profile r.algo f l) in
-    let asked = world_after w (asks_of first) in  -- the world that the later lines find
-    first ∷ verdicts r f asked (n + 1) ls
+-- what the lines of a content say, in a list of the form of them all
+abbrev pub parsed_content : Algos → Content → List ParsedLine
+parsed_content algos content = map (parse_line algos (form algos (lines content))) (lines content)
 
--- the verdicts of a whole manifest, whose form is that of all its lines
-abbrev pub all_verdicts : Rules → World → Content → List LineVerdictValue
-all_verdicts r w c = verdicts r (form r.algo (lines_under r.profile c)) w 0 (lines_under r.profile c)
+-- the verdicts of a whole manifest
+abbrev pub all_verdicts : CheckRules → World → Content → List LineVerdictValue
+all_verdicts rules world content = verdicts rules world 0 (parsed_content rules.algo content)

@@ -1,57 +1,114 @@
 -- The verdicts of a manifest, one call after another; no text is written.
-use Rattle.std.specs.Prelude.{◌≡◌, ◌+◌, ◌≤◌, ◌<◌, ◌⊎◌, [], ◌∷◌, length, slice_range, Bool, true, false, Option, None, Some, IfSome, Result, Ok, Err, ⊤}
-use Rattle.sum_lines.specs.declared.reading.read_line.Form.TheVariants.{Undecided}
-use Rattle.sum_sources.specs.LineReaders.{AdvancesLines, IsBounded, IsReading, consumed_count, reads_of, remaining_content}
-use Rattle.sum_sources.specs.declared.{inputs.phase.Phase.TheVariants.Unfinished, line_reader.LineReader.LineReader, line_reader.LineStop.TheVariants.Fault, line_reader.LineStop.TheVariants.Memory}
-pub use Rattle.sum_sources.specs.declared.line_reader.LineStop.{LineStop}
-use Rattle.sum_sources.specs.declared.{line_reader.Next.TheVariants.NoMore, line_reader.Next.Next}
-use Rattle.sum_engine.specs.Behavior.{ByteString, Ending, Whole, Broken, World, Content, InputState, SourceState, Fits}
-use Rattle.sum_engine.specs.Execution.{Agrees, world_at, ReadsToEndIf, AsksNames}
-use Rattle.sum_engine.specs.{Names.RefusesMemory, check.Rules.Rules, check.Judge.Form, check.Judge.LineVerdictValue, check.Judge.asks_of}
-pub use Rattle.sum_engine.specs.declared.check.judge.LineVerdict.{LineVerdict}
-use Rattle.sum_engine.specs.check.Reports.{Counts, is_unread}
-use Rattle.sum_engine.specs.check.CheckStates.{CheckState, no_counts, counts_with, HandlesLine, ReadsOneLine, remaining_verdicts}
+use Rattle.std.specs.Prelude.{ℕ, ◌≡◌, ◌+◌, ◌≤◌, ◌<◌, ◌⊎◌, Bool, true, false, List, [], ◌∷◌, length, ⊤, Option, None}
+use Rattle.std.specs.Prelude.{Some, IfSome, Result, Ok, Err, map}
+use Rattle.digest_kinds.specs.Bytes.{ByteString}
+use Rattle.sum_lines.specs.declared.reading.read_line.Form.{Form, TheVariants.Undecided}
+use Rattle.sum_lines.specs.grammar.{Form.form, Form.form_then, Form.line_form, ParsedLines.parse_line}
+use Rattle.sum_sources.specs.{Input.Content, Input.Fits, Input.InputState, LineReader.AdvancesLines}
+use Rattle.sum_sources.specs.LineReader.{IsBounded, IsReading, consumed_count, reads_of, remaining_content}
+use Rattle.sum_sources.specs.{ManifestLines.past_line, ManifestLines.lines, Source.SourceState}
+use Rattle.sum_sources.specs.declared.fault.Ending.{Ending, TheVariants.Whole, TheVariants.Broken}
+use Rattle.sum_sources.specs.declared.inputs.input.{TheConstants.PIECE, Phase.TheVariants.Unfinished}
+use Rattle.sum_sources.specs.declared.line_reader.{LineReader.LineReader, LineStop.LineStop, LineStop.TheVariants.Fault}
+use Rattle.sum_sources.specs.declared.line_reader.{LineStop.TheVariants.Memory, Next.Next, Next.TheVariants.NoMore}
+use Rattle.sum_engine.specs.Behavior.{World}
+use Rattle.sum_engine.specs.Execution.{Agrees, world_at, ReadsToEndIf, AsksNames, RefusesMemory}
+use Rattle.sum_engine.specs.check.{Counts.Counts, Counts.no_counts, Counts.counts_and_line, Judge.LineVerdict}
+use Rattle.sum_engine.specs.check.Judge.{LineVerdictValue, line_verdict_value, is_unread, asks_of, line_verdict}
+use Rattle.sum_engine.specs.check.{Judge.verdicts, Rules.CheckRules}
 
--- the verdicts of a manifest: its rules, its reader, the form and the counts of its lines so far, and the outcome: that
--- no line is left, or why the verdicts stopped
+-- the verdicts of a manifest
 pub record VerdictsValue (I : Type 0) : Type 0 where
-  pub rules : Rules
+  pub rules : CheckRules
   pub reader : LineReader I
-  pub form : Form
-  pub counts : Counts
-  pub outcome : Option (Result ⊤ LineStop)
+  pub form : Form  -- the form of its lines so far
+  pub counts : Counts  -- the counts of its lines so far
+  pub outcome : Option (Result ⊤ LineStop)  -- that no line is left, or why the verdicts stopped
 
 -- the verdicts are at the first line of that input
-pub record IsAtStart {I : Type 0} (state : I → InputState) (p : VerdictsValue I) (input : I) : Type 0 where
-  pub reader : p.reader ≡ record { input = input; ahead = []; taken = 0; lines = 0; final_answer = None }
-  pub reading : (state input).reads.phase ≡ Unfinished → IsReading state p.reader
-  pub form : p.form ≡ Undecided
-  pub counts : p.counts ≡ no_counts
-  pub outcome : p.outcome ≡ None
+pub record IsAtStart {I : Type 0} (state_of : I → InputState) (verdicts : VerdictsValue I) (input : I) : Type 0 where
+  pub reader : verdicts.reader ≡ record { input = input; ahead = []; taken = 0; lines = 0; final_answer = None }
+  pub reading : (state_of input).reads.phase ≡ Unfinished → IsReading state_of verdicts.reader
+  pub form : verdicts.form ≡ Undecided
+  pub counts : verdicts.counts ≡ no_counts
+  pub outcome : verdicts.outcome ≡ None
 
--- the state of the check there, if this content remains in this world
-abbrev pub state_at : {I : Type 0} → VerdictsValue I → Content → World → CheckState
-state_at p c w = record {
-  remaining = c;
-  number = p.reader.lines;
-  consumed = consumed_count p.reader;
-  taken = p.reader.taken;
-  form = p.form;
-  counts = p.counts;
-  world = w;
+-- ---- the states of a check
+
+-- the state of a manifest's check: what remains of the manifest, and what was found so far
+pub record CheckState : Type 0 where
+  pub remaining : Content
+  pub number : ℕ  -- how many lines were handled
+  pub consumed : ℕ  -- how many bytes these lines took, with their newlines and carriage returns
+  pub taken : ℕ  -- how many bytes the input has given
+  pub form : Form
+  pub counts : Counts
+  pub world : World  -- in which the later lines are judged
+
+-- the state before the first line
+abbrev pub initial_state : Content → World → CheckState
+initial_state content world = record {
+  remaining = content;
+  number = 0;
+  consumed = 0;
+  taken = 0;
+  form = Undecided;
+  counts = no_counts;
+  world = world;
 }
 
--- the check led from p to q, and P holds between its states there, if the input hadn't ended at the start: for each
--- content of the manifest that what was read of it fits, and in each world that agrees with what was read
-pub record HoldsInEachCheck {I : Type 0} (state : I → InputState) (p q : VerdictsValue I) (a b : SourceState)
-    (P : CheckState → CheckState → Type 0) : Type 0 where
-  pub reading : IsReading state p.reader → IsReading state q.reader
-  -- a content that fits what was read by now also fits what was read before
-  pub before : IsReading state p.reader → (c : Content) → Fits (reads_of state q.reader) c
-      → Fits (reads_of state p.reader) c
-  pub holds : IsReading state p.reader → (c : Content) → Fits (reads_of state q.reader) c → (w : World) → Agrees w b
-      → P (state_at p (remaining_content p.reader c) (world_at w a))
-      (state_at q (remaining_content q.reader c) (world_at w b))
+-- the state of the check at these verdicts, if this content remains in this world
+abbrev pub state_at : {I : Type 0} → VerdictsValue I → Content → World → CheckState
+state_at verdicts content world = record {
+  remaining = content;
+  number = verdicts.reader.lines;
+  consumed = consumed_count verdicts.reader;
+  taken = verdicts.reader.taken;
+  form = verdicts.form;
+  counts = verdicts.counts;
+  world = world;
+}
+
+-- the verdict of this line, if it is the next one
+abbrev pub next_judged : CheckRules → CheckState → ByteString → LineVerdictValue
+next_judged rules state line = line_verdict rules state.world (state.number + 1)
+    (parse_line rules.algo (form_then state.form (line_form rules.algo line)) line)
+
+-- the verdicts of the lines that remain
+abbrev pub remaining_verdicts : CheckRules → CheckState → List LineVerdictValue
+remaining_verdicts rules state = let all = lines state.remaining in
+    let form_of_all = form_then state.form (form rules.algo all) in
+    verdicts rules state.world state.number (map (parse_line rules.algo form_of_all) all)
+
+-- one line was handled, after which the vector for lines holds these bytes
+pub record HandlesLine (rules : CheckRules) (before after : CheckState) (vector : ByteString) : Type 0 where
+  pub line : ByteString
+  pub lines : lines before.remaining ≡ line ∷ lines after.remaining
+  pub remaining : after.remaining ≡ past_line before.remaining
+  pub consumed : after.consumed + length after.remaining.bytes ≡ before.consumed + length before.remaining.bytes
+  pub taken : after.taken ≤ after.consumed + PIECE
+  pub number : after.number ≡ before.number + 1
+  pub form : after.form ≡ form_then before.form (line_form rules.algo line)
+  pub counts : after.counts ≡ counts_and_line before.counts (next_judged rules before line).verdict
+  pub vector_len : length vector ≤ length line
+
+-- at most one piece was read past the next line
+abbrev pub ReadsOneLine : CheckState → CheckState → Type 0
+ReadsOneLine before after =
+    after.taken + length (past_line before.remaining).bytes ≤ before.consumed + length before.remaining.bytes + PIECE
+
+-- Holds relates the check before a call to the check after it, for each content that fits the reads of the manifest, in
+-- each world that agrees with all reads. The premise: the manifest hadn't ended when its reader was made
+pub record HoldsInEachCheck {I : Type 0} (state_of : I → InputState) (old new : VerdictsValue I)
+    (old_source new_source : SourceState) (Holds : CheckState → CheckState → Type 0) : Type 0 where
+  pub reading : IsReading state_of old.reader → IsReading state_of new.reader
+  -- a content that fits the reads after the call also fits those before it
+  pub before : IsReading state_of old.reader → (content : Content) → Fits (reads_of state_of new.reader) content
+      → Fits (reads_of state_of old.reader) content
+  pub holds : IsReading state_of old.reader → (content : Content) → Fits (reads_of state_of new.reader) content
+      → (world : World) → Agrees world new_source
+      → Holds (state_at old (remaining_content old.reader content) (world_at world old_source))
+      (state_at new (remaining_content new.reader content) (world_at world new_source))
 
 -- ---- what a call returns
 
@@ -59,85 +116,75 @@ pub record HoldsInEachCheck {I : Type 0} (state : I → InputState) (p q : Verdi
 abbrev pub VerdictResult : Type 0
 VerdictResult = Result (Option LineVerdict) LineStop
 
--- the line's verdict, with its name in place of the name's range in the vector
-abbrev pub line_verdict_value : ByteString → LineVerdict → LineVerdictValue
-line_verdict_value vector v =
-    record { number = v.number; verdict = v.verdict; name = slice_range vector v.start v.stop }
+-- the first line that remained was judged, and counted
+pub record FindsFirstVerdict (rules : CheckRules) (before after : CheckState) (found : LineVerdictValue) : Type 0 where
+  pub first : remaining_verdicts rules before ≡ found ∷ remaining_verdicts rules after
+  pub counts : after.counts ≡ counts_and_line before.counts found.verdict
 
--- the range is within the vector
-pub record HasNameRange (vector : ByteString) (v : LineVerdict) : Type 0 where
-  pub start : v.start ≤ v.stop
-  pub stop : v.stop ≤ length vector
+-- no line remained, and the manifest has this ending. Nothing was counted, and only the ending remains
+pub record HasNoVerdictLeft (rules : CheckRules) (last : Ending) (before after : CheckState) : Type 0 where
+  pub verdicts : remaining_verdicts rules before ≡ []
+  pub ending : before.remaining.ending ≡ last
+  pub counts : after.counts ≡ before.counts
+  pub remaining : after.remaining ≡ record { bytes = []; ending = last }
 
--- a line was judged, the first of those that remained, and counted
-pub record FindsFirstVerdict (r : Rules) (a b : CheckState) (j : LineVerdictValue) : Type 0 where
-  pub first : remaining_verdicts r a ≡ j ∷ remaining_verdicts r b
-  pub counts : b.counts ≡ counts_with a.counts j.verdict
-
--- no line remained, and the manifest has this ending; nothing was counted, and only the ending remains
-pub record HasNoVerdictLeft (r : Rules) (e : Ending) (a b : CheckState) : Type 0 where
-  pub verdicts : remaining_verdicts r a ≡ []
-  pub ending : a.remaining.ending ≡ e
-  pub counts : b.counts ≡ a.counts
-  pub remaining : b.remaining ≡ record { bytes = []; ending = e }
-
--- the next verdict, by what the call returns
-abbrev pub IsNextVerdict : Rules → ByteString → CheckState → CheckState → VerdictResult → Type 0
-IsNextVerdict r vector a b (Ok (Some v)) =
-    FindsFirstVerdict r a b (line_verdict_value vector v) × HandlesLine r a b vector
-IsNextVerdict r vector a b (Ok None) = HasNoVerdictLeft r Whole a b
-IsNextVerdict r vector a b (Err (Fault f)) = HasNoVerdictLeft r (Broken f) a b
-IsNextVerdict r vector a b (Err Memory) = (0 < length a.remaining.bytes) × ReadsOneLine a b
+-- the call found the next verdict, or that none is left, as its result says
+abbrev pub IsNextVerdict : CheckRules → ByteString → CheckState → CheckState → VerdictResult → Type 0
+IsNextVerdict rules vector before after (Ok (Some found)) =
+    FindsFirstVerdict rules before after (line_verdict_value vector found) × HandlesLine rules before after vector
+IsNextVerdict rules vector before after (Ok None) = HasNoVerdictLeft rules Whole before after
+IsNextVerdict rules vector before after (Err (Fault fault)) = HasNoVerdictLeft rules (Broken fault) before after
+IsNextVerdict rules vector before after (Err Memory) = (0 < length before.remaining.bytes) × ReadsOneLine before after
 
 -- ---- the outcome
 
--- an outcome stays: a call keeps the outcome in its result, if there is one; from then on each call returns the same
--- outcome again, and nothing else changes
-pub record KeepsOutcome {X F : Type 0} (outcome_in : X → Option F) (old new : Option F) (Unchanged : Type 0) (x : X)
-    : Type 0 where
-  pub kept : new ≡ outcome_in x
-  pub again : IfSome old (λ outcome. (outcome_in x ≡ Some outcome) × Unchanged)
+-- a call keeps the outcome in its result, if there is one. After an outcome it returns the same outcome again, and
+-- Unchanged holds
+pub record KeepsOutcome {X F : Type 0} (outcome_in : X → Option F) (before after : Option F) (Unchanged : Type 0)
+    (result : X) : Type 0 where
+  pub kept : after ≡ outcome_in result
+  pub again : IfSome before (λ outcome. (outcome_in result ≡ Some outcome) × Unchanged)
 
 -- the outcome in a call's result: none for a line; one if no line is left, and one for a stop
 abbrev pub outcome_in_next : VerdictResult → Option (Result ⊤ LineStop)
-outcome_in_next (Ok (Some v)) = None
+outcome_in_next (Ok (Some found)) = None
 outcome_in_next (Ok None) = Some (Ok tt)
 outcome_in_next (Err stop) = Some (Err stop)
 
 -- whether the outcome is that no line is left, and no fault broke the manifest
 abbrev pub is_whole : Option (Result ⊤ LineStop) → Bool
-is_whole (Some (Ok u)) = true
+is_whole (Some (Ok nothing)) = true
 is_whole outcome = false
 
 -- ---- what a call does
 
 -- the counts after a call for the next verdict
 abbrev pub counts_after : Counts → VerdictResult → Counts
-counts_after c (Ok (Some v)) = counts_with c v.verdict
-counts_after c x = c
+counts_after counts (Ok (Some found)) = counts_and_line counts found.verdict
+counts_after counts result = counts
 
 -- the result isn't a line whose file could not be opened or read
 abbrev pub IsNotUnread : VerdictResult → Type 0
-IsNotUnread (Ok (Some v)) = is_unread v.verdict ≡ false
-IsNotUnread x = ⊤
+IsNotUnread (Ok (Some found)) = is_unread found.verdict ≡ false
+IsNotUnread result = ⊤
 
--- what a call for the next verdict opens: the name that the verdict is about, or none. Out of memory, the source was
--- refused memory, or nothing was opened and bytes were read ahead
+-- a call for the next verdict opens the name that the verdict is about, if it is about one. If memory ran out, the
+-- source was refused memory; or bytes were read ahead, and nothing was opened
 abbrev pub AsksFor : ByteString → ByteString → SourceState → SourceState → VerdictResult → Type 0
-AsksFor vector ahead a b (Ok (Some v)) = AsksNames a b (asks_of (line_verdict_value vector v))
-AsksFor vector ahead a b (Err Memory) = RefusesMemory a b ⊎ ((b ≡ a) × (0 < length ahead))
-AsksFor vector ahead a b x = AsksNames a b []
+AsksFor vector ahead before after (Ok (Some found)) = AsksNames before after (asks_of (line_verdict_value vector found))
+AsksFor vector ahead before after (Err Memory) = RefusesMemory before after ⊎ ((after ≡ before) × (0 < length ahead))
+AsksFor vector ahead before after result = AsksNames before after []
 
--- what a call for the next verdict does
-pub record AdvancesVerdicts {I : Type 0} (state : I → InputState) (vector : ByteString) (p q : VerdictsValue I)
-    (a b : SourceState) (x : VerdictResult) : Type 0 where
-  pub rules : q.rules ≡ p.rules
-  pub counts : q.counts ≡ counts_after p.counts x
-  pub number : (v : LineVerdict) → x ≡ Ok (Some v) → q.reader.lines ≡ p.reader.lines + 1
-  pub end : x ≡ Ok None → q.reader.final_answer ≡ Some (Ok NoMore)
+-- what a call for the next verdict does, whatever the manifest's content and the world are
+pub record AdvancesVerdicts {I : Type 0} (state_of : I → InputState) (vector : ByteString) (old new : VerdictsValue I)
+    (before after : SourceState) (result : VerdictResult) : Type 0 where
+  pub rules : new.rules ≡ old.rules
+  pub counts : new.counts ≡ counts_after old.counts result
+  pub number : (found : LineVerdict) → result ≡ Ok (Some found) → new.reader.lines ≡ old.reader.lines + 1
+  pub end : result ≡ Ok None → new.reader.final_answer ≡ Some (Ok NoMore)
   -- what its reader returned
   pub found : Result Next LineStop
-  pub reader : AdvancesLines state p.reader q.reader found
-  pub bounds : IsBounded q.reader
-  pub asked : AsksFor vector q.reader.ahead a b x
-  pub reads : ReadsToEndIf (IsNotUnread x) a b
+  pub reader : AdvancesLines state_of old.reader new.reader found
+  pub bounds : IsBounded new.reader
+  pub asked : AsksFor vector new.reader.ahead before after result
+  pub reads : ReadsToEndIf (IsNotUnread result) before after

@@ -1,11 +1,11 @@
 //! Checking one manifest.
 ghost use Rattle.std.specs.Prelude.{◌≡◌, true, None, Ok, IfErr, codes, if◌then◌else◌};
-ghost use Rattle.sum_sources.specs.WithStdin.{is_dash};
-ghost use Rattle.sum_engine.specs.Execution.{FailuresMatch, RefusalsMatch, Performs, ReadsToEndIf, none_or_one};
-ghost use Rattle.sum_engine.specs.check.CheckerLaws.{RunsManifest};
-ghost use Rattle.sum_engine.specs.check.Checking.{check_behavior};
-ghost use Rattle.sum_engine.specs.check.ReadAhead.{StopsAtLine};
+ghost use Rattle.sum_engine.specs.Execution.{Performs, ReadsToEndIf};
+ghost use Rattle.sum_engine.specs.Streams.{StopHasCause, none_or_one};
+ghost use Rattle.sum_engine.specs.check.CheckOne.{StopsAtLine, check_behavior};
 ghost use Rattle.sum_engine.specs.check.Verdicts.{IsAtStart};
+ghost use Rattle.sum_engine.specs.private.CheckOne.{RunsManifest};
+ghost use Rattle.sum_sources.specs.WithStdin.{is_dash};
 
 use crate::check::checker::Checker;
 use crate::check::progress::Progress;
@@ -41,8 +41,7 @@ pub fn check_one<A: Allocator + Copy, S: Source, O: Sink, E: Sink>(
         StopsAtLine stop (λ w. check_behavior settings tool.now w name.now) name.now streams.old
         streams.new) }
     // A stop has its cause: at most one more refusal of the source, or one more failure of one output.
-    ensures refusals { RefusalsMatch none_or_one streams.old.inputs streams.new.inputs result }
-    ensures failures { FailuresMatch streams.old.outputs streams.new.outputs result }
+    ensures cause { StopHasCause none_or_one streams.old streams.new result }
 {
     let shown = shown_name(name);
     let input = match streams.inputs.open(name) {
@@ -104,7 +103,6 @@ fn check_lines<'a, A: Allocator, I: Input, S: Source, O: Sink, E: Sink>(
         (I.state checker.old.verdicts.reader.input)
         (I.state checker.new.verdicts.reader.input) streams.old streams.new result }
 {
-    // The label names the loop for its proof.
     'lines: loop {
         match checker.step(line, streams) {
             Err(stop) => return Err(stop),

@@ -1,10 +1,12 @@
 //! Checking a manifest, a line at a time.
 ghost use Rattle.digest_kinds.specs.Bytes.{LIMIT};
-ghost use Rattle.std.specs.{Option.ForSome, Result.ForOk};
+ghost use Rattle.std.specs.Option.{ForSome};
 ghost use Rattle.std.specs.Prelude.{◌≡◌, ◌≤◌, None, Ok, IsTrue};
+ghost use Rattle.std.specs.Result.{ForOk};
 ghost use Rattle.sum_engine.specs.check.Checker.{ReportsFound};
+ghost use Rattle.sum_engine.specs.check.Judge.{HasNameRange};
 ghost use Rattle.sum_engine.specs.check.Rules.{rules_of};
-ghost use Rattle.sum_engine.specs.check.Verdicts.{HasNameRange, is_whole};
+ghost use Rattle.sum_engine.specs.check.Verdicts.{is_whole};
 
 use crate::check::judge::{LineVerdict, Verdict};
 use crate::check::progress::Progress;
@@ -63,6 +65,7 @@ impl<'a, I: Input> Checker<'a, I> {
               manifest = manifest.entry.now;
               report = settings.report;
             } }
+        // Its first step handles the first line of the input.
         ensures start { IsAtStart I.state result.verdicts input }
         ensures outcome { result.outcome ≡ None }
     {

@@ -1,12 +1,9 @@
 //! The verdict of a line.
 ghost use Rattle.std.specs.Prelude.{◌≡◌, false, IfOk, MatchResult, slice_range};
 ghost use Rattle.sum_engine.specs.Behavior.{World};
-ghost use Rattle.sum_engine.specs.Execution.{Agrees, world_at, AsksNames, ReadsToEndIf};
-ghost use Rattle.sum_engine.specs.check.Judge.{asks_of, judge};
-ghost use Rattle.sum_engine.specs.check.Reports.{is_unread};
-ghost use Rattle.sum_engine.specs.check.Verdicts.{HasNameRange};
-ghost use Rattle.sum_engine.specs.private.Judging.{listed_entry, verdict_of_hash};
-ghost use Rattle.sum_engine.specs.Names.{RefusesMemory};
+ghost use Rattle.sum_engine.specs.Execution.{Agrees, AsksNames, ReadsToEndIf, RefusesMemory, world_at};
+ghost use Rattle.sum_engine.specs.check.Judge.{HasNameRange, asks_of, is_unread, judge};
+ghost use Rattle.sum_engine.specs.private.Judge.{listed_entry, verdict_of_hash};
 
 use crate::check::rules::CheckRules;
 use crate::inputs::Inputs;

@@ -1,13 +1,13 @@
 //! The lines that checking writes about a manifest's lines.
 ghost use Rattle.std.specs.List.{concat};
 ghost use Rattle.std.specs.Prelude.{◌≡◌, [], ◌∷◌};
+ghost use Rattle.sum_engine.specs.Streams.{WritesAndReturns};
 ghost use Rattle.sum_engine.specs.check.Checker.{Going};
-ghost use Rattle.sum_engine.specs.check.Reports.{bad_line, err_by, out_by, tag_word};
-ghost use Rattle.sum_settings.specs.declared.settings.Report.TheVariants.{All};
-ghost use Rattle.sum_engine.specs.Writes.{WritesAndReturns};
-ghost use Rattle.sum_lines.specs.Escape.{own_profile, escape, escape_differs};
-ghost use Rattle.sum_lines.specs.Sinks.{GivesAll};
+ghost use Rattle.sum_engine.specs.check.Report.{bad_line, err_by, out_by, tag_word};
+ghost use Rattle.sum_lines.specs.Escape.{escape, escape_differs};
+ghost use Rattle.sum_lines.specs.Output.{GivesAll};
 ghost use Rattle.sum_lines.specs.grammar.Shapes.{mark};
+ghost use Rattle.sum_settings.specs.declared.settings.Report.TheVariants.{All};
 
 use crate::check::judge::Verdict;
 use crate::check::progress::Progress;
@@ -28,8 +28,8 @@ pub(crate) fn put_report<O: Sink, E: Sink>(
     name: &[u8],
 ) -> Result<Progress, Stop>
     ensures { WritesAndReturns outputs.old outputs.new
-        (err_by rules labels.now number verdict name.now)
-        (out_by own_profile labels.now.report verdict name.now) Going result }
+        (err_by rules labels.now number verdict labels.now.report name.now)
+        (out_by labels.now.report verdict name.now) Going result }
 {
     put_err(&mut outputs.err, rules, labels, number, verdict, name)?;
     put_out(&mut outputs.out, labels.report, verdict, name)?;
@@ -42,7 +42,7 @@ fn put_out<O: Sink>(
     verdict: Verdict,
     name: &[u8],
 ) -> Result<(), SinkFault>
-    ensures { GivesAll out.old out.new (out_by own_profile report verdict name.now) result }
+    ensures { GivesAll out.old out.new (out_by report verdict name.now) result }
 {
     match (report, verdict) {
         (Report::Status, _) | (Report::Quiet, Verdict::Right) => Ok(()),
@@ -51,7 +51,7 @@ fn put_out<O: Sink>(
 }
 
 fn put_verdict<O: Sink>(out: &mut Output<O>, verdict: Verdict, name: &[u8]) -> Result<(), SinkFault>
-    ensures { GivesAll out.old out.new (out_by own_profile All verdict name.now) result }
+    ensures { GivesAll out.old out.new (out_by All verdict name.now) result }
 {
     match verdict {
         Verdict::Ignored | Verdict::Bad | Verdict::Missing => Ok(()),
@@ -83,7 +83,7 @@ fn put_err<E: Sink>(
     name: &[u8],
 ) -> Result<(), SinkFault>
     ensures { GivesAll err.old err.new
-        (err_by rules labels.now number verdict name.now) result }
+        (err_by rules labels.now number verdict labels.now.report name.now) result }
 {
     match verdict {
         Verdict::Ignored | Verdict::Right | Verdict::Wrong | Verdict::Missing => Ok(()),

@@ -9,33 +9,14 @@ use sum_settings::{CheckSettings, Report};
 /// The rules by which a manifest's lines are judged.
 #[derive(Clone, Copy, Debug)]
 pub(crate) struct CheckRules {
+    /// The algorithms that they may name.
     pub algo: Algos,
+    /// An option that changes verdicts.
     pub ignore_missing: bool,
+    /// One that changes whether the manifest is good.
     pub strict: bool,
     /// Whether the manifest came from standard input.
     pub from_stdin: bool,
-}
-
-impl Model for CheckRules {
-    ghost use Rattle.sum_engine.specs.check.Rules.{Rules};
-    ghost use Rattle.sum_lines.specs.Escape.{own_profile};
-
-    ghost Value = { Rules };
-
-    ghost view = { λ r. record {
-      profile = own_profile;
-      algo = r.algo;
-      ignore_missing = r.ignore_missing;
-      strict = r.strict;
-      from_stdin = r.from_stdin;
-    } };
-
-    ghost inverse = { λ r. record {
-      algo = r.algo;
-      ignore_missing = r.ignore_missing;
-      strict = r.strict;
-      from_stdin = r.from_stdin;
-    } };
 }
 
 impl CheckRules {

@@ -1,73 +1,19 @@
 //! The end of a manifest.
-ghost use Rattle.std.specs.Prelude.{◌≡◌, ◌<◌, ◌^◌, []};
-ghost use Rattle.sum_engine.specs.check.CheckStates.{counts_with, total};
-ghost use Rattle.sum_engine.specs.check.Reports.{warning, warnings, unverified_line, end_text, good, entries};
-ghost use Rattle.sum_engine.specs.Writes.{WritesAndReturns};
-ghost use Rattle.sum_lines.specs.Buffers.{WritesAll};
+ghost use Rattle.digest_kinds.specs.Bytes.{LIMIT};
+ghost use Rattle.std.specs.Prelude.{◌≡◌, ◌≤◌, []};
+ghost use Rattle.sum_engine.specs.Streams.{WritesAndReturns};
+ghost use Rattle.sum_engine.specs.check.Counts.{total};
+ghost use Rattle.sum_engine.specs.check.Summary.{end_text, unverified_line, warning, warnings};
+ghost use Rattle.sum_lines.specs.Buffered.{WritesAll};
 ghost use Rattle.sum_sources.specs.declared.fault.Ending.TheVariants.{Whole};
 
-use crate::check::judge::Verdict;
+use crate::check::counts::Counts;
 use crate::check::progress::Progress;
 use crate::check::rules::{CheckRules, Labels};
 use crate::streams::Outputs;
 use crate::tool_lines::tool_line;
 use sum_lines::{Buffered, Part, Parts, Sink, SinkFault, Text, put_parts};
 use sum_settings::{Report, Stop};
-
-/// How many lines of a manifest have each verdict but `Ignored`.
-#[derive(Clone, Copy, Debug, PartialEq, Eq)]
-pub(crate) struct Counts {
-    pub right: u64,
-    pub wrong: u64,
-    pub missing: u64,
-    pub unread: u64,
-    pub bad: u64,
-}
-
-impl Counts {
-    /// No line yet.
-    pub(crate) const NONE: Counts = Counts {
-        right: 0,
-        wrong: 0,
-        missing: 0,
-        unread: 0,
-        bad: 0,
-    };
-
-    /// These counts and one more line, with this verdict.
-    pub(crate) fn with(self, verdict: Verdict) -> Counts
-        requires { total self < 2 ^ 63 }
-        ensures { result ≡ counts_with self verdict }
-    {
-        let mut counts = self;
-        match verdict {
-            Verdict::Ignored => {}
-            Verdict::Bad => counts.bad += 1,
-            Verdict::Right => counts.right += 1,
-            Verdict::Wrong => counts.wrong += 1,
-            Verdict::Missing => counts.missing += 1,
-            Verdict::Unread(_) => counts.unread += 1,
-        }
-        counts
-    }
-
-    fn entries(self) -> u64
-        requires { total self < 2 ^ 63 }
-        ensures { result ≡ entries self }
-    {
-        self.right + self.wrong + self.missing + self.unread
-    }
-}
-
-/// Whether a manifest that was read whole is good.
-pub(crate) fn is_good(rules: CheckRules, counts: Counts) -> bool
-    ensures { result ≡ good rules Whole counts }
-{
-    counts.right != 0
-        && counts.wrong == 0
-        && counts.unread == 0
-        && (!rules.strict || counts.bad == 0)
-}
 
 /// Writes the end of a manifest that was read whole to standard error, and then returns `ended`.
 pub(crate) fn put_summary<O: Sink, E: Sink>(
@@ -77,7 +23,7 @@ pub(crate) fn put_summary<O: Sink, E: Sink>(
     counts: Counts,
     ended: Progress,
 ) -> Result<Progress, Stop>
-    requires { total counts < 2 ^ 63 }
+    requires { total counts ≤ LIMIT }
     ensures { WritesAndReturns outputs.old outputs.new
         (end_text rules labels.now Whole counts) [] ended result }
 {
@@ -108,7 +54,7 @@ struct Warnings<'a> {
 }
 
 impl<'a> Text for Warnings<'a> {
-    ghost use Rattle.sum_engine.specs.check.Reports.{warnings};
+    ghost use Rattle.sum_engine.specs.check.Summary.{warnings};
 
     ghost text = { λ w. warnings w.rules w.labels.now w.counts };
 

@@ -1,12 +1,12 @@
 //! The verdicts of a manifest, without any text.
 ghost use Rattle.digest_kinds.specs.Bytes.{LIMIT};
-ghost use Rattle.std.specs.Prelude.{◌≡◌, ◌≤◌, ◌<◌, ◌^◌, ◌&&◌, None, IfOk, IfSome, MatchResult};
-ghost use Rattle.sum_engine.specs.check.CheckStates.{counts_with, total};
+ghost use Rattle.std.specs.Prelude.{◌≡◌, ◌≤◌, ◌<◌, ◌&&◌, None, IfOk, IfSome, MatchResult};
+ghost use Rattle.sum_engine.specs.check.Counts.{counts_and_line, total};
 ghost use Rattle.sum_engine.specs.check.Rules.{rules_of};
 
+use crate::check::counts::{Counts, is_good};
 use crate::check::judge::{LineVerdict, ListedEntry, Verdict, judge};
 use crate::check::rules::CheckRules;
-use crate::check::summary::{Counts, is_good};
 use crate::inputs::Inputs;
 use std::alloc::Allocator;
 use std::marker::Model;
@@ -28,7 +28,7 @@ pub struct Verdicts<I> {
 impl<I> Model for Verdicts<I> {
     ghost use Rattle.digest_kinds.specs.Bytes.{LIMIT};
     ghost use Rattle.std.specs.Prelude.{◌≡◌, ◌≤◌};
-    ghost use Rattle.sum_engine.specs.check.CheckStates.{total};
+    ghost use Rattle.sum_engine.specs.check.Counts.{total};
     ghost use Rattle.sum_engine.specs.check.Verdicts.{VerdictsValue};
 
     ghost Value = { VerdictsValue I };
@@ -46,14 +46,13 @@ impl<I> Model for Verdicts<I> {
 
 impl<I: Input> Verdicts<I> {
     ghost use Rattle.sum_engine.specs.Behavior.{World};
-    ghost use Rattle.sum_engine.specs.Execution.{Agrees, world_at, AsksNames, ReadsToEndIf};
-    ghost use Rattle.sum_engine.specs.check.Judge.{asks_of, line_verdict};
-    ghost use Rattle.sum_engine.specs.check.Reports.{good};
-    ghost use Rattle.sum_engine.specs.check.Verdicts.{AdvancesVerdicts, HasNameRange, HoldsInEachCheck};
-    ghost use Rattle.sum_engine.specs.check.Verdicts.{IsAtStart, IsNextVerdict, IsNotUnread, KeepsOutcome};
-    ghost use Rattle.sum_engine.specs.check.Verdicts.{is_whole, line_verdict_value, outcome_in_next};
-    ghost use Rattle.sum_engine.specs.private.Judging.{TakesLine, found_verdict, parsed_at};
-    ghost use Rattle.sum_engine.specs.Names.{RefusesMemory};
+    ghost use Rattle.sum_engine.specs.Execution.{Agrees, AsksNames, ReadsToEndIf, RefusesMemory, world_at};
+    ghost use Rattle.sum_engine.specs.check.Judge.{HasNameRange, asks_of, line_verdict, line_verdict_value};
+    ghost use Rattle.sum_engine.specs.check.Counts.{good};
+    ghost use Rattle.sum_engine.specs.check.Verdicts.{AdvancesVerdicts, HoldsInEachCheck, IsAtStart};
+    ghost use Rattle.sum_engine.specs.check.Verdicts.{IsNextVerdict, IsNotUnread, KeepsOutcome};
+    ghost use Rattle.sum_engine.specs.check.Verdicts.{is_whole, outcome_in_next};
+    ghost use Rattle.sum_engine.specs.private.Verdicts.{TakesLine, found_verdict, parsed_at};
     ghost use Rattle.sum_sources.specs.declared.fault.Ending.TheVariants.{Whole};
 
     /// Creates the verdicts of the manifest that `input` gives, before its first line. `from_stdin` says whether the
@@ -108,7 +107,7 @@ impl<I: Input> Verdicts<I> {
     /// How many of its lines so far have each verdict.
     pub(crate) fn counts(&self) -> Counts
         ensures value { result ≡ self.now.counts }
-        ensures few { total result < 2 ^ 63 }
+        ensures at_most { total result ≤ LIMIT }
     {
         self.counts
     }
@@ -181,6 +180,7 @@ impl<I: Input> Verdicts<I> {
             → IfOk result (λ v. line_verdict_value line.new.items v
             ≡ line_verdict self.old.rules (world_at w inputs.old) self.old.reader.lines
             (parsed_at self.old line.old.items)) }
+        // What was opened and read, and that the line was counted.
         ensures asked { MatchResult result
             (λ v. AsksNames inputs.old inputs.new (asks_of (line_verdict_value line.new.items v)))
             (λ _. RefusesMemory inputs.old inputs.new) }
@@ -221,7 +221,7 @@ impl<I: Input> Verdicts<I> {
               stop = stop;
             } }
         ensures counts { self.new
-            ≡ record self.old { counts = counts_with self.old.counts verdict } }
+            ≡ record self.old { counts = counts_and_line self.old.counts verdict } }
     {
         self.counts = self.counts.with(verdict);
         LineVerdict {

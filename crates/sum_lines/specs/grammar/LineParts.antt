@@ -1,11 +1,13 @@
--- The parts of a line of either shape, computed. They need not be believed: by the law `parse_is_grammar` the entry
--- that is made of them is the line grammar's.
-use Rattle.std.specs.Prelude.{◌==◌, ◌&&◌, nat_lt, Bool, true, false, length, drop, codes, Option, None, Some, if◌then◌else◌, find}
-use Rattle.std.specs.{Option.option_or, Result.result_ok, List.starts_with, List.before_first, List.after_first, Path.rsplit_once, Str.byte}
-pub use Rattle.digest_kinds.specs.Bytes.{ByteString, ◌>>=◌, after_while}
-use Rattle.digest_kinds.specs.Kinds.{KindValue, all_algos, has_len, tag}
-use Rattle.digest_kinds.specs.KindTexts.{kind_and_rest}
-use Rattle.sum_lines.specs.grammar.Shapes.{Algo, Algos, One, Any, is_blank, decode_of}
+-- The parts of a line of either shape, computed. By the law `parse_is_grammar` they need not be believed.
+use Rattle.std.specs.Prelude.{◌==◌, ◌&&◌, nat_lt, Bool, true, false, length, drop, codes, Option, None, Some}
+use Rattle.std.specs.Prelude.{find}
+use Rattle.std.specs.{List.starts_with, List.before_first, List.after_first, Option.option_or, Result.result_ok}
+use Rattle.std.specs.{Prelude.if◌then◌else◌, Path.rsplit_once, Str.byte}
+use Rattle.hex.specs.Hex.{decode_of}
+use Rattle.digest_kinds.specs.{Algo.all_algos, Algo.has_len, Algo.tag, Bytes.ByteString, Bytes.◌>>=◌, Bytes.after_while}
+use Rattle.digest_kinds.specs.Kind.{KindValue, kind_and_rest}
+use Rattle.digest_kinds.specs.declared.algo.{Algo.Algo, Algos.Algos, Algos.TheVariants.One, Algos.TheVariants.Any}
+use Rattle.sum_lines.specs.grammar.Shapes.{is_blank}
 
 -- the parts of a line; the text is the raw name of a tagged line, the tail of a plain one
 pub record LinePartsValue : Type 0 where
@@ -16,34 +18,35 @@ pub record LinePartsValue : Type 0 where
 
 -- whether the bytes begin with a backslash, and what follows it
 abbrev pub mark_and_rest : ByteString → Bool × ByteString
-mark_and_rest s = if starts_with ◌==◌ s (codes "\\") then (true, drop 1 s) else (false, s)
+mark_and_rest bytes = if starts_with ◌==◌ bytes (codes "\\") then (true, drop 1 bytes) else (false, bytes)
 
 -- a plain line's parts: the digits up to the first blank of its text, and the tail after that
 unfoldable pub plain_parts : Algos → ByteString → Option LinePartsValue
 plain_parts Any line = None
-plain_parts (One a) line = let text = mark_and_rest (after_while is_blank line) in do
-  d ← result_ok (decode_of (before_first is_blank text.1))
+plain_parts (One algo) line = let text = mark_and_rest (after_while is_blank line) in do
+  digest ← result_ok (decode_of (before_first is_blank text.1))
+  let kind : KindValue = record { algo = algo; len = length digest }
   let tail = after_first is_blank text.1
-  if has_len a (length d) && nat_lt 0 (length tail) then
-      Some (record { escaped = text.0; kind = record { algo = a; len = length d }; digest = d; text = tail }) else None
+  if has_len algo kind.len && nat_lt 0 (length tail)
+      then Some (record { escaped = text.0; kind = kind; digest = digest; text = tail }) else None
 
 -- what follows this text, if the bytes begin with it
 abbrev pub strip_prefix : ByteString → ByteString → Option ByteString
-strip_prefix text s = if starts_with ◌==◌ s text then Some (drop (length text) s) else None
+strip_prefix text bytes = if starts_with ◌==◌ bytes text then Some (drop (length text) bytes) else None
 
--- the one of these algorithms with whose tag the bytes begin
+-- the one of these algorithms whose tag begins the bytes
 abbrev pub tag_in : Algos → ByteString → Option Algo
-tag_in (One a) s = if starts_with ◌==◌ s (tag a) then Some a else None
-tag_in Any s = find (λ a. starts_with ◌==◌ s (tag a)) all_algos
+tag_in (One algo) bytes = if starts_with ◌==◌ bytes (tag algo) then Some algo else None
+tag_in Any bytes = find (λ a. starts_with ◌==◌ bytes (tag a)) all_algos
 
 -- a tagged line's parts; the last parenthesis ends the name
 unfoldable pub tagged_parts : Algos → ByteString → Option LinePartsValue
 tagged_parts algos line = let text = mark_and_rest (after_while is_blank line) in do
-  a ← tag_in algos text.1
-  w ← kind_and_rest a (drop (length (tag a)) text.1)
-  inner ← option_or (strip_prefix (codes " (") w.1) (strip_prefix (codes "(") w.1)
+  algo ← tag_in algos text.1
+  named ← kind_and_rest algo (drop (length (tag algo)) text.1)
+  inner ← option_or (strip_prefix (codes " (") named.1) (strip_prefix (codes "(") named.1)
   name ← rsplit_once (byte ")") inner
   digits ← strip_prefix (codes "=") (after_while is_blank name.1)
-  d ← result_ok (decode_of (after_while is_blank digits))
-  if length d == w.0.len && nat_lt 0 (length name.0)
-      then Some (record { escaped = text.0; kind = w.0; digest = d; text = name.0 }) else None
+  digest ← result_ok (decode_of (after_while is_blank digits))
+  if length digest == named.0.len && nat_lt 0 (length name.0)
+      then Some (record { escaped = text.0; kind = named.0; digest = digest; text = name.0 }) else None

@@ -2,12 +2,9 @@
 -- Either shape may begin with blanks and then one backslash. The backslash says that the name is escaped.
 use Rattle.std.specs.Prelude.{ℕ, ◌≡◌, ◌<◌, ◌==◌, ◌||◌, ⊤, Bool, [], ◌∷◌, ◌++◌, length, codes, IsTrue, Ok, if◌then◌else◌}
 use Rattle.std.specs.{List.AllPass, Str.byte}
-pub use Rattle.hex.specs.Hex.{decode_of}
-pub use Rattle.digest_kinds.specs.Bytes.{ByteString}
-pub use Rattle.digest_kinds.specs.Kinds.{KindValue, has_len, tag}
-use Rattle.digest_kinds.specs.KindTexts.{IsWidth}
-pub use Rattle.digest_kinds.specs.declared.algo.{Algo.Algo, Algos.Algos}
-pub use Rattle.digest_kinds.specs.declared.algo.Algos.TheVariants.{One, Any}
+use Rattle.hex.specs.Hex.{decode_of}
+use Rattle.digest_kinds.specs.{Algo.has_len, Algo.tag, Bytes.ByteString, Kind.KindValue, Kind.IsWidth}
+use Rattle.digest_kinds.specs.declared.algo.{Algo.Algo, Algos.Algos, Algos.TheVariants.One, Algos.TheVariants.Any}
 
 -- whether a byte is a blank: a space or a tab
 abbrev pub is_blank : ℕ → Bool
@@ -15,11 +12,11 @@ is_blank b = b == byte " " || b == byte "\t"
 
 -- the backslash that begins a line whose name is escaped
 abbrev pub mark : Bool → ByteString
-mark e = if e then codes "\\" else []
+mark escaped = if escaped then codes "\\" else []
 
 -- A plain line: digits, one blank, and a tail that isn't empty. The digits are hexadecimal, in either case. They spell
 -- a digest of a length that the one algorithm has. If any algorithm may be named, no line is plain.
-pub record IsPlain (algos : Algos) (line : ByteString) (e : Bool) (kind : KindValue)
+pub record IsPlain (algos : Algos) (line : ByteString) (escaped : Bool) (kind : KindValue)
     (digest tail : ByteString) : Type 0 where
   pub blanks : ByteString
   pub digits : ByteString
@@ -31,16 +28,16 @@ pub record IsPlain (algos : Algos) (line : ByteString) (e : Bool) (kind : KindVa
   pub size : length digest ≡ kind.len
   pub is_one_blank : IsTrue (is_blank blank)
   pub some : 0 < length tail
-  pub whole : line ≡ blanks ++ (mark e ++ (digits ++ (blank ∷ tail)))
+  pub whole : line ≡ blanks ++ (mark escaped ++ (digits ++ (blank ∷ tail)))
 
--- the algorithms that a list of lines may name
+-- these algorithms, which a list of lines may name, have this one among them
 abbrev pub Allows : Algos → Algo → Type 0
-Allows (One a) algo = algo ≡ a
+Allows (One only) algo = algo ≡ only
 Allows Any algo = ⊤
 
 -- A tagged line: the tag with its width, a name in parentheses, `=`, and the digits, up to the line's end. The name
 -- isn't empty. A space may precede the parenthesis, and blanks may stand before and after `=`.
-pub record IsTagged (algos : Algos) (line : ByteString) (e : Bool) (kind : KindValue)
+pub record IsTagged (algos : Algos) (line : ByteString) (escaped : Bool) (kind : KindValue)
     (digest raw : ByteString) : Type 0 where
   pub blanks : ByteString
   pub width : ByteString
@@ -56,5 +53,5 @@ pub record IsTagged (algos : Algos) (line : ByteString) (e : Bool) (kind : KindV
   pub after_blanks : AllPass is_blank after
   pub spelled : decode_of digits ≡ Ok digest
   pub size : length digest ≡ kind.len
-  pub whole : line ≡ blanks ++ (mark e ++ (tag kind.algo ++ (width ++ ((if gap then codes " (" else codes "(")
+  pub whole : line ≡ blanks ++ (mark escaped ++ (tag kind.algo ++ (width ++ ((if gap then codes " (" else codes "(")
       ++ (raw ++ (codes ")" ++ (before ++ (codes "=" ++ (after ++ digits)))))))))

@@ -1,9 +1,9 @@
 //! What a line begins with. Most bad lines don't begin as an entry does, so the rest of them isn't read.
 
+ghost use Rattle.digest_kinds.specs.Bytes.{ByteString};
 ghost use Rattle.std.specs.Prelude.{◌≡◌, IfNone, IfSome, None};
 ghost use Rattle.sum_lines.specs.grammar.LineParts.{plain_parts, tag_in, tagged_parts};
-ghost use Rattle.sum_lines.specs.grammar.Shapes.{ByteString};
-ghost use Rattle.sum_lines.specs.private.Beginnings.{BeginsWithDigits, IsReadAs, EndsAt, EndsDigits, IsFront};
+ghost use Rattle.sum_lines.specs.private.Beginnings.{BeginsWithDigits, IsReadAs, IsFirstBlank, EndsDigits, IsFront};
 
 use crate::reading::line_parts::{Front, is_blank};
 use digest_kinds::{Algo, Algos, Kind};
@@ -28,6 +28,8 @@ pub(crate) enum Beginning {
 #[tactic(auto, unfolding(crate::specs::grammar::LineParts::plain_parts, crate::specs::grammar::LineParts::tagged_parts))]
 pub(crate) fn find_beginning(algos: Algos, line: &[u8], front: Front) -> Option<Beginning>
     requires { IsFront line.now front }
+
+    // A line without a beginning is no entry; with one it is read as that says.
     ensures not_tagged { IfNone result (None ≡ tagged_parts algos line.now) }
     ensures not_plain { IfNone result (None ≡ plain_parts algos line.now) }
     ensures read_as { IfSome result (IsReadAs algos line.now) }
@@ -75,7 +77,7 @@ fn digits_end(algo: Algo, text: &[u8]) -> Option<usize>
 #[tactic(auto, using(crate::proofs::ScanLemmas::search_none, crate::proofs::ScanLemmas::search_some, crate::proofs::ScanLemmas::fixed_len))]
 fn digits_len(algo: Algo, text: &[u8]) -> Option<usize>
     ensures not_plain { IfNone result ((d : ByteString) → ¬ BeginsWithDigits algo text.now d) }
-    ensures end { IfSome result (EndsAt algo text.now) }
+    ensures end { IfSome result (IsFirstBlank algo text.now) }
 {
     match algo {
         Algo::Blake2b => memchr2(b' ', b'\t', &text[..text.len().min(MOST_DIGITS + 1)]),

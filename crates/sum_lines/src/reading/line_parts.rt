@@ -91,7 +91,7 @@ fn blanks(s: &[u8]) -> usize
 
 /// What follows the text, if the bytes begin with it.
 #[tactic(auto, using(crate::proofs::ScanLemmas::after_is, std::proofs::lemmas::Slice::Eq::strip_prefix_is))]
-pub(crate) fn past_text<'a>(text: &[u8], s: &'a [u8]) -> Option<&'a [u8]>
+pub(crate) fn after_prefix<'a>(text: &[u8], s: &'a [u8]) -> Option<&'a [u8]>
     ensures { option_copied result ≡ strip_prefix text.now s.now }
 {
     s.strip_prefix(text)

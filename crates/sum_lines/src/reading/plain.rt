@@ -1,7 +1,7 @@
 //! Plain lines: digits, a blank, a tail.
 
+ghost use Rattle.digest_kinds.specs.Algo.{has_len};
 ghost use Rattle.digest_kinds.specs.Bytes.{after_while};
-ghost use Rattle.digest_kinds.specs.Kinds.{has_len};
 ghost use Rattle.std.specs.Option.{option_map};
 ghost use Rattle.std.specs.Prelude.{◌≡◌, ◌≤◌, IfSome, if◌then◌else◌, length, Some, None};
 ghost use Rattle.sum_lines.specs.grammar.LineParts.{mark_and_rest, plain_parts};
@@ -17,6 +17,8 @@ use digest_kinds::{Algo, Algos, Digest, Kind};
 pub(crate) fn plain(algo: Algo, line: &[u8], front: Front, at: usize) -> Option<LineParts>
     requires front { IsFront line.now front }
     requires end { EndsDigits algo (mark_and_rest (after_while is_blank line.now)).1 at }
+
+    // The parts that were found are the line's.
     ensures parts { option_map (line_parts line.now) result
         ≡ plain_parts (Algos.One algo) line.now }
     ensures within { IfSome result (λ found. found.stop ≤ length line.now) }

@@ -3,8 +3,8 @@
 ghost use Rattle.std.specs.List.{list_all};
 ghost use Rattle.std.specs.Option.{option_and_then, option_map_or};
 ghost use Rattle.std.specs.Prelude.{◌≡◌, ◌≤◌, None, Some, drop, if◌then◌else◌, nat_lt, not, take, vec_len};
-ghost use Rattle.sum_lines.specs.Escape.{own_profile};
-ghost use Rattle.sum_lines.specs.grammar.Entries.{begins_standard, form_then, is_ignored, line_form};
+ghost use Rattle.sum_lines.specs.grammar.Entries.{is_ignored};
+ghost use Rattle.sum_lines.specs.grammar.Form.{begins_standard, form_then, line_form};
 ghost use Rattle.sum_lines.specs.grammar.LineLaws.{FitsGrammar};
 ghost use Rattle.sum_lines.specs.grammar.ParsedLines.{bad, entry, entry_of, entry_of_parts, parse_line, unescape};
 ghost use Rattle.sum_lines.specs.grammar.ParsedLines.{parts_with_raw_name, parsed_line_of, IsWithin};
@@ -70,9 +70,9 @@ pub fn read_line<A: Allocator>(algos: Algos, form: Form, line: &mut Vec<u8, A>) 
     ensures form { result.1 ≡ form_then form (line_form algos line.old.items) }
     // What the line says, as it is computed. An entry's name is a range of the vector.
     ensures parsed { parsed_line_of line.new.items result.0
-        ≡ parse_line own_profile algos result.1 line.old.items }
+        ≡ parse_line algos result.1 line.old.items }
     // What the line says by the grammar: ignored, an entry, or bad, each if and only if the grammar says that.
-    ensures grammar { FitsGrammar own_profile algos result.1 line.old.items
+    ensures grammar { FitsGrammar algos result.1 line.old.items
         (parsed_line_of line.new.items result.0) }
     // The range of an entry's name is in the vector, and its digest is as long as the kind's.
     ensures within { IsWithin line.new.items result.0 }
@@ -106,7 +106,7 @@ fn read_begun<A: Allocator>(
     // What the line says, and the form with this line.
     ensures form { result.1 ≡ form_then form (line_form algos line.old.items) }
     ensures parsed { parsed_line_of line.new.items result.0
-        ≡ option_map_or entry (entry_of own_profile algos result.1 line.old.items) bad }
+        ≡ option_map_or entry (entry_of algos result.1 line.old.items) bad }
 
     // What the vector has then.
     ensures within { IsWithin line.new.items result.0 }
@@ -148,7 +148,7 @@ fn read_tail<A: Allocator>(
         (if begins_standard (line_parts line.old.items found).text then Form.Standard
         else Form.Reversed) }
     ensures parsed { parsed_line_of line.new.items result.0 ≡ option_map_or entry
-        (option_and_then (entry_of_parts own_profile)
+        (option_and_then entry_of_parts
         (parts_with_raw_name result.1 (line_parts line.old.items found))) bad }
 
     // What the vector has then.
@@ -193,7 +193,7 @@ fn read_name<A: Allocator>(line: &mut Vec<u8, A>, found: LineParts) -> Reading
 
     // What the line says.
     ensures parsed { parsed_line_of line.new.items result
-        ≡ option_map_or entry (entry_of_parts own_profile (line_parts line.old.items found)) bad }
+        ≡ option_map_or entry (entry_of_parts (line_parts line.old.items found)) bad }
 
     // What the vector has then.
     ensures within { IsWithin line.new.items result }
@@ -214,11 +214,13 @@ fn read_name<A: Allocator>(line: &mut Vec<u8, A>, found: LineParts) -> Reading
 
 // Replaces the bytes from `start` on by the name that they spell. Returns false if a backslash came first and they are
 // no escape.
-#[tactic(auto, using(crate::proofs::EscapeLemmas::unescaped))]
+#[tactic(auto, using(crate::proofs::EscapeLemmas::replaced_by_name))]
 fn unspell<A: Allocator>(line: &mut Vec<u8, A>, escaped: bool, start: usize) -> bool
     requires { start ≤ vec_len line.old }
+
+    // The name that the bytes spell, and what stays.
     ensures name { (if result then Some (drop start line.new.items) else None)
-        ≡ (if escaped then unescape own_profile (drop start line.old.items)
+        ≡ (if escaped then unescape (drop start line.old.items)
         else Some (drop start line.old.items)) }
     ensures before { take start line.new.items ≡ take start line.old.items }
     ensures len { vec_len line.new ≤ vec_len line.old }

@@ -7,7 +7,7 @@ ghost use Rattle.sum_lines.specs.grammar.LineParts.{mark_and_rest, strip_prefix,
 ghost use Rattle.sum_lines.specs.grammar.Shapes.{is_blank};
 ghost use Rattle.sum_lines.specs.private.Beginnings.{IsFront, line_parts};
 
-use crate::reading::line_parts::{Front, LineParts, past_text, skip_blanks, split_at_last};
+use crate::reading::line_parts::{Front, LineParts, after_prefix, skip_blanks, split_at_last};
 use digest_kinds::{Algo, Algos, Digest, Kind};
 
 /// Reads a line whose text begins with this algorithm's tag. Returns `None` if the line isn't tagged.
@@ -16,12 +16,13 @@ pub(crate) fn tagged(algo: Algo, line: &[u8], front: Front) -> Option<LineParts>
     requires front { IsFront line.now front }
     requires tag { tag_in (Algos.One algo)
         (mark_and_rest (after_while is_blank line.now)).1 ≡ Some algo }
+
+    // The parts that were found are the line's.
     ensures parts { option_map (line_parts line.now) result
         ≡ tagged_parts (Algos.One algo) line.now }
     ensures within { IfSome result (λ found. found.stop ≤ length line.now) }
 {
     let text = front.text_of(line);
-    // `?` isn't used: the borrow checker doesn't cover it for a struct with a reference.
     let Some(named) = Kind::of_tag_prefix(algo, text) else {
         return None;
     };
@@ -29,7 +30,7 @@ pub(crate) fn tagged(algo: Algo, line: &[u8], front: Front) -> Option<LineParts>
     let inner = past_parenthesis(named.rest)?;
     // The name may contain `)`. What follows the name can't contain one.
     let (raw, after_name) = split_at_last(b')', inner)?;
-    let digits = skip_blanks(past_text(b"=", skip_blanks(after_name))?);
+    let digits = skip_blanks(after_prefix(b"=", skip_blanks(after_name))?);
     // The digits are decoded only if they are as many as the kind has.
     if digits.len() != 2 * kind.len() {
         return None;
@@ -53,5 +54,5 @@ fn past_parenthesis(s: &[u8]) -> Option<&[u8]>
     ensures { option_copied result
         ≡ option_or (strip_prefix (codes " (") s.now) (strip_prefix (codes "(") s.now) }
 {
-    past_text(b" (", s).or(past_text(b"(", s))
+    after_prefix(b" (", s).or(after_prefix(b"(", s))
 }

@@ -1,8 +1,7 @@
 //! A buffer over a sink.
 ghost use Rattle.std.specs.Prelude.{◌≡◌, ◌<◌, ◌≤◌, ◌-◌, ◌+◌, ◌++◌, [], length, min, take, IsTrue, OnErr, MatchResult};
-ghost use Rattle.sum_lines.specs.Buffers.{Accepts, FailsToWrite, IsFlushed, WritesAll};
-ghost use Rattle.sum_lines.specs.Sinks.{GivesAll};
-ghost use Rattle.sum_lines.specs.SinkStates.{MakesRoom};
+ghost use Rattle.sum_lines.specs.Buffered.{Accepts, FailsToWrite, IsFlushed, WritesAll, MakesRoom};
+ghost use Rattle.sum_lines.specs.Output.{GivesAll};
 
 use crate::sinks::sink::{Sink, SinkFault, give_all};
 use std::marker::Model;
@@ -25,7 +24,7 @@ pub struct Buffered<S: Sink> {
 
 impl<S: Sink> Model for Buffered<S> {
     ghost use Rattle.std.specs.Prelude.{◌≤◌, take};
-    ghost use Rattle.sum_lines.specs.Buffers.{BufferState};
+    ghost use Rattle.sum_lines.specs.Buffered.{BufferState};
     ghost use Rattle.sum_lines.specs.declared.sinks.buffered.TheConstants.{CAPACITY};
 
     ghost Value = { BufferState };
@@ -120,8 +119,7 @@ fn copy_after(buffer: &mut [u8], len: usize, piece: &[u8]) -> usize
     count
 }
 
-/// Writes all of the bytes to the buffer. Returns `SinkFault` if the sink failed; [`Buffered`] says what was written
-/// then.
+/// Writes all of the bytes to the buffer.
 #[tactic(auto, using(crate::proofs::SinkLemmas::at_first))]
 pub fn put_all<S: Sink>(sink: &mut Buffered<S>, bytes: &[u8]) -> Result<(), SinkFault>
     ensures { WritesAll sink.old sink.new bytes.now result }

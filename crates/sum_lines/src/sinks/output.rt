@@ -1,7 +1,8 @@
 //! An output, to which whole texts are written.
+ghost use Rattle.digest_kinds.specs.Bytes.{ByteString};
 ghost use Rattle.std.specs.Prelude.{◌≡◌, true, IsTrue};
-ghost use Rattle.sum_lines.specs.Buffers.{WritesAll};
-ghost use Rattle.sum_lines.specs.Sinks.{ByteString, GivesAll};
+ghost use Rattle.sum_lines.specs.Buffered.{WritesAll};
+ghost use Rattle.sum_lines.specs.Output.{GivesAll};
 
 use crate::sinks::buffered::Buffered;
 use crate::sinks::sink::{Sink, SinkFault};
@@ -12,7 +13,7 @@ pub trait Text {
     /// The text.
     ghost text: { Self → ByteString };
 
-    /// Writes the text to the buffer, without a flush. Returns `SinkFault` as [`put_all`](crate::put_all) does.
+    /// Writes the text to the buffer, without a flush.
     fn put<S: Sink>(&self, sink: &mut Buffered<S>) -> Result<(), SinkFault>
         ensures { WritesAll sink.old sink.new (text self.now) result };
 }
@@ -24,8 +25,8 @@ pub struct Output<S: Sink> {
 }
 
 impl<S: Sink> Model for Output<S> {
-    ghost use Rattle.sum_lines.specs.Buffers.{IsFlushed};
-    ghost use Rattle.sum_lines.specs.Sinks.{OutputState};
+    ghost use Rattle.sum_lines.specs.Buffered.{IsFlushed};
+    ghost use Rattle.sum_lines.specs.Output.{OutputState};
 
     ghost Value = { OutputState };
 

@@ -1,12 +1,14 @@
 //! The trait of a sink, to which bytes are written.
 ghost use Rattle.std.specs.Prelude.{◌≡◌, ◌≤◌, [], Ok, IsTrue, OnErr, length};
-ghost use Rattle.sum_lines.specs.Sinks.{SinkState, WritesSome, Flushes, GivesAll};
+ghost use Rattle.sum_lines.specs.Output.{GivesAll};
+ghost use Rattle.sum_lines.specs.Sink.{SinkState, WritesSome, Flushes};
 ghost use Rattle.sum_lines.specs.declared.sinks.buffered.TheConstants.{CAPACITY};
 
 use sum_settings::Stop;
 use thiserror::Error;
 
-/// A call of a sink has failed.
+/// A call of a sink has failed. Each function that writes to a buffer returns it if the sink below fails;
+/// [`Buffered`](crate::Buffered) says what was written then.
 #[derive(Clone, Copy, Debug, PartialEq, Eq, Error)]
 #[error("a write failed")]
 pub struct SinkFault;

@@ -2,8 +2,7 @@
 ghost use Rattle.std.specs.Prelude.{◌≡◌, ◌≤◌, ◌+◌, ◌<◌, [], length, min, IfOk, IsErr, IsTrue, OnErr, ◌↔◌};
 
 use crate::sinks::sink::{Sink, SinkFault};
-use crate::sinks::writes::{Flushed, Offer, Writes};
-use ghost_log::Log;
+use crate::sinks::sink_log::{Flushed, Offer, SinkCalls, SinkLog};
 use std::marker::Model;
 
 /// A sink that keeps up to N bytes, and fails when it is full.
@@ -12,12 +11,12 @@ pub struct ToldSink<const N: usize> {
     bytes: [u8; N],
     len: usize,
     limit: usize,
-    log: Log<Writes>,
+    log: SinkLog,
 }
 
 impl<const N: usize> Model for ToldSink<N> {
     ghost use Rattle.std.specs.Prelude.{◌≤◌, ◌-◌, take};
-    ghost use Rattle.sum_lines.specs.Sinks.{ToldSinkValue};
+    ghost use Rattle.sum_lines.specs.ToldSink.{ToldSinkValue};
 
     ghost Value = { ToldSinkValue };
 
@@ -34,6 +33,8 @@ impl<const N: usize> ToldSink<N> {
     pub fn new(stop: usize) -> Self
         ensures empty { result.state.output.written ≡ [] }
         ensures room { result.room ≡ min stop N }
+
+        // No call has failed, and nothing is held back.
         ensures failures { result.state.output.failures ≡ 0 }
         ensures flushed { IsTrue result.state.flushed }
     {
@@ -41,7 +42,7 @@ impl<const N: usize> ToldSink<N> {
             bytes: [0; N],
             len: 0,
             limit: stop.min(N),
-            log: Log::of(&Writes),
+            log: SinkLog::of(&SinkCalls),
         }
     }
 
@@ -55,7 +56,7 @@ impl<const N: usize> ToldSink<N> {
 
 impl<const N: usize> Sink for ToldSink<N> {
     ghost use Rattle.std.specs.Prelude.{Ok};
-    ghost use Rattle.sum_lines.specs.Sinks.{WritesSome, Flushes};
+    ghost use Rattle.sum_lines.specs.Sink.{WritesSome, Flushes};
 
     ghost state = { λ s. s.state };
 

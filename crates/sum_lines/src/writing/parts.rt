@@ -1,7 +1,7 @@
 //! Texts written in parts.
 ghost use Rattle.std.specs.Prelude.{decimal};
-ghost use Rattle.sum_lines.specs.Buffers.{WritesAll};
-ghost use Rattle.sum_lines.specs.PartTexts.{part_text, parts_text};
+ghost use Rattle.sum_lines.specs.Buffered.{WritesAll};
+ghost use Rattle.sum_lines.specs.Parts.{part_text, joined_text};
 
 use crate::escape::put_escaped;
 use crate::sinks::buffered::{Buffered, put_all};
@@ -25,20 +25,20 @@ pub enum Part<'a> {
 pub struct Parts<'a>(pub &'a [Part<'a>]);
 
 impl<'a> Text for Parts<'a> {
-    ghost use Rattle.sum_lines.specs.PartTexts.{parts_text};
+    ghost use Rattle.sum_lines.specs.Parts.{joined_text};
 
-    ghost text = { λ parts. parts_text parts.0.now };
+    ghost text = { λ parts. joined_text parts.0.now };
 
     fn put<S: Sink>(&self, sink: &mut Buffered<S>) -> Result<(), SinkFault> {
         put_parts(sink, self.0)
     }
 }
 
-/// Writes the parts, one after another. Returns `SinkFault` as `put_all` does.
+/// Writes the parts, one after another.
 #[doc(hidden)]
 #[tactic(auto, using(crate::proofs::SinkLemmas::at_first))]
 pub fn put_parts<S: Sink>(sink: &mut Buffered<S>, parts: &[Part]) -> Result<(), SinkFault>
-    ensures { WritesAll sink.old sink.new (parts_text parts.now) result }
+    ensures { WritesAll sink.old sink.new (joined_text parts.now) result }
 {
     for part in parts {
         put_part(sink, *part)?;
@@ -57,7 +57,7 @@ fn put_part<S: Sink>(sink: &mut Buffered<S>, part: Part) -> Result<(), SinkFault
     }
 }
 
-/// Writes the number's decimal digits, without a leading zero. Returns `SinkFault` as `put_all` does.
+/// Writes the number's decimal digits, without a leading zero.
 pub fn put_number<S: Sink>(sink: &mut Buffered<S>, number: u64) -> Result<(), SinkFault>
     ensures { WritesAll sink.old sink.new (decimal number) result }
 {

@@ -1,18 +1,18 @@
 //! The line that is written for a name and its digest.
 ghost use Rattle.hex.specs.Hex.{encode_lower};
 ghost use Rattle.std.specs.Prelude.{◌≡◌, length};
-ghost use Rattle.sum_lines.specs.Buffers.{WritesAll};
+ghost use Rattle.sum_lines.specs.Buffered.{WritesAll};
+ghost use Rattle.sum_lines.specs.DigestLine.{layout, line};
 ghost use Rattle.sum_lines.specs.Escape.{escape, escape_differs};
-ghost use Rattle.sum_lines.specs.Lines.{layout, line};
+ghost use Rattle.sum_lines.specs.Parts.{part_text};
 ghost use Rattle.sum_lines.specs.grammar.Shapes.{mark};
-ghost use Rattle.sum_lines.specs.PartTexts.{part_text};
 
 use crate::escape::needs_escape;
 use crate::sinks::buffered::{Buffered, put_all};
 use crate::sinks::output::Text;
 use crate::sinks::sink::{Sink, SinkFault};
 use crate::writing::parts::{Part, put_parts};
-use digest_kinds::{Digest, Kind};
+use digest_kinds::{Digest, Kind, LONGEST_KIND_TEXT};
 use sum_settings::{Mode, Style};
 
 /// The line of a name and its digest, which [`put_line`] writes.
@@ -30,7 +30,7 @@ pub struct DigestLine<'a> {
 }
 
 impl<'a> Text for DigestLine<'a> {
-    ghost use Rattle.sum_lines.specs.Lines.{line};
+    ghost use Rattle.sum_lines.specs.DigestLine.{line};
 
     ghost text = { λ l. line l.style l.kind l.name.now l.digest.now };
 
@@ -39,8 +39,7 @@ impl<'a> Text for DigestLine<'a> {
     }
 }
 
-/// Writes the line of a name and its digest to the buffer. The digest has the kind's length. Returns `SinkFault` as
-/// `put_all` does.
+/// Writes the line of a name and its digest to the buffer. The digest has the kind's length.
 #[tactic(auto, using(crate::proofs::SinkLemmas::writes_then, crate::proofs::SinkLemmas::writes_stop))]
 pub fn put_line<S: Sink>(
     sink: &mut Buffered<S>,
@@ -103,7 +102,7 @@ fn put_layout<'a, S: Sink>(
         Mode::Text => put_parts(sink, &[digits, Part::Bytes(b"  "), name]),
         Mode::Binary => put_parts(sink, &[digits, Part::Bytes(b" *"), name]),
         Mode::Tag => {
-            put_all(sink, kind.text_into(&mut [0; 11]).as_bytes())?;
+            put_all(sink, kind.text_into(&mut [0; LONGEST_KIND_TEXT]).as_bytes())?;
             put_parts(
                 sink,
                 &[Part::Bytes(b" ("), name, Part::Bytes(b") = "), digits],

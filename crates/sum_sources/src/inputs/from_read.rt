@@ -1,9 +1,9 @@
 //! Inputs over the readers of `std`.
 ghost use Rattle.std.specs.Prelude.{◌≡◌};
-ghost use Rattle.sum_sources.specs.Logs.{no_reads};
+ghost use Rattle.sum_sources.specs.Input.{no_reads};
 
 use crate::FromRead;
-use crate::inputs::read_log::{ReadLog, Reads};
+use crate::inputs::input_log::{InputCalls, InputLog};
 use std::fmt;
 use std::fmt::{Debug, Formatter, Write};
 use std::io::Read;
@@ -14,7 +14,7 @@ impl<R: Read> FromRead<R> {
     pub fn new(reader: R) -> Self
         ensures { result ≡ record { reader = reader; log = no_reads } }
     {
-        FromRead::with_log(reader, ReadLog::of(&Reads))
+        FromRead::with_log(reader, InputLog::of(&InputCalls))
     }
 }
 

@@ -1,8 +1,8 @@
-//! The trait of an input, and how much is read at once.
+//! The trait of an input, how far one was read, and how much is read at once.
 ghost use Rattle.std.specs.Prelude.{◌≡◌, ◌≤◌, length, IfOk};
-ghost use Rattle.sum_sources.specs.Contents.{InputState, HasContent, and_read};
+ghost use Rattle.sum_sources.specs.Input.{InputState, HasContent, phase_after, state_after_read};
 
-use crate::Fault;
+use crate::{Ending, Fault};
 
 /// The most bytes that are read at once.
 pub const PIECE: usize = 8192;
@@ -18,8 +18,37 @@ pub trait Input {
     fn read(&mut self, buf: &mut [u8]) -> Result<usize, Fault>
         ensures count { IfOk result (λ n. n ≤ length buf.new) }
         // What the read gave is added to what the reads before it gave, and nothing else changes.
-        ensures reads { state self.new ≡ and_read (state self.old) buf.new result };
+        ensures reads { state self.new ≡ state_after_read (state self.old) buf.new result };
 
     /// Law: the reads fit some content, and the one in memory if there is one.
     ghost has_content: { (s : Self) → HasContent (state s) };
+}
+
+/// How far an input was read.
+#[derive(Clone, Copy, Debug, PartialEq, Eq)]
+pub enum Phase {
+    /// Each read so far gave bytes, or there was no read.
+    Unfinished,
+    /// The last read found the end, or failed with the fault.
+    Ended(Ending),
+    /// It was read again after its end or a fault, or it was read into an empty buffer, which may fail or wait, and
+    /// shows nothing. It stays `Past` from then on.
+    Past,
+}
+
+impl Phase {
+    /// Returns the phase after a read into a buffer of `size` bytes returned `read`.
+    pub fn after(self, size: usize, read: &Result<usize, Fault>) -> Phase
+        ensures { result ≡ phase_after self size read.now }
+    {
+        if size == 0 {
+            return Phase::Past;
+        }
+        match (self, read) {
+            (Phase::Unfinished, Ok(0)) => Phase::Ended(Ending::Whole),
+            (Phase::Unfinished, Ok(_)) => Phase::Unfinished,
+            (Phase::Unfinished, Err(fault)) => Phase::Ended(Ending::Broken(*fault)),
+            _ => Phase::Past,
+        }
+    }
 }

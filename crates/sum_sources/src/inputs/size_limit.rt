@@ -3,7 +3,7 @@ ghost use Rattle.digest_kinds.specs.Bytes.{LIMIT};
 ghost use Rattle.std.specs.Prelude.{◌<◌, ◌≡◌, length, take};
 ghost use Rattle.std.specs.Result.{result_unwrap_or};
 ghost use Rattle.sum_sources.specs.declared.inputs.input.TheConstants.{PIECE};
-ghost use Rattle.sum_sources.specs.private.LimitedReads.{CountsLimited, CountsBytes, AddsPast};
+ghost use Rattle.sum_sources.specs.private.SizeLimit.{CountsLimited, CountsBytes, AddsPast};
 
 use crate::{Fault, Input, PIECE};
 use digest_kinds::LIMIT;
@@ -16,8 +16,12 @@ pub(crate) fn read_limited<I: Input>(
     buffer: &mut [u8; PIECE],
 ) -> Result<usize, Fault>
     requires { taken.old < LIMIT }
+
+    // Bounds.
     ensures count { CountsLimited taken.old taken.new result }
     ensures size { length buffer.new ≡ PIECE }
+
+    // What the input gave.
     ensures input { CountsBytes taken.old taken.new (I.state input.old) (I.state input.new) }
     ensures reads { AddsPast taken.old (I.state input.old).reads (I.state input.new).reads
         (take (result_unwrap_or result 0) buffer.new) result }

@@ -1,11 +1,20 @@
 //! Standard input, which a run gets once.
 ghost use Rattle.std.specs.Prelude.{◌≡◌, IsTrue, None};
-ghost use Rattle.sum_sources.specs.StandardInput.{GivesUnread, StdinPlace, given_input, put_back, after_taking};
+ghost use Rattle.sum_sources.specs.Stdin.{GivesUnread, StdinPlace, given_input};
+ghost use Rattle.sum_sources.specs.Stdin.{stdin_after_taking, stdin_after_put_back};
 
 use crate::fault::EBADF;
-use crate::inputs::closable::Closable;
 use crate::{Ending, Fault, Input, Phase};
 use std::marker::Model;
+
+/// What standard input reads from.
+#[derive(Debug, Drop)]
+pub(crate) enum Closable<I> {
+    /// The input, which is open.
+    Open(I),
+    /// An input without bytes that has this ending. The phase says how far it was read.
+    Closed(Ending, Phase),
+}
 
 /// Standard input. Its input is taken once, and then put back. Until it is taken, nothing has been read of it.
 #[derive(Debug, Drop)]
@@ -32,7 +41,7 @@ pub struct Given<I> {
 }
 
 impl<I> Model for Given<I> {
-    ghost use Rattle.sum_sources.specs.declared.inputs.closable.Closable.{Closable};
+    ghost use Rattle.sum_sources.specs.declared.inputs.stdin.Closable.{Closable};
 
     ghost Value = { Closable I };
 
@@ -41,9 +50,9 @@ impl<I> Model for Given<I> {
 
 impl<I: Input> Stdin<I> {
     ghost use Rattle.std.specs.Prelude.{false, Some};
-    ghost use Rattle.sum_sources.specs.Faults.{bad_descriptor};
-    ghost use Rattle.sum_sources.specs.Contents.{empty_reads};
-    ghost use Rattle.sum_sources.specs.declared.inputs.closable.Closable.TheVariants.{Open, Closed};
+    ghost use Rattle.sum_sources.specs.Fault.{bad_descriptor};
+    ghost use Rattle.sum_sources.specs.Input.{empty_reads};
+    ghost use Rattle.sum_sources.specs.declared.inputs.stdin.Closable.TheVariants.{Open, Closed};
 
     /// Creates a standard input that gives `input`, which hasn't been read, when it is taken.
     pub fn new(input: I) -> Self
@@ -73,7 +82,7 @@ impl<I: Input + Drop> Stdin<I> {
     pub fn take(&mut self) -> Given<I>
         ensures given { result ≡ given_input self.old }
         ensures unread { GivesUnread I.state self.old }
-        ensures taken { self.new ≡ after_taking self.old }
+        ensures taken { self.new ≡ stdin_after_taking self.old }
     {
         let input = if self.taken { None } else { self.input.take() };
         self.taken = true;
@@ -84,7 +93,7 @@ impl<I: Input + Drop> Stdin<I> {
 
     /// Puts back what `take` gave. It is kept if nothing was put back before, and dropped otherwise.
     pub fn put_back(&mut self, given: Given<I>)
-        ensures { self.new ≡ put_back self.old given }
+        ensures { self.new ≡ stdin_after_put_back self.old given }
     {
         let Given { input } = given;
         if self.taken && self.input.is_none() {
@@ -95,7 +104,7 @@ impl<I: Input + Drop> Stdin<I> {
 
 impl<I: Input> Input for Given<I> {
     ghost use Rattle.sum_sources.specs.InputLaws.{closable_has_content};
-    ghost use Rattle.sum_sources.specs.StandardInput.{closable_state};
+    ghost use Rattle.sum_sources.specs.Stdin.{closable_state};
 
     ghost state = { λ s. closable_state I.state s };
 

@@ -1,9 +1,10 @@
 //! An input in memory.
 ghost use Rattle.std.specs.Prelude.{◌≡◌, ◌≤◌, [], length, max, IfOk};
-ghost use Rattle.sum_sources.specs.StandardInput.{told_file};
-ghost use Rattle.sum_sources.specs.ToldSteps.{GivesFrom, IsSoundTold};
+ghost use Rattle.sum_sources.specs.Fault.{Ending};
+ghost use Rattle.sum_sources.specs.Input.{GivesFrom, told_reads};
+ghost use Rattle.sum_sources.specs.Input.{Ended};
 
-use crate::inputs::read_log::{ReadLog, ReadNote, Reads};
+use crate::inputs::input_log::{InputCalls, InputLog, ReadNote};
 use crate::{Ending, Fault, Input, Phase};
 
 /// An input of bytes in memory. Once it has ended, each read gives the end, or the fault, again.
@@ -15,19 +16,21 @@ pub struct Told<'a> {
     given: usize,
     piece: usize,
     phase: Phase,
-    log: ReadLog,
-    // It has no Model: the borrow checker doesn't cover a source whose files have one and a lifetime.
-    ghost is: { IsSoundTold (record { bytes = bytes.now; ending = ending }) given piece
-        phase log.reads },
+    log: InputLog,
+    ghost some: { 1 ≤ piece },
+    ghost few: { given ≤ length bytes.now },
+    ghost ended: { (e : Ending) → phase ≡ Ended e → length bytes.now ≤ given },
+    ghost logged: { log.reads
+        ≡ told_reads (record { bytes = bytes.now; ending = ending }) given phase },
 }
 
 impl<'a> Told<'a> {
-    ghost use Rattle.sum_sources.specs.Contents.{empty_reads};
-    ghost use Rattle.sum_sources.specs.ToldPairs.{told_value};
+    ghost use Rattle.sum_sources.specs.Input.{empty_reads};
+    ghost use Rattle.sum_sources.specs.Told.{told_state, told_view};
 
     /// Creates an input of the bytes `content`, at most `piece` per read (0 counts as 1), and then `ending`.
     pub fn new(content: &'a [u8], ending: Ending, piece: usize) -> Told<'a>
-        ensures { told_value result ≡ record {
+        ensures { told_view result ≡ record {
           content = record { bytes = content.entry.now; ending = ending };
           given = 0;
           piece = max piece 1;
@@ -36,13 +39,13 @@ impl<'a> Told<'a> {
           name = [];
         } }
     {
-        Told::opened(content, ending, piece, ReadLog::of(&Reads))
+        Told::opened(content, ending, piece, InputLog::of(&InputCalls))
     }
 
     // Creates such an input, opened by a source.
-    pub(crate) fn opened(content: &'a [u8], ending: Ending, piece: usize, log: ReadLog) -> Told<'a>
+    pub(crate) fn opened(content: &'a [u8], ending: Ending, piece: usize, log: InputLog) -> Told<'a>
         requires { log.reads ≡ empty_reads }
-        ensures { told_value result ≡ record {
+        ensures { told_view result ≡ record {
           content = record { bytes = content.entry.now; ending = ending };
           given = 0;
           piece = max piece 1;
@@ -62,8 +65,8 @@ impl<'a> Told<'a> {
     }
 
     // What its reads gave.
-    pub(crate) fn log(&self) -> &ReadLog
-        ensures { result.now ≡ record (told_file (told_value self.now)) { told = result.now.told } }
+    pub(crate) fn log(&self) -> &InputLog
+        ensures { result.now ≡ record (told_state (told_view self.now)) { told = result.now.told } }
     {
         &self.log
     }
@@ -80,9 +83,10 @@ fn give(
     requires some { 1 ≤ piece }
     requires few { given.old ≤ length bytes.now }
 
-    // The bounds that the caller needs.
+    // Bounds.
     ensures few { given.new ≤ length bytes.now }
     ensures count { IfOk result (λ n. n ≤ length buf.new) }
+    ensures at_most { IfOk result (λ n. n ≤ piece) }
     ensures size { length buf.new ≡ length buf.old }
 
     // What the read gave.
@@ -100,18 +104,25 @@ fn give(
 }
 
 impl<'a> Input for Told<'a> {
-    ghost use Rattle.sum_sources.specs.ToldPairs.{told_value};
+    ghost use Rattle.sum_sources.specs.Input.{state_after_read};
+    ghost use Rattle.sum_sources.specs.Told.{told_state, told_view};
 
-    ghost state = { λ s. told_file (told_value s) };
+    ghost state = { λ s. told_state (told_view s) };
 
-    fn read(&mut self, buf: &mut [u8]) -> Result<usize, Fault> {
+    fn read(&mut self, buf: &mut [u8]) -> Result<usize, Fault>
+        ensures count { IfOk result (λ n. n ≤ length buf.new) }
+        ensures at_most { IfOk result (λ n. n ≤ (told_view self.old).piece) }
+        ensures piece { (told_view self.new).piece ≡ (told_view self.old).piece }
+        ensures reads { told_state (told_view self.new)
+            ≡ state_after_read (told_state (told_view self.old)) buf.new result }
+    {
         let result = give(self.bytes, self.ending, self.piece, &mut self.given, buf);
         self.phase = self.phase.after(buf.len(), &result);
         self.log = self.log.and(&ReadNote(buf, &result));
         result
     }
 
-    ghost use Rattle.sum_sources.specs.InputLaws.{told_file_has_content};
+    ghost use Rattle.sum_sources.specs.InputLaws.{told_has_content};
 
-    ghost has_content = { λ s. told_file_has_content (told_value s) };
+    ghost has_content = { λ s. told_has_content (told_view s) };
 }

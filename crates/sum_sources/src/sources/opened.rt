@@ -1,14 +1,14 @@
 //! What opening a name gives.
 ghost use Rattle.std.specs.Prelude.{◌≡◌};
-ghost use Rattle.sum_sources.specs.WithStdin.{is_dash, is_stdin, place_state};
+ghost use Rattle.sum_sources.specs.{WithStdin.is_dash, Place.is_stdin, Place.place_state};
 
-use crate::inputs::read_log::ReadLog;
+use crate::inputs::input_log::InputLog;
 use crate::{Fault, Given, Input};
 
 #[derive(Debug)]
 pub(crate) enum Place<I, F> {
     /// Standard input. The log has its name and its opening.
-    Stdin(Given<I>, ReadLog),
+    Stdin(Given<I>, InputLog),
     File(F),
 }
 
@@ -17,7 +17,6 @@ pub(crate) enum Place<I, F> {
 #[derive(Debug)]
 pub struct Opened<I: Input, F: Input> {
     pub(crate) place: Place<I, F>,
-    // It has no Model: the borrow checker doesn't cover a source whose files have one and a lifetime.
     ghost named: { is_dash (place_state I.state F.state place).name ≡ is_stdin place },
 }
 
@@ -25,7 +24,7 @@ impl<I: Input, F: Input> Opened<I, F> {
     ghost use Rattle.std.specs.Prelude.{IsTrue, false};
 
     // Standard input, by the opening that the log has.
-    pub(crate) fn from_stdin(given: Given<I>, log: ReadLog) -> Self
+    pub(crate) fn from_stdin(given: Given<I>, log: InputLog) -> Self
         requires { IsTrue (is_dash log.name) }
         ensures { result.place ≡ Place.Stdin given log }
     {
@@ -46,8 +45,8 @@ impl<I: Input, F: Input> Opened<I, F> {
 }
 
 impl<I: Input, F: Input> Input for Opened<I, F> {
-    ghost use Rattle.sum_sources.specs.WithStdin.{opened_has_content};
-    ghost use Rattle.sum_sources.specs.SourceStates.{opened_state};
+    ghost use Rattle.sum_sources.specs.InputLaws.{opened_has_content};
+    ghost use Rattle.sum_sources.specs.Opened.{opened_state};
 
     ghost state = { opened_state };
 

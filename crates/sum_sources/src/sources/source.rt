@@ -1,7 +1,7 @@
 //! The trait of a source of files, and why a file could not be opened.
 ghost use Rattle.std.specs.Prelude.{◌≡◌, IfOk};
-ghost use Rattle.sum_sources.specs.Sources.{SourceState, ToldAnswers, GivesTold, IsOpen, opened_file, after_opening};
-ghost use Rattle.sum_sources.specs.Sources.{after_closing};
+ghost use Rattle.sum_sources.specs.Source.{SourceState, ToldAnswers, GivesTold, IsOpen};
+ghost use Rattle.sum_sources.specs.Source.{opened_file, state_after_opening, state_after_closing};
 
 use crate::{Fault, Input};
 use thiserror::Error;
@@ -29,14 +29,14 @@ pub trait Source {
     /// Opens the file of this name. Returns `OpenFault::Fault` if it can't be opened, and `OpenFault::Memory` only if
     /// memory was refused; the name then doesn't count as opened.
     fn open_file(&mut self, name: &[u8]) -> Result<Self::File, OpenFault>
-        ensures state { state self.new ≡ after_opening (state self.old) name.now result }
+        ensures state { state self.new ≡ state_after_opening (state self.old) name.now result }
         ensures file { IfOk result (λ file. Self.File.state file
             ≡ opened_file tells (state self.old) name.now) };
 
     /// Closes a file that this source opened, and keeps what was read of it.
     fn close_file(&mut self, file: Self::File)
         requires { IsOpen tells (state self.old) (Self.File.state file) }
-        ensures { state self.new ≡ after_closing (state self.old) (Self.File.state file) };
+        ensures { state self.new ≡ state_after_closing (state self.old) (Self.File.state file) };
 
     /// Law: what an opening gave fits the answer, if one is told.
     ghost gives_told: { (s : Self) → GivesTold tells (state s) };

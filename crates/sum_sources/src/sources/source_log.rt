@@ -1,25 +1,28 @@
-//! Which names a source of files opened, and what it answered, for proofs alone.
+//! The log of a source.
 ghost use Rattle.std.specs.Prelude.{◌≡◌};
-ghost use Rattle.sum_sources.specs.Logs.{no_openings};
-ghost use Rattle.sum_sources.specs.Sources.{SourceState, opened_file, no_answer};
+ghost use Rattle.sum_sources.specs.Source.{opened_file, no_answer};
 
-use crate::inputs::read_log::{ReadLog, Reads};
+use crate::inputs::input_log::{InputCalls, InputLog};
 use crate::{Fault, Input, Source};
 use ghost_log::{Log, Notes};
 use std::marker::Model;
 
-/// A source before its first opening.
+/// A source before its first opening, with which its log begins.
 #[derive(Debug, Drop)]
-pub struct Openings;
+pub struct SourceCalls;
 
-impl Model for Openings {
+impl Model for SourceCalls {
+    ghost use Rattle.sum_sources.specs.Source.{SourceState};
+
     ghost Value = { SourceState };
+
+    ghost use Rattle.sum_sources.specs.SourceLog.{no_openings};
 
     ghost view = { λ _. no_openings };
 }
 
-/// The openings of a source.
-pub type SourceLog = Log<Openings>;
+/// Which names a source opened, and what it answered. Only proofs see it.
+pub type SourceLog = Log<SourceCalls>;
 
 /// A note in the log of a source.
 #[derive(Clone, Copy, Debug)]
@@ -29,45 +32,45 @@ pub enum Note<'a> {
     /// The file of that name could not be opened.
     Failed(&'a [u8], Fault),
     /// A file was closed, after these reads.
-    Closed(&'a ReadLog),
+    Closed(&'a InputLog),
     /// Memory was refused.
     Refused,
 }
 
-impl<'a> Notes<Note<'a>> for Openings {
-    ghost use Rattle.sum_sources.specs.LogNotes.{state_after_note};
+impl<'a> Notes<Note<'a>> for SourceCalls {
+    ghost use Rattle.sum_sources.specs.SourceLog.{state_after_note};
 
-    ghost after_note = { λ s x. state_after_note s x };
+    ghost after_note = { λ source note. state_after_note source note };
 }
 
 /// This file was closed.
 #[derive(Clone, Copy, Debug)]
 pub struct ClosedFile<'a, F>(pub &'a F);
 
-impl<'a, F: Input> Notes<ClosedFile<'a, F>> for Openings {
-    ghost use Rattle.sum_sources.specs.Sources.{after_closing};
+impl<'a, F: Input> Notes<ClosedFile<'a, F>> for SourceCalls {
+    ghost use Rattle.sum_sources.specs.Source.{state_after_closing};
 
-    ghost after_note = { λ s x. after_closing s (F.state x.0.now) };
+    ghost after_note = { λ source note. state_after_closing source (F.state note.0.now) };
 }
 
 // The openings of a source, without those of `-`.
 #[derive(Clone, Copy)]
 pub(crate) struct OthersOf<'a, S>(pub(crate) &'a S);
 
-impl<'a, S: Source> Notes<OthersOf<'a, S>> for Openings {
+impl<'a, S: Source> Notes<OthersOf<'a, S>> for SourceCalls {
     ghost use Rattle.sum_sources.specs.WithStdin.{state_without_dash};
 
-    ghost after_note = { λ _ x. state_without_dash (S.state x.0.now) };
+    ghost after_note = { λ _ note. state_without_dash (S.state note.0.now) };
 }
 
 // These are the reads, none so far, of the file that a source with this log opens next, by this name.
-impl<'a> Notes<(&'a SourceLog, &'a [u8])> for Reads {
-    ghost after_note = { λ _ x. opened_file no_answer x.0.now x.1.now };
+impl<'a> Notes<(&'a SourceLog, &'a [u8])> for InputCalls {
+    ghost after_note = { λ _ note. opened_file no_answer note.0.now note.1.now };
 }
 
 /// Returns the log, without reads, of the file that a source with this log opens next, by this name.
-pub fn next_file(log: &SourceLog, name: &[u8]) -> ReadLog
+pub fn next_file(log: &SourceLog, name: &[u8]) -> InputLog
     ensures { result ≡ opened_file no_answer log.now name.now }
 {
-    Log::of(&Reads).and(&(log, name))
+    Log::of(&InputCalls).and(&(log, name))
 }

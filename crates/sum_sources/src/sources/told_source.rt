@@ -3,10 +3,10 @@ ghost use Rattle.std.specs.Option.{option_map};
 ghost use Rattle.std.specs.Prelude.{◌≡◌, ◌≤◌, ◌++◌, ◌∷◌, [], OnOk, OnErr, length, map, slice_get};
 ghost use Rattle.std.specs.Vec.{VecUnchanged};
 ghost use Rattle.sum_sources.specs.SourceLaws.{GivesTold-prop};
-ghost use Rattle.sum_sources.specs.Sources.{GivesTold, first_answer, names_of, answer_of_first, times};
-ghost use Rattle.sum_sources.specs.ToldPairs.{pair_of, answer_value, told_source};
+ghost use Rattle.sum_sources.specs.Source.{GivesTold, first_answer, names_of, answer_of_first, times};
+ghost use Rattle.sum_sources.specs.StoredPair.{pair_view, answer_view, state_with_pairs};
 
-use crate::sources::source_log::{Note, Openings, SourceLog, next_file};
+use crate::sources::source_log::{Note, SourceCalls, SourceLog, next_file};
 use crate::{Ending, Fault, Input, NoRoom, OpenFault, Source, Told};
 use std::alloc::Allocator;
 
@@ -35,9 +35,8 @@ pub struct ToldSource<'a, A: Allocator + Copy> {
     alloc: A,
     piece: usize,
     log: SourceLog,
-    // It has no Model: the law `gives_told` needs the fact `gives`, and isn't given a Model's invariant.
     ghost names: { map (λ v. v.items) asked.items ≡ names_of log.openings },
-    ghost gives: { GivesTold answer_of_first (told_source pairs.items log) } by { GivesTold-prop answer_of_first (told_source pairs.items log) },
+    ghost gives: { GivesTold answer_of_first (state_with_pairs pairs.items log) } by { GivesTold-prop answer_of_first (state_with_pairs pairs.items log) },
 }
 
 // How often a name is among these.
@@ -57,7 +56,7 @@ fn answer_to<'a, A: Allocator>(
     name: &[u8],
     before: usize,
 ) -> Answer<'a>
-    ensures { answer_value result ≡ first_answer (map pair_of pairs.now) name.now before }
+    ensures { answer_view result ≡ first_answer (map pair_view pairs.now) name.now before }
 {
     for pair in pairs {
         if pair.name.as_slice() == name && pair.from <= before {
@@ -68,8 +67,8 @@ fn answer_to<'a, A: Allocator>(
 }
 
 impl<'a, A: Allocator + Copy> ToldSource<'a, A> {
-    ghost use Rattle.sum_sources.specs.Logs.{no_openings};
-    ghost use Rattle.sum_sources.specs.SourceStates.{told_source_state};
+    ghost use Rattle.sum_sources.specs.SourceLog.{no_openings};
+    ghost use Rattle.sum_sources.specs.ToldSource.{told_source_state};
 
     /// Creates a source without names, whose files give at most `piece` bytes per read (0 counts as 1).
     pub fn new(alloc: A, piece: usize) -> ToldSource<'a, A>
@@ -80,7 +79,7 @@ impl<'a, A: Allocator + Copy> ToldSource<'a, A> {
             asked: Vec::new(alloc),
             alloc,
             piece: piece.max(1),
-            log: SourceLog::of(&Openings),
+            log: SourceLog::of(&SourceCalls),
         }
     }
 
@@ -92,7 +91,7 @@ impl<'a, A: Allocator + Copy> ToldSource<'a, A> {
               told = s.told ++ record {
                 name = name.now;
                 from = times name.now (names_of s.openings);
-                answer = Some (answer_value answer.entry);
+                answer = Some (answer_view answer.entry);
               } ∷ [];
             }) }
         ensures err { OnErr result (told_source_state self.new ≡ told_source_state self.old) }
@@ -129,7 +128,7 @@ fn add_name<A: Allocator + Copy>(
 impl<'a, A: Allocator + Copy> Source for ToldSource<'a, A> {
     type File = Told<'a>;
 
-    ghost use Rattle.sum_sources.specs.SourceStates.{told_source_state};
+    ghost use Rattle.sum_sources.specs.ToldSource.{told_source_state};
 
     ghost state = { told_source_state };
 

@@ -1,10 +1,9 @@
 //! Standard input and a source of files, as one source.
 ghost use Rattle.std.specs.Prelude.{◌≡◌};
-ghost use Rattle.sum_sources.specs.WithStdin.{is_dash};
-ghost use Rattle.sum_sources.specs.WithStdinStates.{IsSoundWithStdin};
+ghost use Rattle.sum_sources.specs.WithStdin.{IsSoundWithStdin, is_dash};
 
 use crate::sources::opened::{Opened, Place};
-use crate::sources::source_log::{ClosedFile, Note, Openings, OthersOf, SourceLog, next_file};
+use crate::sources::source_log::{ClosedFile, Note, OthersOf, SourceCalls, SourceLog, next_file};
 use crate::{Input, OpenFault, Source, Stdin};
 use ghost_log::Log;
 use std::marker::PhantomData;
@@ -20,20 +19,20 @@ pub struct WithStdin<I: Input, S: Source> {
     log: SourceLog,
     // A struct that speaks of a source has to name the type of its files.
     files: PhantomData<S::File>,
-    // It has no Model: `gives_told` is proved from this fact, and no law is given a Model's invariant.
     ghost is: { ∥ IsSoundWithStdin I.state first stdin log.openings (S.state source).openings ∥₁ },
 }
 
 impl<I: Input, S: Source> WithStdin<I, S> {
     ghost use Rattle.sum_sources.specs.WithStdin.{other_openings, pairs_with_stdin, state_without_dash};
-    ghost use Rattle.sum_sources.specs.SourceStates.{both_state, source_in, stdin_in};
-    ghost use Rattle.sum_sources.specs.StandardInput.{given_input, is_untaken, closable_state};
+    ghost use Rattle.sum_sources.specs.WithStdinView.{both_state, source_in, stdin_in};
+    ghost use Rattle.sum_sources.specs.Stdin.{given_input, is_untaken, closable_state};
     ghost use Rattle.std.specs.Prelude.{IsTrue};
 
     /// Creates the inputs with this standard input, which hasn't been taken, and this source. What the source opened
     /// before by the name `-` doesn't count.
     pub fn new(stdin: Stdin<I>, source: S) -> Self
         requires { IsTrue (is_untaken stdin) }
+
         ensures stdin { stdin_in result ≡ stdin }
         ensures source { source_in result ≡ source }
         ensures state { both_state result ≡ record (state_without_dash (S.state source)) {
@@ -42,7 +41,7 @@ impl<I: Input, S: Source> WithStdin<I, S> {
         } }
     {
         let first = Log::of(&stdin);
-        let log = Log::of(&Openings).and(&OthersOf(&source));
+        let log = Log::of(&SourceCalls).and(&OthersOf(&source));
         WithStdin {
             stdin,
             source,
@@ -72,8 +71,8 @@ pub fn is_dash(name: &[u8]) -> bool
 
 impl<I: Input + Drop, S: Source> Source for WithStdin<I, S> {
     ghost use Rattle.sum_sources.specs.WithStdin.{answer_of_both};
-    ghost use Rattle.sum_sources.specs.SourceStates.{both_state, source_in, stdin_in};
-    ghost use Rattle.sum_sources.specs.WithStdinLaws.{with_stdin_gives};
+    ghost use Rattle.sum_sources.specs.WithStdinView.{both_state, source_in, stdin_in};
+    ghost use Rattle.sum_sources.specs.SourceLaws.{with_stdin_gives};
 
     type File = Opened<I, S::File>;
 
@@ -82,13 +81,13 @@ impl<I: Input + Drop, S: Source> Source for WithStdin<I, S> {
     ghost tells = { answer_of_both S.tells };
 
     ghost use Rattle.std.specs.Prelude.{IfOk, MatchBool, MatchResult};
-    ghost use Rattle.sum_sources.specs.WithStdin.{TakesStdin};
-    ghost use Rattle.sum_sources.specs.SourceStates.{opened_state, place_in};
-    ghost use Rattle.sum_sources.specs.Sources.{after_opening, opened_file};
+    ghost use Rattle.sum_sources.specs.Place.{TakesStdin};
+    ghost use Rattle.sum_sources.specs.Opened.{opened_state, place_in};
+    ghost use Rattle.sum_sources.specs.Source.{state_after_opening, opened_file};
 
     /// Opens the name: `-` gives what [`Stdin::take`] gives, and any other name is opened in the source.
     fn open_file(&mut self, name: &[u8]) -> Result<Opened<I, S::File>, OpenFault>
-        ensures state { both_state self.new ≡ after_opening (both_state self.old) name.now result }
+        ensures state { both_state self.new ≡ state_after_opening (both_state self.old) name.now result }
         ensures file { IfOk result (λ file. opened_state file
             ≡ opened_file (answer_of_both S.tells) (both_state self.old) name.now) }
         // `-` gives what taking standard input gives, and the source is unchanged. Any other name is opened in the
@@ -99,7 +98,7 @@ impl<I: Input + Drop, S: Source> Source for WithStdin<I, S> {
             × (source_in self.new ≡ source_in self.old))
             ((stdin_in self.new ≡ stdin_in self.old)
             × (S.state (source_in self.new)
-            ≡ after_opening (S.state (source_in self.old)) name.now result)) }
+            ≡ state_after_opening (S.state (source_in self.old)) name.now result)) }
     {
         if is_dash(name) {
             let opened = Opened::from_stdin(self.stdin.take(), next_file(&self.log, name));
@@ -119,15 +118,15 @@ impl<I: Input + Drop, S: Source> Source for WithStdin<I, S> {
         }
     }
 
-    ghost use Rattle.sum_sources.specs.WithStdin.{closed_place};
-    ghost use Rattle.sum_sources.specs.Sources.{IsOpen, after_closing};
+    ghost use Rattle.sum_sources.specs.Place.{parts_after_closing};
+    ghost use Rattle.sum_sources.specs.Source.{IsOpen, state_after_closing};
 
     fn close_file(&mut self, file: Opened<I, S::File>)
         requires { IsOpen (answer_of_both S.tells) (both_state self.old) (opened_state file) }
         ensures state { both_state self.new
-            ≡ after_closing (both_state self.old) (opened_state file) }
+            ≡ state_after_closing (both_state self.old) (opened_state file) }
         ensures parts { (stdin_in self.new, S.state (source_in self.new))
-            ≡ closed_place S.File.state (place_in file) (stdin_in self.old)
+            ≡ parts_after_closing S.File.state (place_in file) (stdin_in self.old)
             (S.state (source_in self.old)) }
     {
         self.log = self.log.and(&ClosedFile(&file));

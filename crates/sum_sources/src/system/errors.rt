@@ -1,7 +1,7 @@
 //! What an error of the system means.
 ghost use Rattle.std.specs.IoError.{error_kind, raw_os_error};
 ghost use Rattle.std.specs.Prelude.{◌≡◌};
-ghost use Rattle.sum_sources.specs.Faults.{fault_of_error};
+ghost use Rattle.sum_sources.specs.Fault.{fault_of_error};
 
 use crate::Fault;
 use crate::fault::{fault_of_kind, fault_of_number};

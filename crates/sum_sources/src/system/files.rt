@@ -1,10 +1,10 @@
 //! Real files. Nothing else can open one, or set the log of what was opened.
 ghost use Rattle.std.specs.Prelude.{◌≡◌};
-ghost use Rattle.sum_sources.specs.Logs.{no_openings};
-ghost use Rattle.sum_sources.specs.Sources.{SourceState};
+ghost use Rattle.sum_sources.specs.SourceLog.{no_openings};
+ghost use Rattle.sum_sources.specs.Source.{SourceState};
 
 use crate::fault::EILSEQ;
-use crate::sources::source_log::{Note, Openings, SourceLog, next_file};
+use crate::sources::source_log::{Note, SourceCalls, SourceLog, next_file};
 use crate::system::errors::{fault_of, is_refusal};
 use crate::{Fault, FromRead, OpenFault, Source};
 use std::io::Read;
@@ -31,7 +31,7 @@ impl<R: rt::Files + Drop> Files<R> {
     {
         Files {
             rt,
-            log: SourceLog::of(&Openings),
+            log: SourceLog::of(&SourceCalls),
         }
     }
 }
@@ -42,11 +42,11 @@ where
 {
     type File = FromRead<R::File>;
 
-    ghost use Rattle.sum_sources.specs.Logs.{untold_state};
+    ghost use Rattle.std.specs.Prelude.{[]};
     ghost use Rattle.sum_sources.specs.SourceLaws.{untold_gives};
-    ghost use Rattle.sum_sources.specs.Sources.{no_answer};
+    ghost use Rattle.sum_sources.specs.Source.{no_answer};
 
-    ghost state = { λ s. untold_state s };
+    ghost state = { λ s. record s { told = [] } };
 
     ghost tells = { no_answer };
 

@@ -1,16 +1,18 @@
 //! An input over a reader of `std`. Nothing else can call the reader, or set the log of what it gave.
 ghost use Rattle.std.specs.Io.KnownBytes.{Consumes, ReadConsumes};
 ghost use Rattle.std.specs.Prelude.{◌≡◌, ◌≤◌, length, IfOk, IfSome, None};
-ghost use Rattle.sum_sources.specs.Contents.{Ended, FromReadValue, Whole, and_read, empty_reads};
-ghost use Rattle.sum_sources.specs.InputLaws.{real_has_content};
+ghost use Rattle.sum_sources.specs.Input.{Ended};
+ghost use Rattle.sum_sources.specs.FromRead.{FromReadValue};
+ghost use Rattle.sum_sources.specs.Fault.{Whole};
+ghost use Rattle.sum_sources.specs.Input.{state_after_read, empty_reads};
 
-use crate::inputs::read_log::{ReadLog, ReadNote};
+use crate::inputs::input_log::{InputLog, ReadNote};
 use crate::system::errors::fault_of;
 use crate::{Fault, Input};
-use ghost_log::INTERRUPTION_LIMIT;
 use std::io::{ErrorKind, Read};
 use std::marker::Model;
 use std::snapshot::Snapshot;
+use sum_settings::INTERRUPTION_LIMIT;
 
 /// An `Input` over any `std::io::Read`.
 #[derive(Drop)]
@@ -18,7 +20,7 @@ pub struct FromRead<R: Read> {
     reader: R,
     // The reader as it was at first: only proofs see it.
     first: Snapshot<R>,
-    log: ReadLog,
+    log: InputLog,
 }
 
 impl<R: Read> Model for FromRead<R> {
@@ -36,7 +38,7 @@ impl<R: Read> Model for FromRead<R> {
 
 impl<R: Read> FromRead<R> {
     // The input that reads from `reader`, with this log, which has no reads.
-    pub(crate) fn with_log(reader: R, log: ReadLog) -> Self
+    pub(crate) fn with_log(reader: R, log: InputLog) -> Self
         requires { log.reads ≡ empty_reads }
         ensures { result ≡ record { reader = reader; log = log } }
     {
@@ -48,7 +50,7 @@ impl<R: Read> FromRead<R> {
     }
 
     // What its reads gave.
-    pub(crate) fn log(&self) -> &ReadLog
+    pub(crate) fn log(&self) -> &InputLog
         ensures { result.now ≡ self.now.log }
     {
         &self.log
@@ -72,18 +74,20 @@ fn read_uninterrupted<R: Read>(reader: &mut R, buf: &mut [u8]) -> Result<usize, 
 }
 
 impl<R: Read> Input for FromRead<R> {
+    ghost use Rattle.sum_sources.specs.InputLaws.{untold_has_content};
+
     ghost state = { λ s. record s.log { told = None } };
 
     fn read(&mut self, buf: &mut [u8]) -> Result<usize, Fault>
         ensures count { IfOk result (λ n. n ≤ length buf.new) }
         ensures given { ReadConsumes (R.remaining self.old.reader) (R.remaining self.new.reader)
             result buf.new }
-        ensures log { self.new.log ≡ and_read self.old.log buf.new result }
+        ensures log { self.new.log ≡ state_after_read self.old.log buf.new result }
     {
         let read = read_uninterrupted(&mut self.reader, buf);
         self.log = self.log.and(&ReadNote(buf, &read));
         read
     }
 
-    ghost has_content = { λ s. real_has_content s.log };
+    ghost has_content = { λ s. untold_has_content s.log };
 }

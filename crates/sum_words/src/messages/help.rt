@@ -1,17 +1,19 @@
 //! The help and the version text.
 ghost use Rattle.std.specs.Prelude.{◌≡◌, ◌-◌, ◌∷◌, ◌++◌, [], codes, filter, flat_map, if◌then◌else◌, replicate};
-ghost use Rattle.sum_lines.specs.Buffers.{WritesAll};
-ghost use Rattle.sum_lines.specs.PartTexts.{part_text};
-ghost use Rattle.sum_words.specs.Items.{has_option, row_of, takes_value};
-ghost use Rattle.sum_words.specs.Texts.{help, help_line, letter_column, purpose, version};
-ghost use Rattle.sum_words.specs.Tools.{algos_of};
+ghost use Rattle.std.specs.Str.{byte};
+ghost use Rattle.sum_lines.specs.Buffered.{WritesAll};
+ghost use Rattle.sum_lines.specs.Parts.{part_text};
+ghost use Rattle.sum_words.specs.Tool.{algos_of};
+ghost use Rattle.sum_words.specs.declared.messages.help.TheConstants.{NAME_COLUMNS};
+ghost use Rattle.sum_words.specs.messages.Help.{help, help_line, letter_column, purpose, version};
+ghost use Rattle.sum_words.specs.parsing.Options.{has_option, row_of, takes_value};
 
 use crate::parsing::options::{Flag, all_flags, has_option};
 use crate::tool::Tool;
 use digest_kinds::Algos;
 use sum_lines::{Buffered, Part, Sink, SinkFault, put_all, put_parts};
 
-/// Writes the help text to the buffer. Returns `SinkFault` as [`sum_lines::put_all`] does.
+/// Writes the help text to the buffer.
 pub fn put_help<O: Sink>(out: &mut Buffered<O>, tool: Tool) -> Result<(), SinkFault>
     ensures { WritesAll out.old out.new (help tool) result }
 {
@@ -66,7 +68,7 @@ fn put_option<O: Sink>(out: &mut Buffered<O>, tool: Tool, flag: Flag) -> Result<
     }
 }
 
-// Writes the line of an option: its letter between these bytes, its name in 18 columns, and its text.
+// Writes the line of an option: its letter between these bytes, its name in its columns, and its text.
 fn put_row<'a, O: Sink>(
     out: &mut Buffered<O>,
     flag: Flag,
@@ -103,16 +105,19 @@ fn value_column(flag: Flag) -> &'static str
     if flag.takes_value() { "=BITS" } else { "" }
 }
 
-// The spaces that pad a name of this many bytes to 18 columns.
+// The columns of a name in the help.
+const NAME_COLUMNS: usize = 18;
+
+static SPACES: [u8; NAME_COLUMNS] = [b' '; NAME_COLUMNS];
+
+// The spaces that pad a name of this many bytes to its columns.
 fn padding(columns: usize) -> &'static [u8]
-    ensures { result.now ≡ replicate (18 - columns) 32 }
+    ensures { result.now ≡ replicate (NAME_COLUMNS - columns) (byte " ") }
 {
-    &SPACES[..18usize.saturating_sub(columns)]
+    &SPACES[..NAME_COLUMNS.saturating_sub(columns)]
 }
 
-static SPACES: [u8; 18] = [b' '; 18];
-
-/// Writes the version text to the buffer. Returns `SinkFault` as [`sum_lines::put_all`] does.
+/// Writes the version text to the buffer.
 pub fn put_version<O: Sink>(out: &mut Buffered<O>, tool: Tool) -> Result<(), SinkFault>
     ensures { WritesAll out.old out.new (version tool) result }
 {

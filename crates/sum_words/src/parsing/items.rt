@@ -1,17 +1,18 @@
 //! The items of a tool's words, and those that are operands.
-ghost use Rattle.std.specs.Iterator.{item_count};
+ghost use Rattle.digest_kinds.specs.Bytes.{ByteString};
+ghost use Rattle.std.specs.Iterator.{YieldsFirstBy, YieldsFirstRef, item_count};
 ghost use Rattle.std.specs.List.{starts_with};
 ghost use Rattle.std.specs.Option.{option_copied};
 ghost use Rattle.std.specs.Prelude.{◌≡◌, ◌==◌, List, [], ◌∷◌, IsTrue, MatchOption, drop, length, false, filter_map};
 ghost use Rattle.std.specs.Str.{chars};
-ghost use Rattle.sum_words.specs.Items.{ByteString, a_word, name_part, value_part, long_option, name_or_fault, cluster};
-ghost use Rattle.sum_words.specs.Items.{is_option_word, items_from, operand_in};
 ghost use Rattle.sum_words.specs.declared.tool.Tool.{Tool};
-ghost use Rattle.sum_words.specs.private.ItemIterator.{attached_value, remaining_items, step_items, item_value};
-ghost use Rattle.sum_words.specs.Words.{TakesFirst};
+ghost use Rattle.sum_words.specs.parsing.Items.{a_word, name_part, value_part, long_option, cluster};
+ghost use Rattle.sum_words.specs.parsing.Items.{is_option_word, items_from, operand_in};
+ghost use Rattle.sum_words.specs.parsing.Options.{name_or_fault};
+ghost use Rattle.sum_words.specs.private.Items.{attached_value, remaining_items, step_items, item_value};
 
-use crate::messages::word_faults::WordFault;
 use crate::parsing::options::{Flag, Spelling};
+use crate::parsing::word_fault::WordFault;
 use crate::tool::Tool;
 use crate::words::{Words, WordsIter};
 use std::alloc::Allocator;
@@ -54,8 +55,8 @@ enum ParserStep<'a> {
 
 impl<'a> Model for Items<'a> {
     ghost use Rattle.std.specs.Prelude.{List};
-    ghost use Rattle.sum_words.specs.Items.{ItemValue};
-    ghost use Rattle.sum_words.specs.private.ItemIterator.{remaining_items};
+    ghost use Rattle.sum_words.specs.parsing.Items.{ItemValue};
+    ghost use Rattle.sum_words.specs.private.Items.{remaining_items};
 
     ghost Value = { List ItemValue };
 
@@ -78,7 +79,7 @@ impl<'a> Items<'a> {
 impl<'a> Iterator for Items<'a> {
     type Item = Item<'a>;
 
-    ghost next_gives = { TakesFirst item_value };
+    ghost next_gives = { YieldsFirstBy item_value (λ items. items) };
 
     ghost remaining = { item_count (λ items. items) };
 
@@ -113,8 +114,8 @@ fn apply_step<'a>(
     state: &mut ParserState<'a>,
     step: ParserStep<'a>,
 ) -> Option<Item<'a>>
-    ensures { TakesFirst item_value (step_items tool step.entry words.old) result
-        (remaining_items tool state.new words.new) }
+    ensures { YieldsFirstBy item_value (λ items. items) (step_items tool step.entry words.old)
+        result (remaining_items tool state.new words.new) }
 {
     match step {
         ParserStep::Item(item, next) => {
@@ -141,8 +142,8 @@ fn apply_step<'a>(
 // The step of a whole word.
 #[tactic(auto, using(crate::proofs::WordLemmas::no_text))]
 fn word_step<'a>(tool: Tool, word: &'a [u8]) -> ParserStep<'a>
-    ensures { (ws : List ByteString) →
-        step_items tool result ws ≡ items_from tool (word.now ∷ ws) a_word }
+    ensures { (words : List ByteString) →
+        step_items tool result words ≡ items_from tool (word.now ∷ words) a_word }
 {
     if !is_option_word(word) {
         return ParserStep::Item(Item::Operand(word), ParserState::Word);
@@ -164,8 +165,8 @@ fn is_option_word(word: &[u8]) -> bool
 #[tactic(auto, using(crate::proofs::WordLemmas::utf8))]
 fn option_step<'a>(tool: Tool, word: &'a str) -> ParserStep<'a>
     requires { IsTrue (is_option_word word.now) }
-    ensures { (ws : List ByteString) →
-        step_items tool result ws ≡ items_from tool (word.now ∷ ws) a_word }
+    ensures { (words : List ByteString) →
+        step_items tool result words ≡ items_from tool (word.now ∷ words) a_word }
 {
     if word == "--" {
         return ParserStep::OnlyOperands;
@@ -179,9 +180,9 @@ fn option_step<'a>(tool: Tool, word: &'a str) -> ParserStep<'a>
 
 // The step of a long option, without its two dashes.
 fn long_step<'a>(tool: Tool, text: &'a str) -> ParserStep<'a>
-    ensures { (ws : List ByteString) → step_items tool result ws
+    ensures { (words : List ByteString) → step_items tool result words
         ≡ long_option (name_or_fault tool (name_part text.now)) (value_part text.now)
-        (items_from tool ws) }
+        (items_from tool words) }
 {
     let (name, value) = name_and_value(text);
     let flag = match Flag::from_name(tool, name) {
@@ -201,8 +202,8 @@ fn long_step<'a>(tool: Tool, text: &'a str) -> ParserStep<'a>
 
 // The step of a letter of a cluster, which the rest of the word follows.
 fn letter_step<'a>(tool: Tool, letter: char, rest: &'a str) -> ParserStep<'a>
-    ensures { (ws : List ByteString) → step_items tool result ws
-        ≡ cluster tool (letter ∷ chars rest.now) (items_from tool ws) }
+    ensures { (words : List ByteString) → step_items tool result words
+        ≡ cluster tool (letter ∷ chars rest.now) (items_from tool words) }
 {
     match Flag::from_letter(tool, letter) {
         None => ParserStep::Item(
@@ -217,8 +218,8 @@ fn letter_step<'a>(tool: Tool, letter: char, rest: &'a str) -> ParserStep<'a>
 // The step of the letter of an option that takes a value. The rest of the word is the value, if any is left.
 #[tactic(auto, using(crate::proofs::WordLemmas::values))]
 fn attached_value(rest: &str) -> ParserStep<'_>
-    ensures { (t : Tool) (ws : List ByteString) →
-        step_items t result ws ≡ attached_value t (chars rest.now) ws }
+    ensures { (tool : Tool) (words : List ByteString) →
+        step_items tool result words ≡ attached_value tool (chars rest.now) words }
 {
     if rest.is_empty() {
         ParserStep::Value(Spelling::Short)
@@ -229,8 +230,8 @@ fn attached_value(rest: &str) -> ParserStep<'_>
 
 // What is read next of a cluster.
 fn rest_of_cluster(letters: &str) -> ParserState<'_>
-    ensures { (t : Tool) (ws : List ByteString) → remaining_items t result ws
-        ≡ cluster t (chars letters.now) (items_from t ws) }
+    ensures { (tool : Tool) (words : List ByteString) → remaining_items tool result words
+        ≡ cluster tool (chars letters.now) (items_from tool words) }
 {
     match first_letter(letters) {
         Some((letter, rest)) => ParserState::Cluster(letter, rest),
@@ -292,8 +293,9 @@ pub struct Operands<'a> {
 }
 
 impl<'a> Model for Operands<'a> {
+    ghost use Rattle.digest_kinds.specs.Bytes.{ByteString};
     ghost use Rattle.std.specs.Prelude.{List, filter_map};
-    ghost use Rattle.sum_words.specs.Items.{ByteString, operand_in};
+    ghost use Rattle.sum_words.specs.parsing.Items.{operand_in};
 
     ghost Value = { List ByteString };
 
@@ -314,7 +316,7 @@ impl<'a> Operands<'a> {
 impl<'a> Iterator for Operands<'a> {
     type Item = &'a [u8];
 
-    ghost next_gives = { TakesFirst (λ word. word.now) };
+    ghost next_gives = { YieldsFirstRef (λ operands. operands) };
 
     ghost remaining = { item_count (λ operands. operands) };
 

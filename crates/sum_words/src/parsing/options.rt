@@ -2,11 +2,11 @@
 ghost use Rattle.std.specs.List.{filter, starts_with};
 ghost use Rattle.std.specs.Prelude.{◌≡◌, ◌==◌, ◌&&◌, [], ◌∷◌, find, option_to_list};
 ghost use Rattle.std.specs.Str.{bytes_eq};
-ghost use Rattle.sum_words.specs.Items.{row_of, full_name, all_flags, flags_of, has_option, takes_value};
-ghost use Rattle.sum_words.specs.Items.{option_of_letter, only_or_fault, name_or_fault};
-ghost use Rattle.sum_words.specs.Request.{result_value};
+ghost use Rattle.sum_words.specs.parsing.Options.{row_of, full_name, all_flags, flags_of, has_option, takes_value};
+ghost use Rattle.sum_words.specs.parsing.Options.{option_of_letter, only_or_fault, name_or_fault};
+ghost use Rattle.sum_words.specs.parsing.WordFault.{result_value};
 
-use crate::messages::word_faults::WordFault;
+use crate::parsing::word_fault::WordFault;
 use crate::tool::Tool;
 
 /// An option. Only `Length` takes a value, and only b2sum has it.
@@ -94,7 +94,7 @@ impl Flag {
 
     /// Returns the tool's option that a long name means: the one with this full name, or otherwise the only one whose
     /// full name begins with it. Fails with `UnknownLong` if no full name does, and with `AmbiguousLong` if several do.
-    #[tactic(auto, unfolding(crate::specs::Items::name_or_fault))]
+    #[tactic(auto, unfolding(crate::specs::parsing::Options::name_or_fault))]
     pub(crate) fn from_name(tool: Tool, name: &str) -> Result<Flag, WordFault<'_>>
         ensures { result_value result ≡ name_or_fault tool name.now }
     {
@@ -105,7 +105,7 @@ impl Flag {
     }
 
     /// Returns the tool's option of this letter.
-    #[tactic(auto, unfolding(crate::specs::Items::option_of_letter))]
+    #[tactic(auto, unfolding(crate::specs::parsing::Options::option_of_letter))]
     pub(crate) fn from_letter(tool: Tool, letter: char) -> Option<Flag>
         ensures { result ≡ option_of_letter tool letter }
     {

@@ -3,14 +3,14 @@ ghost use Rattle.std.specs.Char.{is_ascii_digit};
 ghost use Rattle.std.specs.List.{list_all};
 ghost use Rattle.std.specs.Option.{option_map};
 ghost use Rattle.std.specs.Prelude.{◌≡◌, ◌∷◌, List, [], filter_map};
-ghost use Rattle.sum_words.specs.Items.{ItemValue, a_word, items_from, option, option_in};
-ghost use Rattle.sum_words.specs.Request.{length_kind, mode_of, fault_of_options, request_of_options, request};
-ghost use Rattle.sum_words.specs.Request.{word_fault_value, result_value};
-ghost use Rattle.sum_words.specs.private.OptionScan.{IsChosenBy, IsScanOf, IsNumberOf};
+ghost use Rattle.sum_words.specs.parsing.Items.{ItemValue, a_word, items_from, option, option_in};
+ghost use Rattle.sum_words.specs.parsing.Request.{length_kind, mode_of, fault_of_options, request_of_options, request};
+ghost use Rattle.sum_words.specs.parsing.WordFault.{word_fault_value, result_value};
+ghost use Rattle.sum_words.specs.private.Request.{IsChosenBy, IsScanOf, IsNumberOf};
 
-use crate::messages::word_faults::WordFault;
 use crate::parsing::items::{Item, Items, Operands};
 use crate::parsing::options::Flag;
+use crate::parsing::word_fault::WordFault;
 use crate::tool::Tool;
 use crate::words::Words;
 use digest_kinds::{Algos, Kind, LengthFault};
@@ -44,7 +44,6 @@ pub fn read_words<'a, A: Allocator>(
         ScannedOptions::Options(chosen) => chosen,
         ScannedOptions::Early(request) => return request,
     };
-    // `?` isn't used: the borrow checker has no rule for it if the error holds a `&'static str`.
     let kind = match chosen.length.map(length_kind) {
         None => None,
         Some(Ok(kind)) => Some(kind),
@@ -178,8 +177,8 @@ fn all_digits(bytes: &[u8]) -> bool
 
 // The first fault of the options in combination.
 fn fault_of_options(chosen: &Chosen<'_>) -> Option<WordFault<'static>>
-    ensures { (xs : List ItemValue) → IsChosenBy chosen.now [] xs →
-        option_map word_fault_value result ≡ fault_of_options (filter_map option_in xs) }
+    ensures { (items : List ItemValue) → IsChosenBy chosen.now [] items →
+        option_map word_fault_value result ≡ fault_of_options (filter_map option_in items) }
 {
     if chosen.tag && matches!(chosen.mode, Some(Flag::Text)) {
         return Some(WordFault::TagWithText);
@@ -215,9 +214,9 @@ fn request_of_options<'a>(
     chosen: &Chosen<'_>,
     operands: Operands<'a>,
 ) -> Result<Request<'a>, WordFault<'a>>
-    ensures { (xs : List ItemValue) → IsChosenBy chosen.now [] xs →
+    ensures { (items : List ItemValue) → IsChosenBy chosen.now [] items →
         result_value result
-        ≡ request_of_options chosen.now.check algos kind (filter_map option_in xs) operands.entry }
+        ≡ request_of_options chosen.now.check algos kind (filter_map option_in items) operands.entry }
 {
     if chosen.check {
         let settings = CheckSettings {
@@ -243,8 +242,8 @@ fn request_of_options<'a>(
 
 // The mode of the lines that are written.
 fn mode(chosen: &Chosen<'_>) -> Mode
-    ensures { (xs : List ItemValue) → IsChosenBy chosen.now [] xs →
-        result ≡ mode_of (filter_map option_in xs) }
+    ensures { (items : List ItemValue) → IsChosenBy chosen.now [] items →
+        result ≡ mode_of (filter_map option_in items) }
 {
     if chosen.tag {
         return Mode::Tag;

@@ -1,8 +1,8 @@
 use Rattle.std.proofs.Common.{arith, ◌≡◌, ◌∙◌, ap, refl, ◌∷◌, ◌++◌, [], Ok, Some, codes}
-use Rattle.sum_engine.specs.Execution.{OutputsState, StreamsState}
-use Rattle.sum_lines.specs.Sinks.{SinkState}
-use Rattle.sum_sources.specs.{Contents.empty_content, WithStdin.answers_with, WithStdin.pairs_with_stdin}
-use Rattle.sum_sources.specs.Sources.{Pair, SourceState, first_answer, names_of, answer_of_first, times}
+use Rattle.sum_engine.specs.Streams.{BothOutputs, StreamsState}
+use Rattle.sum_lines.specs.Sink.{SinkState}
+use Rattle.sum_sources.specs.{Input.empty_content, WithStdin.answers_with, WithStdin.pairs_with_stdin}
+use Rattle.sum_sources.specs.Source.{Pair, SourceState, first_answer, names_of, answer_of_first, times}
 use Rattle.digests_tests.proofs.laws.e_in_memory.Goals as goal
 
 -- the file `e`, as the source has it
@@ -23,6 +23,6 @@ returns c = λ zero.
     let wrote = c.command_on_e-status.ensures (answers_with empty_content (first_answer (e ∷ [])))
     (rw told all) refl zero in
     let none : c.new-streams.result.outputs.out.written ≡ [] =
-    ap (λ (o : OutputsState). o.out.written) c.new-streams.ensures.outputs ∙ c.new-2.ensures.empty in
+    ap (λ (o : BothOutputs). o.out.written) c.new-streams.ensures.outputs ∙ c.new-2.ensures.empty in
     ap (λ (s : SinkState). s.output.written) c.into_inner.ensures
     ∙ ap (λ (s : StreamsState). s.outputs.out.written) c.streams.view_is ∙ rw none at wrote

@@ -1,7 +1,7 @@
 use Rattle.std.proofs.{Common.refl, Common.true, Common.false, Common.Ok, Common.Err, lemmas.Result.err_from_is_err_and}
-use Rattle.sum_engine.specs.{Behavior.World, Generation.generate_behavior}
-use Rattle.sum_engine.proofs.{BehaviorLemmas.Performs-step, BehaviorLemmas.Performs-refused}
-use Rattle.sum_engine.proofs.{HashLemmas.hashes_name, GenerateLemmas.fault_found, GenerateLemmas.one_step, GenerateLemmas.refused_memory, WorldLemmas.reads_weaker}
+use Rattle.sum_engine.{specs.Behavior.World, specs.Generate.generate_behavior, proofs.BehaviorLemmas.Performs-step}
+use Rattle.sum_engine.proofs.{BehaviorLemmas.Performs-refused, HashLemmas.hashes_name, GenerateLemmas.fault_found}
+use Rattle.sum_engine.proofs.{GenerateLemmas.one_step, GenerateLemmas.refused_memory, WorldLemmas.reads_weaker}
 use Rattle.sum_engine.proofs.generate.generate_one.Goals as goal
 
 -- the name was read, and its line written

@@ -1,5 +1,5 @@
 use Rattle.std.proofs.Common.{length, take, true}
-use Rattle.sum_engine.specs.{Behavior.Behavior, check.Checking.content_behavior, check.Judge.all_verdicts}
+use Rattle.sum_engine.specs.{Behavior.Behavior, check.CheckOne.content_behavior, check.Judge.all_verdicts}
 use Rattle.sum_engine_tests.proofs.consequences.reports_so_far.Goals as goal
 
 -- the steps that happened are a behavior of their own

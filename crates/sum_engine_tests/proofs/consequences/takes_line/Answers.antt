@@ -1,5 +1,5 @@
-use Rattle.sum_sources.specs.LineReaders.{remaining_content}
-use Rattle.sum_engine.specs.{Execution.world_at, check.CheckStates.next_judged, check.Verdicts.state_at}
+use Rattle.sum_sources.specs.LineReader.{remaining_content}
+use Rattle.sum_engine.specs.{Execution.world_at, check.Verdicts.next_judged, check.Verdicts.state_at}
 use Rattle.sum_engine_tests.proofs.consequences.takes_line.Goals as goal
 
 pub returns-in-Ok-Some : goal.returns-in-Ok-Some

@@ -1,5 +1,6 @@
 use Rattle.std.proofs.Common.{refl}
-use Rattle.sum_lines.proofs.{SinkLemmas.HasLeft-step, SinkLemmas.HasLeft-stop, SinkLemmas.HasLeft-last, EscapeLemmas.escape-parts}
+use Rattle.sum_lines.proofs.SinkLemmas.{HasLeft-step, HasLeft-failed, HasLeft-last}
+use Rattle.sum_lines.proofs.EscapeLemmas.{escape-parts}
 use Rattle.sum_lines.proofs.escape.put_escaped.Goals as goal
 
 -- the write of the bytes up to the first special one failed
@@ -7,7 +8,7 @@ pub returns-in_err-put_all : goal.returns-in_err-put_all
 returns-in_err-put_all g c =
     let cut = escape-parts _ _ c.split_at.ensures.front c.split_at.ensures.back c.in-Some.ensures.within
     c.in-Some.ensures.cut in
-    HasLeft-stop _ _ c.loop-at.invariant cut c.in_err-put_all.ensures c.from_residual.ensures.0
+    HasLeft-failed _ _ c.loop-at.invariant cut c.in_err-put_all.ensures c.from_residual.ensures.0
 
 -- the bytes before the special one were written, and the write of its escape failed
 pub returns-in_err-put_escape : goal.returns-in_err-put_escape
@@ -15,7 +16,7 @@ returns-in_err-put_escape g c =
     let cut = escape-parts _ _ c.split_at.ensures.front c.split_at.ensures.back c.in-Some.ensures.within
     c.in-Some.ensures.cut in
     let plain = HasLeft-step _ c.loop-at.invariant cut c.in_ok-put_all.ensures in
-    HasLeft-stop _ _ plain refl c.in_err-put_escape.ensures c.from_residual-in_err-put_escape.ensures.0
+    HasLeft-failed _ _ plain refl c.in_err-put_escape.ensures c.from_residual-in_err-put_escape.ensures.0
 
 -- the bytes before the special one and its escape were written
 pub loop-at-preserved : goal.loop-at-preserved

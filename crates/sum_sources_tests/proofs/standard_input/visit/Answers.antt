@@ -1,6 +1,11 @@
 use Rattle.std.proofs.Common.{◌≡◌, ◌∙◌, ◌++◌, ◌∷◌, [], None, List, ℕ, refl, ap, sym, arith}
-use Rattle.std.{specs.Prelude.MatchBool, proofs.lemmas.List.map-append}
-use Rattle.sum_sources.specs.{WithStdin.closed_place, WithStdin.is_dash, WithStdin.is_stdin, WithStdin.answer_of_both, WithStdin.TakesStdin, StandardInput.StdinPlace, StandardInput.given_input, StandardInput.put_back, StandardInput.after_taking, Contents.InputState, Sources.SourceState, Sources.and_opening, Sources.names_of, declared.sources.opened.Place.Place, declared.sources.opened.Place.TheVariants.File, declared.sources.opened.Place.TheVariants.Stdin}
+use Rattle.std.proofs.{lemmas.List.map-append}
+use Rattle.std.specs.{Prelude.MatchBool}
+use Rattle.sum_sources.specs.Stdin.{StdinPlace, given_input, stdin_after_put_back, stdin_after_taking}
+use Rattle.sum_sources.specs.Source.{SourceState, state_with_opening, names_of}
+use Rattle.sum_sources.specs.declared.sources.opened.Place.TheVariants.{File, Stdin}
+use Rattle.sum_sources.specs.{Place.parts_after_closing, WithStdin.answer_of_both, declared.sources.opened.Place.Place}
+use Rattle.sum_sources.specs.{Place.is_stdin, Place.TakesStdin, WithStdin.is_dash, Input.InputState}
 use Rattle.sum_sources.proofs.GaveLemmas.{is_open_last, names-closed}
 use Rattle.sum_sources_tests.proofs.standard_input.visit.Goals as goal
 
@@ -12,9 +17,9 @@ close_file-requires g c =
 -- standard input was opened and closed, or a file was
 closes : {I F : Type 0} (state : F → InputState) (p : Place I F) (name : List ℕ) (old mid new : StdinPlace I)
     (a m n : SourceState) → is_dash name ≡ is_stdin p
-    → MatchBool (is_dash name) (TakesStdin old mid p × (m ≡ a)) ((mid ≡ old) × (m ≡ and_opening a name None))
-    → (new, n) ≡ closed_place state p mid m
-    → MatchBool (is_dash name) ((new ≡ put_back (after_taking old) (given_input old)) × (n ≡ a))
+    → MatchBool (is_dash name) (TakesStdin old mid p × (m ≡ a)) ((mid ≡ old) × (m ≡ state_with_opening a name None))
+    → (new, n) ≡ parts_after_closing state p mid m
+    → MatchBool (is_dash name) ((new ≡ stdin_after_put_back (stdin_after_taking old) (given_input old)) × (n ≡ a))
     ((new ≡ old) × (names_of n.openings ≡ names_of a.openings ++ name ∷ []))
 closes state (Stdin given log) name old mid new a m n is opens back =
     let ((gives, takes), same) = rw is at opens in

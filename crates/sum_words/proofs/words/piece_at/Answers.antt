@@ -7,6 +7,7 @@ slice_bounds-result-count c =
     let found = c.in_ok-end.ensures.lookup in
     (piece_read c.args.bytes.now 0 _ _ c.start_of-start.ensures found.3.0 found.1 c.requires).order
 
+-- the same, of its start
 pub slice_bounds-result-start : goal.slice_bounds-result-start
 slice_bounds-result-start c = slice_bounds-result-count c
 

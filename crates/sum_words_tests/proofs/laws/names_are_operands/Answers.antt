@@ -1,5 +1,5 @@
 use Rattle.std.proofs.{Common.◌∷◌, Common.codes, Common.sym, lemmas.List.map-append}
-use Rattle.sum_words.specs.Items.{operand}
+use Rattle.sum_words.specs.parsing.Items.{operand}
 use Rattle.sum_words_tests.proofs.laws.names_are_operands.Goals as goal
 
 -- the names, and then what follows `--`

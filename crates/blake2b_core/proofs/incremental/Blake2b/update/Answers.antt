@@ -1,6 +1,6 @@
 use Rattle.std.proofs.Common.{◌++◌, subst, arith}
 use Rattle.std.proofs.lemmas.{Grind.common_steps, List.nil_from_length}
-use Rattle.blake2b_core.specs.Holding.{HoldsSoFar}
+use Rattle.blake2b_core.specs.Blake2b.{HoldsSoFar}
 use Rattle.blake2b_core.proofs.incremental.Blake2b.update.Goals as goal
 
 -- the piece is taken in three parts: what fills the buffered block, whole blocks, and the rest, which is buffered

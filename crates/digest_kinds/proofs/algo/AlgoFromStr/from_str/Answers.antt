@@ -1,5 +1,5 @@
 use Rattle.std.proofs.Common.{[], sym, ◌∙◌, append-nil}
-use Rattle.digest_kinds.specs.Kinds.{tag}
+use Rattle.digest_kinds.specs.Algo.{tag}
 use Rattle.digest_kinds.proofs.algo.AlgoFromStr.from_str.Goals as goal
 
 -- if no tag begins the text, it is no tag, since a tag begins itself

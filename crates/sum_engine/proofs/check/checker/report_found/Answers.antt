@@ -1,6 +1,7 @@
 use Rattle.std.proofs.Common.{arith, rules, ◌≡◌, ℕ, List, [], None, Some, Ok, Err, refl}
-use Rattle.sum_lines.{proofs.EventLemmas.Gets-none, specs.Escape.Profile, specs.Escape.own_profile}
-use Rattle.sum_engine.specs.{check.Judge.Ignored, check.Reports.Report, check.Reports.out_by}
+use Rattle.sum_lines.proofs.EventLemmas.{Gets-none}
+use Rattle.sum_engine.specs.check.{Judge.Ignored, Report.out_by}
+use Rattle.sum_settings.specs.declared.settings.Report.{Report}
 use Rattle.sum_sources.specs.declared.line_reader.LineStop.TheVariants.{Fault}
 use Rattle.sum_engine.proofs.check.checker.report_found.Goals as goal
 
@@ -8,9 +9,7 @@ use Rattle.sum_engine.proofs.check.checker.report_found.Goals as goal
 pub returns-in-Err-Fault : goal.returns-in-Err-Fault
 returns-in-Err-Fault g c =
     let is : c.args.found ≡ Err (Fault c.in-Err-Fault.fault) = search rules in
-    let own : c.rules-rules.result.profile ≡ own_profile = search rules in
-    rw (is, ← c.rules-rules.ensures, own, ← c.labels.view_is)
-    c.write_err.ensures
+    rw (is, ← c.labels.view_is) c.write_err.ensures
 
 -- no line was left
 pub returns-in-Ok-None : goal.returns-in-Ok-None
@@ -23,13 +22,11 @@ returns-in-Ok-None g c =
 pub returns-in_default : goal.returns-in_default
 returns-in_default g c =
     let is : c.args.found ≡ Ok (Some c.in-Ok-Some.found) = search rules in
-    let own : c.rules-rules.result.profile ≡ own_profile = search rules in
-    let profile = rw c.rules-rules.ensures at own in
-    rw is (rw (c.rules-rules.ensures, c.name-name.ensures, ← profile) at c.put_report.ensures)
+    rw is (rw (c.rules-rules.ensures, c.name-name.ensures) at c.put_report.ensures)
 
 -- an ignored line has no text on standard output
-none_out : (p : Profile) (report : Report) (name : List ℕ) → out_by p report Ignored name ≡ []
-none_out p report name = grind arith
+none_out : (report : Report) (name : List ℕ) → out_by report Ignored name ≡ []
+none_out report name = grind arith
 
 -- nothing is written about an ignored line
 pub returns-in-Ignored : goal.returns-in-Ignored

@@ -1,13 +1,12 @@
-use Rattle.std.proofs.{Common.rules, Common.arith, Common.◌≡◌, Common.◌∙◌, lemmas.Bool.ne_eqb}
-use Rattle.sum_lines.specs.Escape.{own_profile}
+use Rattle.std.proofs.{Common.arith, Common.◌≡◌, Common.◌∙◌, lemmas.Bool.ne_eqb}
 use Rattle.sum_sources.specs.declared.fault.Ending.TheVariants.{Whole}
-use Rattle.sum_engine.specs.{check.Rules.LabelsValue, check.Rules.Rules}
+use Rattle.sum_engine.specs.check.{Rules.LabelsValue, Rules.CheckRules, Counts.Counts, Counts.entries}
+use Rattle.sum_engine.specs.check.Summary.{warnings, end_text}
 use Rattle.sum_settings.specs.declared.settings.Report.TheVariants.{Status}
-use Rattle.sum_engine.specs.check.Reports.{Counts, entries, warnings, end_text}
 use Rattle.sum_engine.proofs.check.summary.put_summary.Goals as goal
 
 -- if there are entries, and the setting isn't `--status`, the summary is the warnings
-end_text-shown : (r : Rules) (labels : LabelsValue) (c : Counts) → (entries c ≡ 0 → ⊥)
+end_text-shown : (r : CheckRules) (labels : LabelsValue) (c : Counts) → (entries c ≡ 0 → ⊥)
     → (labels.report ≡ Status → ⊥) → end_text r labels Whole c ≡ warnings r labels c
 end_text-shown r labels c some shown = grind (arith, ne_eqb (entries c) 0 some)
 
@@ -21,6 +20,5 @@ returns-in_default g c =
 -- there are no entries
 pub returns-then-entries-eq0 : goal.returns-then-entries-eq0
 returns-then-entries-eq0 g c =
-    let own : c.args.rules.profile ≡ own_profile = search rules in
-    rw (own, ← c.labels.view_is, ← c.entries.ensures, c.if-entries-eq0.true)
+    rw (← c.labels.view_is, ← c.entries.ensures, c.if-entries-eq0.true)
     (rw c.tool_line-line.ensures at c.write_err.ensures)

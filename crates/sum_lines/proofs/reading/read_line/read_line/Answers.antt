@@ -11,8 +11,10 @@ returns-in-None-clause-parsed g c = grind arith
 pub returns-in-None-clause-grammar : goal.returns-in-None-clause-grammar
 returns-in-None-clause-grammar g c = matches (returns-in-None-clause-parsed g c)
 
+-- what is computed of a line with a beginning is what the grammar says
 pub returns-in-Some-clause-grammar : goal.returns-in-Some-clause-grammar
 returns-in-Some-clause-grammar g c = matches (grind arith)
 
+-- the grammar ignores what the code ignores
 pub returns-then-is_ignored-clause-grammar : goal.returns-then-is_ignored-clause-grammar
 returns-then-is_ignored-clause-grammar g c = matches (grind arith)

@@ -1,9 +1,10 @@
 use Rattle.std.proofs.lemmas.Grind.{common_steps}
 use Rattle.std.proofs.Common.{ap, arith, ◌≡◌, length, Some, Err}
-use Rattle.sum_sources.specs.{LineReaders.IsBounded, declared.line_reader.ReaderState.ReaderState}
+use Rattle.sum_sources.specs.{LineReader.IsBounded, declared.inputs.input.TheConstants.PIECE}
+use Rattle.sum_sources.specs.declared.line_reader.ReaderState.{ReaderState}
 use Rattle.sum_sources.specs.declared.line_reader.{LineReader.TheInside.Inside, LineStop.TheVariants.Memory}
 use Rattle.sum_sources.specs.declared.line_reader.ReaderState.TheVariants.{Active, Done, Stopped}
-use Rattle.sum_sources.specs.LineStates.{line_reader_view, final_answer_in, IsSoundReader}
+use Rattle.sum_sources.specs.LineReader.{line_reader_view, final_answer_in, IsSoundReader}
 use Rattle.sum_sources.proofs.ReadOnLemmas.{counted, settled_again}
 use Rattle.sum_sources.proofs.line_reader.LineReader.next_line.Goals as goal
 
@@ -28,7 +29,7 @@ is_stopped Done is = cc
 is_stopped (Stopped e) is = cc
 
 -- what the fields keep
-bounded : {I : Type 0} (s : Inside I) → length s.buf ≡ 8192 → IsSoundReader s → IsBounded (line_reader_view s)
+bounded : {I : Type 0} (s : Inside I) → length s.buf ≡ PIECE → IsSoundReader s → IsBounded (line_reader_view s)
 bounded s size i = record {
   lines = grind (arith, common_steps, i.each);
   ahead = grind (arith, common_steps, i.each);

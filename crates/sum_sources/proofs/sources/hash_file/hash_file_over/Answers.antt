@@ -1,8 +1,8 @@
 use Rattle.std.proofs.Common.{◌≡◌, List, ℕ, Result, Ok, Err}
 use Rattle.std.specs.Result.{IsErrAnd}
-use Rattle.digest_kinds.specs.Kinds.{KindValue}
-use Rattle.sum_sources.{specs.Contents.Fault, proofs.GaveLemmas.is_open_last, proofs.GaveLemmas.hashed_last}
-use Rattle.sum_sources.specs.Sources.{SourceState, HashFault, HashesFile, HashesOpened}
+use Rattle.digest_kinds.specs.Kind.{KindValue}
+use Rattle.sum_sources.{specs.Fault.Fault, proofs.GaveLemmas.is_open_last, proofs.GaveLemmas.hashed_last}
+use Rattle.sum_sources.specs.{Source.SourceState, HashFile.HashFault, HashFile.HashesFile, HashFile.HashesOpened}
 use Rattle.sum_sources.specs.declared.sources.hash_file.HashFault.TheVariants as hashing
 use Rattle.sum_sources.proofs.sources.hash_file.hash_file_over.Goals as goal
 

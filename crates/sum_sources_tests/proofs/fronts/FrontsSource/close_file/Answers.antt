@@ -1,15 +1,15 @@
 use Rattle.std.proofs.Common.{refl}
-use Rattle.sum_sources.specs.{Contents.InputState, InputLaws.told_file_has_content, StandardInput.told_file}
-use Rattle.sum_sources.{specs.ToldPairs.told_value, proofs.GaveLemmas.closing_gives}
+use Rattle.sum_sources.specs.{Input.InputState, InputLaws.told_has_content, Told.told_state}
+use Rattle.sum_sources.{specs.Told.told_view, proofs.GaveLemmas.closing_gives}
 use Rattle.sum_sources_tests.specs.Fronts.{fronts_state, tells_fronts}
 use Rattle.sum_sources_tests.proofs.fronts.FrontsSource.close_file.Goals as goal
 
 pub invariant_of-self : goal.invariant_of-self
 invariant_of-self c =
     let s = c.args.self.now in
-    let told = told_value c.args.file.told in
+    let told = told_view c.args.file.told in
     let log = c.args.file.log in
-    let file : InputState = record (told_file told) { name = log.name; opening = log.opening } in
-    let gives = closing_gives tells_fronts (fronts_state s.text.now s.log) file _ (told_file_has_content told)
+    let file : InputState = record (told_state told) { name = log.name; opening = log.opening } in
+    let gives = closing_gives tells_fronts (fronts_state s.text.now s.log) file _ (told_has_content told)
     c.requires.told refl s.gives in
     record { gives = rw (c.and-self.ensures, c.args.file.same) gives }

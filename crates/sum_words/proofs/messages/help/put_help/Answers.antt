@@ -1,6 +1,6 @@
 use Rattle.std.proofs.Common.{◌∙◌, refl}
-use Rattle.sum_lines.proofs.SinkLemmas.{HasLeft-all, HasLeft-step, HasLeft-stop, HasLeft-last}
-use Rattle.sum_words.{specs.Items.all_flags, proofs.TextLemmas.usage_parts, proofs.TextLemmas.option_lines}
+use Rattle.sum_lines.proofs.SinkLemmas.{HasLeft-all, HasLeft-step, HasLeft-failed, HasLeft-last}
+use Rattle.sum_words.{specs.parsing.Options.all_flags, proofs.TextLemmas.usage_parts, proofs.TextLemmas.option_lines}
 use Rattle.sum_words.proofs.messages.help.put_help.Goals as goal
 
 -- the write of the first two lines failed
@@ -8,7 +8,7 @@ pub returns-in_err-put_parts : goal.returns-in_err-put_parts
 returns-in_err-put_parts g c =
     let wrote = rw (usage_parts _ _ _ _ _ _ (c.as_bytes.ensures.value ∙ c.name.ensures) c.purpose.ensures)
     at c.in_err-put_parts.ensures in
-    HasLeft-stop (option_lines c.args.tool all_flags) _ HasLeft-all refl wrote c.from_residual.ensures.0
+    HasLeft-failed (option_lines c.args.tool all_flags) _ HasLeft-all refl wrote c.from_residual.ensures.0
 
 -- the first two lines were written, and then those of the options
 pub returns : goal.returns

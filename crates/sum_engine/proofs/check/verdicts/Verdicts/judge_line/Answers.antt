@@ -1,6 +1,6 @@
 use Rattle.std.proofs.Common.{◌≡◌, slice_range, refl, sym}
-use Rattle.sum_lines.specs.{grammar.Entries.EntryValue, grammar.ParsedLines.entry}
-use Rattle.sum_engine.specs.private.Judging.{parsed_at}
+use Rattle.sum_lines.specs.grammar.{Entries.EntryValue, ParsedLines.entry}
+use Rattle.sum_engine.specs.private.Verdicts.{parsed_at}
 use Rattle.sum_engine.proofs.check.verdicts.Verdicts.judge_line.Goals as goal
 
 -- an entry was judged
@@ -11,7 +11,7 @@ returns-in_ok-verdict-in-Entry-clause-verdict g c =
     let s : EntryValue = record { kind = listed.kind; digest = listed.digest; name = name } in
     let read = c.read_line-reading.ensures in
     let said : parsed_at c.args.self.now c.args.line.now.items ≡ entry s =
-    rw (← c.self.view_is, ← c.self-inside.view_is) (sym (rw (listed.is, read.form) at read.parsed)) in
+    rw (← c.self.view_is) (sym (rw (listed.is, read.form) at read.parsed)) in
     let judged = rw c.deref.ensures.value at c.in_ok-verdict-in-Entry.ensures.verdict in
     rw c.count_verdict-in-Entry.ensures.is (λ w agrees. rw (said, judged w agrees)
-    (rw (← c.self.view_is, ← c.self-inside.view_is) refl))
+    (rw (← c.self.view_is) refl))

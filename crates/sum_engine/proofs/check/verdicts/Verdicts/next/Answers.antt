@@ -1,7 +1,6 @@
 use Rattle.std.proofs.Common.{rules, arith, ◌≡◌, true, refl, ap, sym, ◌∙◌, Ok, Err}
-use Rattle.sum_lines.specs.grammar.Entries.{is_ignored, form_then}
-use Rattle.sum_lines.specs.declared.reading.read_line.Form.TheVariants.{Undecided}
-use Rattle.sum_lines.{specs.Escape.own_profile, proofs.EntryLemmas.ignored_undecided}
+use Rattle.sum_lines.specs.grammar.{Entries.is_ignored, Form.form_then}
+use Rattle.sum_lines.{specs.declared.reading.read_line.Form.TheVariants.Undecided, proofs.EntryLemmas.ignored_undecided}
 use Rattle.sum_engine.{proofs.WorldLemmas.asks_none, specs.check.Verdicts.VerdictsValue}
 use Rattle.sum_engine.proofs.NextVerdictLemmas.{next_verdict-line, next_verdict-stop}
 use Rattle.sum_engine.proofs.check.verdicts.Verdicts.next.Goals as goal
@@ -27,13 +26,11 @@ returns-then-is_ignored-clause-verdict g c =
     let undecided = ignored_undecided c.self.inside.rules.algo line ignored in
     let same : form_then c.self.inside.form Undecided ≡ c.self.inside.form = grind arith in
     let count = c.count_verdict.ensures in
-    let own : c.self.inside.rules.profile ≡ own_profile = search rules in
     rw (← c.self.view_is) (λ going. next_verdict-line c.next_line.new.self line c.count_verdict.new.self
     (Ok c.count_verdict.result) (record {
       advances = rw c.in-Ok-Line.field-0-is at read.reader;
       bounds = read.bounds;
       reads = rw c.in-Ok-Line.field-0-is at read.line;
-      profile = own;
       takes = record {
         now = rw (undecided, same, count.is) count.counts;
         name_range = rw count.is (search (rules, arith));
@@ -41,7 +38,7 @@ returns-then-is_ignored-clause-verdict g c =
       };
       kept = refl;
       asked = rw count.is (asks_none _);
-      verdict = λ w agrees. rw (count.is, own, ignored) refl;
+      verdict = λ w agrees. rw (count.is, ignored) refl;
     }))
 
 -- there was no memory to open the file of the line's entry
@@ -60,7 +57,6 @@ pub returns-in-Err-clause-verdict : goal.returns-in-Err-clause-verdict
 returns-in-Err-clause-verdict g c =
     let read = c.in-Err.ensures in
     let line = c.next_line.new.line.items in
-    let own : c.self.inside.rules.profile ≡ own_profile = search rules in
     let rules = ap (λ (p : VerdictsValue _). p.rules) (sym c.self.view_is) in
     rw (← c.self.view_is) (λ going. next_verdict-stop line _ rules c.next_line.new.self c.in-Err.stop line
-    read.line read.reader.final_answer read.bounds own refl)
+    read.line read.reader.final_answer read.bounds refl)

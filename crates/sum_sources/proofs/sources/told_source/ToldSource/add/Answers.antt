@@ -1,7 +1,7 @@
 use Rattle.std.proofs.Common.{rules, ◌≡◌, ◌∷◌, ◌++◌, [], Some, map}
 use Rattle.std.{specs.Result.is_ok, proofs.lemmas.List.map-append}
-use Rattle.sum_sources.{specs.Sources.Pair, proofs.GaveLemmas.true_or_false, proofs.ToldSourceLemmas.adding_gives}
-use Rattle.sum_sources.specs.ToldPairs.{told_source, pair_of, answer_value}
+use Rattle.sum_sources.{specs.Source.Pair, proofs.GaveLemmas.true_or_false, proofs.ToldSourceLemmas.adding_gives}
+use Rattle.sum_sources.specs.StoredPair.{state_with_pairs, pair_view, answer_view}
 use Rattle.sum_sources.proofs.sources.told_source.ToldSource.add.Goals as goal
 
 -- the pair answers from the next opening of its name on
@@ -11,11 +11,11 @@ invariant_of-self-clause-gives g c =
     let p : Pair = record {
       name = c.in_ok-name.name.items;
       from = c.times-from.result;
-      answer = Some (answer_value c.args.answer);
+      answer = Some (answer_view c.args.answer);
     } in
     true_or_false (is_ok c.push.result)
-    (λ ok. let is : map pair_of c.push.new.self.items ≡ map pair_of s.pairs.items ++ p ∷ [] =
+    (λ ok. let is : map pair_view c.push.new.self.items ≡ map pair_view s.pairs.items ++ p ∷ [] =
     rw (c.push.ensures.items, ok, map-append) (search rules) in
-    rw is (adding_gives (told_source s.pairs.items s.log) p
+    rw is (adding_gives (state_with_pairs s.pairs.items s.log) p
     (rw (← s.names, c.in_ok-name.ensures.items) (search rules)) s.gives))
     (λ no. rw (rw no at c.push.ensures.items) s.gives)

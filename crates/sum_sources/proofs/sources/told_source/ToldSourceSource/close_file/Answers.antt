@@ -1,11 +1,12 @@
 use Rattle.std.proofs.Common.{◌≡◌, Some, Ok, Err, refl, ap}
-use Rattle.std.specs.Result.{result_ok}
-use Rattle.sum_sources.specs.{Contents.Content, InputLaws.told_file_has_content, Sources.answer_of_first, Sources.Answer, StandardInput.told_file, ToldPairs.told_source, ToldPairs.told_value}
+use Rattle.std.specs.{Result.result_ok}
+use Rattle.sum_sources.specs.{Input.Content, Source.AnswerValue, Told.told_state, Told.told_view}
+use Rattle.sum_sources.specs.{InputLaws.told_has_content, Source.answer_of_first, StoredPair.state_with_pairs}
 use Rattle.sum_sources.proofs.GaveLemmas.{names-closed, closing_gives}
 use Rattle.sum_sources.proofs.sources.told_source.ToldSourceSource.close_file.Goals as goal
 
 -- the answer that has this content
-has_content : (answer : Answer) (c : Content) → Some c ≡ result_ok answer → answer ≡ Ok c
+has_content : (answer : AnswerValue) (c : Content) → Some c ≡ result_ok answer → answer ≡ Ok c
 has_content (Ok d) c is = cc
 has_content (Err f) c is = cc
 
@@ -17,7 +18,7 @@ invariant_of-self-clause-names g c = rw (c.and-self.ensures, names-closed) c.arg
 pub invariant_of-self-clause-gives : goal.invariant_of-self-clause-gives
 invariant_of-self-clause-gives g c =
     let s = c.args.self.now in
-    let file = told_value c.args.file in
-    rw (c.and-self.ensures, c.log.ensures) (closing_gives answer_of_first (told_source s.pairs.items s.log)
-    (told_file file) file.content (told_file_has_content file) refl
+    let file = told_view c.args.file in
+    rw (c.and-self.ensures, c.log.ensures) (closing_gives answer_of_first (state_with_pairs s.pairs.items s.log)
+    (told_state file) file.content (told_has_content file) refl
     (ap Some (has_content _ file.content c.requires.told)) s.gives)

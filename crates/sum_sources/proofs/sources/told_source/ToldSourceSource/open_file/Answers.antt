@@ -1,5 +1,5 @@
 use Rattle.std.proofs.Common.{rules, Some, Err}
-use Rattle.sum_sources.specs.{Sources.answer_of_first, ToldPairs.told_source}
+use Rattle.sum_sources.specs.{Source.answer_of_first, StoredPair.state_with_pairs}
 use Rattle.sum_sources.proofs.GaveLemmas.{open_gives, opening_gives}
 use Rattle.sum_sources.proofs.sources.told_source.ToldSourceSource.open_file.Goals as goal
 
@@ -7,7 +7,7 @@ use Rattle.sum_sources.proofs.sources.told_source.ToldSourceSource.open_file.Goa
 pub invariant_of-self-in-Fault-clause-gives : goal.invariant_of-self-in-Fault-clause-gives
 invariant_of-self-in-Fault-clause-gives g c =
     let s = c.args.self.now in
-    rw c.and-self-in-Fault.ensures (opening_gives answer_of_first (told_source s.pairs.items s.log) c.args.name.now
+    rw c.and-self-in-Fault.ensures (opening_gives answer_of_first (state_with_pairs s.pairs.items s.log) c.args.name.now
     (Some (Err c.in-Fault.fault)) (rw (← s.names) (search rules)) s.gives)
 
 -- the file is open
@@ -15,4 +15,4 @@ pub invariant_of-self-in-Content-clause-gives : goal.invariant_of-self-in-Conten
 invariant_of-self-in-Content-clause-gives g c =
     let s = c.args.self.now in
     rw c.and-self-in-Content.ensures
-    (open_gives answer_of_first (told_source s.pairs.items s.log) c.args.name.now s.gives)
+    (open_gives answer_of_first (state_with_pairs s.pairs.items s.log) c.args.name.now s.gives)

@@ -1,6 +1,6 @@
 use Rattle.std.proofs.Common.{◌≡◌, ◌∙◌, ap, true, false}
 use Rattle.std.{proofs.Math.Logic.∥∥₁_elim, proofs.Math.Logic.∥∥₁_map, proofs.Props.props}
-use Rattle.sum_sources.specs.WithStdin.{is_dash, is_stdin, place_state, opened_has_content}
+use Rattle.sum_sources.specs.{WithStdin.is_dash, Place.is_stdin, Place.place_state, InputLaws.opened_has_content}
 use Rattle.sum_sources.proofs.WithStdinLemmas.{kept_closing, kept_back, open_there, stdin_gives}
 use Rattle.sum_sources.proofs.sources.with_stdin.WithStdinSource.close_file.Goals as goal
 

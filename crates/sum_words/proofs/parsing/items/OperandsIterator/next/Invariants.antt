@@ -1,5 +1,5 @@
 use Rattle.std.proofs.Common.{◌≡◌, length, filter_map}
-use Rattle.sum_words.specs.Items.{operand_in}
+use Rattle.sum_words.specs.parsing.Items.{operand_in}
 use Rattle.sum_words.proofs.parsing.items.OperandsIterator.next.Given as goal
 
 -- no operand was passed over

@@ -1,0 +1,56 @@
+-- What an output gets: a text, piece by piece.
+use Rattle.std.specs.Prelude.{ℕ, ◌≡◌, ◌<◌, ◌+◌, ◌/◌, ⊤, ◌⊎◌, List, [], ◌∷◌, ◌++◌, length, flat_map, filter_map}
+use Rattle.std.specs.Prelude.{Option, None, Some, Result, Ok, Err}
+use Rattle.std.specs.Simd.{first_chunks}
+use Rattle.digest_kinds.specs.Bytes.{ByteString}
+
+-- what an output got: the pieces that it was offered, one per write; the bytes of them that it wrote; its failed calls
+pub record OutputState : Type 0 where
+  pub offered : List ByteString
+  pub written : ByteString
+  pub failures : ℕ
+
+-- what an output gets: a piece is offered to it; or a byte is written, and these bytes of its piece are left
+pub data OutputEvent : Type 0 where
+  offer_piece : ByteString → OutputEvent
+  write_byte : ℕ → ByteString → OutputEvent
+
+-- the byte that an event writes
+abbrev pub written_byte : OutputEvent → Option ℕ
+written_byte (write_byte b left) = Some b
+written_byte event = None
+
+-- the pieces of a text: 8,192 bytes each, and what is left; so a text of at most 8,192 bytes is one piece
+abbrev pub pieces : ByteString → List ByteString
+pieces text = first_chunks 8192 ((length text + 8191) / 8192) text
+
+-- the events of a piece's bytes, which are written one after another
+abbrev pub byte_events : ByteString → List OutputEvent
+byte_events [] = []
+byte_events (b ∷ left) = write_byte b left ∷ byte_events left
+
+-- the events of a text: each piece is offered, and then its bytes are written
+abbrev pub output_events : ByteString → List OutputEvent
+output_events text = flat_map (λ piece. offer_piece piece ∷ byte_events piece) (pieces text)
+
+-- exactly the pieces of these events were offered, in order; but what a write left of a piece may be offered again
+abbrev pub OffersEach : List ByteString → List ByteString → List OutputEvent → Type 0
+OffersEach before after [] = after ≡ before
+OffersEach before after (offer_piece piece ∷ events) = OffersEach (before ++ piece ∷ []) after events
+OffersEach before after (write_byte b left ∷ events) =
+    OffersEach before after events ⊎ ((0 < length left) × OffersEach (before ++ left ∷ []) after events)
+
+-- these events happened
+pub record Gets (before after : OutputState) (events : List OutputEvent) : Type 0 where
+  pub offered : OffersEach before.offered after.offered events
+  pub written : after.written ≡ before.written ++ filter_map written_byte events
+
+-- a prefix of these events happened
+abbrev pub GetsPrefix : OutputState → OutputState → List OutputEvent → Type 0
+GetsPrefix before after events = (prefix rest : List OutputEvent) × (events ≡ prefix ++ rest) × Gets before after prefix
+
+-- a call gives an output a text: all of its events happened; or a call of the sink failed after a prefix of them
+abbrev pub GivesAll : {E : Type 0} → OutputState → OutputState → ByteString → Result ⊤ E → Type 0
+GivesAll before after text (Ok done) = Gets before after (output_events text) × (after.failures ≡ before.failures)
+GivesAll before after text (Err fault) =
+    GetsPrefix before after (output_events text) × (after.failures ≡ before.failures + 1)

@@ -1,0 +1,86 @@
+-- The faults of opening and reading: which fault an error of the system is, and its text. How an input ends.
+use Rattle.std.specs.Prelude.{ℤ, pos, List, [], ◌∷◌, Option, None, Some, map, codes, length, slice_index_or, ◌==◌}
+use Rattle.std.specs.{Prelude.if◌then◌else◌, Ordering.int_eq, declared.io.ErrorKind.ErrorKind}
+use Rattle.std.specs.declared.io.ErrorKind.TheVariants as kinds
+use Rattle.digest_kinds.specs.Bytes.{ByteString}
+pub use Rattle.sum_sources.specs.declared.fault.{Fault.Fault, Ending.Ending}
+pub use Rattle.sum_sources.specs.declared.fault.Fault.TheVariants.{NotFound, Denied, Other, Os}
+pub use Rattle.sum_sources.specs.declared.fault.Ending.TheVariants.{Whole, Broken}
+
+-- the C library's texts of the numbers of Linux, from 0 on. A line that ends with a number begins with the text of that
+-- number. A text is empty if there is none, and for 2, 5 and 13, which are NotFound, Other and Denied
+unfoldable pub reason_table : List ByteString
+reason_table = map codes (
+    "" ∷ "Operation not permitted" ∷ "" ∷ "No such process" ∷ "Interrupted system call" ∷ "" ∷  -- 0
+    "No such device or address" ∷ "Argument list too long" ∷ "Exec format error" ∷ "Bad file descriptor" ∷
+    "No child processes" ∷ "Resource temporarily unavailable" ∷ "Cannot allocate memory" ∷ "" ∷ "Bad address" ∷  -- 10
+    "Block device required" ∷ "Device or resource busy" ∷ "File exists" ∷ "Invalid cross-device link" ∷
+    "No such device" ∷
+    "Not a directory" ∷ "Is a directory" ∷ "Invalid argument" ∷ "Too many open files in system" ∷  -- 20
+    "Too many open files" ∷ "Inappropriate ioctl for device" ∷ "Text file busy" ∷ "File too large" ∷
+    "No space left on device" ∷ "Illegal seek" ∷
+    "Read-only file system" ∷ "Too many links" ∷ "Broken pipe" ∷ "Numerical argument out of domain" ∷  -- 30
+    "Numerical result out of range" ∷ "Resource deadlock avoided" ∷ "File name too long" ∷ "No locks available" ∷
+    "Function not implemented" ∷ "Directory not empty" ∷
+    "Too many levels of symbolic links" ∷ "" ∷ "No message of desired type" ∷ "Identifier removed" ∷  -- 40
+    "Channel number out of range" ∷ "Level 2 not synchronized" ∷ "Level 3 halted" ∷ "Level 3 reset" ∷
+    "Link number out of range" ∷ "Protocol driver not attached" ∷
+    "No CSI structure available" ∷ "Level 2 halted" ∷ "Invalid exchange" ∷ "Invalid request descriptor" ∷  -- 50
+    "Exchange full" ∷ "No anode" ∷ "Invalid request code" ∷ "Invalid slot" ∷ "" ∷ "Bad font file format" ∷
+    "Device not a stream" ∷ "No data available" ∷ "Timer expired" ∷ "Out of streams resources" ∷  -- 60
+    "Machine is not on the network" ∷ "Package not installed" ∷ "Object is remote" ∷ "Link has been severed" ∷
+    "Advertise error" ∷ "Srmount error" ∷
+    "Communication error on send" ∷ "Protocol error" ∷ "Multihop attempted" ∷ "RFS specific error" ∷  -- 70
+    "Bad message" ∷ "Value too large for defined data type" ∷ "Name not unique on network" ∷
+    "File descriptor in bad state" ∷ "Remote address changed" ∷ "Can not access a needed shared library" ∷
+    "Accessing a corrupted shared library" ∷ ".lib section in a.out corrupted" ∷  -- 80
+    "Attempting to link in too many shared libraries" ∷ "Cannot exec a shared library directly" ∷
+    "Invalid or incomplete multibyte or wide character" ∷ "Interrupted system call should be restarted" ∷
+    "Streams pipe error" ∷ "Too many users" ∷ "Socket operation on non-socket" ∷ "Destination address required" ∷
+    "Message too long" ∷ "Protocol wrong type for socket" ∷ "Protocol not available" ∷ "Protocol not supported" ∷  -- 90
+    "Socket type not supported" ∷ "Operation not supported" ∷ "Protocol family not supported" ∷
+    "Address family not supported by protocol" ∷ "Address already in use" ∷ "Cannot assign requested address" ∷
+    "Network is down" ∷ "Network is unreachable" ∷ "Network dropped connection on reset" ∷  -- 100
+    "Software caused connection abort" ∷ "Connection reset by peer" ∷ "No buffer space available" ∷
+    "Transport endpoint is already connected" ∷ "Transport endpoint is not connected" ∷
+    "Cannot send after transport endpoint shutdown" ∷ "Too many references: cannot splice" ∷
+    "Connection timed out" ∷ "Connection refused" ∷ "Host is down" ∷ "No route to host" ∷  -- 110
+    "Operation already in progress" ∷ "Operation now in progress" ∷ "Stale file handle" ∷ "Structure needs cleaning" ∷
+    "Not a XENIX named type file" ∷ "No XENIX semaphores available" ∷
+    "Is a named type file" ∷ "Remote I/O error" ∷ "Disk quota exceeded" ∷ "No medium found" ∷  -- 120
+    "Wrong medium type" ∷ "Operation canceled" ∷ "Required key not available" ∷ "Key has expired" ∷
+    "Key has been revoked" ∷ "Key was rejected by service" ∷
+    "Owner died" ∷ "State not recoverable" ∷ "Operation not possible due to RF-kill" ∷  -- 130
+    "Memory page has hardware error" ∷ [])
+
+-- the text of a number
+abbrev pub reason : ℤ → ByteString
+reason (pos n) = slice_index_or reason_table n []
+reason n = []
+
+-- the text of a fault
+abbrev pub fault_text : Fault → ByteString
+fault_text NotFound = codes "No such file or directory"
+fault_text Denied = codes "Permission denied"
+fault_text Other = codes "Input/output error"
+fault_text (Os n) = if length (reason n) == 0 then codes "Input/output error" else reason n
+
+-- the fault of a number of the system: 2 is ENOENT, 13 is EACCES
+abbrev pub fault_of_number : ℤ → Fault
+fault_of_number n = if int_eq n (pos 2) then NotFound else if int_eq n (pos 13) then Denied
+    else if length (reason n) == 0 then Other else Os n
+
+-- the fault of a descriptor that isn't open, EBADF
+abbrev pub bad_descriptor : Fault
+bad_descriptor = Os (pos 9)
+
+-- the fault of an error that has no number
+abbrev pub fault_of_kind : ErrorKind → Fault
+fault_of_kind kinds.NotFound = NotFound
+fault_of_kind kinds.PermissionDenied = Denied
+fault_of_kind kind = Other
+
+-- the fault of an error: its number decides, or its kind if it has none
+abbrev pub fault_of_error : ErrorKind → Option ℤ → Fault
+fault_of_error kind (Some n) = fault_of_number n
+fault_of_error kind None = fault_of_kind kind

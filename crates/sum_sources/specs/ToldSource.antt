@@ -1,0 +1,7 @@
+-- A source in memory.
+use Rattle.sum_sources.specs.{Source.SourceState, StoredPair.state_with_pairs}
+use Rattle.sum_sources.specs.declared.sources.told_source.ToldSource.{ToldSource}
+
+-- the state of a source in memory
+abbrev pub told_source_state : {A : Type 0} → ToldSource A → SourceState
+told_source_state source = state_with_pairs source.pairs.items source.log

@@ -1,0 +1,4 @@
+pub mod Options
+pub mod WordFault
+pub mod Items
+pub mod Request

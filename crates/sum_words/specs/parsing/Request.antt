@@ -1,0 +1,107 @@
+-- What a tool's words ask for: a request, or the first fault that counts.
+use Rattle.std.specs.Prelude.{◌&&◌, ◌||◌, not, nat_lt, Bool, true, false, List, [], ◌∷◌, Option, None, Some, Result, Ok}
+use Rattle.std.specs.Prelude.{Err, if◌then◌else◌, unwrap_or, option_map, option_to_list, filter, bytes_eq, filter_map}
+use Rattle.std.specs.{Char.is_ascii_digit, List.last_or, List.list_all, List.list_any, Str.Parse.digits_value}
+use Rattle.std.specs.{Result.result_ok, Result.result_err, Option.ok_or, Option.option_or, Option.option_and_then}
+use Rattle.digest_kinds.specs.{Bytes.ByteString, Kind.KindValue, Kind.full_kind, Kind.blake2b_of_bits}
+use Rattle.digest_kinds.specs.declared.algo.Algos.{Algos, TheVariants.One, TheVariants.Any}
+use Rattle.sum_settings.specs.declared.{style.Mode.Mode, settings.Report.Report}
+use Rattle.sum_words.specs.declared.{tool.Tool.Tool, parsing.options.Flag.Flag, parsing.request.Request.Request}
+use Rattle.sum_words.specs.declared.parsing.request.Request.TheVariants.{Generate, Check, Help, Version}
+use Rattle.sum_words.specs.{Tool.algos_of, parsing.Options.full_name}
+use Rattle.sum_words.specs.parsing.Items.{ItemValue, option, fault, a_word, items_from, option_in, value_in, operand_in}
+use Rattle.sum_words.specs.parsing.WordFault.{WordFaultValue, length_invalid, length_not_bytes, tag_with_text}
+use Rattle.sum_words.specs.parsing.WordFault.{zero_with_check, tag_with_check, mode_with_check, without_check}
+use Rattle.sum_words.specs.parsing.WordFault.{check_needed}
+use Rattle.sum_settings.specs.declared.style.Mode.TheVariants as modes
+use Rattle.sum_settings.specs.declared.settings.Report.TheVariants as reports
+use Rattle.sum_words.specs.declared.parsing.options.Flag.TheVariants as flags
+
+-- whether an option is in a list. Options are told apart by their full names
+abbrev pub has : Flag → List Flag → Bool
+has flag list = list_any (λ other. bytes_eq (full_name flag) (full_name other)) list
+
+-- the last given option of a kind, or this earlier one if none is given
+abbrev pub last_of : List Flag → Option Flag → List Flag → Option Flag
+last_of kind earlier given = last_or earlier (filter (λ flag. has flag kind) given)
+
+-- whether an option is the last given option of a kind
+abbrev pub is_last : Flag → List Flag → List Flag → Bool
+is_last flag kind given = has flag (option_to_list (last_of kind None given))
+
+-- the options that set the mode of lines
+abbrev pub mode_flags : List Flag
+mode_flags = flags.Binary ∷ flags.Text ∷ flags.Tag ∷ []
+
+-- the options that set the report of a check
+abbrev pub report_flags : List Flag
+report_flags = flags.Status ∷ flags.Warn ∷ flags.Quiet ∷ []
+
+-- the option that sets this report, if an option is needed
+abbrev pub report_flag : Report → Option Flag
+report_flag reports.All = None
+report_flag reports.Quiet = Some flags.Quiet
+report_flag reports.Warn = Some flags.Warn
+report_flag reports.Status = Some flags.Status
+
+-- the kind that a value of --length asks for: one or more digits, whose number is at most 512 and a multiple of 8
+abbrev pub length_kind : ByteString → Result KindValue WordFaultValue
+length_kind value = let bits = digits_value 10 value in
+    if bytes_eq value [] || not (list_all is_ascii_digit value) || nat_lt 512 bits then Err (length_invalid value)
+    else ok_or (result_ok (blake2b_of_bits bits)) (length_not_bytes value)
+
+-- the first fault of the given options in combination, if they have one
+abbrev pub fault_of_options : List Flag → Option WordFaultValue
+fault_of_options given = let check = has flags.Check given in
+    if has flags.Tag given && is_last flags.Text mode_flags given then Some tag_with_text
+    else if has flags.Zero given && check then Some zero_with_check
+    else if has flags.Tag given && check then Some tag_with_check
+    else if (has flags.Binary given || has flags.Text given) && check then Some mode_with_check
+    else if check then None
+    else option_map without_check (if has flags.IgnoreMissing given then Some flags.IgnoreMissing
+    else option_or (last_of report_flags None given) (if has flags.Strict given then Some flags.Strict else None))
+
+-- the mode of lines that the given options set
+abbrev pub mode_of : List Flag → Mode
+mode_of given = if has flags.Tag given then modes.Tag
+    else if is_last flags.Binary mode_flags given then modes.Binary else modes.Text
+
+-- the report of a check that the given options set
+abbrev pub report_of : List Flag → Report
+report_of given = if is_last flags.Status report_flags given then reports.Status
+    else if is_last flags.Warn report_flags given then reports.Warn
+    else if is_last flags.Quiet report_flags given then reports.Quiet else reports.All
+
+-- what options without a fault ask for: with --check (true) a check; otherwise lines, which anysum can't write
+abbrev pub request_of_options :
+    Bool → Algos → Option KindValue → List Flag → List ByteString → Result Request WordFaultValue
+request_of_options true algos kind given operands = Ok (Check (record {
+  algo = algos;
+  report = report_of given;
+  strict = has flags.Strict given;
+  ignore_missing = has flags.IgnoreMissing given;
+}) operands)
+request_of_options false (One algo) kind given operands = Ok (Generate (record {
+  kind = unwrap_or kind (full_kind algo);
+  style = record { mode = mode_of given; zero = has flags.Zero given };
+}) operands)
+request_of_options false Any kind given operands = Err check_needed
+
+-- what is asked by the first item that decides alone, if there is one: a fault, --help or --version
+abbrev pub early_request : List ItemValue → Option (Result Request WordFaultValue)
+early_request [] = None
+early_request (fault wrong ∷ items) = Some (Err wrong)
+early_request (option flags.Help ∷ items) = Some (Ok Help)
+early_request (option flags.Version ∷ items) = Some (Ok Version)
+early_request (item ∷ items) = early_request items
+
+-- what a tool's words ask for. An item may decide it alone. Otherwise a fault of the last length counts first, then one
+-- of the options in combination
+abbrev pub request : Tool → List ByteString → Result Request WordFaultValue
+request tool words = let items = items_from tool words a_word in
+    let given = filter_map option_in items in
+    let kind = option_map length_kind (last_or None (filter_map value_in items)) in
+    let wrong = option_or (option_and_then result_err kind) (fault_of_options given) in
+    let asked = request_of_options (has flags.Check given) (algos_of tool) (option_and_then result_ok kind) given
+    (filter_map operand_in items) in
+    unwrap_or (option_or (early_request items) (option_map Err wrong)) asked
