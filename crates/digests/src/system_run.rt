@@ -4,6 +4,7 @@ ghost use Rattle.std.specs.Prelude.{ℕ, suc, All, ◌≡◌, Ok, codes};
 ghost use Rattle.sum_engine.specs.Behavior.{World};
 ghost use Rattle.sum_engine.specs.{Execution.Agrees, Execution.ReadsFile, Streams.failures};
 ghost use Rattle.sum_sources.specs.Input.{empty_content};
+ghost use Rattle.sum_words.specs.SystemArguments.{system_arguments_state};
 
 use crate::command_run::command;
 use crate::standard_input::standard_input;
@@ -15,7 +16,7 @@ use sum_engine::laws::told_agree;
 use sum_engine::{Inputs, Outputs, Streams};
 use sum_lines::FromWrite;
 use sum_sources::{Files, FromRead, WithStdin};
-use sum_words::{Arguments, SystemArguments};
+use sum_words::SystemArguments;
 
 /// The streams over standard input, files and both outputs that the system gives.
 pub type SystemStreams<F, I, O, E> = Streams<
@@ -52,7 +53,7 @@ where
     // read.
     ensures behavior { let start = fresh_streams result.streams.inputs.told
         (O.contents out) (E.contents err) in
-        ProgramPerforms (⟦<SystemArguments<R> as Arguments>⟧.state result.arguments) start
+        ProgramPerforms (system_arguments_state result.arguments) start
         result.streams result.status }
     // Standard input is given once: in some world that agrees, each later opening of `-` gives an empty content.
     ensures once { (w : World) × Agrees w result.streams.inputs

@@ -1,5 +1,7 @@
 pub mod Arguments
 pub mod CommandLine
+pub mod SystemArguments
+pub mod ToldArguments
 pub mod Tool
 pub mod Words
 pub mod parsing

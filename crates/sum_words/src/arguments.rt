@@ -35,9 +35,11 @@ pub struct ToldArguments<'a> {
 }
 
 impl<'a> ToldArguments<'a> {
+    ghost use Rattle.sum_words.specs.ToldArguments.{told_arguments_state};
+
     /// Creates a list of these arguments, which begin with the name by which the program was called.
     pub fn new(arguments: &'a [&'a [u8]]) -> Self
-        ensures { ⟦<ToldArguments<'a> as Arguments>⟧.state result ≡ record {
+        ensures { told_arguments_state result ≡ record {
           told = Some (map (λ a. a.now) arguments.entry.now);
           given = [];
           fault = None;
@@ -52,8 +54,9 @@ impl<'a> ToldArguments<'a> {
 
 impl<'a> Arguments for ToldArguments<'a> {
     ghost use Rattle.std.specs.Prelude.{refl};
+    ghost use Rattle.sum_words.specs.ToldArguments.{told_arguments_state};
 
-    ghost state = { λ s. record s.log { told = Some (map (λ a. a.now) s.arguments.now) } };
+    ghost state = { told_arguments_state };
 
     fn fill(&mut self, place: usize, buffer: &mut [u8]) -> Result<usize, FillError> {
         let filled = fill_from(self.arguments, place, buffer);

@@ -1,5 +1,5 @@
 //! The arguments that the system gives. Nothing else can ask for them, or set the log of what was given.
-ghost use Rattle.std.specs.Prelude.{◌≡◌, [], None};
+ghost use Rattle.std.specs.Prelude.{◌≡◌, []};
 
 use crate::arguments::Arguments;
 use crate::arguments_log::{ArgumentCalls, Filled};
@@ -15,9 +15,11 @@ pub struct SystemArguments<R> {
 }
 
 impl<R: Env> SystemArguments<R> {
+    ghost use Rattle.sum_words.specs.SystemArguments.{system_arguments_state};
+
     /// Creates the list of this runtime's arguments.
     pub fn new(rt: R) -> Self
-        ensures { (⟦<SystemArguments<R> as Arguments>⟧.state result).given ≡ [] }
+        ensures { (system_arguments_state result).given ≡ [] }
     {
         SystemArguments {
             rt,
@@ -27,7 +29,9 @@ impl<R: Env> SystemArguments<R> {
 }
 
 impl<R: Env> Arguments for SystemArguments<R> {
-    ghost state = { λ s. record s.log { told = None } };
+    ghost use Rattle.sum_words.specs.SystemArguments.{system_arguments_state};
+
+    ghost state = { system_arguments_state };
 
     fn fill(&mut self, place: usize, buffer: &mut [u8]) -> Result<usize, FillError> {
         let filled = self.rt.arg(place, buffer);
