@@ -11,13 +11,13 @@ pub use Rattle.digest_kinds.specs.declared.algo.Algo.TheVariants.{Md5, Sha1, Sha
 abbrev pub all_algos : List Algo
 all_algos = Md5 ∷ Sha1 ∷ Sha224 ∷ Sha256 ∷ Sha384 ∷ Sha512 ∷ Blake2b ∷ []
 
--- what is known of an algorithm: its tag, how many bytes its full digest has, and its digest, of n bytes, of a message
+-- what is known of an algorithm
 pub record AlgoFacts : Type 0 where
   pub tag : ByteString
-  pub full_len : ℕ
-  pub digest : ℕ → ByteString → ByteString
+  pub full_len : ℕ  -- how many bytes its full digest has
+  pub digest : ℕ → ByteString → ByteString  -- its digest of n bytes, of a message
 
--- the facts of an algorithm; only BLAKE2b has digests of more than one length, so only it uses n
+-- the facts of an algorithm. Only BLAKE2b has digests of several lengths, so no other uses n
 abbrev pub algo_facts : Algo → AlgoFacts
 algo_facts Md5 = record { tag = codes "MD5"; full_len = 16; digest = λ n m. md5 m }
 algo_facts Sha1 = record { tag = codes "SHA1"; full_len = 20; digest = λ n m. sha1 m }

@@ -34,7 +34,7 @@ blake2b_of_bits bits = if nat_lt 512 bits then Err TooLong
 abbrev pub kind_text : KindValue → ByteString
 kind_text kind = tag kind.algo ++ (if kind.len == full_len kind.algo then [] else codes "-" ++ decimal (8 * kind.len))
 
--- a width may follow the tag of a kind: nothing for the full length, or for BLAKE2b `-` and the kind's bits, 8 to 512
+-- this text may follow a kind's tag: nothing, for the full length; or `-` and the length in bits, 8 to 512, for BLAKE2b
 abbrev pub IsWidth : KindValue → ByteString → Type 0
 IsWidth kind width = ((width ≡ []) × (kind.len ≡ full_len kind.algo))
     ⊎ ((width ≡ codes "-" ++ decimal (8 * kind.len)) × (kind.algo ≡ Blake2b) × IsTrue (has_len Blake2b kind.len))

@@ -2,7 +2,7 @@
 use Rattle.std.specs.Prelude.{ℕ, Bool, true, false, List, [], ◌∷◌, Result, Ok, Err, codes, if◌then◌else◌}
 use Rattle.digest_kinds.specs.Bytes.{ByteString}
 use Rattle.sum_engine.specs.Behavior.{World, world_after, Behavior, behavior_then, single_step, asks}
-use Rattle.sum_engine.specs.{Streams.none_or_one, Generate.generate_behavior, check.CheckOne.check_behavior}
+use Rattle.sum_engine.specs.{Generate.generate_behavior, check.CheckOne.check_behavior}
 use Rattle.sum_words.specs.declared.{tool.Tool.Tool, parsing.request.Request.Request}
 use Rattle.sum_words.specs.declared.parsing.request.Request.TheVariants.{Generate, Check, Help, Version}
 use Rattle.sum_words.specs.{Tool.name_of, parsing.Request.request, parsing.WordFault.WordFaultValue}
@@ -37,8 +37,8 @@ meaning tool words world = request_behavior tool (request tool words) world
 abbrev pub status_of : Bool → ℕ
 status_of good = if good then 0 else 1
 
--- how often the source may have been refused memory, if a request ends out of memory
+-- how often the source may have been refused memory, if a request ends out of memory: once, or at most once in a check
 abbrev pub allowed_refusals : Result Request WordFaultValue → List ℕ
 allowed_refusals (Ok (Generate settings names)) = 1 ∷ []
-allowed_refusals (Ok (Check settings names)) = none_or_one
+allowed_refusals (Ok (Check settings names)) = 0 ∷ 1 ∷ []
 allowed_refusals asked = []

@@ -51,10 +51,8 @@ where
     E: Write,
     // The behavior of every list of arguments that agrees with what was given, in every world that agrees with what was
     // read.
-    ensures behavior { let start = fresh_streams result.streams.inputs.told
-        (O.contents out) (E.contents err) in
-        ProgramPerforms (system_arguments_state result.arguments) start
-        result.streams result.status }
+    ensures behavior { let start = fresh_streams result.streams.inputs.told (O.contents out) (E.contents err) in
+        ProgramPerforms (system_arguments_state result.arguments) start result.streams result.status }
     // Standard input is given once: in some world that agrees, each later opening of `-` gives an empty content.
     ensures once { (w : World) × Agrees w result.streams.inputs
         × ((k : ℕ) → w.answer (codes "-") (suc k) ≡ Ok empty_content) }

@@ -1,7 +1,7 @@
 -- The counts of a summary are numbers of members, and the code's running counters are they.
 use Rattle.std.proofs.Common.{rules, arith, ◌≡◌, ◌≤◌, ◌+◌, []}
 use Rattle.sum_engine.specs.check.Judge.{Verdict}
-use Rattle.sum_engine.specs.check.Counts.{Counts, counts_of, counts_and_line, counts_then, no_counts, total}
+use Rattle.sum_engine.specs.check.Counts.{Counts, counts_of, counts_and_line, counts_then, total}
 
 -- one more line is at most one more that isn't ignored
 pub total_with : (n : Counts) (v : Verdict) → total (counts_and_line n v) ≤ total n + 1
@@ -13,7 +13,7 @@ pub counts_then-line : (n m : Counts) (v : Verdict)
 counts_then-line n m v = search (rules, arith)
 
 -- counts are their own sum with those of no line
-pub counts_then-none : (n : Counts) → counts_then no_counts n ≡ n
+pub counts_then-none : (n : Counts) → counts_then (counts_of []) n ≡ n
 counts_then-none n = search (rules, arith)
 
 -- counts stay if no line follows

@@ -79,6 +79,5 @@ PerformsSteps steps outcome before after (Err Memory) = RunsOutOfMemory steps be
 -- a call performs a behavior in each world that agrees with what was read by its end; what it returns depends on `good`
 abbrev pub Performs : {A : Type 0} → (World → Behavior) → (Bool → A) → StreamsState → StreamsState → Result A Stop
     → Type 0
-Performs behavior outcome before after result = (world : World) → Agrees world after.inputs
-    → let all = behavior (world_at world before.inputs) in
-    PerformsSteps all.steps (outcome all.good) before after result
+Performs behavior wanted before after result = (world : World) → Agrees world after.inputs
+    → let all = behavior (world_at world before.inputs) in PerformsSteps all.steps (wanted all.good) before after result

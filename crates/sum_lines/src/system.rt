@@ -15,8 +15,7 @@ pub struct FromWrite<W: Write> {
     // The writer as it was at first, and what it took since: only proofs see them.
     first: Snapshot<W>,
     log: SinkLog,
-    ghost known: { ForSome (W.contents first.value) (λ bytes. W.contents writer
-        ≡ Some (bytes ++ log.output.written)) },
+    ghost known: { ForSome (W.contents first.value) (λ bytes. W.contents writer ≡ Some (bytes ++ log.output.written)) },
 }
 
 impl<W: Write> FromWrite<W> {

@@ -59,5 +59,4 @@ pub record IsSoundWithStdin {I : Type 0} (state_of : I → InputState) (first st
   pub untaken : is_untaken first ≡ true
   pub place : IsPlaceOf first stdin (results_of openings (codes "-"))
   pub given : (k : ℕ) → GivesStdin (closable_state state_of (given_input first)) k (result_at openings (codes "-") k)
-  -- the other names were opened in the source
-  pub files : other_openings openings ≡ other_openings of_source
+  pub files : other_openings openings ≡ other_openings of_source  -- the other names were opened in the source

@@ -5,10 +5,6 @@ use Rattle.sum_engine.specs.check.Judge.{Verdict, Ignored, Bad, Right, Wrong, Mi
 use Rattle.sum_engine.specs.check.Rules.{CheckRules}
 pub use Rattle.sum_engine.specs.declared.check.counts.Counts.{Counts}
 
--- the counts of no lines
-abbrev pub no_counts : Counts
-no_counts = record { right = 0; wrong = 0; missing = 0; unread = 0; bad = 0 }
-
 -- the counts and one more line, which has this verdict
 abbrev pub counts_and_line : Counts → Verdict → Counts
 counts_and_line counts Ignored = counts
@@ -20,7 +16,7 @@ counts_and_line counts (Unread fault) = record counts { unread = counts.unread +
 
 -- the number of lines with each verdict
 abbrev pub counts_of : List LineVerdictValue → Counts
-counts_of [] = no_counts
+counts_of [] = record { right = 0; wrong = 0; missing = 0; unread = 0; bad = 0 }
 counts_of (x ∷ xs) = counts_and_line (counts_of xs) x.verdict
 
 -- the sums of two counts

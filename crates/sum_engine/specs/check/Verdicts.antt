@@ -13,7 +13,7 @@ use Rattle.sum_sources.specs.declared.line_reader.{LineReader.LineReader, LineSt
 use Rattle.sum_sources.specs.declared.line_reader.{LineStop.TheVariants.Memory, Next.Next, Next.TheVariants.NoMore}
 use Rattle.sum_engine.specs.Behavior.{World}
 use Rattle.sum_engine.specs.Execution.{Agrees, world_at, ReadsToEndIf, AsksNames, RefusesMemory}
-use Rattle.sum_engine.specs.check.{Counts.Counts, Counts.no_counts, Counts.counts_and_line, Judge.LineVerdict}
+use Rattle.sum_engine.specs.check.{Counts.Counts, Counts.counts_of, Counts.counts_and_line, Judge.LineVerdict}
 use Rattle.sum_engine.specs.check.Judge.{LineVerdictValue, line_verdict_value, is_unread, asks_of, line_verdict}
 use Rattle.sum_engine.specs.check.{Judge.verdicts, Rules.CheckRules}
 
@@ -30,7 +30,7 @@ pub record IsAtStart {I : Type 0} (state_of : I → InputState) (verdicts : Verd
   pub reader : verdicts.reader ≡ record { input = input; ahead = []; taken = 0; lines = 0; final_answer = None }
   pub reading : (state_of input).reads.phase ≡ Unfinished → IsReading state_of verdicts.reader
   pub form : verdicts.form ≡ Undecided
-  pub counts : verdicts.counts ≡ no_counts
+  pub counts : verdicts.counts ≡ counts_of []
   pub outcome : verdicts.outcome ≡ None
 
 -- ---- the states of a check
@@ -53,7 +53,7 @@ initial_state content world = record {
   consumed = 0;
   taken = 0;
   form = Undecided;
-  counts = no_counts;
+  counts = counts_of [];
   world = world;
 }
 

@@ -17,10 +17,7 @@ impl Model for SinkCalls {
 
     ghost Value = { SinkState };
 
-    ghost view = { λ _. record {
-      output = record { offered = []; written = []; failures = 0 };
-      flushed = true;
-    } };
+    ghost view = { λ _. record { output = record { offered = []; written = []; failures = 0 }; flushed = true } };
 }
 
 /// A piece was offered, and these bytes of it were written.

@@ -29,8 +29,7 @@ impl<I: Input> Model for Stdin<I> {
 
     ghost view = { λ s. (s.taken, s.input) };
 
-    ghost invariant = { λ s. GivesUnread I.state (s.taken, s.input)
-        × (s.input ≡ None → IsTrue s.taken) };
+    ghost invariant = { λ s. GivesUnread I.state (s.taken, s.input) × (s.input ≡ None → IsTrue s.taken) };
 }
 
 /// What [`Stdin::take`] gives: the input of standard input the first time, and an empty one afterwards. It can't be

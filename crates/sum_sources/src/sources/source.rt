@@ -30,8 +30,7 @@ pub trait Source {
     /// memory was refused; the name then doesn't count as opened.
     fn open_file(&mut self, name: &[u8]) -> Result<Self::File, OpenFault>
         ensures state { state self.new ≡ state_after_opening (state self.old) name.now result }
-        ensures file { IfOk result (λ file. Self.File.state file
-            ≡ opened_file tells (state self.old) name.now) };
+        ensures file { IfOk result (λ file. Self.File.state file ≡ opened_file tells (state self.old) name.now) };
 
     /// Closes a file that this source opened, and keeps what was read of it.
     fn close_file(&mut self, file: Self::File)

@@ -30,10 +30,8 @@ impl<R: Read> Model for FromRead<R> {
 
     // What the reader was known at first to give is what the log has, followed by what remains. At its end, it is what
     // the log has.
-    ghost invariant = { λ s.
-        Consumes (R.remaining s.first.value) (R.remaining s.reader) s.log.reads.bytes
-        × (s.log.reads.phase ≡ Ended Whole
-        → IfSome (R.remaining s.first.value) (λ all. all ≡ s.log.reads.bytes)) };
+    ghost invariant = { λ s. Consumes (R.remaining s.first.value) (R.remaining s.reader) s.log.reads.bytes
+        × (s.log.reads.phase ≡ Ended Whole → IfSome (R.remaining s.first.value) (λ all. all ≡ s.log.reads.bytes)) };
 }
 
 impl<R: Read> FromRead<R> {

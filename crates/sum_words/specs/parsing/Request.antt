@@ -5,7 +5,7 @@ use Rattle.std.specs.{Char.is_ascii_digit, List.last_or, List.list_all, List.lis
 use Rattle.std.specs.{Result.result_ok, Result.result_err, Option.ok_or, Option.option_or, Option.option_and_then}
 use Rattle.digest_kinds.specs.{Bytes.ByteString, Kind.KindValue, Kind.full_kind, Kind.blake2b_of_bits}
 use Rattle.digest_kinds.specs.declared.algo.Algos.{Algos, TheVariants.One, TheVariants.Any}
-use Rattle.sum_settings.specs.declared.{style.Mode.Mode, settings.Report.Report}
+use Rattle.sum_settings.specs.declared.{style.Mode.Mode, style.Style.Style, settings.Report.Report}
 use Rattle.sum_words.specs.declared.{tool.Tool.Tool, parsing.options.Flag.Flag, parsing.request.Request.Request}
 use Rattle.sum_words.specs.declared.parsing.request.Request.TheVariants.{Generate, Check, Help, Version}
 use Rattle.sum_words.specs.{Tool.algos_of, parsing.Options.full_name}
@@ -75,16 +75,12 @@ report_of given = if is_last flags.Status report_flags given then reports.Status
 -- what options without a fault ask for: with --check (true) a check; otherwise lines, which anysum can't write
 abbrev pub request_of_options :
     Bool → Algos → Option KindValue → List Flag → List ByteString → Result Request WordFaultValue
-request_of_options true algos kind given operands = Ok (Check (record {
-  algo = algos;
-  report = report_of given;
-  strict = has flags.Strict given;
-  ignore_missing = has flags.IgnoreMissing given;
-}) operands)
-request_of_options false (One algo) kind given operands = Ok (Generate (record {
-  kind = unwrap_or kind (full_kind algo);
-  style = record { mode = mode_of given; zero = has flags.Zero given };
-}) operands)
+request_of_options true algos kind given operands =
+    let strict = has flags.Strict given in let missing = has flags.IgnoreMissing given in
+    Ok (Check (record { algo = algos; report = report_of given; strict = strict; ignore_missing = missing }) operands)
+request_of_options false (One algo) kind given operands =
+    let style : Style = record { mode = mode_of given; zero = has flags.Zero given } in
+    Ok (Generate (record { kind = unwrap_or kind (full_kind algo); style = style }) operands)
 request_of_options false Any kind given operands = Err check_needed
 
 -- what is asked by the first item that decides alone, if there is one: a fault, --help or --version
