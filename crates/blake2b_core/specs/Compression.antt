@@ -7,8 +7,7 @@ use Rattle.blake2b_core.specs.Bytes.{ByteString}
 
 -- IV, the initialization vector
 abbrev pub iv : List ℕ
-iv =
-    0x6a09e667f3bcc908 ∷ 0xbb67ae8584caa73b ∷ 0x3c6ef372fe94f82b ∷ 0xa54ff53a5f1d36f1 ∷
+iv = 0x6a09e667f3bcc908 ∷ 0xbb67ae8584caa73b ∷ 0x3c6ef372fe94f82b ∷ 0xa54ff53a5f1d36f1 ∷
     0x510e527fade682d1 ∷ 0x9b05688c2b3e6c1f ∷ 0x1f83d9abfb41bd6b ∷ 0x5be0cd19137e2179 ∷ []
 
 -- SIGMA: the order in which the rounds take the words of a block
@@ -47,8 +46,7 @@ x ⋙ k = rotate_right w64 x k
 
 -- the mixing function G (3.1), which mixes the words x and y into the vector at the places a, b, c and d
 unfoldable pub mix : List ℕ → ℕ → ℕ → ℕ → ℕ → ℕ → ℕ → List ℕ
-mix vector a b c d x y =
-    let v = slice_set vector a (vector ! a ⊞ vector ! b ⊞ x) in
+mix vector a b c d x y = let v = slice_set vector a (vector ! a ⊞ vector ! b ⊞ x) in
     let v = slice_set v d ((v ! d ⊻ v ! a) ⋙ 32) in
     let v = slice_set v c (v ! c ⊞ v ! d) in
     let v = slice_set v b ((v ! b ⊻ v ! c) ⋙ 24) in

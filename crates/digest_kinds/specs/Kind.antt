@@ -27,8 +27,7 @@ digest kind message = (algo_facts kind.algo).digest kind.len message
 abbrev pub blake2b_of_bits : ℕ → Result KindValue LengthFault
 blake2b_of_bits bits = if nat_lt 512 bits then Err TooLong
     else if bits == 0 then Ok (full_kind Blake2b)
-    else if bits % 8 == 0 then Ok (blake2b_kind (bits / 8))
-    else Err NotBytes
+    else if bits % 8 == 0 then Ok (blake2b_kind (bits / 8)) else Err NotBytes
 
 -- the text that names a kind: the tag and, for a BLAKE2b digest that isn't full, its bits, as in `BLAKE2b-256`
 abbrev pub kind_text : KindValue → ByteString

@@ -4,12 +4,12 @@ use Rattle.digest_kinds.specs.{Bytes.ByteString, Kind.KindValue, Kind.digest}
 use Rattle.sum_lines.specs.Output.{OutputEvent, output_events}
 use Rattle.sum_sources.specs.{Input.clip, declared.fault.Ending.Ending}
 use Rattle.sum_sources.specs.declared.fault.Ending.TheVariants.{Whole, Broken}
-use Rattle.sum_sources.specs.{Source.AnswerValue, Source.Answers, Source.times, declared.fault.Fault.Fault}
+use Rattle.sum_sources.specs.{Source.AnswerValue, Source.times, declared.fault.Fault.Fault}
 
 -- a world, which is what the outside may be: the answer to each opening, by its name and by how many openings of that
 -- name came before. A file may change in between
 pub record World : Type 0 where
-  pub answer : Answers
+  pub answer : ByteString → ℕ → AnswerValue
   pub opened : List ByteString  -- the names that were opened before
 
 -- the answer to the next opening of a name

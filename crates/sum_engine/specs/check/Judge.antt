@@ -69,8 +69,7 @@ asks_of found = asks_by found.verdict found.name
 -- the verdicts of the lines after line n, which say this
 abbrev pub verdicts : CheckRules → World → ℕ → List ParsedLine → List LineVerdictValue
 verdicts rules world n [] = []
-verdicts rules world n (x ∷ xs) =
-    let first = line_verdict rules world (n + 1) x in
+verdicts rules world n (x ∷ xs) = let first = line_verdict rules world (n + 1) x in
     let asked = world_after world (asks_of first) in  -- the world that the later lines find
     first ∷ verdicts rules asked (n + 1) xs
 

@@ -30,7 +30,7 @@ pub record IsPlain (algos : Algos) (line : ByteString) (escaped : Bool) (kind : 
   pub some : 0 < length tail
   pub whole : line ≡ blanks ++ (mark escaped ++ (digits ++ (blank ∷ tail)))
 
--- these algorithms, which a list of lines may name, have this one among them
+-- an algorithm is among those that a list of lines may name
 abbrev pub Allows : Algos → Algo → Type 0
 Allows (One only) algo = algo ≡ only
 Allows Any algo = ⊤

@@ -94,8 +94,7 @@ early_request (item ∷ items) = early_request items
 -- what a tool's words ask for. An item may decide it alone. Otherwise a fault of the last length counts first, then one
 -- of the options in combination
 abbrev pub request : Tool → List ByteString → Result Request WordFaultValue
-request tool words = let items = items_from tool words a_word in
-    let given = filter_map option_in items in
+request tool words = let items = items_from tool words a_word in let given = filter_map option_in items in
     let kind = option_map length_kind (last_or None (filter_map value_in items)) in
     let wrong = option_or (option_and_then result_err kind) (fault_of_options given) in
     let asked = request_of_options (has flags.Check given) (algos_of tool) (option_and_then result_ok kind) given
