@@ -34,6 +34,8 @@ def entries(row, text):
 ROW = re.compile(r"(?m)^([^#\s].*)\n((?:    .*\n)*)")
 LISTED = {row: entries(row, text) for row, text in ROW.findall(text_of("tests", "border.txt"))}
 PURE = {*LISTED["pure"]}
+# The crates of the kit of which a part alone is pure.
+IN_PARTS = {name.split("::")[0] for name in PURE if "::" in name}
 # The most bytes that a call of `main` may take of the stack, without what is in C.
 STACK = 128 * 1024
 
@@ -43,10 +45,11 @@ WORDS = re.compile(r"\A(?:Rattle\.(?:\w+\.specs|std)|denote|std)\.")
 USE, ELSEWHERE = re.compile(r"\buse\s+([^\s{;]*)"), re.compile(r"\b(?:Rattle|denote|package)\b")
 
 
-def module_of_kit(name):
-    """Returns the crate of a function of the kit, or the module, if the crate has more than what is
-    used here."""
-    return re.match(r"(?:(?:core|std_alloc)::)?\w+", name)[0]
+def part_of_kit(name):
+    """Returns the crate of a function of the kit or, if a part of the crate alone is pure, the
+    module or trait at its top."""
+    crate = re.match(r"\w+", name)[0]
+    return re.match(r"\w+::\w+", name)[0] if crate in IN_PARTS else crate
 
 
 def of_kit(function):
@@ -58,9 +61,9 @@ def kit_rows():
     """Returns what the libraries call of the kit. No function in C is reached but those that are
     listed, and no thread, lock, or call through a pointer."""
     strange = {"Foreign", "Fork", "Prim", "CallV", "VtMethod"}
-    modules = {module_of_kit(name) for caller in ours().values() for name in of_kit(caller)}
+    parts = {part_of_kit(name) for caller in ours().values() for name in of_kit(caller)}
     in_c = [name for name in reached(ours()) if function(name).words & strange]
-    return {"pure": sorted(modules & PURE), "in_c": sorted(in_c)}
+    return {"pure": sorted(parts & PURE), "in_c": sorted(in_c)}
 
 
 def border_rows():
@@ -68,7 +71,7 @@ def border_rows():
     its margin; one for each function in these files, and each that runs before and after `command`,
     with all that it names; and one of who else names a function in these files."""
     touching = [
-        name for name, caller in ours().items() if {*map(module_of_kit, of_kit(caller))} - PURE
+        name for name, caller in ours().items() if {*map(part_of_kit, of_kit(caller))} - PURE
     ]
     modules = {home(name) for name in touching}
     border = {name: caller for name, caller in ours().items() if home(name) in modules}
@@ -133,7 +136,7 @@ class Border(Case):
         """The program uses those of the kit's crates that tests/border.txt lists, and no file but
         crates.txt says what a crate uses."""
         below = {name for crate in crates_of_program() for name in dependencies()[crate]}
-        kit = {name for name in PURE if "::" not in name}
+        kit = {name.split("::")[0] for name in PURE} - {"core", "std_alloc"}  # `std` has these two
         self.assertEqual(below - {*LIBRARIES}, kit | {"thiserror"})  # which is for derives
         lists = []
         for folder in ("", "crates", "crates/*"):
