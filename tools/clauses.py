@@ -2,10 +2,11 @@
 """Finds the promises that nobody misses: `tools/clauses.py [WORD ..]`, after a build.
 
 It empties each clause of a public call, and each field of a record to which such a clause leads,
-one at a time: it puts `⊤` in its place, and has all crates proved. The promise is missed if a lemma
-isn't proved any more, or a function that doesn't have to keep the promise itself. With words, only
-those are tried whose names have one of them. Results are kept in out/clauses as long as no source
-changes, so a run that was ended goes on where it stopped."""
+one at a time: it puts `⊤` in its place, and has the functions of those files proved that name the
+call; if that misses nothing, all crates. The promise is missed if a lemma isn't proved any more, or
+a function that doesn't have to keep the promise itself. With words, only those are tried whose
+names have one of them. Results are kept in out/clauses as long as no source changes, so a run that
+was ended goes on where it stopped."""
 
 import hashlib
 import os
@@ -33,17 +34,19 @@ IMPORTED = re.compile(r"(?m)^(?:ghost )?use Rattle\.std\.\S*Prelude\.\{(?:.*, )?
 # A record of statements has values as parameters, besides types. Each field is a statement.
 STATEMENT = re.compile(r"(?m)^pub record \w+ (?:[({].*: Type 0[)}] )?[({](?!.*: Type 0[)}])")
 FIELD = re.compile(r"(?m)^  pub (\w+) : (.*(?:\n      .*)*)")
-# What the kit prints of a function and of a lemma that it doesn't prove.
+# What the kit prints of a function that it proves, of one that it doesn't, and of such a lemma.
+PROVED = re.compile(r"(?m)^fn (\S+): proved")
 UNPROVED = re.compile(r"(?m)^fn (\S+): (?:not proved|no proof)")
 IN_A_LEMMA = re.compile(r"(\w+/proofs/[\w/]+\.antt):(\d+):\d+: error")
 
 
 class Case:
-    """A promise that is emptied: its name, such as `sum_lines put_line.behavior`; its file, and the
-    file's text without it; and the symbols of the functions that have to keep it."""
+    """A promise that is emptied: its name, such as `sum_lines put_line.behavior`; the call that
+    makes it, if it is a clause; its file, and the file's text without it; and the symbols of the
+    functions that have to keep it."""
 
-    def __init__(self, name, path, place, replacement, keepers):
-        self.name, self.path, self.keepers = name, path, keepers
+    def __init__(self, name, call, path, place, replacement, keepers):
+        self.name, self.call, self.path, self.keepers = name, call, path, keepers
         self.label = name.rpartition(".")[2]
         text = text_of(path)
         self.text = text[: place.start] + replacement + text[place.stop :]
@@ -89,7 +92,7 @@ def cases_of_clauses():
                 start = text.index(clause.text, sum(map(len, rows[: clause.line - 1])))
                 place = slice(start, start + len(clause.text))
                 name = f"{item.crate} {item.path}.{clause.label}"
-                yield Case(name, path, place, "{ ⊤ }", keepers_of(item))
+                yield Case(name, item.name, path, place, "{ ⊤ }", keepers_of(item))
 
 
 def cases_of_fields():
@@ -105,7 +108,7 @@ def cases_of_fields():
             for field in FIELD.finditer(block):
                 place = slice(start + field.start(2), start + field.end(2))
                 name = f"{definition.module.crate} {definition.name}.{field[1]}"
-                yield Case(name, path, place, "⊤", keepers)
+                yield Case(name, "", path, place, "⊤", keepers)
 
 
 def crates():
@@ -119,16 +122,32 @@ def crates_of_kit():
     return sorted({name for below in names.values() for name in below if name not in names})
 
 
-def check(kept, case=None):
-    """Proves all crates, without what a case empties, over what was kept of whole ones. Returns
-    what the kit says. Without a case, the work is kept if all is proved. The crates are sources of
-    a crate that has nothing else, so that nothing is built."""
+def functions_near(call, symbols):
+    """Returns those of some functions that stand in a file which names a call."""
+    found = []
+    for name in crates():
+        source = Path(TOP, "crates", name, "src")
+        for path in source.glob("**/*.rt"):
+            if re.search(rf"\b{call}(?:::<.*?>)?\(", path.read_text("utf-8")):
+                parts = [part for part in path.relative_to(source).with_suffix("").parts]
+                module = "::".join([name, *parts]).removesuffix("::lib") + "::"
+                inside = [symbol for symbol in symbols if symbol.startswith(module)]
+                found += [symbol for symbol in inside if symbol[len(module) :].count("::") < 2]
+    return found
+
+
+def check(kept, case=None, only=()):
+    """Proves these functions or, if none are named, all crates, without what a case empties, over
+    what was kept of whole ones. Returns what the kit says. Without a case, the work is kept if all
+    is proved. The crates are sources of a crate that has nothing else, so that nothing is built."""
     with tempfile.TemporaryDirectory(prefix="digests-clauses-") as folder:
         own, sources = Path(folder, "crates", "all"), Path(folder, "sources", "crates")
         os.makedirs(own / "src")
         Path(folder, "crates.txt").write_text(f"all: {' '.join(crates_of_kit())}\n", "utf-8")
         (own / "src/lib.rt").write_text("//! Nothing.\n#![tactic(auto)]\n", "utf-8")
         command = ["rt", "check", "--jobs", "1" if case else str(lanes())]
+        for symbol in only:
+            command += ["--only", symbol]
         for name in crates():
             os.makedirs(sources / name)
             copy(Path(TOP, "crates", name), ["src", "specs", "proofs"], sources / name)
@@ -170,11 +189,15 @@ def main(words):
     if words:
         cases = [case for case in cases if any(word in case.name for word in words)]
 
+    symbols = PROVED.findall((results / "whole.log").read_text("utf-8"))
+
     def missing(case):
         """Returns who misses the promise of a case, which is tried if it wasn't before."""
         log = results / re.sub(r"\W+", ".", case.name)
         if not log.exists():
-            log.write_text(check(kept, case), "utf-8")
+            near = functions_near(case.call, symbols) if case.call else []
+            said = check(kept, case, near) if near else ""
+            log.write_text(said if case.missed_by(said) else check(kept, case), "utf-8")
         return case.missed_by(log.read_text("utf-8"))
 
     unmissed = 0

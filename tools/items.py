@@ -172,7 +172,9 @@ class Item:
     @property
     def text(self):
         """Its text, as a source would have it, without imports."""
-        numbers = [n for n in self.lines if not self.in_file.rows[n - 1].startswith("    ghost use")]
+        numbers = [
+            n for n in self.lines if not self.in_file.rows[n - 1].startswith("    ghost use")
+        ]
         return "\n".join(line for number in numbers for line in self.lines_of_row(number))
 
     def lines_of_row(self, number):
