@@ -9,7 +9,7 @@ use crate::finish::finish_run;
 use crate::messages::Message;
 use crate::tool_run::run;
 use std::alloc::Allocator;
-use sum_engine::{Inputs, Outputs, Streams};
+use sum_engine::{Outputs, Streams};
 use sum_lines::Sink;
 use sum_sources::Source;
 use sum_words::{Arguments, CommandLine, NoRoom, read_command_line};
@@ -24,7 +24,7 @@ use sum_words::{Arguments, CommandLine, NoRoom, read_command_line};
 pub fn command<A: Allocator + Copy, G: Arguments, S: Source, O: Sink, E: Sink>(
     alloc: A,
     arguments: &mut G,
-    streams: &mut Streams<Inputs<S>, Outputs<O, E>>,
+    streams: &mut Streams<S, O, E>,
 ) -> u8
     requires { (G.state arguments.old).given ≡ [] }
     // The behavior of every list of arguments that agrees with what was given, in every world that agrees with what was

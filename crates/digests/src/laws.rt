@@ -4,8 +4,8 @@ ghost use Rattle.digests.specs.GenerationRuns.{IsAccepted, GenerationRun};
 ghost use Rattle.digests.specs.InMemory.{MeansInMemory, MeansProgramInMemory};
 ghost use Rattle.std.specs.Prelude.{List, [], ◌∷◌};
 
+use sum_engine::Streams;
 use sum_engine::laws::told_agree;
-use sum_engine::{Inputs, Outputs, Streams};
 use sum_lines::Sink;
 use sum_sources::Source;
 use sum_words::Arguments;
@@ -14,7 +14,7 @@ use sum_words::laws::some_list_agrees;
 /// The headline for files in memory, of any types. Suppose that `run` left these streams, and that the source tells all
 /// answers. Then the outputs got exactly the bytes, and `run` returned exactly the status, that the words mean by these
 /// answers; or it stopped, and a prefix of the run happened.
-pub fn told_performs<S: Source, O: Sink, E: Sink>(streams: &Streams<Inputs<S>, Outputs<O, E>>)
+pub fn told_performs<S: Source, O: Sink, E: Sink>(streams: &Streams<S, O, E>)
     ensures { MeansInMemory S.tells streams.now }
 {
     told_agree(&streams.inputs);
@@ -24,7 +24,7 @@ pub fn told_performs<S: Source, O: Sink, E: Sink>(streams: &Streams<Inputs<S>, O
 /// tool and the words are those of the list in memory.
 pub fn told_program_performs<G: Arguments, S: Source, O: Sink, E: Sink>(
     arguments: &G,
-    streams: &Streams<Inputs<S>, Outputs<O, E>>,
+    streams: &Streams<S, O, E>,
 )
     ensures { MeansProgramInMemory S.tells (G.state arguments.now) streams.now }
 {

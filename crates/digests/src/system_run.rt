@@ -12,16 +12,17 @@ use std::alloc::Allocator;
 use std::io::{Read, Write};
 use std::os::fd::AsFd;
 use std::rt;
+use sum_engine::Streams;
 use sum_engine::laws::told_agree;
-use sum_engine::{Inputs, Outputs, Streams};
 use sum_lines::FromWrite;
 use sum_sources::{Files, FromRead, WithStdin};
 use sum_words::SystemArguments;
 
 /// The streams over standard input, files and both outputs that the system gives.
 pub type SystemStreams<F, I, O, E> = Streams<
-    Inputs<WithStdin<FromRead<I>, Files<F>>>,
-    Outputs<FromWrite<O>, FromWrite<E>>,
+    WithStdin<FromRead<I>, Files<F>>,
+    FromWrite<O>,
+    FromWrite<E>,
 >;
 
 /// How a call of the program ended: its exit status, and the arguments and streams as they are then.

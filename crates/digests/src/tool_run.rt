@@ -10,9 +10,7 @@ ghost use Rattle.sum_words.specs.Tool.{name_of};
 
 use crate::messages::Message;
 use std::alloc::Allocator;
-use sum_engine::{
-    CheckSettings, Inputs, Outputs, Settings, Stop, Streams, check_one, generate_one,
-};
+use sum_engine::{CheckSettings, Settings, Stop, Streams, check_one, generate_one};
 use sum_lines::Sink;
 use sum_sources::Source;
 use sum_words::{Operands, Request, Tool, WordFault, Words, read_words};
@@ -27,7 +25,7 @@ pub fn run<A: Allocator + Copy, S: Source, O: Sink, E: Sink>(
     alloc: A,
     tool: Tool,
     words: &Words<A>,
-    streams: &mut Streams<Inputs<S>, Outputs<O, E>>,
+    streams: &mut Streams<S, O, E>,
 ) -> Result<u8, Stop>
     // The behavior that the words mean, in every world that agrees with what was read.
     ensures behavior { Performs (meaning tool words.now) status_of streams.old streams.new result }
@@ -48,7 +46,7 @@ fn run_request<A: Allocator + Copy, S: Source, O: Sink, E: Sink>(
     alloc: A,
     tool: Tool,
     asked: Result<Request, WordFault>,
-    streams: &mut Streams<Inputs<S>, Outputs<O, E>>,
+    streams: &mut Streams<S, O, E>,
 ) -> Result<u8, Stop>
     ensures behavior { Performs (request_behavior tool (result_value asked.entry))
         status_of streams.old
@@ -83,7 +81,7 @@ fn run_operand<A: Allocator + Copy, S: Source, O: Sink, E: Sink>(
     job: &Job,
     tool: Tool,
     name: &[u8],
-    streams: &mut Streams<Inputs<S>, Outputs<O, E>>,
+    streams: &mut Streams<S, O, E>,
 ) -> Result<bool, Stop>
     ensures behavior { Performs (λ w. operand_behavior job.now (name_of tool) w name.now)
         (λ good. good)
@@ -110,7 +108,7 @@ fn run_operands<A: Allocator + Copy, S: Source, O: Sink, E: Sink>(
     job: &Job,
     tool: Tool,
     mut operands: Operands,
-    streams: &mut Streams<Inputs<S>, Outputs<O, E>>,
+    streams: &mut Streams<S, O, E>,
 ) -> Result<u8, Stop>
     ensures behavior { Performs (λ w. operands_behavior (operand_behavior job.now (name_of tool)) w
         (names_or_dash operands.entry)) status_of

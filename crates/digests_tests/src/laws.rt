@@ -20,7 +20,7 @@ use std::io::{Read, Write};
 use std::os::fd::AsFd;
 use std::rt;
 use sum_engine::laws::told_agree;
-use sum_engine::{Inputs, Outputs, Stop, Streams};
+use sum_engine::{Outputs, Stop, Streams};
 use sum_lines::{FromWrite, Sink, ToldSink};
 use sum_sources::laws::with_stdin_tells;
 use sum_sources::{Answer, Ending, NoRoom, Source, Stdin, Told, ToldSource, WithStdin};
@@ -31,7 +31,7 @@ use sum_words::{Arguments, SystemArguments, ToldArguments, Tool, Words};
 pub fn run_on_e<A: Allocator + Copy, S: Source, O: Sink, E: Sink>(
     alloc: A,
     words: &Words<A>,
-    streams: &mut Streams<Inputs<S>, Outputs<O, E>>,
+    streams: &mut Streams<S, O, E>,
 ) -> Result<u8, Stop>
     requires words { words.now ≡ codes "e" ∷ [] }
     requires start { streams.old.inputs.openings ≡ [] }
@@ -49,7 +49,7 @@ pub fn run_on_e<A: Allocator + Copy, S: Source, O: Sink, E: Sink>(
 pub fn version<A: Allocator + Copy, S: Source, O: Sink, E: Sink>(
     alloc: A,
     words: &Words<A>,
-    streams: &mut Streams<Inputs<S>, Outputs<O, E>>,
+    streams: &mut Streams<S, O, E>,
 ) -> Result<u8, Stop>
     requires { words.now ≡ codes "--version" ∷ [] }
     ensures { result ≢ Err Memory }
@@ -61,7 +61,7 @@ pub fn version<A: Allocator + Copy, S: Source, O: Sink, E: Sink>(
 pub fn command_on_nothing<A: Allocator + Copy, G: Arguments, S: Source, O: Sink, E: Sink>(
     alloc: A,
     arguments: &mut G,
-    streams: &mut Streams<Inputs<S>, Outputs<O, E>>,
+    streams: &mut Streams<S, O, E>,
 ) -> u8
     requires new { (G.state arguments.old).given ≡ [] }
     requires told { (G.state arguments.old).told ≡ Some (codes "md5sum" ∷ []) }
@@ -80,7 +80,7 @@ pub fn command_on_nothing<A: Allocator + Copy, G: Arguments, S: Source, O: Sink,
 pub fn command_on_e<A: Allocator + Copy, G: Arguments, S: Source, O: Sink, E: Sink>(
     alloc: A,
     arguments: &mut G,
-    streams: &mut Streams<Inputs<S>, Outputs<O, E>>,
+    streams: &mut Streams<S, O, E>,
 ) -> u8
     requires new { (G.state arguments.old).given ≡ [] }
     requires told { (G.state arguments.old).told ≡ Some (codes "md5sum" ∷ codes "e" ∷ []) }
@@ -192,8 +192,9 @@ pub fn e_in_memory(alloc: Global) -> Result<(u8, ToldSink<64>), NoRoom>
     let stdin = Stdin::new(Told::new(b"", Ending::Whole, 1));
     let inputs = WithStdin::new(stdin, source);
     let mut streams: Streams<
-        Inputs<WithStdin<Told, ToldSource<Global>>>,
-        Outputs<ToldSink<64>, ToldSink<64>>,
+        WithStdin<Told, ToldSource<Global>>,
+        ToldSink<64>,
+        ToldSink<64>,
     > = Streams::new(inputs, ToldSink::new(64), ToldSink::new(64));
     let words: [&[u8]; 2] = [b"md5sum", b"e"];
     let mut arguments = ToldArguments::new(&words);

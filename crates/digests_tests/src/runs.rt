@@ -12,7 +12,7 @@ use digests::run;
 use std::alloc::{Allocator, Global};
 use std::process::Abort;
 use std::test::Fail;
-use sum_engine::{Inputs, Outputs, Stop, Streams, check_one};
+use sum_engine::{Stop, Streams, check_one};
 use sum_lines::ToldSink;
 use sum_sources::{Answer, Ending, Fault, Input, NoRoom, Stdin, Told, ToldSource, WithStdin};
 use sum_words::{Request, Tool, Words, read_words};
@@ -106,8 +106,9 @@ fn source_of<'a>(
 
 // What a run works on.
 type Stage<'a, A, const N: usize> = Streams<
-    Inputs<WithStdin<Told<'a>, ToldSource<'a, A>>>,
-    Outputs<ToldSink<N>, ToldSink<N>>,
+    WithStdin<Told<'a>, ToldSource<'a, A>>,
+    ToldSink<N>,
+    ToldSink<N>,
 >;
 
 fn stage<'a, A: Allocator + Copy, const N: usize>(

@@ -9,7 +9,7 @@ use digests::laws::told_performs;
 use digests::run;
 use std::alloc::Allocator;
 use std::process::ExitCode;
-use sum_engine::{Inputs, Outputs, Stop, Streams};
+use sum_engine::{Stop, Streams};
 use sum_lines::{FromWrite, Sink};
 use sum_sources::{Answer, Ending, PIECE, Source, ToldSource};
 use sum_words::{Tool, Words};
@@ -20,7 +20,7 @@ fn run_in_memory<A: Allocator + Copy, S: Source, O: Sink, E: Sink>(
     alloc: A,
     tool: Tool,
     words: &Words<A>,
-    streams: &mut Streams<Inputs<S>, Outputs<O, E>>,
+    streams: &mut Streams<S, O, E>,
 ) -> Result<u8, Stop>
     ensures { (answer : Answers) → TellsAll S.tells streams.old.inputs.told answer →
         let all = meaning tool words.now

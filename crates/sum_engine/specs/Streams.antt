@@ -4,7 +4,6 @@ use Rattle.digest_kinds.specs.Bytes.{ByteString}
 use Rattle.sum_lines.specs.Output.{OutputState, output_events, Gets, GetsPrefix}
 use Rattle.sum_settings.specs.declared.stop.Stop.{Stop, TheVariants.Memory, TheVariants.Write}
 use Rattle.sum_sources.specs.Source.{SourceState}
-pub use Rattle.sum_engine.specs.declared.streams.Streams.{Streams}
 
 -- both outputs
 pub record BothOutputs : Type 0 where
@@ -12,8 +11,9 @@ pub record BothOutputs : Type 0 where
   pub err : OutputState
 
 -- the state of the streams: that of the source, and both outputs
-abbrev pub StreamsState : Type 0
-StreamsState = Streams SourceState BothOutputs
+pub record StreamsState : Type 0 where
+  pub inputs : SourceState
+  pub outputs : BothOutputs
 
 -- ---- the cause of a stop
 

@@ -5,8 +5,7 @@ ghost use Rattle.sum_engine.specs.Generate.{generate_behavior};
 ghost use Rattle.sum_engine.specs.Streams.{StopHasCause};
 ghost use Rattle.sum_engine.specs.private.Generate.{fault_in};
 
-use crate::inputs::Inputs;
-use crate::streams::{Outputs, Streams};
+use crate::streams::Streams;
 use crate::tool_lines::NameFaultLine;
 use sum_lines::{DigestLine, Sink};
 use sum_settings::{Settings, Stop};
@@ -21,7 +20,7 @@ pub fn generate_one<S: Source, O: Sink, E: Sink>(
     settings: &Settings,
     tool: &str,
     name: &[u8],
-    streams: &mut Streams<Inputs<S>, Outputs<O, E>>,
+    streams: &mut Streams<S, O, E>,
 ) -> Result<bool, Stop>
     // The behavior of hashing that name, in every world that agrees with what was read.
     ensures behavior { Performs (λ w. generate_behavior settings.now tool.now w name.now)

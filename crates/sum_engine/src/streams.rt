@@ -47,15 +47,24 @@ impl<O: Sink, E: Sink> Outputs<O, E> {
 }
 
 /// What a call reads from and writes to.
-#[derive(Debug, Drop)]
-pub struct Streams<In, Out> {
-    /// What it opens and reads through: [`Inputs`].
-    pub inputs: In,
-    /// What it writes to: [`Outputs`].
-    pub outputs: Out,
+#[derive(Drop)]
+#[derive_where(Debug; S, S::File, O, E)]
+pub struct Streams<S: Source, O: Sink, E: Sink> {
+    /// What it opens and reads through.
+    pub inputs: Inputs<S>,
+    /// What it writes to.
+    pub outputs: Outputs<O, E>,
 }
 
-impl<S: Source, O: Sink, E: Sink> Streams<Inputs<S>, Outputs<O, E>> {
+impl<S: Source, O: Sink, E: Sink> Model for Streams<S, O, E> {
+    ghost use Rattle.sum_engine.specs.Streams.{StreamsState};
+
+    ghost Value = { StreamsState };
+
+    ghost view = { λ streams. record { inputs = streams.inputs; outputs = streams.outputs } };
+}
+
+impl<S: Source, O: Sink, E: Sink> Streams<S, O, E> {
     /// Creates the streams of these parts. The outputs are over sinks that are flushed, as each is before its first
     /// call.
     pub fn new(source: S, out: O, err: E) -> Self

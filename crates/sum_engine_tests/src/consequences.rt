@@ -41,8 +41,8 @@ use digest_kinds::Algos;
 use std::alloc::Allocator;
 use sum_engine::laws::{events_extend, old_verdicts, same_front, steps_join, told_agree};
 use sum_engine::{
-    CheckSettings, Checker, Inputs, LineVerdict, Outputs, Progress, Settings, Stop, Streams,
-    Verdicts, check_one, generate_one,
+    CheckSettings, Checker, Inputs, LineVerdict, Progress, Settings, Stop, Streams, Verdicts,
+    check_one, generate_one,
 };
 use sum_lines::Sink;
 use sum_sources::{Input, LineStop, Source};
@@ -60,7 +60,7 @@ pub fn hash_in_some_world<S: Source, O: Sink, E: Sink>(
     settings: &Settings,
     tool: &str,
     name: &[u8],
-    streams: &mut Streams<Inputs<S>, Outputs<O, E>>,
+    streams: &mut Streams<S, O, E>,
 ) -> Result<bool, Stop>
     ensures { (w : World) × Agrees w streams.new.inputs × PerformsSteps
         (generate_behavior settings.now tool.now (world_at w streams.old.inputs) name.now).steps
@@ -76,7 +76,7 @@ pub fn hash_in_some_world<S: Source, O: Sink, E: Sink>(
 pub fn one_step<A: Allocator, I: Input, S: Source, O: Sink, E: Sink>(
     checker: &mut Checker<I>,
     line: &mut Vec<u8, A>,
-    streams: &mut Streams<Inputs<S>, Outputs<O, E>>,
+    streams: &mut Streams<S, O, E>,
 ) -> Result<Progress, Stop>
     requires going { checker.old.outcome ≡ None }
     // A line has one verdict: its name was opened, unless the line is ignored or bad; it was counted, and reported.
@@ -101,7 +101,7 @@ pub fn one_step<A: Allocator, I: Input, S: Source, O: Sink, E: Sink>(
 pub fn two_steps<A: Allocator, I: Input, S: Source, O: Sink, E: Sink>(
     checker: &mut Checker<I>,
     line: &mut Vec<u8, A>,
-    streams: &mut Streams<Inputs<S>, Outputs<O, E>>,
+    streams: &mut Streams<S, O, E>,
 ) -> (Result<Progress, Stop>, Result<Progress, Stop>)
     ensures { IfErr result.0 (λ stop. result.1 ≡ Err stop) }
 {
@@ -115,7 +115,7 @@ pub fn check_while_written<A: Allocator + Copy, S: Source, O: Sink, E: Sink>(
     alloc: A,
     settings: CheckSettings,
     name: &[u8],
-    streams: &mut Streams<Inputs<S>, Outputs<O, E>>,
+    streams: &mut Streams<S, O, E>,
 ) -> Result<bool, Stop>
     ensures { result ≡ Err Write → (w : World) → Agrees w streams.new.inputs
         → let at = world_at w streams.old.inputs in let name = name.now in

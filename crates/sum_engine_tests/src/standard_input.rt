@@ -8,9 +8,7 @@ ghost use Rattle.sum_sources.specs.WithStdin.{is_dash};
 
 use std::alloc::Allocator;
 use sum_engine::laws::told_agree;
-use sum_engine::{
-    CheckSettings, Inputs, Outputs, Settings, Stop, Streams, check_one, generate_one,
-};
+use sum_engine::{CheckSettings, Settings, Stop, Streams, check_one, generate_one};
 use sum_lines::Sink;
 use sum_sources::laws::stdin_is_taken;
 use sum_sources::{Input, Source, WithStdin};
@@ -21,7 +19,7 @@ pub fn hash_with_stdin<'a, I: Input + Drop, S: Source, O: Sink, E: Sink>(
     settings: &Settings,
     tool: &str,
     name: &[u8],
-    streams: &'a mut Streams<Inputs<WithStdin<I, S>>, Outputs<O, E>>,
+    streams: &'a mut Streams<WithStdin<I, S>, O, E>,
 ) -> (Result<bool, Stop>, &'a WithStdin<I, S>)
     ensures dash { IsTrue (is_dash name.now)
         → OnOk result.0 (is_untaken (stdin_in result.1.now) ≡ false) }
@@ -43,7 +41,7 @@ pub fn check_once<A: Allocator + Copy, S: Source, O: Sink, E: Sink>(
     settings: CheckSettings,
     tool: &str,
     name: &[u8],
-    streams: &mut Streams<Inputs<S>, Outputs<O, E>>,
+    streams: &mut Streams<S, O, E>,
 ) -> Result<bool, Stop>
     ensures { IsTrue (is_dash name.now)
         → OnOk result (times (codes "-") (opened_names streams.new.inputs)

@@ -6,17 +6,13 @@ use digest_kinds::{Algo, Algos, Kind};
 use std::alloc::{Allocator, Global};
 use std::process::Abort;
 use sum_engine::{
-    CheckSettings, Checker, Inputs, Outputs, Progress, Settings, Stop, Streams, check_one,
-    generate_one,
+    CheckSettings, Checker, Progress, Settings, Stop, Streams, check_one, generate_one,
 };
 use sum_lines::{Mode, Style, ToldSink};
 use sum_sources::{Answer, Ending, Input, NoRoom, Source, Stdin, Told, ToldSource, WithStdin};
 
 /// Streams whose outputs are in memory.
-pub(crate) type Known<I, S> = Streams<
-    Inputs<WithStdin<I, S>>,
-    Outputs<ToldSink<1000>, ToldSink<1000>>,
->;
+pub(crate) type Known<I, S> = Streams<WithStdin<I, S>, ToldSink<1000>, ToldSink<1000>>;
 
 pub(crate) fn known<I: Input + Drop, S: Source>(input: I, source: S) -> Known<I, S>
     requires { (I.state input).reads ≡ empty_reads }

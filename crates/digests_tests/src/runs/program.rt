@@ -8,7 +8,7 @@ use std::alloc::{Allocator, Global};
 use std::io::{self, ErrorKind, Write};
 use std::process::Abort;
 use std::test::Fail;
-use sum_engine::{Inputs, Outputs, Stop, Streams};
+use sum_engine::{Outputs, Stop, Streams};
 use sum_lines::{Buffered, FromWrite, Sink, ToldSink};
 use sum_sources::{Ending, Stdin, Told, ToldSource, WithStdin};
 use sum_words::{ToldArguments, Tool};
@@ -17,7 +17,7 @@ use sum_words::{ToldArguments, Tool};
 fn status_of<A: Allocator + Copy, O: Sink, E: Sink>(
     heap: A,
     arguments: &[&[u8]],
-    streams: &mut Streams<Inputs<WithStdin<Told, ToldSource<Global>>>, Outputs<O, E>>,
+    streams: &mut Streams<WithStdin<Told, ToldSource<Global>>, O, E>,
 ) -> u8 {
     command(heap, &mut ToldArguments::new(arguments), streams)
 }

@@ -9,8 +9,7 @@ ghost use Rattle.sum_sources.specs.WithStdin.{is_dash};
 
 use crate::check::checker::Checker;
 use crate::check::progress::Progress;
-use crate::inputs::Inputs;
-use crate::streams::{Outputs, Streams};
+use crate::streams::Streams;
 use crate::tool_lines::NameFaultLine;
 use std::alloc::Allocator;
 use sum_lines::Sink;
@@ -29,7 +28,7 @@ pub fn check_one<A: Allocator + Copy, S: Source, O: Sink, E: Sink>(
     settings: CheckSettings,
     tool: &str,
     name: &[u8],
-    streams: &mut Streams<Inputs<S>, Outputs<O, E>>,
+    streams: &mut Streams<S, O, E>,
 ) -> Result<bool, Stop>
     // The behavior of checking that name, in every world that agrees with what was read.
     ensures behavior { Performs (λ w. check_behavior settings tool.now w name.now) (λ good. good)
@@ -78,7 +77,7 @@ fn shown_name(name: &[u8]) -> &[u8]
 fn run_to_end<'a, A: Allocator, I: Input, S: Source, O: Sink, E: Sink>(
     alloc: A,
     mut checker: Checker<'a, I>,
-    streams: &mut Streams<Inputs<S>, Outputs<O, E>>,
+    streams: &mut Streams<S, O, E>,
 ) -> (Result<bool, Stop>, I)
     requires start { IsAtStart I.state checker.verdicts checker.verdicts.reader.input }
     requires outcome { checker.outcome ≡ None }
@@ -95,7 +94,7 @@ fn run_to_end<'a, A: Allocator, I: Input, S: Source, O: Sink, E: Sink>(
 fn check_lines<'a, A: Allocator, I: Input, S: Source, O: Sink, E: Sink>(
     checker: &mut Checker<'a, I>,
     line: &mut Vec<u8, A>,
-    streams: &mut Streams<Inputs<S>, Outputs<O, E>>,
+    streams: &mut Streams<S, O, E>,
 ) -> Result<bool, Stop>
     requires start { IsAtStart I.state checker.old.verdicts checker.old.verdicts.reader.input }
     requires outcome { checker.old.outcome ≡ None }

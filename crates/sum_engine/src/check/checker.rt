@@ -14,7 +14,6 @@ use crate::check::report::put_report;
 use crate::check::rules::Labels;
 use crate::check::summary::put_summary;
 use crate::check::verdicts::Verdicts;
-use crate::inputs::Inputs;
 use crate::streams::{Outputs, Streams};
 use crate::tool_lines::NameFaultLine;
 use std::alloc::Allocator;
@@ -106,7 +105,7 @@ impl<'a, I: Input> Checker<'a, I> {
     pub fn step<A: Allocator, S: Source, O: Sink, E: Sink>(
         &mut self,
         line: &mut Vec<u8, A>,
-        streams: &mut Streams<Inputs<S>, Outputs<O, E>>,
+        streams: &mut Streams<S, O, E>,
     ) -> Result<Progress, Stop>
         // An outcome is returned again; the checker and the streams are unchanged.
         ensures outcome { KeepsOutcome outcome_in_step self.old.outcome self.new.outcome

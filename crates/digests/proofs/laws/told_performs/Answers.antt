@@ -4,6 +4,6 @@ use Rattle.digests.proofs.laws.told_performs.Goals as goal
 
 -- the world of the files in memory is one that agrees
 pub returns : goal.returns
-returns g c = λ tool words answer a r all did reads.
+returns g c = rw (← c.streams.view_is) (λ tool words answer a r all did reads.
     did (record { answer = answer; opened = [] })
-    (all_agree g.S.Source.tells c.args.streams.now.inputs answer c.told_agree.ensures (rw (← reads.told) at all))
+    (all_agree g.S.Source.tells c.streams.inside.inputs answer c.told_agree.ensures (rw (← reads.told) at all)))

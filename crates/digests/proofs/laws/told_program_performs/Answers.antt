@@ -15,11 +15,11 @@ command_in w (Some (tool, words)) a b status agrees (answer, between, did, faile
 
 -- that of the files and the arguments in memory is one
 pub returns : goal.returns
-returns g c = λ arguments answer a status are all did reads.
+returns g c = rw (← c.streams.view_is) (λ arguments answer a status are all did reads.
     let listed = c.some_list_agrees.ensures.1 in
     let w : World = record { answer = answer; opened = [] } in
-    let agrees = all_agree g.S.Source.tells c.args.streams.now.inputs answer c.told_agree.ensures (rw (← reads.told) at all) in
+    let agrees = all_agree g.S.Source.tells c.streams.inside.inputs answer c.told_agree.ensures (rw (← reads.told) at all) in
     elim (did arguments (rw (rw are at listed.told) at listed)) [
       | inl done ↦ inl (command_in w (command_line arguments) a _ status agrees done)
       | inr refused ↦ inr refused
-    ]
+    ])

@@ -1,4 +1,4 @@
-use Rattle.std.proofs.Common.{rules, arith, ◌≡◌, ◌⊎◌, ℕ, suc, List, [], ◌∷◌, Option, None, Some, Ok, IfSome, codes, inl, inr, true}
+use Rattle.std.proofs.Common.{rules, arith, ◌≡◌, ◌⊎◌, ℕ, suc, List, [], ◌∷◌, Option, None, Some, Ok, IfSome, codes, inl, inr, true, ap}
 use Rattle.digest_kinds.specs.Bytes.{ByteString}
 use Rattle.sum_engine.specs.{Behavior.World, Streams.StreamsState}
 use Rattle.sum_lines.specs.Sink.{SinkState}
@@ -37,7 +37,7 @@ later_empty tells w is are k = rw is at (are (codes "-") (suc k))
 -- standard input is open or closed, and a later `-` is empty in both cases
 pub returns-clause-once : goal.returns-clause-once
 returns-clause-once g c =
-    let (w, agrees, are) = c.told_agree.ensures in
+    let (w, agrees, are) = rw (ap (λ (s : StreamsState). s.inputs) c.streams.view_is) at c.told_agree.ensures in
     let told = c.command-status.new.streams.inputs.told in
     let closed : Content = record { bytes = []; ending = Broken bad_descriptor } in
     let alone : (told ≡ pairs_with_stdin None []) ⊎ (told ≡ pairs_with_stdin (Some closed) []) = search rules in

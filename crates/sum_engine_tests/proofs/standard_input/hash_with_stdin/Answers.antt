@@ -11,7 +11,8 @@ returns g c =
     let old = c.args.streams.now in
     let r = c.generate_one-result.result in
     let run = generate_behavior c.args.settings.now c.args.tool.now (world_at c.told_agree.ensures.0 old.inputs) name in
-    let did = (rw (← c.streams.view_is) at c.generate_one-result.ensures.behavior) _ c.told_agree.ensures.1 in
+    let did = (rw (← c.streams.view_is, ← c.streams-inside.view_is) at c.generate_one-result.ensures.behavior) _
+    (rw (← c.streams-inside.view_is) at c.told_agree.ensures.1) in
     let (names, more, are, asked, all) = opened run.steps run.good old _ r did in
     let sum : dashes names + dashes more ≡ (if is_dash name then 1 else 0) =
     rw (← dashes-append, ← are, (kinds run.steps).0) (grind (arith, bytes_eq-Decides)) in record {
