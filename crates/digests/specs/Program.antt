@@ -32,8 +32,7 @@ ReportsStop tool (Ok run_status) before after status = (status ≡ run_status) �
 ReportsStop tool (Err stop) before after status = (status ≡ 1) × (after ≡ record before { err = after.err })
     × (line_result : Result ⊤ ⊤) × GivesAll before.err after.err (stop_line tool stop) line_result
 
--- THE PROGRAM, for one call. Its run does what `performs` says, and returns a status or stops. A stop is reported, if
--- the call has a tool
+-- THE PROGRAM, for one call. Its run does what `performs` says. A stop is then reported, if the call has a tool
 abbrev pub CallPerforms : Option Tool → (StreamsState → StreamsState → Result ℕ Stop → Type 0)
     → StreamsState → StreamsState → ℕ → Type 0
 CallPerforms tool performs before after status = (result : Result ℕ Stop) × (between : StreamsState)

@@ -6,10 +6,9 @@ use Rattle.sum_sources.specs.{Input.clip, declared.fault.Ending.Ending}
 use Rattle.sum_sources.specs.declared.fault.Ending.TheVariants.{Whole, Broken}
 use Rattle.sum_sources.specs.{Source.AnswerValue, Source.times, declared.fault.Fault.Fault}
 
--- a world, which is what the outside may be: the answer to each opening, by its name and by how many openings of that
--- name came before. A file may change in between
+-- a world: what the outside may be. A file may change between two openings of it
 pub record World : Type 0 where
-  pub answer : ByteString → ℕ → AnswerValue
+  pub answer : ByteString → ℕ → AnswerValue  -- to each opening, by its name and how many of that name came before
   pub opened : List ByteString  -- the names that were opened before
 
 -- the answer to the next opening of a name

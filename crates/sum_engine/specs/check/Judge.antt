@@ -66,12 +66,11 @@ asks_by verdict name = name ∷ []
 abbrev pub asks_of : LineVerdictValue → List ByteString
 asks_of found = asks_by found.verdict found.name
 
--- the verdicts of the lines after line n, which say this
+-- the verdicts of the lines after line n, which say this. Each finds the world that the earlier ones leave
 abbrev pub verdicts : CheckRules → World → ℕ → List ParsedLine → List LineVerdictValue
 verdicts rules world n [] = []
 verdicts rules world n (x ∷ xs) = let first = line_verdict rules world (n + 1) x in
-    let asked = world_after world (asks_of first) in  -- the world that the later lines find
-    first ∷ verdicts rules asked (n + 1) xs
+    first ∷ verdicts rules (world_after world (asks_of first)) (n + 1) xs
 
 -- what the lines of a content say, in a list of the form of them all
 abbrev pub parsed_content : Algos → Content → List ParsedLine
