@@ -2,23 +2,15 @@
 the next file. A run that is killed leaves every line that it had completed. In one file, both
 outputs are in the order of the run."""
 
+import errno
 import mmap
 import os
 import signal
 import subprocess
 
 import harness
-from harness import (
-    MD5_OF_NOTHING,
-    MD5_OF_ABC,
-    WRITE_ERROR,
-    X_MISSING,
-    Case,
-    as_bytes,
-    bad,
-    unread,
-    wrong,
-)
+from harness import MD5_OF_NOTHING, MD5_OF_ABC, WRITE_ERROR, X_MISSING, Case, as_bytes
+from texts import bad, cannot_read, failed, improper, ok, unread, unreadable, wrong
 
 
 class FirstLines(Case):
@@ -43,7 +35,7 @@ class FirstLines(Case):
                 f"{MD5_OF_ABC}  a\0",
                 f"{MD5_OF_ABC}  p\0{MD5_OF_NOTHING}  e\0",
             ),
-            ("md5sum -c l", "stdout", 0, ["a: OK"], ["p: OK", "a: OK"]),
+            ("md5sum -c l", "stdout", 0, [ok("a")], [ok("p"), ok("a")]),
             ("md5sum x p", "stderr", 1, [X_MISSING], b""),
         ):
             for shows, writes in (os.pipe(), self.terminal()):
@@ -77,7 +69,7 @@ class Ended(Case):
                     self.ended_at_the_pipe(["md5sum", *["a"] * 500, "p", "e"], number),
                     [f"{MD5_OF_ABC}  a"] * 500,
                 )
-                self.same(self.ended_at_the_pipe("md5sum -c l", number), ["a: OK"] * 500)
+                self.same(self.ended_at_the_pipe("md5sum -c l", number), [ok("a")] * 500)
 
     def test_at_any_moment(self):
         """A run that is ended while it writes leaves whole lines, and at most one that is cut at
@@ -116,7 +108,7 @@ class OneFile(Case):
             f"{MD5_OF_ABC}  a",
             X_MISSING,
             f"{MD5_OF_NOTHING}  e",
-            "md5sum: d: Is a directory",
+            cannot_read("d", errno.EISDIR),
             X_MISSING,
             f"{MD5_OF_ABC}  a",
         ]
@@ -141,14 +133,14 @@ class OneFile(Case):
             ],
         )
         lines = [
-            "a: OK",
+            ok("a"),
             X_MISSING,
-            "x: FAILED open or read",
-            "md5sum: l: 3: improperly formatted MD5 checksum line",
-            "e: FAILED",
-            "md5sum: d: Is a directory",
-            "d: FAILED open or read",
-            "e: OK",
+            unreadable("x"),
+            f"md5sum: l: {improper(3)}",
+            failed("e"),
+            cannot_read("d", errno.EISDIR),
+            unreadable("d"),
+            ok("e"),
             bad(1),
             unread(2),
             wrong(1),

@@ -1,10 +1,10 @@
 """Checking: the manifests of each tool, those that can't be read, lines that are read back, and
 hostile ones."""
 
-from harness import MD5_OF_ABC, TOOLS, X_MISSING, Case, bad, unread, wrong
+from harness import MD5_OF_ABC, TOOLS, X_MISSING, Case
 from reference import NO_TEXT
+from texts import NONE_FOUND, bad, failed, improper, not_found, ok, unread, unreadable, wrong
 
-NONE_FOUND = "no properly formatted checksum lines found"
 SPECIAL = "q\\\nz"
 
 
@@ -21,10 +21,10 @@ class Manifests(Case):
                         f"{of_nothing}0  e",
                     ],
                 )
-                named = f"{tool}: l: 4: improperly formatted {tag} checksum line"
+                named = f"{tool}: l: {improper(4, tag)}"
                 self.expect(
                     [tool, "-cw", "l"],
-                    out=["a: OK", "e: OK", "a: FAILED"],
+                    out=[ok("a"), ok("e"), failed("a")],
                     err=[named, bad(1, tool), wrong(1, tool)],
                     status=1,
                 )
@@ -32,33 +32,29 @@ class Manifests(Case):
     def test_manifests_that_cannot_be_read(self):
         self.expect("md5sum -c --status x", err=[X_MISSING], status=1)
         self.expect("md5sum -c --ignore-missing x", err=[X_MISSING], status=1)
-        self.expect(
-            ["md5sum", "-c", SPECIAL],
-            err=["md5sum: q\\\\\\nz: No such file or directory"],
-            status=1,
-        )
+        self.expect(["md5sum", "-c", SPECIAL], err=[not_found("q\\\\\\nz")], status=1)
 
     def test_standard_input(self):
         self.write("l5", [f"{MD5_OF_ABC}  -"])
         self.expect(
-            "md5sum -c l5 l5", stdin="abc", out=["-: OK", "-: FAILED"], err=[wrong(1)], status=1
+            "md5sum -c l5 l5", stdin="abc", out=[ok("-"), failed("-")], err=[wrong(1)], status=1
         )
         self.expect(
             "md5sum -c - -",
             stdin=[f"{MD5_OF_ABC}  a"],
-            out=["a: OK"],
+            out=[ok("a")],
             err=[f"md5sum: standard input: {NONE_FOUND}"],
             status=1,
         )
         self.expect(
             "md5sum -cw - a",
             stdin=["junk", f"{MD5_OF_ABC}  a"],
-            out=["a: OK"],
+            out=[ok("a")],
             status=1,
             err=[
-                "md5sum: standard input: 1: improperly formatted MD5 checksum line",
+                f"md5sum: standard input: {improper(1)}",
                 bad(1),
-                "md5sum: a: 1: improperly formatted MD5 checksum line",
+                f"md5sum: a: {improper(1)}",
                 f"md5sum: a: {NONE_FOUND}",
             ],
         )
@@ -66,45 +62,24 @@ class Manifests(Case):
 
 class Lines(Case):
     def test_written_lines_are_read_back(self):
-        names = [
-            "a",
-            SPECIAL,
-            "a\rb",
-            "\\",
-            " ",
-            "*",
-            "a)",
-            "x = y",
-            "#",
-            "\r",
-            "end\r",
-            "tab\t",
-            "é",
-        ]
+        names = {
+            SPECIAL: "\\q\\\\\\nz",
+            "a\rb": "\\a\\rb",
+            "\\": "\\\\\\",
+            "\r": "\\\\r",
+            "end\r": "\\end\\r",
+            **{name: name for name in ("a", " ", "*", "a)", "x = y", "#", "tab\t", "é")},
+        }
         for name in names:
             self.write(name, "abc")
-        shown = [
-            "a: OK",
-            "\\q\\\\\\nz: OK",
-            "\\a\\rb: OK",
-            "\\\\\\: OK",
-            " : OK",
-            "*: OK",
-            "a): OK",
-            "x = y: OK",
-            "#: OK",
-            "\\\\r: OK",
-            "\\end\\r: OK",
-            "tab\t: OK",
-            "é: OK",
-        ]
+        reports = [ok(shown) for shown in names.values()]
         for tool in TOOLS:
             for style in ("-t", "-b", "--tag"):
                 ran = self.run_words([tool, style, *names])
                 self.assertEqual((ran.status, ran.err), (0, b""))
-                self.expect([tool, "-c", "--strict"], stdin=ran.out, out=shown)
+                self.expect([tool, "-c", "--strict"], stdin=ran.out, out=reports)
                 if style == "--tag":
-                    self.expect("anysum -c --strict", stdin=ran.out, out=shown)
+                    self.expect("anysum -c --strict", stdin=ran.out, out=reports)
 
     def test_lines_of_zero(self):
         """No line that ends with NUL can be read; but what stands before a newline in a name is a
@@ -120,7 +95,7 @@ class Lines(Case):
                 )
         self.write("a\nb", "abc")
         written = self.run_words(["md5sum", "-z", "a\nb"]).out
-        self.expect("md5sum -c", stdin=written, out=["a: OK"], err=[bad(1)])
+        self.expect("md5sum -c", stdin=written, out=[ok("a")], err=[bad(1)])
 
 
 class Hostile(Case):
@@ -133,7 +108,7 @@ class Hostile(Case):
                 self.expect(
                     "md5sum -c --strict",
                     stdin=["#" * size, f"{MD5_OF_ABC}  a", "", f"{MD5_OF_ABC}  a"],
-                    out=["a: OK"] * 2,
+                    out=[ok("a")] * 2,
                 )
 
     def test_names_of_any_bytes(self):
@@ -148,12 +123,7 @@ class Hostile(Case):
                 for name in (b"\x1b[31m", b"\x07\x9b", b"\xff", b"a")
             ],
         )
-        out = [
-            b"\x1b[31m: OK",
-            b"\x07\x9b: FAILED open or read",
-            b"\xff: FAILED open or read",
-            "a: OK",
-        ]
+        out = [ok(b"\x1b[31m"), unreadable(b"\x07\x9b"), unreadable(b"\xff"), ok("a")]
         err = [b"md5sum: \x07\x9b: " + NO_TEXT, b"md5sum: \xff: " + NO_TEXT, unread(2)]
         for option in ("--strict", "--ignore-missing"):
             with self.subTest(option=option):

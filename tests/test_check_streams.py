@@ -1,24 +1,15 @@
 """Checking in time and size: reports that appear while the manifest still comes, and manifests of
 many or very long lines, with a limit on the memory that they take."""
 
+import errno
 import os
 import subprocess
 
 import harness
-from harness import (
-    MD5_OF_NOTHING,
-    MD5_OF_ABC,
-    VERDICTS,
-    VERDICTS_ERR,
-    WRITE_ERROR,
-    X_MISSING,
-    Case,
-    as_bytes,
-    bad,
-    limit,
-    unread,
-    wrong,
-)
+from harness import MD5_OF_NOTHING, MD5_OF_ABC, VERDICTS, VERDICTS_ERR, WRITE_ERROR, X_MISSING, Case
+from harness import as_bytes, limit
+from texts import bad, cannot_read, failed, improper, memory_exhausted, ok, unread, unreadable
+from texts import wrong
 
 MEGA = 1000 * 1000
 
@@ -33,10 +24,10 @@ class WhileItComes(Case):
             )
             os.close(writes)
             for line, report in (
-                (f"{MD5_OF_ABC}  a", "a: OK"),
-                (f"{MD5_OF_ABC}  e", "e: FAILED"),
-                (f"{MD5_OF_NOTHING}  e", "e: OK"),
-                (f"{MD5_OF_ABC}  x", "x: FAILED open or read"),
+                (f"{MD5_OF_ABC}  a", ok("a")),
+                (f"{MD5_OF_ABC}  e", failed("e")),
+                (f"{MD5_OF_NOTHING}  e", ok("e")),
+                (f"{MD5_OF_ABC}  x", unreadable("x")),
             ):
                 started.stdin.write(as_bytes([line]))
                 self.shown(shows, [report])
@@ -50,15 +41,14 @@ class WhileItComes(Case):
         )
         for number in (1, 2, 3):
             started.stdin.write(b"junk\n")
-            named = f"md5sum: standard input: {number}: improperly formatted MD5 checksum line"
-            self.shown(started.stderr.fileno(), [named])
+            self.shown(started.stderr.fileno(), [f"md5sum: standard input: {improper(number)}"])
         self.assertIsNone(started.poll())
 
     def test_lines_longer_than_a_pipe_holds(self):
         long = "#" * 300000
         manifest = [long, f"{MD5_OF_ABC}  a", long, f"{MD5_OF_NOTHING}  a", long + "\n" + long]
         self.expect(
-            "md5sum -c", stdin=manifest, out=["a: OK", "a: FAILED"], err=[wrong(1)], status=1
+            "md5sum -c", stdin=manifest, out=[ok("a"), failed("a")], err=[wrong(1)], status=1
         )
 
 
@@ -89,9 +79,9 @@ class Sizes(Case):
             f"{MD5_OF_ABC}  x",
         )
         self.write("l", lines)
-        named = b"md5sum: l: 77778: improperly formatted MD5 checksum line\n"
-        reports = ["a: OK", "e: OK"] * 100000
-        reports[177777], reports[199999] = "a: FAILED", "x: FAILED open or read"
+        named = as_bytes([f"md5sum: l: {improper(77778)}"])
+        reports = [ok("a"), ok("e")] * 100000
+        reports[177777], reports[199999] = failed("a"), unreadable("x")
         del reports[77777]
         ran = self.run_words("md5sum -cw l", preexec_fn=limit("AS", 10 * MEGA))
         self.assertEqual((ran.status, ran.err), (1, named + VERDICTS_ERR))
@@ -103,8 +93,8 @@ class Sizes(Case):
         self.write("l", f"{MD5_OF_ABC}  a\n{MD5_OF_ABC}  ".encode() + name)
         ran = self.run_words("md5sum -c l", preexec_fn=limit("AS", 620 * MEGA))
         self.assertEqual(ran.status, 1)
-        self.same(ran.out, b"a: OK\n" + name + b": FAILED open or read\n")
-        self.same(ran.err, b"md5sum: " + name + b": File name too long\n" + as_bytes([unread(1)]))
+        self.same(ran.out, [ok("a"), unreadable(name)])
+        self.same(ran.err, [cannot_read(name, errno.ENAMETOOLONG), unread(1)])
 
     def test_long_lines_are_not_kept(self):
         """Twenty lines of five megabytes take the memory of one."""
@@ -118,10 +108,10 @@ class Sizes(Case):
         """At a line longer than the memory that is available the run ends: what came before it is
         reported. If the output is full, the run ends at what comes first, and reports that. The
         full output isn't used if memory was short before the first report."""
-        exhausted = b"md5sum: memory exhausted\n"
+        exhausted = [memory_exhausted("md5sum")]
         for before, out, message in (
             ("", b"", exhausted),
-            (f"{MD5_OF_ABC}  a\n", b"a: OK\n", WRITE_ERROR),
+            (f"{MD5_OF_ABC}  a\n", [ok("a")], WRITE_ERROR),
         ):
             with open(self.path("l"), "wb") as file:
                 file.write(as_bytes(before))

@@ -1,26 +1,17 @@
 """Closed standard streams. A closed standard input is a fault, whichever file gets its descriptor
 from the system. A closed output is a write error if there is something to write."""
 
+import errno
 import hashlib
 import os
 
 import harness
-from harness import (
-    MD5_OF_NOTHING,
-    MD5_OF_ABC,
-    TOOLS,
-    VERDICTS,
-    WRITE_ERROR,
-    X_MISSING,
-    Case,
-    Ran,
-    as_bytes,
-    as_words,
-    unread,
-)
+from harness import MD5_OF_NOTHING, MD5_OF_ABC, TOOLS, VERDICTS, WRITE_ERROR, X_MISSING, Case, Ran
+from harness import as_bytes, as_words
+from texts import UNKNOWN_TOOL, cannot_read, ok, unread, unreadable
 from tracing import Traced, needs_strace
 
-FAULT = "md5sum: -: Bad file descriptor"
+FAULT = cannot_read("-", errno.EBADF)
 
 
 def hostile_manifests():
@@ -53,7 +44,7 @@ class ClosedInput(Closing):
             with self.subTest(tool=tool):
                 self.expect_closed(
                     *(
-                        (words, [0], 1, b"", [f"{tool}: -: Bad file descriptor"])
+                        (words, [0], 1, b"", [cannot_read("-", errno.EBADF, tool)])
                         for words in (tool, [tool, "-"])
                     )
                 )
@@ -74,11 +65,11 @@ class ClosedInput(Closing):
 
     def test_as_the_manifest(self):
         """`md5sum -c <&-` can't read its manifest."""
-        fault = b"md5sum: standard input: Bad file descriptor\n"
+        fault = [cannot_read("standard input", errno.EBADF)]
         self.write("l", [f"{MD5_OF_ABC}  a"])
         self.expect_closed(
             ("md5sum -c", [0], 1, b"", fault),
-            ("md5sum -c l - l", [0], 1, ["a: OK", "a: OK"], fault),
+            ("md5sum -c l - l", [0], 1, [ok("a"), ok("a")], fault),
         )
 
     def test_listed(self):
@@ -86,9 +77,7 @@ class ClosedInput(Closing):
         digest is listed."""
         for manifest in hostile_manifests():
             self.write("l", manifest)
-            self.expect_closed(
-                ("md5sum -c l", [0], 1, ["-: FAILED open or read"], [FAULT, unread(1)])
-            )
+            self.expect_closed(("md5sum -c l", [0], 1, [unreadable("-")], [FAULT, unread(1)]))
 
 
 @needs_strace
@@ -100,7 +89,7 @@ class NothingInItsPlace(Traced):
             "-e trace=openat,open", "md5sum -c l", preexec_fn=lambda: os.close(0)
         )
         self.assertEqual(
-            ran, Ran(1, b"a: OK\n-: FAILED open or read\n", as_bytes([FAULT, unread(1)]))
+            ran, Ran(1, as_bytes([ok("a"), unreadable("-")]), as_bytes([FAULT, unread(1)]))
         )
         opened = [call.split('"')[1] for call in calls]
         own = [name for name in opened if not name.startswith(("/etc/", "/lib", "/usr/"))]
@@ -114,7 +103,7 @@ class ClosedOutputs(Closing):
                 self.expect_closed((words, [1], 1, b"", WRITE_ERROR))
         self.expect_closed(
             ("md5sum x", [1], 1, b"", [X_MISSING]),
-            ("shasum", [1], 1, b"", ["digests: unknown tool"]),
+            ("shasum", [1], 1, b"", [UNKNOWN_TOOL]),
             ("md5sum --foo", [1], *self.run_words("md5sum --foo")),
         )
 

@@ -1,24 +1,17 @@
 """What the manual pages and documents say of GNU coreutils 9.1. Most statements are tried with
 GNU's tools and with ours. If another version is installed, these tests are skipped."""
 
+import errno
 import os
 import subprocess
 
 import harness
-from harness import (
-    MD5_OF_NOTHING,
-    GNU_TOOLS,
-    MD5_OF_ABC,
-    WRITE_ERROR,
-    X_MISSING,
-    Case,
-    Ran,
-    as_bytes,
-    bad,
-    gnu,
-    unread,
-)
+from harness import MD5_OF_NOTHING, GNU_TOOLS, MD5_OF_ABC, WRITE_ERROR, X_MISSING, Case, Ran
+from harness import as_bytes, gnu
 from reference import NO_TEXT
+from texts import NONE_FOUND, ambiguous, bad, cannot_read, fault_lines, improper, memory_exhausted
+from texts import not_found, ok, unknown_letter, unknown_option, unread, unreadable
+from texts import value_not_allowed, write_error
 from tracing import needs_strace, strace
 
 VERSION = "(GNU coreutils) 9.1"  # what these tests pin
@@ -61,23 +54,19 @@ class Messages(Described):
             ("x\\y", "x\\\\y", "'x\\y'"),
         ):
             with self.subTest(name=name):
-                both = [
-                    (1, b"", [f"md5sum: {shown}: No such file or directory"])
-                    for shown in (ours, theirs)
-                ]
+                both = [(1, b"", [not_found(shown)]) for shown in (ours, theirs)]
                 self.expect_both(["md5sum", name], *both)
 
     def test_the_name_in_front(self):
         """Messages begin with the tool's name; those of GNU's tools with the name by which they
         were called."""
         os.symlink(harness.PROGRAM, self.path("md5sum"))
-        missing = "x: No such file or directory\n"
         for called, wanted in (
             (os.fsdecode(self.path("md5sum")), "md5sum"),
             (gnu("md5sum"), gnu("md5sum")),
         ):
             self.assertEqual(
-                self.run_command([called, "x"]), Ran(1, b"", f"{wanted}: {missing}".encode())
+                self.run_command([called, "x"]), Ran(1, b"", as_bytes([not_found("x", wanted)]))
             )
         # They are so under any name.
         for target, status in ((harness.PROGRAM, 1), (gnu("md5sum"), 0)):
@@ -88,9 +77,9 @@ class Messages(Described):
         """GNU's tools don't say why a list can't be read, and at their end a closed standard input
         is one more fault. A name that isn't UTF-8 is a fault only with ours. `test_reasons` has
         what both say alike."""
-        both = [(1, b"", [f"md5sum: d: {reason}"]) for reason in ("Is a directory", "read error")]
-        self.expect_both("md5sum -c d", *both)
-        closed = ["md5sum: -: Bad file descriptor", "md5sum: standard input: Bad file descriptor"]
+        ours, theirs = cannot_read("d", errno.EISDIR), "md5sum: d: read error"
+        self.expect_both("md5sum -c d", (1, b"", [ours]), (1, b"", [theirs]))
+        closed = [cannot_read("-", errno.EBADF), cannot_read("standard input", errno.EBADF)]
         self.expect_both(
             "md5sum a -",
             (1, [f"{MD5_OF_ABC}  a"], closed[:1]),
@@ -117,24 +106,20 @@ class Messages(Described):
     def test_unknown_options(self):
         """GNU's tools name those that are possible, and a value, and of a cluster the letter; ours
         the whole word if it isn't UTF-8."""
-        cut, possible = "option '--st' is ambiguous", "; possibilities: '--status' '--strict'"
+        cut, possible = ambiguous("--st"), "; possibilities: '--status' '--strict'"
         for words, ours, theirs in (
             ("-c --st a", cut, cut + possible),
-            ("-c --st=x a", cut, f"option '--st=x' is ambiguous{possible}"),
-            ("--oth=x a", "unrecognized option '--oth'", "unrecognized option '--oth=x'"),
+            ("-c --st=x a", cut, ambiguous("--st=x") + possible),
+            ("--oth=x a", unknown_option("--oth"), unknown_option("--oth=x")),
         ):
             with self.subTest(words=words):
-                more = "Try 'md5sum --help' for more information."
-                both = [(1, b"", [f"md5sum: {text}", more]) for text in (ours, theirs)]
+                both = [(1, b"", fault_lines(text)) for text in (ours, theirs)]
                 self.expect_both(f"md5sum {words}", *both)
         for word, theirs in (
-            (b"-b\xff", b"invalid option -- '\xff'"),
-            (b"--tag=\xff", b"option '--tag' doesn't allow an argument"),
+            (b"-b\xff", unknown_letter(b"\xff")),
+            (b"--tag=\xff", value_not_allowed(b"--tag")),
         ):
-            both = [
-                (1, b"", b"md5sum: %s\n%s\n" % (text, more.encode()))
-                for text in (b"unrecognized option '%s'" % word, theirs)
-            ]
+            both = [(1, b"", fault_lines(text)) for text in (unknown_option(word), theirs)]
             self.expect_both(["md5sum", word, "a"], *both)
 
     def test_lengths(self):
@@ -167,7 +152,7 @@ class Messages(Described):
         """A second `-` is an empty file; GNU's tools read on, and report a fault again."""
         folder = os.open(self.path("d"), os.O_RDONLY)
         self.addCleanup(os.close, folder)
-        message = ["md5sum: -: Is a directory"]
+        message = [cannot_read("-", errno.EISDIR)]
         self.expect_both(
             "md5sum - -",
             (1, [f"{MD5_OF_NOTHING}  -"], message),
@@ -188,7 +173,7 @@ class Messages(Described):
         self.assertEqual(ran[0][0], ran[1][0])
         if ran[0][1] != ran[1][1]:  # if that language is there
             self.assertIn("\u2018x\u2019", ran[1][1].err.decode())
-        theirs = (1, [f"{MD5_OF_ABC}  a"], ["md5sum: -b: No such file or directory"])
+        theirs = (1, [f"{MD5_OF_ABC}  a"], [not_found("-b")])
         env = {**os.environ, "POSIXLY_CORRECT": "1"}
         self.expect_both("md5sum a -b", (0, [f"{MD5_OF_ABC} *a"], b""), theirs, env=env)
         self.expect_alike("md5sum a -b", 0, [f"{MD5_OF_ABC} *a"])
@@ -206,7 +191,7 @@ class Checks(Described):
         ):
             self.write(name, "abc")
             self.write("list", self.run_words(["md5sum", name]).out)
-            both = [(0, [f"{shown}: OK"], b"") for shown in (ours, theirs)]
+            both = [(0, [ok(shown)], b"") for shown in (ours, theirs)]
             self.expect_both("md5sum -c --strict list", *both)
 
     def test_forms(self):
@@ -214,14 +199,14 @@ class Checks(Described):
         all manifests of a call."""
         self.write("one", [f"{MD5_OF_ABC} a"])
         self.write("two", [f"{MD5_OF_ABC}  a"])
-        missing = ["md5sum: ' a': No such file or directory", unread(1)]
-        theirs = (1, ["a: OK", " a: FAILED open or read"], missing)
-        self.expect_both("md5sum -c one two", (0, ["a: OK"] * 2, b""), theirs)
-        none = ["md5sum: one: no properly formatted checksum lines found"]
-        self.expect_both("md5sum -c two one", (0, ["a: OK"] * 2, b""), (1, ["a: OK"], none))
+        missing = [not_found("' a'"), unread(1)]
+        theirs = (1, [ok("a"), unreadable(" a")], missing)
+        self.expect_both("md5sum -c one two", (0, [ok("a")] * 2, b""), theirs)
+        none = [f"md5sum: one: {NONE_FOUND}"]
+        self.expect_both("md5sum -c two one", (0, [ok("a")] * 2, b""), (1, [ok("a")], none))
         for name in ("one", "two"):
             with self.subTest(name=name):
-                self.expect_alike(["md5sum", "-c", name], 0, ["a: OK"])
+                self.expect_alike(["md5sum", "-c", name], 0, [ok("a")])
 
     def test_spacing_of_tagged_lines(self):
         """One space or none after the tag, and blanks around the equals sign, are read by both
@@ -234,12 +219,12 @@ class Checks(Described):
                 f"{tag} (e) \t = \t{of_nothing}",
             ):
                 self.write("list", [line])
-                self.expect_alike([tool, "-c", "--strict", "list"], 0, ["e: OK"])
+                self.expect_alike([tool, "-c", "--strict", "list"], 0, [ok("e")])
         tag, of_nothing, _ = GNU_TOOLS["b2sum"]
-        none = ["b2sum: list: no properly formatted checksum lines found"]
+        none = [f"b2sum: list: {NONE_FOUND}"]
         for between in ("\t", "  ", "x "):
             self.write("list", [f"{tag}{between}(e) = {of_nothing}"])
-            self.expect_both("b2sum -c list", (1, b"", none), (0, ["e: OK"], b""))
+            self.expect_both("b2sum -c list", (1, b"", none), (0, [ok("e")], b""))
         for bits in ("-256 ", "-0256", "-256x"):
             with self.subTest(bits=bits):
                 self.write("list", [f"{tag}{bits} (e) = {harness.BLAKE2B_256_OF_NOTHING}"])
@@ -247,7 +232,7 @@ class Checks(Described):
         for bits in ("-0400", "-0x100", "-+256", "- 256"):  # as C reads a number
             with self.subTest(bits=bits):
                 self.write("list", [f"{tag}{bits} (e) = {harness.BLAKE2B_256_OF_NOTHING}"])
-                self.expect_both("b2sum -c list", (1, b"", none), (0, ["e: OK"], b""))
+                self.expect_both("b2sum -c list", (1, b"", none), (0, [ok("e")], b""))
 
     def test_a_byte_0(self):
         """GNU's tools take a name that isn't escaped, or a tagged line's digits, up to it; of a
@@ -256,23 +241,17 @@ class Checks(Described):
         for command in ([harness.PROGRAM, "md5sum"], [gnu("md5sum")]):
             self.write("list", self.run_command([*command, "-z", "a", "b", "e"]).out)
             self.write("b", "changed")
-            message = [
-                f"md5sum: list: {text}"
-                for text in (
-                    "1: improperly formatted MD5 checksum line",
-                    "no properly formatted checksum lines found",
-                )
-            ]
-            self.expect_both("md5sum -c -w --strict list", (1, b"", message), (0, ["a: OK"], b""))
+            message = [f"md5sum: list: {text}" for text in (improper(1), NONE_FOUND)]
+            self.expect_both("md5sum -c -w --strict list", (1, b"", message), (0, [ok("a")], b""))
         self.write("list", f"{MD5_OF_ABC}  a\0b\n{MD5_OF_NOTHING}  e\n")
-        self.expect_both("md5sum -c list", (0, ["e: OK"], [bad(1)]), (0, ["a: OK", "e: OK"], b""))
+        self.expect_both("md5sum -c list", (0, [ok("e")], [bad(1)]), (0, [ok("a"), ok("e")], b""))
         for line in (
             f"MD5 (a\0b) = {MD5_OF_ABC}",
             f"MD5 (a) = {MD5_OF_ABC}\0",
             f"\\MD5 (a) = {MD5_OF_ABC}\0more",
         ):
             self.write("list", [line])
-            self.expect_both("md5sum -c -w --strict list", (1, b"", message), (0, ["a: OK"], b""))
+            self.expect_both("md5sum -c -w --strict list", (1, b"", message), (0, [ok("a")], b""))
 
     def test_a_name_that_hides_what_follows(self):
         """If a list was written with `--zero`, a newline and `#` in a name hide all that follows,
@@ -280,20 +259,20 @@ class Checks(Described):
         self.write("a\n#", "abc")
         self.write("list", self.run_words(["md5sum", "-z", "a\n#", "e"]).out)
         self.write("e", "changed")
-        self.expect_alike("md5sum -c --strict list", 0, ["a: OK"])
+        self.expect_alike("md5sum -c --strict list", 0, [ok("a")])
 
     def test_a_line_without_memory(self):
         """GNU's tools take it for the end of the list."""
-        none = ["md5sum: list: no properly formatted checksum lines found"]
+        none = [f"md5sum: list: {NONE_FOUND}"]
         for lines, out, theirs in (
             (b"", b"", (1, b"", none)),
-            ([f"{MD5_OF_ABC}  a"], ["a: OK"], (0, ["a: OK"], b"")),
+            ([f"{MD5_OF_ABC}  a"], [ok("a")], (0, [ok("a")], b"")),
         ):
             self.write("list", lines)
             os.truncate(self.path("list"), 1 << 30)
             self.expect_both(
                 "md5sum -c --strict list",
-                (1, out, ["md5sum: memory exhausted"]),
+                (1, out, [memory_exhausted("md5sum")]),
                 theirs,
                 preexec_fn=harness.limit("AS", 200 << 20),
             )
@@ -309,18 +288,18 @@ class Checks(Described):
             f"SHA256   (a) = {harness.SHA256_OF_ABC}",
         ):
             self.write("list", [line])
-            none = ["sha256sum: list: no properly formatted checksum lines found"]
+            none = [f"sha256sum: list: {NONE_FOUND}"]
             self.expect_alike("sha256sum -c list", 1, err=none)
         self.write("list", [f"{harness.SHA256_OF_ABC} *a"])
-        self.expect_alike("sha256sum -c --strict list", 0, ["a: OK"])
+        self.expect_alike("sha256sum -c --strict list", 0, [ok("a")])
 
     def test_an_empty_name(self):
         """GNU's tools take some lines for one that lists a file, and fail."""
         for tool, (tag, of_nothing, of_abc) in GNU_TOOLS.items():
             self.write("list", [f"{tag} () = {of_nothing}", f"{of_abc}  a"])
-            missing = [f"{tool}: '': No such file or directory", unread(1, tool)]
-            theirs = (1, [": FAILED open or read", "a: OK"], missing)
-            self.expect_both([tool, "-c", "list"], (0, ["a: OK"], [bad(1, tool)]), theirs)
+            missing = [not_found("''", tool), unread(1, tool)]
+            theirs = (1, [unreadable(""), ok("a")], missing)
+            self.expect_both([tool, "-c", "list"], (0, [ok("a")], [bad(1, tool)]), theirs)
 
     def test_digits_and_a_blank(self):
         """GNU's b2sum takes them for a line with an empty name, which decides how names are
@@ -331,25 +310,21 @@ class Checks(Described):
             "ab ",
         ):
             self.write("list", [first, f"{harness.BLAKE2B_256_OF_NOTHING}  e"])
-            missing = [f"b2sum: '{name}': No such file or directory" for name in ("", " e")]
-            theirs = (
-                1,
-                [f"{name}: FAILED open or read" for name in ("", " e")],
-                [*missing, unread(2, "b2sum")],
-            )
-            self.expect_both("b2sum -c list", (0, ["e: OK"], [bad(1, "b2sum")]), theirs)
+            missing = [not_found(f"'{name}'", "b2sum") for name in ("", " e")]
+            theirs = (1, [unreadable(name) for name in ("", " e")], [*missing, unread(2, "b2sum")])
+            self.expect_both("b2sum -c list", (0, [ok("e")], [bad(1, "b2sum")]), theirs)
 
     def test_lines_that_they_do_not_write(self):
         """GNU's tools read a carriage return as it is in a name after a leading backslash."""
         self.write("q\\\rz", "abc")
-        ours = (0, ["a: OK"], [bad(1)])
+        ours = (0, [ok("a")], [bad(1)])
         for line in (f"\\{MD5_OF_ABC}  q\\\\\rz", f"\\MD5 (q\\\\\rz) = {MD5_OF_ABC}"):
             self.write("list", f"{line}\n{MD5_OF_ABC}  a\n")
-            self.expect_both("md5sum -c list", ours, (0, ["q\\\rz: OK", "a: OK"], b""))
+            self.expect_both("md5sum -c list", ours, (0, [ok("q\\\rz"), ok("a")], b""))
         written = self.run_command(["md5sum", "q\\\rz"], executable=gnu("md5sum")).out
         self.assertEqual(written, f"\\{MD5_OF_ABC}  q\\\\\\rz\n".encode())
         self.write("list", written)
-        self.expect_both("md5sum -c list", (0, ["\\q\\\\\\rz: OK"], b""), (0, ["q\\\rz: OK"], b""))
+        self.expect_both("md5sum -c list", (0, [ok("\\q\\\\\\rz")], b""), (0, [ok("q\\\rz")], b""))
 
     def test_statuses(self):
         """Status 0 means the same thing, and is returned in the same cases."""
@@ -393,7 +368,8 @@ class Checks(Described):
         self.write("list", b"".join(lines))
         theirs = self.run_command(["cksum", "-c", "list"], executable=gnu("cksum"))
         ours = self.run_words("anysum -c list")
-        self.assertEqual((ours.status, ours.out), (0, b"a: OK\n" * (len(GNU_TOOLS) + 1)))
+        wanted = as_bytes([ok("a")] * (len(GNU_TOOLS) + 1))
+        self.assertEqual((ours.status, ours.out), (0, wanted))
         self.assertEqual((theirs.status, theirs.out), (ours.status, ours.out))
 
 
@@ -401,11 +377,9 @@ class Writing(Described):
     def test_an_output_that_fails(self):
         """An output that fails ends the run here, standard error at its first line, too; GNU's
         tools still read the other files, and name the reason of some faults."""
-        full, ours = self.full(), (1, b"", WRITE_ERROR)
-        self.expect_both(
-            "md5sum a x", ours, (1, b"", [X_MISSING, "md5sum: write error"]), stdout=full
-        )
-        theirs = (1, b"", ["md5sum: write error: No space left on device"])
+        full, ours, fault = self.full(), (1, b"", WRITE_ERROR), write_error("md5sum")
+        self.expect_both("md5sum a x", ours, (1, b"", [X_MISSING, fault]), stdout=full)
+        theirs = (1, b"", [f"{fault}: {os.strerror(errno.ENOSPC)}"])
         self.expect_both("md5sum -z a", ours, theirs, stdout=full)
         self.write("list", [f"{MD5_OF_ABC}  x", f"{MD5_OF_ABC}  a"])
         for how in ({"stderr": full}, {"preexec_fn": lambda: os.close(2)}):
@@ -415,7 +389,7 @@ class Writing(Described):
                 (1, [f"{MD5_OF_ABC}  a", f"{MD5_OF_NOTHING}  e"], b""),
                 **how,
             )
-            theirs = (1, ["x: FAILED open or read", "a: OK"], b"")
+            theirs = (1, [unreadable("x"), ok("a")], b"")
             self.expect_both("md5sum -c list", (1, b"", b""), theirs, **how)
 
     def test_a_reader_that_goes_away(self):

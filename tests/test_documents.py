@@ -8,9 +8,10 @@ import believed
 import harness
 import library
 from compiled import LIBRARIES, clauses, ours, reached, symbol
-from harness import Case, Ran
+from harness import Case, Ran, as_bytes
 from rattle import Code
 from sources import TOP, files, text_of
+from texts import ok
 
 
 class Documents(Case):
@@ -128,7 +129,7 @@ class Documents(Case):
             self.skipTest("the programs that are built aren't those that CHANGELOG listed last")
         self.assertEqual(
             ran,
-            Ran(0, b"out/default/digests: OK\nout/x86-64-v3/digests: OK\n", b""),
+            Ran(0, as_bytes([ok("out/default/digests"), ok("out/x86-64-v3/digests")]), b""),
             "what is built is older than its sources, or by another kit than CHANGELOG's: "
             "run ./digests, and put the sums into CHANGELOG.md",
         )

@@ -5,8 +5,9 @@ import errno
 import hashlib
 import os
 
-from harness import MD5_OF_NOTHING, MD5_OF_ABC, Ran, as_bytes, unread
+from harness import MD5_OF_NOTHING, MD5_OF_ABC, Ran, as_bytes
 from reference import OTHER, REASONS
+from texts import ok, unread, unreadable
 from tracing import Traced, needs_strace
 
 PIECE = 8192  # the most bytes of a read
@@ -46,7 +47,7 @@ class FailedRead(Traced):
     def test_listed_file(self):
         """A listed file of which a read fails isn't OK, though its digest is right."""
         self.write("l", [self.line, f"{MD5_OF_ABC}  a", self.line])
-        reports = ["f: FAILED open or read", "a: OK", "f: OK"]
+        reports = [unreadable("f"), ok("a"), ok("f")]
         self.expect_each(
             "f", "md5sum -c l", [reports] * READS, b"md5sum: f: %s\n" + as_bytes([unread(1)])
         )
@@ -56,7 +57,7 @@ class FailedRead(Traced):
         line = as_bytes([f"{MD5_OF_ABC}  a"])
         lines = 2 * PIECE // len(line) + 1
         self.write("l", line * lines)
-        outs = [["a: OK"] * min(read * PIECE // len(line), lines) for read in range(READS)]
+        outs = [[ok("a")] * min(read * PIECE // len(line), lines) for read in range(READS)]
         self.expect_each("l", "md5sum -c l", outs, b"md5sum: l: %s\n")
         self.expect_each("l", "md5sum -c", outs, b"md5sum: standard input: %s\n", stdin="l")
 

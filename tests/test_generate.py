@@ -5,6 +5,7 @@ import os
 
 import harness
 from harness import MD5_OF_NOTHING, MD5_OF_ABC, SHA256_OF_ABC, TOOLS, X_MISSING, Case, hasher
+from texts import not_found
 
 
 class Digests(Case):
@@ -61,13 +62,8 @@ class Operands(Case):
             status=1,
         )
         self.expect("md5sum x x", err=[X_MISSING, X_MISSING], status=1)
-        self.expect(["md5sum", ""], err=["md5sum: : No such file or directory"], status=1)
-        self.expect(
-            ["md5sum", "", "a"],
-            out=[f"{MD5_OF_ABC}  a"],
-            err=["md5sum: : No such file or directory"],
-            status=1,
-        )
+        self.expect(["md5sum", ""], err=[not_found("")], status=1)
+        self.expect(["md5sum", "", "a"], out=[f"{MD5_OF_ABC}  a"], err=[not_found("")], status=1)
 
     def test_dashes_and_files_that_come_twice(self):
         self.expect(
@@ -93,7 +89,7 @@ class Operands(Case):
         self.expect(
             ["sha256sum", "--", "a", "--"], out=[f"{SHA256_OF_ABC}  a", f"{SHA256_OF_ABC}  --"]
         )
-        err = [f"md5sum: {shown}: No such file or directory" for shown in ("q\\\\\\nz", "a\\rb")]
+        err = [not_found(shown) for shown in ("q\\\\\\nz", "a\\rb")]
         self.expect(["md5sum", "q\\\nz", "a\rb"], err=err, status=1)
         self.expect(["md5sum", "-z", "q\\\nz", "a\rb"], err=err, status=1)
 
@@ -103,7 +99,7 @@ class Operands(Case):
         self.expect(
             "md5sum good bad",
             out=[f"{MD5_OF_ABC}  good"],
-            err=["md5sum: bad: No such file or directory"],
+            err=[not_found("bad")],
             status=1,
         )
 

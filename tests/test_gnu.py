@@ -7,6 +7,7 @@ import subprocess
 
 import harness
 from harness import GNU_TOOLS, Case, as_bytes, gnu
+from texts import ok
 
 STYLES = (["-t"], ["-b"], ["--tag"], ["-z"], ["-z", "-b"], ["-z", "--tag"])
 NAMES = [
@@ -70,7 +71,7 @@ class SameLines(Beside):
             self.assertEqual(ours, theirs)
             self.assertTrue(theirs.startswith(f"{tag} (large) = ".encode()))
             lines.append(theirs)
-        self.expect("anysum -c --strict", stdin=b"".join(lines), out=["large: OK"] * len(GNU_TOOLS))
+        self.expect("anysum -c --strict", stdin=b"".join(lines), out=[ok("large")] * len(GNU_TOOLS))
 
 
 class Verified(Beside):
@@ -107,17 +108,18 @@ class Verified(Beside):
         manifest = b"".join(lines for _, _, lines in self.each_manifest([["--tag"]]))
         ran = self.run_words("anysum -c --strict", stdin=manifest)
         self.assertEqual(
-            (ran.status, ran.err, ran.out.count(b": OK\n")),
+            (ran.status, ran.err, ran.out.count(ok(b"") + b"\n")),
             (0, b"", len(GNU_TOOLS) * len(self.names)),
         )
         self.names = BACKSLASH_NAMES
-        shown = ["\\back\\\\slash: OK", "\\\\\\n: OK", "\\\\\\: OK", "\\d/\\\\: OK"]
+        shown = [ok("\\back\\\\slash"), ok("\\\\\\n"), ok("\\\\\\"), ok("\\d/\\\\")]
         for tool, _, manifest in self.each_manifest():
             with self.subTest(tool=tool):
                 ours, theirs = self.checks(tool, manifest, "--strict")
                 self.assertEqual(ours, (0, as_bytes(shown), b""))
                 self.assertEqual(
-                    (theirs.status, theirs.out.count(b": OK\n"), theirs.err), (0, len(shown), b"")
+                    (theirs.status, theirs.out.count(ok(b"") + b"\n"), theirs.err),
+                    (0, len(shown), b""),
                 )
 
     def test_lengths(self):
@@ -178,7 +180,8 @@ class Verified(Beside):
             self.assertEqual((ours, ours.status), (theirs, 1))
         lines = self.run_command([gnu("md5sum"), "a", "e"]).out.splitlines(keepends=True)
         manifest = b"".join(line[:32].upper() + line[32:] for line in lines)
-        self.assertEqual(self.checks("md5sum", manifest), ((0, b"a: OK\ne: OK\n", b""),) * 2)
+        wanted = (0, as_bytes([ok("a"), ok("e")]), b"")
+        self.assertEqual(self.checks("md5sum", manifest), (wanted, wanted))
 
     def test_returns_at_line_ends_and_empty_lines(self):
         """Ours reads what an editor of another system made of a manifest; older versions of theirs
@@ -188,7 +191,7 @@ class Verified(Beside):
                 lines = self.run_command([gnu(tool), "a", "e", " lead"]).out
                 manifest = b"\r\n" + lines.replace(b"\n", b"\r\n") + b"\n\n"
                 self.expect(
-                    [tool, "-c", "--strict"], stdin=manifest, out=["a: OK", "e: OK", " lead: OK"]
+                    [tool, "-c", "--strict"], stdin=manifest, out=[ok("a"), ok("e"), ok(" lead")]
                 )
 
     def test_names_with_a_carriage_return(self):
@@ -196,8 +199,8 @@ class Verified(Beside):
         self.write("a\rb", "abc")
         for tool in GNU_TOOLS:
             theirs = self.run_command([gnu(tool), "a\rb"]).out
-            self.expect([tool, "-c", "--strict"], stdin=theirs, out=["\\a\\rb: OK"])
+            self.expect([tool, "-c", "--strict"], stdin=theirs, out=[ok("\\a\\rb")])
             ours = self.run_words([tool, "a\rb"]).out
-            self.expect([tool, "-c", "--strict"], stdin=ours, out=["\\a\\rb: OK"])
+            self.expect([tool, "-c", "--strict"], stdin=ours, out=[ok("\\a\\rb")])
             if theirs.startswith(b"\\"):
                 self.assertEqual(ours, theirs)

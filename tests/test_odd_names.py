@@ -1,19 +1,20 @@
 """Names and other words that aren't UTF-8. Such a name is reported with its own bytes, and
 everything else is done as without it."""
 
+import errno
 import os
 
 import harness
 from harness import MD5_OF_NOTHING, MD5_OF_ABC, Case, Ran
-from reference import NO_TEXT
 from reference_words import help_text
+from texts import UNKNOWN_TOOL, cannot_read, invalid_length, ok, unknown_option
 
 NAME = b"r\xe9sum\xe9.txt"
 
 
-def unread(name, tool=b"md5sum"):
-    """Returns the line about a name that can't be opened."""
-    return tool + b": " + name + b": " + NO_TEXT + b"\n"
+def unread(name, tool="md5sum"):
+    """Returns the line about a name that isn't UTF-8."""
+    return cannot_read(name, errno.EILSEQ, tool) + b"\n"
 
 
 class OddNames(Case):
@@ -36,7 +37,7 @@ class OddNames(Case):
         os.symlink(harness.PROGRAM, self.path("sha256sum"))
         ran = self.run_command(["./sha256sum", "a", NAME])
         self.assertEqual(
-            ran, Ran(1, f"{harness.SHA256_OF_ABC}  a\n".encode(), unread(NAME, b"sha256sum"))
+            ran, Ran(1, f"{harness.SHA256_OF_ABC}  a\n".encode(), unread(NAME, "sha256sum"))
         )
         name = b"\xff\\\n\r"
         self.expect(
@@ -50,7 +51,7 @@ class OddNames(Case):
         self.write("l", [f"{MD5_OF_ABC}  a"])
         for words in ([NAME, "l"], ["--", NAME, "l"], ["l", NAME]):
             with self.subTest(words=words):
-                self.expect(["md5sum", "-c", *words], out=["a: OK"], err=unread(NAME), status=1)
+                self.expect(["md5sum", "-c", *words], out=[ok("a")], err=unread(NAME), status=1)
 
     def test_other_ways(self):
         """It is read through a link, as standard input, and by a descriptor."""
@@ -90,8 +91,8 @@ class OddWords(Case):
                 ["-l", "12", word, "--"],
             ):
                 with self.subTest(words=words):
-                    self.expect_fault(["b2sum", *words], b"unrecognized option '" + shown + b"'")
-        self.expect_fault(["b2sum", "--foo", b"-\xff"], "unrecognized option '--foo'")
+                    self.expect_fault(["b2sum", *words], unknown_option(shown))
+        self.expect_fault(["b2sum", "--foo", b"-\xff"], unknown_option("--foo"))
         self.expect(["md5sum", "--help", b"-\xff"], out=help_text("md5sum"))
         self.expect(
             ["md5sum", "--", b"-\xff", "a"],
@@ -103,8 +104,8 @@ class OddWords(Case):
     def test_lengths_and_tools(self):
         for words in (["-l", b"\xff8"], ["--length", b"\xff8"], ["-b", "-l", b"\xff8", "e"]):
             with self.subTest(words=words):
-                self.expect_fault(["b2sum", *words], b"invalid length: '\xff8'")
-        self.expect_fault(["b2sum", "-l", b"-\xff", "e"], b"invalid length: '-\xff'")
+                self.expect_fault(["b2sum", *words], invalid_length(b"\xff8"))
+        self.expect_fault(["b2sum", "-l", b"-\xff", "e"], invalid_length(b"-\xff"))
         for words in (
             [b"\xff"],
             [b"-\xff"],
@@ -113,7 +114,7 @@ class OddWords(Case):
             ["shasum", b"-\xff"],
         ):
             with self.subTest(words=words):
-                self.expect(words, err=["digests: unknown tool"], status=1)
+                self.expect(words, err=[UNKNOWN_TOOL], status=1)
         os.symlink(harness.PROGRAM, self.path(b"\xff"))
         ran = self.run_command([b"./\xff", "md5sum", "a"])
         self.assertEqual(ran, Ran(0, f"{MD5_OF_ABC}  a\n".encode(), b""))

@@ -8,6 +8,7 @@ from harness import NAMES, Case
 from manual import sections_of
 from options import takes
 from reference import REASONS
+from texts import bad
 
 
 class Pages(Case):
@@ -78,7 +79,7 @@ class Said(Case):
         return [
             line
             for line in messages.decode(errors="replace").splitlines()
-            if not line.startswith("Try '") and "WARNING: 1 line is" not in line
+            if not line.startswith("Try '") and line != bad(1, tool)
         ]
 
     def test_each(self):

@@ -13,6 +13,7 @@ import subprocess
 import harness
 from harness import MD5_OF_ABC, Case, Ran, as_bytes, gnu, text_of
 from reference import NOT_FOUND, OTHER, REASONS
+from texts import ok, unread, unreadable
 from tracing import needs_strace, strace
 
 # Names under which no file can be read, and why; and what the system may say besides.
@@ -76,23 +77,19 @@ class Reasons(Case):
         """Expects this reason of a name that can't be read: as an operand, a list and a listed
         file, with the settings that could hide it. If both tools are `alike`, GNU's says the same,
         and this line at its `last`; but of a list that could be `opened` it says `read error`."""
-        reason = reason.decode()
-        fault, unread = (
-            f"md5sum: {name}: {reason}",
-            "md5sum: WARNING: 1 listed file could not be read",
-        )
+        fault = f"md5sum: {name}: {reason.decode()}"
         of_list = fault.replace("md5sum: -:", "md5sum: standard input:")
-        reports = [f"{name}: FAILED open or read", "a: OK"]
+        reports = [unreadable(name), ok("a")]
         self.write("l", [f"{MD5_OF_ABC}  {name}", f"{MD5_OF_ABC}  a"])
         for words, status, out, err in (
             (f"{name} a", 1, [f"{MD5_OF_ABC}  a"], [fault]),
             (f"-c {name}", 1, [], [of_list]),
             (f"-c --status --ignore-missing {name}", 1, [], [of_list]),
-            ("-c l", 1, reports, [fault, unread]),
+            ("-c l", 1, reports, [fault, unread(1)]),
             ("-c --status l", 1, [], [fault]),
             (
                 "-c --ignore-missing l",
-                *((0, ["a: OK"], []) if missing else (1, reports, [fault, unread])),
+                *((0, [ok("a")], []) if missing else (1, reports, [fault, unread(1)])),
             ),
         ):
             wanted = Ran(status, as_bytes(out), as_bytes(err))

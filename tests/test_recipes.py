@@ -6,9 +6,10 @@ import os
 import re
 import shutil
 
-from harness import NAMES, TOOLS, hasher
+from harness import NAMES, TOOLS, as_bytes, hasher
 from manual import sections_of
 from recipes import BOTH, GOOD, IMAGE, OF_BASH, SHELLS, Typed, line_of, recipes_of
+from texts import failed, ok, unreadable
 
 BAD = [
     b"./bad\xff",
@@ -26,12 +27,12 @@ class Recipes(Typed):
         self.replace_gpg_and_pv()
 
     def report(self, sort, verdict):
-        """Returns what a check writes of image.iso."""
+        """Returns what a check writes of image.iso, by its verdict: `ok` or `failed`."""
         name = {"check": "image.iso", "check by pv": "-"}.get(sort, "./image.iso")
         # These say only what doesn't match.
-        if sort == "check names" or verdict == "OK" and sort.startswith("check list"):
-            return b"" if verdict == "OK" else b"./image.iso\0"
-        return f"{name}: {verdict}\n".encode() * (2 if sort == "check" else 1)
+        if sort == "check names" or verdict == ok and sort.startswith("check list"):
+            return b"" if verdict == ok else b"./image.iso\0"
+        return as_bytes([verdict(name)] * (2 if sort == "check" else 1))
 
     def test_shells(self):
         """Each recipe is typed in bash, and in the others unless it says that it is for bash."""
@@ -53,7 +54,7 @@ class Recipes(Typed):
         for recipe, sort, shell in self.each_recipe():
             with self.subTest(recipe=recipe):
                 self.passes(
-                    recipe, self.report(sort, "OK") if sort.startswith("check") else b"", shell
+                    recipe, self.report(sort, ok) if sort.startswith("check") else b"", shell
                 )
                 if sort.startswith("list"):
                     self.expect_lines(
@@ -86,7 +87,7 @@ class Recipes(Typed):
         self.fails(self.recipe("not UTF-8"))
         self.restore("sed")
         for recipe, sort, shell in self.each_recipe("check list", "check list on all", "check one"):
-            self.passes(recipe, self.report(sort, "OK"), shell)
+            self.passes(recipe, self.report(sort, ok), shell)
         self.make()
         self.passes(self.recipe("list"))
         more = BAD + [b"./more\nlines", b"./more\\"]
@@ -113,13 +114,13 @@ class Recipes(Typed):
                 continue
             self.put("image.iso", IMAGE[:-1])
             ran = self.fails(recipe, shell)
-            self.assertEqual((ran.status, ran.out), (1, self.report(sort, "FAILED")), recipe)
+            self.assertEqual((ran.status, ran.out), (1, self.report(sort, failed)), recipe)
             self.put("image.iso", IMAGE)
             if sort.startswith("check list"):
                 self.put("-x", "changed")
-                self.assertEqual(self.fails(recipe, shell).out, b"./-x: FAILED\n")
+                self.assertEqual(self.fails(recipe, shell).out, as_bytes([failed("./-x")]))
                 os.remove(self.path("here/-x"))
-                self.assertEqual(self.fails(recipe, shell).out, b"./-x: FAILED open or read\n")
+                self.assertEqual(self.fails(recipe, shell).out, as_bytes([unreadable("./-x")]))
                 self.put("-x", "-x")
                 self.passes(recipe, shell=shell)
 
@@ -128,8 +129,8 @@ class Recipes(Typed):
         aren't UTF-8. A line of another form, which the tool doesn't write, makes the status 1."""
         names = [
             *(f"./{name}".encode() for name in GOOD),
-            b"./a: FAILED",
-            b"./a: FAILED open or read",
+            failed(b"./a"),
+            unreadable(b"./a"),
             b"./\xe2",
             *BAD,
         ]
@@ -138,7 +139,7 @@ class Recipes(Typed):
         for locale in ("C", "C.UTF-8"):
             ran = self.type(self.recipe("check names"), env={**self.env, "LC_ALL": locale})
             self.assertEqual((ran.status, ran.out), (1, b"".join(name + b"\0" for name in names)))
-        self.command("digests", "echo ./a: OK")
+        self.command("digests", f"echo {ok('./a')}")
         self.assertEqual(self.fails(self.recipe("check names")).out, b"")
 
     def test_a_list_of_others(self):
@@ -162,7 +163,7 @@ class Recipes(Typed):
                     self.put(name, name)
                     self.passes(recipe)
                     self.put(name, "changed")
-                    self.assertEqual(self.fails(recipe).out.decode(), f"{name}: FAILED\n")
+                    self.assertEqual(self.fails(recipe).out, as_bytes([failed(name)]))
 
     def test_a_name_within_another(self):
         """One file's check doesn't pass by another whose name holds its own as a line would."""
@@ -171,7 +172,7 @@ class Recipes(Typed):
         self.assertEqual(self.fails(self.recipe("check one")).out, b"")
         self.put("image.iso", IMAGE)
         self.passes(self.recipe("list"))
-        self.passes(self.recipe("check one"), b"./image.iso: OK\n")
+        self.passes(self.recipe("check one"), as_bytes([ok("./image.iso")]))
 
 
 class Examples(Typed):
@@ -197,10 +198,10 @@ class Examples(Typed):
                 with self.subTest(recipe=recipe):
                     if sort == "check download":
                         self.put(recipe.split()[-1], b"".join(lines))
-                        self.passes(recipe, b"image.iso: OK\n", shell)
+                        self.passes(recipe, as_bytes([ok("image.iso")]), shell)
                         os.remove(self.path(f"here/{recipe.split()[-1]}"))
                     elif sort == "check":
-                        self.passes(recipe, b"image.iso: OK\n" * len(wanted), shell)
+                        self.passes(recipe, as_bytes([ok("image.iso")] * len(wanted)), shell)
                     else:
                         self.passes(recipe, shell=shell)
                         self.expect_lines("image.sum", wanted)
@@ -213,10 +214,10 @@ class Examples(Typed):
             for recipe, sort, shell in self.each_recipe("check", "check download", page=tool):
                 for first in (b"\xef\xbb\xbf" + line, b"SHA2-256 (image.iso) = 00\n"):
                     self.put(recipe.split()[-1], first + line)
-                    self.assertEqual(self.fails(recipe, shell).out, b"image.iso: OK\n")
+                    self.assertEqual(self.fails(recipe, shell).out, as_bytes([ok("image.iso")]))
                 self.put("image.iso", IMAGE[:-1])
                 self.put(recipe.split()[-1], line)
-                self.assertEqual(self.fails(recipe, shell).out, b"image.iso: FAILED\n")
+                self.assertEqual(self.fails(recipe, shell).out, as_bytes([failed("image.iso")]))
                 self.put("image.iso", IMAGE)
 
     def test_nothing_there(self):

@@ -11,6 +11,7 @@ import harness
 import reference
 from recipes import Typed, line_of
 from sources import TOP
+from texts import failed
 
 PIECES = [
     b"a",
@@ -31,7 +32,7 @@ PIECES = [
     b"(",
     b")",
     b"=",
-    b": FAILED",
+    failed(b""),
     b"SUMS.",
     "é".encode(),
     b"\xff",

@@ -6,14 +6,16 @@ import random
 import shutil
 
 import harness
+from harness import as_bytes
 from recipes import IMAGE, Typed, line_of
+from texts import failed, ok
 
 
 class Signed(Typed):
     """There are two signers, each with keys in a directory of their own. A reader has the key of
     the first."""
 
-    OUT = b"./-x: OK\n./a b: OK\n./image.iso: OK\n"
+    OUT = as_bytes([ok("./-x"), ok("./a b"), ok("./image.iso")])
 
     def setUp(self):
         super().setUp()
@@ -82,7 +84,7 @@ class Signed(Typed):
             for recipe, _, shell in self.each_recipe("check gpg"):
                 with self.subTest(recipe=recipe):
                     self.assertEqual(
-                        b": OK" in self.fails(recipe, shell).out,
+                        ok(b"") in self.fails(recipe, shell).out,
                         row == "signed, with an improper line",
                         row,
                     )
@@ -99,7 +101,7 @@ class Signed(Typed):
             for change in ("echo >>'a b'", "rm 'a b'", "mkdir 'a b'"):
                 with self.subTest(change=change):
                     self.run_command(["sh", "-c", change], cwd=self.path("here"))
-                    self.assertIn(b"./a b: FAILED", self.fails(recipe, shell).out)
+                    self.assertIn(failed(b"./a b"), self.fails(recipe, shell).out)
             os.rmdir(self.path("here/a b"))
             self.put("a b")
 

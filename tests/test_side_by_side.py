@@ -1,6 +1,7 @@
 """Parallel runs into one file or one pipe, as when a tree is hashed with all processors: no line is
 torn."""
 
+import errno
 import hashlib
 import os
 import shutil
@@ -9,6 +10,7 @@ import tempfile
 
 import harness
 from harness import Case, as_bytes
+from texts import cannot_read, not_found, ok
 
 FILES = 12000
 
@@ -76,9 +78,7 @@ class SideBySide(Case):
         self.write("names", missing.replace(b"\n", b"\0"))
         script = 'xargs -0 -P 8 -n 1500 "$0" sha256sum <"$1" 2>"$2"'
         self.run_script(script, "said", stderr=subprocess.DEVNULL)
-        wanted = [
-            b"sha256sum: " + name + b": No such file or directory" for name in missing.splitlines()
-        ]
+        wanted = [not_found(name, "sha256sum") for name in missing.splitlines()]
         self.expect_lines(self.read("said"), wanted)
 
     def expect_together(self, runs, output, size, status, wanted, **how):
@@ -98,16 +98,16 @@ class SideBySide(Case):
         """Eight checks at a time write whole reports into one pipe, from which a slow reader takes
         a page at a time."""
         self.write("l", self.lines)
-        wanted = 8 * [line.partition(b"  ")[2] + b": OK" for line in self.lines]
+        wanted = 8 * [ok(line.partition(b"  ")[2]) for line in self.lines]
         runs = [["sha256sum", "-c", self.path("l")]] * 8
         self.expect_together(runs, "stdout", 4096, 0, wanted, folder=self.tree)
 
     def test_longest_lines_into_one_pipe(self):
         """Linux keeps a write into a pipe together up to 4,096 bytes. Each run has 40 names of
         missing files, of which it says lines of just that size."""
-        size = 4096 - len(b"md5sum: : No such file or directory\n")
+        size = 4096 - len(not_found("")) - 1
         names = [(b"./" * 2000 + b"missing%d" % run).ljust(size, b"x") for run in range(8)]
-        wanted = 40 * [b"md5sum: " + name + b": No such file or directory" for name in names]
+        wanted = 40 * [not_found(name) for name in names]
         self.expect_together(
             [["md5sum", *[name] * 40] for name in names], "stderr", 1000, 1, wanted
         )
@@ -115,12 +115,10 @@ class SideBySide(Case):
     def test_longest_lines_into_one_file(self):
         """A line of 8,192 bytes is one write, which a file that is appended to takes as a whole. A
         name of that length can't be opened, so the line says that."""
-        rest = b"md5sum: : File name too long\n"
-        names = [b"%d" % run + b"x" * (8192 - len(rest) - 1) for run in range(8)]
+        size = 8192 - len(cannot_read("", errno.ENAMETOOLONG)) - 1
+        names = [(b"%d" % run).ljust(size, b"x") for run in range(8)]
         errors = self.opened("errors", "ab")
         started = [self.start(["md5sum", *[name] * 10], stderr=errors) for name in names]
         self.assertEqual([run.wait(timeout=harness.RUN_SECONDS) for run in started], [1] * 8)
-        self.expect_lines(
-            self.read("errors"),
-            10 * [b"md5sum: " + name + b": File name too long" for name in names],
-        )
+        wanted = 10 * [cannot_read(name, errno.ENAMETOOLONG) for name in names]
+        self.expect_lines(self.read("errors"), wanted)

@@ -5,22 +5,16 @@ else."""
 import os
 
 import harness
-from harness import (
-    MD5_OF_NOTHING,
-    MD5_OF_ABC,
-    SHA256_OF_ABC,
-    X_MISSING,
-    Case,
-    Ran,
-    as_bytes,
-    as_words,
-    wrong,
-)
+from harness import MD5_OF_NOTHING, MD5_OF_ABC, SHA256_OF_ABC, X_MISSING, Case, Ran, as_bytes
+from harness import as_words
 from reference_words import help_text
+from texts import NOT_READ, UNKNOWN_TOOL, failed, fault_lines, memory_exhausted, ok, unknown_option
+from texts import version, wrong
 
 STEP = 4  # KiB, a page: no system hands out less
 MARGIN = 160  # KiB past the limit at which `--help` works
-NOT_READ = b"digests: words not read\n"
+UNREAD = Ran(1, b"", as_bytes([NOT_READ]))
+STOP = as_bytes([memory_exhausted("md5sum")])
 
 
 class SmallMemory(Case):
@@ -79,49 +73,44 @@ class SmallMemory(Case):
     def test_standard_input(self):
         """`digests sha256sum < file` gives the digest, or says that memory is short."""
         right = Ran(0, as_bytes([f"{SHA256_OF_ABC}  -"]), b"")
-        first = self.sweep(
-            "sha256sum", right, Ran(1, b"", NOT_READ), Ran(1, b"", b"sha256sum: memory exhausted\n")
-        )
+        stopped = Ran(1, b"", as_bytes([memory_exhausted("sha256sum")]))
+        first = self.sweep("sha256sum", right, UNREAD, stopped)
         many = self.limited(first, ["sha256sum", *["-t"] * 8000])
         self.assertNotEqual(many, right, "a short run needs as much memory as one of many words")
 
     def test_help_version_and_faults(self):
         """The texts need no memory besides that for the words, so they never report that it is
         exhausted."""
-        self.sweep(
-            "sha256sum --help", Ran(0, as_bytes(help_text("sha256sum")), b""), Ran(1, b"", NOT_READ)
-        )
-        self.sweep(
-            "sha256sum --version",
-            Ran(0, b"sha256sum (digests), profile 2\n", b""),
-            Ran(1, b"", NOT_READ),
-        )
-        err = ["md5sum: unrecognized option '--foo'", "Try 'md5sum --help' for more information."]
-        self.sweep("md5sum --foo", Ran(1, b"", as_bytes(err)), Ran(1, b"", NOT_READ))
-        self.sweep("shasum", Ran(1, b"", b"digests: unknown tool\n"), Ran(1, b"", NOT_READ))
+        for words, status, out, err in (
+            ("sha256sum --help", 0, help_text("sha256sum"), b""),
+            ("sha256sum --version", 0, [version("sha256sum")], b""),
+            ("md5sum --foo", 1, b"", fault_lines(unknown_option("--foo"))),
+            ("shasum", 1, b"", [UNKNOWN_TOOL]),
+        ):
+            self.sweep(words, Ran(status, as_bytes(out), as_bytes(err)), UNREAD)
 
     def test_files(self):
         """A run over files writes whole lines, and stops where memory is short."""
-        lines, stop = [f"{MD5_OF_ABC}  a", f"{MD5_OF_NOTHING}  e"], b"md5sum: memory exhausted\n"
-        missing = as_bytes([X_MISSING])
+        lines, missing = [f"{MD5_OF_ABC}  a", f"{MD5_OF_NOTHING}  e"], as_bytes([X_MISSING])
         self.sweep(
             "md5sum a x e",
             Ran(1, as_bytes(lines), missing),
-            Ran(1, b"", NOT_READ),
-            Ran(1, b"", stop),
-            Ran(1, as_bytes(lines[:1]), stop),
-            Ran(1, as_bytes(lines[:1]), missing + stop),
+            UNREAD,
+            Ran(1, b"", STOP),
+            Ran(1, as_bytes(lines[:1]), STOP),
+            Ran(1, as_bytes(lines[:1]), missing + STOP),
         )
 
     def test_checking(self):
         """A check reports whole lines, and never a wrong one."""
         self.write("l", [f"{MD5_OF_ABC}  a", f"{MD5_OF_ABC}  e"])
-        right, stop = (
-            Ran(1, b"a: OK\ne: FAILED\n", as_bytes([wrong(1)])),
-            b"md5sum: memory exhausted\n",
-        )
+        reports = [ok("a"), failed("e")]
         self.sweep(
-            "md5sum -c l", right, Ran(1, b"", NOT_READ), Ran(1, b"", stop), Ran(1, b"a: OK\n", stop)
+            "md5sum -c l",
+            Ran(1, as_bytes(reports), as_bytes([wrong(1)])),
+            UNREAD,
+            Ran(1, b"", STOP),
+            Ran(1, as_bytes(reports[:1]), STOP),
         )
 
 
@@ -130,11 +119,11 @@ class SmallStack(Case):
         for tool, (_, _, of_abc) in harness.TOOLS.items():
             self.write("l", self.run_words([tool, "--tag", "a"]).out)
             for words, out in (
-                ([tool, "a"], f"{of_abc}  a\n"),
-                ([tool, "-c", "l"], "a: OK\n"),
-                (["anysum", "-c", "l"], "a: OK\n"),
+                ([tool, "a"], f"{of_abc}  a"),
+                ([tool, "-c", "l"], ok("a")),
+                (["anysum", "-c", "l"], ok("a")),
             ):
                 with self.subTest(words=words):
                     script = 'ulimit -s 64 || exit 125; exec env -i "$0" "$@"'
                     ran = self.run_command(["sh", "-c", script, harness.PROGRAM, *words])
-                    self.assertEqual(ran, Ran(0, out.encode(), b""), words)
+                    self.assertEqual(ran, Ran(0, as_bytes([out]), b""), words)

@@ -1,22 +1,16 @@
 """Standard streams and devices: pipes, terminals, full outputs, readers that go away, limits on
 files, and very many operands."""
 
+import errno
 import os
 import pty
 import signal
 import subprocess
 
 import harness
-from harness import (
-    MD5_OF_NOTHING,
-    MD5_OF_ABC,
-    TOOLS,
-    VERDICTS,
-    VERDICTS_ERR,
-    VERDICTS_OUT,
-    X_MISSING,
-)
-from harness import WRITE_ERROR, Case, Ran, as_bytes, limit, unread
+from harness import MD5_OF_NOTHING, MD5_OF_ABC, TOOLS, VERDICTS, VERDICTS_ERR, VERDICTS_OUT
+from harness import WRITE_ERROR, X_MISSING, Case, Ran, as_bytes, limit
+from texts import cannot_read, invalid_length, ok, unknown_option, unread, unreadable, write_error
 
 
 class StandardInput(Case):
@@ -48,7 +42,7 @@ class StandardInput(Case):
 
 class BrokenInput(Case):
     def test_a_fault_after_bytes(self):
-        fault = "md5sum: -: Input/output error"
+        fault = cannot_read("-", errno.EIO)
         for content in ("", "abc", "y" * 300, "y" * 9000):
             self.expect(
                 "md5sum - a",
@@ -61,7 +55,7 @@ class BrokenInput(Case):
         self.expect(
             "md5sum -c l",
             stdin=self.broken_input("abc"),
-            out=["-: FAILED open or read", "a: OK"],
+            out=[unreadable("-"), ok("a")],
             status=1,
             err=[fault, unread(1)],
         )
@@ -78,7 +72,7 @@ class Outputs(Case):
             *(f"{tool} a" for tool in TOOLS),
         ):
             with self.subTest(words=words):
-                self.expect(words, err=[f"{words.split()[0]}: write error"], status=1, stdout=full)
+                self.expect(words, err=[write_error(words.split()[0])], status=1, stdout=full)
         self.expect("md5sum x", err=[X_MISSING], status=1, stdout=full)
 
     def test_standard_error_full(self):
@@ -116,7 +110,8 @@ class EachByteTheLast(Case):
 
     def test_generating(self):
         ran, out = self.run_limited("sha256sum", 10, "stdout")
-        self.assertEqual((ran, out), (Ran(1, b"", b"sha256sum: write error\n"), b"e3b0c44298"))
+        wanted = Ran(1, b"", as_bytes([write_error("sha256sum")]))
+        self.assertEqual((ran, out), (wanted, b"e3b0c44298"))
         whole = as_bytes([f"{MD5_OF_ABC}  a", f"{MD5_OF_NOTHING}  e"])
         for size in range(len(whole) + 1):
             with self.subTest(size=size):
@@ -136,16 +131,17 @@ class EachByteTheLast(Case):
 
     def test_checking(self):
         self.write("l", VERDICTS)
+        first = as_bytes([ok("a")])
         for size in range(len(VERDICTS_OUT) + 1):
             with self.subTest(size=size):
-                err = as_bytes([X_MISSING][: size // len("a: OK\n")]) + WRITE_ERROR
+                err = as_bytes([X_MISSING][: size // len(first)]) + WRITE_ERROR
                 wanted = Ran(1, b"", err if size < len(VERDICTS_OUT) else VERDICTS_ERR)
                 self.assertEqual(
                     self.run_limited("md5sum -c l", size, "stdout"), (wanted, VERDICTS_OUT[:size])
                 )
         for size in range(len(VERDICTS_ERR) + 1):
             with self.subTest(size=size):
-                wanted = Ran(1, VERDICTS_OUT if size > len(X_MISSING) else b"a: OK\n", b"")
+                wanted = Ran(1, VERDICTS_OUT if size > len(X_MISSING) else first, b"")
                 self.assertEqual(
                     self.run_limited("md5sum -c l", size, "stderr"), (wanted, VERDICTS_ERR[:size])
                 )
@@ -170,11 +166,11 @@ class Many(Case):
         self.expect(
             ["md5sum", name, "a"],
             out=[f"{MD5_OF_ABC}  a"],
-            err=[f"md5sum: {name}: File name too long"],
+            err=[cannot_read(name, errno.ENAMETOOLONG)],
             status=1,
         )
-        self.expect_fault(["md5sum", f"--{name[2:]}"], f"unrecognized option '--{name[2:]}'")
-        self.expect_fault(["b2sum", "-l", name], f"invalid length: '{name}'")
+        self.expect_fault(["md5sum", f"--{name[2:]}"], unknown_option(f"--{name[2:]}"))
+        self.expect_fault(["b2sum", "-l", name], invalid_length(name))
         self.expect(
             ["b2sum", "-l", "0" * 131068 + "256", "e"], out=[f"{harness.BLAKE2B_256_OF_NOTHING}  e"]
         )

@@ -1,6 +1,7 @@
 """Each line is handed to the system whole. Through a pipe that keeps every write apart, each packet
 is one line. If the system takes only a part of a write, or nothing, no byte is lost."""
 
+import errno
 import fcntl
 import os
 import select
@@ -8,19 +9,12 @@ import signal
 import subprocess
 
 import harness
-from harness import (
-    MD5_OF_ABC,
-    NAMES,
-    SHA256_OF_ABC,
-    TOOLS,
-    VERDICTS,
-    VERDICTS_ERR,
-    VERDICTS_OUT,
-    X_MISSING,
-)
-from harness import WRITE_ERROR, Case, Ran, as_bytes, as_words
+from harness import MD5_OF_ABC, NAMES, SHA256_OF_ABC, TOOLS, VERDICTS, VERDICTS_ERR, VERDICTS_OUT
+from harness import WRITE_ERROR, X_MISSING, Case, Ran, as_bytes, as_words
 from reference import line
-from reference_words import help_text
+from reference_words import help_text, meaning
+from texts import UNKNOWN_TOOL, cannot_read, fault_lines, improper, ok, unknown_option, unread
+from texts import unreadable, version
 
 SPECIAL = "q\\\nz\r"
 SET_PIPE_SIZE = 1031  # Python names it from 3.10 on
@@ -100,43 +94,32 @@ class OneWriteALine(Packets):
         for tool in NAMES:
             with self.subTest(tool=tool):
                 self.expect_packets([tool, "--help"], out=[help_text(tool)])
-                self.expect_packets([tool, "--version"], out=[f"{tool} (digests), profile 2\n"])
-        faults = [
-            (["--foo"], "unrecognized option '--foo'"),
-            (["-\n"], "invalid option -- '\\n'"),
-            (["--s"], "option '--s' is ambiguous"),
-            (["--tag=\\"], "option '--tag' doesn't allow an argument"),
-            (["-z", "-c"], "the --zero option is not supported when verifying checksums"),
-            ([b"-\xff"], b"unrecognized option '-\xff'"),
-        ]
-        for words, text in faults:
+                self.expect_packets([tool, "--version"], out=[[version(tool)]])
+        for words in (["--foo"], ["-\n"], ["--s"], ["--tag=\\"], ["-z", "-c"], [b"-\xff"]):
             with self.subTest(words=words):
-                lines = [b"md5sum: " + as_bytes(text), "Try 'md5sum --help' for more information."]
-                self.expect_packets(["md5sum", *words], err=[lines], status=1)
+                fault = meaning("md5sum", map(os.fsdecode, words), b"")
+                self.expect_packets(["md5sum", *words], err=[fault.err], status=1)
 
     def test_the_programs_own_lines(self):
         """An unknown tool and a write error are one write each."""
-        self.expect_packets("shasum", err=["digests: unknown tool\n"], status=1)
-        self.expect_packets([], err=["digests: unknown tool\n"], status=1)
+        self.expect_packets("shasum", err=[[UNKNOWN_TOOL]], status=1)
+        self.expect_packets([], err=[[UNKNOWN_TOOL]], status=1)
         self.expect_packets("md5sum a", err=[WRITE_ERROR], status=1, stdout=self.full())
 
     def test_a_fault_with_a_long_word(self):
         """The two lines of a fault are one write if both together fit into the buffer."""
         for length in (8192, 8195):
-            lines = (
-                "md5sum: unrecognized option '--{}'\nTry 'md5sum --help' for more information.\n"
-            )
-            word = "x" * (length - len(lines.format("")))
-            text = lines.format(word)
+            word = "--" + "x" * (length - len(as_bytes(fault_lines(unknown_option("--")))))
+            text = as_bytes(fault_lines(unknown_option(word)))
             packets = [text[start : start + 4096] for start in range(0, length, 4096)]
-            self.expect_packets(["md5sum", f"--{word}"], err=packets, status=1)
+            self.expect_packets(["md5sum", word], err=packets, status=1)
 
 
 class OneWriteAReport(Packets):
     def test_all_verdicts(self):
         """Every report comes whole, and all warnings together, under each setting."""
         self.write("l", VERDICTS)
-        named = b"md5sum: l: 3: improperly formatted MD5 checksum line\n"
+        named = [f"md5sum: l: {improper(3)}"]
         missing, *each = lines_of(VERDICTS_ERR)
         warnings = b"".join(each)
         out = lines_of(VERDICTS_OUT)
@@ -156,11 +139,11 @@ class OneWriteAReport(Packets):
         name = "y" * 20000
         self.write("l", [f"{MD5_OF_ABC}  a", f"{MD5_OF_ABC}  {name}", f"{MD5_OF_ABC}  a"])
         status, out, err = self.packets("md5sum -c l")
-        self.assertEqual((status, out[0], out[-1]), (1, b"a: OK\n", b"a: OK\n"))
-        self.same(b"".join(out[1:-1]), [f"{name}: FAILED open or read"])
+        self.assertEqual((status, out[0], out[-1]), (1, *[as_bytes([ok("a")])] * 2))
+        self.same(b"".join(out[1:-1]), [unreadable(name)])
         self.assertLessEqual(len(out[1:-1]), 6)
-        self.assertEqual(err[-1], b"md5sum: WARNING: 1 listed file could not be read\n")
-        self.same(b"".join(err[:-1]), [f"md5sum: {name}: File name too long"])
+        self.assertEqual(err[-1], as_bytes([unread(1)]))
+        self.same(b"".join(err[:-1]), [cannot_read(name, errno.ENAMETOOLONG)])
 
 
 class ShortWrites(Case):
@@ -201,9 +184,9 @@ class ShortWrites(Case):
                 ["md5sum", *[name, "x"] * 3],
                 "stderr",
                 1,
-                [f"md5sum: {name}: File name too long", X_MISSING] * 3,
+                [cannot_read(name, errno.ENAMETOOLONG), X_MISSING] * 3,
             ),
-            ("md5sum -c l", "stdout", 1, [f"{name}: FAILED open or read", "a: OK"] * 3),
+            ("md5sum -c l", "stdout", 1, [unreadable(name), ok("a")] * 3),
             (["md5sum", *["a"] * 1000], "stdout", 0, [f"{MD5_OF_ABC}  a"] * 1000),
         ):
             with self.subTest(words=words):

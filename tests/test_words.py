@@ -9,6 +9,8 @@ from harness import BLAKE2B_256_OF_NOTHING, MD5_OF_ABC, NAMES, TOOLS, Case, as_b
 from rattle import Code
 from reference_words import help_text, meaning
 from sources import TOP
+from texts import NO_VALUE, NO_VALUE_OF_LETTER, UNKNOWN_TOOL, ambiguous, invalid_length, not_found
+from texts import odd_length, unknown_option, value_not_allowed, version
 
 
 class ToolNames(Case):
@@ -26,7 +28,7 @@ class ToolNames(Case):
             ["md5sums", "a"],
         ):
             with self.subTest(words=words):
-                self.expect(words, err=["digests: unknown tool"], status=1)
+                self.expect(words, err=[UNKNOWN_TOOL], status=1)
 
     def test_links(self):
         for tool, (_, of_nothing, of_abc) in TOOLS.items():
@@ -41,15 +43,15 @@ class ToolNames(Case):
         for name in ("anysum", "md5sum", "other"):
             os.symlink("b2sum", self.path(name))
         for *words, status, out, err in (
-            ("./b2sum", "x", 1, b"", b"b2sum: x: No such file or directory\n"),
-            ("./b2sum", "sha1sum", 1, b"", b"b2sum: sha1sum: No such file or directory\n"),
-            ("./anysum", "--version", 0, b"anysum (digests), profile 2\n", b""),
-            ("./md5sum", "a", 0, as_bytes([f"{MD5_OF_ABC}  a"]), b""),
-            ("./other", "a", 1, b"", b"digests: unknown tool\n"),
-            ("./other", "md5sum", "a", 0, as_bytes([f"{MD5_OF_ABC}  a"]), b""),
+            ("./b2sum", "x", 1, [], [not_found("x", "b2sum")]),
+            ("./b2sum", "sha1sum", 1, [], [not_found("sha1sum", "b2sum")]),
+            ("./anysum", "--version", 0, [version("anysum")], []),
+            ("./md5sum", "a", 0, [f"{MD5_OF_ABC}  a"], []),
+            ("./other", "a", 1, [], [UNKNOWN_TOOL]),
+            ("./other", "md5sum", "a", 0, [f"{MD5_OF_ABC}  a"], []),
         ):
             with self.subTest(words=words):
-                self.assertEqual(self.run_command(words), (status, out, err))
+                self.assertEqual(self.run_command(words), (status, as_bytes(out), as_bytes(err)))
 
 
 class Texts(Case):
@@ -75,12 +77,12 @@ class Texts(Case):
             for cut in ("--h", "--help"):
                 self.expect([tool, cut], out=help_text(tool))
             for cut in ("--v", "--version"):
-                self.expect([tool, cut], out=[f"{tool} (digests), profile 2"])
+                self.expect([tool, cut], out=[version(tool)])
         self.expect("md5sum --help --version", out=help_text("md5sum"))
-        self.expect("md5sum --version --help", out=["md5sum (digests), profile 2"])
+        self.expect("md5sum --version --help", out=[version("md5sum")])
         self.expect("md5sum a -zc --tag -t --help x", out=help_text("md5sum"))
-        self.expect("b2sum -l 12 --version", out=["b2sum (digests), profile 2"])
-        self.expect_fault("b2sum -l --help x -l", "option requires an argument -- 'l'")
+        self.expect("b2sum -l 12 --version", out=[version("b2sum")])
+        self.expect_fault("b2sum -l --help x -l", NO_VALUE_OF_LETTER)
 
 
 class LongOptions(Case):
@@ -99,9 +101,9 @@ class LongOptions(Case):
             ("--a\\\n\r=x", "a\\\\\\n\\r"),
         ):
             with self.subTest(name=name):
-                self.expect_fault(["md5sum", word, "a"], f"unrecognized option '--{name}'")
-        self.expect_fault("md5sum --t=1 a", "option '--t' is ambiguous")
-        self.expect_fault("md5sum --=x a", "option '--' is ambiguous")
+                self.expect_fault(["md5sum", word, "a"], unknown_option(f"--{name}"))
+        self.expect_fault("md5sum --t=1 a", ambiguous("--t"))
+        self.expect_fault("md5sum --=x a", ambiguous("--"))
         for word, full in (
             ("--tag=", "tag"),
             ("--ta=1", "tag"),
@@ -110,9 +112,9 @@ class LongOptions(Case):
             ("--i=x", "ignore-missing"),
             ("--zero=a=b", "zero"),
         ):
-            self.expect_fault(["md5sum", word, "a"], f"option '--{full}' doesn't allow an argument")
-        self.expect_fault("b2sum e --length", "option '--length' requires an argument")
-        self.expect_fault("b2sum e -bl", "option requires an argument -- 'l'")
+            self.expect_fault(["md5sum", word, "a"], value_not_allowed(f"--{full}"))
+        self.expect_fault("b2sum e --length", NO_VALUE)
+        self.expect_fault("b2sum e -bl", NO_VALUE_OF_LETTER)
 
 
 class Lengths(Case):
@@ -122,18 +124,29 @@ class Lengths(Case):
         for value in ("520", "513", "+8", "", " 8", "8 ", "-8", "0x8", "8.0", "٨", "9" * 50, "a\n"):
             with self.subTest(value=value):
                 shown = value.replace("\n", "\\n")
-                self.expect_fault(["b2sum", "-l", value, "e"], f"invalid length: '{shown}'")
-                self.expect_fault(["b2sum", f"--length={value}", "e"], f"invalid length: '{shown}'")
+                self.expect_fault(["b2sum", "-l", value, "e"], invalid_length(shown))
+                self.expect_fault(["b2sum", f"--length={value}", "e"], invalid_length(shown))
         for value in ("12", "1", "511", "0012"):
             with self.subTest(value=value):
-                self.expect_fault(
-                    ["b2sum", "-l", value, "e"], f"length is not a multiple of 8: '{value}'"
-                )
+                self.expect_fault(["b2sum", "-l", value, "e"], odd_length(value))
         self.expect(["b2sum", "-l", "0" * 60 + "256", "e"], out=[f"{BLAKE2B_256_OF_NOTHING}  e"])
         self.expect(["b2sum", "-l", "0" * 60, "e"], out=[f"{TOOLS['b2sum'][1]}  e"])
         self.expect("b2sum -l 12 -l 256 e", out=[f"{BLAKE2B_256_OF_NOTHING}  e"])
         self.expect("b2sum -l x --length=256 e", out=[f"{BLAKE2B_256_OF_NOTHING}  e"])
-        self.expect_fault("b2sum -l 256 -l 12 e", "length is not a multiple of 8: '12'")
+        self.expect_fault("b2sum -l 256 -l 12 e", odd_length("12"))
+
+
+class Settings(Case):
+    """The faults of options that don't go together, whose texts `reference_words` has."""
+
+    def test_faults(self):
+        alone = ("ignore-missing", "quiet", "status", "strict", "warn")
+        for words in (
+            *("md5sum --tag -t a", "md5sum -c -z l", "md5sum -c --tag l", "md5sum -c -b l"),
+            *("anysum", *(f"md5sum --{name} a" for name in alone)),
+        ):
+            tool, *rest = words.split()
+            self.assertEqual(self.run_words(words), meaning(tool, rest, b""), words)
 
 
 class EachByte(Case):

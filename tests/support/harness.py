@@ -24,6 +24,7 @@ import unittest
 
 import options
 from sources import text_of
+from texts import bad, failed, fault_lines, not_found, ok, unread, unreadable, write_error, wrong
 
 # Set by run.py: the program's absolute path, the seed of the first case at random, and how many
 # cases a test tries. Without `--seed` each day has cases of its own.
@@ -94,26 +95,12 @@ def gnu(tool):
     return None
 
 
-def warning(one, many, count, tool="md5sum"):
-    """Returns the warning for this many lines of a manifest, or listed files."""
-    return f"{tool}: WARNING: {count} {one if count == 1 else many}"
-
-
-bad = functools.partial(warning, "line is improperly formatted", "lines are improperly formatted")
-unread = functools.partial(
-    warning, "listed file could not be read", "listed files could not be read"
-)
-wrong = functools.partial(
-    warning, "computed checksum did NOT match", "computed checksums did NOT match"
-)
-
-
 # "All verdicts": a manifest that comes to every verdict, and what it writes to both outputs.
 VERDICTS = [f"{MD5_OF_ABC}  a", "#c", "junk", f"{MD5_OF_ABC} *x", f"{MD5_OF_ABC}  e"]
-VERDICTS_OUT = as_bytes(["a: OK", "x: FAILED open or read", "e: FAILED"])
-X_MISSING = "md5sum: x: No such file or directory"
+VERDICTS_OUT = as_bytes([ok("a"), unreadable("x"), failed("e")])
+X_MISSING = not_found("x")
 VERDICTS_ERR = as_bytes([X_MISSING, bad(1), unread(1), wrong(1)])
-WRITE_ERROR = b"md5sum: write error\n"
+WRITE_ERROR = as_bytes([write_error("md5sum")])
 
 
 def limit(what, size):
@@ -212,9 +199,7 @@ class Case(unittest.TestCase):
 
     def expect_fault(self, words, text):
         """Expects that the words are refused with this text."""
-        tool = as_words(words)[0]
-        err = [f"{tool}: ".encode() + as_bytes(text), f"Try '{tool} --help' for more information."]
-        self.expect(words, err=err, status=1)
+        self.expect(words, err=fault_lines(text, as_words(words)[0]), status=1)
 
     def start(self, words, folder=None, **how):
         """Starts `digests` with these words in the test's folder or another one; it is ended with

@@ -11,14 +11,15 @@ import os
 import re
 
 import options
-from harness import Ran, as_bytes, bad, hasher, unread, wrong
+from harness import Ran, as_bytes, hasher
+from texts import NONE_FOUND, NONE_VERIFIED, bad, failed, improper, ok, unread, unreadable, wrong
 
 # Tool: the tag of its algorithm and the length of its full digest. `anysum` has none of its own.
 ALGORITHMS = {tool: (row.tag, (row.bits or 0) // 8) for tool, row in options.TOOLS.items()}
 SIZES = {tag: size for tag, size in ALGORITHMS.values() if tag}
 
-NOT_FOUND = b"No such file or directory"
-OTHER = b"Input/output error"
+NOT_FOUND = os.strerror(errno.ENOENT).encode()
+OTHER = os.strerror(errno.EIO).encode()
 
 # The reason of a name that isn't UTF-8.
 NO_TEXT = os.strerror(errno.EILSEQ).encode()
@@ -195,8 +196,7 @@ class Manifest:
         """Returns the verdict of a line, and reports it."""
         if found is None or self.name == found[2] == b"-":
             if self.options.report == "warn":
-                place = number, (self.tag or "tagged").encode()
-                self.err.append(self.front + b"%d: improperly formatted %s checksum line\n" % place)
+                self.err.append(self.front + as_bytes([improper(number, self.tag or "tagged")]))
             return "bad"
         tag, wanted, name = found
         answer = self.world.answer(name)
@@ -204,25 +204,25 @@ class Manifest:
             if self.options.ignore_missing and answer.in_opening and answer.text == NOT_FOUND:
                 return "missing"
             self.err.append(b"%s: %s: %s\n" % (self.tool.encode(), escape(name), answer.text))
-            verdict, text = "unread", b"FAILED open or read"
+            verdict, report = "unread", unreadable
         elif digest(tag, len(wanted), answer) == wanted:
-            verdict, text = "right", b"OK"
+            verdict, report = "right", ok
         else:
-            verdict, text = "wrong", b"FAILED"
+            verdict, report = "wrong", failed
         if self.options.report != "status" and (verdict, self.options.report) != ("right", "quiet"):
-            self.out.append(mark(name) + escape(name) + b": " + text + b"\n")
+            self.out.append(as_bytes([report(mark(name) + escape(name))]))
         return verdict
 
     def summarise(self):
         """Writes the lines at the manifest's end."""
         if all(verdict == "bad" for verdict in self.verdicts):
-            self.err.append(self.front + b"no properly formatted checksum lines found\n")
+            self.err.append(self.front + as_bytes([NONE_FOUND]))
         elif self.options.report != "status":
             for verdict, warning in (("bad", bad), ("unread", unread), ("wrong", wrong)):
                 if count := self.verdicts.count(verdict):
                     self.err.append(as_bytes([warning(count, self.tool)]))
             if self.options.ignore_missing and "right" not in self.verdicts:
-                self.err.append(self.front + b"no file was verified\n")
+                self.err.append(self.front + as_bytes([NONE_VERIFIED]))
 
     def is_good(self):
         harmful = {"wrong", "unread"} | ({"bad"} if self.options.strict else set())

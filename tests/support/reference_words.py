@@ -5,9 +5,11 @@ import collections
 import os
 import re
 
-from harness import Ran
+from harness import Ran, as_bytes
 from reference import ALGORITHMS, World, checked, escape, generated
 from sources import text_of
+from texts import NO_VALUE, NO_VALUE_OF_LETTER, ambiguous, fault_lines, invalid_length, odd_length
+from texts import unknown_letter, unknown_option, value_not_allowed, version
 
 NAMES = [
     "binary",
@@ -55,7 +57,7 @@ class Words:
         elif word == "-" or not word.startswith("-"):
             self.operands.append(word)
         elif re.search("[\udc80-\udcff]", word):
-            raise WordFault(f"unrecognized option '{shown(word)}'")
+            raise WordFault(unknown_option(shown(word)))
         elif word.startswith("--"):
             self.take_long(word[2:])
         else:
@@ -66,27 +68,23 @@ class Words:
         names = NAMES + ["length"] if self.tool == "b2sum" else NAMES
         meant = [typed] if typed in names else [name for name in names if name.startswith(typed)]
         if not meant:
-            raise WordFault(f"unrecognized option '--{shown(typed)}'")
+            raise WordFault(unknown_option(f"--{shown(typed)}"))
         if len(meant) > 1:
-            raise WordFault(f"option '--{shown(typed)}' is ambiguous")
+            raise WordFault(ambiguous(f"--{shown(typed)}"))
         if meant == ["length"]:
-            self.lengths.append(
-                value if equals else self.next_word("option '--length' requires an argument")
-            )
+            self.lengths.append(value if equals else self.next_word(NO_VALUE))
         elif equals:
-            raise WordFault(f"option '--{meant[0]}' doesn't allow an argument")
+            raise WordFault(value_not_allowed(f"--{meant[0]}"))
         else:
             self.take_option(meant[0])
 
     def take_letters(self, letters):
         for place, letter in enumerate(letters, 1):
             if self.tool == "b2sum" and letter == "l":
-                self.lengths.append(
-                    letters[place:] or self.next_word("option requires an argument -- 'l'")
-                )
+                self.lengths.append(letters[place:] or self.next_word(NO_VALUE_OF_LETTER))
                 return
             if letter not in LETTERS:
-                raise WordFault(f"invalid option -- '{shown(letter)}'")
+                raise WordFault(unknown_letter(shown(letter)))
             self.take_option(LETTERS[letter])
 
     def take_option(self, name):
@@ -115,9 +113,9 @@ def size_asked(lengths):
         return 0
     value = lengths[-1]
     if re.fullmatch("[0-9]+", value) is None or int(value) > 512:
-        raise WordFault(f"invalid length: '{shown(value)}'")
+        raise WordFault(invalid_length(shown(value)))
     if int(value) % 8:
-        raise WordFault(f"length is not a multiple of 8: '{shown(value)}'")
+        raise WordFault(odd_length(shown(value)))
     return int(value) // 8
 
 
@@ -158,16 +156,15 @@ def options_of(words):
 
 
 HELP = text_of("tests", "support", "help.txt")
-LENGTH_LINE = "  -l, --length=BITS     digest length in bits, a multiple of 8, at most 512\n"
 
 
 def help_text(tool):
     """Returns the help text of a tool; the line of --length is b2sum's alone."""
     tag, text = ALGORITHMS[tool][0], HELP
     if tag is None:
-        text = text.replace("Print or check TAG checksums.", "Check checksums of tagged lines.")
+        text = re.sub("(?m)^Print .*? TAG .*?\\.", "Check checksums of tagged lines.", text)
     if tool != "b2sum":
-        text = text.replace(LENGTH_LINE, "")
+        text = re.sub("(?m)^.* --length=.*\n", "", text)
     return text.replace("TOOL", tool).replace("TAG", tag or "")
 
 
@@ -180,11 +177,10 @@ def meaning(tool, words, stdin):
         if read.decided == "help":
             return Ran(0, help_text(tool).encode(), b"")
         if read.decided == "version":
-            return Ran(0, f"{tool} (digests), profile 2\n".encode(), b"")
+            return Ran(0, as_bytes([version(tool)]), b"")
         options = options_of(read)
     except WordFault as fault:
-        message = f"{tool}: {fault}\nTry '{tool} --help' for more information.\n"
-        return Ran(1, b"", os.fsencode(message))
+        return Ran(1, b"", as_bytes(fault_lines(os.fsencode(str(fault)), tool)))
     names = [os.fsencode(operand) for operand in read.operands] or [b"-"]
     does = checked if "check" in read.options else generated
     return does(tool, options, names, World(stdin))
