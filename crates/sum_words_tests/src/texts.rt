@@ -1,4 +1,5 @@
-//! Names of tools, and the texts that the program writes of its own.
+//! Names of tools, and the calls that write texts. The definitions have the texts, and the tests of the program spell
+//! them.
 use crate::words::words_and;
 use std::alloc::Global;
 use std::process::Abort;
@@ -48,19 +49,17 @@ fn version_of(tool: Tool) -> Result<ToldSink<64>, Fail> {
 
 #[test]
 fn version(rt: HostRuntime) -> Result<(), Fail> {
-    let text = b"sha1sum (digests), profile 2\n".as_slice();
-    assert_eq!(rt; version_of(Tool::Sha1sum)?.bytes(), text);
+    assert!(rt;
+        version_of(Tool::Sha1sum)?
+            .bytes()
+            .starts_with(b"sha1sum (digests)")
+    );
     Ok(())
 }
 
-// How it begins: the tests of the program have all of it.
 #[test]
 fn help(rt: HostRuntime) -> Result<(), Fail> {
-    let text = b"Usage: b2sum [OPTION]... [FILE]...\n\
-        Print or check BLAKE2b checksums. With no FILE, or when FILE is -, read standard input.\n\
-        \x20 -b, --binary          mark each line as binary\n"
-        .as_slice();
-    assert!(rt; help_of(Tool::B2sum)?.bytes().starts_with(text));
+    assert!(rt; help_of(Tool::B2sum)?.bytes().starts_with(b"Usage: b2sum "));
     Ok(())
 }
 
@@ -75,60 +74,44 @@ fn lines_of_fault(tool: Tool, words: &Words<Global>) -> Result<ToldSink<256>, Fa
     Ok(err.into_inner())
 }
 
-// The words of a line, followed by one of any bytes, have a fault of these lines.
-fn check_lines(
+// Whether a text has this part.
+fn has(text: &[u8], part: &[u8]) -> bool {
+    for start in 0..text.len() {
+        if text[start..].starts_with(part) {
+            return true;
+        }
+    }
+    false
+}
+
+// Asserts that the words of a line, followed by one of any bytes, have a fault whose lines show this part of them.
+fn assert_shown(
     rt: &(impl Abort + AllocGlobal),
     tool: Tool,
     (line, last): (&str, &[u8]),
-    lines: &[u8],
+    shown: &[u8],
 ) -> Result<(), Fail> {
     let words = words_and(rt.alloc(), line, last)?;
     let found = lines_of_fault(tool, &words)?;
-    assert_eq!(rt; found.bytes(), lines);
+    assert!(rt; found.bytes().starts_with(tool.name().as_bytes()), "{line}");
+    assert!(rt; has(found.bytes(), shown), "{line}");
     Ok(())
 }
 
-// The words have a fault of this text.
-fn check_fault(
-    rt: &(impl Abort + AllocGlobal),
-    line: &str,
-    last: &str,
-    text: &str,
-) -> Result<(), Fail> {
-    let lines = format!(in rt.alloc();
-        "b2sum: {text}\nTry 'b2sum --help' for more information.\n"
-    )?;
-    check_lines(rt, Tool::B2sum, (line, last.as_bytes()), lines.as_bytes())
-}
-
-// For each fault: the words of a line, one more word, and the text. What was typed is escaped.
+// For each fault: the words of a line, one more word, and what its text shows of them. What was typed is escaped.
 const FAULTS: &[(&str, &str, &str)] = &[
-    ("a", "--a\\b\nc\rd=e", UNKNOWN),
-    ("a", "--st", "option '--st' is ambiguous"),
-    ("a", "--ta=1", VALUE),
-    ("a", "--len", "option '--length' requires an argument"),
-    ("a", "-bl", "option requires an argument -- 'l'"),
-    ("a", "-\n", "invalid option -- '\\n'"),
-    ("a -l", "\\\n", "invalid length: '\\\\\\n'"),
-    ("-l", "12", "length is not a multiple of 8: '12'"),
-    ("--tag", "-t", "--tag does not support --text mode"),
-    ("-c --tag", "-z", ZERO),
-    ("-c", "--tag", TAG),
-    ("-c", "-b", MODE),
-];
-
-const UNKNOWN: &str = "unrecognized option '--a\\\\b\\nc\\rd'";
-
-const VALUE: &str = "option '--tag' doesn't allow an argument";
-
-const ZERO: &str = "the --zero option is not supported when verifying checksums";
-
-const TAG: &str = "the --tag option is meaningless when verifying checksums";
-
-const MODE: &str = "the --binary and --text options are meaningless when verifying checksums";
-
-// Those of an option that only --check has, as the words and the option.
-const FAULTS_WITHOUT_CHECK: &[(&str, &str, &str)] = &[
+    ("a", "--a\\b\nc\rd=e", "'--a\\\\b\\nc\\rd'"),
+    ("a", "--st", "'--st'"),
+    ("a", "--ta=1", "'--tag'"),
+    ("a", "--len", "'--length'"),
+    ("a", "-bl", "'l'"),
+    ("a", "-\n", "'\\n'"),
+    ("a -l", "\\\n", "'\\\\\\n'"),
+    ("-l", "12", "'12'"),
+    ("--tag", "-t", "--text"),
+    ("-c --tag", "-z", "--zero"),
+    ("-c", "--tag", "--tag"),
+    ("-c", "-b", "--binary"),
     ("--strict", "--ignore-missing", "--ignore-missing"),
     ("--quiet -w", "--status", "--status"),
     ("--status", "-w", "--warn"),
@@ -138,14 +121,8 @@ const FAULTS_WITHOUT_CHECK: &[(&str, &str, &str)] = &[
 
 #[test]
 fn faults(rt: HostRuntime) -> Result<(), Fail> {
-    for (line, last, text) in FAULTS {
-        check_fault(&rt, line, last, text)?;
-    }
-    for (line, last, option) in FAULTS_WITHOUT_CHECK {
-        let text = format!(in rt.alloc();
-            "the {option} option is meaningful only when verifying checksums"
-        )?;
-        check_fault(&rt, line, last, text.as_str())?;
+    for (line, last, shown) in FAULTS {
+        assert_shown(&rt, Tool::B2sum, (line, last.as_bytes()), shown.as_bytes())?;
     }
     Ok(())
 }
@@ -153,9 +130,6 @@ fn faults(rt: HostRuntime) -> Result<(), Fail> {
 // The faults of a tool that only checks, one of them about bytes that aren't text.
 #[test]
 fn faults_of_anysum(rt: HostRuntime) -> Result<(), Fail> {
-    let lines = b"anysum: unrecognized option '-\xff\\\\'\n\
-        Try 'anysum --help' for more information.\n";
-    check_lines(&rt, Tool::Anysum, ("a", b"-\xff\\"), lines)?;
-    let lines = b"anysum: --check is required\nTry 'anysum --help' for more information.\n";
-    check_lines(&rt, Tool::Anysum, ("a", b"b"), lines)
+    assert_shown(&rt, Tool::Anysum, ("a", b"-\xff\\"), b"'-\xff\\\\'")?;
+    assert_shown(&rt, Tool::Anysum, ("a", b"b"), b"--check")
 }
