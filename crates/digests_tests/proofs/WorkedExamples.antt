@@ -2,6 +2,7 @@
 -- whether all is good.
 use Rattle.std.proofs.Common.{arith, ◌≡◌, ◌∙◌, ap, ℕ, ◌++◌, Bool, List, [], ◌∷◌, refl, codes, true, false, if◌then◌else◌, bytes_eq, Result, Ok, Err, IfOk, Some, sym, inl, inr}
 use Rattle.std.specs.{Prelude.⊤, Prelude.◌⊎◌, Path.rsplit_once, Fmt.digits}
+use Prim.Native.String.{String}
 use Rattle.md5.specs.Md5.{block_words as md5_words, rounds as md5_rounds, compress as md5_compress, hash_after as md5_after, digest_bytes as md5_bytes, md5}
 use Rattle.blake2b_core.specs.Compression.{mix, round, work_vector, compress}
 use Rattle.blake2b_core.specs.Digest.{hash_after as blake2b_after, blake2b}
@@ -10,7 +11,7 @@ use Rattle.sum_sources.specs.declared.fault.{Fault.Fault, Ending.TheVariants.Who
 use Rattle.digest_kinds.specs.Kind.{full_kind}
 use Rattle.digest_kinds.specs.declared.algo.Algo.{Algo}
 use Rattle.digest_kinds.specs.declared.algo.Algo.TheVariants.{Md5}
-use Rattle.digest_kinds.specs.declared.algo.Algos.{Algos}
+use Rattle.digest_kinds.specs.declared.algo.Algos.{Algos, TheVariants.One}
 use Rattle.hex.specs.Hex.{encode_with, decode_pairs}
 use Rattle.sum_lines.specs.DigestLine.{line}
 use Rattle.sum_lines.specs.grammar.LineParts.{plain_parts, tagged_parts}
@@ -21,12 +22,16 @@ use Rattle.sum_sources.specs.Input.{Content, limit, empty_content}
 use Rattle.sum_sources.specs.Source.{AnswerValue}
 use Rattle.sum_sources.specs.WithStdin.{answers_with}
 use Rattle.sum_words.specs.declared.tool.Tool.{Tool, TheVariants.Md5sum, TheVariants.B2sum, TheVariants.Anysum}
+use Rattle.sum_words.specs.{messages.FaultLines.fault_lines, parsing.WordFault.unknown_long}
 use Rattle.digest_kinds.specs.Bytes.{ByteString}
 use Rattle.digests.specs.Program.{not_read_line}
 use Rattle.sum_words_tests.proofs.WorkedExamples.{words, words_on_literals}
 use Rattle.sum_engine.specs.{Execution.Agrees, Streams.StreamsState, Execution.PerformsSteps}
 use Rattle.sum_settings.specs.declared.{settings.CheckSettings.CheckSettings, settings.Report.TheVariants.All, stop.Stop.Stop, style.Mode.Mode, style.Mode.TheVariants.Text}
 use Rattle.sum_engine.proofs.BehaviorLemmas.{events_extend}
+use Rattle.sum_engine.specs.{ToolLines.name_fault_line, check.Rules.rules_of, check.Rules.labels_of}
+use Rattle.sum_engine.specs.declared.check.judge.Verdict.{Verdict, TheVariants.Right, TheVariants.Wrong, TheVariants.Unread}
+use Rattle.sum_engine.specs.check.{Report.out_by, Report.bad_line, Summary.end_text}
 use Rattle.digests.specs.{Meaning.meaning, Meaning.status_of, GenerationRuns.GenerationRun, Program.CallPerforms, Program.CallRefuses}
 
 -- what a worked example unfolds, so that its texts are computed
@@ -70,29 +75,28 @@ e_line = codes "d41d8cd98f00b204e9800998ecf8427e  e\n"
 abbrev e_tagged : ByteString
 e_tagged = codes "BLAKE2b-256 (e) = 0e5751c026e543b2e8ab2eb06099daa1d1e5df47778f7787faab45cdf12fe3a8\n"
 
+-- the line of md5sum for a name that can't be opened or read
+abbrev fault_line : String → Fault → ByteString
+fault_line name = name_fault_line (codes "md5sum") (codes name)
+
 -- runs of generation
 generation :
     -- each of two files has a line
     (outcome Md5sum (words "a e") empty_content empty_content ≡ (a_line ++ e_line, [], words "a e", true))
     -- a missing file is reported, and the others have a line each
     × (outcome Md5sum (words "a x e") empty_content empty_content
-    ≡ (a_line ++ e_line, codes "md5sum: x: No such file or directory\n", words "a x e", false))
+    ≡ (a_line ++ e_line, fault_line "x" NotFound, words "a x e", false))
     -- standard input, with `abc` on it, is empty the second time
     × (outcome Md5sum (words "- -") empty_content (whole (codes "abc"))
     ≡ (codes "900150983cd24fb0d6963f7d28e17f72  -\nd41d8cd98f00b204e9800998ecf8427e  -\n", [], words "- -", true))
     -- without words standard input is read: it gives three bytes, and then a fault
     × (outcome Md5sum [] empty_content (broken (codes "abc"))
-    ≡ ([], codes "md5sum: -: Input/output error\n", words "-", false))
+    ≡ ([], fault_line "-" Other, words "-", false))
     -- a tagged line has the length
     × (outcome B2sum (words "-l 256 --tag e") empty_content empty_content ≡ (e_tagged, [], words "e", true))
     -- a fault before --help is reported in place of the help
-    × (outcome Md5sum (words "--foo --help") empty_content empty_content ≡ (
-      [],
-      codes "md5sum: unrecognized option "
-          ++ codes "'--foo'\nTry 'md5sum --help' for more information.\n",
-      [],
-      false,
-    ))
+    × (outcome Md5sum (words "--foo --help") empty_content empty_content
+    ≡ ([], fault_lines Md5sum (unknown_long (codes "foo")), [], false))
 unfolding meaning_on_literals
 generation = (refl, refl, refl, refl, refl, refl)
 
@@ -105,50 +109,66 @@ mixed_manifest = whole (a_line ++ codes "#c\njunk\n" ++ codes "900150983cd24fb0d
 abbrev dash_manifest : Content
 dash_manifest = whole (codes "900150983cd24fb0d6963f7d28e17f72  -\n")
 
+-- a check without other options
+abbrev pub plain_check : Algos → CheckSettings
+plain_check algos = record { algo = algos; report = All; strict = false; ignore_missing = false }
+
+-- the report of a verdict on a name
+abbrev report : Verdict → String → ByteString
+report verdict name = out_by All verdict (codes name)
+
+-- what md5sum's check of `l` says of this bad line, if asked for that
+abbrev named_line : ℕ → ByteString
+named_line = let check = plain_check (One Md5) in
+    bad_line (rules_of check false) (labels_of check (codes "md5sum") (codes "l"))
+
+-- what a plain check by a tool writes at the end of this manifest, which has this many lines that are right, wrong,
+-- unread and bad
+abbrev summary : String → String → ℕ → ℕ → ℕ → ℕ → ByteString
+summary tool manifest right wrong unread bad = let check = plain_check (One Md5) in
+    end_text (rules_of check false) (labels_of check (codes tool) (codes manifest)) Whole
+    (record { right = right; wrong = wrong; missing = 0; unread = unread; bad = bad })
+
 -- runs of a check
 checks :
     -- the check of the mixed manifest reports each kind
     (outcome Md5sum (words "-c l") mixed_manifest empty_content ≡ (
-      codes "a: OK\nx: FAILED open or read\ne: FAILED\n",
-      codes "md5sum: x: No such file or directory\n" ++ codes "md5sum: WARNING: 1 line is improperly formatted\n"
-          ++ codes "md5sum: WARNING: 1 listed file could not be read\n"
-          ++ codes "md5sum: WARNING: 1 computed checksum did NOT match\n",
+      report Right "a" ++ report (Unread NotFound) "x" ++ report Wrong "e",
+      fault_line "x" NotFound ++ summary "md5sum" "l" 1 1 1 1,
       words "l a x e",
       false,
     ))
     -- it passes over the missing file and names the bad line, if asked for that
     × (outcome Md5sum (words "-c --ignore-missing -w --strict l") mixed_manifest empty_content ≡ (
-      codes "a: OK\ne: FAILED\n",
-      codes "md5sum: l: 3: improperly formatted MD5 checksum line\n"
-          ++ codes "md5sum: WARNING: 1 line is improperly formatted\n"
-          ++ codes "md5sum: WARNING: 1 computed checksum did NOT match\n",
+      report Right "a" ++ report Wrong "e",
+      named_line 3 ++ summary "md5sum" "l" 1 1 0 1,
       words "l a x e",
       false,
     ))
     -- if a manifest that lists `-` is standard input, none of its lines counts
     × (outcome Md5sum (words "-c") empty_content dash_manifest
-    ≡ ([], codes "md5sum: standard input: no properly formatted checksum lines found\n", words "-", false))
+    ≡ ([], summary "md5sum" "-" 0 0 0 1, words "-", false))
     -- if it is a file, given twice, standard input is empty the second time
     × (outcome Md5sum (words "-c l l") dash_manifest (whole (codes "abc")) ≡ (
-      codes "-: OK\n-: FAILED\n",
-      codes "md5sum: WARNING: 1 computed checksum did NOT match\n",
+      report Right "-" ++ report Wrong "-",
+      summary "md5sum" "l" 0 1 0 0,
       words "l - l -",
       false,
     ))
     -- a manifest breaks off in its second line
     × (outcome Md5sum (words "-c l") (broken (a_line ++ codes "900150983cd24fb0d6963f7d28e17f72  a")) empty_content
-    ≡ (codes "a: OK\n", codes "md5sum: l: Input/output error\n", words "l a", false))
+    ≡ (report Right "a", fault_line "l" Other, words "l a", false))
     -- the first line has one blank, so a second blank belongs to the name
     × (outcome Md5sum (words "-c l") (whole (codes "900150983cd24fb0d6963f7d28e17f72 a\n" ++ a_line)) empty_content ≡ (
-      codes "a: OK\n a: FAILED open or read\n",
-      codes "md5sum:  a: No such file or directory\nmd5sum: WARNING: 1 listed file could not be read\n",
+      report Right "a" ++ report (Unread NotFound) " a",
+      fault_line " a" NotFound ++ summary "md5sum" "l" 1 0 1 0,
       codes "l" ∷ codes "a" ∷ codes " a" ∷ [],
       false,
     ))
     -- anysum checks tagged lines of two algorithms, and a line without a tag is bad
     × (outcome Anysum (words "-c l")
     (whole (codes "MD5 (a) = 900150983cd24fb0d6963f7d28e17f72\n" ++ e_tagged ++ a_line)) empty_content
-    ≡ (codes "a: OK\ne: OK\n", codes "anysum: WARNING: 1 line is improperly formatted\n", words "l a e", true))
+    ≡ (report Right "a" ++ report Right "e", summary "anysum" "l" 2 0 0 1, words "l a e", true))
 unfolding meaning_on_literals
 checks = (refl, refl, refl, refl, refl, refl, refl)
 
@@ -203,10 +223,6 @@ dash_twice w none later = by (digest_or_fault (full_kind Md5) (w.answer (codes "
         ≡ text ++ codes "d41d8cd98f00b204e9800998ecf8427e  -\n")
     by (Ok d) is = (line (record { mode = Text; zero = false }) (full_kind Md5) (codes "-") d, rw (none, is, later) refl)
     by (Err f) is = ([], rw (none, is, later) refl)
-
--- a check without other options
-abbrev pub plain_check : Algos → CheckSettings
-plain_check algos = record { algo = algos; report = All; strict = false; ignore_missing = false }
 
 -- a run that writes the line of one name
 abbrev pub lines_of : Algo → Mode → ByteString → ByteString → GenerationRun

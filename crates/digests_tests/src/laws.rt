@@ -5,6 +5,9 @@ ghost use Rattle.std.specs.Prelude.{All, ◌≡◌, ◌≢◌, ◌<◌, ◌∷�
 ghost use Rattle.sum_sources.specs.{Input.Reads, declared.fault.Ending.TheVariants.Whole};
 ghost use Rattle.sum_engine.specs.Behavior.{World, answer_to, out_text, err_text};
 ghost use Rattle.sum_engine.specs.Streams.{failures};
+ghost use Rattle.sum_engine.specs.check.Report.{out_by};
+ghost use Rattle.sum_engine.specs.declared.check.judge.Verdict.TheVariants.{Right};
+ghost use Rattle.sum_settings.specs.declared.settings.Report.TheVariants.{All as AllReports};
 ghost use Rattle.sum_settings.specs.declared.stop.Stop.TheVariants.{Memory};
 ghost use Rattle.sum_sources.specs.Input.{empty_content, limit};
 ghost use Rattle.sum_sources.specs.Source.{AnswerValue as AnswerValue, Answers, TellsAll};
@@ -211,7 +214,7 @@ pub fn one_name_is_good()
         length sums < limit →
         answer_to v (codes "SUMS") ≡ Ok (record { bytes = sums; ending = Whole }) →
         let run = meaning Md5sum (codes "--check" ∷ codes "--" ∷ codes "SUMS" ∷ []) v in
-        (status_of run.good ≡ 0) × (out_text run ≡ codes "a: OK\n") × (err_text run ≡ []) }
+        (status_of run.good ≡ 0) × (out_text run ≡ out_by AllReports Right (codes "a")) × (err_text run ≡ []) }
 {
     written_is_good();
 }
@@ -226,7 +229,9 @@ pub fn two_tools_are_good()
         length sums < limit →
         answer_to v (codes "SUMS") ≡ Ok (record { bytes = sums; ending = Whole }) →
         let run = meaning Anysum (codes "--check" ∷ codes "--" ∷ codes "SUMS" ∷ []) v in
-        (status_of run.good ≡ 0) × (out_text run ≡ codes "a: OK\nb: OK\n") × (err_text run ≡ []) }
+        (status_of run.good ≡ 0)
+        × (out_text run ≡ out_by AllReports Right (codes "a") ++ out_by AllReports Right (codes "b"))
+        × (err_text run ≡ []) }
 {
     joined_is_good();
 }
