@@ -42,12 +42,8 @@ class ClosedInput(Closing):
         """`md5sum <&-` says that it can't read standard input, under every tool."""
         for tool in TOOLS:
             with self.subTest(tool=tool):
-                self.expect_closed(
-                    *(
-                        (words, [0], 1, b"", [cannot_read("-", errno.EBADF, tool)])
-                        for words in (tool, [tool, "-"])
-                    )
-                )
+                fault = [cannot_read("-", errno.EBADF, tool)]
+                self.expect_closed(*((words, [0], 1, b"", fault) for words in (tool, [tool, "-"])))
 
     def test_among_others(self):
         """The other operands are read all the same; a second `-` is an empty input, as after any
