@@ -138,7 +138,7 @@ class Library:
         """Returns the traits of a type, by a derive or by an `impl`; `Model` is shown apart."""
         found = []
         for of_type in self.types_meant(item):
-            for line in re.findall(r"derive \(([^)]*)\)", of_type.attributes):
+            for line in re.findall(r"derive(?:_where)? \(([^);]*)", of_type.attributes):
                 found += re.findall(r"\w+", line)
         for block in self.blocks(item):
             if block.trait not in (None, "Model"):

@@ -1,5 +1,5 @@
 use Rattle.std.proofs.Common.{arith, ◌≡◌, ◌∙◌, ap, refl, ◌∷◌, ◌++◌, [], Ok, Some, codes}
-use Rattle.sum_engine.specs.Streams.{BothOutputs, StreamsState}
+use Rattle.sum_engine.specs.Streams.{BothOutputs}
 use Rattle.sum_lines.specs.Sink.{SinkState}
 use Rattle.sum_sources.specs.{Input.empty_content, WithStdin.answers_with, WithStdin.pairs_with_stdin}
 use Rattle.sum_sources.specs.Source.{Pair, SourceState, first_answer, names_of, answer_of_first, times}
@@ -25,4 +25,4 @@ returns c = λ zero.
     let none : c.new-streams.result.outputs.out.written ≡ [] =
     ap (λ (o : BothOutputs). o.out.written) c.new-streams.ensures.outputs ∙ c.new-2.ensures.empty in
     ap (λ (s : SinkState). s.output.written) c.into_inner.ensures
-    ∙ ap (λ (s : StreamsState). s.outputs.out.written) c.streams.view_is ∙ rw none at wrote
+    ∙ (rw (none, ← c.streams.view_is, ← c.streams-inside.view_is) at wrote)
